@@ -1,0 +1,2 @@
+//! Frames and packets of the MySQL client/server protocol.
+#![tactic(auto)]
