@@ -1,2 +1,13 @@
 //! Frames and packets of the MySQL client/server protocol.
 #![tactic(auto)]
+
+mod blob;
+mod no_memory;
+pub mod numbers;
+mod read_error;
+mod text;
+
+pub use blob::Blob;
+pub use no_memory::NoMemory;
+pub use read_error::ReadError;
+pub use text::Text;

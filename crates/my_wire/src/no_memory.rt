@@ -1,0 +1,15 @@
+//! The answer of a call that got no memory.
+
+use std::alloc::AllocError;
+use thiserror::Error;
+
+/// An allocation failed.
+#[derive(Clone, Copy, Debug, PartialEq, Eq, Error)]
+#[error("out of memory")]
+pub struct NoMemory;
+
+impl From<AllocError> for NoMemory {
+    fn from(_e: AllocError) -> NoMemory {
+        NoMemory
+    }
+}
