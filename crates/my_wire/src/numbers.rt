@@ -1,9 +1,9 @@
 //! Numbers and texts at the front of bytes: each call gives what stands there and the bytes behind it,
 //! or `None` where nothing of that form stands there. Numbers have their lowest byte first.
 
-ghost use Rattle.std.specs.Prelude.{◌≡◌, ◌==◌, ◌<◌, ℕ, List, IfSome, Option, length, position};
+ghost use Rattle.std.specs.Prelude.{◌≡◌, ◌==◌, ◌<◌, ◌↔◌, ℕ, List, IfSome, Option, Some, length, position};
 ghost use Rattle.std.specs.Option.{option_map};
-ghost use Rattle.my_wire.specs.Numbers.{bytes_at, len_at, number_at, text0_at, text_at};
+ghost use Rattle.my_wire.specs.Numbers.{IsBytes, IsLen, IsNumber, IsText, IsText0, bytes_at, len_at, number_at, text0_at, text_at};
 
 /// So many bytes as they stand.
 pub fn take_bytes(bytes: &[u8], count: usize) -> Option<(&[u8], &[u8])>
@@ -117,4 +117,14 @@ pub fn take_text0(bytes: &[u8]) -> Option<(&[u8], &[u8])>
 {
     let end = zero_place(bytes)?;
     Some((&bytes[..end], &bytes[end + 1..]))
+}
+
+/// What stands at the front of bytes is what reading gives.
+pub fn numbers_are_read()
+    ensures bytes { (count : ℕ) (bytes part rest : List ℕ) → (bytes_at count bytes ≡ Some (part, rest)) ↔ IsBytes count bytes part rest }
+    ensures number { (count : ℕ) (bytes : List ℕ) (n : ℕ) (rest : List ℕ) → (number_at count bytes ≡ Some (n, rest)) ↔ IsNumber count bytes n rest }
+    ensures len { (bytes : List ℕ) (n : ℕ) (rest : List ℕ) → (len_at bytes ≡ Some (n, rest)) ↔ IsLen bytes n rest }
+    ensures text { (bytes text rest : List ℕ) → (text_at bytes ≡ Some (text, rest)) ↔ IsText bytes text rest }
+    ensures text0 { (bytes text rest : List ℕ) → (text0_at bytes ≡ Some (text, rest)) ↔ IsText0 bytes text rest }
+{
 }

@@ -31,6 +31,26 @@ impl From<String> for Text {
     }
 }
 
+impl PartialEq for Text {
+    ghost use Rattle.std.specs.Prelude.{nat_eq};
+    ghost use Rattle.std.specs.Cmp.{partial_equiv_from_equiv};
+    ghost use Rattle.std.specs.Cmp.Lexicographic.{nat_list_eq_equiv, pointwise};
+
+    ghost eq = { pointwise nat_eq };
+
+    ghost laws = { partial_equiv_from_equiv nat_list_eq_equiv };
+
+    fn eq(&self, other: &Text) -> bool {
+        self.text == other.text
+    }
+}
+
+impl Eq for Text {
+    ghost use Rattle.std.specs.Cmp.Lexicographic.{nat_list_eq_equiv};
+
+    ghost laws = { nat_list_eq_equiv };
+}
+
 impl Text {
     ghost use Rattle.std.specs.Prelude.{string_bytes};
     ghost use Rattle.std.specs.Str.Lossy.{utf8_lossy};
