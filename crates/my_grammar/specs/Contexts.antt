@@ -1,0 +1,96 @@
+-- Where the reading of an exchange stands behind a payload of a kind. MySQL client/server protocol, "Connection Phase" and
+-- "COM_QUERY Response": a greeting, an answer to it and an OK or ERR make a connection; a response is a chain of sets; a set is a lone
+-- OK or ERR, or a count, so many columns, an EOF unless the server deprecates it, rows and an end; an OK or an end whose status has
+-- SERVER_MORE_RESULTS_EXISTS is followed by another set.
+use Rattle.std.specs.Prelude.{ℕ, ◌==◌, ◌-◌, nat_le, bit_and, Bool, true, false, if◌then◌else◌}
+use Rattle.my_grammar.specs.declared.spot.Spot.{Spot}
+use Rattle.my_grammar.specs.declared.spot.Spot.TheVariants.{Idle, Greeting, Authentication, Single, Head, Further, Columns, ColumnsEnd, Rows}
+use Rattle.my_grammar.specs.declared.spot.Kind.{Kind}
+use Rattle.my_grammar.specs.declared.spot.Kind.TheVariants.{Greets, Good, Failed, Count, Column, ColumnsDone, Row, End, Bad}
+use Rattle.my_grammar.specs.declared.spot.Context.{Context}
+
+-- whether capabilities have CLIENT_DEPRECATE_EOF
+abbrev pub deprecates_eof : ℕ → Bool
+deprecates_eof kept = bit_and kept 0x1000000 == 0x1000000
+
+-- whether a status has SERVER_MORE_RESULTS_EXISTS
+abbrev pub has_more : ℕ → Bool
+has_more status = bit_and status 8 == 8
+
+-- behind an OK or an end with this status
+abbrev pub more : ℕ → Spot
+more status = if has_more status then Further else Idle
+
+-- behind the last column
+abbrev pub behind_columns : Bool → Spot
+behind_columns deprecates = if deprecates then Rows else ColumnsEnd
+
+-- behind a column, where so many were awaited
+abbrev pub behind_column : Bool → ℕ → Spot
+behind_column deprecates left = if nat_le left 1 then behind_columns deprecates else Columns (left - 1)
+
+-- behind what stands in the place of a greeting
+abbrev pub behind_greeting : Kind → Spot
+behind_greeting (Greets capabilities) = Authentication
+behind_greeting k = Idle
+
+-- behind what stands in the place of a set's head
+abbrev pub behind_head : Kind → Spot
+behind_head (Good status) = more status
+behind_head (Count columns) = Columns columns
+behind_head k = Idle
+
+-- behind what stands in the place of a row
+abbrev pub behind_row : Kind → Spot
+behind_row Row = Rows
+behind_row (End status) = more status
+behind_row k = Idle
+
+-- what is awaited behind a payload of this kind
+abbrev pub spot_after : Bool → Spot → Kind → Spot
+spot_after deprecates Idle k = Idle
+spot_after deprecates Greeting k = behind_greeting k
+spot_after deprecates Authentication k = Idle
+spot_after deprecates Single k = Idle
+spot_after deprecates Head k = behind_head k
+spot_after deprecates Further k = behind_head k
+spot_after deprecates (Columns left) k = behind_column deprecates left
+spot_after deprecates ColumnsEnd k = Rows
+spot_after deprecates Rows k = behind_row k
+
+-- the columns of the set that is being read
+abbrev pub columns_after : ℕ → Kind → ℕ
+columns_after columns (Greets capabilities) = 0
+columns_after columns (Good status) = 0
+columns_after columns Failed = 0
+columns_after columns (Count n) = n
+columns_after columns Column = columns
+columns_after columns ColumnsDone = columns
+columns_after columns Row = columns
+columns_after columns (End status) = 0
+columns_after columns Bad = 0
+
+-- what both sides can do, once the server told what it can
+abbrev pub kept_after : ℕ → Kind → ℕ
+kept_after kept (Greets capabilities) = bit_and kept capabilities
+kept_after kept k = kept
+
+-- the context behind a payload of this kind
+abbrev pub context_after : Context → Kind → Context
+context_after c k = record {
+  spot = spot_after (deprecates_eof c.terms.kept) c.spot k;
+  columns = columns_after c.columns k;
+  terms = record { kept = kept_after c.terms.kept k; limit = c.terms.limit };
+}
+
+-- a payload that may not stand there
+abbrev pub is_bad : Kind → Bool
+is_bad (Greets capabilities) = false
+is_bad (Good status) = false
+is_bad Failed = false
+is_bad (Count columns) = false
+is_bad Column = false
+is_bad ColumnsDone = false
+is_bad Row = false
+is_bad (End status) = false
+is_bad Bad = true
