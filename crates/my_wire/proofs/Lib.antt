@@ -1,1 +1,3 @@
 pub mod NumberLaws
+mod OkLaws
+mod ReadingLaws

@@ -1,13 +1,14 @@
 -- What stands at the front of bytes, as a relation and as what is read.
 use Rattle.std.proofs.Common.{◌≡◌, ◌≢◌, ◌↔◌, ℕ, ◌+◌, ◌≤◌, ◌<◌, ◌⊎◌, inl, inr, List, [], ◌∷◌, ◌++◌, length, take, drop, get_or, Bool, true, false, cond, Option, Some, None, eqb, ltb, refl, sym, ap, subst, ◌∙◌, arith, suc, length-append, length-take-le, add-one, drop-cons, append_assoc}
-use Rattle.std.proofs.lemmas.List.{take_at, drop_at, take-append-drop, get_or_append_left, get_or-take}
+use Rattle.std.proofs.lemmas.List.{take_at, drop_at, take-append-drop, take_all, get_or_append_left, get_or-take}
 use Rattle.std.proofs.Math.Seq.{get_or-append_seam}
-use Rattle.std.proofs.lemmas.List.Sums.{position_or_len_is}
+use Rattle.std.proofs.lemmas.List.Sums.{fails_before_first, position_or_len_is}
 use Rattle.std.proofs.lemmas.List.Quantifiers.{position-Some}
 use Rattle.std.proofs.lemmas.List.Elements.{All-from_get_or}
+use Rattle.std.proofs.lemmas.Bool.{cases_lt}
 use Rattle.std.proofs.lemmas.Bool.Decides.{nat_tests}
-use Rattle.std.specs.List.{All, position, position_or_len}
-use Rattle.my_wire.specs.Numbers.{le_value, IsBytes, IsNumber, IsLen, IsText, IsText0, bytes_at, number_at, len_at, text_at, cut_at, text0_at, ◌>>=◌}
+use Rattle.std.specs.List.{All, before_first, position, position_or_len}
+use Rattle.my_wire.specs.Numbers.{le_value, IsBytes, IsNumber, IsLen, IsText, IsText0, IsBeforeZero, head_at, bytes_at, number_at, len_at, text_at, cut_at, text0_at, ◌>>=◌}
 
 -- the second read's argument is a variable: a chain of `let`s would double at each step
 pub bind_then : {A B P : Type 0} (o : Option A) (f : A → Option B) (y : B) → (o >>= f) ≡ Some y → ((x : A) → o ≡ Some x → f x ≡ Some y → P) → P
@@ -127,15 +128,67 @@ zero_found bytes text rest (Some k) p e =
 pub text0_found : (bytes text rest : List ℕ) → text0_at bytes ≡ Some (text, rest) → IsText0 bytes text rest
 text0_found bytes text rest e = zero_found bytes text rest (position (λ b. eqb b 0) bytes) refl e
 
+first_zero : (text rest : List ℕ) → All (λ b. b ≢ 0) text → position_or_len (λ b. eqb b 0) (text ++ 0 ∷ rest) ≡ length text
+first_zero text rest no_zero =
+    let all = text ++ 0 ∷ rest in
+    let l : length all ≡ length text + suc (length rest) = length-append text (0 ∷ rest) in
+    position_or_len_is (λ b. eqb b 0) all (length text) 0 (omega arith)
+      (λ k h. let t = no_zero k 0 h in rw (get_or_append_left text (0 ∷ rest) 0 k h) (grind (arith, nat_tests)))
+      (λ h. rw (get_or-append_seam text 0 rest 0) refl)
+
 pub text0_again : (bytes text rest : List ℕ) → IsText0 bytes text rest → text0_at bytes ≡ Some (text, rest)
 text0_again bytes text rest w =
     let all = text ++ 0 ∷ rest in
     let l : length all ≡ length text + suc (length rest) = length-append text (0 ∷ rest) in
-    let place : position_or_len (λ b. eqb b 0) all ≡ length text =
-      position_or_len_is (λ b. eqb b 0) all (length text) 0 (omega arith)
-        (λ k h. let t = w.no_zero k 0 h in rw (get_or_append_left text (0 ∷ rest) 0 k h) (grind (arith, nat_tests)))
-        (λ h. rw (get_or-append_seam text 0 rest 0) refl) in
     let b : ltb (length text) (length all) ≡ true = grind (arith, nat_tests) in
     let d : drop (length text + 1) all ≡ rest =
       ap (λ x. drop (length text + 1) x) (sym (append_assoc text (0 ∷ []) rest)) ∙ drop_at (text ++ 0 ∷ []) rest (length text + 1) (length-append text (0 ∷ [])) in
-    rw w.spelled (rw (place, b) (rw (take_at text (0 ∷ rest) (length text) refl, d) refl))
+    rw w.spelled (rw (first_zero text rest w.no_zero, b) (rw (take_at text (0 ∷ rest) (length text) refl, d) refl))
+
+pub head_found : (head : ℕ) (bytes rest : List ℕ) → head_at head bytes ≡ Some rest → bytes ≡ head ∷ rest
+head_found head [] rest e = absurd cc
+head_found head (first ∷ bytes) rest e =
+    elim (chosen (eqb first head) (Some bytes) None (Some rest) e) [
+      | inl w ↦ let t = w.0 in let r = w.1 in let f : first ≡ head = grind (arith, nat_tests) in cc
+      | inr w ↦ let t = w.1 in absurd cc
+    ]
+
+pub head_again : (head : ℕ) (bytes rest : List ℕ) → bytes ≡ head ∷ rest → head_at head bytes ≡ Some rest
+head_again head bytes rest e = let b : eqb head head ≡ true = grind (arith, nat_tests) in rw (e, b) refl
+
+pub before_found : (bytes part : List ℕ) → before_first (λ b. eqb b 0) bytes ≡ part → IsBeforeZero bytes part
+before_found bytes part e =
+    let p : ℕ → Bool = λ b. eqb b 0 in
+    let place = position_or_len p bytes in
+    subst (λ x. IsBeforeZero bytes x) e (elim (cases_lt place (length bytes)) [
+      | inl h ↦
+          let b : ltb place (length bytes) ≡ true = grind (arith, nat_tests) in
+          let t = zero_found bytes (take place bytes) (drop (place + 1) bytes) (Some place) (rw b refl) refl in
+          record { no_zero = t.no_zero; ends = inr (drop (place + 1) bytes, t.spelled) }
+      | inr h ↦
+          let all : take place bytes ≡ bytes = take_all place bytes h in
+          record {
+            no_zero = subst (λ x. All (λ b. b ≢ 0) x) (sym all) (All-from_get_or (λ b. b ≢ 0) bytes 0 (λ i short. let t = fails_before_first p bytes i 0 (omega arith) in grind (arith, nat_tests)));
+            ends = inl (sym all)
+          }
+    ])
+
+pub before_again : (bytes part : List ℕ) → IsBeforeZero bytes part → before_first (λ b. eqb b 0) bytes ≡ part
+before_again bytes part w =
+    elim w.ends [
+      | inl e ↦
+          let no = w.no_zero in
+          let place : position_or_len (λ b. eqb b 0) part ≡ length part =
+            position_or_len_is (λ b. eqb b 0) part (length part) 0 (omega arith) (λ k h. let t = no k 0 h in grind (arith, nat_tests)) (λ h. absurd (omega arith)) in
+          rw e (rw place (take_all (length part) part (omega arith)))
+      | inr e ↦ rw e.1 (rw (first_zero part e.0 w.no_zero) (take_at part (0 ∷ e.0) (length part) refl))
+    ]
+
+-- where a test decides whether there is a record
+pub passed : {A : Type 0} (b : Bool) (x y : A) → cond b (Some x) None ≡ Some y → (b ≡ true) × (x ≡ y)
+passed true x y e = (refl, cc)
+passed false x y e = absurd cc
+
+pub passed_on : {A : Type 0} (b : Bool) (o : Option A) (y : A) → cond b o None ≡ Some y → (b ≡ true) × (o ≡ Some y)
+passed_on true o y e = (refl, e)
+passed_on false o y e = absurd cc

@@ -33,6 +33,11 @@ pub record IsText0 (bytes text rest : List ℕ) : Type 0 where
   pub spelled : bytes ≡ text ++ 0 ∷ rest
   pub no_zero : All (λ b. b ≢ 0) text
 
+-- The bytes begin with a part without a zero, which is all of them or ends at a zero.
+pub record IsBeforeZero (bytes part : List ℕ) : Type 0 where
+  pub no_zero : All (λ b. b ≢ 0) part
+  pub ends : (bytes ≡ part) ⊎ ((rest : List ℕ) × (bytes ≡ part ++ 0 ∷ rest))
+
 infixl 10 ◌>>=◌
 -- the second read, behind the first
 abbrev pub ◌>>=◌ : {A B : Type 0} → Option A → (A → Option B) → Option B
@@ -63,3 +68,8 @@ cut_at bytes (Some k) = Some (take k bytes, drop (k + 1) bytes)
 
 abbrev pub text0_at : List ℕ → Option (List ℕ × List ℕ)
 text0_at bytes = cut_at bytes (position (λ b. b == 0) bytes)
+
+-- the bytes behind this head
+abbrev pub head_at : ℕ → List ℕ → Option (List ℕ)
+head_at head [] = None
+head_at head (first ∷ rest) = if first == head then Some rest else None

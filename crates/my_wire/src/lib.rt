@@ -5,6 +5,7 @@ mod blob;
 mod flags;
 mod no_memory;
 pub mod numbers;
+mod ok;
 mod read_error;
 mod text;
 

@@ -1,9 +1,10 @@
 //! Numbers and texts at the front of bytes: each call gives what stands there and the bytes behind it,
 //! or `None` where nothing of that form stands there. Numbers have their lowest byte first.
 
-ghost use Rattle.std.specs.Prelude.{◌≡◌, ◌==◌, ◌<◌, ◌↔◌, ℕ, List, IfSome, Option, Some, length, position};
+ghost use Rattle.std.specs.Prelude.{◌≡◌, ◌==◌, ◌<◌, ◌↔◌, ◌∷◌, ℕ, List, IfSome, Option, Some, length, position};
+ghost use Rattle.std.specs.List.{before_first};
 ghost use Rattle.std.specs.Option.{option_map};
-ghost use Rattle.my_wire.specs.Numbers.{IsBytes, IsLen, IsNumber, IsText, IsText0, bytes_at, len_at, number_at, text0_at, text_at};
+ghost use Rattle.my_wire.specs.Numbers.{IsBeforeZero, IsBytes, IsLen, IsNumber, IsText, IsText0, bytes_at, head_at, len_at, number_at, text0_at, text_at};
 
 /// So many bytes as they stand.
 pub fn take_bytes(bytes: &[u8], count: usize) -> Option<(&[u8], &[u8])>
@@ -119,8 +120,30 @@ pub fn take_text0(bytes: &[u8]) -> Option<(&[u8], &[u8])>
     Some((&bytes[..end], &bytes[end + 1..]))
 }
 
+/// The bytes behind this head.
+pub fn take_head(bytes: &[u8], head: u8) -> Option<&[u8]>
+    ensures { option_map (λ x. x.now) result ≡ head_at head bytes.now }
+{
+    match bytes {
+        [first, rest @ ..] if *first == head => Some(rest),
+        _ => None,
+    }
+}
+
+/// The bytes before the first zero byte, or all where there is none.
+pub fn before_zero(bytes: &[u8]) -> &[u8]
+    ensures { result.now ≡ before_first (λ b. b == 0) bytes.now }
+{
+    match zero_place(bytes) {
+        Some(end) => &bytes[..end],
+        None => bytes,
+    }
+}
+
 /// What stands at the front of bytes is what reading gives.
 pub fn numbers_are_read()
+    ensures head { (head : ℕ) (bytes rest : List ℕ) → (head_at head bytes ≡ Some rest) ↔ (bytes ≡ head ∷ rest) }
+    ensures before { (bytes part : List ℕ) → (before_first (λ b. b == 0) bytes ≡ part) ↔ IsBeforeZero bytes part }
     ensures bytes { (count : ℕ) (bytes part rest : List ℕ) → (bytes_at count bytes ≡ Some (part, rest)) ↔ IsBytes count bytes part rest }
     ensures number { (count : ℕ) (bytes : List ℕ) (n : ℕ) (rest : List ℕ) → (number_at count bytes ≡ Some (n, rest)) ↔ IsNumber count bytes n rest }
     ensures len { (bytes : List ℕ) (n : ℕ) (rest : List ℕ) → (len_at bytes ≡ Some (n, rest)) ↔ IsLen bytes n rest }

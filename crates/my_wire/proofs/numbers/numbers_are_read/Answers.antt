@@ -1,5 +1,11 @@
-use Rattle.my_wire.proofs.NumberLaws.{bytes_found, bytes_again, number_found, number_again, len_found, len_again, text_found, text_again, text0_found, text0_again}
+use Rattle.my_wire.proofs.NumberLaws.{head_found, head_again, before_found, before_again, bytes_found, bytes_again, number_found, number_again, len_found, len_again, text_found, text_again, text0_found, text0_again}
 use Rattle.my_wire.proofs.numbers.numbers_are_read.Goals as goal
+
+pub returns-clause-head : goal.returns-clause-head
+returns-clause-head c = λ head bytes rest. (head_found head bytes rest, head_again head bytes rest)
+
+pub returns-clause-before : goal.returns-clause-before
+returns-clause-before c = λ bytes part. (before_found bytes part, before_again bytes part)
 
 pub returns-clause-bytes : goal.returns-clause-bytes
 returns-clause-bytes c = λ count bytes part rest. (bytes_found count bytes part rest, bytes_again count bytes part rest)
