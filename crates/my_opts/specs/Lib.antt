@@ -1,1 +1,4 @@
+pub mod Capabilities
+pub mod Lists
+pub mod Opts
 pub mod Pool

@@ -131,6 +131,21 @@ impl PoolOpts {
         }
     }
 
+    /// A second value of the same options.
+    pub(crate) fn copy(&self) -> PoolOpts
+        ensures { result ≡ self.now }
+    {
+        PoolOpts {
+            constraints: self.constraints,
+            inactive_connection_ttl: self.inactive_connection_ttl,
+            ttl_check_interval: self.ttl_check_interval,
+            abs_conn_ttl: self.abs_conn_ttl,
+            abs_conn_ttl_jitter: self.abs_conn_ttl_jitter,
+            reset_connection: self.reset_connection,
+            max_waiting: self.max_waiting,
+        }
+    }
+
     /// How many connections are kept, and how many there are at most.
     pub fn with_constraints(mut self, constraints: PoolConstraints) -> PoolOpts
         ensures { result ≡ record self { constraints = constraints } }

@@ -1,0 +1,31 @@
+//! Numbers that are kept within bounds.
+
+ghost use Rattle.std.specs.Prelude.{◌≡◌, option_map};
+ghost use Rattle.my_opts.specs.Opts.{packet_limit, waiting_limit};
+
+/// A packet's limit in bytes, within its bounds.
+fn within_packets(bytes: u64) -> u64
+    ensures { result ≡ packet_limit bytes }
+{
+    bytes.min(1_073_741_824).max(1024)
+}
+
+/// A packet's limit, where there is one, within its bounds.
+pub(crate) fn limited_packet(limit: Option<u64>) -> Option<u64>
+    ensures { result ≡ option_map packet_limit limit }
+{
+    match limit {
+        Some(bytes) => Some(within_packets(bytes)),
+        None => None,
+    }
+}
+
+/// A waiting time in seconds, where there is one, within its bound.
+pub(crate) fn limited_wait(limit: Option<u64>) -> Option<u64>
+    ensures { result ≡ option_map waiting_limit limit }
+{
+    match limit {
+        Some(seconds) => Some(seconds.min(31_536_000)),
+        None => None,
+    }
+}

@@ -1,0 +1,260 @@
+//! Lists that options hold.
+
+ghost use Rattle.std.specs.Prelude.{◌≡◌, [], ◌∷◌, map, IfOk, IfErr, string_bytes, option_map, option_copied, unwrap_or};
+ghost use Rattle.my_opts.specs.Lists.{pair_bytes, with_attribute};
+
+use my_wire::NoMemory;
+use std::alloc::Global;
+use std::collections::BTreeMap;
+use std::marker::Model;
+use std::net::IpAddr;
+
+/// Addresses in order, which contracts see as their list.
+#[derive(Drop)]
+pub(crate) struct Listed<T> {
+    items: Vec<T>,
+}
+
+impl<T> Model for Listed<T> {
+    ghost use Rattle.std.specs.Prelude.{List};
+
+    ghost Value = { List T };
+
+    ghost view = { λ l. l.items.items };
+}
+
+impl<T> Listed<T> {
+    pub(crate) fn new(items: Vec<T>) -> Listed<T>
+        ensures { result ≡ items.items }
+    {
+        Listed { items }
+    }
+
+    pub(crate) fn as_vec(&self) -> &Vec<T>
+        ensures { result.now.items ≡ self.now }
+    {
+        &self.items
+    }
+}
+
+impl<T: PartialEq> PartialEq for Listed<T> {
+    ghost use Rattle.std.specs.Cmp.Lexicographic.{pointwise, lists_per};
+
+    ghost eq = { pointwise T.eq };
+
+    ghost laws = { lists_per T.laws };
+
+    fn eq(&self, other: &Listed<T>) -> bool {
+        self.items == other.items
+    }
+}
+
+impl<T: Eq> Eq for Listed<T> {
+    ghost use Rattle.std.specs.Cmp.Lexicographic.{lists_equiv};
+
+    ghost laws = { lists_equiv T.Eq.laws };
+}
+
+impl Listed<IpAddr> {
+    /// A second value of the same addresses.
+    pub(crate) fn copy(&self, alloc: Global) -> Result<Listed<IpAddr>, NoMemory>
+        ensures { IfOk result (λ l. l ≡ self.now) }
+    {
+        Ok(Listed {
+            items: Vec::from_slice(alloc, self.items.as_slice())?,
+        })
+    }
+}
+
+/// Texts in order, which contracts see as the list of their bytes.
+#[derive(Drop)]
+pub(crate) struct Texts {
+    texts: Vec<String>,
+}
+
+impl Model for Texts {
+    ghost use Rattle.std.specs.Prelude.{ℕ, List, map, string_bytes};
+
+    ghost Value = { List (List ℕ) };
+
+    ghost view = { λ t. map string_bytes t.texts.items };
+}
+
+impl Texts {
+    pub(crate) fn new(texts: Vec<String>) -> Texts
+        ensures { result ≡ map string_bytes texts.items }
+    {
+        Texts { texts }
+    }
+
+    pub(crate) fn as_slice(&self) -> &[String]
+        ensures { map string_bytes result.now ≡ self.now }
+    {
+        self.texts.as_slice()
+    }
+
+    /// A second value of the same texts.
+    pub(crate) fn copy(&self) -> Result<Texts, NoMemory>
+        ensures { IfOk result (λ t. t ≡ self.now) }
+    {
+        Ok(Texts {
+            texts: self.texts.clone()?,
+        })
+    }
+}
+
+impl PartialEq for Texts {
+    ghost use Rattle.std.specs.Prelude.{◌==◌};
+    ghost use Rattle.std.specs.Cmp.Lexicographic.{pointwise, nat_list_eq_equiv, lists_equiv};
+    ghost use Rattle.std.specs.Cmp;
+
+    ghost eq = { pointwise (pointwise ◌==◌) };
+
+    ghost laws = { Cmp.partial_equiv_from_equiv (lists_equiv nat_list_eq_equiv) };
+
+    fn eq(&self, other: &Texts) -> bool {
+        self.texts == other.texts
+    }
+}
+
+impl Eq for Texts {
+    ghost use Rattle.std.specs.Cmp.Lexicographic.{nat_list_eq_equiv, lists_equiv};
+
+    ghost laws = { lists_equiv nat_list_eq_equiv };
+}
+
+/// Names with their values in byte order of the names, which contracts see as the list of their
+/// bytes.
+#[derive(Drop)]
+pub(crate) struct Attributes {
+    pairs: BTreeMap<String, String>,
+}
+
+impl Model for Attributes {
+    ghost use Rattle.std.specs.Prelude.{ℕ, List, map};
+    ghost use Rattle.my_opts.specs.Lists.{pair_bytes};
+
+    ghost Value = { List (List ℕ × List ℕ) };
+
+    ghost view = { λ a. map pair_bytes a.pairs.entries };
+}
+
+impl Attributes {
+    pub(crate) fn new(pairs: BTreeMap<String, String>) -> Attributes
+        ensures { result ≡ map pair_bytes pairs.entries }
+    {
+        Attributes { pairs }
+    }
+
+    pub(crate) fn empty(alloc: Global) -> Attributes
+        ensures { result ≡ [] }
+    {
+        Attributes {
+            pairs: BTreeMap::new(alloc),
+        }
+    }
+
+    pub(crate) fn as_map(&self) -> &BTreeMap<String, String>
+        ensures { map pair_bytes result.now.entries ≡ self.now }
+    {
+        &self.pairs
+    }
+
+    /// The value at this name, which takes the place of an earlier one.
+    pub(crate) fn with(mut self, name: String, value: String) -> Result<Attributes, NoMemory>
+        ensures { IfOk result (λ a. a ≡ with_attribute self (string_bytes name) (string_bytes value)) }
+    {
+        match self.pairs.insert(name, value) {
+            Ok(_) => Ok(self),
+            Err(_) => Err(NoMemory),
+        }
+    }
+
+    /// A second value of the same names with their values.
+    pub(crate) fn copy(&self) -> Result<Attributes, NoMemory>
+        ensures { IfOk result (λ a. a ≡ self.now) }
+    {
+        Ok(Attributes {
+            pairs: self.pairs.clone()?,
+        })
+    }
+}
+
+impl PartialEq for Attributes {
+    ghost use Rattle.my_opts.specs.Lists.{same_attributes, same_attributes_laws};
+    ghost use Rattle.std.specs.Cmp;
+
+    ghost eq = { same_attributes };
+
+    ghost laws = { Cmp.partial_equiv_from_equiv same_attributes_laws };
+
+    fn eq(&self, other: &Attributes) -> bool {
+        self.pairs == other.pairs
+    }
+}
+
+impl Eq for Attributes {
+    ghost use Rattle.my_opts.specs.Lists.{same_attributes_laws};
+
+    ghost laws = { same_attributes_laws };
+}
+
+/// The addresses, where there are some.
+pub(crate) fn list_of(ips: Option<Vec<IpAddr>>) -> Option<Listed<IpAddr>>
+    ensures { result ≡ option_map (λ ips. ips.items) ips }
+{
+    match ips {
+        Some(ips) => Some(Listed::new(ips)),
+        None => None,
+    }
+}
+
+/// A second value of the same addresses, where there are some.
+pub(crate) fn copied_ips(
+    alloc: Global,
+    ips: &Option<Listed<IpAddr>>,
+) -> Result<Option<Listed<IpAddr>>, NoMemory>
+    ensures { IfOk result (λ copy. copy ≡ ips.now) }
+{
+    match ips {
+        Some(ips) => Ok(Some(ips.copy(alloc)?)),
+        None => Ok(None),
+    }
+}
+
+/// The names with their values, where there are some.
+pub(crate) fn attributes_of(pairs: Option<BTreeMap<String, String>>) -> Option<Attributes>
+    ensures { result ≡ option_map (λ pairs. map pair_bytes pairs.entries) pairs }
+{
+    match pairs {
+        Some(pairs) => Some(Attributes::new(pairs)),
+        None => None,
+    }
+}
+
+/// The names with their values, and one more.
+pub(crate) fn with_one(
+    alloc: Global,
+    attributes: Option<Attributes>,
+    name: String,
+    value: String,
+) -> Result<Attributes, NoMemory>
+    ensures { IfOk result (λ a. a ≡ with_attribute (unwrap_or attributes []) (string_bytes name) (string_bytes value)) }
+{
+    match attributes {
+        Some(attributes) => attributes.with(name, value),
+        None => Attributes::empty(alloc).with(name, value),
+    }
+}
+
+/// A second value of the same names with their values, where there are some.
+pub(crate) fn copied_attributes(
+    attributes: &Option<Attributes>,
+) -> Result<Option<Attributes>, NoMemory>
+    ensures { IfOk result (λ copy. copy ≡ attributes.now) }
+{
+    match attributes {
+        Some(attributes) => Ok(Some(attributes.copy()?)),
+        None => Ok(None),
+    }
+}
