@@ -1,0 +1,4 @@
+pub mod Cut
+pub mod Number
+pub mod Line
+pub mod Script

@@ -1,0 +1,7 @@
+//! Runs scripts of steps over connections, and hands back what they came to.
+#![tactic(auto)]
+
+pub mod reading;
+pub mod step;
+
+pub use step::{Step, WorldLine};

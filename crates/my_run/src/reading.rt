@@ -1,0 +1,8 @@
+//! Reads scripts and the words of a command.
+
+pub mod cut;
+pub mod line;
+pub mod number;
+pub mod script;
+
+pub use script::{Read, Script, read_script};
