@@ -1,3 +1,5 @@
+mod EofLaws
+mod ErrLaws
 pub mod NumberLaws
 mod OkLaws
 mod ReadingLaws

@@ -1,3 +1,5 @@
+pub mod EofPacket
+pub mod ErrPacket
 pub mod Numbers
 pub mod OkPacket
 pub mod Reading

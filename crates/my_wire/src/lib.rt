@@ -2,6 +2,8 @@
 #![tactic(auto)]
 
 mod blob;
+mod eof;
+mod err;
 mod flags;
 mod no_memory;
 pub mod numbers;
@@ -10,7 +12,10 @@ mod read_error;
 mod text;
 
 pub use blob::Blob;
+pub use eof::{EofPacket, eof_is_read, read_eof};
+pub use err::{ErrPacket, err_is_read, read_err};
 pub use flags::{CapabilityFlags, MariadbCapabilities, StatusFlags};
 pub use no_memory::NoMemory;
+pub use ok::{OkPacket, ok_is_read, read_end_ok, read_ok};
 pub use read_error::ReadError;
 pub use text::Text;
