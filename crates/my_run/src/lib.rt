@@ -3,5 +3,6 @@
 
 pub mod reading;
 pub mod step;
+pub mod words;
 
 pub use step::{Step, WorldLine};

@@ -1,0 +1,54 @@
+-- The words of a command line.
+use Rattle.std.specs.Prelude.{ℕ, List, [], ◌∷◌, codes, Option, Some, None, option_map, if◌then◌else◌}
+use Rattle.std.specs.Str.{bytes_eq}
+use Rattle.my_wire.specs.Numbers.{◌>>=◌}
+use Rattle.my_opts.specs.Opts.{OptsView, default_opts, packet_limit, waiting_limit}
+use Rattle.my_run.specs.declared.words.Plain.{Plain}
+use Rattle.my_run.specs.Cut.{first_of, rest_of}
+use Rattle.my_run.specs.Number.{number_of}
+
+-- `script` and one more word
+abbrev pub script_word_of : List (List ℕ) → Option (List ℕ)
+script_word_of (name ∷ word ∷ []) = if bytes_eq name (codes "script") then Some word else None
+script_word_of _ = None
+
+-- a user, a password, a packet's limit and a waiting time
+pub record PlainWords : Type 0 where
+  pub user : List ℕ
+  pub pass : List ℕ
+  pub packet : ℕ
+  pub wait : ℕ
+
+abbrev pub plain_view : Plain → PlainWords
+plain_view p = record { user = p.user.now; pass = p.pass.now; packet = p.packet; wait = p.wait }
+
+-- USER,PASS,PACKET,WAIT; a fifth part isn't digits alone
+unfoldable pub plain_parts : List ℕ → Option PlainWords
+plain_parts text = do
+  behind_user ← rest_of 44 text
+  behind_pass ← rest_of 44 behind_user
+  wait_digits ← rest_of 44 behind_pass
+  packet ← number_of (first_of 44 behind_pass)
+  wait ← number_of wait_digits
+  Some (record { user = first_of 44 text; pass = first_of 44 behind_user; packet = packet; wait = wait })
+
+abbrev pub parts_behind : Option (List ℕ) → Option PlainWords
+parts_behind None = None
+parts_behind (Some text) = plain_parts text
+
+-- `plain,USER,PASS,PACKET,WAIT`
+abbrev pub plain_of : List ℕ → Option PlainWords
+plain_of word = if bytes_eq (first_of 44 word) (codes "plain") then parts_behind (rest_of 44 word) else None
+
+-- an empty text is none
+abbrev pub some_text : List ℕ → Option (List ℕ)
+some_text [] = None
+some_text (b ∷ bytes) = Some (b ∷ bytes)
+
+-- the options that such a word stands for
+abbrev pub plain_opts : PlainWords → OptsView
+plain_opts p = record default_opts { user = some_text p.user; pass = some_text p.pass; max_allowed_packet = Some (packet_limit p.packet); wait_timeout = Some (waiting_limit p.wait) }
+
+-- the options of the second word, or none where it is refused
+abbrev pub word_opts : List ℕ → Option OptsView
+word_opts word = option_map plain_opts (plain_of word)

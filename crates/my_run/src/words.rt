@@ -1,0 +1,122 @@
+//! Reads the words of a command line.
+ghost use Rattle.std.specs.Prelude.{◌≡◌, ◌<◌, IfOk, map, option_map, string_bytes};
+ghost use Rattle.my_run.specs.Cut.{first_of, rest_of};
+ghost use Rattle.my_run.specs.Words.{script_word_of, plain_of, plain_view, plain_parts, plain_opts, word_opts, some_text};
+
+use crate::reading::number::number;
+use my_opts::{Opts, OptsBuilder};
+use my_wire::NoMemory;
+use std::alloc::Global;
+
+// What stands before the first mark, and what stands behind it, if there is one.
+#[derive(Clone, Copy)]
+struct TextPieces<'a> {
+    first: &'a str,
+    rest: Option<&'a str>,
+}
+
+fn cut_text(mark: char, text: &str) -> TextPieces<'_>
+    requires { mark < 128 }
+    ensures first { result.first.now ≡ first_of mark text.now }
+    ensures rest { option_map (λ r. r.now) result.rest ≡ rest_of mark text.now }
+{
+    match text.split_once(mark) {
+        Some((first, rest)) => TextPieces {
+            first,
+            rest: Some(rest),
+        },
+        None => TextPieces {
+            first: text,
+            rest: None,
+        },
+    }
+}
+
+// The four parts of a word `plain,USER,PASS,PACKET,WAIT`.
+#[derive(Clone, Copy)]
+struct Plain<'a> {
+    user: &'a str,
+    pass: &'a str,
+    packet: u64,
+    wait: u64,
+}
+
+#[tactic(auto, unfolding(crate::specs::Words::plain_parts))]
+fn plain_behind(text: &str) -> Option<Plain<'_>>
+    ensures { option_map plain_view result ≡ plain_parts text.now }
+{
+    let user = cut_text(',', text);
+    let pass = cut_text(',', user.rest?);
+    let packet = cut_text(',', pass.rest?);
+    let wait = packet.rest?;
+    let packet = number(packet.first.as_bytes())?;
+    let wait = number(wait.as_bytes())?;
+    Some(Plain {
+        user: user.first,
+        pass: pass.first,
+        packet,
+        wait,
+    })
+}
+
+fn plain_parts_of(word: &str) -> Option<Plain<'_>>
+    ensures { option_map plain_view result ≡ plain_of word.now }
+{
+    let head = cut_text(',', word);
+    if head.first != "plain" {
+        return None;
+    }
+    match head.rest {
+        None => None,
+        Some(rest) => plain_behind(rest),
+    }
+}
+
+// An empty text is none.
+fn filled(alloc: Global, text: &str) -> Result<Option<String>, NoMemory>
+    ensures { IfOk result (λ o. option_map string_bytes o ≡ some_text text.now) }
+{
+    if text.is_empty() {
+        return Ok(None);
+    }
+    Ok(Some(String::from_str(alloc, text)?))
+}
+
+fn opts_of(alloc: Global, plain: Plain<'_>) -> Result<Opts, NoMemory>
+    ensures { IfOk result (λ o. o ≡ plain_opts (plain_view plain.entry)) }
+{
+    let user = filled(alloc, plain.user)?;
+    let pass = filled(alloc, plain.pass)?;
+    let builder = OptsBuilder::new(alloc)?;
+    let builder = builder.user(user).pass(pass);
+    let builder = builder
+        .max_allowed_packet(Some(plain.packet))
+        .wait_timeout(Some(plain.wait));
+    Ok(Opts::from(builder))
+}
+
+/// The options that a word stands for, or none where it is refused.
+pub fn read_word(alloc: Global, word: &str) -> Result<Option<Opts>, NoMemory>
+    ensures { IfOk result (λ o. o ≡ word_opts word.now) }
+{
+    match plain_parts_of(word) {
+        None => Ok(None),
+        Some(plain) => Ok(Some(opts_of(alloc, plain)?)),
+    }
+}
+
+/// The second word of `script WORD`, or none where the words are no command.
+pub fn script_word(words: &[String]) -> Option<&str>
+    ensures { option_map (λ w. w.now) result ≡ script_word_of (map string_bytes words.now) }
+{
+    match words {
+        [name, word] => {
+            if name.as_str() == "script" {
+                Some(word.as_str())
+            } else {
+                None
+            }
+        }
+        _ => None,
+    }
+}
