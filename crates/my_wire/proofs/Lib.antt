@@ -1,3 +1,5 @@
+mod ColumnCountLaws
+mod ColumnLaws
 mod EofLaws
 mod ErrLaws
 pub mod NumberLaws

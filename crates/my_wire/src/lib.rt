@@ -2,6 +2,8 @@
 #![tactic(auto)]
 
 mod blob;
+mod column;
+mod column_count;
 mod eof;
 mod err;
 mod flags;
@@ -10,8 +12,11 @@ pub mod numbers;
 mod ok;
 mod read_error;
 mod text;
+mod version;
 
 pub use blob::Blob;
+pub use column::{Column, column_is_read, read_column};
+pub use column_count::{ColumnCount, column_count_is_read, read_column_count};
 pub use eof::{EofPacket, eof_is_read, read_eof};
 pub use err::{ErrPacket, err_is_read, read_err};
 pub use flags::{CapabilityFlags, MariadbCapabilities, StatusFlags};
@@ -19,3 +24,4 @@ pub use no_memory::NoMemory;
 pub use ok::{OkPacket, ok_is_read, read_end_ok, read_ok};
 pub use read_error::ReadError;
 pub use text::Text;
+pub use version::{ServerVersion, server_version};
