@@ -2,6 +2,7 @@ pub mod Column
 pub mod ColumnCount
 pub mod EofPacket
 pub mod ErrPacket
+pub mod Greeting
 pub mod Numbers
 pub mod OkPacket
 pub mod Reading
