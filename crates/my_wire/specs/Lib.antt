@@ -1,7 +1,13 @@
+pub mod Chunks
+pub mod Codec
 pub mod Column
 pub mod ColumnCount
 pub mod EofPacket
 pub mod ErrPacket
+pub mod Faults
+pub mod Framed
+pub mod Front
+pub mod FrontLaws
 pub mod Greeting
 pub mod Numbers
 pub mod OkPacket

@@ -2,28 +2,39 @@
 #![tactic(auto)]
 
 mod blob;
+mod codec;
 mod column;
 mod column_count;
 mod eof;
 mod err;
+mod fault;
 mod flags;
+mod front;
 mod greeting;
+mod header;
+pub mod laws;
 mod no_memory;
 pub mod numbers;
 mod ok;
+mod put;
 mod read_error;
+mod scan;
 mod text;
 mod version;
 
 pub use blob::Blob;
+pub use codec::PacketCodec;
 pub use column::{Column, column_is_read, read_column};
 pub use column_count::{ColumnCount, column_count_is_read, read_column_count};
 pub use eof::{EofPacket, eof_is_read, read_eof};
 pub use err::{ErrPacket, err_is_read, read_err};
+pub use fault::{CodecError, CodecFault};
 pub use flags::{CapabilityFlags, MariadbCapabilities, StatusFlags};
+pub use front::{FramedPayload, payload_in_front};
 pub use greeting::{Greeting, NEEDED_CAPABILITIES, greeting_is_read, read_greeting};
 pub use no_memory::NoMemory;
 pub use ok::{OkPacket, ok_is_read, read_end_ok, read_ok};
 pub use read_error::ReadError;
+pub use scan::{FULL_LENGTH, Span, scan_front};
 pub use text::Text;
 pub use version::{ServerVersion, server_version};

@@ -1,0 +1,47 @@
+-- How a payload travels between client and server: in numbered chunks. MySQL client/server protocol, "MySQL Packets" and
+-- "Sending more than 16Mb": a chunk is a length of three bytes, a number of one byte and that many bytes; each chunk of a
+-- payload but the last is full, and the last, which may be empty, is not.
+use Rattle.std.specs.Prelude.{ℕ, zero, suc, ◌+◌, ◌/◌, ◌%◌, List, [], ◌∷◌, ◌++◌, length, take, drop}
+
+-- how many bytes a full chunk carries
+abbrev pub full_length : ℕ
+full_length = 0xFFFFFF
+
+-- the number of the chunk behind that with the number n
+abbrev pub next_number : ℕ → ℕ
+next_number n = (n + 1) % 256
+
+-- what stands before the len bytes of a chunk: the length, its lowest byte first, and the chunk's number
+abbrev pub header : ℕ → ℕ → List ℕ
+header len number = len % 256 ∷ len / 256 % 256 ∷ len / 65536 ∷ number ∷ []
+
+-- the chunk of this part of a payload
+abbrev pub chunk : List ℕ → ℕ → List ℕ
+chunk part number = header (length part) number ++ part
+
+-- a chunk for each of these parts, numbered from n on
+abbrev pub numbered : List (List ℕ) → ℕ → List ℕ
+numbered [] n = []
+numbered (part ∷ parts) n = chunk part n ++ numbered parts (next_number n)
+
+-- the number behind those of these parts
+abbrev pub number_after : List (List ℕ) → ℕ → ℕ
+number_after [] n = n
+number_after (part ∷ parts) n = number_after parts (next_number n)
+
+-- the first count parts of a payload, each as long as a full chunk carries, and what is left as one more
+abbrev pub split_full : ℕ → List ℕ → List (List ℕ)
+split_full zero p = p ∷ []
+split_full (suc count) p = take full_length p ∷ split_full count (drop full_length p)
+
+-- the parts of a payload, one a chunk
+unfoldable pub parts_of : List ℕ → List (List ℕ)
+parts_of p = split_full (length p / full_length) p
+
+-- the chunks of the payload p, numbered from n on
+unfoldable pub chunks : List ℕ → ℕ → List ℕ
+chunks p n = numbered (parts_of p) n
+
+-- the number behind that of the payload's last chunk, where its first has the number n
+unfoldable pub number_behind : List ℕ → ℕ → ℕ
+number_behind p n = number_after (parts_of p) n
