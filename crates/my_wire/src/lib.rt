@@ -1,6 +1,7 @@
 //! Frames and packets of the MySQL client/server protocol.
 #![tactic(auto)]
 
+mod append;
 mod blob;
 mod codec;
 mod column;
@@ -22,6 +23,7 @@ mod scan;
 mod text;
 mod version;
 
+pub use append::append_payload;
 pub use blob::Blob;
 pub use codec::PacketCodec;
 pub use column::{Column, column_is_read, read_column};
