@@ -1,4 +1,9 @@
 pub mod Capabilities
+pub mod ChangeUser
 pub mod Lists
+pub mod Loopback
 pub mod Opts
 pub mod Pool
+pub mod Target
+pub mod Transaction
+pub mod TransactionOptions

@@ -3,17 +3,27 @@
 
 mod builder;
 mod capabilities;
+mod change_user;
 mod limits;
 mod lists;
+mod loopback;
 mod millis;
 mod opts;
 mod pool;
+mod target;
 mod text;
+mod transaction;
+mod transaction_options;
 
 pub use builder::OptsBuilder;
+pub use change_user::ChangeUserOpts;
+pub use lists::Listed;
 pub use millis::Millis;
 pub use opts::{DEFAULT_PORT, DEFAULT_STMT_CACHE_SIZE, Opts};
 pub use pool::{
     DEFAULT_INACTIVE_CONNECTION_TTL, DEFAULT_POOL_CONSTRAINTS, DEFAULT_TTL_CHECK_INTERVAL,
     PoolConstraints, PoolOpts,
 };
+pub use target::Target;
+pub use transaction::IsolationLevel;
+pub use transaction_options::TxOpts;

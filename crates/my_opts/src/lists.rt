@@ -9,9 +9,11 @@ use std::collections::BTreeMap;
 use std::marker::Model;
 use std::net::IpAddr;
 
-/// Addresses in order, which contracts see as their list.
+/// Items in order, which contracts see as their list.
+///
+/// It is made from a `Vec`, and gives it back, without taking memory.
 #[derive(Drop)]
-pub(crate) struct Listed<T> {
+pub struct Listed<T> {
     items: Vec<T>,
 }
 
@@ -24,16 +26,25 @@ impl<T> Model for Listed<T> {
 }
 
 impl<T> Listed<T> {
-    pub(crate) fn new(items: Vec<T>) -> Listed<T>
+    /// These items.
+    pub fn new(items: Vec<T>) -> Listed<T>
         ensures { result ≡ items.items }
     {
         Listed { items }
     }
 
-    pub(crate) fn as_vec(&self) -> &Vec<T>
+    /// The items.
+    pub fn as_vec(&self) -> &Vec<T>
         ensures { result.now.items ≡ self.now }
     {
         &self.items
+    }
+
+    /// The items, given back.
+    pub fn into_vec(self) -> Vec<T>
+        ensures { result.items ≡ self }
+    {
+        self.items
     }
 }
 
@@ -57,7 +68,7 @@ impl<T: Eq> Eq for Listed<T> {
 
 impl Listed<IpAddr> {
     /// A second value of the same addresses.
-    pub(crate) fn copy(&self, alloc: Global) -> Result<Listed<IpAddr>, NoMemory>
+    pub fn copy(&self, alloc: Global) -> Result<Listed<IpAddr>, NoMemory>
         ensures { IfOk result (λ l. l ≡ self.now) }
     {
         Ok(Listed {

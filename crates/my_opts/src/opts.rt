@@ -1,21 +1,26 @@
 //! Options of a connection.
 
-ghost use Rattle.std.specs.Prelude.{◌≡◌, ◌≤◌, IfOk, IfSome, map, string_bytes, option_map, option_copied};
+ghost use Rattle.std.specs.Prelude.{◌≡◌, ◌≤◌, IfOk, IfSome, MatchBool, map, string_bytes, option_map, option_copied};
 ghost use Rattle.my_opts.specs.Capabilities.{capabilities_of};
 ghost use Rattle.my_opts.specs.Lists.{pair_bytes};
-ghost use Rattle.my_opts.specs.Opts.{IsPacketLimit, IsWaitingLimit};
+ghost use Rattle.my_opts.specs.Loopback.{IsLoopback, IsElsewhere};
+ghost use Rattle.my_opts.specs.Target.{target_of};
 
-use crate::builder::OptsBuilder;
-use crate::capabilities::client_capabilities;
-use crate::lists::{Attributes, Listed, Texts, copied_attributes, copied_ips};
-use crate::millis::Millis;
-use crate::pool::PoolOpts;
-use crate::text::{copied, shown};
-use my_wire::{CapabilityFlags, NoMemory, Text};
 use std::alloc::Global;
 use std::collections::BTreeMap;
 use std::marker::Model;
 use std::net::IpAddr;
+
+use my_wire::{CapabilityFlags, NoMemory, Text};
+
+use crate::builder::OptsBuilder;
+use crate::capabilities::client_capabilities;
+use crate::lists::{Attributes, Listed, Texts, copied_attributes, copied_ips};
+use crate::loopback::{any_loopback, is_loopback_host};
+use crate::millis::Millis;
+use crate::pool::PoolOpts;
+use crate::target::Target;
+use crate::text::{copied, shown};
 
 /// The port of a server that says nothing of it.
 pub const DEFAULT_PORT: u16 = 3306;
@@ -54,55 +59,59 @@ impl Model for Opts {
 
     ghost Value = { OptsView };
 
-    ghost view = { λ o. record {
-      ip_or_hostname = o.ip_or_hostname;
-      tcp_port = o.tcp_port;
-      resolved_ips = o.resolved_ips;
-      user = o.user;
-      pass = o.pass;
-      db_name = o.db_name;
-      init = o.init;
-      setup = o.setup;
-      tcp_keepalive = o.tcp_keepalive;
-      tcp_nodelay = o.tcp_nodelay;
-      conn_ttl = o.conn_ttl;
-      stmt_cache_size = o.stmt_cache_size;
-      prefer_socket = o.prefer_socket;
-      socket = o.socket;
-      max_allowed_packet = o.max_allowed_packet;
-      wait_timeout = o.wait_timeout;
-      secure_auth = o.secure_auth;
-      client_found_rows = o.client_found_rows;
-      enable_cleartext_plugin = o.enable_cleartext_plugin;
-      connect_attributes = o.connect_attributes;
-      pool_opts = o.pool_opts;
-    } };
+    ghost view = {
+        λ o. record {
+            ip_or_hostname = o.ip_or_hostname;
+            tcp_port = o.tcp_port;
+            resolved_ips = o.resolved_ips;
+            user = o.user;
+            pass = o.pass;
+            db_name = o.db_name;
+            init = o.init;
+            setup = o.setup;
+            tcp_keepalive = o.tcp_keepalive;
+            tcp_nodelay = o.tcp_nodelay;
+            conn_ttl = o.conn_ttl;
+            stmt_cache_size = o.stmt_cache_size;
+            prefer_socket = o.prefer_socket;
+            socket = o.socket;
+            max_allowed_packet = o.max_allowed_packet;
+            wait_timeout = o.wait_timeout;
+            secure_auth = o.secure_auth;
+            client_found_rows = o.client_found_rows;
+            enable_cleartext_plugin = o.enable_cleartext_plugin;
+            connect_attributes = o.connect_attributes;
+            pool_opts = o.pool_opts
+        }
+    };
 
     ghost invariant = { λ o. IsPacketLimit o.max_allowed_packet × IsWaitingLimit o.wait_timeout };
 
-    ghost inverse = { λ v. record {
-      ip_or_hostname = v.ip_or_hostname;
-      tcp_port = v.tcp_port;
-      resolved_ips = v.resolved_ips;
-      user = v.user;
-      pass = v.pass;
-      db_name = v.db_name;
-      init = v.init;
-      setup = v.setup;
-      tcp_keepalive = v.tcp_keepalive;
-      tcp_nodelay = v.tcp_nodelay;
-      conn_ttl = v.conn_ttl;
-      stmt_cache_size = v.stmt_cache_size;
-      prefer_socket = v.prefer_socket;
-      socket = v.socket;
-      max_allowed_packet = v.max_allowed_packet;
-      wait_timeout = v.wait_timeout;
-      secure_auth = v.secure_auth;
-      client_found_rows = v.client_found_rows;
-      enable_cleartext_plugin = v.enable_cleartext_plugin;
-      connect_attributes = v.connect_attributes;
-      pool_opts = v.pool_opts;
-    } };
+    ghost inverse = {
+        λ v. record {
+            ip_or_hostname = v.ip_or_hostname;
+            tcp_port = v.tcp_port;
+            resolved_ips = v.resolved_ips;
+            user = v.user;
+            pass = v.pass;
+            db_name = v.db_name;
+            init = v.init;
+            setup = v.setup;
+            tcp_keepalive = v.tcp_keepalive;
+            tcp_nodelay = v.tcp_nodelay;
+            conn_ttl = v.conn_ttl;
+            stmt_cache_size = v.stmt_cache_size;
+            prefer_socket = v.prefer_socket;
+            socket = v.socket;
+            max_allowed_packet = v.max_allowed_packet;
+            wait_timeout = v.wait_timeout;
+            secure_auth = v.secure_auth;
+            client_found_rows = v.client_found_rows;
+            enable_cleartext_plugin = v.enable_cleartext_plugin;
+            connect_attributes = v.connect_attributes;
+            pool_opts = v.pool_opts
+        }
+    };
 }
 
 impl From<OptsBuilder> for Opts {
@@ -284,6 +293,35 @@ impl Opts {
         ensures { result ≡ self.now.pool_opts.abs_conn_ttl_jitter }
     {
         self.pool_opts.abs_conn_ttl_jitter()
+    }
+
+    /// Whether the host is the machine itself: a loopback address, with or without brackets, or
+    /// `localhost`; or one of its known addresses is.
+    pub fn addr_is_loopback(&self) -> bool
+        ensures { MatchBool result (IsLoopback self.now) (IsElsewhere self.now) }
+    {
+        if any_loopback(&self.resolved_ips) {
+            return true;
+        }
+        if is_loopback_host(self.ip_or_hostname.as_str()) {
+            return true;
+        }
+        false
+    }
+
+    /// Where a connection with these options is made: at the local socket that they name, else at
+    /// their host and port.
+    pub fn target(&self, alloc: Global) -> Result<Target, NoMemory>
+        ensures { IfOk result (λ target. target ≡ target_of self.now) }
+    {
+        match &self.socket {
+            Some(path) => Ok(Target::Socket(path.copy(alloc)?)),
+            None => Ok(Target::Tcp {
+                host: self.ip_or_hostname.copy(alloc)?,
+                port: self.tcp_port,
+                ips: copied_ips(alloc, &self.resolved_ips)?,
+            }),
+        }
     }
 
     /// What a client with these options says that it can do.

@@ -1,0 +1,19 @@
+//! Where a connection is made.
+
+use my_wire::Text;
+use std::net::IpAddr;
+
+use crate::lists::Listed;
+
+/// Where a connection is made.
+#[derive(Drop, PartialEq, Eq)]
+pub enum Target {
+    /// At a host and port; at the addresses, where they are known.
+    Tcp {
+        host: Text,
+        port: u16,
+        ips: Option<Listed<IpAddr>>,
+    },
+    /// At a local socket with this path.
+    Socket(Text),
+}
