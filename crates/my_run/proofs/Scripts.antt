@@ -1,12 +1,12 @@
 -- How a script's lines go on.
-use Rattle.std.proofs.Common.{◌≡◌, ◌+◌, ◌≤◌, ◌<◌, ℕ, suc, List, [], ◌∷◌, ◌++◌, length, Option, Some, None, Bool, refl, sym, ap, ◌∙◌, Bor, option_map, IfSome, arith}
+use Rattle.std.proofs.Common.{◌≡◌, ◌+◌, ◌≤◌, ◌<◌, ℕ, suc, List, length, Option, Some, None, Bool, sym, ap, ◌∙◌, Bor, option_map, IfSome, arith}
 use Rattle.my_run.specs.declared.step.Step.{Step}
 use Rattle.my_run.specs.declared.step.WorldLine.{WorldLine}
 use Rattle.my_run.specs.declared.reading.line.Item.{Item}
 use Rattle.my_run.specs.declared.reading.script.Sofar.{Sofar}
 use Rattle.my_run.specs.Cut.{first_of, rest_of, pieces_left}
 use Rattle.my_run.specs.Line.{line_of}
-use Rattle.my_run.specs.Script.{Script, Good, Bad, front, with_item, on_line, admitted, script_from}
+use Rattle.my_run.specs.Script.{Script, Bad, front, with_item, on_line, admitted, script_from}
 use Rattle.my_run.proofs.Cuts.{pieces_cut}
 
 abbrev pub text_of : Option (Bor (List ℕ)) → Option (List ℕ)

@@ -1,10 +1,8 @@
 -- What a line of a script says: its first word, then its arguments, one space apart.
-use Rattle.std.specs.Prelude.{◌≡◌, ℕ, ◌==◌, nat_le, List, [], ◌∷◌, length, codes, Option, Some, None, Bool, true, false, if◌then◌else◌}
+use Rattle.std.specs.Prelude.{ℕ, ◌==◌, nat_le, List, [], ◌∷◌, length, codes, Option, Some, None, if◌then◌else◌}
 use Rattle.std.specs.Str.{bytes_eq}
 use Rattle.my_wire.specs.Numbers.{◌>>=◌}
-use Rattle.my_run.specs.declared.step.Step.{Step}
 use Rattle.my_run.specs.declared.step.Step.TheVariants as steps
-use Rattle.my_run.specs.declared.step.WorldLine.{WorldLine}
 use Rattle.my_run.specs.declared.step.WorldLine.TheVariants as lines
 use Rattle.my_run.specs.declared.reading.line.Item.{Item}
 use Rattle.my_run.specs.declared.reading.line.Item.TheVariants.{Nothing, Plans, Steps, Wrong}

@@ -1,6 +1,8 @@
 //! Runs scripts of steps over connections, and hands back what they came to.
 #![tactic(auto)]
 
+pub mod link;
+pub mod memory;
 pub mod reading;
 pub mod step;
 pub mod words;

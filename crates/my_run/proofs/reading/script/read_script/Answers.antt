@@ -1,4 +1,4 @@
-use Rattle.std.proofs.Common.{◌≡◌, ◌+◌, ◌≤◌, Option, Some, None, List, ℕ, ap, ◌∙◌, subst, length, rules, arith}
+use Rattle.std.proofs.Common.{◌≡◌, ◌+◌, Option, Some, None, List, ℕ, ap, ◌∙◌, subst, length, rules, arith}
 use Rattle.my_run.specs.Cut.{pieces_left}
 use Rattle.my_run.specs.Line.{line_of}
 use Rattle.my_run.specs.Script.{Script, front, with_item, script_from, script_of, admitted}
