@@ -1,6 +1,6 @@
 //! The answer of a call that got no memory.
 
-use std::alloc::AllocError;
+use std::alloc::{AllocError, AllocFailed};
 use thiserror::Error;
 
 /// An allocation failed.
@@ -10,6 +10,12 @@ pub struct NoMemory;
 
 impl From<AllocError> for NoMemory {
     fn from(_e: AllocError) -> NoMemory {
+        NoMemory
+    }
+}
+
+impl<T: Drop> From<AllocFailed<T>> for NoMemory {
+    fn from(_e: AllocFailed<T>) -> NoMemory {
         NoMemory
     }
 }
