@@ -1,0 +1,3 @@
+pub mod BinaryRowLaws
+pub mod RowLaws
+pub mod TextRowLaws

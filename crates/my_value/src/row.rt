@@ -1,0 +1,121 @@
+//! A row of a result.
+
+ghost use Rattle.std.specs.Prelude.{◌≡◌, ◌<◌, ◌==◌, IfOk, Option, length, slice_get, slice_set};
+ghost use Rattle.std.specs.Option.{option_copied};
+ghost use Rattle.my_value.specs.RowParts.{columns_of};
+
+use crate::value::Value;
+use my_wire::{Column, NoMemory};
+use std::alloc::Global;
+use std::marker::Model;
+use std::mem;
+use std::sync::Arc;
+
+/// The columns of a result, which its rows share.
+pub type Columns = Arc<Vec<Column>>;
+
+/// The cells of a row, with the columns of its result.
+///
+/// Contracts see it as the list of its cells and the list of its columns.
+#[derive(Drop)]
+pub struct Row {
+    values: Vec<Value>,
+    columns: Columns,
+}
+
+impl Model for Row {
+    ghost use Rattle.my_value.specs.RowParts.{RowParts, columns_of};
+
+    ghost Value = { RowParts };
+
+    ghost view = { λ r. record { cells = r.values.items; columns = columns_of r.columns } };
+}
+
+// The number of columns.
+pub(crate) fn column_count(columns: &Columns) -> usize
+    ensures { result ≡ length (columns_of columns.now) }
+{
+    columns.len()
+}
+
+// The columns as a slice.
+pub(crate) fn column_list(columns: &Columns) -> &[Column]
+    ensures { result.now ≡ columns_of columns.now }
+{
+    columns.as_slice()
+}
+
+// A second list of these values.
+fn copy_all(alloc: Global, values: &[Value]) -> Result<Vec<Value>, NoMemory>
+    ensures { IfOk result (λ v. v.items ≡ values.now) }
+{
+    let mut copies = Vec::new(alloc);
+    for value in values {
+        copies.push(value.copy(alloc)?)?;
+    }
+    Ok(copies)
+}
+
+impl Row {
+    /// These cells of a result with these columns.
+    pub fn new(values: Vec<Value>, columns: Columns) -> Row
+        ensures cells { result.cells ≡ values.items }
+        ensures columns { result.columns ≡ columns_of columns }
+    {
+        Row { values, columns }
+    }
+
+    /// The number of cells.
+    pub fn len(&self) -> usize
+        ensures { result ≡ length self.now.cells }
+    {
+        self.values.len()
+    }
+
+    pub fn is_empty(&self) -> bool
+        ensures { result ≡ (length self.now.cells == 0) }
+    {
+        self.values.is_empty()
+    }
+
+    pub fn columns_ref(&self) -> &[Column]
+        ensures { result.now ≡ self.now.columns }
+    {
+        column_list(&self.columns)
+    }
+
+    /// The cell at a place, counted from 0.
+    pub fn as_ref(&self, index: usize) -> Option<&Value>
+        ensures { option_copied result ≡ slice_get self.now.cells index }
+    {
+        self.values.get(index)
+    }
+
+    /// Takes the cell at a place out, and leaves `NULL` there.
+    pub fn take(&mut self, index: usize) -> Option<Value>
+        ensures value { result ≡ slice_get self.old.cells index }
+        ensures cells { self.new.cells ≡ slice_set self.old.cells index Value.NULL }
+        ensures columns { self.new.columns ≡ self.old.columns }
+    {
+        if index >= self.values.len() {
+            return None;
+        }
+        Some(mem::replace(&mut self.values[index], Value::NULL))
+    }
+
+    /// The cells.
+    pub fn unwrap(self) -> Vec<Value>
+        ensures { result.items ≡ self.cells }
+    {
+        self.values
+    }
+
+    /// A second row like this one, which shares its columns.
+    pub fn copy(&self, alloc: Global) -> Result<Row, NoMemory>
+        ensures { IfOk result (λ r. r ≡ self.now) }
+    {
+        let values = copy_all(alloc, self.values.as_slice())?;
+        let columns = Arc::try_clone(&self.columns)?;
+        Ok(Row { values, columns })
+    }
+}
