@@ -11,5 +11,8 @@ pub mod FrontLaws
 pub mod Greeting
 pub mod Numbers
 pub mod OkPacket
+pub mod Outside
 pub mod Reading
+pub mod Sinks
+pub mod Sources
 pub mod Version

@@ -20,6 +20,9 @@ mod ok;
 mod put;
 mod read_error;
 mod scan;
+mod sink;
+mod source;
+mod std_edge;
 mod text;
 mod version;
 
@@ -38,5 +41,8 @@ pub use no_memory::NoMemory;
 pub use ok::{OkPacket, ok_is_read, read_end_ok, read_ok};
 pub use read_error::ReadError;
 pub use scan::{FULL_LENGTH, Span, scan_front};
+pub use sink::{MemSink, Sink, SinkStep};
+pub use source::{MemSource, Source, SourceStep};
+pub use std_edge::{StdSink, StdSource};
 pub use text::Text;
 pub use version::{ServerVersion, server_version};
