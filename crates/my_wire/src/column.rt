@@ -46,7 +46,7 @@ struct Names {
 
 // What a column's values look like.
 #[derive(Clone, Copy)]
-struct Form {
+pub(crate) struct Form {
     charset: u16,
     length: u32,
     column_type: u8,
@@ -85,7 +85,7 @@ fn names_of(alloc: Global, bytes: &[u8]) -> Result<(Names, &[u8]), ReadError>
 }
 
 #[tactic(auto, unfolding(crate::specs::Column::form_at))]
-fn form_of(bytes: &[u8]) -> Option<Form>
+pub(crate) fn form_of(bytes: &[u8]) -> Option<Form>
     ensures { result ≡ form_at bytes.now }
 {
     let (size, rest) = take_len(bytes)?;

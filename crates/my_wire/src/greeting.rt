@@ -34,15 +34,15 @@ pub struct Greeting {
 
 // What stands between the two parts of the nonce.
 #[derive(Clone, Copy)]
-struct Settings {
-    capabilities: u32,
-    status: u16,
-    nonce_length: u8,
-    extended: u32,
+pub(crate) struct Settings {
+    pub(crate) capabilities: u32,
+    pub(crate) status: u16,
+    pub(crate) nonce_length: u8,
+    pub(crate) extended: u32,
 }
 
 // Version, number and the nonce's first part.
-fn first_of(payload: &[u8]) -> Option<((&[u8], u32, &[u8]), &[u8])>
+pub(crate) fn first_of(payload: &[u8]) -> Option<((&[u8], u32, &[u8]), &[u8])>
     ensures { option_map (λ x. ((x.0.0.now, x.0.1, x.0.2.now), x.1.now)) result ≡ first_at payload.now }
 {
     let rest = take_head(payload, 10)?;
@@ -54,7 +54,7 @@ fn first_of(payload: &[u8]) -> Option<((&[u8], u32, &[u8]), &[u8])>
 }
 
 #[tactic(auto, unfolding(crate::specs::Greeting::settings_at))]
-fn settings_of(bytes: &[u8]) -> Option<(Settings, &[u8])>
+pub(crate) fn settings_of(bytes: &[u8]) -> Option<(Settings, &[u8])>
     ensures { option_map (λ x. (x.0, x.1.now)) result ≡ settings_at bytes.now }
 {
     let (low, rest) = take_u16(bytes)?;
@@ -74,7 +74,7 @@ fn settings_of(bytes: &[u8]) -> Option<(Settings, &[u8])>
 }
 
 // The nonce's second part, of which 12 bytes count, and the plugin's name.
-fn second_of(nonce_length: u8, bytes: &[u8]) -> Option<(&[u8], &[u8])>
+pub(crate) fn second_of(nonce_length: u8, bytes: &[u8]) -> Option<(&[u8], &[u8])>
     ensures { option_map (λ x. (x.0.now, x.1.now)) result ≡ second_at nonce_length bytes.now }
 {
     let count = usize::from(nonce_length.saturating_sub(8)).max(13);

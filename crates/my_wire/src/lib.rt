@@ -11,6 +11,7 @@ mod err;
 mod fault;
 mod flags;
 mod front;
+pub mod glance;
 mod greeting;
 mod header;
 pub mod laws;
