@@ -34,10 +34,10 @@ none_again : (before : Bool) (left : List ℕ) → (before ≡ true) ⊎ ((rest 
 none_again before [] h = refl
 none_again before (mark ∷ left) h =
     let b : (eqb mark 35 && not before) ≡ false =
-      elim h [
-        | inl t ↦ grind (arith, nat_tests)
-        | inr t ↦ let m : mark ≢ 35 = λ p. t left cc in grind (arith, nat_tests)
-      ] in
+    elim h [
+      | inl t ↦ grind (arith, nat_tests)
+      | inr t ↦ let m : mark ≢ 35 = λ p. t left cc in grind (arith, nat_tests)
+    ] in
     rw b refl
 
 told_again : (before : Bool) (left state message : List ℕ) → TellsState before left state message ⊎ TellsNone before left state message → told_at before left ≡ Some (state, message)

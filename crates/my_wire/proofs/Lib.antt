@@ -1,3 +1,4 @@
+mod AttributeLaws
 pub mod ChunkLaws
 mod ColumnCountLaws
 mod ColumnLaws
@@ -16,3 +17,4 @@ pub mod Putting
 mod ReadingLaws
 pub mod Scanning
 pub mod WholeHeads
+pub mod WritingLaws

@@ -117,12 +117,12 @@ zero_found bytes text rest (Some k) p e =
     let h : k < length bytes = w.0 in
     let z : get_or bytes k 0 ≡ 0 = let t = w.1 in grind (arith, nat_tests) in
     let before : (i : ℕ) → i < length (take k bytes) → get_or (take k bytes) i 0 ≢ 0 =
-      λ i short.
-        let l : length (take k bytes) ≡ k = length-take-le k bytes (omega arith) in
-        let t = w.2 i (omega arith) in
-        rw (get_or-take k bytes i 0 (omega arith)) (grind (arith, nat_tests)) in
+    λ i short.
+    let l : length (take k bytes) ≡ k = length-take-le k bytes (omega arith) in
+    let t = w.2 i (omega arith) in
+    rw (get_or-take k bytes i 0 (omega arith)) (grind (arith, nat_tests)) in
     let seam : bytes ≡ take k bytes ++ 0 ∷ drop (k + 1) bytes =
-      sym (take-append-drop k bytes) ∙ ap (λ x. take k bytes ++ x) (drop-cons bytes k 0 h ∙ ap (λ b. b ∷ drop (suc k) bytes) z) ∙ rw add-one refl in
+    sym (take-append-drop k bytes) ∙ ap (λ x. take k bytes ++ x) (drop-cons bytes k 0 h ∙ ap (λ b. b ∷ drop (suc k) bytes) z) ∙ rw add-one refl in
     subst (λ x. IsText0 bytes x rest) s.0 (subst (λ x. IsText0 bytes (take k bytes) x) s.1 (record { spelled = seam; no_zero = All-from_get_or (λ b. b ≢ 0) (take k bytes) 0 before }))
 
 pub text0_found : (bytes text rest : List ℕ) → text0_at bytes ≡ Some (text, rest) → IsText0 bytes text rest
@@ -133,8 +133,8 @@ first_zero text rest no_zero =
     let all = text ++ 0 ∷ rest in
     let l : length all ≡ length text + suc (length rest) = length-append text (0 ∷ rest) in
     position_or_len_is (λ b. eqb b 0) all (length text) 0 (omega arith)
-      (λ k h. let t = no_zero k 0 h in rw (get_or_append_left text (0 ∷ rest) 0 k h) (grind (arith, nat_tests)))
-      (λ h. rw (get_or-append_seam text 0 rest 0) refl)
+    (λ k h. let t = no_zero k 0 h in rw (get_or_append_left text (0 ∷ rest) 0 k h) (grind (arith, nat_tests)))
+    (λ h. rw (get_or-append_seam text 0 rest 0) refl)
 
 pub text0_again : (bytes text rest : List ℕ) → IsText0 bytes text rest → text0_at bytes ≡ Some (text, rest)
 text0_again bytes text rest w =
@@ -142,7 +142,7 @@ text0_again bytes text rest w =
     let l : length all ≡ length text + suc (length rest) = length-append text (0 ∷ rest) in
     let b : ltb (length text) (length all) ≡ true = grind (arith, nat_tests) in
     let d : drop (length text + 1) all ≡ rest =
-      ap (λ x. drop (length text + 1) x) (sym (append_assoc text (0 ∷ []) rest)) ∙ drop_at (text ++ 0 ∷ []) rest (length text + 1) (length-append text (0 ∷ [])) in
+    ap (λ x. drop (length text + 1) x) (sym (append_assoc text (0 ∷ []) rest)) ∙ drop_at (text ++ 0 ∷ []) rest (length text + 1) (length-append text (0 ∷ [])) in
     rw w.spelled (rw (first_zero text rest w.no_zero, b) (rw (take_at text (0 ∷ rest) (length text) refl, d) refl))
 
 pub head_found : (head : ℕ) (bytes rest : List ℕ) → head_at head bytes ≡ Some rest → bytes ≡ head ∷ rest
@@ -169,7 +169,7 @@ before_found bytes part e =
           let all : take place bytes ≡ bytes = take_all place bytes h in
           record {
             no_zero = subst (λ x. All (λ b. b ≢ 0) x) (sym all) (All-from_get_or (λ b. b ≢ 0) bytes 0 (λ i short. let t = fails_before_first p bytes i 0 (omega arith) in grind (arith, nat_tests)));
-            ends = inl (sym all)
+            ends = inl (sym all);
           }
     ])
 
@@ -179,7 +179,7 @@ before_again bytes part w =
       | inl e ↦
           let no = w.no_zero in
           let place : position_or_len (λ b. eqb b 0) part ≡ length part =
-            position_or_len_is (λ b. eqb b 0) part (length part) 0 (omega arith) (λ k h. let t = no k 0 h in grind (arith, nat_tests)) (λ h. absurd (omega arith)) in
+          position_or_len_is (λ b. eqb b 0) part (length part) 0 (omega arith) (λ k h. let t = no k 0 h in grind (arith, nat_tests)) (λ h. absurd (omega arith)) in
           rw e (rw place (take_all (length part) part (omega arith)))
       | inr e ↦ rw e.1 (rw (first_zero part e.0 w.no_zero) (take_at part (0 ∷ e.0) (length part) refl))
     ]

@@ -1,4 +1,6 @@
+pub mod Attributes
 pub mod Chunks
+pub mod Client
 pub mod Codec
 pub mod Column
 pub mod ColumnCount
@@ -16,3 +18,4 @@ pub mod Reading
 pub mod Sinks
 pub mod Sources
 pub mod Version
+pub mod Writing

@@ -144,5 +144,4 @@ pub fn read_column(alloc: Global, payload: &[u8]) -> Result<Column, ReadError>
 pub fn column_is_read()
     ensures column { (payload : List ℕ) (x : Column) → (column_at payload ≡ Some x) ↔ IsColumn payload x }
     ensures one_column { (payload : List ℕ) (x y : Column) → IsColumn payload x → IsColumn payload y → x ≡ y }
-{
-}
+{}

@@ -55,5 +55,4 @@ pub fn read_column_count(payload: &[u8], cached: bool) -> Result<ColumnCount, Re
 pub fn column_count_is_read()
     ensures column_count { (cached : Bool) (payload : List ℕ) (x : ColumnCount) → (column_count_at cached payload ≡ Some x) ↔ IsColumnCount cached payload x }
     ensures one_column_count { (cached : Bool) (payload : List ℕ) (x y : ColumnCount) → IsColumnCount cached payload x → IsColumnCount cached payload y → x ≡ y }
-{
-}
+{}

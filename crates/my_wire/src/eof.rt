@@ -40,5 +40,4 @@ pub fn read_eof(payload: &[u8]) -> Result<EofPacket, ReadError>
 pub fn eof_is_read()
     ensures eof { (payload : List ℕ) (x : EofPacket) → (eof_at payload ≡ Some x) ↔ IsEof payload x }
     ensures one_eof { (payload : List ℕ) (x y : EofPacket) → IsEof payload x → IsEof payload y → x ≡ y }
-{
-}
+{}

@@ -31,11 +31,7 @@ fn told_of(before_response: bool, left: &[u8]) -> Result<([u8; 5], &[u8]), ReadE
     }
 }
 
-fn err_of(
-    alloc: Global,
-    payload: &[u8],
-    before_response: bool,
-) -> Result<ErrPacket, ReadError>
+fn err_of(alloc: Global, payload: &[u8], before_response: bool) -> Result<ErrPacket, ReadError>
     ensures { Gives result (err_at before_response payload.now) }
 {
     let rest = take_head(payload, 0xFF).ok_or(ReadError::Malformed)?;
@@ -65,5 +61,4 @@ pub fn read_err(
 pub fn err_is_read()
     ensures err { (before : Bool) (payload : List ℕ) (x : ErrPacket) → (err_at before payload ≡ Some x) ↔ IsErr before payload x }
     ensures one_err { (before : Bool) (payload : List ℕ) (x y : ErrPacket) → IsErr before payload x → IsErr before payload y → x ≡ y }
-{
-}
+{}

@@ -122,5 +122,4 @@ pub fn read_greeting(alloc: Global, payload: &[u8]) -> Result<Greeting, ReadErro
 pub fn greeting_is_read()
     ensures greeting { (payload : List ℕ) (x : Greeting) → (greeting_at payload ≡ Some x) ↔ IsGreeting payload x }
     ensures one_greeting { (payload : List ℕ) (x y : Greeting) → IsGreeting payload x → IsGreeting payload y → x ≡ y }
-{
-}
+{}

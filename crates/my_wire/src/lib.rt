@@ -2,7 +2,9 @@
 #![tactic(auto)]
 
 mod append;
+mod attributes;
 mod blob;
+mod client;
 mod codec;
 mod column;
 mod column_count;
@@ -26,9 +28,12 @@ mod source;
 mod std_edge;
 mod text;
 mod version;
+pub mod writing;
 
 pub use append::append_payload;
+pub use attributes::{Attribute, Attributes};
 pub use blob::Blob;
+pub use client::{ChangeUser, ClientPacket, HandshakeResponse, write_client};
 pub use codec::PacketCodec;
 pub use column::{Column, column_is_read, read_column};
 pub use column_count::{ColumnCount, column_count_is_read, read_column_count};

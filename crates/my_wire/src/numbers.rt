@@ -149,5 +149,4 @@ pub fn numbers_are_read()
     ensures len { (bytes : List ℕ) (n : ℕ) (rest : List ℕ) → (len_at bytes ≡ Some (n, rest)) ↔ IsLen bytes n rest }
     ensures text { (bytes text rest : List ℕ) → (text_at bytes ≡ Some (text, rest)) ↔ IsText bytes text rest }
     ensures text0 { (bytes text rest : List ℕ) → (text0_at bytes ≡ Some (text, rest)) ↔ IsText0 bytes text rest }
-{
-}
+{}

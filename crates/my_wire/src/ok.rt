@@ -90,5 +90,4 @@ pub fn ok_is_read()
     ensures one_ok { (payload : List ℕ) (x y : OkPacket) → IsOk payload x → IsOk payload y → x ≡ y }
     ensures end_ok { (payload : List ℕ) (x : OkPacket) → (end_ok_at payload ≡ Some x) ↔ IsEndOk payload x }
     ensures one_end_ok { (payload : List ℕ) (x y : OkPacket) → IsEndOk payload x → IsEndOk payload y → x ≡ y }
-{
-}
+{}

@@ -1,0 +1,3 @@
+-- How a client's packets are written.
+pub mod Login
+pub mod Packet

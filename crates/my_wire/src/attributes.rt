@@ -1,0 +1,82 @@
+//! What a client tells of itself: pairs of a name and a value.
+
+ghost use Rattle.std.specs.Prelude.{◌≡◌, ◌<◌, ◌≤◌, [], IfSome, OnOk, OnErr, length, position};
+ghost use Rattle.std.specs.List.{position_or_len};
+ghost use Rattle.my_wire.specs.Attributes.{is_before, put_in_order};
+
+use crate::blob::Blob;
+use std::alloc::{AllocError, Global};
+use std::cmp::Ordering;
+use std::marker::Model;
+
+/// A name and its value.
+#[derive(Debug, Drop, PartialEq, Eq)]
+pub struct Attribute {
+    pub key: Blob,
+    pub value: Blob,
+}
+
+/// Attributes in the byte order of their keys, which contracts see as their list.
+#[derive(Debug, Drop)]
+pub struct Attributes {
+    pairs: Vec<Attribute>,
+}
+
+impl Model for Attributes {
+    ghost use Rattle.std.specs.Prelude.{List};
+    ghost use Rattle.my_wire.specs.declared.attributes.Attribute.{Attribute};
+
+    ghost Value = { List Attribute };
+
+    ghost view = { λ a. a.pairs.items };
+}
+
+fn is_before(key: &[u8], other: &[u8]) -> bool
+    ensures { result ≡ is_before key.now other.now }
+{
+    key.cmp(&other) == Ordering::Less
+}
+
+fn greater_of(pairs: &[Attribute], key: &[u8]) -> Option<usize>
+    ensures place { result ≡ position (λ p. is_before key.now p.key) pairs.now }
+    ensures within { IfSome result (λ k. k < length pairs.now) }
+{
+    pairs
+        .iter()
+        .position(|pair| is_before(key, pair.key.as_slice()))
+}
+
+// The place of the first pair whose key is greater, or the end.
+fn place_of(pairs: &[Attribute], key: &[u8]) -> usize
+    ensures place { result ≡ position_or_len (λ p. is_before key.now p.key) pairs.now }
+    ensures within { result ≤ length pairs.now }
+{
+    greater_of(pairs, key).unwrap_or(pairs.len())
+}
+
+impl Attributes {
+    /// No attributes.
+    pub fn new(alloc: Global) -> Attributes
+        ensures { result ≡ [] }
+    {
+        Attributes {
+            pairs: Vec::new(alloc),
+        }
+    }
+
+    /// Adds a pair, behind those whose keys aren't greater.
+    pub fn put(&mut self, key: Blob, value: Blob) -> Result<(), AllocError>
+        ensures ok { OnOk result (self.new ≡ put_in_order self.old (record { key = key; value = value })) }
+        ensures err { OnErr result (self.new ≡ self.old) }
+    {
+        let place = place_of(self.pairs.as_slice(), key.as_slice());
+        self.pairs.insert(place, Attribute { key, value })?;
+        Ok(())
+    }
+
+    pub fn as_slice(&self) -> &[Attribute]
+        ensures { result.now ≡ self.now }
+    {
+        self.pairs.as_slice()
+    }
+}
