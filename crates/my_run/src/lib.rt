@@ -6,5 +6,6 @@ pub mod memory;
 pub mod reading;
 pub mod step;
 pub mod words;
+pub mod world;
 
 pub use step::{Step, WorldLine};

@@ -1,8 +1,10 @@
 //! A link in memory, which plays the items that it was made with.
 ghost use Rattle.std.specs.Prelude.{◌≡◌, ◌<◌, ◌≤◌, ◌++◌, [], ℕ, List, Option, Some, None, true, false, length, take, drop};
 ghost use Rattle.std.specs.List.{list_all};
-ghost use Rattle.my_run.specs.Memory.{left_items, is_sound, is_filled, CopiesFront};
-ghost use Rattle.my_run.specs.Outside.{no_counts};
+ghost use Rattle.my_run.specs.Memory.{is_sound, is_filled, CopiesFront};
+
+pub mod planned;
+pub mod world;
 
 use crate::link::{Link, ReadItem, ReadStep, WriteStep};
 use std::alloc::Global;
@@ -41,9 +43,15 @@ fn behind(bytes: &[u8], from: usize) -> &[u8]
 }
 
 impl MemLink {
+    ghost use Rattle.my_run.specs.MemLink.{unread, counted, sent_to};
+    ghost use Rattle.my_run.specs.Outside.{no_counts};
+
     /// A link that has these items to be read.
     pub fn new(alloc: Global, items: Vec<ReadItem>) -> MemLink
         requires { list_all is_filled items.items ≡ true }
+        ensures items { unread result ≡ items.items }
+        ensures counts { counted result ≡ no_counts }
+        ensures got { sent_to result ≡ [] }
     {
         MemLink {
             items,
@@ -58,11 +66,13 @@ impl MemLink {
 }
 
 impl Link for MemLink {
-    ghost counts = { λ m. record { faults = m.faults; holds = m.holds; ends = m.ends } };
+    ghost use Rattle.my_run.specs.MemLink.{unread, counted, sent_to};
 
-    ghost items = { λ m. Some (left_items m.from (drop m.place m.items.items)) };
+    ghost counts = { counted };
 
-    ghost got = { λ m. Some m.got.items };
+    ghost items = { λ m. Some (unread m) };
+
+    ghost got = { λ m. Some (sent_to m) };
 
     ghost socket = { λ m. false };
 
