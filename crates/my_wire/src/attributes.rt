@@ -1,6 +1,6 @@
 //! What a client tells of itself: pairs of a name and a value.
 
-ghost use Rattle.std.specs.Prelude.{◌≡◌, ◌<◌, ◌≤◌, [], IfSome, OnOk, OnErr, length, position};
+ghost use Rattle.std.specs.Prelude.{◌≡◌, ◌<◌, ◌≤◌, [], IfOk, IfSome, OnOk, OnErr, length, position};
 ghost use Rattle.std.specs.List.{position_or_len};
 ghost use Rattle.my_wire.specs.Attributes.{is_before, put_in_order};
 
@@ -54,6 +54,19 @@ fn place_of(pairs: &[Attribute], key: &[u8]) -> usize
     greater_of(pairs, key).unwrap_or(pairs.len())
 }
 
+// A second list of the same pairs.
+fn copy_pairs(alloc: Global, pairs: &[Attribute]) -> Result<Vec<Attribute>, AllocError>
+    ensures { IfOk result (λ copies. copies.items ≡ pairs.now) }
+{
+    let mut copies = Vec::new(alloc);
+    for pair in pairs {
+        let key = pair.key.copy(alloc)?;
+        let value = pair.value.copy(alloc)?;
+        copies.push(Attribute { key, value })?;
+    }
+    Ok(copies)
+}
+
 impl Attributes {
     /// No attributes.
     pub fn new(alloc: Global) -> Attributes
@@ -72,6 +85,15 @@ impl Attributes {
         let place = place_of(self.pairs.as_slice(), key.as_slice());
         self.pairs.insert(place, Attribute { key, value })?;
         Ok(())
+    }
+
+    /// A second value of the same attributes.
+    pub fn copy(&self, alloc: Global) -> Result<Attributes, AllocError>
+        ensures { IfOk result (λ a. a ≡ self.now) }
+    {
+        Ok(Attributes {
+            pairs: copy_pairs(alloc, self.pairs.as_slice())?,
+        })
     }
 
     pub fn as_slice(&self) -> &[Attribute]
