@@ -1,1 +1,9 @@
 pub mod Contexts
+pub mod Kinds
+pub mod Sets
+pub mod FitSets
+pub mod Scramble
+pub mod Response
+pub mod Talk
+pub mod Growth
+pub mod Cut

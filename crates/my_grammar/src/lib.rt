@@ -2,8 +2,14 @@
 //! they make up, and the exchanges that a stream of bytes holds.
 #![tactic(auto)]
 
+mod kinds;
 mod login;
+mod queue;
+mod scramble;
 mod spot;
 
-pub use login::Login;
+pub use kinds::kind_at;
+pub use login::{Login, login_response};
+pub use queue::Queue;
+pub use scramble::native_answer;
 pub use spot::{Context, Kind, Spot, Terms};

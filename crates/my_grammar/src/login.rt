@@ -1,6 +1,15 @@
 //! What a client says of itself when a connection is made.
 
-use my_wire::Blob;
+ghost use Rattle.std.specs.Prelude.{◌≡◌, ◌≤◌, [], IfOk, length, unwrap_or};
+ghost use Rattle.my_wire.specs.Client.Login.{response_bytes};
+ghost use Rattle.my_grammar.specs.Response.{charset_of, response, response_to};
+
+use crate::scramble::native_answer;
+use my_wire::{
+    Attributes, Blob, ClientPacket, Greeting, HandshakeResponse, NoMemory, ReadError,
+    ServerVersion, read_greeting, server_version, write_client,
+};
+use std::alloc::{AllocError, Global};
 
 /// What of the options goes into the answer to a server's greeting.
 #[derive(Debug, Drop)]
@@ -10,6 +19,73 @@ pub struct Login {
     pub database: Option<Blob>,
     /// The longest payload that the client reads, as it tells the server, in bytes.
     pub max_packet: u32,
-    /// The capabilities that the client has.
+    /// Names and values that the server keeps for its statistics.
+    pub attributes: Attributes,
+    /// The bits of what the client can do.
     pub capabilities: u32,
+}
+
+// The number of the character set: utf8mb4 where the server knows it.
+fn charset_for(version: ServerVersion) -> u8
+    ensures { result ≡ charset_of version }
+{
+    let new_major = version.major > 5;
+    let new_minor = version.major == 5 && version.minor > 5;
+    let new_patch = version.major == 5 && version.minor == 5 && version.patch >= 3;
+    if new_major || new_minor || new_patch {
+        45
+    } else {
+        33
+    }
+}
+
+fn text_or_none(alloc: Global, text: &Option<Blob>) -> Result<Blob, AllocError>
+    ensures { IfOk result (λ copy. copy ≡ unwrap_or text.now []) }
+{
+    match text {
+        Some(text) => text.copy(alloc),
+        None => Ok(Blob::new(alloc)),
+    }
+}
+
+// What the client answers to this greeting.
+fn response_to(
+    alloc: Global,
+    login: &Login,
+    greeting: &Greeting,
+) -> Result<HandshakeResponse, AllocError>
+    ensures value { IfOk result (λ packet. packet ≡ response_to login.now greeting.now) }
+    ensures short { IfOk result (λ packet. length packet.scramble ≤ 20) }
+{
+    let scramble = native_answer(alloc, &login.password, greeting.nonce.as_slice())?;
+    Ok(HandshakeResponse {
+        capabilities: login.capabilities & greeting.capabilities,
+        max_packet: login.max_packet,
+        charset: charset_for(server_version(greeting.version.as_slice())),
+        extended: 0,
+        user: text_or_none(alloc, &login.user)?,
+        scramble,
+        database: text_or_none(alloc, &login.database)?,
+        plugin: Blob::from_slice(alloc, b"mysql_native_password")?,
+        attributes: login.attributes.copy(alloc)?,
+    })
+}
+
+fn written(alloc: Global, login: &Login, greeting: &Greeting) -> Result<Blob, NoMemory>
+    ensures { IfOk result (λ payload. payload ≡ response_bytes (response_to login.now greeting.now)) }
+{
+    let packet = ClientPacket::Response(response_to(alloc, login, greeting)?);
+    Ok(Blob::from(write_client(alloc, &packet)?))
+}
+
+/// The payload that the client sends behind a greeting; an empty one where the payload is none.
+#[tactic(auto, unfolding(crate::specs::Response::response))]
+pub fn login_response(alloc: Global, login: &Login, greeting: &[u8]) -> Result<Blob, NoMemory>
+    ensures { IfOk result (λ payload. payload ≡ response login.now greeting.now) }
+{
+    match read_greeting(alloc, greeting) {
+        Ok(greeting) => written(alloc, login, &greeting),
+        Err(ReadError::Malformed) => Ok(Blob::new(alloc)),
+        Err(ReadError::NoMemory) => Err(NoMemory),
+    }
 }

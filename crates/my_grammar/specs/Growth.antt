@@ -1,0 +1,77 @@
+-- One payload more in an exchange.
+use Rattle.std.specs.Prelude.{◌≡◌, ℕ, List, [], ◌∷◌, ◌++◌}
+use Rattle.my_wire.specs.Chunks.{chunks, number_behind}
+use Rattle.my_grammar.specs.declared.login.Login.{Login}
+use Rattle.my_grammar.specs.declared.spot.Kind.{Kind}
+use Rattle.my_grammar.specs.declared.spot.Kind.TheVariants as kinds
+use Rattle.my_grammar.specs.Contexts.{context_after, deprecates_eof}
+use Rattle.my_grammar.specs.Response.{response}
+use Rattle.my_grammar.specs.Sets.{grow_sets}
+use Rattle.my_grammar.specs.Talk.{Talk, Start, Unwelcome, Greeted, Settled, Asked, Replied, Queried, Silent, Turn, Client, Server, packets_of, turns, number_of, server_bytes, client_bytes, context_of, Fits, origin, login_in}
+
+-- the exchange with a payload of this kind
+abbrev pub grow_start : Kind → Login → List ℕ → Talk
+grow_start (kinds.Greets capabilities) login p = Greeted login p capabilities
+grow_start kinds.Failed login p = Unwelcome login p
+grow_start k login p = Start login
+
+abbrev pub grow : Kind → Talk → List ℕ → Talk
+grow k (Start login) p = grow_start k login p
+grow k (Unwelcome login q) p = Unwelcome login q
+grow k (Greeted login q capabilities) p = Settled login q capabilities p k
+grow k (Settled login q capabilities last kind) p = Settled login q capabilities last kind
+grow k (Asked terms c) p = Replied terms c p k
+grow k (Replied terms c last kind) p = Replied terms c last kind
+grow k (Queried terms c sets) p = Queried terms c (grow_sets (deprecates_eof terms.kept) k sets p)
+grow k (Silent terms c) p = Silent terms c
+
+-- what the client says at once behind a payload of this kind: its response behind the greeting
+abbrev pub replies : Login → Kind → List ℕ → List Turn
+replies login (kinds.Greets capabilities) p = Client (response login p) ∷ []
+replies login (kinds.Good status) p = []
+replies login kinds.Failed p = []
+replies login (kinds.Count columns) p = []
+replies login kinds.Column p = []
+replies login kinds.ColumnsDone p = []
+replies login kinds.Row p = []
+replies login (kinds.End status) p = []
+replies login kinds.Bad p = []
+
+-- the number behind a payload that has the number n, and behind what the client says to it
+abbrev pub number_next : Login → Kind → List ℕ → ℕ → ℕ
+number_next login (kinds.Greets capabilities) p n = number_behind (response login p) (number_behind p n)
+number_next login (kinds.Good status) p n = number_behind p n
+number_next login kinds.Failed p n = number_behind p n
+number_next login (kinds.Count columns) p n = number_behind p n
+number_next login kinds.Column p n = number_behind p n
+number_next login kinds.ColumnsDone p n = number_behind p n
+number_next login kinds.Row p n = number_behind p n
+number_next login (kinds.End status) p n = number_behind p n
+number_next login kinds.Bad p n = number_behind p n
+
+-- the bytes of what the client says to it
+abbrev pub said : Login → Kind → List ℕ → ℕ → List ℕ
+said login (kinds.Greets capabilities) p n = chunks (response login p) (number_behind p n)
+said login (kinds.Good status) p n = []
+said login kinds.Failed p n = []
+said login (kinds.Count columns) p n = []
+said login kinds.Column p n = []
+said login kinds.ColumnsDone p n = []
+said login kinds.Row p n = []
+said login (kinds.End status) p n = []
+said login kinds.Bad p n = []
+
+-- A payload more, of the kind that it is where the reading stands, is one payload more in each reading of the exchange.
+pub record Grows (t : Talk) (k : Kind) (p : List ℕ) : Type 0 where
+  pub context : context_of (grow k t p) ≡ context_after (context_of t) k
+  pub packets_are : packets_of (grow k t p) ≡ record { kind = k; payload = p } ∷ packets_of t
+  pub turns_are : (login : Login) → turns (grow k t p) ≡ replies (login_in login t) k p ++ Server p ∷ turns t
+  pub login_is : (login : Login) → login_in login (grow k t p) ≡ login_in login t
+  pub fits : Fits (grow k t p)
+  pub origin_is : origin (grow k t p) ≡ origin t
+
+-- What the payload does to the running number and to each side's bytes, and what the client says to it.
+pub record Reads (login : Login) (k : Kind) (p : List ℕ) (ts : List Turn) : Type 0 where
+  pub number : number_of (replies login k p ++ Server p ∷ ts) ≡ number_next login k p (number_of ts)
+  pub server : server_bytes (replies login k p ++ Server p ∷ ts) ≡ server_bytes ts ++ chunks p (number_of ts)
+  pub client : client_bytes (replies login k p ++ Server p ∷ ts) ≡ client_bytes ts ++ said login k p (number_of ts)

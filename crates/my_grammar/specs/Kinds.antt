@@ -1,0 +1,125 @@
+-- What a payload is, where the reading stands. MySQL client/server protocol, "Connection Phase", "Generic Response Packets" and "Text
+-- Resultset": in each place the forms that may stand there, in the order in which they are tried.
+use Rattle.std.specs.Prelude.{ℕ, List, codes, Option, Some, None, Bool, true, false, if◌then◌else◌}
+use Rattle.std.specs.Str.{bytes_eq}
+use Rattle.my_wire.specs.declared.ok.OkPacket.{OkPacket}
+use Rattle.my_wire.specs.declared.err.ErrPacket.{ErrPacket}
+use Rattle.my_wire.specs.declared.eof.EofPacket.{EofPacket}
+use Rattle.my_wire.specs.OkPacket.{ok_at, end_ok_at}
+use Rattle.my_wire.specs.ErrPacket.{err_at}
+use Rattle.my_wire.specs.EofPacket.{eof_at}
+use Rattle.my_wire.specs.declared.greeting.Greeting.{Greeting}
+use Rattle.my_wire.specs.Greeting.{greeting_at}
+use Rattle.my_wire.specs.declared.column_count.ColumnCount.{ColumnCount}
+use Rattle.my_wire.specs.ColumnCount.{column_count_at}
+use Rattle.my_wire.specs.declared.column.Column.{Column as ColumnPacket}
+use Rattle.my_wire.specs.Column.{column_at}
+use Rattle.my_value.specs.declared.value.Value.{Value}
+use Rattle.my_value.specs.TextRow.{text_row_at}
+use Rattle.my_grammar.specs.declared.spot.Spot.{Spot}
+use Rattle.my_grammar.specs.declared.spot.Spot.TheVariants as spots
+use Rattle.my_grammar.specs.declared.spot.Kind.{Kind}
+use Rattle.my_grammar.specs.declared.spot.Kind.TheVariants.{Greets, Good, Failed, Count, Column, ColumnsDone, Row, End, Bad}
+use Rattle.my_grammar.specs.declared.spot.Context.{Context}
+use Rattle.my_grammar.specs.Contexts.{deprecates_eof}
+
+-- the first form, unless it doesn't stand there; then the other
+abbrev pub or_else : Kind → Kind → Kind
+or_else Bad k = k
+or_else k l = k
+
+-- an OK, where one is read
+abbrev pub good_kind : Option OkPacket → Kind
+good_kind None = Bad
+good_kind (Some ok) = Good ok.status
+
+-- an ERR
+abbrev pub failed_kind : Option ErrPacket → Kind
+failed_kind None = Bad
+failed_kind (Some e) = Failed
+
+-- a count of columns
+abbrev pub count_kind : Option ColumnCount → Kind
+count_kind None = Bad
+count_kind (Some columns) = Count columns.count
+
+-- whether a plugin's name is that of the way to log in with a cached SHA-256
+abbrev pub is_caching : List ℕ → Bool
+is_caching plugin = bytes_eq plugin (codes "caching_sha2_password")
+
+-- a server that deprecates EOF and logs in by the native password
+abbrev pub offer_kind : ℕ → List ℕ → Kind
+offer_kind capabilities plugin = if deprecates_eof capabilities then (if is_caching plugin then Bad else Greets capabilities) else Bad
+
+-- a greeting
+abbrev pub greets_kind : Option Greeting → Kind
+greets_kind None = Bad
+greets_kind (Some g) = offer_kind g.capabilities g.plugin
+
+-- a column
+abbrev pub described_kind : Option ColumnPacket → Kind
+described_kind None = Bad
+described_kind (Some c) = Column
+
+-- the EOF behind columns
+abbrev pub done_kind : Option EofPacket → Kind
+done_kind None = Bad
+done_kind (Some e) = ColumnsDone
+
+-- a set's end by an OK, or by an EOF
+abbrev pub ended_kind : Option OkPacket → Kind
+ended_kind None = Bad
+ended_kind (Some ok) = End ok.status
+
+abbrev pub eof_kind : Option EofPacket → Kind
+eof_kind None = Bad
+eof_kind (Some e) = End e.status
+
+-- the cells of a row
+abbrev pub cells_kind : Option (List Value) → Kind
+cells_kind None = Bad
+cells_kind (Some cells) = Row
+
+-- What may stand in the place of a greeting: an ERR there has no state.
+abbrev pub greeting_kind : List ℕ → Kind
+greeting_kind p = or_else (greets_kind (greeting_at p)) (failed_kind (err_at true p))
+
+-- What may stand where one OK or ERR is awaited.
+abbrev pub single_kind : List ℕ → Kind
+single_kind p = or_else (good_kind (ok_at p)) (failed_kind (err_at false p))
+
+-- What may stand as the head of a set.
+abbrev pub head_kind : List ℕ → Kind
+head_kind p = or_else (good_kind (ok_at p)) (or_else (failed_kind (err_at false p)) (count_kind (column_count_at false p)))
+
+-- What may stand in the place of a column: no ERR.
+abbrev pub column_kind : List ℕ → Kind
+column_kind p = described_kind (column_at p)
+
+-- What may stand behind the columns of a server that doesn't deprecate EOF.
+abbrev pub columns_end_kind : List ℕ → Kind
+columns_end_kind p = done_kind (eof_at p)
+
+-- A set's end.
+abbrev pub end_kind : Bool → List ℕ → Kind
+end_kind true p = ended_kind (end_ok_at p)
+end_kind false p = eof_kind (eof_at p)
+
+-- What may stand in the place of a row of so many columns: an end is tried first.
+abbrev pub row_kind : Bool → ℕ → List ℕ → Kind
+row_kind deprecates columns p = or_else (end_kind deprecates p) (or_else (failed_kind (err_at false p)) (cells_kind (text_row_at columns p)))
+
+-- what a payload is in each place
+abbrev pub kind_by : Spot → Bool → ℕ → List ℕ → Kind
+kind_by spots.Idle deprecates columns p = Bad
+kind_by spots.Greeting deprecates columns p = greeting_kind p
+kind_by spots.Authentication deprecates columns p = single_kind p
+kind_by spots.Single deprecates columns p = single_kind p
+kind_by spots.Head deprecates columns p = head_kind p
+kind_by spots.Further deprecates columns p = head_kind p
+kind_by (spots.Columns left) deprecates columns p = column_kind p
+kind_by spots.ColumnsEnd deprecates columns p = columns_end_kind p
+kind_by spots.Rows deprecates columns p = row_kind deprecates columns p
+
+abbrev pub kind_there : Context → List ℕ → Kind
+kind_there c p = kind_by c.spot (deprecates_eof c.terms.kept) c.columns p

@@ -1,0 +1,123 @@
+-- A response as a list of sets, newest first inside, so that each payload more is one constructor. MySQL client/server protocol,
+-- "COM_QUERY Response", "Text Resultset" and "Multi-Resultset".
+use Rattle.std.specs.Prelude.{ℕ, ◌-◌, nat_le, List, [], ◌∷◌, Option, Some, None, Bool, if◌then◌else◌}
+use Rattle.my_grammar.specs.declared.spot.Spot.{Spot}
+use Rattle.my_grammar.specs.declared.spot.Spot.TheVariants as spots
+use Rattle.my_grammar.specs.declared.spot.Kind.{Kind}
+use Rattle.my_grammar.specs.declared.spot.Kind.TheVariants as kinds
+use Rattle.my_grammar.specs.declared.spot.Terms.{Terms}
+use Rattle.my_grammar.specs.declared.spot.Context.{Context}
+use Rattle.my_grammar.specs.Contexts.{more}
+
+-- the head of a set with columns: the count as it stands and its number, the columns so far, and the EOF behind them
+pub record SetHead : Type 0 where
+  pub count : List ℕ
+  pub number : ℕ
+  pub columns : List (List ℕ)
+  pub close : Option (List ℕ)
+
+-- No set; or behind the older ones a lone OK, an ERR in a head's place, a head of which so many columns are left, a head whose EOF is
+-- left, rows under a whole head, rows with their end, or rows that an ERR broke off.
+pub data Sets : Type 0 where
+  NoSets : Sets
+  Lone : (older : Sets) (p : List ℕ) (status : ℕ) → Sets
+  Failed : (older : Sets) (p : List ℕ) → Sets
+  Heading : (older : Sets) (head : SetHead) (left : ℕ) → Sets
+  Headed : (older : Sets) (head : SetHead) → Sets
+  Begun : (older : Sets) (head : SetHead) (rows : List (List ℕ)) → Sets
+  Ended : (older : Sets) (head : SetHead) (rows : List (List ℕ)) (last : List ℕ) (status : ℕ) → Sets
+  Broken : (older : Sets) (head : SetHead) (rows : List (List ℕ)) (last : List ℕ) → Sets
+
+-- a payload with what it is
+pub record Packet : Type 0 where
+  pub kind : Kind
+  pub payload : List ℕ
+
+-- payloads of one kind, in front of others
+abbrev pub each : Kind → List (List ℕ) → List Packet → List Packet
+each k [] others = others
+each k (p ∷ ps) others = record { kind = k; payload = p } ∷ each k ps others
+
+abbrev pub at_most_one : Kind → Option (List ℕ) → List Packet → List Packet
+at_most_one k None others = others
+at_most_one k (Some p) others = record { kind = k; payload = p } ∷ others
+
+abbrev pub head_packets : SetHead → List Packet → List Packet
+head_packets h others = at_most_one kinds.ColumnsDone h.close (each kinds.Column h.columns (record { kind = kinds.Count h.number; payload = h.count } ∷ others))
+
+-- the payloads of the sets with what they are, the newest first
+abbrev pub packets_in : Sets → List Packet
+packets_in NoSets = []
+packets_in (Lone older p status) = record { kind = kinds.Good status; payload = p } ∷ packets_in older
+packets_in (Failed older p) = record { kind = kinds.Failed; payload = p } ∷ packets_in older
+packets_in (Heading older head left) = head_packets head (packets_in older)
+packets_in (Headed older head) = head_packets head (packets_in older)
+packets_in (Begun older head rows) = each kinds.Row rows (head_packets head (packets_in older))
+packets_in (Ended older head rows last status) = record { kind = kinds.End status; payload = last } ∷ each kinds.Row rows (head_packets head (packets_in older))
+packets_in (Broken older head rows last) = record { kind = kinds.Failed; payload = last } ∷ each kinds.Row rows (head_packets head (packets_in older))
+
+-- what is awaited behind them
+abbrev pub spot_in : Sets → Spot
+spot_in NoSets = spots.Head
+spot_in (Lone older p status) = more status
+spot_in (Failed older p) = spots.Idle
+spot_in (Heading older head left) = spots.Columns left
+spot_in (Headed older head) = spots.ColumnsEnd
+spot_in (Begun older head rows) = spots.Rows
+spot_in (Ended older head rows last status) = more status
+spot_in (Broken older head rows last) = spots.Idle
+
+-- the number of columns of the set that is being read
+abbrev pub columns_in : Sets → ℕ
+columns_in NoSets = 0
+columns_in (Lone older p status) = 0
+columns_in (Failed older p) = 0
+columns_in (Heading older head left) = head.number
+columns_in (Headed older head) = head.number
+columns_in (Begun older head rows) = head.number
+columns_in (Ended older head rows last status) = 0
+columns_in (Broken older head rows last) = 0
+
+abbrev pub context_in : Terms → Sets → Context
+context_in terms x = record { spot = spot_in x; columns = columns_in x; terms = terms }
+
+-- one payload more, of each kind
+abbrev pub with_column_of : SetHead → List ℕ → SetHead
+with_column_of h p = record { count = h.count; number = h.number; columns = p ∷ h.columns; close = h.close }
+
+abbrev pub with_close_of : SetHead → List ℕ → SetHead
+with_close_of h p = record { count = h.count; number = h.number; columns = h.columns; close = Some p }
+
+abbrev pub with_column : Bool → Sets → List ℕ → Sets
+with_column deprecates (Heading older head left) p =
+    if nat_le left 1
+    then (if deprecates then Begun older (with_column_of head p) [] else Headed older (with_column_of head p))
+    else Heading older (with_column_of head p) (left - 1)
+with_column deprecates x p = x
+
+abbrev pub with_close : Sets → List ℕ → Sets
+with_close (Headed older head) p = Begun older (with_close_of head p) []
+with_close x p = x
+
+abbrev pub with_row : Sets → List ℕ → Sets
+with_row (Begun older head rows) p = Begun older head (p ∷ rows)
+with_row x p = x
+
+abbrev pub with_end : Sets → List ℕ → ℕ → Sets
+with_end (Begun older head rows) p status = Ended older head rows p status
+with_end x p status = x
+
+abbrev pub with_error : Sets → List ℕ → Sets
+with_error (Begun older head rows) p = Broken older head rows p
+with_error x p = Failed x p
+
+abbrev pub grow_sets : Bool → Kind → Sets → List ℕ → Sets
+grow_sets deprecates (kinds.Greets capabilities) x p = x
+grow_sets deprecates (kinds.Good status) x p = Lone x p status
+grow_sets deprecates kinds.Failed x p = with_error x p
+grow_sets deprecates (kinds.Count n) x p = Heading x (record { count = p; number = n; columns = []; close = None }) n
+grow_sets deprecates kinds.Column x p = with_column deprecates x p
+grow_sets deprecates kinds.ColumnsDone x p = with_close x p
+grow_sets deprecates kinds.Row x p = with_row x p
+grow_sets deprecates (kinds.End status) x p = with_end x p status
+grow_sets deprecates kinds.Bad x p = x

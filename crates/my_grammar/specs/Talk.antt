@@ -1,0 +1,150 @@
+-- An exchange as it was read: a client's command with the server's payloads so far, or the opening of a connection, which begins with
+-- the server. MySQL client/server protocol, "Connection Phase" and "Command Phase". One running number goes over the chunks of both
+-- sides, from 0 in each exchange.
+use Rattle.std.specs.Prelude.{◌≡◌, ℕ, ◌≤◌, bit_and, List, [], ◌∷◌, ◌++◌, length, false}
+use Rattle.std.specs.List.{AllByRecursion}
+use Rattle.my_wire.specs.Chunks.{chunks, number_behind}
+use Rattle.my_grammar.specs.declared.login.Login.{Login}
+use Rattle.my_grammar.specs.declared.spot.Spot.TheVariants as spots
+use Rattle.my_grammar.specs.declared.spot.Kind.{Kind}
+use Rattle.my_grammar.specs.declared.spot.Kind.TheVariants as kinds
+use Rattle.my_grammar.specs.declared.spot.Terms.{Terms}
+use Rattle.my_grammar.specs.declared.spot.Context.{Context}
+use Rattle.my_grammar.specs.Contexts.{deprecates_eof, is_bad}
+use Rattle.my_grammar.specs.Kinds.{greeting_kind, single_kind}
+use Rattle.my_grammar.specs.Sets.{Sets, NoSets, Packet, packets_in, context_in}
+use Rattle.my_grammar.specs.FitSets.{FitSets}
+use Rattle.my_grammar.specs.Response.{response}
+
+-- Start: a connection before the greeting; Unwelcome: an ERR in its place; Greeted: the greeting and the client's response;
+-- Settled: what the server said to that. Asked: a simple command; Replied: with its OK or ERR. Queried: a query with its sets.
+-- Silent: a command without a reply.
+pub data Talk : Type 0 where
+  Start : (login : Login) → Talk
+  Unwelcome : (login : Login) (p : List ℕ) → Talk
+  Greeted : (login : Login) (p : List ℕ) (capabilities : ℕ) → Talk
+  Settled : (login : Login) (p : List ℕ) (capabilities : ℕ) (last : List ℕ) (kind : Kind) → Talk
+  Asked : (terms : Terms) (command : List ℕ) → Talk
+  Replied : (terms : Terms) (command : List ℕ) (last : List ℕ) (kind : Kind) → Talk
+  Queried : (terms : Terms) (command : List ℕ) (sets : Sets) → Talk
+  Silent : (terms : Terms) (command : List ℕ) → Talk
+
+-- the longest payload that is read until the settings are known
+abbrev pub default_limit : ℕ
+default_limit = 4194304
+
+-- before the greeting the client's own capabilities stand
+abbrev pub start_terms : Login → Terms
+start_terms login = record { kept = login.capabilities; limit = default_limit }
+
+abbrev pub greeted_terms : Login → ℕ → Terms
+greeted_terms login capabilities = record { kept = bit_and login.capabilities capabilities; limit = default_limit }
+
+-- the server's payloads with what they are, the newest first: facts of an exchange are folds over them
+abbrev pub packets_of : Talk → List Packet
+packets_of (Start login) = []
+packets_of (Unwelcome login p) = record { kind = kinds.Failed; payload = p } ∷ []
+packets_of (Greeted login p capabilities) = record { kind = kinds.Greets capabilities; payload = p } ∷ []
+packets_of (Settled login p capabilities last kind) = record { kind = kind; payload = last } ∷ record { kind = kinds.Greets capabilities; payload = p } ∷ []
+packets_of (Asked terms c) = []
+packets_of (Replied terms c last kind) = record { kind = kind; payload = last } ∷ []
+packets_of (Queried terms c sets) = packets_in sets
+packets_of (Silent terms c) = []
+
+-- whose payload it is
+pub data Turn : Type 0 where
+  Client : (p : List ℕ) → Turn
+  Server : (p : List ℕ) → Turn
+
+-- the server's payloads, behind other turns
+abbrev pub served : List Packet → List Turn → List Turn
+served [] others = others
+served (packet ∷ packets) others = Server packet.payload ∷ served packets others
+
+-- both sides' payloads, the newest first
+abbrev pub turns : Talk → List Turn
+turns (Start login) = []
+turns (Unwelcome login p) = Server p ∷ []
+turns (Greeted login p capabilities) = Client (response login p) ∷ Server p ∷ []
+turns (Settled login p capabilities last kind) = Server last ∷ Client (response login p) ∷ Server p ∷ []
+turns (Asked terms c) = Client c ∷ []
+turns (Replied terms c last kind) = Server last ∷ Client c ∷ []
+turns (Queried terms c sets) = served (packets_in sets) (Client c ∷ [])
+turns (Silent terms c) = Client c ∷ []
+
+-- the number of the next chunk, of either side
+abbrev pub number_of : List Turn → ℕ
+number_of [] = 0
+number_of (Client p ∷ ts) = number_behind p (number_of ts)
+number_of (Server p ∷ ts) = number_behind p (number_of ts)
+
+-- the bytes of one side's payloads
+abbrev pub server_bytes : List Turn → List ℕ
+server_bytes [] = []
+server_bytes (Server p ∷ ts) = server_bytes ts ++ chunks p (number_of ts)
+server_bytes (Client p ∷ ts) = server_bytes ts
+
+abbrev pub client_bytes : List Turn → List ℕ
+client_bytes [] = []
+client_bytes (Client p ∷ ts) = client_bytes ts ++ chunks p (number_of ts)
+client_bytes (Server p ∷ ts) = client_bytes ts
+
+-- where the reading stands
+abbrev pub context_of : Talk → Context
+context_of (Start login) = record { spot = spots.Greeting; columns = 0; terms = start_terms login }
+context_of (Unwelcome login p) = record { spot = spots.Idle; columns = 0; terms = start_terms login }
+context_of (Greeted login p capabilities) = record { spot = spots.Authentication; columns = 0; terms = greeted_terms login capabilities }
+context_of (Settled login p capabilities last kind) = record { spot = spots.Idle; columns = 0; terms = greeted_terms login capabilities }
+context_of (Asked terms c) = record { spot = spots.Single; columns = 0; terms = terms }
+context_of (Replied terms c last kind) = record { spot = spots.Idle; columns = 0; terms = terms }
+context_of (Queried terms c sets) = context_in terms sets
+context_of (Silent terms c) = record { spot = spots.Idle; columns = 0; terms = terms }
+
+-- each payload is what may stand in its place
+abbrev pub FitKinds : Talk → Type 0
+FitKinds (Start login) = Unit {0}
+FitKinds (Unwelcome login p) = greeting_kind p ≡ kinds.Failed
+FitKinds (Greeted login p capabilities) = greeting_kind p ≡ kinds.Greets capabilities
+FitKinds (Settled login p capabilities last kind) = (greeting_kind p ≡ kinds.Greets capabilities) × (single_kind last ≡ kind) × (is_bad kind ≡ false)
+FitKinds (Asked terms c) = Unit {0}
+FitKinds (Replied terms c last kind) = (single_kind last ≡ kind) × (is_bad kind ≡ false)
+FitKinds (Queried terms c sets) = FitSets (deprecates_eof terms.kept) sets
+FitKinds (Silent terms c) = Unit {0}
+
+-- the longest payload that is read in the exchange
+abbrev pub limit_of : Talk → ℕ
+limit_of (Start login) = default_limit
+limit_of (Unwelcome login p) = default_limit
+limit_of (Greeted login p capabilities) = default_limit
+limit_of (Settled login p capabilities last kind) = default_limit
+limit_of (Asked terms c) = terms.limit
+limit_of (Replied terms c last kind) = terms.limit
+limit_of (Queried terms c sets) = terms.limit
+limit_of (Silent terms c) = terms.limit
+
+-- The exchange is one that the protocol has, with no payload above the limit.
+pub record Fits (t : Talk) : Type 0 where
+  pub kinds : FitKinds t
+  pub within : AllByRecursion (λ packet. length packet.payload ≤ limit_of t) (packets_of t)
+
+-- the exchange as it began
+abbrev pub origin : Talk → Talk
+origin (Start login) = Start login
+origin (Unwelcome login p) = Start login
+origin (Greeted login p capabilities) = Start login
+origin (Settled login p capabilities last kind) = Start login
+origin (Asked terms c) = Asked terms c
+origin (Replied terms c last kind) = Asked terms c
+origin (Queried terms c sets) = Queried terms c NoSets
+origin (Silent terms c) = Silent terms c
+
+-- the login of an opening; another exchange has none, and any stands for it
+abbrev pub login_in : Login → Talk → Login
+login_in any (Start login) = login
+login_in any (Unwelcome login p) = login
+login_in any (Greeted login p capabilities) = login
+login_in any (Settled login p capabilities last kind) = login
+login_in any (Asked terms c) = any
+login_in any (Replied terms c last kind) = any
+login_in any (Queried terms c sets) = any
+login_in any (Silent terms c) = any

@@ -1,0 +1,179 @@
+//! What a payload is, where the reading stands. No call takes memory.
+
+ghost use Rattle.std.specs.Prelude.{◌≡◌, true, false};
+ghost use Rattle.my_grammar.specs.Kinds.{cells_kind, column_kind, columns_end_kind, count_kind, end_kind, failed_kind, good_kind, greeting_kind, greets_kind, head_kind, is_caching, kind_there, offer_kind, or_else, row_kind, single_kind};
+ghost use Rattle.my_wire.specs.ColumnCount.{column_count_at};
+ghost use Rattle.my_wire.specs.ErrPacket.{err_at};
+ghost use Rattle.my_wire.specs.Greeting.{greeting_at};
+ghost use Rattle.my_wire.specs.OkPacket.{ok_at};
+ghost use Rattle.my_value.specs.TextRow.{text_row_at};
+
+use crate::spot::{Context, Kind, Spot, ends_with_ok};
+use my_value::is_text_row;
+use my_wire::glance::{end_ok_status, greeting_offer, is_column, is_err, ok_status};
+use my_wire::{read_column_count, read_eof};
+
+// An ERR, or else what the payload was found to be.
+fn failed(payload: &[u8], before_response: bool) -> Kind
+    ensures { result ≡ failed_kind (err_at before_response payload.now) }
+{
+    if is_err(payload, before_response) {
+        Kind::Failed
+    } else {
+        Kind::Bad
+    }
+}
+
+fn first_of(first: Kind, second: Kind) -> Kind
+    ensures { result ≡ or_else first second }
+{
+    match first {
+        Kind::Bad => second,
+        _ => first,
+    }
+}
+
+fn is_caching(plugin: &[u8]) -> bool
+    ensures { result ≡ is_caching plugin.now }
+{
+    plugin == b"caching_sha2_password".as_slice()
+}
+
+fn offer(capabilities: u32, plugin: &[u8]) -> Kind
+    ensures { result ≡ offer_kind capabilities plugin.now }
+{
+    if ends_with_ok(capabilities) && !is_caching(plugin) {
+        Kind::Greets(capabilities)
+    } else {
+        Kind::Bad
+    }
+}
+
+fn greets(payload: &[u8]) -> Kind
+    ensures { result ≡ greets_kind (greeting_at payload.now) }
+{
+    match greeting_offer(payload) {
+        Some((capabilities, plugin)) => offer(capabilities, plugin),
+        None => Kind::Bad,
+    }
+}
+
+fn good(payload: &[u8]) -> Kind
+    ensures { result ≡ good_kind (ok_at payload.now) }
+{
+    match ok_status(payload) {
+        Some(status) => Kind::Good(status),
+        None => Kind::Bad,
+    }
+}
+
+fn counts(payload: &[u8]) -> Kind
+    ensures { result ≡ count_kind (column_count_at false payload.now) }
+{
+    match read_column_count(payload, false) {
+        Ok(columns) => Kind::Count(columns.count),
+        Err(_) => Kind::Bad,
+    }
+}
+
+fn described(payload: &[u8]) -> Kind
+    ensures { result ≡ column_kind payload.now }
+{
+    if is_column(payload) {
+        Kind::Column
+    } else {
+        Kind::Bad
+    }
+}
+
+fn done(payload: &[u8]) -> Kind
+    ensures { result ≡ columns_end_kind payload.now }
+{
+    match read_eof(payload) {
+        Ok(_) => Kind::ColumnsDone,
+        Err(_) => Kind::Bad,
+    }
+}
+
+fn ended_by_ok(payload: &[u8]) -> Kind
+    ensures { result ≡ end_kind true payload.now }
+{
+    match end_ok_status(payload) {
+        Some(status) => Kind::End(status),
+        None => Kind::Bad,
+    }
+}
+
+fn ended_by_eof(payload: &[u8]) -> Kind
+    ensures { result ≡ end_kind false payload.now }
+{
+    match read_eof(payload) {
+        Ok(eof) => Kind::End(eof.status),
+        Err(_) => Kind::Bad,
+    }
+}
+
+fn ended(with_ok: bool, payload: &[u8]) -> Kind
+    ensures { result ≡ end_kind with_ok payload.now }
+{
+    if with_ok {
+        ended_by_ok(payload)
+    } else {
+        ended_by_eof(payload)
+    }
+}
+
+fn cells(columns: u16, payload: &[u8]) -> Kind
+    ensures { result ≡ cells_kind (text_row_at columns payload.now) }
+{
+    if is_text_row(columns as usize, payload) {
+        Kind::Row
+    } else {
+        Kind::Bad
+    }
+}
+
+fn single(payload: &[u8]) -> Kind
+    ensures { result ≡ single_kind payload.now }
+{
+    first_of(good(payload), failed(payload, false))
+}
+
+fn head(payload: &[u8]) -> Kind
+    ensures { result ≡ head_kind payload.now }
+{
+    first_of(
+        good(payload),
+        first_of(failed(payload, false), counts(payload)),
+    )
+}
+
+fn row(with_ok: bool, columns: u16, payload: &[u8]) -> Kind
+    ensures { result ≡ row_kind with_ok columns payload.now }
+{
+    first_of(
+        ended(with_ok, payload),
+        first_of(failed(payload, false), cells(columns, payload)),
+    )
+}
+
+fn greeting(payload: &[u8]) -> Kind
+    ensures { result ≡ greeting_kind payload.now }
+{
+    first_of(greets(payload), failed(payload, true))
+}
+
+/// What the payload is in this context.
+pub fn kind_at(context: Context, payload: &[u8]) -> Kind
+    ensures { result ≡ kind_there context payload.now }
+{
+    match context.spot {
+        Spot::Idle => Kind::Bad,
+        Spot::Greeting => greeting(payload),
+        Spot::Authentication | Spot::Single => single(payload),
+        Spot::Head | Spot::Further => head(payload),
+        Spot::Columns(_) => described(payload),
+        Spot::ColumnsEnd => done(payload),
+        Spot::Rows => row(ends_with_ok(context.terms.kept), context.columns, payload),
+    }
+}
