@@ -2,5 +2,8 @@ pub mod BinaryCell
 pub mod BinaryRow
 pub mod Cell
 pub mod CellForm
+pub mod Conversions
+pub mod Refusals
+pub mod RowConversions
 pub mod RowParts
 pub mod TextRow

@@ -4,12 +4,22 @@
 mod binary_cell;
 mod binary_row;
 mod cell;
+mod conversion;
+mod conversion_laws;
 mod form;
+mod plain;
 mod row;
+mod row_conversion;
+mod single;
 mod text_row;
+mod tuples;
 mod value;
+mod whole;
 
 pub use binary_row::{binary_rows_are_read, is_binary_row, read_binary_row};
+pub use conversion::{FromValue, FromValueError, from_value};
+pub use conversion_laws::{options_convert, tuples_convert, values_and_rows_convert};
 pub use row::{Columns, Row};
+pub use row_conversion::{FromRow, FromRowError, from_row};
 pub use text_row::{is_text_row, read_text_row, text_rows_are_read};
 pub use value::Value;

@@ -17,7 +17,7 @@ pub type Columns = Arc<Vec<Column>>;
 /// The cells of a row, with the columns of its result.
 ///
 /// Contracts see it as the list of its cells and the list of its columns.
-#[derive(Drop)]
+#[derive(Debug, Drop)]
 pub struct Row {
     values: Vec<Value>,
     columns: Columns,
@@ -101,6 +101,22 @@ impl Row {
             return None;
         }
         Some(mem::replace(&mut self.values[index], Value::NULL))
+    }
+
+    /// The cells, lent.
+    pub(crate) fn cells(&self) -> &[Value]
+        ensures { result.now ≡ self.now.cells }
+    {
+        self.values.as_slice()
+    }
+
+    /// Puts a cell in the place of another.
+    pub(crate) fn put(&mut self, index: usize, value: Value)
+        requires { index < length self.old.cells }
+        ensures cells { self.new.cells ≡ slice_set self.old.cells index value }
+        ensures columns { self.new.columns ≡ self.old.columns }
+    {
+        self.values[index] = value;
     }
 
     /// The cells.
