@@ -2,3 +2,4 @@ pub mod Cuts
 pub mod Scripts
 pub mod Items
 pub mod Planning
+pub mod Outputs

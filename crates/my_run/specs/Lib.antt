@@ -10,3 +10,5 @@ pub mod World
 pub mod Plan
 pub mod Planned
 pub mod MemLink
+pub mod Input
+pub mod Output

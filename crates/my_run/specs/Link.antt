@@ -6,6 +6,7 @@ use Rattle.my_run.specs.declared.link.ReadStep.{ReadStep}
 use Rattle.my_run.specs.declared.link.ReadStep.TheVariants as reads
 use Rattle.my_run.specs.declared.link.WriteStep.{WriteStep}
 use Rattle.my_run.specs.declared.link.WriteStep.TheVariants as writes
+use Rattle.my_wire.specs.Outside.{Comes}
 use Rattle.my_run.specs.Outside.{Counts, FaultRose, HoldRose, EndRose}
 
 -- where a link tells its items, what becomes of them
@@ -74,13 +75,9 @@ Writes old new writes.NotYet = new ≡ old
 Writes old new writes.Failed = new ≡ old
 Writes old new writes.NoMemory = new ≡ old
 
--- a list that is told got longer by these bytes
-abbrev pub Longer : Option (List ℕ) → List ℕ → Option (List ℕ) → Type 0
-Longer None bytes new = new ≡ None
-Longer (Some old) bytes new = new ≡ Some (old ++ bytes)
-
+-- what became of the bytes that the link was sent
 abbrev pub TakesIn : Option (List ℕ) → List ℕ → Option (List ℕ) → WriteStep → Type 0
-TakesIn old bytes new (writes.Took n) = (0 < n) × (n ≤ length bytes) × Longer old (take n bytes) new
+TakesIn old bytes new (writes.Took n) = (0 < n) × (n ≤ length bytes) × Comes old (take n bytes) new
 TakesIn old bytes new writes.NotYet = new ≡ old
 TakesIn old bytes new writes.Failed = new ≡ old
 TakesIn old bytes new writes.NoMemory = new ≡ old

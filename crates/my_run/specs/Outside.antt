@@ -1,9 +1,6 @@
--- Counts of what the outside answers.
-use Rattle.std.specs.Prelude.{◌≡◌, ℕ, ◌<◌, ◌-◌, ◌^◌, ◌⊎◌}
-
--- a count rose, or stands at its last value
-abbrev pub Rose : ℕ → ℕ → Type 0
-Rose m n = (m < n) ⊎ ((n ≡ m) × (n ≡ 2 ^ 64 - 1))
+-- Counts of what a link answers.
+use Rattle.std.specs.Prelude.{◌≡◌, ℕ}
+use Rattle.my_wire.specs.Outside.{Rose}
 
 -- how often a link failed, held and ended
 pub record Counts : Type 0 where

@@ -1,6 +1,7 @@
 //! Where links come from.
 ghost use Rattle.std.specs.Prelude.{◌≡◌, ◌≢◌, ℕ, List, Option, Bool, true, OnOk, OnErr};
-ghost use Rattle.my_run.specs.Outside.{Rose, no_counts};
+ghost use Rattle.my_wire.specs.Outside.{Rose};
+ghost use Rattle.my_run.specs.Outside.{no_counts};
 ghost use Rattle.my_run.specs.World.{IfLink, OnFailed, OnHeld, IsFresh};
 ghost use Rattle.my_run.specs.Plan.{planned_on};
 ghost use Rattle.my_run.specs.declared.link.ReadItem.{ReadItem};

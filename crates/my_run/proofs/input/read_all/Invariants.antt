@@ -1,0 +1,12 @@
+use Rattle.std.proofs.Common.{◌≡◌, ◌-◌, vec_len}
+use Rattle.my_wire.specs.Outside.{Leaves}
+use Rattle.my_run.proofs.input.read_all.Given as goal
+
+abbrev pub decreases-more : goal.decreases-more
+decreases-more g l = 67108865 - vec_len l.bytes
+
+abbrev pub invariant-more : goal.invariant-more
+invariant-more g l = record {
+  came : Leaves (g.S.Source.left l.fn.src) l.bytes.items (g.S.Source.left l.src);
+  faults : g.S.Source.faults l.src ≡ g.S.Source.faults l.fn.src;
+}

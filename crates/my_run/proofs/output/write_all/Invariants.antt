@@ -1,0 +1,13 @@
+use Rattle.std.proofs.Common.{◌≡◌, ◌≤◌, ◌-◌, take, length}
+use Rattle.my_wire.specs.Outside.{Comes}
+use Rattle.my_run.proofs.output.write_all.Given as goal
+
+abbrev pub decreases-rest : goal.decreases-rest
+decreases-rest g l = length l.bytes - l.from
+
+abbrev pub invariant-rest : goal.invariant-rest
+invariant-rest g l = record {
+  within : l.from ≤ length l.bytes;
+  so_far : Comes (g.W.Sink.took l.fn.out) (take l.from l.bytes) (g.W.Sink.took l.out);
+  faults : g.W.Sink.faults l.out ≡ g.W.Sink.faults l.fn.out;
+}

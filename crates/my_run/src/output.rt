@@ -1,0 +1,26 @@
+//! Writes bytes to a sink.
+ghost use Rattle.std.specs.Prelude.{◌≡◌, ◌≤◌, length, drop};
+ghost use Rattle.my_run.specs.Output.{Wrote};
+
+use my_wire::{Sink, SinkStep};
+
+fn behind(bytes: &[u8], from: usize) -> &[u8]
+    requires { from ≤ length bytes.now }
+    ensures { result.now ≡ drop from bytes.now }
+{
+    &bytes[from..]
+}
+
+/// Writes all bytes, or tells that the sink failed.
+pub fn write_all<W: Sink>(out: &mut W, bytes: &[u8]) -> bool
+    ensures { Wrote (W.took out.old) bytes.now (W.took out.new) (W.faults out.old) (W.faults out.new) result }
+{
+    let mut from = 0;
+    'rest: while from < bytes.len() {
+        match out.write(behind(bytes, from)) {
+            SinkStep::Took(n) => from += n,
+            SinkStep::Failed => return false,
+        }
+    }
+    true
+}
