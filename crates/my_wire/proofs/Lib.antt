@@ -5,6 +5,7 @@ mod ColumnLaws
 pub mod Decoding
 mod EofLaws
 mod ErrLaws
+mod EventLaws
 pub mod FrontSteps
 pub mod Fronts
 pub mod Gathering
@@ -15,6 +16,8 @@ pub mod NumberLaws
 mod OkLaws
 pub mod Putting
 mod ReadingLaws
+mod ReplyLaws
 pub mod Scanning
+mod SwitchLaws
 pub mod WholeHeads
 pub mod WritingLaws

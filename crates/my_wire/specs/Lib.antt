@@ -6,6 +6,7 @@ pub mod Column
 pub mod ColumnCount
 pub mod EofPacket
 pub mod ErrPacket
+pub mod Event
 pub mod Faults
 pub mod Framed
 pub mod Front
@@ -15,7 +16,9 @@ pub mod Numbers
 pub mod OkPacket
 pub mod Outside
 pub mod Reading
+pub mod Replies
 pub mod Sinks
 pub mod Sources
+pub mod SwitchRequest
 pub mod Version
 pub mod Writing

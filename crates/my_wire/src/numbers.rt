@@ -63,6 +63,20 @@ pub fn take_u32(bytes: &[u8]) -> Option<(u32, &[u8])>
     ))
 }
 
+/// A number of six bytes.
+pub fn take_u48(bytes: &[u8]) -> Option<(u64, &[u8])>
+    ensures { option_map (λ x. (x.0, x.1.now)) result ≡ number_at 6 bytes.now }
+{
+    if bytes.len() < 6 {
+        return None;
+    }
+    let (digits, rest) = bytes.split_at(6);
+    let value = u64::from_le_bytes([
+        digits[0], digits[1], digits[2], digits[3], digits[4], digits[5], 0, 0,
+    ]);
+    Some((value, rest))
+}
+
 /// A number of eight bytes.
 pub fn take_u64(bytes: &[u8]) -> Option<(u64, &[u8])>
     ensures { option_map (λ x. (x.0, x.1.now)) result ≡ number_at 8 bytes.now }
