@@ -1,0 +1,138 @@
+use super::PacketCodec;
+use crate::fault::{CodecError, CodecFault};
+use bytes::BytesMut;
+use std::alloc::Global;
+use std::process::Abort;
+use std::test::Fail;
+
+// The payload that has to be there.
+fn decoded(alloc: Global, codec: &mut PacketCodec, wire: &mut BytesMut) -> Result<Vec<u8>, Fail> {
+    let payload = codec.decode(alloc, wire)?;
+    Ok(payload.ok_or("no payload")?)
+}
+
+// Sends that many bytes, and reads them back. The last chunk stands at `last_at` and ends the stream.
+fn goes_and_comes(
+    rt: &impl Abort,
+    alloc: Global,
+    len: usize,
+    first: &[u8],
+    last_at: usize,
+    last: &[u8],
+) -> Result<(), Fail> {
+    let payload = vec![in alloc; 7u8; len]?;
+    let mut codec = PacketCodec::new();
+    codec.set_max_allowed_packet(1_073_741_824);
+    let mut wire = BytesMut::new(alloc);
+    codec.encode(payload.as_slice(), &mut wire)?;
+    assert!(rt; wire.as_slice().starts_with(first));
+    let behind = wire
+        .as_slice()
+        .get(last_at..)
+        .ok_or("the stream is too short")?;
+    assert!(rt; behind.starts_with(last));
+    assert_eq!(rt; wire.len(), len + 4 * (1 + usize::from(last_at > 0)));
+    codec.reset_seq_id();
+    let back = decoded(alloc, &mut codec, &mut wire)?;
+    assert!(rt; back.as_slice() == payload.as_slice());
+    assert!(rt; wire.is_empty());
+    Ok(())
+}
+
+#[test]
+fn ample_payloads_as_long_as_a_full_chunk(rt: HostRuntime) -> Result<(), Fail> {
+    let alloc = rt.alloc();
+    goes_and_comes(
+        &rt,
+        alloc,
+        16_777_214,
+        b"\xfe\xff\xff\0",
+        0,
+        b"\xfe\xff\xff\0",
+    )?;
+    goes_and_comes(
+        &rt,
+        alloc,
+        16_777_215,
+        b"\xff\xff\xff\0",
+        16_777_219,
+        b"\0\0\0\x01",
+    )?;
+    goes_and_comes(
+        &rt,
+        alloc,
+        16_777_216,
+        b"\xff\xff\xff\0",
+        16_777_219,
+        b"\x01\0\0\x01\x07",
+    )
+}
+
+// What stands behind a first payload is refused so, and nothing is taken.
+fn refused(rt: &impl Abort, alloc: Global, stream: &[u8], wanted: CodecFault) -> Result<(), Fail> {
+    let mut codec = PacketCodec::new();
+    codec.set_max_allowed_packet(1024);
+    let mut wire = BytesMut::copy_from_slice(alloc, stream)?;
+    let first = decoded(alloc, &mut codec, &mut wire)?;
+    assert_eq!(rt; first.as_slice(), b"a".as_slice());
+    let rest = wire.len();
+    match codec.decode(alloc, &mut wire) {
+        Err(CodecError::Fault(fault)) => assert_eq!(rt; fault, wanted),
+        _ => assert!(rt; false, "not refused"),
+    }
+    assert_eq!(rt; wire.len(), rest);
+    Ok(())
+}
+
+#[test]
+fn ample_refusals(rt: HostRuntime) -> Result<(), Fail> {
+    let alloc = rt.alloc();
+    let out_of_order = CodecFault::OutOfOrder {
+        expected: 1,
+        found: 5,
+    };
+    let too_large = CodecFault::TooLarge {
+        length: 2048,
+        limit: 1024,
+    };
+    refused(&rt, alloc, b"\x01\0\0\0a\0\x08\0\x01", too_large)?;
+    refused(&rt, alloc, b"\x01\0\0\0a\x01\0\0\x05b", out_of_order)?;
+    refused(&rt, alloc, b"\x01\0\0\0a\0\x08\0\x05", out_of_order)?;
+    let mut codec = PacketCodec::new();
+    codec.set_max_allowed_packet(2);
+    let mut wire = BytesMut::new(alloc);
+    let fault = match codec.encode(b"abc", &mut wire) {
+        Err(CodecError::Fault(fault)) => fault,
+        _ => CodecFault::OutOfOrder {
+            expected: 0,
+            found: 0,
+        },
+    };
+    assert_eq!(rt;
+        fault,
+        CodecFault::TooLarge {
+            length: 3,
+            limit: 2
+        }
+    );
+    assert!(rt; wire.is_empty());
+    Ok(())
+}
+
+#[test]
+fn ample_bytes_that_come_one_by_one(rt: HostRuntime) -> Result<(), Fail> {
+    let alloc = rt.alloc();
+    let mut codec = PacketCodec::new();
+    let mut wire = BytesMut::new(alloc);
+    let mut whole = 0u8;
+    for byte in b"\x02\0\0\0ab\0\0\0\x01\x01\0\0\x02c" {
+        wire.extend_from_slice(&[*byte])?;
+        if codec.decode(alloc, &mut wire)?.is_some() {
+            whole = whole.wrapping_add(1);
+        }
+    }
+    assert_eq!(rt; whole, 3);
+    assert!(rt; wire.is_empty());
+    assert_eq!(rt; codec.max_allowed_packet(), 4_194_304);
+    Ok(())
+}

@@ -1,0 +1,91 @@
+ghost use Rattle.std.specs.Prelude.{◌≤◌, IfOk};
+
+use super::{StdSink, StdSource};
+use crate::sink::{MemSink, Sink, SinkStep};
+use crate::source::{MemSource, Source, SourceStep};
+use std::io;
+use std::io::{Read, Write};
+use std::test::Fail;
+
+// Gives or takes one byte, then fails, and then gives or takes nothing.
+#[derive(Drop)]
+struct Failing {
+    turns: u8,
+}
+
+impl Failing {
+    fn count(&mut self, most: usize) -> io::Result<usize>
+        ensures { IfOk result (λ n. n ≤ most) }
+    {
+        self.turns = self.turns.saturating_add(1);
+        match self.turns {
+            1 => Ok(most.min(1)),
+            2 => Err(io::Error::from(io::ErrorKind::Other)),
+            _ => Ok(0),
+        }
+    }
+}
+
+impl Read for Failing {
+    fn read(&mut self, buf: &mut [u8]) -> io::Result<usize> {
+        self.count(buf.len())
+    }
+}
+
+impl Write for Failing {
+    fn write(&mut self, buf: &[u8]) -> io::Result<usize> {
+        self.count(buf.len())
+    }
+
+    fn flush(&mut self) -> io::Result<()> {
+        Ok(())
+    }
+}
+
+// What three reads into a buffer of two bytes did.
+fn reads<S: Source>(source: &mut S) -> [SourceStep; 3] {
+    let mut buf = [0u8; 2];
+    [
+        source.read(&mut buf),
+        source.read(&mut buf),
+        source.read(&mut buf),
+    ]
+}
+
+// What three writes of two bytes did.
+fn writes<K: Sink>(sink: &mut K) -> [SinkStep; 3] {
+    [sink.write(b"ab"), sink.write(b"cd"), sink.write(b"ef")]
+}
+
+#[test]
+fn ample_sources(rt: HostRuntime) -> Result<(), Fail> {
+    let mut memory = MemSource::new(b"abc".to_vec(rt.alloc())?);
+    let [first, second, third] = reads(&mut memory);
+    assert_eq!(rt; first, SourceStep::Got(2));
+    assert_eq!(rt; second, SourceStep::Got(1));
+    assert_eq!(rt; third, SourceStep::End);
+    let mut reader = StdSource::new(Failing { turns: 0 });
+    let [first, second, third] = reads(&mut reader);
+    assert_eq!(rt; first, SourceStep::Got(1));
+    assert_eq!(rt; second, SourceStep::Failed);
+    assert_eq!(rt; third, SourceStep::End);
+    assert_eq!(rt; reader.faults, 1);
+    Ok(())
+}
+
+#[test]
+fn ample_sinks(rt: HostRuntime) -> Result<(), Fail> {
+    let mut memory = MemSink::new(rt.alloc(), 3)?;
+    let [first, second, third] = writes(&mut memory);
+    assert_eq!(rt; first, SinkStep::Took(2));
+    assert_eq!(rt; second, SinkStep::Took(1));
+    assert_eq!(rt; third, SinkStep::Failed);
+    assert_eq!(rt; memory.taken(), b"abc".as_slice());
+    let mut writer = StdSink::new(Failing { turns: 0 });
+    let [first, second, third] = writes(&mut writer);
+    assert_eq!(rt; first, SinkStep::Took(1));
+    assert_eq!(rt; second, SinkStep::Failed);
+    assert_eq!(rt; third, SinkStep::Failed);
+    assert_eq!(rt; writer.faults, 2);
+    Ok(())
+}
