@@ -1,6 +1,5 @@
 -- What a change of user changes: the COM_CHANGE_USER command of the MySQL client/server protocol.
-use Rattle.std.specs.Prelude.{◌≡◌, ℕ, Bool, not, ◌||◌, ◌==◌, List, Option, Some, None, unwrap_or}
-use Rattle.std.specs.Cmp.Lexicographic.{pointwise}
+use Rattle.std.specs.Prelude.{◌≡◌, ℕ, List, Option, None, unwrap_or}
 use Rattle.my_opts.specs.Opts.{OptsView}
 
 -- for each part the value that it gets, or none where it stays
@@ -18,7 +17,7 @@ abbrev pub changed_opts : ChangeView → OptsView → OptsView
 changed_opts change opts = record opts {
   user = unwrap_or change.user opts.user;
   pass = unwrap_or change.pass opts.pass;
-  db_name = unwrap_or change.db_name opts.db_name
+  db_name = unwrap_or change.db_name opts.db_name;
 }
 
 -- the parts have the values that the change gives them

@@ -1,9 +1,13 @@
 pub mod Capabilities
 pub mod ChangeUser
+pub mod Faults
 pub mod Lists
 pub mod Loopback
 pub mod Opts
 pub mod Pool
+pub mod Query
 pub mod Target
 pub mod Transaction
 pub mod TransactionOptions
+pub mod Url
+pub mod Values

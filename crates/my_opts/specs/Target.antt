@@ -1,6 +1,5 @@
 -- Where a connection is made.
 use Rattle.std.specs.Prelude.{ℕ, List, Option, Some, None}
-use Rattle.std.specs.declared.net.ip_addr.IpAddr.{IpAddr}
 use Rattle.my_opts.specs.declared.target.Target.{Target}
 use Rattle.my_opts.specs.declared.target.Target.TheVariants.{Tcp, Socket}
 use Rattle.my_opts.specs.Opts.{OptsView}

@@ -1,6 +1,6 @@
 -- How a transaction begins: START TRANSACTION and SET TRANSACTION ISOLATION LEVEL of the MySQL
 -- manual.
-use Rattle.std.specs.Prelude.{ℕ, Bool, false, List, codes, Option, None}
+use Rattle.std.specs.Prelude.{ℕ, List, codes}
 use Rattle.my_opts.specs.declared.transaction.IsolationLevel.{IsolationLevel}
 use Rattle.my_opts.specs.declared.transaction.IsolationLevel.TheVariants.{ReadUncommitted, ReadCommitted, RepeatableRead, Serializable}
 

@@ -4,19 +4,17 @@ ghost use Rattle.std.specs.Prelude.{◌≡◌, IfOk, map, string_bytes, option_m
 ghost use Rattle.my_opts.specs.Lists.{pair_bytes, with_attribute};
 ghost use Rattle.my_opts.specs.Opts.{default_opts, packet_limit, waiting_limit};
 
-use std::alloc::Global;
-use std::collections::BTreeMap;
-use std::marker::Model;
-use std::net::IpAddr;
-
-use my_wire::{NoMemory, Text};
-
 use crate::limits::{limited_packet, limited_wait};
 use crate::lists::{Texts, attributes_of, list_of, with_one};
 use crate::millis::Millis;
 use crate::opts::{DEFAULT_PORT, DEFAULT_STMT_CACHE_SIZE, Opts};
 use crate::pool::PoolOpts;
 use crate::text::text_of;
+use my_wire::{NoMemory, Text};
+use std::alloc::Global;
+use std::collections::BTreeMap;
+use std::marker::Model;
+use std::net::IpAddr;
 
 /// Options that are set one after the other. Contracts see the options that it gives.
 #[derive(Drop)]
@@ -240,7 +238,10 @@ impl OptsBuilder {
     }
 
     /// Names and values that the server is told of a connection.
-    pub fn connect_attributes(mut self, connect_attributes: Option<BTreeMap<String, String>>) -> OptsBuilder
+    pub fn connect_attributes(
+        mut self,
+        connect_attributes: Option<BTreeMap<String, String>>,
+    ) -> OptsBuilder
         ensures { result ≡ record self { connect_attributes = option_map (λ attributes. map pair_bytes attributes.entries) connect_attributes } }
     {
         self.opts.connect_attributes = attributes_of(connect_attributes);
@@ -256,9 +257,14 @@ impl OptsBuilder {
     }
 
     /// One name with its value for the server, in place of an earlier value of that name.
-    pub fn connect_attribute(mut self, alloc: Global, key: String, value: String) -> Result<OptsBuilder, NoMemory>
+    pub fn connect_attribute(
+        mut self,
+        alloc: Global,
+        key: String,
+        value: String,
+    ) -> Result<OptsBuilder, NoMemory>
         ensures { IfOk result (λ b. b ≡ record self {
-            connect_attributes = Some (with_attribute (unwrap_or self.connect_attributes []) (string_bytes key) (string_bytes value))
+          connect_attributes = Some (with_attribute (unwrap_or self.connect_attributes []) (string_bytes key) (string_bytes value));
         }) }
     {
         let attributes = self.opts.connect_attributes.take();

@@ -3,13 +3,11 @@
 ghost use Rattle.std.specs.Prelude.{◌≡◌, ◌↔◌, IsFalse, IfOk, Some, string_bytes, option_map, option_copied, unwrap_or};
 ghost use Rattle.my_opts.specs.ChangeUser.{no_change, changed_opts, IsUnchangedBy};
 
-use std::alloc::Global;
-use std::marker::Model;
-
-use my_wire::{NoMemory, Text};
-
 use crate::opts::Opts;
 use crate::text::{copied, shown, text_of};
+use my_wire::{NoMemory, Text};
+use std::alloc::Global;
+use std::marker::Model;
 
 /// What a change of user changes: each part is left as it is, or gets a value or none.
 #[derive(Drop, PartialEq, Eq)]
@@ -140,10 +138,7 @@ fn both_shown(part: &Option<Option<Text>>) -> Option<Option<&str>>
     }
 }
 
-fn both_copied(
-    alloc: Global,
-    part: &Option<Option<Text>>,
-) -> Result<Option<Option<Text>>, NoMemory>
+fn both_copied(alloc: Global, part: &Option<Option<Text>>) -> Result<Option<Option<Text>>, NoMemory>
     ensures { IfOk result (λ p. p ≡ part.now) }
 {
     match part {

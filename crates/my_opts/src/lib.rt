@@ -4,19 +4,24 @@
 mod builder;
 mod capabilities;
 mod change_user;
+mod error;
+mod from_url;
 mod limits;
 mod lists;
 mod loopback;
 mod millis;
 mod opts;
 mod pool;
+mod query;
 mod target;
 mod text;
 mod transaction;
 mod transaction_options;
+mod values;
 
 pub use builder::OptsBuilder;
 pub use change_user::ChangeUserOpts;
+pub use error::{UrlError, UrlFault};
 pub use lists::Listed;
 pub use millis::Millis;
 pub use opts::{DEFAULT_PORT, DEFAULT_STMT_CACHE_SIZE, Opts};

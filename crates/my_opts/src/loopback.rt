@@ -6,9 +6,8 @@ ghost use Rattle.std.specs.Net.Addr.{IsLoopbackV4, IsLoopbackV6};
 ghost use Rattle.std.specs.Net.Grammar.{IsIpv4Text, IsIpv6Text};
 ghost use Rattle.my_opts.specs.Loopback.{IsLoopbackIp, IsLoopbackHost, IsOtherHost, Writes, WritesNo, unbracketed};
 
-use std::net::{IpAddr, Ipv4Addr, Ipv6Addr};
-
 use crate::lists::Listed;
+use std::net::{IpAddr, Ipv4Addr, Ipv6Addr};
 
 /// Whether one of the known addresses is of the machine itself.
 pub(crate) fn any_loopback(ips: &Option<Listed<IpAddr>>) -> bool

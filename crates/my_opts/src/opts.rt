@@ -6,13 +6,6 @@ ghost use Rattle.my_opts.specs.Lists.{pair_bytes};
 ghost use Rattle.my_opts.specs.Loopback.{IsLoopback, IsElsewhere};
 ghost use Rattle.my_opts.specs.Target.{target_of};
 
-use std::alloc::Global;
-use std::collections::BTreeMap;
-use std::marker::Model;
-use std::net::IpAddr;
-
-use my_wire::{CapabilityFlags, NoMemory, Text};
-
 use crate::builder::OptsBuilder;
 use crate::capabilities::client_capabilities;
 use crate::lists::{Attributes, Listed, Texts, copied_attributes, copied_ips};
@@ -21,6 +14,11 @@ use crate::millis::Millis;
 use crate::pool::PoolOpts;
 use crate::target::Target;
 use crate::text::{copied, shown};
+use my_wire::{CapabilityFlags, NoMemory, Text};
+use std::alloc::Global;
+use std::collections::BTreeMap;
+use std::marker::Model;
+use std::net::IpAddr;
 
 /// The port of a server that says nothing of it.
 pub const DEFAULT_PORT: u16 = 3306;
@@ -59,59 +57,55 @@ impl Model for Opts {
 
     ghost Value = { OptsView };
 
-    ghost view = {
-        λ o. record {
-            ip_or_hostname = o.ip_or_hostname;
-            tcp_port = o.tcp_port;
-            resolved_ips = o.resolved_ips;
-            user = o.user;
-            pass = o.pass;
-            db_name = o.db_name;
-            init = o.init;
-            setup = o.setup;
-            tcp_keepalive = o.tcp_keepalive;
-            tcp_nodelay = o.tcp_nodelay;
-            conn_ttl = o.conn_ttl;
-            stmt_cache_size = o.stmt_cache_size;
-            prefer_socket = o.prefer_socket;
-            socket = o.socket;
-            max_allowed_packet = o.max_allowed_packet;
-            wait_timeout = o.wait_timeout;
-            secure_auth = o.secure_auth;
-            client_found_rows = o.client_found_rows;
-            enable_cleartext_plugin = o.enable_cleartext_plugin;
-            connect_attributes = o.connect_attributes;
-            pool_opts = o.pool_opts
-        }
-    };
+    ghost view = { λ o. record {
+      ip_or_hostname = o.ip_or_hostname;
+      tcp_port = o.tcp_port;
+      resolved_ips = o.resolved_ips;
+      user = o.user;
+      pass = o.pass;
+      db_name = o.db_name;
+      init = o.init;
+      setup = o.setup;
+      tcp_keepalive = o.tcp_keepalive;
+      tcp_nodelay = o.tcp_nodelay;
+      conn_ttl = o.conn_ttl;
+      stmt_cache_size = o.stmt_cache_size;
+      prefer_socket = o.prefer_socket;
+      socket = o.socket;
+      max_allowed_packet = o.max_allowed_packet;
+      wait_timeout = o.wait_timeout;
+      secure_auth = o.secure_auth;
+      client_found_rows = o.client_found_rows;
+      enable_cleartext_plugin = o.enable_cleartext_plugin;
+      connect_attributes = o.connect_attributes;
+      pool_opts = o.pool_opts;
+    } };
 
     ghost invariant = { λ o. IsPacketLimit o.max_allowed_packet × IsWaitingLimit o.wait_timeout };
 
-    ghost inverse = {
-        λ v. record {
-            ip_or_hostname = v.ip_or_hostname;
-            tcp_port = v.tcp_port;
-            resolved_ips = v.resolved_ips;
-            user = v.user;
-            pass = v.pass;
-            db_name = v.db_name;
-            init = v.init;
-            setup = v.setup;
-            tcp_keepalive = v.tcp_keepalive;
-            tcp_nodelay = v.tcp_nodelay;
-            conn_ttl = v.conn_ttl;
-            stmt_cache_size = v.stmt_cache_size;
-            prefer_socket = v.prefer_socket;
-            socket = v.socket;
-            max_allowed_packet = v.max_allowed_packet;
-            wait_timeout = v.wait_timeout;
-            secure_auth = v.secure_auth;
-            client_found_rows = v.client_found_rows;
-            enable_cleartext_plugin = v.enable_cleartext_plugin;
-            connect_attributes = v.connect_attributes;
-            pool_opts = v.pool_opts
-        }
-    };
+    ghost inverse = { λ v. record {
+      ip_or_hostname = v.ip_or_hostname;
+      tcp_port = v.tcp_port;
+      resolved_ips = v.resolved_ips;
+      user = v.user;
+      pass = v.pass;
+      db_name = v.db_name;
+      init = v.init;
+      setup = v.setup;
+      tcp_keepalive = v.tcp_keepalive;
+      tcp_nodelay = v.tcp_nodelay;
+      conn_ttl = v.conn_ttl;
+      stmt_cache_size = v.stmt_cache_size;
+      prefer_socket = v.prefer_socket;
+      socket = v.socket;
+      max_allowed_packet = v.max_allowed_packet;
+      wait_timeout = v.wait_timeout;
+      secure_auth = v.secure_auth;
+      client_found_rows = v.client_found_rows;
+      enable_cleartext_plugin = v.enable_cleartext_plugin;
+      connect_attributes = v.connect_attributes;
+      pool_opts = v.pool_opts;
+    } };
 }
 
 impl From<OptsBuilder> for Opts {

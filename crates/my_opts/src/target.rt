@@ -1,9 +1,8 @@
 //! Where a connection is made.
 
+use crate::lists::Listed;
 use my_wire::Text;
 use std::net::IpAddr;
-
-use crate::lists::Listed;
 
 /// Where a connection is made.
 #[derive(Drop, PartialEq, Eq)]

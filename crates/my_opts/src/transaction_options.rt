@@ -3,9 +3,8 @@
 ghost use Rattle.std.specs.Prelude.{◌≡◌};
 ghost use Rattle.my_opts.specs.TransactionOptions.{default_tx};
 
-use std::marker::Model;
-
 use crate::transaction::IsolationLevel;
+use std::marker::Model;
 
 /// How a transaction begins.
 #[derive(Debug, Clone, Drop, PartialEq, Eq, Hash)]
@@ -20,21 +19,17 @@ impl Model for TxOpts {
 
     ghost Value = { TxView };
 
-    ghost view = {
-        λ t. record {
-            consistent_snapshot = t.consistent_snapshot;
-            isolation_level = t.isolation_level;
-            readonly = t.readonly
-        }
-    };
+    ghost view = { λ t. record {
+      consistent_snapshot = t.consistent_snapshot;
+      isolation_level = t.isolation_level;
+      readonly = t.readonly;
+    } };
 
-    ghost inverse = {
-        λ v. record {
-            consistent_snapshot = v.consistent_snapshot;
-            isolation_level = v.isolation_level;
-            readonly = v.readonly
-        }
-    };
+    ghost inverse = { λ v. record {
+      consistent_snapshot = v.consistent_snapshot;
+      isolation_level = v.isolation_level;
+      readonly = v.readonly;
+    } };
 }
 
 impl TxOpts {

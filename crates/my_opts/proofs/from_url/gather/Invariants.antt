@@ -1,0 +1,11 @@
+use Rattle.std.proofs.Common.{◌≡◌}
+use Rattle.form_urlencoded.specs.Parse.{pairs_left}
+use Rattle.my_opts.specs.Query.{after_pairs}
+use Rattle.my_opts.specs.Url.{gathered}
+use Rattle.my_opts.proofs.from_url.gather.Given as goal
+
+-- what is set so far and by the pairs that are left is what the URL sets
+abbrev pub invariant-loop-pair : goal.invariant-loop-pair
+invariant-loop-pair l =
+    (goal.iterator-loop-pair).can_next l.pair-iterator × (goal.iterator-loop-pair).is_finite l.pair-iterator
+    × (after_pairs (pairs_left l.pair-iterator) l.gathered ≡ gathered l.url)
