@@ -4,3 +4,4 @@ pub mod Growth
 pub mod Fronts
 pub mod Cutting
 pub mod Reaching
+pub mod Sound

@@ -7,3 +7,4 @@ pub mod Response
 pub mod Talk
 pub mod Growth
 pub mod Cut
+pub mod CutLaws

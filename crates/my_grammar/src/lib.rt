@@ -3,6 +3,7 @@
 #![tactic(auto)]
 
 mod kinds;
+pub mod laws;
 mod login;
 mod queue;
 mod scramble;

@@ -1,0 +1,43 @@
+//! Laws of exchanges and of the bytes that hold them. Each function's clause is the law; it does nothing.
+
+ghost use Rattle.std.specs.Prelude.{◌≡◌, ◌≤◌, ℕ, List, ◌∷◌, ◌++◌, length, map, true, false};
+ghost use Rattle.my_wire.specs.FrontLaws.{AreBytes};
+ghost use Rattle.my_grammar.specs.declared.login.Login.{Login as AnyLogin};
+ghost use Rattle.my_grammar.specs.declared.spot.Kind.{Kind as AnyKind};
+ghost use Rattle.my_grammar.specs.Contexts.{is_bad};
+ghost use Rattle.my_grammar.specs.Talk.{Fits, Talk, Turn, limit_of, origin, server_bytes, turns};
+ghost use Rattle.my_grammar.specs.Growth.{Grows, Reads};
+ghost use Rattle.my_grammar.specs.Cut.{cut, is_over, kind_of, onto, read_from};
+ghost use Rattle.my_grammar.specs.CutLaws.{IsCut, IsRead};
+
+/// A payload within the limit that may stand where an exchange awaits one makes it an exchange with one payload more, in each
+/// reading: its place, its payloads, both sides' turns, and that it is as the protocol has it.
+pub fn each_payload_grows()
+    ensures { (t : Talk) (p : List ℕ) → is_bad (kind_of t p) ≡ false → length p ≤ limit_of t → Fits t → Grows t (kind_of t p) p }
+{}
+
+/// What a payload and the client's answer to it do to the running number and to each side's bytes.
+pub fn each_payload_counts()
+    ensures { (login : AnyLogin) (k : AnyKind) (p : List ℕ) (ts : List Turn) → Reads login k p ts }
+{}
+
+/// What was read of an exchange is found again in its bytes: reading from its beginning comes to where it stands, whatever follows.
+pub fn exchange_is_reached()
+    ensures { (t : Talk) (rest : List ℕ) → Fits t → read_from (origin t) (server_bytes (turns t) ++ rest) ≡ read_from t rest }
+{}
+
+/// The bytes of an exchange that is over are cut off as that exchange, and what follows is cut by the next ones.
+pub fn whole_exchange_is_cut()
+    ensures { (t : Talk) (ts : List Talk) (rest : List ℕ) → Fits t → is_over t ≡ true
+        → cut (origin t ∷ ts) (server_bytes (turns t) ++ rest) ≡ onto t (cut ts rest) }
+{}
+
+/// What is read of an exchange stands in the bytes, and the reading stops only where nothing can be read.
+pub fn reading_is_sound()
+    ensures { (t : Talk) (bytes : List ℕ) → AreBytes bytes → Fits t → IsRead t bytes (read_from t bytes) }
+{}
+
+/// The exchanges that bytes are cut into are as the protocol has them, in order, and spell the bytes up to the rest.
+pub fn cutting_is_sound()
+    ensures { (ts : List Talk) (bytes : List ℕ) → AreBytes bytes → IsCut ts bytes (cut (map origin ts) bytes) }
+{}
