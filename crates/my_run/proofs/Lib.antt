@@ -3,3 +3,4 @@ pub mod Scripts
 pub mod Items
 pub mod Planning
 pub mod Outputs
+pub mod Texts

@@ -12,3 +12,5 @@ pub mod Planned
 pub mod MemLink
 pub mod Input
 pub mod Output
+pub mod TextParts
+pub mod ValueText

@@ -7,6 +7,7 @@ pub mod memory;
 pub mod output;
 pub mod reading;
 pub mod step;
+pub mod text;
 pub mod words;
 pub mod world;
 

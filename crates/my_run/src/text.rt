@@ -1,0 +1,4 @@
+//! The text of a run.
+
+pub mod parts;
+pub mod value;
