@@ -3,7 +3,10 @@ pub mod BinaryRow
 pub mod Cell
 pub mod CellForm
 pub mod Conversions
+pub mod NamedParams
+pub mod ParamValues
 pub mod Refusals
 pub mod RowConversions
 pub mod RowParts
+pub mod SqlText
 pub mod TextRow
