@@ -4,23 +4,23 @@ use Rattle.std.specs.Prelude.{ℕ, zero, suc, ◌/◌, ◌%◌, List, [], ◌∷
 use Rattle.std.specs.List.{before_first}
 
 -- n in so many bytes, the lowest first
-abbrev pub le_bytes : ℕ → ℕ → List ℕ
+unfoldable pub le_bytes : ℕ → ℕ → List ℕ
 le_bytes zero n = []
 le_bytes (suc k) n = n % 256 ∷ le_bytes k (n / 256)
 
 -- n with its length, in the shortest form
-abbrev pub len_bytes : ℕ → List ℕ
+unfoldable pub len_bytes : ℕ → List ℕ
 len_bytes n =
     if nat_lt n 0xFB then n ∷ [] else (if nat_lt n 0x10000 then 0xFC ∷ le_bytes 2 n else (if nat_lt n 0x1000000 then 0xFD ∷ le_bytes 3 n else 0xFE ∷ le_bytes 8 n))
 
 -- a text behind its length
-abbrev pub text_bytes : List ℕ → List ℕ
+unfoldable pub text_bytes : List ℕ → List ℕ
 text_bytes text = len_bytes (length text) ++ text
 
 -- a text that is cut before its first zero, and a zero
-abbrev pub text0_bytes : List ℕ → List ℕ
+unfoldable pub text0_bytes : List ℕ → List ℕ
 text0_bytes text = before_first (λ b. b == 0) text ++ 0 ∷ []
 
 -- a text behind one byte with its length
-abbrev pub short_bytes : List ℕ → List ℕ
+unfoldable pub short_bytes : List ℕ → List ℕ
 short_bytes text = length text ∷ text

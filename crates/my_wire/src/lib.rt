@@ -36,7 +36,10 @@ pub mod writing;
 pub use append::append_payload;
 pub use attributes::{Attribute, Attributes};
 pub use blob::Blob;
-pub use client::{ChangeUser, ClientPacket, HandshakeResponse, write_client};
+pub use client::{
+    BulkExecute, ChangeUser, ClientPacket, Dump, DumpGtid, Execute, HandshakeResponse, Parameter,
+    ParameterType, RegisterSlave, Sid, write_client,
+};
 pub use codec::PacketCodec;
 pub use column::{Column, column_is_read, read_column};
 pub use column_count::{ColumnCount, column_count_is_read, read_column_count};

@@ -9,6 +9,7 @@ use crate::numbers::before_zero;
 use std::alloc::AllocError;
 
 /// A number of one byte.
+#[tactic(auto, unfolding(crate::specs::Writing::le_bytes))]
 pub fn put_u8(out: &mut Vec<u8>, number: u8) -> Result<(), AllocError>
     ensures { OnOk result (out.new.items ≡ out.old.items ++ le_bytes 1 number) }
 {
@@ -17,6 +18,7 @@ pub fn put_u8(out: &mut Vec<u8>, number: u8) -> Result<(), AllocError>
 }
 
 /// A number of two bytes.
+#[tactic(auto, unfolding(crate::specs::Writing::le_bytes))]
 pub fn put_u16(out: &mut Vec<u8>, number: u16) -> Result<(), AllocError>
     ensures { OnOk result (out.new.items ≡ out.old.items ++ le_bytes 2 number) }
 {
@@ -24,6 +26,7 @@ pub fn put_u16(out: &mut Vec<u8>, number: u16) -> Result<(), AllocError>
 }
 
 /// A number of four bytes.
+#[tactic(auto, unfolding(crate::specs::Writing::le_bytes))]
 pub fn put_u32(out: &mut Vec<u8>, number: u32) -> Result<(), AllocError>
     ensures { OnOk result (out.new.items ≡ out.old.items ++ le_bytes 4 number) }
 {
@@ -31,6 +34,7 @@ pub fn put_u32(out: &mut Vec<u8>, number: u32) -> Result<(), AllocError>
 }
 
 /// A number of eight bytes.
+#[tactic(auto, unfolding(crate::specs::Writing::le_bytes))]
 pub fn put_u64(out: &mut Vec<u8>, number: u64) -> Result<(), AllocError>
     ensures { OnOk result (out.new.items ≡ out.old.items ++ le_bytes 8 number) }
 {
@@ -38,6 +42,7 @@ pub fn put_u64(out: &mut Vec<u8>, number: u64) -> Result<(), AllocError>
 }
 
 /// A length-encoded number, in the shortest form.
+#[tactic(auto, unfolding(crate::specs::Writing::le_bytes, crate::specs::Writing::len_bytes))]
 pub fn put_len(out: &mut Vec<u8>, number: u64) -> Result<(), AllocError>
     ensures { OnOk result (out.new.items ≡ out.old.items ++ len_bytes number) }
 {
@@ -60,6 +65,7 @@ pub fn put_len(out: &mut Vec<u8>, number: u64) -> Result<(), AllocError>
 }
 
 /// A text behind its length-encoded length.
+#[tactic(auto, unfolding(crate::specs::Writing::text_bytes))]
 pub fn put_text(out: &mut Vec<u8>, text: &[u8]) -> Result<(), AllocError>
     ensures { OnOk result (out.new.items ≡ out.old.items ++ text_bytes text.now) }
 {
@@ -68,6 +74,7 @@ pub fn put_text(out: &mut Vec<u8>, text: &[u8]) -> Result<(), AllocError>
 }
 
 /// A text that ends at a zero byte. It is cut before its own first zero byte.
+#[tactic(auto, unfolding(crate::specs::Writing::text0_bytes))]
 pub fn put_text0(out: &mut Vec<u8>, text: &[u8]) -> Result<(), AllocError>
     ensures { OnOk result (out.new.items ≡ out.old.items ++ text0_bytes text.now) }
 {
@@ -77,6 +84,7 @@ pub fn put_text0(out: &mut Vec<u8>, text: &[u8]) -> Result<(), AllocError>
 }
 
 /// A text behind one byte with its length.
+#[tactic(auto, unfolding(crate::specs::Writing::short_bytes))]
 pub fn put_short(out: &mut Vec<u8>, text: &[u8]) -> Result<(), AllocError>
     requires { length text.now < 256 }
     ensures { OnOk result (out.new.items ≡ out.old.items ++ short_bytes text.now) }
