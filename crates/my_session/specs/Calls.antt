@@ -1,0 +1,92 @@
+-- Calls: which one it is, and what the tasks of an open call say of it.
+use Rattle.std.specs.Prelude.{ℕ, List, Option, Some, None, Bool, true, false}
+use Rattle.my_session.specs.declared.call.Call.{Call}
+use Rattle.my_session.specs.declared.call.Call.TheVariants as calls
+use Rattle.my_session.specs.declared.call.CallKind.{CallKind}
+use Rattle.my_session.specs.declared.call.CallKind.TheVariants.{Connect, Query, NextRow, DropResult, Ping, Quit}
+use Rattle.my_session.specs.declared.call.LinkFault.{LinkFault}
+use Rattle.my_session.specs.declared.call.Task.{Task}
+use Rattle.my_session.specs.declared.call.Task.TheVariants.{Nothing, Begun, Cleaning, Own, Reading, Dropping, Leaving, Failing}
+
+abbrev pub kind_of : Call → CallKind
+kind_of calls.Connect = Connect
+kind_of (calls.Query text) = Query
+kind_of calls.NextRow = NextRow
+kind_of calls.DropResult = DropResult
+kind_of calls.Ping = Ping
+kind_of calls.Quit = Quit
+
+-- the text that a call carries
+abbrev pub text_of : Call → List ℕ → List ℕ
+text_of calls.Connect old = old
+text_of (calls.Query text) old = text
+text_of calls.NextRow old = old
+text_of calls.DropResult old = old
+text_of calls.Ping old = old
+text_of calls.Quit old = old
+
+-- the call of this kind, with the text that it carries where it carries one
+abbrev pub call_of : CallKind → List ℕ → Call
+call_of Connect text = calls.Connect
+call_of Query text = calls.Query text
+call_of NextRow text = calls.NextRow
+call_of DropResult text = calls.DropResult
+call_of Ping text = calls.Ping
+call_of Quit text = calls.Quit
+
+-- the open call's kind
+abbrev pub kind_in : Task → Option CallKind
+kind_in Nothing = None
+kind_in (Begun c) = Some c
+kind_in (Cleaning c) = Some c
+kind_in (Own c) = Some c
+kind_in Reading = Some NextRow
+kind_in Dropping = Some DropResult
+kind_in Leaving = Some Quit
+kind_in (Failing c fault) = Some c
+
+abbrev pub is_open : Task → Bool
+is_open Nothing = false
+is_open (Begun c) = true
+is_open (Cleaning c) = true
+is_open (Own c) = true
+is_open Reading = true
+is_open Dropping = true
+is_open Leaving = true
+is_open (Failing c fault) = true
+
+-- the calls that send a command of their own
+abbrev pub asks : CallKind → Bool
+asks Connect = false
+asks Query = true
+asks NextRow = false
+asks DropResult = false
+asks Ping = true
+asks Quit = true
+
+abbrev pub is_connect : CallKind → Bool
+is_connect Connect = true
+is_connect Query = false
+is_connect NextRow = false
+is_connect DropResult = false
+is_connect Ping = false
+is_connect Quit = false
+
+abbrev pub is_quit : CallKind → Bool
+is_quit Connect = false
+is_quit Query = false
+is_quit NextRow = false
+is_quit DropResult = false
+is_quit Ping = false
+is_quit Quit = true
+
+-- the fault of a call that was told to fail
+abbrev pub fault_in : Task → Option LinkFault
+fault_in Nothing = None
+fault_in (Begun c) = None
+fault_in (Cleaning c) = None
+fault_in (Own c) = None
+fault_in Reading = None
+fault_in Dropping = None
+fault_in Leaving = None
+fault_in (Failing c fault) = Some fault

@@ -1,0 +1,47 @@
+-- Errors of calls: which end a connection, and what they say.
+use Rattle.std.specs.Prelude.{ℕ, Bool, true, false}
+use Rattle.std.specs.Str.Lossy.{utf8_lossy}
+use Rattle.my_wire.specs.declared.fault.CodecFault.{CodecFault}
+use Rattle.my_wire.specs.declared.err.ErrPacket.{ErrPacket}
+use Rattle.my_session.specs.declared.call.LinkFault.{LinkFault}
+use Rattle.my_session.specs.declared.call.LinkFault.TheVariants as faults
+use Rattle.my_session.specs.declared.error.Error.{Error}
+use Rattle.my_session.specs.declared.error.Error.TheVariants.{Driver, Io, Server, NoMemory}
+use Rattle.my_session.specs.declared.error.DriverError.TheVariants.{ConnectionClosed, TooLong}
+use Rattle.my_session.specs.declared.error.IoKind.{IoKind}
+use Rattle.my_session.specs.declared.error.IoKind.TheVariants.{Link, UnexpectedEof, InvalidData}
+use Rattle.my_session.specs.declared.error.IoError.TheVariants as ios
+use Rattle.my_session.specs.declared.error.ServerError.{ServerError}
+
+abbrev pub is_fatal : Error → Bool
+is_fatal (Driver e) = true
+is_fatal (Io e) = true
+is_fatal (Server e) = false
+is_fatal NoMemory = true
+
+abbrev pub io_error : IoKind → ℕ → Error
+io_error kind place = Io (ios.Io (record { kind = kind; place = place }))
+
+-- a payload that fits no case, behind so many
+abbrev pub invalid_data : ℕ → Error
+invalid_data place = io_error InvalidData place
+
+-- the link ended where a packet was awaited
+abbrev pub unexpected_eof : ℕ → Error
+unexpected_eof place = io_error UnexpectedEof place
+
+abbrev pub codec_error : CodecFault → Error
+codec_error fault = Io (ios.Codec fault)
+
+abbrev pub connection_closed : Error
+connection_closed = Driver ConnectionClosed
+
+-- what a call that was told to fail is told
+abbrev pub link_error : LinkFault → ℕ → Error
+link_error faults.Link place = io_error Link place
+link_error faults.TooLong place = Driver TooLong
+link_error faults.NoMemory place = NoMemory
+
+-- what an ERR says
+abbrev pub server_error : ErrPacket → ServerError
+server_error e = record { code = e.code; state = utf8_lossy e.state; message = e.message }

@@ -1,0 +1,113 @@
+-- What happened on a session: the bytes that it sent and took, and its calls with what they were told, the newest first.
+use Rattle.std.specs.Prelude.{ℕ, List, [], ◌∷◌, ◌++◌, Option, Some, None, Bool, true, false, ◌||◌}
+use Rattle.my_session.specs.declared.call.Call.{Call}
+use Rattle.my_session.specs.declared.call.CallKind.{CallKind}
+use Rattle.my_session.specs.declared.error.Error.{Error}
+use Rattle.my_session.specs.declared.error.Error.TheVariants.{Driver, Io, Server, NoMemory}
+use Rattle.my_session.specs.declared.error.DriverError.{DriverError}
+use Rattle.my_session.specs.declared.error.DriverError.TheVariants as drivers
+use Rattle.my_session.specs.declared.answer.Answer.{Answer}
+use Rattle.my_session.specs.declared.answer.Answer.TheVariants.{Ready, Row, SetEnd, NoSet}
+use Rattle.my_session.specs.Calls.{kind_of, is_connect, is_quit}
+use Rattle.my_value.specs.RowParts.{RowParts}
+
+-- What a call was told: an answer, an error, or nothing since it was cancelled, which closed the session or not.
+pub data Told : Type 0 where
+  ToldReady : Told
+  ToldRow : (row : RowParts) → Told
+  ToldEnd : Told
+  ToldNone : Told
+  ToldError : (e : Error) → Told
+  Dropped : (closing : Bool) → Told
+
+abbrev pub told : Answer → Told
+told Ready = ToldReady
+told (Row r) = ToldRow r
+told SetEnd = ToldEnd
+told NoSet = ToldNone
+
+-- a call with one thing that it was told, or that it passed over
+pub record Made : Type 0 where
+  pub call : Call
+  pub what : Told
+
+pub record History : Type 0 where
+  pub sent : List ℕ
+  pub taken : List ℕ
+  pub calls : List Made
+  pub pending : Option Call
+  -- the link told its end
+  pub ended : Bool
+  -- bytes came in for which no memory was found, while no call was open
+  pub lost : Bool
+
+abbrev pub beginning : History
+beginning = record { sent = []; taken = []; calls = []; pending = None; ended = false; lost = false }
+
+abbrev pub with_answer : Option Call → Told → List Made → List Made
+with_answer None t calls = calls
+with_answer (Some call) t calls = record { call = call; what = t } ∷ calls
+
+-- a call begins
+abbrev pub began : History → Call → History
+began h call = record { sent = h.sent; taken = h.taken; calls = h.calls; pending = Some call; ended = h.ended; lost = h.lost }
+
+-- the open call ends, and was told this
+abbrev pub answered : History → Told → History
+answered h t = record { sent = h.sent; taken = h.taken; calls = with_answer h.pending t h.calls; pending = None; ended = h.ended; lost = h.lost }
+
+-- the open call passed over this
+abbrev pub noted : History → Told → History
+noted h t = record { sent = h.sent; taken = h.taken; calls = with_answer h.pending t h.calls; pending = h.pending; ended = h.ended; lost = h.lost }
+
+abbrev pub passing : History → List Told → History
+passing h [] = h
+passing h (t ∷ ts) = noted (passing h ts) t
+
+-- bytes came in
+abbrev pub took : History → List ℕ → History
+took h bytes = record { sent = h.sent; taken = h.taken ++ bytes; calls = h.calls; pending = h.pending; ended = h.ended; lost = h.lost }
+
+-- bytes went out
+abbrev pub gone : History → List ℕ → History
+gone h bytes = record { sent = h.sent ++ bytes; taken = h.taken; calls = h.calls; pending = h.pending; ended = h.ended; lost = h.lost }
+
+-- the link's end was told
+abbrev pub ending : History → History
+ending h = record { sent = h.sent; taken = h.taken; calls = h.calls; pending = h.pending; ended = true; lost = h.lost }
+
+-- where no call is open, want of memory for bytes that came in loses them
+abbrev pub is_idle : Option Call → Bool
+is_idle None = true
+is_idle (Some c) = false
+
+abbrev pub losing : History → History
+losing h = record { sent = h.sent; taken = h.taken; calls = h.calls; pending = h.pending; ended = h.ended; lost = is_idle h.pending || h.lost }
+
+-- the refusal of a closed session changes nothing, and all other driver's errors close it
+abbrev pub closes_driver : DriverError → Bool
+closes_driver drivers.ConnectionClosed = false
+closes_driver e = true
+
+-- a server's error closes a session that isn't connected
+abbrev pub closes_by : Error → CallKind → Bool
+closes_by (Driver e) c = closes_driver e
+closes_by (Io e) c = true
+closes_by (Server e) c = is_connect c
+closes_by NoMemory c = true
+
+abbrev pub closes : Told → CallKind → Bool
+closes ToldReady c = is_quit c
+closes (ToldRow r) c = false
+closes ToldEnd c = false
+closes ToldNone c = false
+closes (ToldError e) c = closes_by e c
+closes (Dropped closing) c = closing
+
+-- closed exactly by a fatal error, a call that was cancelled while its answer was awaited, a quit, or bytes that were lost
+abbrev pub has_closed : List Made → Bool
+has_closed [] = false
+has_closed (m ∷ ms) = closes m.what (kind_of m.call) || has_closed ms
+
+abbrev pub is_closed : History → Bool
+is_closed h = h.lost || has_closed h.calls

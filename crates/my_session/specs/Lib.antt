@@ -1,0 +1,12 @@
+pub mod Calls
+pub mod Commands
+pub mod Errors
+pub mod Facts
+pub mod History
+pub mod Machine
+pub mod Rows
+pub mod Seen
+pub mod Session
+pub mod Steps
+pub mod Tables
+pub mod View

@@ -1,0 +1,278 @@
+-- The machine: one move of an open call, as a function.
+use Rattle.std.specs.Prelude.{◌≡◌, ℕ, ◌≤◌, ◌⊎◌, nat_lt, List, [], ◌∷◌, ◌++◌, length, drop, Option, Some, None, Bool, true, false, Result, Ok, Err, if◌then◌else◌}
+use Rattle.my_wire.specs.declared.fault.CodecFault.TheVariants.{TooLarge}
+use Rattle.my_wire.specs.declared.err.ErrPacket.{ErrPacket}
+use Rattle.my_wire.specs.declared.read_error.ReadError.{ReadError}
+use Rattle.my_wire.specs.declared.read_error.ReadError.TheVariants as reads
+use Rattle.my_wire.specs.Chunks.{chunks, number_behind}
+use Rattle.my_wire.specs.Front.{Front, Waiting, Broken, Whole, front_at}
+use Rattle.my_wire.specs.ErrPacket.{err_at}
+use Rattle.my_value.specs.RowParts.{RowParts}
+use Rattle.my_grammar.specs.declared.login.Login.{Login}
+use Rattle.my_grammar.specs.declared.spot.Spot.{Spot}
+use Rattle.my_grammar.specs.declared.spot.Spot.TheVariants as spots
+use Rattle.my_grammar.specs.declared.spot.Kind.{Kind}
+use Rattle.my_grammar.specs.declared.spot.Kind.TheVariants.{Greets, Good, Failed, Count, Column, ColumnsDone, Row, End, Bad}
+use Rattle.my_grammar.specs.Contexts.{context_after}
+use Rattle.my_grammar.specs.Kinds.{kind_there}
+use Rattle.my_grammar.specs.Response.{response}
+use Rattle.my_grammar.specs.Talk.{Talk, turns, number_of, client_bytes, context_of}
+use Rattle.my_session.specs.declared.call.CallKind.{CallKind}
+use Rattle.my_session.specs.declared.call.LinkFault.{LinkFault}
+use Rattle.my_session.specs.declared.call.Task.{Task}
+use Rattle.my_session.specs.declared.call.Task.TheVariants as tasks
+use Rattle.my_session.specs.declared.tables.Plan.{Plan}
+use Rattle.my_session.specs.declared.tables.Plan.TheVariants as plans
+use Rattle.my_session.specs.declared.tables.Reaction.{Reaction}
+use Rattle.my_session.specs.declared.tables.Reaction.TheVariants as reactions
+use Rattle.my_session.specs.declared.error.Error.{Error}
+use Rattle.my_session.specs.declared.error.Error.TheVariants as errors
+use Rattle.my_session.specs.declared.arrival.Arrival.{Arrival}
+use Rattle.my_session.specs.declared.answer.Tick.{Tick}
+use Rattle.my_session.specs.declared.answer.Tick.TheVariants as ticks
+use Rattle.my_session.specs.Calls.{call_of, fault_in}
+use Rattle.my_session.specs.Commands.{opening, command_in, command_terms}
+use Rattle.my_session.specs.Errors.{codec_error, invalid_data, unexpected_eof, link_error, server_error}
+use Rattle.my_session.specs.Facts.{facts_after}
+use Rattle.my_session.specs.History.{History, Told, ToldReady, ToldRow, ToldEnd, ToldNone, ToldError, told, answered, noted}
+use Rattle.my_session.specs.Rows.{row_at}
+use Rattle.my_session.specs.Seen.{Seen}
+use Rattle.my_session.specs.Tables.{plan_of, react, is_breaking, is_connecting, closes_when_cancelled}
+
+-- what a move comes to: it goes on, perhaps past something; it asks for a sending or for bytes; or the call is told something and ends
+pub data Doing : Type 0 where
+  Goes : Doing
+  Passes : (t : Told) → Doing
+  Sends : Doing
+  Needs : Doing
+  Tells : (t : Told) → Doing
+
+pub record Move : Type 0 where
+  pub seen : Seen
+  pub does : Doing
+
+-- the call ends, the session is closed, and what was owed is dropped
+abbrev pub fell : Seen → Seen
+fell s = record { context = s.context; task = tasks.Nothing; text = s.text; untold = s.untold; closed = true; ended = s.ended; number = s.number; unread = s.unread; owed = []; facts = s.facts; login = s.login }
+
+abbrev pub with_task : Seen → Task → Bool → Seen
+with_task s t untold = record { context = s.context; task = t; text = s.text; untold = untold; closed = s.closed; ended = s.ended; number = s.number; unread = s.unread; owed = s.owed; facts = s.facts; login = s.login }
+
+-- a fatal error
+abbrev pub failed_by : Seen → Error → Move
+failed_by s e = record { seen = fell s; does = Tells (ToldError e) }
+
+-- what the client says at once behind a payload of this kind: its response behind the greeting
+abbrev pub reply_to : Login → Kind → List ℕ → Option (List ℕ)
+reply_to login (Greets capabilities) p = Some (response login p)
+reply_to login (Good status) p = None
+reply_to login Failed p = None
+reply_to login (Count n) p = None
+reply_to login Column p = None
+reply_to login ColumnsDone p = None
+reply_to login Row p = None
+reply_to login (End status) p = None
+reply_to login Bad p = None
+
+abbrev pub reply_bytes : Option (List ℕ) → ℕ → List ℕ
+reply_bytes None n = []
+reply_bytes (Some p) n = chunks p n
+
+abbrev pub reply_number : Option (List ℕ) → ℕ → ℕ
+reply_number None n = n
+reply_number (Some p) n = number_behind p n
+
+-- a payload of this kind is read, behind which the rest stands and the next chunk has this number
+abbrev pub advanced : Seen → Kind → List ℕ → List ℕ → ℕ → Seen
+advanced s k p rest next = record {
+  context = context_after s.context k;
+  task = s.task;
+  text = s.text;
+  untold = false;
+  closed = s.closed;
+  ended = s.ended;
+  number = reply_number (reply_to s.login k p) next;
+  unread = rest;
+  owed = s.owed ++ reply_bytes (reply_to s.login k p) next;
+  facts = facts_after k p s.facts;
+  login = s.login;
+}
+
+-- an exchange begins
+abbrev pub queued : Seen → Task → Talk → Seen
+queued s t talk = record { context = context_of talk; task = t; text = s.text; untold = s.untold; closed = s.closed; ended = s.ended; number = number_of (turns talk); unread = s.unread; owed = s.owed ++ client_bytes (turns talk); facts = s.facts; login = s.login }
+
+-- an ERR that comes in place of the greeting has no state
+abbrev pub is_greeting : Spot → Bool
+is_greeting spots.Greeting = true
+is_greeting s = false
+
+-- a server's error ends the call, and a session that isn't connected
+abbrev pub refused : Seen → Seen → Option ErrPacket → Move
+refused s n None = failed_by s (invalid_data s.facts.place)
+refused s n (Some e) = record { seen = (if is_connecting s.task then fell n else with_task n tasks.Nothing n.untold); does = Tells (ToldError (errors.Server (server_error e))) }
+
+abbrev pub gave : Seen → Seen → Option RowParts → Move
+gave s n None = failed_by s (invalid_data s.facts.place)
+gave s n (Some row) = record { seen = with_task n tasks.Nothing n.untold; does = Tells (ToldRow row) }
+
+abbrev pub passed : Seen → Seen → Option RowParts → Move
+passed s n None = failed_by s (invalid_data s.facts.place)
+passed s n (Some row) = record { seen = n; does = Passes (ToldRow row) }
+
+-- what a reaction makes of the payload, behind which the session would be n; one that fits no case is not read
+abbrev pub reacted : Seen → Seen → List ℕ → Reaction → Move
+reacted s n p (reactions.Goes t) = record { seen = with_task n t n.untold; does = Goes }
+reacted s n p (reactions.Readies untold) = record { seen = with_task n tasks.Nothing untold; does = Tells ToldReady }
+reacted s n p reactions.Gives = gave s n (row_at s.facts.columns p)
+reacted s n p reactions.Ends = record { seen = with_task n tasks.Nothing n.untold; does = Tells ToldEnd }
+reacted s n p reactions.PassesRow = passed s n (row_at s.facts.columns p)
+reacted s n p reactions.PassesEnd = record { seen = n; does = Passes ToldEnd }
+reacted s n p reactions.Refuses = refused s n (err_at (is_greeting s.context.spot) p)
+reacted s n p reactions.Breaks = failed_by s (invalid_data s.facts.place)
+
+-- the length of a payload that is to be sent and is above the limit
+abbrev pub above : ℕ → Option (List ℕ) → Option ℕ
+above limit None = None
+above limit (Some p) = if nat_lt limit (length p) then Some (length p) else None
+
+abbrev pub too_large : Seen → ℕ → ℕ → Move
+too_large s limit len = failed_by s (codec_error (TooLarge len limit))
+
+-- what is to be sent behind a payload may not be too long
+abbrev pub unless_above : Seen → Option ℕ → Move → Move
+unless_above s (Some len) m = too_large s s.context.terms.limit len
+unless_above s None m = m
+
+abbrev pub read_by : Seen → Seen → List ℕ → Reaction → Option (List ℕ) → Move
+read_by s n p r reply = unless_above s (above s.context.terms.limit reply) (reacted s n p r)
+
+-- a payload that fits no case is not read
+abbrev pub read_kind : Seen → List ℕ → List ℕ → ℕ → Kind → Move
+read_kind s p rest next k =
+    if is_breaking (react s.task k)
+    then failed_by s (invalid_data s.facts.place)
+    else read_by s (advanced s k p rest next) p (react s.task k) (reply_to s.login k p)
+
+-- the payload in front; where it isn't whole, and the link told its end, it never will be
+abbrev pub reading : Seen → Front → Move
+reading s Waiting = if s.ended then failed_by s (unexpected_eof s.facts.place) else record { seen = s; does = Needs }
+reading s (Broken fault) = failed_by s (codec_error fault)
+reading s (Whole p rest next) = read_kind s p rest next (kind_there s.context p)
+
+-- the exchange of a command: what is awaited first, and the bytes that are owed
+abbrev pub commanded : Seen → CallKind → Spot → List ℕ → Move
+commanded s c spot command =
+    if nat_lt s.login.max_packet (length command)
+    then too_large s s.login.max_packet (length command)
+    else record {
+      seen = record {
+        context = record { spot = spot; columns = 0; terms = command_terms s.login s.context.terms.kept };
+        task = tasks.Own c;
+        text = s.text;
+        untold = s.untold;
+        closed = s.closed;
+        ended = s.ended;
+        number = number_behind command 0;
+        unread = s.unread;
+        owed = s.owed ++ chunks command 0;
+        facts = s.facts;
+        login = s.login;
+      };
+      does = Goes;
+    }
+
+-- the own command of a call is owed, unless it is above the limit
+abbrev pub asked : Seen → CallKind → Option Talk → Move
+asked s c None = record { seen = with_task s tasks.Nothing s.untold; does = Tells ToldNone }
+asked s c (Some talk) =
+    if nat_lt s.login.max_packet (length (command_in talk))
+    then too_large s s.login.max_packet (length (command_in talk))
+    else record { seen = queued s (tasks.Own c) talk; does = Goes }
+
+abbrev pub planned : Seen → Plan → Move
+planned s plans.Reads = reading s (front_at s.number s.context.terms.limit s.unread)
+planned s (plans.Starts t) = record { seen = with_task s t s.untold; does = Goes }
+planned s plans.Hears = record { seen = with_task s s.task false; does = Goes }
+planned s (plans.Asks c) = asked s c (opening s.login s.context.terms.kept (call_of c s.text))
+planned s plans.Readies = record { seen = with_task s tasks.Nothing s.untold; does = Tells ToldReady }
+planned s plans.Quits = record { seen = fell s; does = Tells ToldReady }
+planned s plans.Passes = record { seen = with_task s s.task false; does = Passes ToldEnd }
+planned s plans.Dropped = record { seen = with_task s tasks.Nothing s.untold; does = Tells ToldReady }
+planned s plans.Ends = record { seen = with_task s tasks.Nothing false; does = Tells ToldEnd }
+planned s plans.NoMore = record { seen = with_task s tasks.Nothing s.untold; does = Tells ToldNone }
+
+abbrev pub when_owed : List ℕ → Seen → Move
+when_owed [] s = planned s (plan_of s.task s.context.spot s.untold)
+when_owed (b ∷ bytes) s = record { seen = s; does = Sends }
+
+-- a call that was told to fail fails
+abbrev pub next_by : Option LinkFault → Seen → Move
+next_by (Some fault) s = failed_by s (link_error fault s.facts.place)
+next_by None s = when_owed s.owed s
+
+abbrev pub next : Seen → Move
+next s = next_by (fault_in s.task) s
+
+-- the history behind a move
+abbrev pub after_doing : History → Doing → History
+after_doing h Goes = h
+after_doing h (Passes t) = noted h t
+after_doing h Sends = h
+after_doing h Needs = h
+after_doing h (Tells t) = answered h t
+
+-- what the code's tick says
+abbrev pub doing : Tick → Doing
+doing ticks.Goes = Goes
+doing (ticks.PassedRow row) = Passes (ToldRow row)
+doing ticks.PassedEnd = Passes ToldEnd
+doing ticks.Sends = Sends
+doing ticks.Needs = Needs
+doing (ticks.Done a) = Tells (told a)
+doing (ticks.Fault e) = Tells (ToldError e)
+
+-- the code did this move
+pub record Did (m : Move) (new : Seen) (t : Tick) : Type 0 where
+  pub seen : new ≡ m.seen
+  pub does : m.does ≡ doing t
+
+-- an error of the machine, or want of memory, behind which the session is closed and nothing else moved
+abbrev pub FaultIs : Move → Seen → Seen → Error → Type 0
+FaultIs m old new (errors.Driver e) = Did m new (ticks.Fault (errors.Driver e))
+FaultIs m old new (errors.Io e) = Did m new (ticks.Fault (errors.Io e))
+FaultIs m old new (errors.Server e) = Did m new (ticks.Fault (errors.Server e))
+FaultIs m old new errors.NoMemory = new ≡ fell old
+
+-- the code did this move, unless memory ran out
+abbrev pub Does : Move → Seen → Seen → Tick → Type 0
+Does m old new ticks.Goes = Did m new ticks.Goes
+Does m old new (ticks.PassedRow row) = Did m new (ticks.PassedRow row)
+Does m old new ticks.PassedEnd = Did m new ticks.PassedEnd
+Does m old new ticks.Sends = Did m new ticks.Sends
+Does m old new ticks.Needs = Did m new ticks.Needs
+Does m old new (ticks.Done a) = Did m new (ticks.Done a)
+Does m old new (ticks.Fault e) = FaultIs m old new e
+
+-- the open call is cancelled
+abbrev pub dropped : Seen → Seen
+dropped s = if closes_when_cancelled s.task s.context.spot then fell s else with_task s tasks.Nothing s.untold
+
+-- a payload that came in, with where it stands, what it is, and what the client says at once behind it
+pub record IsArrival (s : Seen) (a : Arrival) : Type 0 where
+  pub room : a.span.len ≤ length s.unread
+  pub reply_is : a.reply ≡ reply_to s.login a.kind a.payload
+
+-- the session behind it
+abbrev pub behind : Seen → Arrival → Seen
+behind s a = advanced s a.kind a.payload (drop a.span.len s.unread) a.span.next
+
+-- it came to this, unless memory ran out
+abbrev pub Lands : Seen → Tick → Seen → Seen → Tick → Type 0
+Lands n tick old new result = ((new ≡ n) × (result ≡ tick)) ⊎ ((new ≡ fell old) × (result ≡ ticks.Fault errors.NoMemory))
+
+-- the row, unless it is none or memory ran out
+abbrev pub ReadsRow : Option RowParts → Result RowParts ReadError → Type 0
+ReadsRow row (Ok r) = row ≡ Some r
+ReadsRow row (Err reads.Malformed) = row ≡ None
+ReadsRow row (Err reads.NoMemory) = Unit {0}

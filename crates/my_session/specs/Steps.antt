@@ -1,0 +1,142 @@
+-- What the calls of a session leave of it.
+use Rattle.std.specs.Prelude.{◌≡◌, ◌≢◌, ℕ, zero, suc, ◌+◌, ◌*◌, ◌<◌, List, [], length, Bool, true, false, not, ◌&&◌, if◌then◌else◌}
+use Rattle.my_wire.specs.Front.{Waiting, front_at}
+use Rattle.my_grammar.specs.declared.login.Login.{Login}
+use Rattle.my_grammar.specs.declared.spot.Spot.{Spot}
+use Rattle.my_grammar.specs.declared.spot.Spot.TheVariants as spots
+use Rattle.my_grammar.specs.Talk.{Start, context_of}
+use Rattle.my_session.specs.declared.answer.SessionStep.{SessionStep}
+use Rattle.my_session.specs.declared.answer.SessionStep.TheVariants as steps
+use Rattle.my_session.specs.declared.answer.Tick.{Tick}
+use Rattle.my_session.specs.declared.answer.Tick.TheVariants as ticks
+use Rattle.my_session.specs.declared.call.Call.{Call}
+use Rattle.my_session.specs.declared.call.CallKind.{CallKind}
+use Rattle.my_session.specs.declared.call.CallKind.TheVariants.{Connect, Query, NextRow, DropResult, Ping, Quit}
+use Rattle.my_session.specs.declared.call.LinkFault.{LinkFault}
+use Rattle.my_session.specs.declared.call.LinkFault.TheVariants.{NoMemory}
+use Rattle.my_session.specs.declared.call.Task.{Task}
+use Rattle.my_session.specs.declared.call.Task.TheVariants.{Nothing, Begun, Cleaning, Own, Reading, Dropping, Leaving, Failing}
+use Rattle.my_session.specs.Calls.{kind_of, text_of, is_open, is_quit}
+use Rattle.my_session.specs.Facts.{no_facts}
+use Rattle.my_session.specs.Machine.{Doing, Goes, Passes, Sends, Needs, Tells, Does, fell, next}
+use Rattle.my_session.specs.Seen.{Seen}
+
+-- the places at which a connected session rests between calls
+abbrev pub is_settled : Spot → Bool
+is_settled spots.Idle = true
+is_settled spots.Further = true
+is_settled spots.Rows = true
+is_settled s = false
+
+-- where a call may begin on an open session: Connect before the greeting, each other one once it is connected
+abbrev pub AtBegun : CallKind → Spot → Type 0
+AtBegun Connect spot = spot ≡ spots.Greeting
+AtBegun Query spot = is_settled spot ≡ true
+AtBegun NextRow spot = is_settled spot ≡ true
+AtBegun DropResult spot = is_settled spot ≡ true
+AtBegun Ping spot = is_settled spot ≡ true
+AtBegun Quit spot = is_settled spot ≡ true
+
+-- before the greeting
+abbrev pub fresh : Login → Seen
+fresh login = record { context = context_of (Start login); task = Nothing; text = []; untold = false; closed = false; ended = false; number = 0; unread = []; owed = []; facts = no_facts; login = login }
+
+-- a closed session refuses each call but a quit
+abbrev pub is_refused : Bool → CallKind → Bool
+is_refused closed c = closed && not (is_quit c)
+
+-- a call begins; on a closed session only a quit does, which has nothing left to do
+abbrev pub begun : Seen → Call → Seen
+begun s call = record { context = s.context; task = (if s.closed then Leaving else Begun (kind_of call)); text = text_of call s.text; untold = s.untold; closed = s.closed; ended = s.ended; number = s.number; unread = s.unread; owed = s.owed; facts = s.facts; login = s.login }
+
+abbrev pub with_owed : Seen → List ℕ → Seen
+with_owed s owed = record { context = s.context; task = s.task; text = s.text; untold = s.untold; closed = s.closed; ended = s.ended; number = s.number; unread = s.unread; owed = owed; facts = s.facts; login = s.login }
+
+abbrev pub with_unread : Seen → List ℕ → Seen
+with_unread s unread = record { context = s.context; task = s.task; text = s.text; untold = s.untold; closed = s.closed; ended = s.ended; number = s.number; unread = unread; owed = s.owed; facts = s.facts; login = s.login }
+
+-- the link told its end
+abbrev pub with_end : Seen → Seen
+with_end s = record { context = s.context; task = s.task; text = s.text; untold = s.untold; closed = s.closed; ended = true; number = s.number; unread = s.unread; owed = s.owed; facts = s.facts; login = s.login }
+
+-- the open call is told to fail; where none is open, nothing changes
+abbrev pub failing : Task → LinkFault → Task
+failing Nothing fault = Nothing
+failing (Begun c) fault = Failing c fault
+failing (Cleaning c) fault = Failing c fault
+failing (Own c) fault = Failing c fault
+failing Reading fault = Failing NextRow fault
+failing Dropping fault = Failing DropResult fault
+failing Leaving fault = Failing Quit fault
+failing (Failing c old) fault = Failing c fault
+
+abbrev pub with_failing : Seen → LinkFault → Seen
+with_failing s fault = record { context = s.context; task = failing s.task fault; text = s.text; untold = s.untold; closed = s.closed; ended = s.ended; number = s.number; unread = s.unread; owed = s.owed; facts = s.facts; login = s.login }
+
+-- bytes came in for which no memory was found: the open call is told to fail, or the session is closed
+abbrev pub with_loss : Seen → Seen
+with_loss s = if is_open s.task then with_failing s NoMemory else fell s
+
+-- moves that go on come to an end
+abbrev pub rank : Task → Bool → ℕ
+rank Nothing untold = 0
+rank (Begun c) untold = 3
+rank (Cleaning c) true = 2
+rank (Cleaning c) false = 1
+rank (Own c) untold = 0
+rank Reading untold = 0
+rank Dropping true = 1
+rank Dropping false = 0
+rank Leaving untold = 0
+rank (Failing c fault) untold = 0
+
+abbrev pub left_to_do : Seen → ℕ
+left_to_do s = 4 * length s.unread + rank s.task s.untold
+
+-- what a move leaves: the call goes on with less to do; asks for a sending exactly where bytes are owed, or for bytes where none are
+-- owed, the payload in front is neither whole nor faulty, and the link didn't tell its end; or it ends
+abbrev pub TickIs : Seen → Seen → Tick → Type 0
+TickIs old new ticks.Goes = (is_open new.task ≡ true) × (left_to_do new < left_to_do old)
+TickIs old new (ticks.PassedRow row) = (is_open new.task ≡ true) × (left_to_do new < left_to_do old)
+TickIs old new ticks.PassedEnd = (is_open new.task ≡ true) × (left_to_do new < left_to_do old)
+TickIs old new ticks.Sends = (is_open new.task ≡ true) × (new.owed ≢ [])
+TickIs old new ticks.Needs = (is_open new.task ≡ true) × (new.owed ≡ []) × (new.ended ≡ false) × (front_at new.number new.context.terms.limit new.unread ≡ Waiting)
+TickIs old new (ticks.Done a) = new.task ≡ Nothing
+TickIs old new (ticks.Fault e) = new.task ≡ Nothing
+
+abbrev pub StepIs : Seen → SessionStep → Type 0
+StepIs s steps.Send = (is_open s.task ≡ true) × (s.owed ≢ [])
+StepIs s steps.Need = (is_open s.task ≡ true) × (s.owed ≡ []) × (s.ended ≡ false) × (front_at s.number s.context.terms.limit s.unread ≡ Waiting)
+StepIs s (steps.Done a) = s.task ≡ Nothing
+StepIs s (steps.Fault e) = s.task ≡ Nothing
+
+-- the move that a step ends with
+abbrev pub last_tick : SessionStep → Tick
+last_tick steps.Send = ticks.Sends
+last_tick steps.Need = ticks.Needs
+last_tick (steps.Done a) = ticks.Done a
+last_tick (steps.Fault e) = ticks.Fault e
+
+-- a move that goes on, perhaps past something
+abbrev pub goes_on : Doing → Bool
+goes_on Goes = true
+goes_on (Passes t) = true
+goes_on Sends = false
+goes_on Needs = false
+goes_on (Tells t) = false
+
+-- where so many moves lead
+abbrev pub moved : ℕ → Seen → Seen
+moved zero s = s
+moved (suc n) s = (next (moved n s)).seen
+
+-- each of them goes on
+abbrev pub AllGo : ℕ → Seen → Type 0
+AllGo zero s = Unit {0}
+AllGo (suc n) s = (goes_on (next (moved n s)).does ≡ true) × AllGo n s
+
+-- A step is moves that go on, and one that asks for something or ends the call.
+pub record Steps (old new : Seen) (step : SessionStep) : Type 0 where
+  pub count : ℕ
+  pub go : AllGo count old
+  pub last : Does (next (moved count old)) (moved count old) new (last_tick step)

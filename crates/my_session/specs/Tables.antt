@@ -1,0 +1,170 @@
+-- What a task does next where no bytes are owed, and what it makes of a payload: one line for each case.
+-- MySQL internals, "Command Phase": a command's response is read whole before the next command is sent; "COM_QUERY Response": OK, ERR, or columns, rows and an end, once more where the status says that more results follow.
+use Rattle.std.specs.Prelude.{Bool, true, false, if◌then◌else◌}
+use Rattle.my_grammar.specs.declared.spot.Spot.{Spot}
+use Rattle.my_grammar.specs.declared.spot.Spot.TheVariants as spots
+use Rattle.my_grammar.specs.declared.spot.Kind.{Kind}
+use Rattle.my_grammar.specs.declared.spot.Kind.TheVariants as kinds
+use Rattle.my_session.specs.declared.call.CallKind.{CallKind}
+use Rattle.my_session.specs.declared.call.CallKind.TheVariants.{Connect, Query, NextRow, DropResult, Ping, Quit}
+use Rattle.my_session.specs.declared.call.Task.{Task}
+use Rattle.my_session.specs.declared.call.Task.TheVariants.{Nothing, Begun, Cleaning, Own, Reading, Dropping, Leaving, Failing}
+use Rattle.my_session.specs.declared.tables.Plan.{Plan}
+use Rattle.my_session.specs.declared.tables.Plan.TheVariants as plans
+use Rattle.my_session.specs.declared.tables.Reaction.{Reaction}
+use Rattle.my_session.specs.declared.tables.Reaction.TheVariants as reactions
+
+-- a call that sends a command cleans first
+abbrev pub first_task : CallKind → Task
+first_task Connect = Own Connect
+first_task Query = Cleaning Query
+first_task NextRow = Reading
+first_task DropResult = Dropping
+first_task Ping = Cleaning Ping
+first_task Quit = Cleaning Quit
+
+-- the rest of the earlier response is read, an end that wasn't told is dropped, and then the own command is owed
+abbrev pub clean_plan : CallKind → Spot → Bool → Plan
+clean_plan c spots.Idle untold = if untold then plans.Hears else plans.Asks c
+clean_plan c s untold = plans.Reads
+
+abbrev pub read_plan : Spot → Plan
+read_plan spots.Idle = plans.NoMore
+read_plan s = plans.Reads
+
+abbrev pub drop_plan : Spot → Plan
+drop_plan spots.Idle = plans.Dropped
+drop_plan s = plans.Reads
+
+-- a query is answered once the rows of its first set begin
+abbrev pub query_plan : Spot → Plan
+query_plan spots.Rows = plans.Readies
+query_plan s = plans.Reads
+
+-- a quit has no answer
+abbrev pub own_plan : CallKind → Spot → Plan
+own_plan Connect s = plans.Reads
+own_plan Query s = query_plan s
+own_plan NextRow s = plans.Reads
+own_plan DropResult s = plans.Reads
+own_plan Ping s = plans.Reads
+own_plan Quit s = plans.Quits
+
+abbrev pub plan_of : Task → Spot → Bool → Plan
+plan_of Nothing s untold = plans.NoMore
+plan_of (Begun c) s untold = plans.Starts (first_task c)
+plan_of (Cleaning c) s untold = clean_plan c s untold
+plan_of (Own c) s untold = own_plan c s
+plan_of Reading s untold = if untold then plans.Ends else read_plan s
+plan_of Dropping s untold = if untold then plans.Passes else drop_plan s
+plan_of Leaving s untold = plans.Quits
+plan_of (Failing c fault) s untold = plans.NoMore
+
+abbrev pub react_cleaning : CallKind → Kind → Reaction
+react_cleaning c (kinds.Greets n) = reactions.Breaks
+react_cleaning c (kinds.Good status) = reactions.Goes (Cleaning c)
+react_cleaning c kinds.Failed = reactions.Refuses
+react_cleaning c (kinds.Count n) = reactions.Goes (Cleaning c)
+react_cleaning c kinds.Column = reactions.Goes (Cleaning c)
+react_cleaning c kinds.ColumnsDone = reactions.Goes (Cleaning c)
+react_cleaning c kinds.Row = reactions.Goes (Cleaning c)
+react_cleaning c (kinds.End status) = reactions.Goes (Cleaning c)
+react_cleaning c kinds.Bad = reactions.Breaks
+
+abbrev pub react_connect : Kind → Reaction
+react_connect (kinds.Greets n) = reactions.Goes (Own Connect)
+react_connect (kinds.Good status) = reactions.Readies false
+react_connect kinds.Failed = reactions.Refuses
+react_connect k = reactions.Breaks
+
+abbrev pub react_query : Kind → Reaction
+react_query (kinds.Good status) = reactions.Readies true
+react_query kinds.Failed = reactions.Refuses
+react_query (kinds.Count n) = reactions.Goes (Own Query)
+react_query kinds.Column = reactions.Goes (Own Query)
+react_query kinds.ColumnsDone = reactions.Goes (Own Query)
+react_query k = reactions.Breaks
+
+abbrev pub react_ping : Kind → Reaction
+react_ping (kinds.Good status) = reactions.Readies false
+react_ping kinds.Failed = reactions.Refuses
+react_ping k = reactions.Breaks
+
+abbrev pub react_own : CallKind → Kind → Reaction
+react_own Connect k = react_connect k
+react_own Query k = react_query k
+react_own NextRow k = reactions.Breaks
+react_own DropResult k = reactions.Breaks
+react_own Ping k = react_ping k
+react_own Quit k = reactions.Breaks
+
+abbrev pub react_reading : Kind → Reaction
+react_reading (kinds.Greets n) = reactions.Breaks
+react_reading (kinds.Good status) = reactions.Ends
+react_reading kinds.Failed = reactions.Refuses
+react_reading (kinds.Count n) = reactions.Goes Reading
+react_reading kinds.Column = reactions.Goes Reading
+react_reading kinds.ColumnsDone = reactions.Goes Reading
+react_reading kinds.Row = reactions.Gives
+react_reading (kinds.End status) = reactions.Ends
+react_reading kinds.Bad = reactions.Breaks
+
+abbrev pub react_dropping : Kind → Reaction
+react_dropping (kinds.Greets n) = reactions.Breaks
+react_dropping (kinds.Good status) = reactions.PassesEnd
+react_dropping kinds.Failed = reactions.Refuses
+react_dropping (kinds.Count n) = reactions.Goes Dropping
+react_dropping kinds.Column = reactions.Goes Dropping
+react_dropping kinds.ColumnsDone = reactions.Goes Dropping
+react_dropping kinds.Row = reactions.PassesRow
+react_dropping (kinds.End status) = reactions.PassesEnd
+react_dropping kinds.Bad = reactions.Breaks
+
+abbrev pub react : Task → Kind → Reaction
+react Nothing k = reactions.Breaks
+react (Begun c) k = reactions.Breaks
+react (Cleaning c) k = react_cleaning c k
+react (Own c) k = react_own c k
+react Reading k = react_reading k
+react Dropping k = react_dropping k
+react Leaving k = reactions.Breaks
+react (Failing c fault) k = reactions.Breaks
+
+abbrev pub is_breaking : Reaction → Bool
+is_breaking (reactions.Goes t) = false
+is_breaking (reactions.Readies untold) = false
+is_breaking reactions.Gives = false
+is_breaking reactions.Ends = false
+is_breaking reactions.PassesRow = false
+is_breaking reactions.PassesEnd = false
+is_breaking reactions.Refuses = false
+is_breaking reactions.Breaks = true
+
+-- a server's error ends a session that isn't connected
+abbrev pub is_connecting : Task → Bool
+is_connecting Nothing = false
+is_connecting (Begun c) = false
+is_connecting (Cleaning c) = false
+is_connecting (Own Connect) = true
+is_connecting (Own c) = false
+is_connecting Reading = false
+is_connecting Dropping = false
+is_connecting Leaving = false
+is_connecting (Failing c fault) = false
+
+-- where the head of a further set is awaited
+abbrev pub awaits_head : Spot → Bool
+awaits_head spots.Idle = false
+awaits_head spots.Rows = false
+awaits_head s = true
+
+-- a call that sends a command, once stepped, closes the session where it is cancelled, and so does a read that awaits a further head, or a call that was told to fail
+abbrev pub closes_when_cancelled : Task → Spot → Bool
+closes_when_cancelled Nothing s = false
+closes_when_cancelled (Begun c) s = false
+closes_when_cancelled (Cleaning c) s = true
+closes_when_cancelled (Own c) s = true
+closes_when_cancelled Reading s = awaits_head s
+closes_when_cancelled Dropping s = awaits_head s
+closes_when_cancelled Leaving s = false
+closes_when_cancelled (Failing c fault) s = true

@@ -1,0 +1,44 @@
+//! What a call is answered, and what it asks for on the way.
+
+use crate::error::Error;
+use my_value::Row;
+
+/// The answer of a call.
+#[derive(Drop)]
+pub enum Answer {
+    /// The command was accepted, or the connection made.
+    Ready,
+    Row(Row),
+    /// The set that is read ended.
+    SetEnd,
+    /// Nothing is left to be read.
+    NoSet,
+}
+
+/// What one move of the open call comes to.
+#[derive(Drop)]
+pub enum Tick {
+    /// It goes on.
+    Goes,
+    /// It goes on, and passed over this row.
+    PassedRow(Row),
+    /// It goes on, and passed over a set's end.
+    PassedEnd,
+    /// Bytes are to be sent.
+    Sends,
+    /// More bytes are awaited.
+    Needs,
+    Done(Answer),
+    Fault(Error),
+}
+
+/// What the open call asks for, or how it ended.
+#[derive(Drop)]
+pub enum SessionStep {
+    /// The bytes owed are to be sent.
+    Send,
+    /// More bytes are awaited.
+    Need,
+    Done(Answer),
+    Fault(Error),
+}

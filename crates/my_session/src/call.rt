@@ -1,0 +1,80 @@
+//! What a caller asks of a session, and what the open call is at.
+
+ghost use Rattle.std.specs.Prelude.{◌≡◌};
+
+use my_wire::Blob;
+
+/// A call, with what it carries.
+#[derive(Debug, Drop)]
+pub enum Call {
+    /// The handshake, with which a session begins.
+    Connect,
+    /// A query of this text.
+    Query(Blob),
+    /// The next row of the set that is read, its end, or word that nothing is left.
+    NextRow,
+    /// Reads what is left and passes over it.
+    DropResult,
+    Ping,
+    Quit,
+}
+
+/// Which call it is, without what it carries.
+#[derive(Clone, Copy, Debug, PartialEq, Eq)]
+pub enum CallKind {
+    Connect,
+    Query,
+    NextRow,
+    DropResult,
+    Ping,
+    Quit,
+}
+
+/// Why a caller lets the open call fail.
+#[derive(Clone, Copy, Debug, PartialEq, Eq)]
+pub enum LinkFault {
+    /// The link failed.
+    Link,
+    /// The call took too many bytes without an answer.
+    TooLong,
+    NoMemory,
+}
+
+/// What the open call is at.
+#[derive(Clone, Copy, Debug, PartialEq, Eq)]
+pub enum Task {
+    /// No call is open.
+    Nothing,
+    /// The call wasn't stepped yet.
+    Begun(CallKind),
+    /// The rest of an earlier response is read before the call's own command.
+    Cleaning(CallKind),
+    /// The call's own exchange.
+    Own(CallKind),
+    /// The next row is awaited.
+    Reading,
+    /// What is left is passed over.
+    Dropping,
+    /// A quit on a closed session.
+    Leaving,
+    /// The call was told to fail.
+    Failing(CallKind, LinkFault),
+}
+
+impl Call {
+    ghost use Rattle.my_session.specs.Calls.{kind_of};
+
+    /// Which call it is.
+    pub fn kind(&self) -> CallKind
+        ensures { result ≡ kind_of self.now }
+    {
+        match self {
+            Call::Connect => CallKind::Connect,
+            Call::Query(_) => CallKind::Query,
+            Call::NextRow => CallKind::NextRow,
+            Call::DropResult => CallKind::DropResult,
+            Call::Ping => CallKind::Ping,
+            Call::Quit => CallKind::Quit,
+        }
+    }
+}

@@ -1,0 +1,113 @@
+//! Why a call of a session ends without its answer.
+
+ghost use Rattle.std.specs.Prelude.{◌≡◌};
+
+use my_wire::{CodecFault, NoMemory, Text};
+use thiserror::Error as ThisError;
+
+/// The driver's own refusals.
+#[derive(Clone, Copy, Debug, PartialEq, Eq, ThisError)]
+pub enum DriverError {
+    #[error("connection is closed")]
+    ConnectionClosed,
+    #[error("the call took too many bytes without an answer")]
+    TooLong,
+    #[error("can't parse the server's version")]
+    CantParseServerVersion,
+    #[error("packet out of order")]
+    PacketOutOfOrder,
+    #[error("packet too large")]
+    PacketTooLarge,
+    #[error("bad header of a compressed packet")]
+    BadCompressedPacketHeader,
+    #[error("no key found")]
+    NoKeyFound,
+    #[error("named pipes are disabled")]
+    NamedPipesDisabled,
+    #[error("invalid salt for parsec authentication")]
+    InvalidParsecSalt,
+    #[error("no flag for SSL from the server")]
+    NoClientSslFlagFromServer,
+}
+
+/// What failed on the way between client and server.
+#[derive(Clone, Copy, Debug, PartialEq, Eq, ThisError)]
+pub enum IoKind {
+    /// The link failed.
+    #[error("the link failed")]
+    Link,
+    /// No link could be made.
+    #[error("no link could be made")]
+    Dial,
+    /// The link ended where a packet was awaited.
+    #[error("the link ended where a packet was awaited")]
+    UnexpectedEof,
+    /// A payload came that may not stand there.
+    #[error("a packet came that may not stand there")]
+    InvalidData,
+}
+
+/// A fault on the way, with the number of whole payloads that were taken before.
+#[derive(Clone, Copy, Debug, PartialEq, Eq, ThisError)]
+#[error("{kind} (behind {place} packets)")]
+pub struct IoFault {
+    pub kind: IoKind,
+    pub place: u64,
+}
+
+/// What was wrong with the bytes, or with the link that carries them.
+#[derive(Clone, Copy, Debug, PartialEq, Eq, ThisError)]
+pub enum IoError {
+    #[error(transparent)]
+    Io(IoFault),
+    /// The chunks of a payload are wrong.
+    #[error(transparent)]
+    Codec(CodecFault),
+}
+
+/// What a server says of a command that failed.
+#[derive(Debug, Drop, PartialEq, Eq, ThisError)]
+#[error("server error {code} ({})", message.as_str())]
+pub struct ServerError {
+    pub code: u16,
+    /// Five characters that name the class of the error.
+    pub state: Text,
+    pub message: Text,
+}
+
+/// Why a call has no answer.
+#[derive(Debug, Drop, PartialEq, Eq, ThisError)]
+pub enum Error {
+    #[error(transparent)]
+    Driver(DriverError),
+    #[error(transparent)]
+    Io(IoError),
+    #[error(transparent)]
+    Server(ServerError),
+    #[error("out of memory")]
+    NoMemory,
+}
+
+impl From<NoMemory> for Error {
+    ghost use Rattle.my_session.specs.declared.error.Error.TheVariants as errors;
+
+    ghost from_gives = { λ _ e. e ≡ errors.NoMemory };
+
+    fn from(_e: NoMemory) -> Error {
+        Error::NoMemory
+    }
+}
+
+impl Error {
+    ghost use Rattle.my_session.specs.Errors.{is_fatal};
+
+    /// Whether a connection is of no use after it: a server's error alone leaves it open.
+    pub fn is_fatal(&self) -> bool
+        ensures { result ≡ is_fatal self.now }
+    {
+        match self {
+            Error::Driver(_) | Error::Io(_) | Error::NoMemory => true,
+            Error::Server(_) => false,
+        }
+    }
+}

@@ -1,0 +1,179 @@
+//! What the server's payloads tell a client.
+
+ghost use Rattle.std.specs.Prelude.{◌≡◌, OnOk, OnErr, IfOk};
+ghost use Rattle.my_wire.specs.Greeting.{greeting_at};
+ghost use Rattle.my_wire.specs.OkPacket.{ok_at, end_ok_at};
+ghost use Rattle.my_wire.specs.Column.{column_at};
+
+use crate::columns::{Gathered, SetColumns};
+use my_grammar::Kind;
+use my_wire::{
+    Blob, Column, Greeting, NoMemory, OkPacket, ReadError, read_column, read_end_ok, read_greeting,
+    read_ok,
+};
+use std::alloc::Global;
+
+/// What the server told so far.
+#[derive(Drop)]
+pub struct Facts {
+    /// The server's version, as it tells it.
+    pub version: Blob,
+    /// The number of the connection.
+    pub connection: u32,
+    /// The server's status bits, as an OK or a set's end told them last; none behind an ERR.
+    pub status: u16,
+    /// The last OK, or the OK that ended a set; none behind an ERR.
+    pub ok: Option<OkPacket>,
+    /// How many columns of a head are still to come.
+    pub left: u16,
+    /// The columns of a head so far.
+    pub gathered: Gathered,
+    /// The columns of the newest set whose head is whole.
+    pub columns: SetColumns,
+    /// How many whole payloads were taken.
+    pub place: u64,
+}
+
+// The greeting, where it is one.
+fn greeting_in(alloc: Global, payload: &[u8]) -> Result<Option<Greeting>, NoMemory>
+    ensures { IfOk result (λ o. o ≡ greeting_at payload.now) }
+{
+    match read_greeting(alloc, payload) {
+        Ok(greeting) => Ok(Some(greeting)),
+        Err(ReadError::Malformed) => Ok(None),
+        Err(ReadError::NoMemory) => Err(NoMemory),
+    }
+}
+
+// The OK, where it is one.
+fn ok_in(alloc: Global, payload: &[u8]) -> Result<Option<OkPacket>, NoMemory>
+    ensures { IfOk result (λ o. o ≡ ok_at payload.now) }
+{
+    match read_ok(alloc, payload) {
+        Ok(ok) => Ok(Some(ok)),
+        Err(ReadError::Malformed) => Ok(None),
+        Err(ReadError::NoMemory) => Err(NoMemory),
+    }
+}
+
+// The OK that ends a set, where it is one.
+fn end_ok_in(alloc: Global, payload: &[u8]) -> Result<Option<OkPacket>, NoMemory>
+    ensures { IfOk result (λ o. o ≡ end_ok_at payload.now) }
+{
+    match read_end_ok(alloc, payload) {
+        Ok(ok) => Ok(Some(ok)),
+        Err(ReadError::Malformed) => Ok(None),
+        Err(ReadError::NoMemory) => Err(NoMemory),
+    }
+}
+
+// The column, where it is one.
+fn column_in(alloc: Global, payload: &[u8]) -> Result<Option<Column>, NoMemory>
+    ensures { IfOk result (λ o. o ≡ column_at payload.now) }
+{
+    match read_column(alloc, payload) {
+        Ok(column) => Ok(Some(column)),
+        Err(ReadError::Malformed) => Ok(None),
+        Err(ReadError::NoMemory) => Err(NoMemory),
+    }
+}
+
+impl Facts {
+    ghost use Rattle.my_session.specs.Facts.{no_facts, facts_after, counted, with_greeting, with_ok, with_count, with_column};
+
+    /// Before the server said anything.
+    pub fn new(alloc: Global) -> Result<Facts, NoMemory>
+        ensures { IfOk result (λ f. f ≡ no_facts) }
+    {
+        let columns = SetColumns::new(alloc)?;
+        Ok(Facts {
+            version: Blob::new(alloc),
+            connection: 0,
+            status: 0,
+            ok: None,
+            left: 0,
+            gathered: Gathered::new(alloc),
+            columns,
+            place: 0,
+        })
+    }
+
+    fn count(&mut self)
+        ensures { self.new ≡ counted self.old }
+    {
+        self.place = self.place.saturating_add(1);
+    }
+
+    fn learn_greeting(&mut self, greeting: Option<Greeting>)
+        ensures { self.new ≡ with_greeting greeting self.old }
+    {
+        if let Some(greeting) = greeting {
+            self.version = greeting.version;
+            self.connection = greeting.id;
+        }
+    }
+
+    fn learn_ok(&mut self, ok: Option<OkPacket>, status: u16)
+        ensures { self.new ≡ with_ok ok status self.old }
+    {
+        self.ok = ok;
+        self.status = status;
+    }
+
+    fn join(&mut self, alloc: Global, column: Column) -> Result<(), NoMemory>
+        ensures ok { OnOk result (self.new ≡ with_column (Some column) self.old) }
+        ensures err { OnErr result (self.new ≡ self.old) }
+    {
+        if self.left > 1 {
+            self.gathered.push(column)?;
+            self.left -= 1;
+            return Ok(());
+        }
+        self.columns = self.gathered.finish(alloc, column)?;
+        self.left = 0;
+        Ok(())
+    }
+
+    fn learn_column(&mut self, alloc: Global, column: Option<Column>) -> Result<(), NoMemory>
+        ensures ok { OnOk result (self.new ≡ with_column column self.old) }
+        ensures err { OnErr result (self.new ≡ self.old) }
+    {
+        match column {
+            None => Ok(()),
+            Some(column) => self.join(alloc, column),
+        }
+    }
+
+    /// What a payload of this kind tells. Want of memory changes nothing.
+    pub fn learn(&mut self, alloc: Global, kind: Kind, payload: &[u8]) -> Result<(), NoMemory>
+        ensures ok { OnOk result (self.new ≡ facts_after kind payload.now self.old) }
+        ensures err { OnErr result (self.new ≡ self.old) }
+    {
+        match kind {
+            Kind::Greets(_) => {
+                let greeting = greeting_in(alloc, payload)?;
+                self.learn_greeting(greeting);
+            }
+            Kind::Good(status) => {
+                let ok = ok_in(alloc, payload)?;
+                self.learn_ok(ok, status);
+            }
+            Kind::End(status) => {
+                let ok = end_ok_in(alloc, payload)?;
+                self.learn_ok(ok, status);
+            }
+            Kind::Failed => self.learn_ok(None, 0),
+            Kind::Count(columns) => {
+                self.left = columns;
+                self.gathered = Gathered::new(alloc);
+            }
+            Kind::Column => {
+                let column = column_in(alloc, payload)?;
+                self.learn_column(alloc, column)?;
+            }
+            Kind::ColumnsDone | Kind::Row | Kind::Bad => {}
+        }
+        self.count();
+        Ok(())
+    }
+}

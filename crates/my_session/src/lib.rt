@@ -1,0 +1,27 @@
+//! A session of the MySQL client/server protocol, with no input or output of its own.
+#![tactic(auto)]
+
+mod answer;
+mod arrival;
+mod call;
+mod calls;
+mod columns;
+mod error;
+mod facts;
+mod front;
+mod machine;
+mod moves;
+mod read;
+mod session;
+mod step;
+mod tables;
+
+pub use answer::{Answer, SessionStep, Tick};
+pub use arrival::Arrival;
+pub use call::{Call, CallKind, LinkFault, Task};
+pub use columns::{Gathered, SetColumns};
+pub use error::{DriverError, Error, IoError, IoFault, IoKind, ServerError};
+pub use facts::Facts;
+pub use machine::Machine;
+pub use session::Session;
+pub use tables::{Plan, Reaction};

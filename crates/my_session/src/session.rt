@@ -1,0 +1,149 @@
+//! A session: the public calls.
+
+ghost use Rattle.std.specs.Prelude.{◌≡◌, ◌≤◌, ◌++◌, ◌↔◌, length, drop, true, false, OnOk, OnErr, IfOk, IfErr, IsErr};
+ghost use Rattle.std.specs.Option.{option_copied};
+
+use crate::answer::SessionStep;
+use crate::call::{Call, LinkFault, Task};
+use crate::error::Error;
+use crate::machine::Machine;
+use crate::step::step_machine;
+use my_grammar::Login;
+use my_wire::{NoMemory, OkPacket};
+use std::alloc::Global;
+use std::marker::Model;
+
+/// One connection's talk with a server, with no input or output of its own: a caller begins a call, sends what is owed, hands in
+/// what came, and steps the call until it is answered.
+#[derive(Drop)]
+pub struct Session {
+    machine: Machine,
+}
+
+impl Model for Session {
+    ghost use Rattle.my_session.specs.Session.{seen};
+    ghost use Rattle.my_session.specs.View.{View};
+
+    ghost Value = { View };
+
+    ghost view = { λ s. record { seen = seen s.machine } };
+}
+
+impl Session {
+    ghost use Rattle.my_session.specs.Calls.{is_open, kind_of};
+    ghost use Rattle.my_session.specs.Errors.{connection_closed};
+    ghost use Rattle.my_session.specs.Machine.{dropped};
+    ghost use Rattle.my_session.specs.Steps.{AtBegun, is_refused, is_settled, fresh, begun, with_owed, with_unread, with_end, with_failing, with_loss, StepIs, Steps};
+    ghost use Rattle.my_session.specs.Tables.{closes_when_cancelled};
+
+    /// A session that awaits the server's greeting.
+    pub fn new(alloc: Global, login: Login) -> Result<Session, NoMemory>
+        ensures { IfOk result (λ s. s.seen ≡ fresh login) }
+    {
+        let machine = Machine::new(alloc, login)?;
+        Ok(Session { machine })
+    }
+
+    /// Begins a call. The first call is Connect, and no later one is. A closed session refuses each call but `Quit`.
+    pub fn begin(&mut self, call: Call) -> Result<(), Error>
+        requires idle { self.old.seen.task ≡ Task.Nothing }
+        requires order { self.old.seen.closed ≡ false → AtBegun (kind_of call) self.old.seen.context.spot }
+        ensures ok { OnOk result (self.new.seen ≡ begun self.old.seen call) }
+        ensures err { OnErr result (self.new.seen ≡ self.old.seen) }
+        ensures why { IfErr result (λ e. e ≡ connection_closed) }
+        ensures closed { IsErr result ↔ (is_refused self.old.seen.closed (kind_of call) ≡ true) }
+    {
+        self.machine.begin(call)
+    }
+
+    /// Whether a call is open.
+    pub fn is_open(&self) -> bool
+        ensures { result ≡ is_open self.now.seen.task }
+    {
+        self.machine.is_open()
+    }
+
+    /// Whether the session is closed.
+    pub fn is_closed(&self) -> bool
+        ensures { result ≡ self.now.seen.closed }
+    {
+        self.machine.closed
+    }
+
+    /// The next step of the open call.
+    pub fn step(&mut self, alloc: Global) -> SessionStep
+        requires { is_open self.old.seen.task ≡ true }
+        ensures steps { Steps self.old.seen self.new.seen result }
+        ensures leaves { StepIs self.new.seen result }
+    {
+        step_machine(alloc, &mut self.machine)
+    }
+
+    /// The bytes that are to be sent.
+    pub fn owed(&self) -> &[u8]
+        ensures { result.now ≡ self.now.seen.owed }
+    {
+        self.machine.owed()
+    }
+
+    /// So many of the bytes owed went out.
+    pub fn sent(&mut self, count: usize)
+        requires { count ≤ length self.old.seen.owed }
+        ensures { self.new.seen ≡ with_owed self.old.seen (drop count self.old.seen.owed) }
+    {
+        self.machine.sent(count);
+    }
+
+    /// These bytes came in. Want of memory lets the open call fail; where none is open, it closes the session.
+    pub fn take(&mut self, bytes: &[u8]) -> Result<(), NoMemory>
+        ensures ok { OnOk result (self.new.seen ≡ with_unread self.old.seen (self.old.seen.unread ++ bytes.now)) }
+        ensures err { OnErr result (self.new.seen ≡ with_loss self.old.seen) }
+    {
+        self.machine.take(bytes)
+    }
+
+    /// The link told its end.
+    pub fn end(&mut self)
+        ensures { self.new.seen ≡ with_end self.old.seen }
+    {
+        self.machine.end();
+    }
+
+    /// The open call is told to fail: its next step is that fault, and the session is closed.
+    pub fn fail(&mut self, fault: LinkFault)
+        requires { is_open self.old.seen.task ≡ true }
+        ensures { self.new.seen ≡ with_failing self.old.seen fault }
+    {
+        self.machine.fail(fault);
+    }
+
+    /// The open call is cancelled. No byte that was taken is lost. A call that sends commands closes the session, unless it was
+    /// never stepped; a read closes it where the head of a further set is awaited.
+    pub fn cancel(&mut self)
+        requires { is_open self.old.seen.task ≡ true }
+        ensures { self.new.seen ≡ dropped self.old.seen }
+    {
+        let _ = self.machine.cancel();
+    }
+
+    /// The number of the connection, as the server told it.
+    pub fn connection_id(&self) -> u32
+        ensures { result ≡ self.now.seen.facts.connection }
+    {
+        self.machine.facts.connection
+    }
+
+    /// The server's version, as it told it.
+    pub fn version(&self) -> &[u8]
+        ensures { result.now ≡ self.now.seen.facts.version }
+    {
+        self.machine.facts.version.as_slice()
+    }
+
+    /// The last OK, or the OK that ended a set; none behind an ERR.
+    pub fn last_ok(&self) -> Option<&OkPacket>
+        ensures { option_copied result ≡ self.now.seen.facts.ok }
+    {
+        self.machine.facts.ok.as_ref()
+    }
+}

@@ -1,0 +1,29 @@
+//! A step of the open call: moves until it asks for something or ends.
+
+ghost use Rattle.std.specs.Prelude.{◌≡◌, true};
+ghost use Rattle.my_session.specs.Session.{seen};
+ghost use Rattle.my_session.specs.Calls.{is_open};
+ghost use Rattle.my_session.specs.Steps.{StepIs, Steps};
+
+use crate::answer::{SessionStep, Tick};
+use crate::machine::Machine;
+use std::alloc::Global;
+
+// Moves until the call asks for something or ends.
+pub fn step_machine(alloc: Global, machine: &mut Machine) -> SessionStep
+    requires { is_open (seen machine.old).task ≡ true }
+    ensures steps { Steps (seen machine.old) (seen machine.new) result }
+    ensures leaves { StepIs (seen machine.new) result }
+{
+    'moves: loop {
+        match machine.tick(alloc) {
+            Tick::Goes => continue,
+            Tick::PassedEnd => continue,
+            Tick::PassedRow(_) => continue,
+            Tick::Sends => return SessionStep::Send,
+            Tick::Needs => return SessionStep::Need,
+            Tick::Done(answer) => return SessionStep::Done(answer),
+            Tick::Fault(error) => return SessionStep::Fault(error),
+        }
+    }
+}

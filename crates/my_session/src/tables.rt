@@ -1,0 +1,282 @@
+//! What a task does next, and what it makes of a payload.
+
+ghost use Rattle.std.specs.Prelude.{◌≡◌, true, false};
+ghost use Rattle.my_session.specs.Tables.{plan_of, react, first_task, clean_plan, own_plan, is_breaking, is_connecting, closes_when_cancelled};
+
+use crate::call::{CallKind, Task};
+use my_grammar::{Kind, Spot};
+
+/// What is done where no bytes are owed.
+#[derive(Clone, Copy, Debug, PartialEq, Eq)]
+pub enum Plan {
+    /// The payload in front is read.
+    Reads,
+    /// The call's first task begins.
+    Starts(Task),
+    /// An end that wasn't told is dropped.
+    Hears,
+    /// The call's own command is owed.
+    Asks(CallKind),
+    /// The call is answered: its command was accepted.
+    Readies,
+    /// The session is closed.
+    Quits,
+    /// An end that wasn't told is passed over.
+    Passes,
+    /// Nothing is left to be passed over.
+    Dropped,
+    /// An end that wasn't told is told.
+    Ends,
+    /// Nothing is left to be read.
+    NoMore,
+}
+
+/// What is made of a payload.
+#[derive(Clone, Copy, Debug, PartialEq, Eq)]
+pub enum Reaction {
+    /// The call goes on with this task.
+    Goes(Task),
+    /// The call is answered; the end of a lone OK is left to be told, or not.
+    Readies(bool),
+    /// The row is the call's answer.
+    Gives,
+    /// The set's end is the call's answer.
+    Ends,
+    /// The row is passed over.
+    PassesRow,
+    /// The set's end is passed over.
+    PassesEnd,
+    /// The server's error ends the call.
+    Refuses,
+    /// The payload fits no case.
+    Breaks,
+}
+
+fn first_task(call: CallKind) -> Task
+    ensures { result ≡ first_task call }
+{
+    match call {
+        CallKind::Connect => Task::Own(call),
+        CallKind::Query | CallKind::Ping | CallKind::Quit => Task::Cleaning(call),
+        CallKind::NextRow => Task::Reading,
+        CallKind::DropResult => Task::Dropping,
+    }
+}
+
+fn clean_plan(call: CallKind, spot: Spot, untold: bool) -> Plan
+    ensures { result ≡ clean_plan call spot untold }
+{
+    match spot {
+        Spot::Idle => {
+            if untold {
+                Plan::Hears
+            } else {
+                Plan::Asks(call)
+            }
+        }
+        _ => Plan::Reads,
+    }
+}
+
+fn query_plan(spot: Spot) -> Plan
+    ensures { result ≡ own_plan CallKind.Query spot }
+{
+    match spot {
+        Spot::Rows => Plan::Readies,
+        _ => Plan::Reads,
+    }
+}
+
+fn own_plan(call: CallKind, spot: Spot) -> Plan
+    ensures { result ≡ own_plan call spot }
+{
+    match call {
+        CallKind::Query => query_plan(spot),
+        CallKind::Quit => Plan::Quits,
+        CallKind::Connect | CallKind::NextRow | CallKind::DropResult | CallKind::Ping => {
+            Plan::Reads
+        }
+    }
+}
+
+fn read_plan(spot: Spot, untold: bool) -> Plan
+    ensures { result ≡ plan_of Task.Reading spot untold }
+{
+    if untold {
+        return Plan::Ends;
+    }
+    match spot {
+        Spot::Idle => Plan::NoMore,
+        _ => Plan::Reads,
+    }
+}
+
+fn drop_plan(spot: Spot, untold: bool) -> Plan
+    ensures { result ≡ plan_of Task.Dropping spot untold }
+{
+    if untold {
+        return Plan::Passes;
+    }
+    match spot {
+        Spot::Idle => Plan::Dropped,
+        _ => Plan::Reads,
+    }
+}
+
+/// What the task does next.
+pub fn plan_for(task: Task, spot: Spot, untold: bool) -> Plan
+    ensures { result ≡ plan_of task spot untold }
+{
+    match task {
+        Task::Nothing | Task::Failing(_, _) => Plan::NoMore,
+        Task::Begun(call) => Plan::Starts(first_task(call)),
+        Task::Cleaning(call) => clean_plan(call, spot, untold),
+        Task::Own(call) => own_plan(call, spot),
+        Task::Reading => read_plan(spot, untold),
+        Task::Dropping => drop_plan(spot, untold),
+        Task::Leaving => Plan::Quits,
+    }
+}
+
+fn react_cleaning(call: CallKind, kind: Kind) -> Reaction
+    ensures { result ≡ react (Task.Cleaning call) kind }
+{
+    match kind {
+        Kind::Good(_)
+        | Kind::Count(_)
+        | Kind::Column
+        | Kind::ColumnsDone
+        | Kind::Row
+        | Kind::End(_) => Reaction::Goes(Task::Cleaning(call)),
+        Kind::Failed => Reaction::Refuses,
+        Kind::Greets(_) | Kind::Bad => Reaction::Breaks,
+    }
+}
+
+fn react_connect(kind: Kind) -> Reaction
+    ensures { result ≡ react (Task.Own CallKind.Connect) kind }
+{
+    match kind {
+        Kind::Greets(_) => Reaction::Goes(Task::Own(CallKind::Connect)),
+        Kind::Good(_) => Reaction::Readies(false),
+        Kind::Failed => Reaction::Refuses,
+        _ => Reaction::Breaks,
+    }
+}
+
+fn react_query(kind: Kind) -> Reaction
+    ensures { result ≡ react (Task.Own CallKind.Query) kind }
+{
+    match kind {
+        Kind::Good(_) => Reaction::Readies(true),
+        Kind::Count(_) | Kind::Column | Kind::ColumnsDone => {
+            Reaction::Goes(Task::Own(CallKind::Query))
+        }
+        Kind::Failed => Reaction::Refuses,
+        _ => Reaction::Breaks,
+    }
+}
+
+fn react_ping(kind: Kind) -> Reaction
+    ensures { result ≡ react (Task.Own CallKind.Ping) kind }
+{
+    match kind {
+        Kind::Good(_) => Reaction::Readies(false),
+        Kind::Failed => Reaction::Refuses,
+        _ => Reaction::Breaks,
+    }
+}
+
+fn react_own(call: CallKind, kind: Kind) -> Reaction
+    ensures { result ≡ react (Task.Own call) kind }
+{
+    match call {
+        CallKind::Connect => react_connect(kind),
+        CallKind::Query => react_query(kind),
+        CallKind::Ping => react_ping(kind),
+        CallKind::NextRow | CallKind::DropResult | CallKind::Quit => Reaction::Breaks,
+    }
+}
+
+fn react_reading(kind: Kind) -> Reaction
+    ensures { result ≡ react Task.Reading kind }
+{
+    match kind {
+        Kind::Good(_) | Kind::End(_) => Reaction::Ends,
+        Kind::Count(_) | Kind::Column | Kind::ColumnsDone => Reaction::Goes(Task::Reading),
+        Kind::Row => Reaction::Gives,
+        Kind::Failed => Reaction::Refuses,
+        Kind::Greets(_) | Kind::Bad => Reaction::Breaks,
+    }
+}
+
+fn react_dropping(kind: Kind) -> Reaction
+    ensures { result ≡ react Task.Dropping kind }
+{
+    match kind {
+        Kind::Good(_) | Kind::End(_) => Reaction::PassesEnd,
+        Kind::Count(_) | Kind::Column | Kind::ColumnsDone => Reaction::Goes(Task::Dropping),
+        Kind::Row => Reaction::PassesRow,
+        Kind::Failed => Reaction::Refuses,
+        Kind::Greets(_) | Kind::Bad => Reaction::Breaks,
+    }
+}
+
+/// What the task makes of a payload of this kind.
+pub fn react_to(task: Task, kind: Kind) -> Reaction
+    ensures { result ≡ react task kind }
+{
+    match task {
+        Task::Nothing | Task::Begun(_) | Task::Leaving | Task::Failing(_, _) => Reaction::Breaks,
+        Task::Cleaning(call) => react_cleaning(call, kind),
+        Task::Own(call) => react_own(call, kind),
+        Task::Reading => react_reading(kind),
+        Task::Dropping => react_dropping(kind),
+    }
+}
+
+/// Whether a payload fits no case.
+pub fn is_breaking(reaction: Reaction) -> bool
+    ensures { result ≡ is_breaking reaction }
+{
+    match reaction {
+        Reaction::Breaks => true,
+        Reaction::Goes(_)
+        | Reaction::Readies(_)
+        | Reaction::Gives
+        | Reaction::Ends
+        | Reaction::PassesRow
+        | Reaction::PassesEnd
+        | Reaction::Refuses => false,
+    }
+}
+
+/// Whether the session isn't connected yet.
+pub fn is_connecting(task: Task) -> bool
+    ensures { result ≡ is_connecting task }
+{
+    match task {
+        Task::Own(CallKind::Connect) => true,
+        _ => false,
+    }
+}
+
+fn awaits_head(spot: Spot) -> bool
+    ensures { result ≡ closes_when_cancelled Task.Reading spot }
+{
+    match spot {
+        Spot::Idle | Spot::Rows => false,
+        _ => true,
+    }
+}
+
+/// Whether the open call closes the session where it is cancelled.
+pub fn closes_when_cancelled(task: Task, spot: Spot) -> bool
+    ensures { result ≡ closes_when_cancelled task spot }
+{
+    match task {
+        Task::Nothing | Task::Begun(_) | Task::Leaving => false,
+        Task::Cleaning(_) | Task::Own(_) | Task::Failing(_, _) => true,
+        Task::Reading | Task::Dropping => awaits_head(spot),
+    }
+}
