@@ -1,0 +1,11 @@
+pub mod Finding
+pub mod Rising
+pub mod Fewer
+pub mod Quiet
+pub mod Moving
+pub mod Holding
+pub mod Opening
+pub mod Kept
+pub mod Places
+pub mod Keeping
+pub mod Retiring

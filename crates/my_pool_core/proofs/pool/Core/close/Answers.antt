@@ -1,0 +1,7 @@
+use Rattle.std.proofs.Common.{◌≡◌, true, sym, subst, rules, arith}
+use Rattle.my_pool_core.specs.contracts.pool.Core.{the_view}
+use Rattle.my_pool_core.proofs.Keeping.{kept-close}
+use Rattle.my_pool_core.proofs.pool.Core.close.Goals as goal
+
+pub invariant_of-self : goal.invariant_of-self
+invariant_of-self c = kept-close (the_view c.self.inside) _ _ _ c.self.invariant (cc) (omega arith)

@@ -1,0 +1,15 @@
+use Rattle.std.proofs.Common.{◌≡◌, ◌<◌, ◌≤◌, ◌+◌, true, false, refl, sym, ap, ◌∙◌, subst, arith, inl, inr}
+use Rattle.my_pool_core.specs.contracts.pool.Core.{the_view}
+use Rattle.my_pool_core.proofs.Keeping.{next-there, kept-next}
+use Rattle.my_pool_core.specs.Connections.{next_to_clean}
+use Rattle.my_pool_core.proofs.pool.Core.take_returned.Goals as goal
+
+pub move_to-requires : goal.move_to-requires
+move_to-requires c =
+    let found = ap (next_to_clean c.self.inside.closed) (sym c.deref.ensures.value) ∙ sym c.next_to_clean.ensures ∙ c.in-Some.is in
+    next-there (the_view c.self.inside) c.in-Some.next c.self.invariant.sound found
+
+pub invariant_of-self : goal.invariant_of-self
+invariant_of-self c =
+    let found = ap (next_to_clean c.self.inside.closed) (sym c.deref.ensures.value) ∙ sym c.next_to_clean.ensures ∙ c.in-Some.is in
+    kept-next (the_view c.self.inside) _ _ _ c.in-Some.next c.self.invariant found (cc) (omega (arith, c.move_to.ensures.capacity))

@@ -1,0 +1,15 @@
+use Rattle.std.proofs.Common.{◌≡◌, sym, ◌∙◌, ap, true, false, cond, set}
+use Rattle.my_pool_core.proofs.Finding.{change-position, change-nothing}
+use Rattle.my_pool_core.specs.Requests.{has_age, standing_as}
+use Rattle.std.specs.List.{position}
+use Rattle.my_pool_core.proofs.request.set_standing.Goals as goal
+
+pub returns-in-Some : goal.returns-in-Some
+returns-in-Some c =
+    let e = ap (position (has_age c.args.age)) (sym c.deref.ensures.value) ∙ sym c.index_of.ensures ∙ c.in-Some.is in
+    ap (set c.args.requests.now.items c.in-Some.index) (c.with_standing.ensures ∙ ap (standing_as c.args.standing) c.index.ensures) ∙ sym (change-position (has_age c.args.age) (standing_as c.args.standing) c.args.requests.now.items c.in-Some.index c.index.result.now e)
+
+pub returns-in_default : goal.returns-in_default
+returns-in_default c =
+    let e = ap (position (has_age c.args.age)) (sym c.deref.ensures.value) ∙ sym c.index_of.ensures ∙ c.in_default.is in
+    sym (change-nothing (has_age c.args.age) (standing_as c.args.standing) c.args.requests.now.items e)

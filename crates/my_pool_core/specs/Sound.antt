@@ -1,0 +1,105 @@
+-- What holds of each state of a pool.
+use Rattle.std.specs.Prelude.{◌≡◌, ℕ, ◌+◌, ◌-◌, ◌<◌, ◌≤◌, Bool, true, false, ◌||◌, ◌&&◌, ◌==◌, not, nat_lt, nat_le, List, [], ◌∷◌, length, if◌then◌else◌}
+use Rattle.my_pool_core.specs.declared.connection.Connection.{Connection}
+use Rattle.my_pool_core.specs.declared.request.Request.{Request}
+use Rattle.my_pool_core.specs.declared.request.Standing.{Standing}
+use Rattle.my_pool_core.specs.declared.request.Standing.TheVariants.{Asks, Waits, Woken, Dials, Checks}
+use Rattle.my_pool_core.specs.Lists.{how_many}
+use Rattle.my_pool_core.specs.Connections.{has_number, is_idle, is_connecting, is_checking}
+use Rattle.my_pool_core.specs.Requests.{last_age, has_age, is_waiting, is_woken, is_free, is_queued, may_dial}
+use Rattle.my_pool_core.specs.State.{State}
+
+-- a request that makes the connection of this number
+abbrev pub dials_standing : ℕ → Standing → Bool
+dials_standing number (Dials held) = held == number
+dials_standing number _ = false
+
+-- a request that looks at the connection of this number
+abbrev pub checks_standing : ℕ → Standing → Bool
+checks_standing number (Checks held) = held == number
+checks_standing number _ = false
+
+abbrev pub dials : ℕ → Request → Bool
+dials number r = dials_standing number r.standing
+
+abbrev pub checks : ℕ → Request → Bool
+checks number r = checks_standing number r.standing
+
+-- the connection of this number, being made
+abbrev pub connects : ℕ → Connection → Bool
+connects number c = is_connecting c && has_number number c
+
+-- the connection of this number, being looked at
+abbrev pub is_checked : ℕ → Connection → Bool
+is_checked number c = is_checking c && has_number number c
+
+-- a number that isn't below the next one
+abbrev pub is_unnumbered : ℕ → Connection → Bool
+is_unnumbered next c = nat_le next c.number
+
+-- an age that is neither below the next one nor the last one
+abbrev pub is_unborn : ℕ → Request → Bool
+is_unborn next r = nat_le next r.age && not (r.age == last_age)
+
+-- waiting or woken, and not marked as having waited
+abbrev pub is_unmarked : Request → Bool
+is_unmarked r = is_queued r && not r.waited
+
+-- a request that may be given one more number
+abbrev pub is_dialer : Request → Bool
+is_dialer r = may_dial r && not (r.age == last_age)
+
+-- the one of the last age, with a connection
+abbrev pub is_last_holder : Request → Bool
+is_last_holder r = not (is_free r) && has_age last_age r
+
+-- the ages rise, from this one on
+abbrev pub IsRising : ℕ → List Request → Type 0
+IsRising low [] = Unit {0}
+IsRising low (r ∷ rs) = (low ≤ r.age) × IsRising (r.age + 1) rs
+
+-- A state is sound. Each number and each age stands once. Each connection that is being made or looked at has one
+-- request that does it, and each such request has that connection. There are no more connections and no more idle
+-- ones than may be, and there are numbers and room for those that may still be made.
+pub record IsSound (s : State) : Type 0 where
+  -- counted is at most `max`, and idle at most `bound`
+  pub few : length s.connections ≤ s.limits.max
+  pub few_idle : how_many is_idle s.connections ≤ s.limits.bound
+  -- each number is counted at most once, and is below the next one
+  pub once : (number : ℕ) → how_many (has_number number) s.connections ≤ 1
+  pub numbered : how_many (is_unnumbered s.next_number) s.connections ≡ 0
+  -- each age is live at most once, and is below the next one, but for the last one
+  pub rising : IsRising 0 s.requests
+  pub ages_left : s.next_age ≤ last_age
+  pub born : how_many (is_unborn s.next_age) s.requests ≡ 0
+  -- connecting and checking connections, and the requests that hold them
+  pub made : (number : ℕ) → how_many (dials number) s.requests ≡ how_many (connects number) s.connections
+  pub looked_at : (number : ℕ) → how_many (checks number) s.requests ≡ how_many (is_checked number) s.connections
+  -- each waiting or woken request is marked as having waited
+  pub marked : how_many is_unmarked s.requests ≡ 0
+  -- numbers and room for the requests that may dial
+  pub numbers_left : s.next_number + how_many is_dialer s.requests ≤ last_age
+  pub room : how_many is_dialer s.requests ≤ s.spare
+  -- where the pool is closed nobody waits; where it is settled it is closed and counts nothing
+  pub none_waits : s.closed ≡ true → how_many is_waiting s.requests ≡ 0
+  pub settled : s.settled ≡ true → (s.closed ≡ true) × (length s.connections ≡ 0)
+  -- the last age closes the pool, and holds no connection
+  pub last_closes : 0 < how_many (has_age last_age) s.requests → s.closed ≡ true
+  pub last_is_free : how_many is_last_holder s.requests ≡ 0
+
+-- the woken requests that stand before the first waiting one: those that are older than each that waits
+abbrev pub woken_first : List Request → ℕ
+woken_first [] = 0
+woken_first (r ∷ rs) = if is_waiting r then 0 else (if is_woken r then 1 else 0) + woken_first rs
+
+-- Where a pool is open and a request waits, the woken requests that are older than each waiting one are at least as
+-- many as the idle connections and those that may still be made. So none waits in vain.
+abbrev pub IsCovered : State → Type 0
+IsCovered s =
+    s.closed ≡ false → 0 < how_many is_waiting s.requests
+    → how_many is_idle s.connections + (s.limits.max - length s.connections) ≤ woken_first s.requests
+
+-- What a pool keeps of its memory beside its state: the counted connections and the room lie in one list.
+pub record IsKept (s : State) (capacity : ℕ) : Type 0 where
+  pub sound : IsSound s
+  pub reserved : length s.connections + s.spare ≤ capacity

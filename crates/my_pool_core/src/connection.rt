@@ -1,0 +1,284 @@
+//! A counted connection and its place.
+
+ghost use Rattle.std.specs.Prelude.{◌≡◌, ◌≤◌, ◌++◌, [], ◌∷◌, IsTrue, length, find, position, remove, slice_index_or, ◌<◌, vec_len, vec_capacity};
+ghost use Rattle.std.specs.List.{list_any};
+ghost use Rattle.my_pool_core.specs.Lists.{how_many, found_is, without};
+ghost use Rattle.my_pool_core.specs.Connections.{placed, returned, has_number, is_idle, is_idle_place, is_leased, is_leased_place, is_past, is_over, is_usable, is_usable_place, is_outdated, is_cleaning, is_resetting, is_closing, is_returned, is_marked, mark_of_place, move_to, latest_usable, retire, lasting, outdated, next_to_clean};
+
+/// What an idle connection's life is measured by, in milliseconds.
+#[derive(Clone, Copy, Debug, PartialEq, Eq)]
+pub struct Times {
+    /// The moment at which it became idle.
+    pub since: u64,
+    /// The moment up to which it may be used.
+    pub deadline: Option<u128>,
+    /// The moment of its last read.
+    pub last_io: u64,
+    /// How long it may be used after its last read; 0 is without an end.
+    pub ttl: u128,
+}
+
+/// Where a counted connection is.
+#[derive(Clone, Copy, Debug, PartialEq, Eq)]
+pub enum Place {
+    /// It waits in the pool, clean, to be handed out.
+    Idle(Times),
+    /// It is handed out.
+    Leased,
+    /// A request makes it.
+    Connecting,
+    /// A request looks whether it still answers.
+    Checking,
+    /// It came back and waits for its turn; marked where its time as an idle one was over.
+    Returned { marked: bool },
+    /// What is left of its last use is being read.
+    Cleaning { marked: bool },
+    /// Its session is being reset.
+    Resetting,
+    /// It is being closed.
+    Closing,
+}
+
+/// A counted connection.
+#[derive(Clone, Copy, Debug, PartialEq, Eq)]
+pub struct Connection {
+    /// Its number, which no other one of the pool ever has.
+    pub number: u64,
+    pub place: Place,
+}
+
+impl Times {
+    /// Whether a moment is above the deadline.
+    fn is_past(&self, now: u64) -> bool
+        ensures { result ≡ is_past now self.now.deadline }
+    {
+        match self.deadline {
+            None => false,
+            Some(deadline) => deadline < u128::from(now),
+        }
+    }
+
+    /// Whether the connection may no longer be used.
+    fn is_over(&self, now: u64) -> bool
+        ensures { result ≡ is_over now self.now }
+    {
+        self.is_past(now)
+            || (0 < self.ttl && self.ttl < u128::from(now.saturating_sub(self.last_io)))
+    }
+}
+
+impl Place {
+    /// Whether it is idle and may be used.
+    fn is_usable(&self, now: u64) -> bool
+        ensures { result ≡ is_usable_place now self.now }
+    {
+        match self {
+            Place::Idle(times) => !times.is_over(now),
+            _ => false,
+        }
+    }
+
+    /// Whether it is idle and doesn't stay, where `moved` of `many` that need not stay have gone before it.
+    fn is_outdated(&self, now: u64, inactive: u128, many: usize, moved: usize) -> bool
+        ensures { result ≡ is_outdated now inactive many moved self.now }
+    {
+        match self {
+            Place::Idle(times) => {
+                times.is_past(now)
+                    || (moved < many && inactive < u128::from(now.saturating_sub(times.since)))
+            }
+            _ => false,
+        }
+    }
+
+    /// Whether it was marked when its time as an idle one was over.
+    pub fn mark(&self) -> bool
+        ensures { result ≡ mark_of_place self.now }
+    {
+        match self {
+            Place::Returned { marked } | Place::Cleaning { marked } => *marked,
+            _ => false,
+        }
+    }
+}
+
+impl Connection {
+    /// Whether it is idle.
+    pub fn is_idle(&self) -> bool
+        ensures { result ≡ is_idle self.now }
+    {
+        matches!(self.place, Place::Idle(_))
+    }
+
+    /// Whether it is handed out.
+    pub fn is_leased(&self) -> bool
+        ensures { result ≡ is_leased self.now }
+    {
+        matches!(self.place, Place::Leased)
+    }
+
+    /// Whether it is returned.
+    pub fn is_returned(&self) -> bool
+        ensures { result ≡ is_returned self.now }
+    {
+        matches!(self.place, Place::Returned { .. })
+    }
+
+    /// Whether it is being cleaned.
+    pub fn is_cleaning(&self) -> bool
+        ensures { result ≡ is_cleaning self.now }
+    {
+        matches!(self.place, Place::Cleaning { .. })
+    }
+
+    /// Whether it is being reset.
+    pub fn is_resetting(&self) -> bool
+        ensures { result ≡ is_resetting self.now }
+    {
+        matches!(self.place, Place::Resetting)
+    }
+
+    /// Whether it is being closed.
+    pub fn is_closing(&self) -> bool
+        ensures { result ≡ is_closing self.now }
+    {
+        matches!(self.place, Place::Closing)
+    }
+}
+
+/// The connection of a number.
+pub(crate) fn connection_of(connections: &[Connection], number: u64) -> Option<Connection>
+    ensures { result ≡ find (has_number number) connections.now }
+{
+    match index_of(connections, number) {
+        Some(index) => Some(connections[index]),
+        None => None,
+    }
+}
+
+/// Whether the connection of a number is marked.
+pub(crate) fn is_marked(connections: &[Connection], number: u64) -> bool
+    ensures { result ≡ found_is is_marked (find (has_number number) connections.now) }
+{
+    match connection_of(connections, number) {
+        Some(connection) => connection.place.mark(),
+        None => false,
+    }
+}
+
+/// Whether the connection of a number is being reset.
+pub(crate) fn is_resetting(connections: &[Connection], number: u64) -> bool
+    ensures { result ≡ found_is is_resetting (find (has_number number) connections.now) }
+{
+    match connection_of(connections, number) {
+        Some(connection) => connection.is_resetting(),
+        None => false,
+    }
+}
+
+/// How many are idle.
+pub(crate) fn count_idle(connections: &[Connection]) -> usize
+    ensures { result ≡ how_many is_idle connections.now }
+{
+    connections.iter().filter(|c| c.is_idle()).count()
+}
+
+/// How many are handed out.
+pub(crate) fn count_leased(connections: &[Connection]) -> usize
+    ensures { result ≡ how_many is_leased connections.now }
+{
+    connections.iter().filter(|c| c.is_leased()).count()
+}
+
+/// The index of the connection that returned first.
+fn first_returned(connections: &[Connection]) -> Option<usize>
+    ensures { result ≡ position is_returned connections.now }
+{
+    connections.iter().position(|c| c.is_returned())
+}
+
+/// The index of the connection that is idle longest.
+fn first_idle(connections: &[Connection]) -> Option<usize>
+    ensures { result ≡ position is_idle connections.now }
+{
+    connections.iter().position(|c| c.is_idle())
+}
+
+/// The connection whose turn it is to be cleaned: the one that returned first, or where the pool is closed and none is
+/// returned the one that is idle longest.
+pub(crate) fn next_to_clean(connections: &[Connection], closed: bool) -> Option<Connection>
+    ensures { result ≡ next_to_clean closed connections.now }
+{
+    if let Some(index) = first_returned(connections) {
+        return Some(connections[index]);
+    }
+    if !closed {
+        return None;
+    }
+    match first_idle(connections) {
+        Some(index) => Some(connections[index]),
+        None => None,
+    }
+}
+
+/// The index of the connection of a number.
+pub(crate) fn index_of(connections: &[Connection], number: u64) -> Option<usize>
+    ensures { result ≡ position (has_number number) connections.now }
+{
+    connections.iter().position(|c| c.number == number)
+}
+
+/// Takes the connection of a number out.
+pub(crate) fn take_out(connections: &mut Vec<Connection>, number: u64)
+    ensures items { connections.new.items ≡ without (has_number number) connections.old.items }
+    ensures capacity { vec_capacity connections.new ≡ vec_capacity connections.old }
+{
+    if let Some(index) = index_of(connections, number) {
+        connections.remove(index);
+    }
+}
+
+/// The connection of a number gets a place, and goes to the end.
+pub(crate) fn move_to(connections: &mut Vec<Connection>, number: u64, place: Place)
+    requires { IsTrue (list_any (has_number number) connections.old.items) }
+    ensures items { connections.new.items ≡ move_to number place connections.old.items }
+    ensures capacity { vec_capacity connections.old ≤ vec_capacity connections.new }
+{
+    take_out(connections, number);
+    connections.push(Connection { number, place }).unwrap();
+}
+
+/// The connection at an index is returned, and goes to the end.
+fn return_at(connections: &mut Vec<Connection>, index: usize, marked: bool)
+    requires { index < vec_len connections.old }
+    ensures items { (d : Connection) → connections.new.items ≡ remove connections.old.items index ++ placed (slice_index_or connections.old.items index d).number (returned marked) ∷ [] }
+    ensures capacity { vec_capacity connections.old ≤ vec_capacity connections.new }
+{
+    let number = connections.remove(index).number;
+    connections
+        .push(Connection {
+            number,
+            place: Place::Returned { marked },
+        })
+        .unwrap();
+}
+
+/// The idle connections from the latest on, up to one that isn't expired, are returned; answers that one.
+pub(crate) fn retire(connections: &mut Vec<Connection>, now: u64) -> Option<u64>
+    ensures items { connections.new.items ≡ retire now connections.old.items }
+    ensures latest { result ≡ latest_usable now connections.old.items }
+    ensures capacity { vec_capacity connections.old ≤ vec_capacity connections.new }
+{
+    let mut index = connections.len();
+    while index > 0 {
+        index -= 1;
+        let connection = connections[index];
+        if connection.place.is_usable(now) {
+            return Some(connection.number);
+        }
+        if connection.is_idle() {
+            return_at(connections, index, false);
+        }
+    }
+    None
+}

@@ -1,0 +1,14 @@
+//! The pool on plain numbers: which connection goes where, and who waits, without a link, a thread or a lock.
+#![tactic(auto)]
+
+mod connection;
+mod event;
+mod limits;
+mod pool;
+mod request;
+
+pub use connection::{Connection, Place, Times};
+pub use event::{Answer, Facts, PollAnswer, PoolEvent, Verdict};
+pub use limits::{Counts, Limits};
+pub use pool::Core;
+pub use request::{Request, Standing};

@@ -1,0 +1,81 @@
+//! A pool's state.
+
+ghost use Rattle.std.specs.Prelude.{◌≡◌, IsTrue, OnOk};
+ghost use Rattle.my_pool_core.specs.Events.{new_pool};
+
+mod asking;
+mod returning;
+mod whole;
+
+use crate::connection::Connection;
+use crate::limits::{Counts, Limits};
+use crate::request::Request;
+use std::alloc::Global;
+use std::marker::Model;
+
+/// A pool on plain numbers: its connections are numbers, and its requests are their ages.
+///
+/// Each event is a method. Only `request` takes memory.
+#[derive(Debug, Drop)]
+pub struct Core {
+    limits: Limits,
+    closed: bool,
+    settled: bool,
+    connections: Vec<Connection>,
+    requests: Vec<Request>,
+    next_age: u64,
+    next_number: u64,
+    spare: u64,
+    counts: Counts,
+}
+
+impl Model for Core {
+    ghost use Rattle.std.specs.Prelude.{vec_capacity};
+    ghost use Rattle.my_pool_core.specs.State.{State};
+    ghost use Rattle.my_pool_core.specs.Sound.{IsKept};
+
+    ghost Value = { State };
+
+    ghost view = { λ c. record {
+      limits = c.limits;
+      closed = c.closed;
+      settled = c.settled;
+      connections = c.connections.items;
+      requests = c.requests.items;
+      next_age = c.next_age;
+      next_number = c.next_number;
+      spare = c.spare;
+      counts = c.counts;
+    } };
+
+    ghost invariant = { λ c. IsKept (record {
+      limits = c.limits;
+      closed = c.closed;
+      settled = c.settled;
+      connections = c.connections.items;
+      requests = c.requests.items;
+      next_age = c.next_age;
+      next_number = c.next_number;
+      spare = c.spare;
+      counts = c.counts;
+    }) (vec_capacity c.connections) };
+}
+
+impl Core {
+    /// A pool with no connection, the first of which will have the number `first`.
+    fn with_limits(alloc: Global, limits: Limits, first: u64) -> Core
+        ensures { result ≡ new_pool limits first }
+    {
+        Core {
+            limits,
+            closed: false,
+            settled: false,
+            connections: Vec::new(alloc),
+            requests: Vec::new(alloc),
+            next_age: 0,
+            next_number: first,
+            spare: 0,
+            counts: Counts::new(),
+        }
+    }
+}

@@ -1,0 +1,138 @@
+//! The events of a connection that is handed out or came back.
+
+ghost use Rattle.std.specs.Prelude.{◌≡◌, IsTrue};
+ghost use Rattle.my_pool_core.specs.Events.{may_move, freed, may_give_back, give_back, detach, take_returned, may_decide, keep, decide, may_done, done};
+
+use super::Core;
+use crate::connection::{
+    Place, Times, count_idle, is_marked, is_resetting, move_to, next_to_clean, take_out,
+};
+use crate::event::{Facts, Verdict};
+use crate::request::wake;
+
+impl Core {
+    /// A leased connection comes back.
+    pub fn give_back(&mut self, conn: u64)
+        requires { IsTrue (may_give_back conn self.old) }
+        ensures { self.new ≡ give_back conn self.old }
+    {
+        move_to(
+            &mut self.connections,
+            conn,
+            Place::Returned { marked: false },
+        );
+    }
+
+    /// A connection that no request holds is no longer counted, and the oldest waiting request is woken.
+    fn free(&mut self, conn: u64)
+        requires { IsTrue (may_move conn self.old) }
+        ensures { self.new ≡ freed conn self.old.requests self.old }
+    {
+        take_out(&mut self.connections, conn);
+        self.spare += 1;
+        wake(&mut self.requests);
+    }
+
+    /// A leased connection is taken out of the pool for good.
+    pub fn detach(&mut self, conn: u64)
+        requires { IsTrue (may_give_back conn self.old) }
+        ensures { self.new ≡ detach conn self.old }
+    {
+        self.free(conn);
+    }
+
+    /// The next connection to be cleaned: the one that returned first, or where the pool is closed and none is returned
+    /// the one that is idle longest.
+    ///
+    /// Where there is none and a closed pool counts none, the pool is seen to be gone.
+    pub fn take_returned(&mut self) -> Option<u64>
+        ensures state { self.new ≡ (take_returned self.old).state }
+        ensures answer { result ≡ (take_returned self.old).answer }
+    {
+        match next_to_clean(&self.connections, self.closed) {
+            Some(next) => {
+                let marked = next.place.mark();
+                move_to(
+                    &mut self.connections,
+                    next.number,
+                    Place::Cleaning { marked },
+                );
+                Some(next.number)
+            }
+            None => {
+                self.settled = self.settled || (self.closed && self.connections.is_empty());
+                None
+            }
+        }
+    }
+
+    /// A connection is kept, unless enough are idle.
+    fn keep(&mut self, conn: u64, facts: Facts, now: u64) -> Verdict
+        requires { IsTrue (may_move conn self.old) }
+        ensures state { self.new ≡ (keep conn facts now self.old).state }
+        ensures answer { result ≡ (keep conn facts now self.old).answer }
+    {
+        if self.limits.bound <= count_idle(&self.connections) as u64 {
+            move_to(&mut self.connections, conn, Place::Closing);
+            self.counts.superfluous();
+            return Verdict::Close;
+        }
+        move_to(
+            &mut self.connections,
+            conn,
+            Place::Idle(facts.idle_since(now)),
+        );
+        wake(&mut self.requests);
+        self.counts.kept();
+        Verdict::Keep
+    }
+
+    /// What is to be done with a connection that is being cleaned.
+    pub fn decide(&mut self, conn: u64, facts: Facts, now: u64) -> Verdict
+        requires { IsTrue (may_decide conn self.old) }
+        ensures state { self.new ≡ (decide conn facts now self.old).state }
+        ensures answer { result ≡ (decide conn facts now self.old).answer }
+    {
+        if facts.link_closed {
+            self.counts.unestablished();
+            self.free(conn);
+            return Verdict::Drop;
+        }
+        if facts.dirty {
+            self.counts.dirty_return();
+            return Verdict::Clean;
+        }
+        if facts.expired || is_marked(&self.connections, conn) || self.closed {
+            move_to(&mut self.connections, conn, Place::Closing);
+            self.counts.outlived();
+            return Verdict::Close;
+        }
+        if facts.reset {
+            move_to(&mut self.connections, conn, Place::Resetting);
+            self.counts.being_reset();
+            return Verdict::Reset;
+        }
+        self.keep(conn, facts, now)
+    }
+
+    /// A reset, a close, or a cleaning that failed came to its end.
+    pub fn done(&mut self, conn: u64, ok: bool, facts: Facts, now: u64) -> Verdict
+        requires { IsTrue (may_done conn ok self.old) }
+        ensures state { self.new ≡ (done conn ok facts now self.old).state }
+        ensures answer { result ≡ (done conn ok facts now self.old).answer }
+    {
+        if ok && is_resetting(&self.connections, conn) {
+            if self.closed {
+                move_to(&mut self.connections, conn, Place::Closing);
+                self.counts.superfluous();
+                return Verdict::Close;
+            }
+            return self.keep(conn, facts, now);
+        }
+        if !ok {
+            self.counts.cleanup_failed();
+        }
+        self.free(conn);
+        Verdict::Drop
+    }
+}
