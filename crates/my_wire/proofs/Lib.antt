@@ -18,6 +18,7 @@ pub mod Putting
 mod ReadingLaws
 mod ReplyLaws
 pub mod Scanning
+mod ServerLaws
 mod StatementLaws
 mod SwitchLaws
 pub mod WholeHeads

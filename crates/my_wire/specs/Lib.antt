@@ -17,6 +17,7 @@ pub mod OkPacket
 pub mod Outside
 pub mod Reading
 pub mod Replies
+pub mod Sent
 pub mod Server
 pub mod Sinks
 pub mod Sources
