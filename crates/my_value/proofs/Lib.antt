@@ -1,4 +1,6 @@
 pub mod BinaryRowLaws
+pub mod BitmapLaws
+pub mod BulkLaws
 pub mod DecimalLaws
 pub mod FillLaws
 pub mod GatherLaws

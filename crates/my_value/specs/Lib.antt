@@ -1,12 +1,15 @@
 pub mod BinaryCell
 pub mod BinaryRow
+pub mod BulkBody
 pub mod Cell
 pub mod CellForm
 pub mod Conversions
+pub mod ExecuteBody
 pub mod NamedParams
 pub mod ParamValues
 pub mod Refusals
 pub mod RowConversions
 pub mod RowParts
+pub mod Sending
 pub mod SqlText
 pub mod TextRow
