@@ -9,6 +9,7 @@ use Rattle.my_grammar.specs.Kinds.{kind_there}
 use Rattle.my_grammar.specs.Talk.{Talk, Fits, turns, number_of, server_bytes, context_of, limit_of, origin, login_in}
 use Rattle.my_grammar.specs.Growth.{grow, Grows}
 use Rattle.my_grammar.specs.Cut.{Read, front_of, kind_of, read_payload, read_front, read_within, read_from}
+use Rattle.my_grammar.specs.CutLaws.{StopsAt}
 use Rattle.my_grammar.proofs.Fronts.{takes_whole}
 use Rattle.my_grammar.proofs.Growth.{grows, reads, any_login}
 
@@ -68,3 +69,18 @@ goes_on t k p e good short fits r =
           let bytes : server_bytes (turns (grow k t p)) ++ rest ≡ server_bytes (turns t) ++ (chunks p n ++ rest) = ap (λ bs. bs ++ rest) (ap server_bytes (gr.turns_are any_login) ∙ (reads (login_in any_login t) k p (turns t)).server) ∙ append_assoc (server_bytes (turns t)) (chunks p n) rest in
           ap (λ (u : Talk). read_from u (server_bytes (turns (grow k t p)) ++ rest)) gr.origin_is ∙ ap (λ (bs : List ℕ). read_from (origin t) bs) bytes ∙ r.reaches (chunks p n ++ rest) ∙ reads_one t (chunks p n ++ rest) p rest (number_behind p n) k (found p rest n (limit_of t) short) e good;
     }
+
+-- where nothing may be read, reading gives what there is
+stopped : (t : Talk) (bytes : List ℕ) (x : Front) (go : Talk → List ℕ → Read) → StopsAt t x → read_front t bytes x go ≡ record { talk = t; rest = bytes }
+stopped t bytes Waiting go s = refl
+stopped t bytes (Broken fault) go s = refl
+stopped t bytes (Whole p rest next) go s = ap (λ (b : Bool). cond b (let r : Read = record { talk = t; rest = bytes } in r) (go (grow (kind_of t p) t p) rest)) s
+
+stopped_within : (f : ℕ) (t : Talk) (bytes : List ℕ) → StopsAt t (front_of t bytes) → read_within f t bytes ≡ record { talk = t; rest = bytes }
+unfolding read_within
+stopped_within zero t bytes s = refl
+stopped_within (suc f) t bytes s = stopped t bytes (front_of t bytes) (read_within f) s
+
+pub stops_reads_none : (t : Talk) (bytes : List ℕ) → StopsAt t (front_of t bytes) → read_from t bytes ≡ record { talk = t; rest = bytes }
+unfolding read_from
+stops_reads_none t bytes s = stopped_within (length bytes) t bytes s

@@ -5,3 +5,5 @@ pub mod Fronts
 pub mod Cutting
 pub mod Reaching
 pub mod Sound
+pub mod InFronts
+pub mod PlainSteps

@@ -8,3 +8,5 @@ pub mod Talk
 pub mod Growth
 pub mod Cut
 pub mod CutLaws
+pub mod Reading
+pub mod Progress

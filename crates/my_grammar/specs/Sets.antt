@@ -5,6 +5,7 @@ use Rattle.my_grammar.specs.declared.spot.Spot.{Spot}
 use Rattle.my_grammar.specs.declared.spot.Spot.TheVariants as spots
 use Rattle.my_grammar.specs.declared.spot.Kind.{Kind}
 use Rattle.my_grammar.specs.declared.spot.Kind.TheVariants as kinds
+pub use Rattle.my_grammar.specs.declared.packet.Packet.{Packet}
 use Rattle.my_grammar.specs.declared.spot.Terms.{Terms}
 use Rattle.my_grammar.specs.declared.spot.Context.{Context}
 use Rattle.my_grammar.specs.Contexts.{more}
@@ -27,11 +28,6 @@ pub data Sets : Type 0 where
   Begun : (older : Sets) (head : SetHead) (rows : List (List ℕ)) → Sets
   Ended : (older : Sets) (head : SetHead) (rows : List (List ℕ)) (last : List ℕ) (status : ℕ) → Sets
   Broken : (older : Sets) (head : SetHead) (rows : List (List ℕ)) (last : List ℕ) → Sets
-
--- a payload with what it is
-pub record Packet : Type 0 where
-  pub kind : Kind
-  pub payload : List ℕ
 
 -- payloads of one kind, in front of others
 abbrev pub each : Kind → List (List ℕ) → List Packet → List Packet

@@ -5,12 +5,18 @@
 mod kinds;
 pub mod laws;
 mod login;
+mod packet;
+mod plain;
+mod progress;
 mod queue;
 mod scramble;
 mod spot;
 
 pub use kinds::kind_at;
 pub use login::{Login, login_response};
+pub use packet::Packet;
+pub use plain::{CutRest, Found, cut_bytes};
+pub use progress::{DEFAULT_LIMIT, Opening, Progress};
 pub use queue::Queue;
 pub use scramble::native_answer;
 pub use spot::{Context, Kind, Spot, Terms};

@@ -1,0 +1,6 @@
+-- What was found stands in front.
+use Rattle.my_grammar.proofs.InFronts.{found_stands}
+use Rattle.my_grammar.proofs.progress.whole_in_front.Goals as goal
+
+pub returns-in-Ok : goal.returns-in-Ok
+returns-in-Ok c = found_stands c.args.number c.args.limit c.args.bytes.now c.in-Ok.found c.in-Ok.ensures.means c.in-Ok.ensures.framed

@@ -1,0 +1,60 @@
+-- One move of the program that cuts bytes.
+use Rattle.std.specs.Prelude.{◌≡◌, ℕ, ◌<◌, ◌≤◌, List, [], ◌∷◌, ◌++◌, length, drop, true, false}
+use Rattle.my_wire.specs.declared.front.FramedPayload.{FramedPayload}
+use Rattle.my_wire.specs.Chunks.{number_behind}
+use Rattle.my_wire.specs.Front.{Front, Waiting, Broken, Whole, front_at}
+use Rattle.my_grammar.specs.declared.spot.Context.{Context}
+use Rattle.my_grammar.specs.Kinds.{kind_there}
+use Rattle.my_grammar.specs.declared.login.Login.{Login}
+use Rattle.my_grammar.specs.declared.spot.Kind.{Kind}
+use Rattle.my_grammar.specs.declared.progress.Progress.{Progress}
+use Rattle.my_grammar.specs.Contexts.{context_after, is_bad}
+use Rattle.my_grammar.specs.Growth.{number_next, said}
+
+-- A payload of this kind is heard, and answered.
+pub record Hears (login : Login) (k : Kind) (p : List ℕ) (old new : Progress) : Type 0 where
+  pub context : new.context ≡ context_after old.context k
+  pub number : new.number ≡ number_next login k p old.number
+  pub packets : new.packets.items ≡ old.packets.items ++ record { kind = k; payload = p } ∷ []
+  pub sent : new.sent ≡ old.sent ++ said login k p old.number
+
+-- The payload that was found stands in front, and its span leads behind it.
+pub record InFront (n limit : ℕ) (bytes : List ℕ) (framed : FramedPayload) : Type 0 where
+  pub rest : List ℕ
+  pub front : front_at n limit bytes ≡ Whole framed.payload rest framed.span.next
+  pub next : framed.span.next ≡ number_behind framed.payload n
+  pub rest_is : drop framed.span.len bytes ≡ rest
+  pub fits : framed.span.len ≤ length bytes
+  pub some : 0 < framed.span.len
+
+-- no whole payload stands in front
+abbrev pub NoneInFront : Front → Type 0
+NoneInFront Waiting = Unit {0}
+NoneInFront (Broken fault) = Unit {0}
+NoneInFront (Whole p rest next) = ⊥
+
+-- nothing that may stand there stands in front
+abbrev pub StopsHere : Context → Front → Type 0
+StopsHere c Waiting = Unit {0}
+StopsHere c (Broken fault) = Unit {0}
+StopsHere c (Whole p rest next) = is_bad (kind_there c p) ≡ true
+
+-- The payload in front was heard, and its chunks take so many bytes.
+pub record HeardOne (login : Login) (bytes : List ℕ) (old new : Progress) (len : ℕ) : Type 0 where
+  pub payload : List ℕ
+  pub rest : List ℕ
+  pub next : ℕ
+  pub front : front_at old.number old.context.terms.limit bytes ≡ Whole payload rest next
+  pub good : is_bad (kind_there old.context payload) ≡ false
+  pub heard : Hears login (kind_there old.context payload) payload old new
+  pub rest_is : drop len bytes ≡ rest
+  pub fits : len ≤ length bytes
+  pub some : 0 < len
+
+-- Nothing was heard, and nothing changed.
+pub record HeardNone (bytes : List ℕ) (old new : Progress) : Type 0 where
+  pub stops : StopsHere old.context (front_at old.number old.context.terms.limit bytes)
+  pub context : new.context ≡ old.context
+  pub number : new.number ≡ old.number
+  pub packets : new.packets.items ≡ old.packets.items
+  pub sent : new.sent ≡ old.sent

@@ -1,0 +1,11 @@
+//! A payload with what it is.
+
+use crate::spot::Kind;
+use my_wire::Blob;
+
+/// A payload of the server, and what it was where it stood.
+#[derive(Debug, Drop)]
+pub struct Packet {
+    pub kind: Kind,
+    pub payload: Blob,
+}

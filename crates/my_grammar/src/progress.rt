@@ -1,0 +1,186 @@
+//! One exchange as it is read, payload by payload.
+
+ghost use Rattle.std.specs.Prelude.{◌≡◌, [], ◌++◌, OnOk, IfOk, MatchOption};
+ghost use Rattle.my_wire.specs.Chunks.{chunks, number_behind};
+ghost use Rattle.my_grammar.specs.Growth.{number_next, said};
+ghost use Rattle.my_grammar.specs.Progress.{IsAt, talk_of};
+ghost use Rattle.my_grammar.specs.Reading.{HeardNone, HeardOne, Hears, InFront, NoneInFront};
+ghost use Rattle.my_grammar.specs.Contexts.{is_bad};
+ghost use Rattle.my_wire.specs.Front.{front_at};
+
+use crate::kinds::kind_at;
+use crate::login::{Login, login_response};
+use crate::packet::Packet;
+use crate::queue::Queue;
+use crate::spot::{Context, Kind, Spot, Terms};
+use my_wire::{Blob, CodecError, FramedPayload, NoMemory, payload_in_front};
+use std::alloc::Global;
+
+/// How an exchange begins: with the server's greeting, or with a command.
+#[derive(Debug, Drop)]
+pub enum Opening {
+    Connect,
+    /// A command that one OK or ERR answers.
+    Simple { terms: Terms, command: Blob },
+    /// A command that sets answer.
+    Query { terms: Terms, command: Blob },
+    /// A command without a reply.
+    Silent { terms: Terms, command: Blob },
+}
+
+/// An exchange as far as it is read.
+#[derive(Drop)]
+pub struct Progress {
+    pub context: Context,
+    /// The number of the next chunk.
+    pub number: u8,
+    /// The server's payloads in order.
+    pub packets: Vec<Packet>,
+    /// What the client said.
+    pub sent: Queue,
+}
+
+/// The longest payload that is read until the settings are known, in bytes.
+pub const DEFAULT_LIMIT: u64 = 4_194_304;
+
+fn asked(alloc: Global, spot: Spot, terms: Terms, command: &[u8]) -> Result<Progress, NoMemory>
+    ensures { IfOk result (λ p. (p.context ≡ record { spot = spot; columns = 0; terms = terms }) × (p.number ≡ number_behind command.now 0) × (p.packets.items ≡ []) × (p.sent ≡ [] ++ chunks command.now 0)) }
+{
+    let mut sent = Queue::new(alloc);
+    let number = sent.push_payload(command, 0)?;
+    let context = Context {
+        spot,
+        columns: 0,
+        terms,
+    };
+    Ok(Progress {
+        context,
+        number,
+        packets: Vec::new(alloc),
+        sent,
+    })
+}
+
+// The whole payload in front of the bytes.
+fn whole_in_front(
+    alloc: Global,
+    bytes: &[u8],
+    number: u8,
+    limit: u64,
+) -> Result<Option<FramedPayload>, NoMemory>
+    ensures { IfOk result (λ o. MatchOption o (NoneInFront (front_at number limit bytes.now)) (λ framed. InFront number limit bytes.now framed)) }
+{
+    match payload_in_front(alloc, bytes, number, limit) {
+        Ok(found) => Ok(found),
+        Err(CodecError::Fault(_)) => Ok(None),
+        Err(CodecError::NoMemory) => Err(NoMemory),
+    }
+}
+
+fn is_bad(kind: Kind) -> bool
+    ensures { result ≡ is_bad kind }
+{
+    match kind {
+        Kind::Bad => true,
+        _ => false,
+    }
+}
+
+impl Progress {
+    /// An exchange that begins so.
+    pub fn begin(alloc: Global, login: &Login, opening: &Opening) -> Result<Progress, NoMemory>
+        ensures { IfOk result (λ p. IsAt (talk_of login.now opening.now) p) }
+    {
+        match opening {
+            Opening::Connect => Ok(Progress {
+                context: Context {
+                    spot: Spot::Greeting,
+                    columns: 0,
+                    terms: Terms {
+                        kept: login.capabilities,
+                        limit: DEFAULT_LIMIT,
+                    },
+                },
+                number: 0,
+                packets: Vec::new(alloc),
+                sent: Queue::new(alloc),
+            }),
+            Opening::Simple { terms, command } => {
+                asked(alloc, Spot::Single, *terms, command.as_slice())
+            }
+            Opening::Query { terms, command } => {
+                asked(alloc, Spot::Head, *terms, command.as_slice())
+            }
+            Opening::Silent { terms, command } => {
+                asked(alloc, Spot::Idle, *terms, command.as_slice())
+            }
+        }
+    }
+
+    // What the client says to a payload: its response to a greeting.
+    fn say(
+        &mut self,
+        alloc: Global,
+        login: &Login,
+        kind: Kind,
+        payload: &[u8],
+        next: u8,
+    ) -> Result<(), NoMemory>
+        requires { next ≡ number_behind payload.now self.old.number }
+        ensures sent { OnOk result (self.new.sent ≡ self.old.sent ++ said login.now kind payload.now self.old.number) }
+        ensures number { OnOk result (self.new.number ≡ number_next login.now kind payload.now self.old.number) }
+        ensures others { (self.new.context ≡ self.old.context) × (self.new.packets.items ≡ self.old.packets.items) }
+    {
+        match kind {
+            Kind::Greets(_) => {
+                let response = login_response(alloc, login, payload)?;
+                self.number = self.sent.push_payload(response.as_slice(), next)?;
+            }
+            _ => self.number = next,
+        }
+        Ok(())
+    }
+
+    // A payload of this kind is heard.
+    fn hear(
+        &mut self,
+        alloc: Global,
+        login: &Login,
+        kind: Kind,
+        payload: Blob,
+        next: u8,
+    ) -> Result<(), NoMemory>
+        requires { next ≡ number_behind payload self.old.number }
+        ensures { OnOk result (Hears login.now kind payload self.old self.new) }
+    {
+        self.say(alloc, login, kind, payload.as_slice(), next)?;
+        self.context = self.context.after(kind);
+        self.packets
+            .push(Packet { kind, payload })
+            .map_err(|_| NoMemory)?;
+        Ok(())
+    }
+
+    /// Hears the payload in front of the bytes, if one may stand there, and answers how many bytes
+    /// its chunks take. `None` where none may: then nothing changes.
+    pub fn hear_one(
+        &mut self,
+        alloc: Global,
+        login: &Login,
+        bytes: &[u8],
+    ) -> Result<Option<usize>, NoMemory>
+        ensures { IfOk result (λ o. MatchOption o (HeardNone bytes.now self.old self.new) (λ len. HeardOne login.now bytes.now self.old self.new len)) }
+    {
+        let found = whole_in_front(alloc, bytes, self.number, self.context.terms.limit)?;
+        let Some(framed) = found else {
+            return Ok(None);
+        };
+        let FramedPayload { payload, span } = framed;
+        let kind = kind_at(self.context, payload.as_slice());
+        if is_bad(kind) {
+            return Ok(None);
+        }
+        self.hear(alloc, login, kind, payload, span.next)?;
+        Ok(Some(span.len))
+    }
+}
