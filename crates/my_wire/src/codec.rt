@@ -5,10 +5,10 @@ ghost use Rattle.my_wire.specs.Chunks.{chunks, number_behind};
 ghost use Rattle.my_wire.specs.Faults.{Faulty, HasNoPayload, HasNoFault};
 ghost use Rattle.my_wire.specs.declared.fault.CodecFault.{CodecFault as AnyFault};
 
+use crate::append::append_payload;
 use crate::fault::{CodecError, CodecFault};
 use crate::front::{FramedPayload, payload_in_front};
-use crate::put::put_chunks;
-use crate::scan::FULL_LENGTH;
+use crate::no_memory::NoMemory;
 use bytes::BytesMut;
 use std::alloc::Global;
 use std::marker::Model;
@@ -121,11 +121,12 @@ impl PacketCodec {
                 limit: self.limit,
             }));
         }
-        let room = payload.len() + 4 * (payload.len() / FULL_LENGTH + 1);
-        if dst.reserve(room).is_err() {
-            return Err(CodecError::NoMemory);
+        match append_payload(dst, payload, self.number) {
+            Ok(next) => {
+                self.number = next;
+                Ok(())
+            }
+            Err(NoMemory) => Err(CodecError::NoMemory),
         }
-        self.number = put_chunks(dst, payload, self.number);
-        Ok(())
     }
 }
