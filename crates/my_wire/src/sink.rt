@@ -1,6 +1,6 @@
 //! Where bytes go.
 
-ghost use Rattle.std.specs.Prelude.{◌≡◌, ◌<◌, ℕ, List, [], Option, Some, length, IfOk};
+ghost use Rattle.std.specs.Prelude.{◌≡◌, ◌-◌, ◌<◌, ℕ, List, [], Option, Some, length, IfOk};
 ghost use Rattle.my_wire.specs.Sinks.{TookBytes, SinkCounts, held_step};
 
 use crate::no_memory::NoMemory;
@@ -82,6 +82,7 @@ impl Sink for MemSink {
         ensures bytes { TookBytes (Some self.old.taken) bytes.now (Some self.new.taken) result }
         ensures counts { SinkCounts self.old.faults self.new.faults result }
         ensures exact { result ≡ held_step self.old.room bytes.now }
+        ensures room { self.new.room ≡ self.old.room - length bytes.now }
     {
         if self.room == 0 {
             self.faults = self.faults.saturating_add(1);
