@@ -36,7 +36,7 @@ sized_found value_of (len ∷ bytes) v rest e =
     let u' = s.0 in
     (x.0, ap (λ (y : List ℕ). len ∷ y) (q ∙ ap (λ (y : List ℕ). x.0 ++ y) r) ∙ ap (λ k. k ∷ (x.0 ++ rest)) (sym l), eu ∙ ap (λ (y : Value). Some y) u')))
 
-sized_again : (value_of : List ℕ → Option Value) (bytes : List ℕ) (v : Value) (rest : List ℕ) → IsSized value_of bytes v rest → sized_at value_of bytes ≡ Some (v, rest)
+pub sized_again : (value_of : List ℕ → Option Value) (bytes : List ℕ) (v : Value) (rest : List ℕ) → IsSized value_of bytes v rest → sized_at value_of bytes ≡ Some (v, rest)
 sized_again value_of bytes v rest w =
     let read : bytes_at (length w.0) (w.0 ++ rest) ≡ Some (w.0, rest) = bytes_again (length w.0) (w.0 ++ rest) w.0 rest (record { count_is = refl; spelled = refl }) in
     rw (w.1, read, w.2) refl

@@ -1,6 +1,7 @@
 pub mod BinaryRowLaws
 pub mod BitmapLaws
 pub mod BulkLaws
+pub mod DateLaws
 pub mod DecimalLaws
 pub mod FillLaws
 pub mod GatherLaws

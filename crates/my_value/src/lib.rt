@@ -15,6 +15,7 @@ mod plain;
 mod row;
 mod row_conversion;
 mod sending;
+mod sending_laws;
 mod single;
 mod sql_text;
 mod text_row;
@@ -32,5 +33,9 @@ pub use params::{Params, ParamsError, into_values};
 pub use row::{Columns, Row};
 pub use row_conversion::{FromRow, FromRowError, from_row};
 pub use sending::{ParamType, put_type, put_value, type_of, values_len};
+pub use sending_laws::dates_are_read_back;
 pub use text_row::{is_text_row, read_text_row, text_rows_are_read};
 pub use value::Value;
+
+#[cfg(test)]
+mod tests;

@@ -83,6 +83,7 @@ fn time_len(negative: bool, days: u32, hours: u8, minutes: u8, seconds: u8, micr
     0
 }
 
+#[tactic(auto, unfolding(my_wire::specs::Writing::le_bytes))]
 fn date_parts(
     year: u16,
     month: u8,
@@ -109,6 +110,7 @@ fn date_parts(
     ]
 }
 
+#[tactic(auto, unfolding(my_wire::specs::Writing::le_bytes))]
 fn time_parts(
     negative: bool,
     days: u32,
@@ -162,6 +164,7 @@ pub fn put_value(out: &mut Vec<u8>, value: &Value) -> Result<(), NoMemory>
 }
 
 // How many bytes a length-encoded number takes.
+#[tactic(auto, unfolding(my_wire::specs::Writing::le_bytes, my_wire::specs::Writing::len_bytes))]
 fn len_len(number: u64) -> u64
     ensures len { result ≡ length (len_bytes number) }
     ensures within { result ≤ 9 }
@@ -178,6 +181,7 @@ fn len_len(number: u64) -> u64
 }
 
 // How many bytes a value takes.
+#[tactic(auto, unfolding(my_wire::specs::Writing::le_bytes, my_wire::specs::Writing::len_bytes, my_wire::specs::Writing::text_bytes))]
 fn value_len(value: &Value) -> u64
     ensures { result ≡ length (value_bytes value.now) }
 {
