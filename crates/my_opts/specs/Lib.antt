@@ -1,3 +1,4 @@
+pub mod Built
 pub mod Capabilities
 pub mod ChangeUser
 pub mod Faults

@@ -6,6 +6,7 @@ mod capabilities;
 mod change_user;
 mod error;
 mod from_url;
+mod laws;
 mod limits;
 mod lists;
 mod loopback;
@@ -22,6 +23,7 @@ mod values;
 pub use builder::OptsBuilder;
 pub use change_user::ChangeUserOpts;
 pub use error::{UrlError, UrlFault};
+pub use laws::url_gives_what_a_builder_gives;
 pub use lists::Listed;
 pub use millis::Millis;
 pub use opts::{DEFAULT_PORT, DEFAULT_STMT_CACHE_SIZE, Opts};
@@ -32,3 +34,6 @@ pub use pool::{
 pub use target::Target;
 pub use transaction::IsolationLevel;
 pub use transaction_options::TxOpts;
+
+#[cfg(test)]
+mod tests;
