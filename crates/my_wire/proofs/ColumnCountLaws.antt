@@ -1,5 +1,5 @@
 -- The packet that begins a set of rows, as a relation and as what is read.
-use Rattle.std.proofs.Common.{◌≡◌, ◌⊎◌, inl, inr, ℕ, ◌<◌, ◌≤◌, Bool, true, false, ◌&&◌, List, [], ◌∷◌, eqb, ltb, leb, Option, Some, None, refl, sym, subst, arith}
+use Rattle.std.proofs.Common.{◌≡◌, inl, inr, ℕ, Bool, true, false, ◌&&◌, List, [], ◌∷◌, eqb, ltb, leb, Some, None, refl, subst, arith}
 use Rattle.std.proofs.lemmas.Bool.Decides.{nat_tests}
 use Rattle.my_wire.specs.declared.column_count.ColumnCount.{ColumnCount}
 use Rattle.my_wire.specs.Numbers.{len_at}

@@ -1,5 +1,5 @@
 -- The description of a column, as a relation and as what is read.
-use Rattle.std.proofs.Common.{◌≡◌, ℕ, ◌&&◌, List, length, true, eqb, Option, Some, None, refl, sym, ap, subst, arith}
+use Rattle.std.proofs.Common.{◌≡◌, ℕ, ◌&&◌, List, length, eqb, Some, refl, sym, ap, subst, arith}
 use Rattle.std.proofs.lemmas.Bool.Decides.{nat_tests}
 use Rattle.my_wire.specs.declared.column.Column.{Column}
 use Rattle.my_wire.specs.declared.column.Names.{Names}

@@ -1,5 +1,5 @@
 -- The end of columns or rows, as a relation and as what is read.
-use Rattle.std.proofs.Common.{◌≡◌, ℕ, List, length, leb, true, Option, Some, None, refl, subst, arith}
+use Rattle.std.proofs.Common.{◌≡◌, ℕ, List, length, leb, true, Some, refl, subst, arith}
 use Rattle.std.proofs.lemmas.Bool.Decides.{nat_tests}
 use Rattle.my_wire.specs.declared.eof.EofPacket.{EofPacket}
 use Rattle.my_wire.specs.Numbers.{head_at, number_at}

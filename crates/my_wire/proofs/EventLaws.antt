@@ -1,5 +1,5 @@
 -- The event of a binary log, as a relation and as what is read.
-use Rattle.std.proofs.Common.{◌≡◌, ℕ, List, length, true, eqb, Option, Some, None, refl, subst, arith}
+use Rattle.std.proofs.Common.{◌≡◌, ℕ, List, length, true, eqb, Some, refl, subst, arith}
 use Rattle.std.proofs.lemmas.Bool.Decides.{nat_tests}
 use Rattle.my_wire.specs.declared.event.Event.{Event}
 use Rattle.my_wire.specs.declared.event.EventHeader.{EventHeader}

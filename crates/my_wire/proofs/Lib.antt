@@ -16,6 +16,7 @@ pub mod NumberLaws
 mod OkLaws
 pub mod Putting
 mod ReadingLaws
+mod ReplicaLaws
 mod ReplyLaws
 pub mod Scanning
 mod ServerLaws

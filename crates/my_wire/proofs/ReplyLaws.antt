@@ -1,5 +1,5 @@
 -- The replies to a text that is kept, and to a query that reads a file, as relations and as what is read.
-use Rattle.std.proofs.Common.{◌≡◌, ℕ, List, Option, Some, None, refl, subst}
+use Rattle.std.proofs.Common.{◌≡◌, ℕ, List, Some, refl, subst}
 use Rattle.my_wire.specs.declared.replies.PrepareOk.{PrepareOk}
 use Rattle.my_wire.specs.Numbers.{bytes_at, head_at, number_at}
 use Rattle.my_wire.specs.Replies.{IsPrepareOk, prepare_ok_at}

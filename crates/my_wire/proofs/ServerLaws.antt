@@ -1,26 +1,22 @@
 -- What a server wrote is read back.
-use Rattle.std.proofs.Common.{◌≡◌, ℕ, ◌+◌, ◌*◌, ◌-◌, ◌/◌, ◌%◌, ◌^◌, ◌<◌, ◌≤◌, ◌&&◌, max, inl, inr, Bool, true, false, List, [], ◌∷◌, ◌++◌, length, take, drop, codes, replicate, cond, eqb, ltb, leb, Option, Some, None, refl, sym, ap, subst, ◌∙◌, arith, lit<, append_assoc, length-append, length-take-le, length-drop}
-use Rattle.std.proofs.lemmas.List.{append-nil, take_at, take-append-drop, take-append-le, take_all}
+use Rattle.std.proofs.Common.{◌≡◌, ℕ, ◌+◌, ◌*◌, ◌/◌, ◌%◌, ◌^◌, ◌<◌, ◌≤◌, ◌&&◌, inr, Bool, true, false, List, [], ◌∷◌, ◌++◌, length, take, drop, codes, replicate, eqb, ltb, leb, Some, refl, sym, ap, ◌∙◌, arith, lit<, append_assoc, length-append, length-take-le, length-drop}
+use Rattle.std.proofs.lemmas.List.{append-nil, take_at, take-append-drop}
 use Rattle.std.proofs.lemmas.Str.{utf8_lossy-IsUtf8}
 use Rattle.std.proofs.lemmas.Bool.Decides.{nat_tests}
 use Rattle.std.specs.Prelude.{bit_and}
 use Rattle.std.specs.List.{before_first}
 use Rattle.my_wire.specs.declared.greeting.Greeting.{Greeting}
-use Rattle.my_wire.specs.declared.greeting.Settings.{Settings}
 use Rattle.my_wire.specs.declared.ok.OkPacket.{OkPacket}
 use Rattle.my_wire.specs.declared.err.ErrPacket.{ErrPacket}
 use Rattle.my_wire.specs.declared.column.Column.{Column}
-use Rattle.my_wire.specs.declared.column.Names.{Names}
-use Rattle.my_wire.specs.declared.column.Form.{Form}
-use Rattle.my_wire.specs.declared.column_count.ColumnCount.{ColumnCount}
-use Rattle.my_wire.specs.Numbers.{bytes_at, head_at, number_at, text0_at, text_at, len_at, ◌>>=◌}
+use Rattle.my_wire.specs.Numbers.{head_at, text_at, len_at, ◌>>=◌}
 use Rattle.my_wire.specs.Writing.{le_bytes, len_bytes, text_bytes, text0_bytes}
 use Rattle.my_wire.specs.OkPacket.{info_at, info_of, fields_at, ok_at, end_ok_at}
 use Rattle.my_wire.specs.ErrPacket.{err_at}
 use Rattle.my_wire.specs.ColumnCount.{column_count_at}
 use Rattle.my_wire.specs.Column.{names_at, form_at, column_at}
 use Rattle.my_wire.specs.Greeting.{first_at, settings_at, second_at, greeting_at}
-use Rattle.my_wire.specs.Server.{fitted, settings_bytes, greeting_bytes, info_bytes, ok_bytes, err_bytes, names_bytes, form_bytes, column_bytes}
+use Rattle.my_wire.specs.Server.{fitted, settings_bytes, greeting_bytes, info_bytes, ok_bytes, err_bytes, form_bytes, column_bytes}
 use Rattle.my_wire.specs.Sent.{IsSentGreeting, IsSentOk, IsSentErr, IsSentColumn}
 use Rattle.my_wire.proofs.NumberLaws.{bytes_again, before_found, before_again}
 use Rattle.my_wire.proofs.WritingLaws.{length-le_bytes, number_read_back, len_read_back, text_read_back, text0_read_back}
@@ -125,8 +121,8 @@ greeting_read_back g w =
     let rest = second ++ 0 ∷ text0_bytes g.plugin in
     let after = settings_bytes g ++ rest in
     let spelled : greeting_bytes g ≡ 10 ∷ (text0_bytes g.version ++ (le_bytes 4 g.id ++ (first ++ 0 ∷ after))) =
-      nine_joined (le_bytes 1 10) (text0_bytes g.version) (le_bytes 4 g.id) (take 8 (fitted g.nonce)) (le_bytes 1 0) (settings_bytes g) (drop 8 (fitted g.nonce)) (le_bytes 1 0) (text0_bytes g.plugin)
-        ∙ ap (λ n. 10 ∷ (text0_bytes g.version ++ (le_bytes 4 g.id ++ (take 8 n ++ 0 ∷ (settings_bytes g ++ (drop 8 n ++ 0 ∷ text0_bytes g.plugin)))))) whole in
+    nine_joined (le_bytes 1 10) (text0_bytes g.version) (le_bytes 4 g.id) (take 8 (fitted g.nonce)) (le_bytes 1 0) (settings_bytes g) (drop 8 (fitted g.nonce)) (le_bytes 1 0) (text0_bytes g.plugin)
+    ∙ ap (λ n. 10 ∷ (text0_bytes g.version ++ (le_bytes 4 g.id ++ (take 8 n ++ 0 ∷ (settings_bytes g ++ (drop 8 n ++ 0 ∷ text0_bytes g.plugin)))))) whole in
     let needed = w.needed in
     let b : eqb (bit_and g.capabilities 0x88200) 0x88200 ≡ true = grind (arith, nat_tests) in
     ap greeting_at spelled ∙ rw (first_read_back g.version g.id first after w.id (length-take-le 8 g.nonce (omega arith)), settings_read_back g rest w, second_read_back second g.plugin (omega (arith, length-drop 8 g.nonce)), b, w.version, w.plugin, take-append-drop 8 g.nonce) refl

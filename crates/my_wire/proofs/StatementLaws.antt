@@ -1,5 +1,5 @@
 -- The bitmap of parameters that are NULL, byte by byte.
-use Rattle.std.proofs.Common.{◌≡◌, ℕ, suc, ◌+◌, ◌*◌, ◌/◌, List, ◌++◌, length, drop, refl, sym, ap, ◌∙◌, arith, append_assoc, add-one}
+use Rattle.std.proofs.Common.{◌≡◌, ℕ, ◌+◌, ◌*◌, ◌/◌, List, ◌++◌, length, drop, refl, ap, ◌∙◌, arith, append_assoc, add-one}
 use Rattle.std.proofs.lemmas.List.{drop-drop}
 use Rattle.my_wire.specs.Writing.{le_bytes}
 use Rattle.my_wire.specs.declared.client.statement.Parameter.{Parameter}

@@ -1,13 +1,13 @@
 -- The packets of logging in that ask for more, as relations and as what is read.
-use Rattle.std.proofs.Common.{◌≡◌, ◌≢◌, ◌⊎◌, inl, inr, ℕ, suc, ◌+◌, ◌-◌, ◌<◌, ◌≤◌, ◌&&◌, List, [], ◌∷◌, ◌++◌, length, take, drop, get_or, Bool, true, false, cond, eqb, ltb, codes, Option, Some, None, refl, sym, ap, subst, ◌∙◌, arith, length-append, length-drop, drop-cons}
+use Rattle.std.proofs.Common.{◌≡◌, ◌⊎◌, inl, inr, ℕ, suc, ◌+◌, ◌-◌, ◌<◌, ◌&&◌, List, [], ◌∷◌, ◌++◌, length, take, drop, get_or, Bool, true, false, eqb, ltb, codes, Some, refl, sym, ap, subst, ◌∙◌, arith, length-append, length-drop, drop-cons}
 use Rattle.std.proofs.lemmas.List.{take_at, nil_from_length, take-append-drop}
 use Rattle.std.proofs.Math.Seq.{get_or-append_seam}
 use Rattle.std.proofs.lemmas.Bool.Decides.{nat_tests}
 use Rattle.my_wire.specs.declared.switch.SwitchRequest.{SwitchRequest}
 use Rattle.my_wire.specs.declared.switch.MoreData.{MoreData}
 use Rattle.my_wire.specs.Numbers.{head_at, number_at, text0_at}
-use Rattle.my_wire.specs.SwitchRequest.{IsNonce, NamesSwitch, IsOldSwitch, IsSwitch, IsMoreData, without_last_zero, asked_at, switch_at, more_data_at}
-use Rattle.my_wire.proofs.NumberLaws.{bind_then, chosen, same_pair, head_found, head_again, text0_found, text0_again, number_found, number_again}
+use Rattle.my_wire.specs.SwitchRequest.{IsNonce, IsSwitch, IsMoreData, without_last_zero, asked_at, switch_at, more_data_at}
+use Rattle.my_wire.proofs.NumberLaws.{bind_then, same_pair, head_found, head_again, text0_found, text0_again, number_found, number_again}
 
 ends_zero : List ℕ → Bool
 ends_zero left = ltb 0 (length left) && eqb (get_or left (length left - 1) 0) 0

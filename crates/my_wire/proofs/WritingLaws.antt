@@ -1,10 +1,10 @@
 -- What was written is read again, whatever follows it.
-use Rattle.std.proofs.Common.{◌≡◌, ◌≢◌, ℕ, zero, suc, ◌+◌, ◌*◌, ◌/◌, ◌%◌, ◌^◌, ◌<◌, ◌≤◌, List, [], ◌∷◌, ◌++◌, length, true, false, ltb, eqb, Some, inl, inr, refl, sym, ap, subst, ◌∙◌, arith, append_assoc, pow-suc}
+use Rattle.std.proofs.Common.{◌≡◌, ℕ, zero, suc, ◌*◌, ◌/◌, ◌^◌, ◌<◌, List, [], ◌∷◌, ◌++◌, length, true, false, ltb, eqb, Some, inl, inr, refl, ap, arith, append_assoc, pow-suc}
 use Rattle.std.proofs.lemmas.Bool.Decides.{nat_tests}
 use Rattle.std.proofs.lemmas.Bool.{cases_lt}
-use Rattle.std.specs.List.{All, before_first}
-use Rattle.my_wire.specs.Numbers.{le_value, IsBytes, IsText0, number_at, len_at, text_at, text0_at}
-use Rattle.my_wire.specs.Writing.{le_bytes, len_bytes, text_bytes, text0_bytes, short_bytes}
+use Rattle.std.specs.List.{before_first}
+use Rattle.my_wire.specs.Numbers.{le_value, number_at, len_at, text_at, text0_at}
+use Rattle.my_wire.specs.Writing.{le_bytes, len_bytes, text_bytes, text0_bytes}
 use Rattle.my_wire.proofs.NumberLaws.{bytes_again, number_again, text0_again, before_found}
 
 pub length-le_bytes : (count n : ℕ) → length (le_bytes count n) ≡ count

@@ -1,6 +1,6 @@
 -- Which packets of a server are read back as they were: those whose numbers fit their bytes and whose texts can be told.
 -- MySQL internals, "Connection Phase Packets", "Generic Response Packets", "Text Resultset".
-use Rattle.std.specs.Prelude.{◌≡◌, ℕ, ◌<◌, ◌≤◌, ◌^◌, List, length, ◌==◌}
+use Rattle.std.specs.Prelude.{◌≡◌, ℕ, ◌<◌, ◌^◌, List, length, ◌==◌}
 use Rattle.std.specs.List.{before_first}
 use Rattle.std.specs.Str.{IsUtf8}
 use Rattle.my_wire.specs.Greeting.{OffersNeeded}

@@ -1,6 +1,6 @@
 -- How a server's packets are written.
 -- MySQL internals, "Connection Phase Packets": Protocol::HandshakeV10; "Generic Response Packets"; "Text Resultset".
-use Rattle.std.specs.Prelude.{ℕ, ◌/◌, ◌%◌, List, [], ◌∷◌, ◌++◌, length, take, drop, replicate, codes, Option, Some, None, ◌==◌, if◌then◌else◌}
+use Rattle.std.specs.Prelude.{ℕ, ◌/◌, ◌%◌, List, [], ◌++◌, length, take, drop, replicate, codes, Option, Some, None, ◌==◌, if◌then◌else◌}
 use Rattle.std.specs.List.{flat_map}
 use Rattle.my_wire.specs.Writing.{le_bytes, len_bytes, text_bytes, text0_bytes}
 use Rattle.my_wire.specs.declared.greeting.Greeting.{Greeting}

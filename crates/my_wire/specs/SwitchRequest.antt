@@ -1,6 +1,6 @@
 -- The packets of logging in that ask for more.
 -- MySQL internals, "Connection Phase Packets": AuthSwitchRequest, OldAuthSwitchRequest, AuthMoreData.
-use Rattle.std.specs.Prelude.{◌≡◌, ◌≢◌, ℕ, ◌-◌, ◌⊎◌, ◌&&◌, List, [], ◌∷◌, ◌++◌, length, take, slice_index, Option, Some, None, codes, nat_lt, ◌==◌, if◌then◌else◌}
+use Rattle.std.specs.Prelude.{◌≡◌, ◌≢◌, ℕ, ◌-◌, ◌⊎◌, ◌&&◌, List, [], ◌∷◌, ◌++◌, length, take, slice_index, Option, Some, codes, nat_lt, ◌==◌, if◌then◌else◌}
 use Rattle.my_wire.specs.Numbers.{IsNumber, IsText0, head_at, number_at, text0_at, ◌>>=◌}
 use Rattle.my_wire.specs.declared.switch.SwitchRequest.{SwitchRequest}
 use Rattle.my_wire.specs.declared.switch.MoreData.{MoreData}

@@ -1,8 +1,8 @@
 //! What a client tells of itself: pairs of a name and a value.
 
-ghost use Rattle.std.specs.Prelude.{◌≡◌, ◌<◌, ◌≤◌, [], IfOk, IfSome, OnOk, OnErr, length, position};
+ghost use Rattle.std.specs.Prelude.{◌≡◌, ◌<◌, ◌≤◌, [], IfOk, IfSome, List, OnOk, OnErr, length, position};
 ghost use Rattle.std.specs.List.{position_or_len};
-ghost use Rattle.my_wire.specs.Attributes.{is_before, put_in_order};
+ghost use Rattle.my_wire.specs.Attributes.{IsInKeyOrder, is_before, put_in_order};
 
 use crate::blob::Blob;
 use std::alloc::{AllocError, Global};
@@ -102,3 +102,8 @@ impl Attributes {
         self.pairs.as_slice()
     }
 }
+
+/// A pair is put so that the keys stay in byte order.
+pub fn attributes_stay_in_order()
+    ensures { (pairs : List Attribute) (pair : Attribute) → IsInKeyOrder pairs → IsInKeyOrder (put_in_order pairs pair) }
+{}

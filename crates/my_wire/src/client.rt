@@ -7,7 +7,7 @@ mod write;
 
 use crate::blob::Blob;
 pub use login::{ChangeUser, HandshakeResponse};
-pub use replica::{Dump, DumpGtid, RegisterSlave, Sid};
+pub use replica::{Dump, DumpGtid, RegisterSlave, Sid, gtid_block_has_this_length};
 pub use statement::{BulkExecute, Execute, Parameter, ParameterType};
 pub use write::write_client;
 

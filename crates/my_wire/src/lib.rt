@@ -36,11 +36,11 @@ mod version;
 pub mod writing;
 
 pub use append::append_payload;
-pub use attributes::{Attribute, Attributes};
+pub use attributes::{Attribute, Attributes, attributes_stay_in_order};
 pub use blob::Blob;
 pub use client::{
     BulkExecute, ChangeUser, ClientPacket, Dump, DumpGtid, Execute, HandshakeResponse, Parameter,
-    ParameterType, RegisterSlave, Sid, write_client,
+    ParameterType, RegisterSlave, Sid, gtid_block_has_this_length, write_client,
 };
 pub use codec::PacketCodec;
 pub use column::{Column, column_is_read, read_column};
@@ -65,3 +65,6 @@ pub use std_edge::{StdSink, StdSource};
 pub use switch::{MoreData, SwitchRequest, read_more_data, read_switch, switch_is_read};
 pub use text::Text;
 pub use version::{ServerVersion, server_version};
+
+#[cfg(test)]
+mod packet_tests;

@@ -1,6 +1,6 @@
 -- How the packets are written by which a client logs in.
 -- MySQL internals, "Connection Phase Packets": HandshakeResponse41; "Utility Commands": COM_CHANGE_USER; MariaDB, "Connecting": Handshake Response Packet, whose last four filler bytes are the client's further capabilities.
-use Rattle.std.specs.Prelude.{ℕ, List, [], ◌∷◌, ◌++◌, bit_and, replicate, Option, Some, None, ◌==◌, if◌then◌else◌}
+use Rattle.std.specs.Prelude.{ℕ, List, [], ◌++◌, bit_and, replicate, Option, Some, None, ◌==◌, if◌then◌else◌}
 use Rattle.my_wire.specs.Writing.{le_bytes, short_bytes, text0_bytes}
 use Rattle.my_wire.specs.Attributes.{attributes_bytes}
 use Rattle.my_wire.specs.declared.attributes.Attribute.{Attribute}

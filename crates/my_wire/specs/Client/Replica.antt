@@ -1,7 +1,7 @@
 -- How the packets are written by which a client asks for a binary log.
 -- MySQL internals, "Replication Protocol": COM_REGISTER_SLAVE, COM_BINLOG_DUMP, COM_BINLOG_DUMP_GTID.
-use Rattle.std.specs.Prelude.{ℕ, ◌+◌, ◌<◌, ◌^◌, ◌%◌, List, ◌++◌, length, if◌then◌else◌}
-use Rattle.std.specs.List.{flat_map}
+use Rattle.std.specs.Prelude.{ℕ, ◌+◌, ◌*◌, ◌<◌, ◌^◌, ◌%◌, List, ◌++◌, length, if◌then◌else◌}
+use Rattle.std.specs.List.{flat_map, sum_by}
 use Rattle.my_wire.specs.Writing.{le_bytes, short_bytes}
 use Rattle.my_wire.specs.declared.client.replica.Sid.{Sid}
 use Rattle.my_wire.specs.declared.client.replica.RegisterSlave.{RegisterSlave}
@@ -47,3 +47,10 @@ FitsDump d = (length d.file < 2 ^ 32) × (length (gtid_block d.sids.items) < 2 ^
 abbrev pub dump_gtid_bytes : DumpGtid → List ℕ
 dump_gtid_bytes d =
     le_bytes 1 0x1E ++ le_bytes 2 (4 + (if d.non_blocking then 1 else 0)) ++ le_bytes 4 d.server ++ long_bytes d.file ++ le_bytes 8 d.position ++ long_bytes (gtid_block d.sids.items)
+
+-- how many bytes the transactions of one server take, and those of all
+abbrev pub sid_length : Sid → ℕ
+sid_length s = length s.uuid + 8 + 16 * length s.intervals.items
+
+abbrev pub block_length : List Sid → ℕ
+block_length sids = 8 + sum_by sid_length sids

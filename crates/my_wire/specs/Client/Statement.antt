@@ -1,6 +1,6 @@
 -- How the packets are written that execute a statement.
 -- MySQL internals, "Prepared Statements": COM_STMT_EXECUTE; MariaDB, "Binary Protocol": COM_STMT_BULK_EXECUTE.
-use Rattle.std.specs.Prelude.{ℕ, zero, suc, ◌+◌, ◌*◌, ◌/◌, List, [], ◌∷◌, ◌++◌, length, drop, slice_get, Option, Some, None, Vec, ◌==◌, if◌then◌else◌}
+use Rattle.std.specs.Prelude.{ℕ, zero, suc, ◌+◌, ◌*◌, ◌/◌, List, [], ◌++◌, length, drop, slice_get, Option, Some, None, Vec, ◌==◌, if◌then◌else◌}
 use Rattle.std.specs.List.{flat_map}
 use Rattle.my_wire.specs.Writing.{le_bytes}
 use Rattle.my_wire.specs.declared.client.statement.ParameterType.{ParameterType}

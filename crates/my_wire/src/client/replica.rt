@@ -1,8 +1,8 @@
 //! The packets by which a client asks for a binary log.
 
-ghost use Rattle.std.specs.Prelude.{◌≡◌, ◌<◌, ◌^◌, ◌++◌, IfOk, OnOk, length};
+ghost use Rattle.std.specs.Prelude.{◌≡◌, ◌<◌, ◌^◌, ◌++◌, IfOk, List, OnOk, length};
 ghost use Rattle.std.specs.List.{flat_map};
-ghost use Rattle.my_wire.specs.Client.Replica.{FitsDump, FitsSlave, dump_bytes, dump_gtid_bytes, gtid_block, intervals_bytes, long_bytes, sid_bytes, slave_bytes};
+ghost use Rattle.my_wire.specs.Client.Replica.{FitsDump, FitsSlave, block_length, dump_bytes, dump_gtid_bytes, gtid_block, intervals_bytes, long_bytes, sid_bytes, slave_bytes};
 
 use crate::blob::Blob;
 use crate::writing::{put_short, put_u8, put_u16, put_u32, put_u64};
@@ -135,3 +135,8 @@ pub fn put_dump_gtid(alloc: Global, out: &mut Vec<u8>, dump: &DumpGtid) -> Resul
     put_u64(out, dump.position)?;
     put_long(out, block.as_slice())
 }
+
+/// How long the named transactions of a `DumpGtid` are when written.
+pub fn gtid_block_has_this_length()
+    ensures { (sids : List Sid) → length (gtid_block sids) ≡ block_length sids }
+{}

@@ -1,5 +1,4 @@
 use Rattle.std.proofs.Common.{◌≡◌, ◌++◌, take}
-use Rattle.std.specs.List.{flat_map}
 use Rattle.my_wire.specs.Client.Replica.{intervals_bytes}
 use Rattle.my_wire.proofs.client.replica.put_intervals.Given as goal
 
