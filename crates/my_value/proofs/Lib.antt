@@ -9,3 +9,4 @@ pub mod OneCellLaws
 pub mod RowLaws
 pub mod SqlTextLaws
 pub mod TextRowLaws
+pub mod WrittenRowLaws

@@ -13,3 +13,4 @@ pub mod RowParts
 pub mod Sending
 pub mod SqlText
 pub mod TextRow
+pub mod WrittenRow

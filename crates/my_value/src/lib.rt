@@ -22,6 +22,7 @@ mod text_row;
 mod tuples;
 mod value;
 mod whole;
+mod written_row;
 
 pub use binary_row::{binary_rows_are_read, is_binary_row, read_binary_row};
 pub use bulk::{bulk_list_len, join_types, put_bulk_head, put_bulk_list, types_agree, types_of};
@@ -36,6 +37,7 @@ pub use sending::{ParamType, put_type, put_value, type_of, values_len};
 pub use sending_laws::dates_are_read_back;
 pub use text_row::{is_text_row, read_text_row, text_rows_are_read};
 pub use value::Value;
+pub use written_row::written_text_rows_are_read;
 
 #[cfg(test)]
 mod tests;
