@@ -9,3 +9,8 @@ pub mod Kept
 pub mod Places
 pub mod Keeping
 pub mod Retiring
+pub mod Fronts
+pub mod Covering
+pub mod Always
+pub mod Sweeping
+pub mod Oldest

@@ -74,7 +74,7 @@ retire-count q now same (c ∷ cs) =
 pub retire-same : (q : Connection → Bool) (now : ℕ) → ((c : Connection) → is_idle c ≡ true → is_usable now c ≡ false → q (placed c.number (Returned false)) ≡ q c) → (cs : List Connection) → how_many q (retire now cs) ≡ how_many q cs
 retire-same q now same cs = count-append q (unexpired now cs) (expired now cs) ∙ retire-count q now same cs
 
-none-expired-idle : (now : ℕ) (cs : List Connection) → how_many is_idle (expired now cs) ≡ 0
+pub none-expired-idle : (now : ℕ) (cs : List Connection) → how_many is_idle (expired now cs) ≡ 0
 none-expired-idle now [] = refl
 none-expired-idle now (c ∷ cs) =
     elim (is_left now c cs) as (λ b. how_many is_idle (cond b (expired now cs ++ placed c.number (Returned false) ∷ []) (expired now cs)) ≡ 0) [

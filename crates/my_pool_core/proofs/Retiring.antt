@@ -66,7 +66,7 @@ pub record Parts (old cs : List Connection) (now i : ℕ) (d : Connection) : Typ
   pub removed : remove cs (i - 1) ≡ front ++ retire now rest
   pub behind : drop i old ≡ rest
 
-remove-front : {X : Type 0} (p : List X) (y : X) (ys : List X) → remove (p ++ y ∷ ys) (length p) ≡ p ++ ys
+pub remove-front : {X : Type 0} (p : List X) (y : X) (ys : List X) → remove (p ++ y ∷ ys) (length p) ≡ p ++ ys
 remove-front [] y ys = refl
 remove-front (x ∷ p) y ys = ap (λ zs. x ∷ zs) (remove-front p y ys)
 

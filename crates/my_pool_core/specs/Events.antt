@@ -344,3 +344,9 @@ check_ttl_moved now s = length (outdated now s.limits.inactive (above_min s) 0 s
 -- whether the pool is gone
 abbrev pub is_gone : State → Bool
 is_gone s = s.closed && length s.connections == 0 && s.settled
+
+-- whether an answer gives a request a connection or a number
+abbrev pub takes_place : PollAnswer → Bool
+takes_place (Take number) = true
+takes_place (Dial number) = true
+takes_place _ = false

@@ -5,3 +5,5 @@ pub mod State
 pub mod Events
 pub mod Steps
 pub mod Sound
+pub mod Seen
+pub mod Made

@@ -2,6 +2,7 @@
 
 ghost use Rattle.std.specs.Prelude.{◌≡◌, ◌≤◌, ◌++◌, [], ◌∷◌, IsTrue, length, find, position, remove, slice_index_or, ◌<◌, vec_len, vec_capacity};
 ghost use Rattle.std.specs.List.{list_any};
+ghost use Rattle.my_pool_core.specs.Events.{may_finish};
 ghost use Rattle.my_pool_core.specs.Lists.{how_many, found_is, without};
 ghost use Rattle.my_pool_core.specs.Connections.{placed, returned, has_number, is_idle, is_idle_place, is_leased, is_leased_place, is_past, is_over, is_usable, is_usable_place, is_outdated, is_cleaning, is_resetting, is_closing, is_returned, is_marked, mark_of_place, move_to, latest_usable, retire, lasting, outdated, next_to_clean};
 
@@ -156,6 +157,40 @@ pub(crate) fn connection_of(connections: &[Connection], number: u64) -> Option<C
     }
 }
 
+/// Whether the connection of a number is handed out.
+pub(crate) fn is_leased(connections: &[Connection], number: u64) -> bool
+    ensures { result ≡ found_is is_leased (find (has_number number) connections.now) }
+{
+    match connection_of(connections, number) {
+        Some(connection) => connection.is_leased(),
+        None => false,
+    }
+}
+
+/// Whether the connection of a number is being cleaned.
+pub(crate) fn is_cleaning(connections: &[Connection], number: u64) -> bool
+    ensures { result ≡ found_is is_cleaning (find (has_number number) connections.now) }
+{
+    match connection_of(connections, number) {
+        Some(connection) => connection.is_cleaning(),
+        None => false,
+    }
+}
+
+/// Whether the connection of a number is being reset or closed, or its cleaning failed.
+pub(crate) fn is_finishing(connections: &[Connection], number: u64, ok: bool) -> bool
+    ensures { result ≡ found_is (may_finish ok) (find (has_number number) connections.now) }
+{
+    match connection_of(connections, number) {
+        Some(connection) => {
+            connection.is_resetting()
+                || connection.is_closing()
+                || (connection.is_cleaning() && !ok)
+        }
+        None => false,
+    }
+}
+
 /// Whether the connection of a number is marked.
 pub(crate) fn is_marked(connections: &[Connection], number: u64) -> bool
     ensures { result ≡ found_is is_marked (find (has_number number) connections.now) }
@@ -281,4 +316,31 @@ pub(crate) fn retire(connections: &mut Vec<Connection>, now: u64) -> Option<u64>
         }
     }
     None
+}
+
+/// The idle connections that don't stay are returned and marked, those that are idle longest first; answers how many.
+pub(crate) fn sweep(
+    connections: &mut Vec<Connection>,
+    now: u64,
+    inactive: u128,
+    many: usize,
+) -> usize
+    ensures items { connections.new.items ≡ lasting now inactive many 0 connections.old.items ++ outdated now inactive many 0 connections.old.items }
+    ensures moved { result ≡ length (outdated now inactive many 0 connections.old.items) }
+    ensures capacity { vec_capacity connections.old ≤ vec_capacity connections.new }
+{
+    let mut index = 0;
+    let mut moved = 0;
+    'turns: for _ in 0..connections.len() {
+        if connections[index]
+            .place
+            .is_outdated(now, inactive, many, moved)
+        {
+            return_at(connections, index, true);
+            moved += 1;
+        } else {
+            index += 1;
+        }
+    }
+    moved
 }

@@ -3,12 +3,13 @@
 
 mod connection;
 mod event;
+pub mod laws;
 mod limits;
 mod pool;
 mod request;
 
 pub use connection::{Connection, Place, Times};
 pub use event::{Answer, Facts, PollAnswer, PoolEvent, Verdict};
-pub use limits::{Counts, Limits};
+pub use limits::{Counts, Limits, Metrics};
 pub use pool::Core;
 pub use request::{Request, Standing};

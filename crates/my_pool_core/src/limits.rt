@@ -32,6 +32,35 @@ pub struct Counts {
     pub discarded_error_during_cleanup: u64,
 }
 
+/// How many connections and requests are where, and how often each thing happened.
+#[derive(Clone, Copy, Debug, PartialEq, Eq)]
+pub struct Metrics {
+    /// Counted connections.
+    pub connection_count: u64,
+    /// Idle ones.
+    pub connections_in_pool: u64,
+    /// Leased ones.
+    pub connections_in_use: u64,
+    /// Waiting requests.
+    pub active_wait_requests: u64,
+    /// Connections that could not be made or were not good, and those whose request was given up.
+    pub create_failed: u64,
+    /// Returned ones whose link was closed.
+    pub discarded_unestablished_connection: u64,
+    /// Returned ones that were to be cleaned.
+    pub dirty_connection_return: u64,
+    /// Returned ones that were closed, since their time was over or the pool was closed.
+    pub discarded_expired_connection: u64,
+    /// Returned ones that were reset.
+    pub resetting_connection: u64,
+    /// Those that were closed, since enough were idle, or the pool was closed behind their reset.
+    pub discarded_superfluous_connection: u64,
+    /// Those that became idle.
+    pub connection_returned_to_pool: u64,
+    /// Those whose cleaning, reset or close failed.
+    pub discarded_error_during_cleanup: u64,
+}
+
 /// One more, but for a number that stands at its type's end.
 pub(crate) const fn one_more(n: u64) -> u64
     ensures { result ≡ one_more n }

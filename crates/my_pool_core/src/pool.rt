@@ -4,6 +4,8 @@ ghost use Rattle.std.specs.Prelude.{◌≡◌, IsTrue, OnOk};
 ghost use Rattle.my_pool_core.specs.Events.{new_pool};
 
 mod asking;
+mod made;
+mod replay;
 mod returning;
 mod whole;
 

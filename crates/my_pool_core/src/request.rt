@@ -3,8 +3,8 @@
 ghost use Rattle.std.specs.Prelude.{◌≡◌, ◌++◌, [], ◌∷◌, ◌<◌, IsTrue, length, find, position, vec_len, vec_capacity};
 ghost use Rattle.std.specs.List.{list_any};
 ghost use Rattle.my_pool_core.specs.Lists.{how_many, found_is};
-ghost use Rattle.my_pool_core.specs.Requests.{last_age, asking, has_age, is_waiting, is_waiting_standing, is_woken, is_woken_standing, is_dialing, is_dialing_standing, is_queued, may_dial, standing_as, now_waiting, set_standing, set_waiting, ended, roused, wake, wake_all, waits_up_to};
-ghost use Rattle.my_pool_core.specs.Events.{has_waited, let_go, with_last};
+ghost use Rattle.my_pool_core.specs.Requests.{last_age, asking, is_free, holds, has_age, is_waiting, is_waiting_standing, is_woken, is_woken_standing, is_dialing, is_dialing_standing, is_queued, may_dial, standing_as, now_waiting, set_standing, set_waiting, ended, roused, wake, wake_all, waits_up_to};
+ghost use Rattle.my_pool_core.specs.Events.{has_waited, is_live, let_go, with_last};
 
 /// The last age and the last number.
 pub(crate) const LAST: u64 = u64::MAX;
@@ -58,6 +58,26 @@ impl Request {
         ensures { result ≡ is_woken self.now }
     {
         matches!(self.standing, Standing::Woken)
+    }
+
+    /// Whether it has no connection.
+    pub fn is_free(&self) -> bool
+        ensures { result ≡ is_free self.now }
+    {
+        matches!(
+            self.standing,
+            Standing::Asks | Standing::Waits | Standing::Woken
+        )
+    }
+
+    /// Whether it makes or looks at the connection of a number.
+    pub fn holds(&self, number: u64) -> bool
+        ensures { result ≡ holds number self.now }
+    {
+        match self.standing {
+            Standing::Dials(held) | Standing::Checks(held) => held == number,
+            _ => false,
+        }
     }
 
     /// The request with another standing.
@@ -124,6 +144,33 @@ fn is_dialing(requests: &[Request], age: u64) -> bool
 {
     match request_of(requests, age) {
         Some(request) => request.is_dialing(),
+        None => false,
+    }
+}
+
+/// Whether the request of an age is live.
+pub(crate) fn is_live(requests: &[Request], age: u64) -> bool
+    ensures { result ≡ found_is is_live (find (has_age age) requests.now) }
+{
+    request_of(requests, age).is_some()
+}
+
+/// Whether the request of an age is live and has no connection.
+pub(crate) fn is_free(requests: &[Request], age: u64) -> bool
+    ensures { result ≡ found_is is_free (find (has_age age) requests.now) }
+{
+    match request_of(requests, age) {
+        Some(request) => request.is_free(),
+        None => false,
+    }
+}
+
+/// Whether the request of an age makes or looks at the connection of a number.
+pub(crate) fn is_held(requests: &[Request], age: u64, number: u64) -> bool
+    ensures { result ≡ found_is (holds number) (find (has_age age) requests.now) }
+{
+    match request_of(requests, age) {
+        Some(request) => request.holds(number),
         None => false,
     }
 }
@@ -244,4 +291,11 @@ pub(crate) fn count_may_dial(requests: &[Request]) -> usize
     ensures { result ≡ how_many may_dial requests.now }
 {
     requests.iter().filter(|r| !r.is_dialing()).count()
+}
+
+/// How many wait.
+pub(crate) fn count_waiting(requests: &[Request]) -> usize
+    ensures { result ≡ how_many is_waiting requests.now }
+{
+    requests.iter().filter(|r| r.is_waiting()).count()
 }

@@ -1,12 +1,28 @@
-//! The events of the whole pool.
+//! The events of the whole pool, and what is seen of it.
 
 ghost use Rattle.std.specs.Prelude.{◌≡◌, IsTrue};
-ghost use Rattle.my_pool_core.specs.Events.{close, is_gone};
+ghost use Rattle.my_pool_core.specs.Events.{check_ttl, check_ttl_moved, close, is_gone};
+ghost use Rattle.my_pool_core.specs.Seen.{metrics_of};
 
 use super::Core;
-use crate::request::wake_all;
+use crate::connection::{Connection, count_idle, count_leased, sweep};
+use crate::limits::Metrics;
+use crate::request::{Request, count_waiting, wake_all};
 
 impl Core {
+    /// Idle connections whose time is over are marked and returned; answers how many.
+    ///
+    /// Each above its deadline is, and while more are idle than the lower bound asks for, each that is idle for too long.
+    pub fn check_ttl(&mut self, now: u64) -> u64
+        ensures state { self.new ≡ check_ttl now self.old }
+        ensures moved { result ≡ check_ttl_moved now self.old }
+    {
+        let min = self.limits.min;
+        let idle = count_idle(&self.connections) as u64;
+        let many = idle.saturating_sub(min) as usize;
+        sweep(&mut self.connections, now, self.limits.inactive, many) as u64
+    }
+
     /// The pool is closed, and each waiting request is woken.
     pub fn close(&mut self)
         ensures { self.new ≡ close self.old }
@@ -20,5 +36,53 @@ impl Core {
         ensures { result ≡ is_gone self.now }
     {
         self.closed && self.connections.is_empty() && self.settled
+    }
+
+    /// How many connections and requests are where, and how often each thing happened.
+    pub fn metrics(&self) -> Metrics
+        ensures { result ≡ metrics_of self.now }
+    {
+        Metrics {
+            connection_count: self.connections.len() as u64,
+            connections_in_pool: count_idle(&self.connections) as u64,
+            connections_in_use: count_leased(&self.connections) as u64,
+            active_wait_requests: count_waiting(&self.requests) as u64,
+            create_failed: self.counts.create_failed,
+            discarded_unestablished_connection: self.counts.discarded_unestablished_connection,
+            dirty_connection_return: self.counts.dirty_connection_return,
+            discarded_expired_connection: self.counts.discarded_expired_connection,
+            resetting_connection: self.counts.resetting_connection,
+            discarded_superfluous_connection: self.counts.discarded_superfluous_connection,
+            connection_returned_to_pool: self.counts.connection_returned_to_pool,
+            discarded_error_during_cleanup: self.counts.discarded_error_during_cleanup,
+        }
+    }
+
+    /// The counted connections with their places, in the order in which they came to them.
+    pub fn connections(&self) -> &[Connection]
+        ensures { result.now ≡ self.now.connections }
+    {
+        &self.connections
+    }
+
+    /// The live requests, from the oldest on.
+    pub fn requests(&self) -> &[Request]
+        ensures { result.now ≡ self.now.requests }
+    {
+        &self.requests
+    }
+
+    /// Whether the pool is closed.
+    pub fn is_closed(&self) -> bool
+        ensures { result ≡ self.now.closed }
+    {
+        self.closed
+    }
+
+    /// For how many more connections there is room.
+    pub fn spare(&self) -> u64
+        ensures { result ≡ self.now.spare }
+    {
+        self.spare
     }
 }

@@ -1,0 +1,14 @@
+use Rattle.std.proofs.Common.{◌≡◌, ◌-◌, ◌++◌, ap, ◌∙◌}
+use Rattle.my_pool_core.specs.State.{State}
+use Rattle.my_pool_core.specs.Lists.{how_many}
+use Rattle.my_pool_core.specs.Connections.{is_idle, lasting, outdated}
+use Rattle.my_pool_core.specs.contracts.pool.Core.{the_view}
+use Rattle.my_pool_core.proofs.Keeping.{kept-swept}
+use Rattle.my_pool_core.proofs.pool.Core.check_ttl.Goals as goal
+
+pub invariant_of-self : goal.invariant_of-self
+invariant_of-self c =
+    let s : State = the_view c.self.inside in
+    let many = c.saturating_sub-many.ensures ∙ ap (λ n. n - s.limits.min) (c.count_idle-idle.ensures ∙ ap (how_many is_idle) c.deref.ensures.value) in
+    let items = c.sweep.ensures.items ∙ ap (λ k. lasting c.args.now s.limits.inactive k 0 s.connections ++ outdated c.args.now s.limits.inactive k 0 s.connections) many in
+    kept-swept c.args.now s _ _ _ c.self.invariant (ap (λ cs. record s { connections = cs }) items) c.sweep.ensures.capacity

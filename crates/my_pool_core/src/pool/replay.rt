@@ -1,0 +1,85 @@
+//! Any event, whichever it is: so a list of events is replayed by a loop.
+
+ghost use Rattle.std.specs.Prelude.{◌≡◌, true, IsOk, OnOk, OnErr, IfOk};
+ghost use Rattle.my_pool_core.specs.Steps.{may, step, answer};
+
+use super::Core;
+use crate::connection::{is_cleaning, is_finishing, is_leased};
+use crate::event::{Answer, PoolEvent};
+use crate::request::{is_free, is_held, is_live};
+use my_wire::NoMemory;
+
+impl Core {
+    /// Whether an event may happen: what the method of that event asks for.
+    pub fn may(&self, event: PoolEvent) -> bool
+        ensures { result ≡ may self.now event }
+    {
+        match event {
+            PoolEvent::PollRequest { age, .. } => is_free(&self.requests, age),
+            PoolEvent::Cancel { age } => is_live(&self.requests, age),
+            PoolEvent::Ready { age, conn } | PoolEvent::Failed { age, conn } => {
+                is_held(&self.requests, age, conn)
+            }
+            PoolEvent::GiveBack { conn } | PoolEvent::Detach { conn } => {
+                is_leased(&self.connections, conn)
+            }
+            PoolEvent::Decide { conn, .. } => is_cleaning(&self.connections, conn),
+            PoolEvent::Done { conn, ok, .. } => is_finishing(&self.connections, conn, ok),
+            PoolEvent::Request
+            | PoolEvent::TakeReturned
+            | PoolEvent::CheckTtl { .. }
+            | PoolEvent::Close
+            | PoolEvent::PollDisconnect => true,
+        }
+    }
+
+    /// An event happens. Only that somebody asks takes memory, and where there is none nothing changes.
+    pub fn apply(&mut self, event: PoolEvent) -> Result<Answer, NoMemory>
+        requires { may self.old event ≡ true }
+        ensures state { OnOk result (self.new ≡ step self.old event) }
+        ensures answer { IfOk result (λ a. a ≡ answer self.old event) }
+        ensures err { OnErr result (self.new ≡ self.old) }
+        ensures succeeds { (event ≡ PoolEvent.Request → ⊥) → IsOk result }
+    {
+        Ok(match event {
+            PoolEvent::Request => Answer::Age(self.request()?),
+            PoolEvent::PollRequest { age, now } => Answer::Poll(self.poll_request(age, now)),
+            PoolEvent::Cancel { age } => {
+                self.cancel(age);
+                Answer::Done
+            }
+            PoolEvent::Ready { age, conn } => {
+                self.ready(age, conn);
+                Answer::Done
+            }
+            PoolEvent::Failed { age, conn } => {
+                self.failed(age, conn);
+                Answer::Done
+            }
+            PoolEvent::GiveBack { conn } => {
+                self.give_back(conn);
+                Answer::Done
+            }
+            PoolEvent::Detach { conn } => {
+                self.detach(conn);
+                Answer::Done
+            }
+            PoolEvent::TakeReturned => Answer::Returned(self.take_returned()),
+            PoolEvent::Decide { conn, facts, now } => Answer::Verdict(self.decide(
+                conn, facts, now,
+            )),
+            PoolEvent::Done {
+                conn,
+                ok,
+                facts,
+                now,
+            } => { Answer::Verdict(self.done(conn, ok, facts, now)) }
+            PoolEvent::CheckTtl { now } => Answer::Moved(self.check_ttl(now)),
+            PoolEvent::Close => {
+                self.close();
+                Answer::Done
+            }
+            PoolEvent::PollDisconnect => Answer::Gone(self.poll_disconnect()),
+        })
+    }
+}
