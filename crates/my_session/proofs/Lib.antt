@@ -1,3 +1,12 @@
 pub mod Fronts
 pub mod Going
+pub mod Keeps
+pub mod Plain
+pub mod Plans
+pub mod Reacts
+pub mod Spots
 pub mod Stepping
+pub mod Ticks
+pub mod Ties
+pub mod Views
+pub mod Wired

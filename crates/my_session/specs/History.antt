@@ -110,4 +110,4 @@ has_closed [] = false
 has_closed (m ∷ ms) = closes m.what (kind_of m.call) || has_closed ms
 
 abbrev pub is_closed : History → Bool
-is_closed h = h.lost || has_closed h.calls
+is_closed h = has_closed h.calls || h.lost

@@ -1,12 +1,15 @@
 pub mod Calls
 pub mod Commands
+pub mod Entries
 pub mod Errors
 pub mod Facts
+pub mod Groups
 pub mod History
 pub mod Machine
 pub mod Rows
 pub mod Seen
 pub mod Session
+pub mod Stands
 pub mod Steps
 pub mod Tables
 pub mod View

@@ -18,7 +18,8 @@ use Rattle.my_session.specs.declared.call.Task.{Task}
 use Rattle.my_session.specs.declared.call.Task.TheVariants.{Nothing, Begun, Cleaning, Own, Reading, Dropping, Leaving, Failing}
 use Rattle.my_session.specs.Calls.{kind_of, text_of, is_open, is_quit}
 use Rattle.my_session.specs.Facts.{no_facts}
-use Rattle.my_session.specs.Machine.{Doing, Goes, Passes, Sends, Needs, Tells, Does, fell, next}
+use Rattle.my_session.specs.History.{History, ToldError, told, answered}
+use Rattle.my_session.specs.Machine.{Doing, Goes, Passes, Sends, Needs, Tells, Does, fell, next, doing, after_doing}
 use Rattle.my_session.specs.Seen.{Seen}
 
 -- the places at which a connected session rests between calls
@@ -140,3 +141,13 @@ pub record Steps (old new : Seen) (step : SessionStep) : Type 0 where
   pub count : ℕ
   pub go : AllGo count old
   pub last : Does (next (moved count old)) (moved count old) new (last_tick step)
+
+-- the history behind a move, and behind a step
+abbrev pub after_tick : History → Tick → History
+after_tick h t = after_doing h (doing t)
+
+abbrev pub after_step : History → SessionStep → History
+after_step h steps.Send = h
+after_step h steps.Need = h
+after_step h (steps.Done a) = answered h (told a)
+after_step h (steps.Fault e) = answered h (ToldError e)

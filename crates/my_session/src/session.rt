@@ -1,6 +1,6 @@
 //! A session: the public calls.
 
-ghost use Rattle.std.specs.Prelude.{◌≡◌, ◌≤◌, ◌++◌, ◌↔◌, length, drop, true, false, OnOk, OnErr, IfOk, IfErr, IsErr};
+ghost use Rattle.std.specs.Prelude.{◌≡◌, ◌≤◌, ◌++◌, ◌↔◌, List, length, drop, take as front, true, false, OnOk, OnErr, IfOk, IfErr, IsErr};
 ghost use Rattle.std.specs.Option.{option_copied};
 
 use crate::answer::SessionStep;
@@ -33,12 +33,15 @@ impl Session {
     ghost use Rattle.my_session.specs.Calls.{is_open, kind_of};
     ghost use Rattle.my_session.specs.Errors.{connection_closed};
     ghost use Rattle.my_session.specs.Machine.{dropped};
-    ghost use Rattle.my_session.specs.Steps.{AtBegun, is_refused, is_settled, fresh, begun, with_owed, with_unread, with_end, with_failing, with_loss, StepIs, Steps};
+    ghost use Rattle.my_session.specs.Steps.{AtBegun, is_refused, is_settled, fresh, begun, with_owed, with_unread, with_end, with_failing, with_loss, StepIs, Steps, after_step};
+    ghost use Rattle.my_session.specs.History.{History, Told, ToldError, Dropped, beginning, began, answered, passing, took, gone, ending, losing};
+    ghost use Rattle.my_session.specs.Stands.{Stands};
     ghost use Rattle.my_session.specs.Tables.{closes_when_cancelled};
 
     /// A session that awaits the server's greeting.
     pub fn new(alloc: Global, login: Login) -> Result<Session, NoMemory>
-        ensures { IfOk result (λ s. s.seen ≡ fresh login) }
+        ensures seen { IfOk result (λ s. s.seen ≡ fresh login) }
+        ensures stands { IfOk result (λ s. Stands s.seen beginning) }
     {
         let machine = Machine::new(alloc, login)?;
         Ok(Session { machine })
@@ -52,6 +55,8 @@ impl Session {
         ensures err { OnErr result (self.new.seen ≡ self.old.seen) }
         ensures why { IfErr result (λ e. e ≡ connection_closed) }
         ensures closed { IsErr result ↔ (is_refused self.old.seen.closed (kind_of call) ≡ true) }
+        ensures stands { OnOk result ((h : History) → Stands self.old.seen h → Stands self.new.seen (began h call)) }
+        ensures refused { OnErr result ((h : History) → Stands self.old.seen h → Stands self.new.seen (answered (began h call) (ToldError connection_closed))) }
     {
         self.machine.begin(call)
     }
@@ -75,6 +80,7 @@ impl Session {
         requires { is_open self.old.seen.task ≡ true }
         ensures steps { Steps self.old.seen self.new.seen result }
         ensures leaves { StepIs self.new.seen result }
+        ensures stands { (h : History) → Stands self.old.seen h → (passed : List Told) × Stands self.new.seen (after_step (passing h passed) result) }
     {
         step_machine(alloc, &mut self.machine)
     }
@@ -89,7 +95,8 @@ impl Session {
     /// So many of the bytes owed went out.
     pub fn sent(&mut self, count: usize)
         requires { count ≤ length self.old.seen.owed }
-        ensures { self.new.seen ≡ with_owed self.old.seen (drop count self.old.seen.owed) }
+        ensures seen { self.new.seen ≡ with_owed self.old.seen (drop count self.old.seen.owed) }
+        ensures stands { (h : History) → Stands self.old.seen h → Stands self.new.seen (gone h (front count self.old.seen.owed)) }
     {
         self.machine.sent(count);
     }
@@ -98,13 +105,16 @@ impl Session {
     pub fn take(&mut self, bytes: &[u8]) -> Result<(), NoMemory>
         ensures ok { OnOk result (self.new.seen ≡ with_unread self.old.seen (self.old.seen.unread ++ bytes.now)) }
         ensures err { OnErr result (self.new.seen ≡ with_loss self.old.seen) }
+        ensures stands { OnOk result ((h : History) → Stands self.old.seen h → Stands self.new.seen (took h bytes.now)) }
+        ensures lost { OnErr result ((h : History) → Stands self.old.seen h → Stands self.new.seen (losing h)) }
     {
         self.machine.take(bytes)
     }
 
     /// The link told its end.
     pub fn end(&mut self)
-        ensures { self.new.seen ≡ with_end self.old.seen }
+        ensures seen { self.new.seen ≡ with_end self.old.seen }
+        ensures stands { (h : History) → Stands self.old.seen h → Stands self.new.seen (ending h) }
     {
         self.machine.end();
     }
@@ -112,7 +122,8 @@ impl Session {
     /// The open call is told to fail: its next step is that fault, and the session is closed.
     pub fn fail(&mut self, fault: LinkFault)
         requires { is_open self.old.seen.task ≡ true }
-        ensures { self.new.seen ≡ with_failing self.old.seen fault }
+        ensures seen { self.new.seen ≡ with_failing self.old.seen fault }
+        ensures stands { (h : History) → Stands self.old.seen h → Stands self.new.seen h }
     {
         self.machine.fail(fault);
     }
@@ -121,7 +132,9 @@ impl Session {
     /// never stepped; a read closes it where the head of a further set is awaited.
     pub fn cancel(&mut self)
         requires { is_open self.old.seen.task ≡ true }
-        ensures { self.new.seen ≡ dropped self.old.seen }
+        ensures seen { self.new.seen ≡ dropped self.old.seen }
+        ensures stands { (h : History) → Stands self.old.seen h
+            → Stands self.new.seen (answered h (Dropped (closes_when_cancelled self.old.seen.task self.old.seen.context.spot))) }
     {
         let _ = self.machine.cancel();
     }

@@ -1,9 +1,11 @@
 //! A step of the open call: moves until it asks for something or ends.
 
-ghost use Rattle.std.specs.Prelude.{◌≡◌, true};
+ghost use Rattle.std.specs.Prelude.{◌≡◌, List, true};
 ghost use Rattle.my_session.specs.Session.{seen};
 ghost use Rattle.my_session.specs.Calls.{is_open};
-ghost use Rattle.my_session.specs.Steps.{StepIs, Steps};
+ghost use Rattle.my_session.specs.Steps.{StepIs, Steps, after_step};
+ghost use Rattle.my_session.specs.History.{History, Told, passing};
+ghost use Rattle.my_session.specs.Stands.{Stands};
 
 use crate::answer::{SessionStep, Tick};
 use crate::machine::Machine;
@@ -14,6 +16,7 @@ pub fn step_machine(alloc: Global, machine: &mut Machine) -> SessionStep
     requires { is_open (seen machine.old).task ≡ true }
     ensures steps { Steps (seen machine.old) (seen machine.new) result }
     ensures leaves { StepIs (seen machine.new) result }
+    ensures stands { (h : History) → Stands (seen machine.old) h → (passed : List Told) × Stands (seen machine.new) (after_step (passing h passed) result) }
 {
     'moves: loop {
         match machine.tick(alloc) {

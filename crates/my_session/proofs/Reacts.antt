@@ -1,0 +1,283 @@
+-- Each payload keeps what a session stands for.
+use Rattle.std.proofs.Common.{◌≡◌, ℕ, List, [], ◌∷◌, ◌++◌, ◌||◌, Bool, true, false, cond, Option, Some, None, inl, inr, refl, sym, ap, ◌∙◌, subst}
+use Rattle.my_wire.specs.declared.err.ErrPacket.{ErrPacket}
+use Rattle.my_wire.specs.FrontLaws.{IsWhole}
+use Rattle.my_value.specs.RowParts.{RowParts}
+use Rattle.my_grammar.specs.declared.login.Login.{Login}
+use Rattle.my_grammar.specs.declared.spot.Context.{Context}
+use Rattle.my_grammar.specs.declared.spot.Kind.{Kind}
+use Rattle.my_grammar.specs.declared.spot.Kind.TheVariants.{Greets, Good, Failed, Count, Column, ColumnsDone, Row, End, Bad}
+use Rattle.my_grammar.specs.declared.spot.Spot.{Spot}
+use Rattle.my_grammar.specs.declared.spot.Spot.TheVariants as spots
+use Rattle.my_grammar.specs.Contexts.{deprecates_eof, is_bad, more, spot_after}
+use Rattle.my_grammar.specs.Growth.{grow}
+use Rattle.my_grammar.specs.Kinds.{kind_there}
+use Rattle.my_grammar.specs.Talk.{context_of, packets_of, origin}
+use Rattle.my_grammar.proofs.SetGrowth.{not_greets}
+use Rattle.my_session.specs.declared.call.Call.{Call}
+use Rattle.my_session.specs.declared.call.CallKind.{CallKind}
+use Rattle.my_session.specs.declared.call.CallKind.TheVariants.{Connect, Query, NextRow, DropResult, Ping, Quit}
+use Rattle.my_session.specs.declared.call.Task.{Task}
+use Rattle.my_session.specs.declared.call.Task.TheVariants as tasks
+use Rattle.my_session.specs.declared.error.Error.{Error}
+use Rattle.my_session.specs.declared.error.Error.TheVariants as errors
+use Rattle.my_session.specs.declared.error.ServerError.{ServerError}
+use Rattle.my_session.specs.Calls.{kind_of, call_of, kind_in, is_open, is_connect}
+use Rattle.my_session.specs.Commands.{opening}
+use Rattle.my_session.specs.Entries.{Entry, kept_by, facts_of, givens, onto, sets_of, calls_in, may_lack, connects, has_connected, IsGiven, IsTied}
+use Rattle.my_session.specs.declared.facts.Facts.{Facts}
+use Rattle.my_session.specs.Groups.{Group, groups, given, given_after, with_item, with_stop}
+use Rattle.my_session.specs.History.{History, Made, Told, ToldReady, ToldRow, ToldEnd, ToldError, answered, noted, closes, closes_by, has_closed}
+use Rattle.my_session.specs.Machine.{fell, with_task, advanced, reply_to, reply_bytes, is_greeting}
+use Rattle.my_session.specs.Rows.{row_at}
+use Rattle.my_session.specs.Seen.{Seen}
+use Rattle.my_session.specs.Stands.{Stands, Wire, Heard, TaskIs, TieIs, call_with, is_left, is_reading, is_shaking, is_first, is_lone, keeps, known_part, is_alive, owes, begun_of}
+use Rattle.my_session.specs.Steps.{is_settled}
+use Rattle.my_session.proofs.Spots.{is_known, known, row_spot, end_spot, good_spot, failed_idle, shaken, settled_more, reading_after, left_here, not_greeting, settled_not_greeting}
+use Rattle.my_session.proofs.Ties.{answered_stands, noted_stands, kind_there_is, closed_tie, own_behind, quiet_more, all_begun, none_waits}
+use Rattle.my_session.proofs.Views.{given_on, given_all, given_first, is_part, part_groups, end_groups, good_groups, row_groups, first_on, is_queried, IsReady, ready_on, query_talk}
+use Rattle.my_session.proofs.Wired.{wire_read, wire_fell}
+
+-- a call ends and closes the session
+pub falls : (s : Seen) (h : History) (t : Told) (c : CallKind) → kind_in s.task ≡ Some c → closes t (kind_of (call_of c s.text)) ≡ true → may_lack t (kind_of (call_of c s.text)) ≡ true → given_after t (kind_of (call_of c s.text)) (given h.calls) ≡ given h.calls → Stands s h → Stands (fell s) (answered h t)
+falls s h t c call fatal lack none st =
+    let hd = st.heard in
+    answered_stands (fell s) h (call_of c s.text) t (hd.pending_is ∙ ap (λ k. call_with k s.text) call) (record {
+      newest = st.newest;
+      older = st.older;
+      wire = wire_fell s.login h.taken h.sent st.newest.call st.newest.talk st.older s.context s.number s.unread s.owed s.closed s.facts st.wire;
+      heard = record {
+        pending_is = refl;
+        closed_is = ap (λ b. (b || has_closed h.calls) || h.lost) (sym fatal);
+        alive = λ no. cc;
+        given_is = none ∙ hd.given_is;
+        each = hd.each;
+        lone = hd.lone;
+        fresh = λ no _ _. cc;
+        at = λ no. cc;
+        first = hd.first;
+        tie = closed_tie s.task c s.text s.context.spot h.calls st.newest.call st.older _ call refl lack hd.tie;
+      };
+      ended_is = st.ended_is;
+      settled = λ _. refl;
+    })
+
+-- a fatal error
+pub fell_stands : (s : Seen) (h : History) (e : Error) → ((c : CallKind) → closes_by e c ≡ true) → is_open s.task ≡ true → Stands s h → Stands (fell s) (answered h (ToldError e))
+fell_stands s h e fatal op st = let c = kind_there_is s.task op in falls s h (ToldError e) c.0 c.1 (fatal _) refl refl st
+
+or_false : (b : Bool) → b || false ≡ b
+or_false true = refl
+or_false false = refl
+
+-- behind a payload
+module _ (s : Seen) (h : History) (st : Stands s h) (open_still : s.closed ≡ false) (nothing : s.owed ≡ []) (p rest : List ℕ) (next : ℕ) (whole : IsWhole s.number s.context.terms.limit s.unread p rest next) where
+  d : Bool
+  d = deprecates_eof s.context.terms.kept
+
+  abbrev pub newest_by : Kind → Option (List Group) → Entry
+  newest_by k g = record { call = st.newest.call; talk = grow k st.newest.talk p; given = g }
+
+  abbrev pub spot_by : Kind → Spot
+  spot_by k = spot_after (deprecates_eof s.context.terms.kept) s.context.spot k
+
+  pub knows : (k : Kind) → kind_there s.context p ≡ k → is_known s.context.spot k ≡ true
+  knows k e = known s.context.spot (deprecates_eof s.context.terms.kept) s.context.columns p k e
+
+  talk_knows : (k : Kind) → kind_there s.context p ≡ k → is_known (context_of st.newest.talk).spot k ≡ true
+  talk_knows k e = subst (λ (c : Context). is_known c.spot k ≡ true) st.wire.context_is (knows k e)
+
+  -- a reading payload that isn't a greeting lets nothing be owed
+  none_owed : (k : Kind) → not_greets k ≡ true → s.owed ++ reply_bytes (reply_to s.login k p) next ≡ []
+  none_owed (Greets c) g = cc
+  none_owed (Good status) g = ap (λ bs. bs ++ []) nothing
+  none_owed Failed g = ap (λ bs. bs ++ []) nothing
+  none_owed (Count n) g = ap (λ bs. bs ++ []) nothing
+  none_owed Column g = ap (λ bs. bs ++ []) nothing
+  none_owed ColumnsDone g = ap (λ bs. bs ++ []) nothing
+  none_owed Row g = ap (λ bs. bs ++ []) nothing
+  none_owed (End status) g = ap (λ bs. bs ++ []) nothing
+  none_owed Bad g = ap (λ bs. bs ++ []) nothing
+
+  -- the wire goes on, and this is what callers heard
+  lands : (k : Kind) (u : Task) (untold : Bool) (g : Option (List Group)) (made : List Made) (pending : Option Call) → kind_there s.context p ≡ k → is_bad k ≡ false → Heard u s.text (spot_by k) untold s.closed h.lost made pending (newest_by k g) st.older → (owes u ≡ false → not_greets k ≡ true) → Stands (with_task (advanced s k p rest next) u untold) (record { sent = h.sent; taken = h.taken; calls = made; pending = pending; ended = h.ended; lost = h.lost })
+  lands k u untold g made pending e good hd quiet = record {
+    newest = newest_by k g;
+    older = st.older;
+    wire = wire_read s.login h.taken h.sent st.newest.call st.newest.talk st.older s.context s.number s.unread s.owed s.closed s.facts k p rest next open_still e good whole st.wire;
+    heard = hd;
+    ended_is = st.ended_is;
+    settled = λ o. none_owed k (quiet o);
+  }
+
+  no_greeting : (k : Kind) {A : Type 0} → is_greeting (spot_by k) ≡ true → A
+  no_greeting k waits = let stop : true ≡ false = sym waits ∙ not_greeting s.context.spot (deprecates_eof s.context.terms.kept) k in cc
+
+  -- the call goes on with its task, and callers are given nothing
+  pub goes : (t : Task) (k : Kind) → kind_there s.context p ≡ k → is_bad k ≡ false → keeps t ≡ false → Heard t s.text s.context.spot s.untold s.closed h.lost h.calls h.pending st.newest st.older → TaskIs t (spot_by k) s.closed (has_connected h.calls) (newest_by k st.newest.given) → TieIs t s.text (spot_by k) h.calls st.newest.call st.older → (owes t ≡ false → not_greets k ≡ true) → Stands (with_task (advanced s k p rest next) t false) h
+  goes t k e good lost hd at tie quiet = lands k t false st.newest.given h.calls h.pending e good (record {
+    pending_is = hd.pending_is;
+    closed_is = hd.closed_is;
+    alive = hd.alive;
+    given_is = hd.given_is;
+    each = (given_on st.newest.given k st.newest.talk p hd.each.0, hd.each.1);
+    lone = λ no. cc;
+    fresh = λ _ no _. let stop : true ≡ false = sym no ∙ lost in cc;
+    at = at;
+    first = λ no. no_greeting k no;
+    tie = tie;
+  }) quiet
+
+  -- a server's error ends the call
+  pub refuses : (t : Task) (c : CallKind) (x : ServerError) → kind_there s.context p ≡ Failed → kind_in t ≡ Some c → is_connect (kind_of (call_of c s.text)) ≡ false → has_connected h.calls ≡ true → Heard t s.text s.context.spot s.untold s.closed h.lost h.calls h.pending st.newest st.older → IsTied (record { call = call_of c s.text; what = ToldError (errors.Server x) } ∷ h.calls) (begun_of (spot_by Failed) st.newest.call st.older) → Stands (with_task (advanced s Failed p rest next) tasks.Nothing false) (answered h (ToldError (errors.Server x)))
+  refuses t c x e call not made hd tie =
+      let idle : spot_by Failed ≡ spots.Idle = failed_idle s.context.spot (deprecates_eof s.context.terms.kept) (knows Failed e) in
+      answered_stands _ h (call_of c s.text) (ToldError (errors.Server x)) (hd.pending_is ∙ ap (λ k. call_with k s.text) call) (lands Failed tasks.Nothing false st.newest.given _ None e refl (record {
+        pending_is = refl;
+        closed_is = hd.closed_is ∙ ap (λ b. (b || has_closed h.calls) || h.lost) (sym not);
+        alive = λ no. cc;
+        given_is = hd.given_is;
+        each = (given_on st.newest.given Failed st.newest.talk p hd.each.0, hd.each.1);
+        lone = λ no. cc;
+        fresh = λ _ _ left. let no : is_left spots.Idle ≡ true = subst (λ (x : Spot). is_left x ≡ true) idle left in cc;
+        at = λ _. subst (λ b. cond b (is_settled (spot_by Failed)) (is_greeting (spot_by Failed)) ≡ true) (sym made) (ap is_settled idle);
+        first = λ no. no_greeting Failed no;
+        tie = tie;
+      }) (λ _. refl))
+
+  -- while it isn't connected, it closes the session
+  pub refuses_connect : (x : ServerError) → kind_there s.context p ≡ Failed → Heard (tasks.Own Connect) s.text s.context.spot s.untold s.closed h.lost h.calls h.pending st.newest st.older → Stands (fell (advanced s Failed p rest next)) (answered h (ToldError (errors.Server x)))
+  refuses_connect x e hd = answered_stands (fell (advanced s Failed p rest next)) h (call_of Connect s.text) (ToldError (errors.Server x)) hd.pending_is (record {
+    newest = newest_by Failed st.newest.given;
+    older = st.older;
+    wire = wire_fell s.login h.taken h.sent st.newest.call (grow Failed st.newest.talk p) st.older _ _ rest _ s.closed _ (wire_read s.login h.taken h.sent st.newest.call st.newest.talk st.older s.context s.number s.unread s.owed s.closed s.facts Failed p rest next open_still e refl whole st.wire);
+    heard = record {
+      pending_is = refl;
+      closed_is = refl;
+      alive = λ no. cc;
+      given_is = hd.given_is;
+      each = (given_on st.newest.given Failed st.newest.talk p hd.each.0, hd.each.1);
+      lone = λ no. cc;
+      fresh = λ no _ _. cc;
+      at = λ no. cc;
+      first = λ no. no_greeting Failed no;
+      tie = own_behind (spot_by Failed) h.calls (record { call = call_of Connect s.text; what = ToldError (errors.Server x) }) st.newest.call st.older (not_greeting s.context.spot (deprecates_eof s.context.terms.kept) Failed) (sym hd.tie.0) hd.tie.1;
+    };
+    ended_is = st.ended_is;
+    settled = λ _. refl;
+  })
+
+  -- a call of one answer is answered: callers are given nothing
+  settles : (c : CallKind) (status : ℕ) → kind_there s.context p ≡ Good status → spot_by (Good status) ≡ spots.Idle → Heard (tasks.Own c) s.text s.context.spot s.untold s.closed h.lost h.calls h.pending st.newest st.older → closes ToldReady (kind_of (call_of c s.text)) ≡ false → given_after ToldReady (kind_of (call_of c s.text)) (given h.calls) ≡ given h.calls → connects ToldReady (kind_of (call_of c s.text)) || has_connected h.calls ≡ true → Stands (with_task (advanced s (Good status) p rest next) tasks.Nothing false) (answered h ToldReady)
+  settles c status e idle hd still none made =
+      answered_stands _ h (call_of c s.text) ToldReady hd.pending_is (lands (Good status) tasks.Nothing false st.newest.given _ None e refl (record {
+        pending_is = refl;
+        closed_is = hd.closed_is ∙ ap (λ b. (b || has_closed h.calls) || h.lost) (sym still);
+        alive = λ no. cc;
+        given_is = none ∙ hd.given_is;
+        each = (given_on st.newest.given (Good status) st.newest.talk p hd.each.0, hd.each.1);
+        lone = λ no. cc;
+        fresh = λ _ _ left. let no : is_left spots.Idle ≡ true = subst (λ (x : Spot). is_left x ≡ true) idle left in cc;
+        at = λ _. subst (λ b. cond b (is_settled (spot_by (Good status))) (is_greeting (spot_by (Good status))) ≡ true) (sym made) (ap is_settled idle);
+        first = λ no. no_greeting (Good status) no;
+        tie = own_behind (spot_by (Good status)) h.calls (record { call = call_of c s.text; what = ToldReady }) st.newest.call st.older (not_greeting s.context.spot (deprecates_eof s.context.terms.kept) (Good status)) (sym hd.tie.0) hd.tie.1;
+      }) (λ _. refl))
+
+  pub welcomes : (status : ℕ) → kind_there s.context p ≡ Good status → Heard (tasks.Own Connect) s.text s.context.spot s.untold s.closed h.lost h.calls h.pending st.newest st.older → Stands (with_task (advanced s (Good status) p rest next) tasks.Nothing false) (answered h ToldReady)
+  welcomes status e hd = settles Connect status e (shaken s.context.spot (deprecates_eof s.context.terms.kept) status hd.at.1) hd refl refl refl
+
+  pub pongs : (status : ℕ) → kind_there s.context p ≡ Good status → Heard (tasks.Own Ping) s.text s.context.spot s.untold s.closed h.lost h.calls h.pending st.newest st.older → Stands (with_task (advanced s (Good status) p rest next) tasks.Nothing false) (answered h ToldReady)
+  pongs status e hd = settles Ping status e (ap (λ (x : Spot). spot_after (deprecates_eof s.context.terms.kept) x (Good status)) hd.at.1) hd refl refl hd.at.0
+
+  is_query : Heard (tasks.Own Query) s.text s.context.spot s.untold s.closed h.lost h.calls h.pending st.newest st.older → is_queried st.newest.talk ≡ true
+  is_query hd = query_talk s.login (kept_by s.login st.older) s.text st.newest.talk (subst (λ (c : Call). opening s.login (kept_by s.login st.older) c ≡ Some (origin st.newest.talk)) hd.tie.0 st.wire.table.0)
+
+  -- a query is answered by a lone OK, whose end is left to be told
+  pub readies : (status : ℕ) → kind_there s.context p ≡ Good status → Heard (tasks.Own Query) s.text s.context.spot s.untold s.closed h.lost h.calls h.pending st.newest st.older → Stands (with_task (advanced s (Good status) p rest next) tasks.Nothing true) (answered h ToldReady)
+  readies status e hd =
+      let queried = is_query hd in
+      let ready : IsReady status st.newest.talk p = ready_on status st.newest.talk p queried hd.at.2 (talk_knows (Good status) e) in
+      let head : s.context.spot ≡ spots.Head = ap (λ (c : Context). c.spot) st.wire.context_is ∙ ready.spot in
+      let settled_here : is_settled (spot_by (Good status)) ≡ true = ap (λ (x : Spot). is_settled (spot_after (deprecates_eof s.context.terms.kept) x (Good status))) head ∙ settled_more status in
+      answered_stands _ h (call_of Query s.text) ToldReady hd.pending_is (lands (Good status) tasks.Nothing true (Some []) _ None e refl (record {
+        pending_is = refl;
+        closed_is = hd.closed_is;
+        alive = λ no. cc;
+        given_is = ap (λ gs. [] ∷ gs) (hd.given_is ∙ ap (λ o. onto o (givens st.older)) hd.at.1);
+        each = (given_on (Some []) (Good status) st.newest.talk p (given_first st.newest.talk st.wire.fits hd.at.2), hd.each.1);
+        lone = λ _. ready.lone;
+        fresh = λ _ _ _. ap Some (sym ready.none);
+        at = λ _. subst (λ b. cond b (is_settled (spot_by (Good status))) (is_greeting (spot_by (Good status))) ≡ true) (sym hd.at.0) settled_here;
+        first = λ no. no_greeting (Good status) no;
+        tie = own_behind (spot_by (Good status)) h.calls (record { call = call_of Query s.text; what = ToldReady }) st.newest.call st.older (not_greeting s.context.spot (deprecates_eof s.context.terms.kept) (Good status)) (sym hd.tie.0) hd.tie.1;
+      }) (λ _. refl))
+
+  -- a part of the first head of a query's answer
+  pub first_parts : (k : Kind) → kind_there s.context p ≡ k → is_part k ≡ true → is_bad k ≡ false → not_greets k ≡ true → Heard (tasks.Own Query) s.text s.context.spot s.untold s.closed h.lost h.calls h.pending st.newest st.older → Stands (with_task (advanced s k p rest next) (tasks.Own Query) false) h
+  first_parts k e part good quiet hd =
+      let queried = is_query hd in
+      goes (tasks.Own Query) k e good refl hd (hd.at.0, hd.at.1, first_on k st.newest.talk p queried hd.at.2 (talk_knows k e) part) hd.tie (λ _. quiet)
+
+-- a task that reads what is left: it reads, or passes over
+module _ (s : Seen) (h : History) (st : Stands s h) (open_still : s.closed ≡ false) (nothing : s.owed ≡ []) (told : s.untold ≡ false) (p rest : List ℕ) (next : ℕ) (whole : IsWhole s.number s.context.terms.limit s.unread p rest next) (t : Task) (c : CallKind) (call : kind_in t ≡ Some c) (kept : keeps t ≡ true) (reads : is_reading s.context.spot ≡ true) (made : has_connected h.calls ≡ true) (hd : Heard t s.text s.context.spot s.untold s.closed h.lost h.calls h.pending st.newest st.older) (tied : IsTied h.calls (begun_of s.context.spot st.newest.call st.older)) where
+  -- while something is left, all that stands was given
+  fresh_now : is_left s.context.spot ≡ true → st.newest.given ≡ Some (groups (sets_of st.newest.talk))
+  fresh_now left = subst (λ b. b || is_left s.context.spot ≡ true → st.newest.given ≡ Some (groups (known_part b (sets_of st.newest.talk)))) told (hd.fresh open_still kept) left
+
+  given_now : is_left s.context.spot ≡ true → given h.calls ≡ groups (sets_of st.newest.talk) ∷ givens st.older
+  given_now left = hd.given_is ∙ ap (λ o. onto o (givens st.older)) (fresh_now left)
+
+  is_left_now : (k : Kind) → kind_there s.context p ≡ k → is_bad k ≡ false → is_left s.context.spot ≡ true
+  is_left_now k e good = left_here s.context.spot k reads (knows s h st open_still nothing p rest next whole k e) good
+
+  pub reads_on : (k : Kind) → is_reading (spot_by s h st open_still nothing p rest next whole k) ≡ true
+  reads_on k = reading_after s.context.spot (deprecates_eof s.context.terms.kept) k reads
+
+  -- the exchanges behind a payload are those before it
+  pub tied_on : (k : Kind) (x : List Made) → IsTied x (st.newest.call ∷ calls_in st.older) → IsTied x (begun_of (spot_by s h st open_still nothing p rest next whole k) st.newest.call st.older)
+  tied_on k x w = none_waits (spot_by s h st open_still nothing p rest next whole k) x st.newest.call st.older (not_greeting s.context.spot (deprecates_eof s.context.terms.kept) k) w
+
+  pub tied_now : IsTied h.calls (st.newest.call ∷ calls_in st.older)
+  tied_now = all_begun s.context.spot h.calls st.newest.call st.older (settled_not_greeting s.context.spot reads) tied
+
+  -- an item or an end is told, or passed over
+  pub shows : (u : Task) (k : Kind) (w : Told) → kind_there s.context p ≡ k → is_bad k ≡ false → owes u ≡ false → not_greets k ≡ true → closes w (kind_of (call_of c s.text)) ≡ false → may_lack w (kind_of (call_of c s.text)) ≡ true → connects w (kind_of (call_of c s.text)) || has_connected h.calls ≡ true → given_after w (kind_of (call_of c s.text)) (groups (sets_of st.newest.talk) ∷ givens st.older) ≡ groups (sets_of (grow k st.newest.talk p)) ∷ givens st.older → ((m : List Made) → has_connected m ≡ true → TaskIs u (spot_by s h st open_still nothing p rest next whole k) s.closed (has_connected m) (newest_by s h st open_still nothing p rest next whole k (Some (groups (sets_of (grow k st.newest.talk p)))))) → ((m : List Made) → IsTied m (begun_of (spot_by s h st open_still nothing p rest next whole k) st.newest.call st.older) → TieIs u s.text (spot_by s h st open_still nothing p rest next whole k) m st.newest.call st.older) → Stands (with_task (advanced s k p rest next) u false) (record { sent = h.sent; taken = h.taken; calls = record { call = call_of c s.text; what = w } ∷ h.calls; pending = call_with (kind_in u) s.text; ended = h.ended; lost = h.lost })
+  shows u k w e good owe quiet still lack con gave at tie = lands s h st open_still nothing p rest next whole k u false (Some (groups (sets_of (grow k st.newest.talk p)))) _ (call_with (kind_in u) s.text) e good (record {
+    pending_is = refl;
+    closed_is = hd.closed_is ∙ ap (λ b. (b || has_closed h.calls) || h.lost) (sym still);
+    alive = λ _. open_still;
+    given_is = ap (given_after w (kind_of (call_of c s.text))) (given_now (is_left_now k e good)) ∙ gave;
+    each = (given_all (grow k st.newest.talk p) (wire_read s.login h.taken h.sent st.newest.call st.newest.talk st.older s.context s.number s.unread s.owed s.closed s.facts k p rest next open_still e good whole st.wire).fits, hd.each.1);
+    lone = λ no. cc;
+    fresh = λ _ _ _. refl;
+    at = at (record { call = call_of c s.text; what = w } ∷ h.calls) con;
+    first = λ waits. no_greeting s h st open_still nothing p rest next whole k waits;
+    tie = tie (record { call = call_of c s.text; what = w } ∷ h.calls) (tied_on k (record { call = call_of c s.text; what = w } ∷ h.calls) (quiet_more (record { call = call_of c s.text; what = w }) h.calls (st.newest.call ∷ calls_in st.older) lack tied_now));
+  }) (λ _. quiet)
+
+  -- a part of the head of a further set
+  pub heads : (k : Kind) → kind_there s.context p ≡ k → is_part k ≡ true → is_bad k ≡ false → not_greets k ≡ true → owes t ≡ false → TaskIs t (spot_by s h st open_still nothing p rest next whole k) s.closed (has_connected h.calls) (newest_by s h st open_still nothing p rest next whole k st.newest.given) → TieIs t s.text (spot_by s h st open_still nothing p rest next whole k) h.calls st.newest.call st.older → Stands (with_task (advanced s k p rest next) t false) h
+  heads k e part good quiet owe at tie = lands s h st open_still nothing p rest next whole k t false st.newest.given h.calls h.pending e good (record {
+    pending_is = hd.pending_is;
+    closed_is = hd.closed_is;
+    alive = hd.alive;
+    given_is = hd.given_is;
+    each = (given_on st.newest.given k st.newest.talk p hd.each.0, hd.each.1);
+    lone = λ no. cc;
+    fresh = λ _ _ _. fresh_now (is_left_now k e good) ∙ ap Some (sym (part_groups k st.newest.talk p part));
+    at = at;
+    first = λ waits. no_greeting s h st open_still nothing p rest next whole k waits;
+    tie = tie;
+  }) (λ _. quiet)
+
+  talk_spot : (x : Spot) → s.context.spot ≡ x → (context_of st.newest.talk).spot ≡ x
+  talk_spot x e = sym (ap (λ (y : Context). y.spot) st.wire.context_is) ∙ e
+
+  pub row_gives : (row : RowParts) → kind_there s.context p ≡ Row → row_at s.facts.columns p ≡ Some row → groups (sets_of (grow Row st.newest.talk p)) ≡ with_item row (groups (sets_of st.newest.talk))
+  row_gives row e is = row_groups st.newest.talk (facts_of st.older) p row st.wire.fits (talk_spot spots.Rows (row_spot s.context.spot (knows s h st open_still nothing p rest next whole Row e))) (ap (λ (f : Facts). row_at f.columns p) (sym st.wire.facts_are) ∙ is)
+
+  pub end_gives : (status : ℕ) → kind_there s.context p ≡ End status → groups (sets_of (grow (End status) st.newest.talk p)) ≡ with_stop (groups (sets_of st.newest.talk))
+  end_gives status e = end_groups st.newest.talk p status (talk_spot spots.Rows (end_spot s.context.spot status (knows s h st open_still nothing p rest next whole (End status) e)))
+
+  pub good_gives : (status : ℕ) → kind_there s.context p ≡ Good status → groups (sets_of (grow (Good status) st.newest.talk p)) ≡ with_stop (groups (sets_of st.newest.talk))
+  good_gives status e = good_groups st.newest.talk p status (talk_spot spots.Further (good_spot s.context.spot status reads (knows s h st open_still nothing p rest next whole (Good status) e)))

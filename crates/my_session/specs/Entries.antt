@@ -1,0 +1,131 @@
+-- The exchanges of a session, the newest first, and the command table.
+use Rattle.std.specs.Prelude.{◌≡◌, ℕ, List, [], ◌∷◌, ◌++◌, Option, Some, None, Bool, true, false, not, ◌||◌, ◌⊎◌}
+use Rattle.my_grammar.specs.declared.login.Login.{Login}
+use Rattle.my_grammar.specs.declared.spot.Spot.TheVariants.{Idle}
+use Rattle.my_grammar.specs.Contexts.{deprecates_eof}
+use Rattle.my_grammar.specs.FitSets.{FitSets}
+use Rattle.my_grammar.specs.Sets.{Sets, NoSets}
+use Rattle.my_grammar.specs.Talk.{Talk, Start, Unwelcome, Greeted, Settled, Asked, Replied, Queried, Silent, turns, server_bytes, client_bytes, context_of, packets_of, Fits, origin}
+use Rattle.my_session.specs.declared.call.Call.{Call}
+use Rattle.my_session.specs.declared.call.CallKind.{CallKind}
+use Rattle.my_session.specs.declared.call.CallKind.TheVariants as callkinds
+use Rattle.my_session.specs.declared.facts.Facts.{Facts}
+use Rattle.my_session.specs.Calls.{kind_of}
+use Rattle.my_session.specs.Commands.{opening}
+use Rattle.my_session.specs.Facts.{no_facts, facts_by}
+use Rattle.my_session.specs.Groups.{Group, groups, IsEarlier}
+use Rattle.my_session.specs.History.{Made, Told, ToldReady, ToldRow, ToldEnd, ToldNone, ToldError, Dropped}
+
+-- an exchange, the call that began it, and what this call and later ones were given of it, if it is a query that was answered
+pub record Entry : Type 0 where
+  pub call : Call
+  pub talk : Talk
+  pub given : Option (List Group)
+
+-- the bytes of each side
+abbrev pub taken_by : List Entry → List ℕ
+taken_by [] = []
+taken_by (e ∷ es) = taken_by es ++ server_bytes (turns e.talk)
+
+abbrev pub sent_by : List Entry → List ℕ
+sent_by [] = []
+sent_by (e ∷ es) = sent_by es ++ client_bytes (turns e.talk)
+
+-- what the server told in them
+abbrev pub facts_of : List Entry → Facts
+facts_of [] = no_facts
+facts_of (e ∷ es) = facts_by (packets_of e.talk) (facts_of es)
+
+-- the capabilities that both sides keep
+abbrev pub kept_by : Login → List Entry → ℕ
+kept_by login [] = login.capabilities
+kept_by login (e ∷ es) = (context_of e.talk).terms.kept
+
+-- each exchange is the one that the table has for its call
+abbrev pub Follow : Login → List Entry → Type 0
+Follow login [] = Unit {0}
+Follow login (e ∷ es) = (opening login (kept_by login es) e.call ≡ Some (origin e.talk)) × Follow login es
+
+-- each is one that the protocol has, and is over
+abbrev pub AllDone : List Entry → Type 0
+AllDone [] = Unit {0}
+AllDone (e ∷ es) = ((context_of e.talk).spot ≡ Idle) × Fits e.talk × AllDone es
+
+abbrev pub sets_of : Talk → Sets
+sets_of (Start login) = NoSets
+sets_of (Unwelcome login p) = NoSets
+sets_of (Greeted login p capabilities) = NoSets
+sets_of (Settled login p capabilities last kind) = NoSets
+sets_of (Asked terms c) = NoSets
+sets_of (Replied terms c last kind) = NoSets
+sets_of (Queried terms c sets) = sets
+sets_of (Silent terms c) = NoSets
+
+-- whether the server ends the sets by an OK; where there are none, it doesn't matter
+abbrev pub ends_with_ok : Talk → Bool
+ends_with_ok (Start login) = true
+ends_with_ok (Unwelcome login p) = true
+ends_with_ok (Greeted login p capabilities) = true
+ends_with_ok (Settled login p capabilities last kind) = true
+ends_with_ok (Asked terms c) = true
+ends_with_ok (Replied terms c last kind) = true
+ends_with_ok (Queried terms c sets) = deprecates_eof terms.kept
+ends_with_ok (Silent terms c) = true
+
+-- what was given is what stood in the response at some moment
+abbrev pub IsGiven : Option (List Group) → Talk → Type 0
+IsGiven None t = Unit {0}
+IsGiven (Some g) t = (y : Sets) × IsEarlier (ends_with_ok t) y (sets_of t) × (g ≡ groups y) × FitSets (ends_with_ok t) y
+
+abbrev pub AllGiven : List Entry → Type 0
+AllGiven [] = Unit {0}
+AllGiven (e ∷ es) = IsGiven e.given e.talk × AllGiven es
+
+abbrev pub onto : Option (List Group) → List (List Group) → List (List Group)
+onto None gs = gs
+onto (Some g) gs = g ∷ gs
+
+abbrev pub givens : List Entry → List (List Group)
+givens [] = []
+givens (e ∷ es) = onto e.given (givens es)
+
+-- the calls that are answered only behind an exchange of their own
+abbrev pub needs_own : CallKind → Bool
+needs_own callkinds.Connect = true
+needs_own callkinds.Query = true
+needs_own callkinds.NextRow = false
+needs_own callkinds.DropResult = false
+needs_own callkinds.Ping = true
+needs_own callkinds.Quit = false
+
+abbrev pub may_lack : Told → CallKind → Bool
+may_lack ToldReady c = not (needs_own c)
+may_lack (ToldRow row) c = true
+may_lack ToldEnd c = true
+may_lack ToldNone c = true
+may_lack (ToldError e) c = true
+may_lack (Dropped closing) c = true
+
+abbrev pub calls_in : List Entry → List Call
+calls_in [] = []
+calls_in (e ∷ es) = e.call ∷ calls_in es
+
+-- the call's own exchange is the first of these
+abbrev pub OwnsFirst : Made → List Call → (List Call → Type 0) → Type 0
+OwnsFirst m [] rest = ⊥
+OwnsFirst m (c ∷ cs) rest = (m.call ≡ c) × rest cs
+
+-- The exchanges are those of the calls, in their order, at most one each; a command that was accepted has one.
+abbrev pub IsTied : List Made → List Call → Type 0
+IsTied [] [] = Unit {0}
+IsTied [] (c ∷ cs) = ⊥
+IsTied (m ∷ ms) cs = ((may_lack m.what (kind_of m.call) ≡ true) × IsTied ms cs) ⊎ OwnsFirst m cs (IsTied ms)
+
+-- whether the connection was made
+abbrev pub connects : Told → CallKind → Bool
+connects ToldReady callkinds.Connect = true
+connects t c = false
+
+abbrev pub has_connected : List Made → Bool
+has_connected [] = false
+has_connected (m ∷ ms) = connects m.what (kind_of m.call) || has_connected ms

@@ -1,0 +1,211 @@
+-- For which histories a session stands.
+use Rattle.std.specs.Prelude.{◌≡◌, ℕ, List, [], ◌∷◌, ◌++◌, ◌||◌, ◌&&◌, ◌⊎◌, Option, Some, None, Bool, true, false, if◌then◌else◌}
+use Rattle.my_grammar.specs.declared.login.Login.{Login}
+use Rattle.my_grammar.specs.declared.spot.Context.{Context}
+use Rattle.my_grammar.specs.declared.spot.Spot.{Spot}
+use Rattle.my_grammar.specs.declared.spot.Spot.TheVariants as spots
+use Rattle.my_grammar.specs.Sets.{Sets, NoSets, Lone, Failed, Heading, Headed, Begun, Ended, Broken}
+use Rattle.my_grammar.specs.Talk.{Talk, turns, number_of, server_bytes, client_bytes, context_of, packets_of, Fits, login_in}
+use Rattle.my_session.specs.declared.call.Call.{Call}
+use Rattle.my_session.specs.declared.call.Call.TheVariants as calls
+use Rattle.my_session.specs.declared.call.CallKind.{CallKind}
+use Rattle.my_session.specs.declared.call.CallKind.TheVariants.{Connect, Query, NextRow, DropResult, Ping, Quit}
+use Rattle.my_session.specs.declared.call.Task.{Task}
+use Rattle.my_session.specs.declared.call.Task.TheVariants as tasks
+use Rattle.my_session.specs.declared.facts.Facts.{Facts}
+use Rattle.my_session.specs.Calls.{call_of, kind_in, asks}
+use Rattle.my_session.specs.Entries.{Entry, taken_by, sent_by, facts_of, Follow, AllDone, AllGiven, givens, sets_of, calls_in, IsTied, has_connected}
+use Rattle.my_session.specs.Facts.{facts_by}
+use Rattle.my_session.specs.Groups.{Group, groups, given}
+use Rattle.my_session.specs.History.{History, Made, has_closed}
+use Rattle.my_session.specs.Machine.{is_greeting}
+use Rattle.my_session.specs.Seen.{Seen}
+use Rattle.my_session.specs.Steps.{is_settled}
+
+-- The wire: the bytes are those of the exchanges, and each field is what the exchanges say. Of the newest exchange's bytes some went
+-- out, and the others are owed, unless the session is closed.
+pub record Wire (context : Context) (number : ℕ) (unread owed : List ℕ) (closed : Bool) (facts : Facts) (login : Login) (taken sent : List ℕ) (call : Call) (talk : Talk) (older : List Entry) : Type 0 where
+  pub taken_is : taken ≡ (taken_by older ++ server_bytes (turns talk)) ++ unread
+  pub gone : List ℕ
+  pub cut : List ℕ
+  pub sent_is : sent ≡ sent_by older ++ gone
+  pub all_is : gone ++ cut ≡ client_bytes (turns talk)
+  pub owed_is : closed ≡ false → owed ≡ cut
+  pub dropped : closed ≡ true → owed ≡ []
+  pub number_is : number ≡ number_of (turns talk)
+  pub context_is : context ≡ context_of talk
+  pub login_is : login_in login talk ≡ login
+  pub fits : Fits talk
+  pub done : AllDone older
+  pub facts_are : facts ≡ facts_by (packets_of talk) (facts_of older)
+  pub table : Follow login (record { call = call; talk = talk; given = None } ∷ older)
+
+-- there is something that a read would answer
+abbrev pub is_left : Spot → Bool
+is_left spots.Further = true
+is_left (spots.Columns left) = true
+is_left spots.ColumnsEnd = true
+is_left spots.Rows = true
+is_left s = false
+
+-- the places that a read passes
+abbrev pub is_reading : Spot → Bool
+is_reading spots.Idle = true
+is_reading spots.Further = true
+is_reading (spots.Columns left) = true
+is_reading spots.ColumnsEnd = true
+is_reading spots.Rows = true
+is_reading s = false
+
+-- the places that the handshake passes
+abbrev pub is_shaking : Spot → Bool
+is_shaking spots.Greeting = true
+is_shaking spots.Authentication = true
+is_shaking s = false
+
+-- tasks that keep what was read for the reads to come
+abbrev pub keeps : Task → Bool
+keeps tasks.Nothing = true
+keeps (tasks.Begun c) = true
+keeps (tasks.Cleaning c) = false
+keeps (tasks.Own c) = false
+keeps tasks.Reading = true
+keeps tasks.Dropping = true
+keeps tasks.Leaving = false
+keeps (tasks.Failing c fault) = false
+
+-- tasks of a session that isn't closed
+abbrev pub is_alive : Task → Bool
+is_alive tasks.Nothing = false
+is_alive (tasks.Begun c) = true
+is_alive (tasks.Cleaning c) = true
+is_alive (tasks.Own c) = true
+is_alive tasks.Reading = true
+is_alive tasks.Dropping = true
+is_alive tasks.Leaving = false
+is_alive (tasks.Failing c fault) = false
+
+-- tasks that may owe bytes
+abbrev pub owes : Task → Bool
+owes tasks.Nothing = false
+owes (tasks.Begun c) = false
+owes (tasks.Cleaning c) = false
+owes (tasks.Own c) = true
+owes tasks.Reading = false
+owes tasks.Dropping = false
+owes tasks.Leaving = false
+owes (tasks.Failing c fault) = true
+
+-- what callers know: all but the end of a lone OK that wasn't told yet
+abbrev pub known_part : Bool → Sets → Sets
+known_part false x = x
+known_part true NoSets = NoSets
+known_part true (Lone older p status) = older
+known_part true (Failed older p) = Failed older p
+known_part true (Heading older head left) = Heading older head left
+known_part true (Headed older head) = Headed older head
+known_part true (Begun older head rows) = Begun older head rows
+known_part true (Ended older head rows last status) = Ended older head rows last status
+known_part true (Broken older head rows last) = Broken older head rows last
+
+abbrev pub is_lone : Sets → Bool
+is_lone (Lone older p status) = true
+is_lone NoSets = false
+is_lone (Failed older p) = false
+is_lone (Heading older head left) = false
+is_lone (Headed older head) = false
+is_lone (Begun older head rows) = false
+is_lone (Ended older head rows last status) = false
+is_lone (Broken older head rows last) = false
+
+abbrev pub is_none : Sets → Bool
+is_none NoSets = true
+is_none (Lone older p status) = false
+is_none (Failed older p) = false
+is_none (Heading older head left) = false
+is_none (Headed older head) = false
+is_none (Begun older head rows) = false
+is_none (Ended older head rows last status) = false
+is_none (Broken older head rows last) = false
+
+abbrev pub is_empty : List (List ℕ) → Bool
+is_empty [] = true
+is_empty (p ∷ ps) = false
+
+-- the head of the first set, or a part of it
+abbrev pub is_first : Sets → Bool
+is_first NoSets = true
+is_first (Lone older p status) = false
+is_first (Failed older p) = false
+is_first (Heading older head left) = is_none older
+is_first (Headed older head) = is_none older
+is_first (Begun older head rows) = is_none older && is_empty rows
+is_first (Ended older head rows last status) = false
+is_first (Broken older head rows last) = false
+
+-- where a call's own exchange stands
+abbrev pub OwnAt : CallKind → Spot → Bool → Entry → Type 0
+OwnAt Connect spot connected newest = (connected ≡ false) × (is_shaking spot ≡ true)
+OwnAt Query spot connected newest = (connected ≡ true) × (newest.given ≡ None) × (is_first (sets_of newest.talk) ≡ true)
+OwnAt NextRow spot connected newest = ⊥
+OwnAt DropResult spot connected newest = ⊥
+OwnAt Ping spot connected newest = (connected ≡ true) × (spot ≡ spots.Single)
+OwnAt Quit spot connected newest = connected ≡ true
+
+-- Connect begins before the greeting, and each other call once the connection was made
+abbrev pub BegunAt : CallKind → Spot → Bool → Type 0
+BegunAt Connect spot connected = (connected ≡ false) × (spot ≡ spots.Greeting)
+BegunAt c spot connected = (connected ≡ true) × (is_settled spot ≡ true)
+
+-- where a task stands
+abbrev pub TaskIs : Task → Spot → Bool → Bool → Entry → Type 0
+TaskIs tasks.Nothing spot closed connected newest = closed ≡ false → (if connected then is_settled spot else is_greeting spot) ≡ true
+TaskIs (tasks.Begun c) spot closed connected newest = BegunAt c spot connected
+TaskIs (tasks.Cleaning c) spot closed connected newest = (asks c ≡ true) × (connected ≡ true) × (is_greeting spot ≡ false)
+TaskIs (tasks.Own c) spot closed connected newest = OwnAt c spot connected newest
+TaskIs tasks.Reading spot closed connected newest = (connected ≡ true) × (is_reading spot ≡ true)
+TaskIs tasks.Dropping spot closed connected newest = (connected ≡ true) × (is_reading spot ≡ true)
+TaskIs tasks.Leaving spot closed connected newest = closed ≡ true
+TaskIs (tasks.Failing c fault) spot closed connected newest = Unit {0}
+
+-- the calls of the exchanges that began: before the greeting the newest didn't
+abbrev pub begun_of : Spot → Call → List Entry → List Call
+begun_of spot call older = if is_greeting spot then calls_in older else call ∷ calls_in older
+
+-- the newest exchange is the open call's own, or an earlier call's
+abbrev pub TieIs : Task → List ℕ → Spot → List Made → Call → List Entry → Type 0
+TieIs tasks.Nothing text spot made call older = IsTied made (begun_of spot call older)
+TieIs (tasks.Begun c) text spot made call older = IsTied made (begun_of spot call older)
+TieIs (tasks.Cleaning c) text spot made call older = IsTied made (begun_of spot call older)
+TieIs (tasks.Own c) text spot made call older = (call ≡ call_of c text) × IsTied made (calls_in older)
+TieIs tasks.Reading text spot made call older = IsTied made (begun_of spot call older)
+TieIs tasks.Dropping text spot made call older = IsTied made (begun_of spot call older)
+TieIs tasks.Leaving text spot made call older = IsTied made (begun_of spot call older)
+TieIs (tasks.Failing c fault) text spot made call older = ((call ≡ call_of c text) × IsTied made (calls_in older)) ⊎ IsTied made (begun_of spot call older)
+
+-- the open call, with the text that it carries
+abbrev pub call_with : Option CallKind → List ℕ → Option Call
+call_with None text = None
+call_with (Some c) text = Some (call_of c text)
+
+-- The calls: what they were given is what stood in the responses.
+pub record Heard (task : Task) (text : List ℕ) (spot : Spot) (untold closed lost : Bool) (made : List Made) (pending : Option Call) (newest : Entry) (older : List Entry) : Type 0 where
+  pub pending_is : pending ≡ call_with (kind_in task) text
+  pub closed_is : closed ≡ has_closed made || lost
+  pub alive : is_alive task ≡ true → closed ≡ false
+  pub given_is : given made ≡ givens (newest ∷ older)
+  pub each : AllGiven (newest ∷ older)
+  pub lone : untold ≡ true → is_lone (sets_of newest.talk) ≡ true
+  pub fresh : closed ≡ false → keeps task ≡ true → untold || is_left spot ≡ true → newest.given ≡ Some (groups (known_part untold (sets_of newest.talk)))
+  pub at : TaskIs task spot closed (has_connected made) newest
+  pub first : is_greeting spot ≡ true → newest.call ≡ calls.Connect
+  pub tie : TieIs task text spot made newest.call older
+
+pub record Stands (s : Seen) (h : History) : Type 0 where
+  pub newest : Entry
+  pub older : List Entry
+  pub wire : Wire s.context s.number s.unread s.owed s.closed s.facts s.login h.taken h.sent newest.call newest.talk older
+  pub heard : Heard s.task s.text s.context.spot s.untold s.closed h.lost h.calls h.pending newest older
+  pub ended_is : s.ended ≡ h.ended
+  -- a call that has no exchange of its own owes nothing
+  pub settled : owes s.task ≡ false → s.owed ≡ []
