@@ -6,9 +6,8 @@ mod rows;
 
 use crate::{Columns, Value};
 use my_wire::{Blob, Column};
-use std::alloc::Global;
+use std::alloc::{AllocError, Global};
 use std::sync::Arc;
-use std::test::Fail;
 
 // A column of this type with these flags.
 fn column(alloc: Global, column_type: u8, flags: u16) -> Column {
@@ -27,7 +26,12 @@ fn column(alloc: Global, column_type: u8, flags: u16) -> Column {
 }
 
 // So many columns of this type.
-fn columns(alloc: Global, count: usize, column_type: u8, flags: u16) -> Result<Columns, Fail> {
+fn columns(
+    alloc: Global,
+    count: usize,
+    column_type: u8,
+    flags: u16,
+) -> Result<Columns, AllocError> {
     let mut all = Vec::new(alloc);
     for _ in 0..count {
         all.push(column(alloc, column_type, flags))?;
@@ -35,12 +39,12 @@ fn columns(alloc: Global, count: usize, column_type: u8, flags: u16) -> Result<C
     Ok(Arc::new(alloc, all)?)
 }
 
-fn bytes(alloc: Global, text: &[u8]) -> Result<Value, Fail> {
+fn bytes(alloc: Global, text: &[u8]) -> Result<Value, AllocError> {
     Ok(Value::Bytes(Blob::from_slice(alloc, text)?))
 }
 
 // A value in a short form.
-fn shown(alloc: Global, value: &Value) -> Result<String, Fail> {
+fn shown(alloc: Global, value: &Value) -> Result<String, AllocError> {
     Ok(match value {
         Value::NULL => format!(in alloc; "null")?,
         Value::Bytes(text) => format!(in alloc; "bytes {:?}", text.as_slice())?,
@@ -48,7 +52,7 @@ fn shown(alloc: Global, value: &Value) -> Result<String, Fail> {
     })
 }
 
-fn all_shown(alloc: Global, values: &[Value]) -> Result<String, Fail> {
+fn all_shown(alloc: Global, values: &[Value]) -> Result<String, AllocError> {
     let mut all = String::new(alloc);
     for value in values {
         all.push_str(shown(alloc, value)?.as_str())?;

@@ -3,17 +3,25 @@ use crate::{
     FromRow, FromRowError, FromValue, FromValueError, Row, Value, from_row, from_value,
     read_text_row,
 };
-use std::alloc::Global;
+use my_wire::ReadError;
+use std::alloc::{AllocError, Global};
 use std::test::Fail;
 
 // Whether a text converts.
-fn converts<T: FromValue + Drop>(alloc: Global, text: &[u8]) -> Result<bool, Fail> {
-    Ok(from_value::<T>(alloc, bytes(alloc, text)?).is_ok())
+fn converts<T: FromValue + Drop>(alloc: Global, text: &[u8]) -> bool {
+    match bytes(alloc, text) {
+        Ok(value) => from_value::<T>(alloc, value).is_ok(),
+        Err(_) => false,
+    }
+}
+
+// Whether the first text converts, and the second doesn't.
+fn only_first<T: FromValue + Drop>(alloc: Global, first: &[u8], second: &[u8]) -> bool {
+    converts::<T>(alloc, first) && !converts::<T>(alloc, second)
 }
 
 #[test]
-fn whole_numbers(rt: HostRuntime) -> Result<(), Fail> {
-    let alloc = rt.alloc();
+fn decimal_texts(rt: HostRuntime) {
     for (text, fits) in [
         (b"0".as_slice(), true),
         (b"255", true),
@@ -29,126 +37,96 @@ fn whole_numbers(rt: HostRuntime) -> Result<(), Fail> {
         (b" 1", false),
         (b"\xff", false),
     ] {
-        assert_eq!(rt; converts::<u8>(alloc, text)?, fits, "{text:?}");
+        assert_eq!(rt; converts::<u8>(rt.alloc(), text), fits, "{text:?}");
     }
-    for (fits, out) in [
-        (
-            converts::<i8>(alloc, b"-128")?,
-            converts::<i8>(alloc, b"-129")?,
-        ),
-        (
-            converts::<i8>(alloc, b"127")?,
-            converts::<i8>(alloc, b"128")?,
-        ),
-        (
-            converts::<u16>(alloc, b"65535")?,
-            converts::<u16>(alloc, b"65536")?,
-        ),
-        (
-            converts::<i16>(alloc, b"-32768")?,
-            converts::<i16>(alloc, b"-32769")?,
-        ),
-        (
-            converts::<u32>(alloc, b"4294967295")?,
-            converts::<u32>(alloc, b"4294967296")?,
-        ),
-        (
-            converts::<i32>(alloc, b"-2147483648")?,
-            converts::<i32>(alloc, b"2147483648")?,
-        ),
-        (
-            converts::<u64>(alloc, b"18446744073709551615")?,
-            converts::<u64>(alloc, b"18446744073709551616")?,
-        ),
-        (
-            converts::<i64>(alloc, b"-9223372036854775808")?,
-            converts::<i64>(alloc, b"9223372036854775808")?,
-        ),
-        (
-            converts::<bool>(alloc, b"1")?,
-            converts::<bool>(alloc, b"2")?,
-        ),
-        (
-            converts::<String>(alloc, b"a")?,
-            converts::<String>(alloc, b"\xff")?,
-        ),
-        (converts::<Vec<u8>>(alloc, b"\xff")?, false),
-        (
-            converts::<Option<u8>>(alloc, b"1")?,
-            converts::<Option<u8>>(alloc, b"x")?,
-        ),
-        (converts::<Value>(alloc, b"x")?, false),
-    ] {
-        assert!(rt; fits && !out);
+}
+
+// The last text that fits each type, and the first that doesn't.
+#[test]
+fn limits(rt: HostRuntime) {
+    let alloc = rt.alloc();
+    let answers = [
+        only_first::<i8>(alloc, b"-128", b"-129"),
+        only_first::<i8>(alloc, b"127", b"128"),
+        only_first::<u16>(alloc, b"65535", b"65536"),
+        only_first::<i16>(alloc, b"-32768", b"-32769"),
+        only_first::<u32>(alloc, b"4294967295", b"4294967296"),
+        only_first::<i32>(alloc, b"-2147483648", b"2147483648"),
+        only_first::<u64>(alloc, b"18446744073709551615", b"18446744073709551616"),
+        only_first::<i64>(alloc, b"-9223372036854775808", b"9223372036854775808"),
+        only_first::<bool>(alloc, b"1", b"2"),
+        only_first::<String>(alloc, b"a", b"\xff"),
+        only_first::<Option<u8>>(alloc, b"1", b"x"),
+        converts::<Vec<u8>>(alloc, b"\xff"),
+        converts::<Value>(alloc, b"x"),
+    ];
+    for (place, answer) in answers.iter().enumerate() {
+        assert!(rt; *answer, "{place}");
     }
+}
+
+#[test]
+fn plain_values(rt: HostRuntime) -> Result<(), Fail> {
+    let alloc = rt.alloc();
+    assert_eq!(rt; from_value::<i64>(alloc, Value::UInt(7)).ok(), Some(7));
+    assert_eq!(rt; from_value::<u8>(alloc, Value::Int(255)).ok(), Some(255));
+    assert_eq!(rt; from_value::<bool>(alloc, Value::UInt(1)).ok(), Some(true));
     assert_eq!(rt;
-        from_value::<i64>(alloc, Value::UInt(7)).ok().ok_or("UInt")?,
-        7
-    );
-    assert_eq!(rt;
-        from_value::<u8>(alloc, Value::Int(255)).ok().ok_or("Int")?,
-        255
-    );
-    assert!(rt;
-        from_value::<bool>(alloc, Value::UInt(1))
-            .ok()
-            .ok_or("bool")?
-    );
-    assert_eq!(rt;
-        from_value::<Option<u8>>(alloc, Value::NULL)
-            .ok()
-            .ok_or("Option")?,
-        None
+        from_value::<Option<u8>>(alloc, Value::NULL).ok(),
+        Some(None)
     );
     Ok(())
 }
 
-// What doesn't convert comes back.
+// What comes back.
+fn kept_value<T: Drop>(
+    alloc: Global,
+    converted: Result<T, FromValueError>,
+) -> Result<String, AllocError> {
+    match converted {
+        Ok(_) => Ok(String::new(alloc)),
+        Err(e) => match e {
+            FromValueError::Value(value) => shown(alloc, &value),
+            FromValueError::NoMemory => Ok(String::new(alloc)),
+        },
+    }
+}
+
 #[test]
 fn refused_values(rt: HostRuntime) -> Result<(), Fail> {
     let alloc = rt.alloc();
-    for (refused, want) in [
-        (
-            from_value::<u8>(alloc, bytes(alloc, b"256")?).err(),
-            "bytes [50, 53, 54]",
-        ),
-        (
-            from_value::<bool>(alloc, bytes(alloc, b"2")?).err(),
-            "bytes [50]",
-        ),
-        (
-            from_value::<i64>(alloc, Value::FloatBits(0)).err(),
-            "FloatBits(0)",
-        ),
-        (
-            from_value::<String>(alloc, bytes(alloc, b"\xff")?).err(),
-            "bytes [255]",
-        ),
-        (from_value::<Vec<u8>>(alloc, Value::Int(1)).err(), "Int(1)"),
-    ] {
-        match refused.ok_or("refused")? {
-            FromValueError::Value(value) => assert_eq!(rt; shown(alloc, &value)?.as_str(), want),
-            FromValueError::NoMemory => assert!(rt; false, "{want}"),
-        }
-    }
+    let number = kept_value(alloc, from_value::<u8>(alloc, bytes(alloc, b"256")?))?;
+    assert_eq!(rt; number.as_str(), "bytes [50, 53, 54]");
+    let float = kept_value(alloc, from_value::<i64>(alloc, Value::FloatBits(0)))?;
+    assert_eq!(rt; float.as_str(), "FloatBits(0)");
+    let text = kept_value(alloc, from_value::<String>(alloc, bytes(alloc, b"\xff")?))?;
+    assert_eq!(rt; text.as_str(), "bytes [255]");
     Ok(())
 }
 
 // The row of two cells, 1 and 2.
-fn row(alloc: Global) -> Result<Row, Fail> {
+fn two(alloc: Global) -> Result<Row, ReadError> {
     let columns = columns(alloc, 2, 253, 0)?;
-    Ok(read_text_row(alloc, b"\x01\x31\x01\x32", &columns)?)
+    read_text_row(alloc, b"\x01\x31\x01\x32", &columns)
 }
 
 // The row of one cell.
-fn cell(alloc: Global) -> Result<Row, Fail> {
+fn one(alloc: Global) -> Result<Row, ReadError> {
     let columns = columns(alloc, 1, 253, 0)?;
-    Ok(read_text_row(alloc, b"\x01\x31", &columns)?)
+    read_text_row(alloc, b"\x01\x31", &columns)
 }
 
 // Whether a row converts.
-fn is_read<T: FromRow + Drop>(alloc: Global, row: Row) -> bool {
-    from_row::<T>(alloc, row).is_ok()
+fn is_read<T: FromRow + Drop>(alloc: Global, row: Result<Row, ReadError>) -> bool {
+    match row {
+        Ok(row) => from_row::<T>(alloc, row).is_ok(),
+        Err(_) => false,
+    }
+}
+
+// Whether a row of one cell converts, and one of two cells doesn't.
+fn only_one<T: FromRow + Drop>(alloc: Global) -> bool {
+    is_read::<T>(alloc, one(alloc)) && !is_read::<T>(alloc, two(alloc))
 }
 
 // How many cells the row has that is given back.
@@ -163,76 +141,40 @@ fn kept_cells<T: Drop>(read: Result<T, FromRowError>) -> usize {
 }
 
 #[test]
-fn rows_convert(rt: HostRuntime) -> Result<(), Fail> {
+fn tuples(rt: HostRuntime) -> Result<(), Fail> {
     let alloc = rt.alloc();
+    assert_eq!(rt; from_row::<(u8, u8)>(alloc, two(alloc)?).ok(), Some((1, 2)));
+    assert_eq!(rt; kept_cells(from_row::<(u8,)>(alloc, two(alloc)?)), 2);
     assert_eq!(rt;
-        from_row::<(u8, u8)>(alloc, row(alloc)?).ok().ok_or("pair")?,
-        (1, 2)
-    );
-    assert_eq!(rt; kept_cells(from_row::<(u8,)>(alloc, row(alloc)?)), 2);
-    assert_eq!(rt;
-        kept_cells(from_row::<(u8, Option<bool>)>(alloc, row(alloc)?)),
+        kept_cells(from_row::<(u8, Option<bool>)>(alloc, two(alloc)?)),
         2
     );
-    assert!(rt; is_read::<Row>(alloc, row(alloc)?));
-    assert!(rt; !is_read::<(u8, u8, u8)>(alloc, row(alloc)?));
-    assert!(rt; !is_read::<(u8, u8, u8, u8)>(alloc, row(alloc)?));
-    assert!(rt; is_read::<(u8,)>(alloc, cell(alloc)?));
-    for (read, not_read) in [
-        (
-            is_read::<u8>(alloc, cell(alloc)?),
-            is_read::<u8>(alloc, row(alloc)?),
-        ),
-        (
-            is_read::<u16>(alloc, cell(alloc)?),
-            is_read::<u16>(alloc, row(alloc)?),
-        ),
-        (
-            is_read::<u32>(alloc, cell(alloc)?),
-            is_read::<u32>(alloc, row(alloc)?),
-        ),
-        (
-            is_read::<u64>(alloc, cell(alloc)?),
-            is_read::<u64>(alloc, row(alloc)?),
-        ),
-        (
-            is_read::<i8>(alloc, cell(alloc)?),
-            is_read::<i8>(alloc, row(alloc)?),
-        ),
-        (
-            is_read::<i16>(alloc, cell(alloc)?),
-            is_read::<i16>(alloc, row(alloc)?),
-        ),
-        (
-            is_read::<i32>(alloc, cell(alloc)?),
-            is_read::<i32>(alloc, row(alloc)?),
-        ),
-        (
-            is_read::<i64>(alloc, cell(alloc)?),
-            is_read::<i64>(alloc, row(alloc)?),
-        ),
-        (
-            is_read::<bool>(alloc, cell(alloc)?),
-            is_read::<bool>(alloc, row(alloc)?),
-        ),
-        (
-            is_read::<String>(alloc, cell(alloc)?),
-            is_read::<String>(alloc, row(alloc)?),
-        ),
-        (
-            is_read::<Vec<u8>>(alloc, cell(alloc)?),
-            is_read::<Vec<u8>>(alloc, row(alloc)?),
-        ),
-        (
-            is_read::<Value>(alloc, cell(alloc)?),
-            is_read::<Value>(alloc, row(alloc)?),
-        ),
-        (
-            is_read::<Option<u8>>(alloc, cell(alloc)?),
-            is_read::<Option<u8>>(alloc, row(alloc)?),
-        ),
-    ] {
-        assert!(rt; read && !not_read);
-    }
+    assert!(rt; is_read::<Row>(alloc, two(alloc)));
+    assert!(rt; !is_read::<(u8, u8, u8)>(alloc, two(alloc)));
+    assert!(rt; !is_read::<(u8, u8, u8, u8)>(alloc, two(alloc)));
     Ok(())
+}
+
+#[test]
+fn rows_of_one_cell(rt: HostRuntime) {
+    let alloc = rt.alloc();
+    let answers = [
+        only_one::<(u8,)>(alloc),
+        only_one::<u8>(alloc),
+        only_one::<u16>(alloc),
+        only_one::<u32>(alloc),
+        only_one::<u64>(alloc),
+        only_one::<i8>(alloc),
+        only_one::<i16>(alloc),
+        only_one::<i32>(alloc),
+        only_one::<i64>(alloc),
+        only_one::<bool>(alloc),
+        only_one::<String>(alloc),
+        only_one::<Vec<u8>>(alloc),
+        only_one::<Value>(alloc),
+        only_one::<Option<u8>>(alloc),
+    ];
+    for (place, answer) in answers.iter().enumerate() {
+        assert!(rt; *answer, "{place}");
+    }
 }
