@@ -1,8 +1,10 @@
 pub mod Fronts
 pub mod Going
 pub mod Keeps
+pub mod LawOf
 pub mod Plain
 pub mod Plans
+pub mod Prefixes
 pub mod Reacts
 pub mod Spots
 pub mod Stepping

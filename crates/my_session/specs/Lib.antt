@@ -5,7 +5,9 @@ pub mod Errors
 pub mod Facts
 pub mod Groups
 pub mod History
+pub mod Law
 pub mod Machine
+pub mod Prefix
 pub mod Rows
 pub mod Seen
 pub mod Session

@@ -1,0 +1,66 @@
+-- What holds of each history that a session stands for.
+use Rattle.std.specs.Prelude.{◌≡◌, ℕ, List, [], ◌∷◌, ◌++◌, ◌⊎◌, Option, Some, None, Bool, true, false}
+use Rattle.my_grammar.specs.Talk.{Talk, turns, client_bytes, packets_of, origin}
+use Rattle.my_grammar.specs.Cut.{cut}
+use Rattle.my_session.specs.declared.call.Call.{Call}
+use Rattle.my_session.specs.Entries.{Entry, Follow, sent_by, facts_of, givens, IsGiven, IsTied}
+use Rattle.my_session.specs.Groups.{Group, given}
+use Rattle.my_session.specs.History.{History, Made, is_closed}
+use Rattle.my_session.specs.Prefix.{AreFronts}
+use Rattle.my_session.specs.Seen.{Seen}
+use Rattle.my_session.specs.Stands.{Stands, begun_of}
+
+-- what stands newest first, oldest first
+abbrev pub in_order : {A : Type 0} → List A → List A
+in_order [] = []
+in_order (x ∷ xs) = in_order xs ++ x ∷ []
+
+-- how the exchanges began, and what was given of each
+abbrev pub origins : List Entry → List Talk
+origins [] = []
+origins (e ∷ es) = origin e.talk ∷ origins es
+
+abbrev pub shares : List Entry → List (Option (List Group))
+shares [] = []
+shares (e ∷ es) = e.given ∷ shares es
+
+abbrev pub AreGiven : List (Option (List Group)) → List Talk → Type 0
+AreGiven [] [] = Unit {0}
+AreGiven (g ∷ gs) (t ∷ ts) = IsGiven g t × AreGiven gs ts
+AreGiven [] (t ∷ ts) = ⊥
+AreGiven (g ∷ gs) [] = ⊥
+
+-- the newest exchange is the open call's
+abbrev pub OwnsOpen : Option Call → List Made → List Call → Type 0
+OwnsOpen None made cs = ⊥
+OwnsOpen (Some c) made [] = ⊥
+OwnsOpen (Some c) made (d ∷ ds) = (c ≡ d) × IsTied made ds
+
+-- The exchanges belong to the calls, in order, each to one of its own; an accepted command has one.
+abbrev pub AreOf : Option Call → List Made → List Call → Type 0
+AreOf pending made cs = OwnsOpen pending made cs ⊎ IsTied made cs
+
+pub record Says (s : Seen) (h : History) : Type 0 where
+  -- the exchanges that began, each by the table, and each of a call
+  pub newest : Entry
+  pub older : List Entry
+  pub table : Follow s.login (newest ∷ older)
+  pub calls : AreOf h.pending h.calls (begun_of s.context.spot newest.call older)
+  -- what was sent is what the client says in them, the newest perhaps cut; at rest it is whole
+  pub gone : List ℕ
+  pub rest : List ℕ
+  pub sent : h.sent ≡ sent_by older ++ gone
+  pub all : gone ++ rest ≡ client_bytes (turns newest.talk)
+  pub whole : h.pending ≡ None → s.closed ≡ false → rest ≡ []
+  -- what callers were given is what stood at some moment in the exchanges that the grammar finds in the bytes taken
+  pub given_is : given h.calls ≡ givens (newest ∷ older)
+  pub read : AreGiven (in_order (shares (newest ∷ older))) (cut (in_order (origins (newest ∷ older))) h.taken).talks
+  -- so of each set, callers were given a beginning, in order, and an end only behind the whole
+  pub fronts : AreFronts (in_order (shares (newest ∷ older))) (cut (in_order (origins (newest ∷ older))) h.taken).talks
+  -- what is known of the server is what it told in them
+  pub facts : s.facts ≡ facts_of (newest ∷ older)
+  -- closed exactly by a fatal error, a call that was cancelled while its answer was awaited, a quit, or bytes that were lost
+  pub closed_is : s.closed ≡ is_closed h
+
+abbrev pub EachHistory : Type 0
+EachHistory = (s : Seen) (h : History) → Stands s h → Says s h

@@ -1,0 +1,66 @@
+-- Set by set, what was given is the beginning of what stands there.
+use Rattle.std.specs.Prelude.{◌≡◌, ℕ, List, [], ◌∷◌, ◌++◌, Option, Some, None, Bool, true, false}
+use Rattle.my_wire.specs.declared.column.Column.{Column}
+use Rattle.my_value.specs.RowParts.{RowParts}
+use Rattle.my_grammar.specs.Sets.{Sets, NoSets, Lone, Failed, Heading, Headed, Begun, Ended, Broken}
+use Rattle.my_grammar.specs.Talk.{Talk}
+use Rattle.my_session.specs.Entries.{sets_of}
+use Rattle.my_session.specs.Groups.{Group, head_columns}
+use Rattle.my_session.specs.Rows.{row_of}
+
+-- a set's rows, the newest first, and whether its end was read
+pub record Set : Type 0 where
+  pub rows : List RowParts
+  pub done : Bool
+
+abbrev pub rows_in : List Column → List (List ℕ) → List RowParts
+rows_in columns [] = []
+rows_in columns (p ∷ ps) = row_of columns p ∷ rows_in columns ps
+
+-- the sets of a response, the newest first
+abbrev pub sets_in : Sets → List Set
+sets_in NoSets = []
+sets_in (Lone older p status) = record { rows = []; done = true } ∷ sets_in older
+sets_in (Failed older p) = record { rows = []; done = false } ∷ sets_in older
+sets_in (Heading older head left) = record { rows = []; done = false } ∷ sets_in older
+sets_in (Headed older head) = record { rows = []; done = false } ∷ sets_in older
+sets_in (Begun older head rows) = record { rows = rows_in (head_columns head) rows; done = false } ∷ sets_in older
+sets_in (Ended older head rows last status) = record { rows = rows_in (head_columns head) rows; done = true } ∷ sets_in older
+sets_in (Broken older head rows last) = record { rows = rows_in (head_columns head) rows; done = false } ∷ sets_in older
+
+-- each of these was given whole
+abbrev pub AreWhole : List Group → List Set → Type 0
+AreWhole [] [] = Unit {0}
+AreWhole (g ∷ gs) (s ∷ ss) = (g.rows ≡ s.rows) × (g.ended ≡ true) × (s.done ≡ true) × AreWhole gs ss
+AreWhole [] (s ∷ ss) = ⊥
+AreWhole (g ∷ gs) [] = ⊥
+
+-- The older rows were given, and the end is told only behind all of them.
+pub record IsPart (g : Group) (s : Set) : Type 0 where
+  pub newer : List RowParts
+  pub items : newer ++ g.rows ≡ s.rows
+  pub end : g.ended ≡ true → (newer ≡ []) × (s.done ≡ true)
+
+-- the newest group is a part, and those before it are whole
+abbrev pub Covers : List Group → List Set → Type 0
+Covers [] [] = Unit {0}
+Covers (g ∷ gs) (s ∷ ss) = IsPart g s × AreWhole gs ss
+Covers [] (s ∷ ss) = ⊥
+Covers (g ∷ gs) [] = ⊥
+
+-- The groups are those of the first sets.
+pub record IsFront (gs : List Group) (ss : List Set) : Type 0 where
+  pub newer : List Set
+  pub older : List Set
+  pub all : ss ≡ newer ++ older
+  pub covers : Covers gs older
+
+abbrev pub IsFrontOf : Option (List Group) → Talk → Type 0
+IsFrontOf None t = Unit {0}
+IsFrontOf (Some gs) t = IsFront gs (sets_in (sets_of t))
+
+abbrev pub AreFronts : List (Option (List Group)) → List Talk → Type 0
+AreFronts [] [] = Unit {0}
+AreFronts (g ∷ gs) (t ∷ ts) = IsFrontOf g t × AreFronts gs ts
+AreFronts [] (t ∷ ts) = ⊥
+AreFronts (g ∷ gs) [] = ⊥
