@@ -88,7 +88,11 @@ fn is_bad(kind: Kind) -> bool
 
 impl Progress {
     /// An exchange that begins so.
-    pub fn begin(alloc: Global, login: &Login, opening: &Opening) -> Result<Progress, NoMemory>
+    pub(crate) fn begin(
+        alloc: Global,
+        login: &Login,
+        opening: &Opening,
+    ) -> Result<Progress, NoMemory>
         ensures { IfOk result (λ p. IsAt (talk_of login.now opening.now) p) }
     {
         match opening {
@@ -163,7 +167,7 @@ impl Progress {
 
     /// Hears the payload in front of the bytes, if one may stand there, and answers how many bytes
     /// its chunks take. `None` where none may: then nothing changes.
-    pub fn hear_one(
+    pub(crate) fn hear_one(
         &mut self,
         alloc: Global,
         login: &Login,
