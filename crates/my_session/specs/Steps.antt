@@ -38,6 +38,19 @@ AtBegun DropResult spot = is_settled spot ≡ true
 AtBegun Ping spot = is_settled spot ≡ true
 AtBegun Quit spot = is_settled spot ≡ true
 
+abbrev pub is_greeted : Spot → Bool
+is_greeted spots.Greeting = false
+is_greeted s = true
+
+-- the same, as a test
+abbrev pub is_begun_at : CallKind → Spot → Bool
+is_begun_at Connect spot = not (is_greeted spot)
+is_begun_at Query spot = is_settled spot
+is_begun_at NextRow spot = is_settled spot
+is_begun_at DropResult spot = is_settled spot
+is_begun_at Ping spot = is_settled spot
+is_begun_at Quit spot = is_settled spot
+
 -- before the greeting
 abbrev pub fresh : Login → Seen
 fresh login = record { context = context_of (Start login); task = Nothing; text = []; untold = false; closed = false; ended = false; number = 0; unread = []; owed = []; facts = no_facts; login = login }

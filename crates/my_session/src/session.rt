@@ -1,14 +1,14 @@
 //! A session: the public calls.
 
-ghost use Rattle.std.specs.Prelude.{◌≡◌, ◌≤◌, ◌++◌, ◌↔◌, List, length, drop, take as front, true, false, OnOk, OnErr, IfOk, IfErr, IsErr};
+ghost use Rattle.std.specs.Prelude.{◌≡◌, ◌≤◌, ◌++◌, ◌↔◌, ◌||◌, List, length, drop, take as front, true, false, OnOk, OnErr, IfOk, IfErr, IsErr};
 ghost use Rattle.std.specs.Option.{option_copied};
 
 use crate::answer::SessionStep;
-use crate::call::{Call, LinkFault, Task};
+use crate::call::{Call, CallKind, LinkFault, Task};
 use crate::error::Error;
 use crate::machine::Machine;
 use crate::step::step_machine;
-use my_grammar::Login;
+use my_grammar::{Login, Spot};
 use my_wire::{NoMemory, OkPacket};
 use std::alloc::Global;
 use std::marker::Model;
@@ -33,7 +33,7 @@ impl Session {
     ghost use Rattle.my_session.specs.Calls.{is_open, kind_of};
     ghost use Rattle.my_session.specs.Errors.{connection_closed};
     ghost use Rattle.my_session.specs.Machine.{dropped};
-    ghost use Rattle.my_session.specs.Steps.{AtBegun, is_refused, is_settled, fresh, begun, with_owed, with_unread, with_end, with_failing, with_loss, StepIs, Steps, after_step};
+    ghost use Rattle.my_session.specs.Steps.{AtBegun, is_begun_at, is_refused, is_settled, fresh, begun, with_owed, with_unread, with_end, with_failing, with_loss, StepIs, Steps, after_step};
     ghost use Rattle.my_session.specs.History.{History, Told, ToldError, Dropped, beginning, began, answered, passing, took, gone, ending, losing};
     ghost use Rattle.my_session.specs.Stands.{Stands};
     ghost use Rattle.my_session.specs.Tables.{closes_when_cancelled};
@@ -73,6 +73,27 @@ impl Session {
         ensures { result ≡ self.now.seen.closed }
     {
         self.machine.closed
+    }
+
+    /// Whether a call of this kind may begin: on an open session Connect before the greeting, and each other one once it is
+    /// connected and no answer is awaited.
+    pub fn may_begin(&self, call: CallKind) -> bool
+        ensures value { result ≡ (self.now.seen.closed || is_begun_at call self.now.seen.context.spot) }
+        ensures order { result ≡ true → self.now.seen.closed ≡ false → AtBegun call self.now.seen.context.spot }
+    {
+        if self.machine.closed {
+            return true;
+        }
+        match call {
+            CallKind::Connect => match self.machine.context.spot {
+                Spot::Greeting => true,
+                _ => false,
+            },
+            _ => match self.machine.context.spot {
+                Spot::Idle | Spot::Further | Spot::Rows => true,
+                _ => false,
+            },
+        }
     }
 
     /// The next step of the open call.
