@@ -4,3 +4,4 @@ pub mod Items
 pub mod Planning
 pub mod Outputs
 pub mod Texts
+pub mod Numbering

@@ -14,3 +14,10 @@ pub mod Input
 pub mod Output
 pub mod TextParts
 pub mod ValueText
+pub mod ErrorText
+pub mod Text
+pub mod Login
+pub mod Poll
+pub mod Spent
+pub mod Run
+pub mod Tool

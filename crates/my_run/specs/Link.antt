@@ -69,10 +69,11 @@ Reads old buf new reads.NotYet = Told old new (λ is js. behind_hold is ≡ Some
 Reads old buf new reads.End = Told old new (λ is js. behind_end is ≡ Some js)
 Reads old buf new reads.Failed = Told old new (λ is js. behind_fault is ≡ Some js)
 
+-- a write of a link that tells its items neither holds nor fails
 abbrev pub Writes : Option (List ReadItem) → Option (List ReadItem) → WriteStep → Type 0
 Writes old new (writes.Took n) = Told old new (λ is js. js ≡ behind_write is)
-Writes old new writes.NotYet = new ≡ old
-Writes old new writes.Failed = new ≡ old
+Writes old new writes.NotYet = Told old new (λ is js. ⊥)
+Writes old new writes.Failed = Told old new (λ is js. ⊥)
 Writes old new writes.NoMemory = new ≡ old
 
 -- what became of the bytes that the link was sent

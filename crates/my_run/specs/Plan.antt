@@ -44,3 +44,7 @@ planned_on n line plan = option_map (λ is. is ++ items_for n line) plan
 abbrev pub all_for : ℕ → List WorldLine → List ReadItem
 all_for n [] = []
 all_for n (line ∷ rest) = items_for n line ++ all_for n rest
+
+-- the plan of link n, with these lines more
+abbrev pub planned_lines : ℕ → List WorldLine → Option (List ReadItem) → Option (List ReadItem)
+planned_lines n lines plan = option_map (λ is. is ++ all_for n lines) plan

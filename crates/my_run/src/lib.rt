@@ -1,13 +1,21 @@
 //! Runs scripts of steps over connections, and hands back what they came to.
 #![tactic(auto)]
 
+pub mod call;
+pub mod connect;
 pub mod input;
 pub mod link;
+pub mod login;
 pub mod memory;
 pub mod output;
+pub mod poll;
 pub mod reading;
+pub mod run;
+pub mod slot;
 pub mod step;
 pub mod text;
+pub mod tool;
+pub mod transcript;
 pub mod words;
 pub mod world;
 

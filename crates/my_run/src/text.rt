@@ -1,4 +1,6 @@
 //! The text of a run.
 
+pub mod error;
 pub mod parts;
+pub mod transcript;
 pub mod value;

@@ -1,0 +1,8 @@
+-- What a client with some options says of itself when a connection is made.
+use Rattle.std.specs.Prelude.{ℕ, [], Option, unwrap_or}
+use Rattle.my_grammar.specs.declared.login.Login.{Login}
+use Rattle.my_opts.specs.Opts.{OptsView}
+use Rattle.my_opts.specs.Capabilities.{capabilities_of}
+
+abbrev pub login_of : OptsView → Login
+login_of o = record { user = o.user; password = o.pass; database = o.db_name; max_packet = unwrap_or o.max_allowed_packet 4194304; attributes = []; capabilities = capabilities_of o }

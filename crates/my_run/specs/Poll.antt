@@ -1,0 +1,118 @@
+-- What a turn of a poll does.
+use Rattle.std.specs.Prelude.{◌≡◌, ◌≢◌, ℕ, ◌+◌, ◌<◌, ◌≤◌, ◌⊎◌, List, [], ◌++◌, length, Option, Some, Bool, true, false}
+use Rattle.my_wire.specs.Front.{Waiting, front_at}
+use Rattle.my_session.specs.declared.call.Task.TheVariants.{Nothing}
+use Rattle.my_session.specs.declared.answer.SessionStep.TheVariants.{Send, Need}
+use Rattle.my_session.specs.Calls.{is_open}
+use Rattle.my_session.specs.Seen.{Seen}
+use Rattle.my_session.specs.Steps.{StepIs}
+use Rattle.my_run.specs.declared.link.ReadItem.{ReadItem}
+use Rattle.my_run.specs.declared.poll.After.{After}
+use Rattle.my_run.specs.declared.poll.After.TheVariants.{Pending, Answered as Replied, Failed as Broke}
+use Rattle.my_run.specs.declared.poll.Polled.{Polled}
+use Rattle.my_run.specs.declared.transcript.Use.{Use}
+use Rattle.my_run.specs.Spent.{IsSpent, CountsTo}
+use Rattle.my_run.specs.declared.poll.Turn.{Turn}
+use Rattle.my_run.specs.declared.poll.Turn.TheVariants.{Sent, Took, Ended, Failed, Held, Full, Answered, Faulted}
+use Rattle.my_run.specs.Outside.{Counts, FaultRose, HoldRose, EndRose}
+use Rattle.my_run.specs.Link.{Told, Gave, behind_hold, behind_fault, behind_end, behind_write}
+
+-- what clauses see of a link
+pub record Looks : Type 0 where
+  pub items : Option (List ReadItem)
+  pub counts : Counts
+
+-- the call is still open, and asks for a sending or for bytes
+abbrev pub Waits : Seen → Type 0
+Waits s = StepIs s Send ⊎ StepIs s Need
+
+-- these bytes came in
+pub record CameIn (x y : Looks) (taken taken' : List ℕ) (n : ℕ) : Type 0 where
+  pub bytes : List ℕ
+  pub count : length bytes ≡ n
+  pub some : 0 < n
+  pub items : Told x.items y.items (Gave bytes)
+  pub taken_is : taken' ≡ taken ++ bytes
+
+-- these bytes went out
+pub record WentOut (sent sent' : List ℕ) : Type 0 where
+  pub bytes : List ℕ
+  pub sent_is : sent' ≡ sent ++ bytes
+
+-- by what the turn did: what became of the session, the link, and the bytes that were sent and taken
+abbrev pub TurnIs : Seen → Looks → Looks → List ℕ → List ℕ → List ℕ → List ℕ → Turn → Type 0
+TurnIs t x y sent sent' taken taken' Sent = (is_open t.task ≡ true) × (y.counts ≡ x.counts) × Told x.items y.items (λ is js. js ≡ behind_write is) × WentOut sent sent' × (taken' ≡ taken)
+TurnIs t x y sent sent' taken taken' (Took n) = (is_open t.task ≡ true) × (y.counts ≡ x.counts) × CameIn x y taken taken' n × (sent' ≡ sent)
+TurnIs t x y sent sent' taken taken' Ended = (is_open t.task ≡ true) × EndRose x.counts y.counts × Told x.items y.items (λ is js. behind_end is ≡ Some js) × (sent' ≡ sent) × (taken' ≡ taken)
+TurnIs t x y sent sent' taken taken' Failed = (is_open t.task ≡ true) × FaultRose x.counts y.counts × Told x.items y.items (λ is js. behind_fault is ≡ Some js) × (sent' ≡ sent) × (taken' ≡ taken)
+TurnIs t x y sent sent' taken taken' Held = Waits t × HoldRose x.counts y.counts × Told x.items y.items (λ is js. behind_hold is ≡ Some js) × (sent' ≡ sent) × (taken' ≡ taken)
+TurnIs t x y sent sent' taken taken' Full = Waits t × (y ≡ x) × (sent' ≡ sent) × (taken' ≡ taken)
+TurnIs t x y sent sent' taken taken' (Answered answer) = (t.task ≡ Nothing) × (y ≡ x) × (sent' ≡ sent) × (taken' ≡ taken)
+TurnIs t x y sent sent' taken taken' (Faulted error) = (t.task ≡ Nothing) × (y ≡ x) × (sent' ≡ sent) × (taken' ≡ taken)
+
+abbrev pub took_by : Turn → ℕ
+took_by Sent = 0
+took_by (Took n) = n
+took_by Ended = 0
+took_by Failed = 0
+took_by Held = 0
+took_by Full = 0
+took_by (Answered answer) = 0
+took_by (Faulted error) = 0
+
+abbrev pub is_full : Turn → Bool
+is_full Sent = false
+is_full (Took n) = false
+is_full Ended = false
+is_full Failed = false
+is_full Held = false
+is_full Full = true
+is_full (Answered answer) = false
+is_full (Faulted error) = false
+
+-- nothing was met yet
+abbrev pub quiet : ℕ → Use
+quiet n = record { number = n; faults = 0; holds = 0; ends = 0; deaths = 0; broken = 0; unlisted = 0; absent = 0; refused = 0; taken = 0; fed = 0 }
+
+abbrev pub IsFailed : After → Type 0
+IsFailed Pending = ⊥
+IsFailed (Replied answer) = ⊥
+IsFailed (Broke error) = Unit {0}
+
+-- only what a poll of a call can meet is counted
+pub record IsOfCall (n : ℕ) (u : Use) : Type 0 where
+  pub number : u.number ≡ n
+  pub deaths : u.deaths ≡ 0
+  pub broken : u.broken ≡ 0
+  pub unlisted : u.unlisted ≡ 0
+  pub absent : u.absent ≡ 0
+  pub refused : u.refused ≡ 0
+  pub fed : u.fed ≡ 0
+
+-- The cause of what a poll came to. It is pending only where the link held, or the poll took all that it may, and then the session
+-- still asks for a sending or for bytes; it is answered only where the link neither held nor failed.
+abbrev pub Causes : Seen → Use → After → Type 0
+Causes t u Pending = Waits t × (u.faults ≡ 0) × ((0 < u.holds) ⊎ ((u.holds ≡ 0) × (67108864 ≤ u.taken)))
+Causes t u (Replied answer) = (t.task ≡ Nothing) × (u.faults ≡ 0) × (u.holds ≡ 0)
+Causes t u (Broke error) = (t.task ≡ Nothing) × (u.holds ≡ 0)
+
+-- what a poll did to the session, the link, and the bytes that were sent and taken
+pub record Polls (t : Seen) (x y : Looks) (sent sent' taken taken' : List ℕ) (n : ℕ) (p : Polled) : Type 0 where
+  pub of_call : IsOfCall n p.used
+  pub cause : Causes t p.used p.after
+  pub counts : CountsTo x.counts y.counts p.used
+  pub within : p.used.taken ≤ 67108864
+  pub came : length taken' ≡ length taken + p.used.taken
+  pub sent_on : WentOut sent sent'
+  pub spent : (plan : Option (List ReadItem)) (f e : ℕ) → IsSpent plan x.items taken f e → IsSpent plan y.items taken' (f + p.used.faults) (e + p.used.ends)
+
+-- so far in a poll
+pub record SoFar (x y : Looks) (sent sent' taken taken' : List ℕ) (n : ℕ) (u : Use) : Type 0 where
+  pub of_call : IsOfCall n u
+  pub no_fault : u.faults ≡ 0
+  pub no_hold : u.holds ≡ 0
+  pub counts : CountsTo x.counts y.counts u
+  pub within : u.taken ≤ 67108864
+  pub came : length taken' ≡ length taken + u.taken
+  pub sent_on : WentOut sent sent'
+  pub spent : (plan : Option (List ReadItem)) (f e : ℕ) → IsSpent plan x.items taken f e → IsSpent plan y.items taken' f (e + u.ends)

@@ -1,0 +1,255 @@
+//! The top call.
+ghost use Rattle.std.specs.Prelude.{◌≡◌, [], ℕ, OnOk, IfOk, true, map, string_bytes};
+ghost use Rattle.my_run.specs.Plan.{planned_lines};
+ghost use Rattle.my_run.specs.Script.{script_of};
+ghost use Rattle.my_run.specs.Text.{text_of};
+ghost use Rattle.my_run.specs.Tool.{IsEmpty, IsUnread, Ran, ScriptEnds, TextEnds, InputEnds, WordEnds, ToolEnds, IsReport, code_of};
+
+use crate::input::{Came, MOST_INPUT, read_all};
+use crate::output::write_all;
+use crate::reading::{Read, Script, read_script};
+use crate::run::run_steps;
+use crate::step::WorldLine;
+use crate::text::transcript::text_of;
+use crate::transcript::{Outcome, StepAnswer, Transcript};
+use crate::words::{read_word, script_word};
+use crate::world::World;
+use my_opts::Opts;
+use my_wire::{NoMemory, Sink, Source};
+use std::alloc::Global;
+
+/// How a run ended.
+#[derive(Clone, Copy, Debug, PartialEq, Eq)]
+pub enum Status {
+    /// All steps were run, and their text was written.
+    Done,
+    /// The words are no command.
+    NoCommand,
+    /// A line of the script doesn't read.
+    BadLine,
+    /// The source failed.
+    SourceFailed,
+    /// The sink failed.
+    SinkFailed,
+    /// The second word is refused.
+    BadWord,
+    /// The source gave more than it may.
+    TooLong,
+    NoMemory,
+}
+
+/// A run's status, and what it came to.
+#[derive(Drop)]
+pub struct Report {
+    pub status: u8,
+    pub transcript: Transcript,
+}
+
+// How a run ended, and what it came to.
+#[derive(Drop)]
+struct Ended {
+    status: Status,
+    transcript: Transcript,
+}
+
+fn code(status: Status) -> u8
+    ensures { result ≡ code_of status }
+{
+    match status {
+        Status::Done => 0,
+        Status::NoCommand => 2,
+        Status::BadLine => 3,
+        Status::SourceFailed => 4,
+        Status::SinkFailed => 5,
+        Status::BadWord => 6,
+        Status::TooLong => 7,
+        Status::NoMemory => 12,
+    }
+}
+
+fn blank(alloc: Global, status: Status) -> Ended
+    ensures status { result.status ≡ status }
+    ensures empty { IsEmpty result.transcript }
+{
+    Ended {
+        status,
+        transcript: Transcript {
+            answers: Vec::new(alloc),
+            tapes: Vec::new(alloc),
+        },
+    }
+}
+
+fn unread_answer(alloc: Global, number: u64) -> StepAnswer
+    ensures number { result.number ≡ number }
+    ensures outcome { result.outcome ≡ Outcome.Unread }
+    ensures uses { result.uses.items ≡ [] }
+{
+    StepAnswer {
+        number,
+        outcome: Outcome::Unread,
+        uses: Vec::new(alloc),
+    }
+}
+
+// The transcript that tells which line doesn't read.
+fn unread(alloc: Global, number: u64) -> Result<Transcript, NoMemory>
+    ensures { IfOk result (IsUnread number) }
+{
+    let mut answers = Vec::new(alloc);
+    answers.push(unread_answer(alloc, number))?;
+    Ok(Transcript {
+        answers,
+        tapes: Vec::new(alloc),
+    })
+}
+
+fn prepare_each<N: World>(world: &mut N, plan: &[WorldLine]) -> Result<(), NoMemory>
+    requires { N.takes_plan world.old ≡ true }
+    ensures { OnOk result ((n : ℕ) → N.plan world.new n ≡ planned_lines n plan.now (N.plan world.old n)) }
+{
+    for line in plan {
+        world.prepare(line)?;
+    }
+    Ok(())
+}
+
+// Hands the world the lines of its plan, if it takes one.
+fn prepare_all<N: World>(world: &mut N, plan: &[WorldLine]) -> Result<(), NoMemory> {
+    if world.plans() {
+        prepare_each(world, plan)?;
+    }
+    Ok(())
+}
+
+// Prepares the world, runs the steps and makes their text.
+fn run_script<N: World>(
+    alloc: Global,
+    opts: &Opts,
+    script: &Script,
+    world: &mut N,
+) -> Result<(Transcript, Vec<u8>), NoMemory>
+    ensures { IfOk result (λ r. Ran script.now.steps.items r.0 × (r.1.items ≡ text_of r.0.answers.items r.0.tapes.items)) }
+{
+    prepare_all(world, &script.plan)?;
+    let transcript = run_steps(alloc, opts, world, &script.steps)?;
+    let text = text_of(alloc, &transcript)?;
+    Ok((transcript, text))
+}
+
+fn run_good<W: Sink, N: World>(
+    alloc: Global,
+    opts: &Opts,
+    script: &Script,
+    out: &mut W,
+    world: &mut N,
+) -> Ended
+    ensures { ScriptEnds script.now.steps.items (record { took = W.took out.old; faults = W.faults out.old }) (record { took = W.took out.new; faults = W.faults out.new }) result.transcript result.status }
+{
+    match run_script(alloc, opts, script, world) {
+        Err(_) => blank(alloc, Status::NoMemory),
+        Ok((transcript, text)) => {
+            if write_all(out, &text) {
+                Ended {
+                    status: Status::Done,
+                    transcript,
+                }
+            } else {
+                Ended {
+                    status: Status::SinkFailed,
+                    transcript,
+                }
+            }
+        }
+    }
+}
+
+fn run_text<W: Sink, N: World>(
+    alloc: Global,
+    opts: &Opts,
+    bytes: &[u8],
+    out: &mut W,
+    world: &mut N,
+) -> Ended
+    ensures { TextEnds (script_of (N.takes_plan world.old) bytes.now) (record { took = W.took out.old; faults = W.faults out.old }) (record { took = W.took out.new; faults = W.faults out.new }) result.transcript result.status }
+{
+    match read_script(alloc, world.plans(), bytes) {
+        Err(_) => blank(alloc, Status::NoMemory),
+        Ok(Read::Bad(number)) => match unread(alloc, number) {
+            Err(_) => blank(alloc, Status::NoMemory),
+            Ok(transcript) => Ended {
+                status: Status::BadLine,
+                transcript,
+            },
+        },
+        Ok(Read::Good(script)) => run_good(alloc, opts, &script, out, world),
+    }
+}
+
+fn run_input<S: Source, W: Sink, N: World>(
+    alloc: Global,
+    opts: &Opts,
+    src: &mut S,
+    out: &mut W,
+    world: &mut N,
+) -> Ended
+    ensures { InputEnds (N.takes_plan world.old) (record { left = S.left src.old; faults = S.faults src.old }) (record { left = S.left src.new; faults = S.faults src.new }) (record { took = W.took out.old; faults = W.faults out.old }) (record { took = W.took out.new; faults = W.faults out.new }) result.transcript result.status }
+{
+    match read_all(alloc, src) {
+        Err(_) => blank(alloc, Status::NoMemory),
+        Ok(Came::Broken) => blank(alloc, Status::SourceFailed),
+        Ok(Came::TooLong) => blank(alloc, Status::TooLong),
+        Ok(Came::Whole(bytes)) => run_text(alloc, opts, &bytes, out, world),
+    }
+}
+
+fn run_word<S: Source, W: Sink, N: World>(
+    alloc: Global,
+    word: &str,
+    src: &mut S,
+    out: &mut W,
+    world: &mut N,
+) -> Ended
+    ensures { WordEnds word.now (N.takes_plan world.old) (record { left = S.left src.old; faults = S.faults src.old }) (record { left = S.left src.new; faults = S.faults src.new }) (record { took = W.took out.old; faults = W.faults out.old }) (record { took = W.took out.new; faults = W.faults out.new }) result.transcript result.status }
+{
+    match read_word(alloc, word) {
+        Err(_) => blank(alloc, Status::NoMemory),
+        Ok(None) => blank(alloc, Status::BadWord),
+        Ok(Some(opts)) => run_input(alloc, &opts, src, out, world),
+    }
+}
+
+fn run_words<S: Source, W: Sink, N: World>(
+    alloc: Global,
+    words: &[String],
+    src: &mut S,
+    out: &mut W,
+    world: &mut N,
+) -> Ended
+    ensures { ToolEnds (map string_bytes words.now) (N.takes_plan world.old) (record { left = S.left src.old; faults = S.faults src.old }) (record { left = S.left src.new; faults = S.faults src.new }) (record { took = W.took out.old; faults = W.faults out.old }) (record { took = W.took out.new; faults = W.faults out.new }) result.transcript result.status }
+{
+    match script_word(words) {
+        None => blank(alloc, Status::NoCommand),
+        Some(word) => run_word(alloc, word, src, out, world),
+    }
+}
+
+/// Runs a command: reads the words and the source, runs the steps over the world, and writes their text to the sink.
+///
+/// The status is 2 where the words are no command, 6 where the second word is refused, 4 where the source failed, 7 where it gave
+/// more than 67,108,864 bytes, 3 where a line doesn't read, 5 where the sink failed, 0 where the run is done, and 12 for want of memory.
+pub fn run_tool<S: Source, W: Sink, N: World>(
+    alloc: Global,
+    words: &[String],
+    src: &mut S,
+    out: &mut W,
+    world: &mut N,
+) -> Report
+    ensures { IsReport (map string_bytes words.now) (N.takes_plan world.old) (record { left = S.left src.old; faults = S.faults src.old }) (record { left = S.left src.new; faults = S.faults src.new }) (record { took = W.took out.old; faults = W.faults out.old }) (record { took = W.took out.new; faults = W.faults out.new }) result }
+{
+    let ended = run_words(alloc, words, src, out, world);
+    Report {
+        status: code(ended.status),
+        transcript: ended.transcript,
+    }
+}
