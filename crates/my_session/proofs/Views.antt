@@ -12,7 +12,8 @@ use Rattle.my_grammar.specs.Contexts.{deprecates_eof, more, has_more}
 use Rattle.my_grammar.specs.FitSets.{FitSets, AreColumns, IsBegun}
 use Rattle.my_grammar.specs.Growth.{grow}
 use Rattle.my_grammar.specs.Kinds.{head_kind, described_kind}
-use Rattle.my_grammar.specs.Sets.{SetHead, Sets, NoSets, Lone, Failed, Heading, Headed, Begun, Ended, Broken, Packet, each, at_most_one, head_packets, packets_in, grow_sets, with_column, with_column_of, with_close, spot_in}
+use Rattle.my_grammar.specs.declared.packet.Packet.{Packet}
+use Rattle.my_grammar.specs.Sets.{SetHead, Sets, NoSets, Lone, Failed, Heading, Headed, Begun, Ended, Broken, each, at_most_one, head_packets, packets_in, grow_sets, with_column, with_column_of, with_close, spot_in}
 use Rattle.my_grammar.specs.Talk.{Talk, Start, Unwelcome, Greeted, Settled, Asked, Replied, Queried, Silent, packets_of, context_of, Fits, origin}
 use Rattle.my_grammar.specs.declared.spot.Terms.{Terms}
 use Rattle.my_grammar.proofs.Known.{is_head_kind, known_head, is_then}

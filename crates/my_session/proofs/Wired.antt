@@ -12,7 +12,7 @@ use Rattle.my_grammar.specs.declared.spot.Spot.TheVariants as spots
 use Rattle.my_grammar.specs.Contexts.{context_after, is_bad}
 use Rattle.my_grammar.specs.Growth.{grow, replies, Grows, Reads, number_next, said}
 use Rattle.my_grammar.specs.Kinds.{kind_there}
-use Rattle.my_grammar.specs.Sets.{Packet}
+use Rattle.my_grammar.specs.declared.packet.Packet.{Packet}
 use Rattle.my_grammar.specs.Talk.{Talk, Start, Unwelcome, Greeted, Settled, Asked, Replied, Queried, Silent, Server, turns, number_of, server_bytes, client_bytes, context_of, packets_of, Fits, origin, login_in, limit_of}
 use Rattle.my_grammar.proofs.Growth.{grows, reads}
 use Rattle.my_session.specs.declared.call.Call.{Call}

@@ -9,7 +9,7 @@ use Rattle.my_wire.specs.Greeting.{greeting_at}
 use Rattle.my_wire.specs.Column.{column_at}
 use Rattle.my_grammar.specs.declared.spot.Kind.{Kind}
 use Rattle.my_grammar.specs.declared.spot.Kind.TheVariants.{Greets, Good, Failed, Count, Column as ColumnKind, ColumnsDone, Row, End, Bad}
-use Rattle.my_grammar.specs.Sets.{Packet}
+use Rattle.my_grammar.specs.declared.packet.Packet.{Packet}
 use Rattle.my_session.specs.declared.facts.Facts.{Facts}
 
 -- before the server said anything

@@ -3,7 +3,8 @@ use Rattle.std.specs.Prelude.{◌≡◌, ℕ, List, [], ◌∷◌, ◌++◌, Opt
 use Rattle.my_wire.specs.declared.column.Column.{Column}
 use Rattle.my_wire.specs.Column.{column_at}
 use Rattle.my_value.specs.RowParts.{RowParts}
-use Rattle.my_grammar.specs.Sets.{SetHead, Sets, NoSets, Lone, Failed, Heading, Headed, Begun, Ended, Broken, Packet, grow_sets}
+use Rattle.my_grammar.specs.declared.packet.Packet.{Packet}
+use Rattle.my_grammar.specs.Sets.{SetHead, Sets, NoSets, Lone, Failed, Heading, Headed, Begun, Ended, Broken, grow_sets}
 use Rattle.my_session.specs.declared.call.CallKind.{CallKind}
 use Rattle.my_session.specs.declared.call.CallKind.TheVariants.{Connect, Query, NextRow, DropResult, Ping, Quit}
 use Rattle.my_session.specs.Calls.{kind_of}
