@@ -1,0 +1,65 @@
+//! What the program says of itself.
+
+pub const VERSION: &str = "my_cli 0.1.0\n";
+
+pub const HELP: &str = "\
+my_cli runs a script of steps over MySQL connections, and prints what each step came to.
+
+  my_cli script WORD < SCRIPT
+
+WORD says how to connect: plain,USER,PASS,PACKET,WAIT. An empty USER or PASS is none.
+PACKET is the longest packet in bytes, from 1024 to 1073741824; WAIT is the seconds that
+the server may wait, at most 31536000. For example:
+
+  my_cli script plain,root,,4194304,28800 < first_query.script
+
+A script has a line for each thing. Empty lines and lines that begin with # are skipped.
+Words stand one space apart. The lines of the world come first: what the link of a number
+gives to be read, as the server's side of the connection of that number would.
+
+  packet L N HEX   a packet with the number N and this payload; HEX is hexadecimal, - is none
+  bytes L HEX      these bytes as they are
+  turn L           what follows comes once the client sent something
+  wait L           the next read has nothing yet, once
+  fail L           the next read fails, once
+  end L            the link ends here
+
+  packet 0 2 00000002000000
+  turn 0
+
+Then the steps, each of which prints one line with its number:
+
+  conn             connects; connections are numbered from 0
+  query C TEXT     sends a query over connection C and reads the head of its result
+  next C           reads the next row
+
+  conn             1 conn 0 id=7 version=8.0.36
+  query 0 SELECT 1 2 ok
+  next 0           3 row b:31
+  next 0           4 end          the result ended
+  next 0           5 none         nothing is left to be read
+
+A step may also print pending, where the link has nothing yet; refused NoSuchHandle, where
+there is no such connection or its call is still pending; or an error, as
+
+  error Io Link
+  error Io InvalidData 4
+  error Driver ConnectionClosed
+  error Server 1064 42000 b:424c41424c41
+
+At the end stand the bytes that each connection sent and took, and the word end.
+
+The status tells how the run ended:
+
+  0   the script was run
+  2   the words are no command
+  3   a line of the script doesn't read
+  4   reading the script failed
+  5   writing failed
+  6   WORD is refused
+  7   the script is longer than 67108864 bytes
+  12  there was no memory
+
+  my_cli --help      prints this page
+  my_cli --version   prints the version
+";
