@@ -1,5 +1,5 @@
 -- A pool is sound, and covered while it is open, whatever happens to it.
-use Rattle.std.proofs.Common.{◌≡◌, ℕ, ◌+◌, ◌≤◌, ◌<◌, Bool, true, false, List, [], ◌∷◌, refl, arith}
+use Rattle.std.proofs.Common.{◌≡◌, ℕ, ◌≤◌, true, List, [], ◌∷◌, refl, arith}
 use Rattle.my_pool_core.specs.declared.event.PoolEvent.{PoolEvent}
 use Rattle.my_pool_core.specs.declared.event.PoolEvent.TheVariants.{Request, PollRequest, Cancel, Ready, Failed, GiveBack, Detach, TakeReturned, Decide, Done, CheckTtl, Close, PollDisconnect}
 use Rattle.my_pool_core.specs.declared.limits.Limits.{Limits}

@@ -2,7 +2,7 @@
 use Rattle.std.proofs.Common.{◌≡◌, ℕ, ◌+◌, ◌-◌, ◌≤◌, ◌<◌, Bool, true, false, cond, Option, Some, None, List, [], ◌∷◌, ◌++◌, length, refl, sym, ap, ◌∙◌, arith, subst, length-append, max, inl, inr, ◌⊎◌}
 use Rattle.std.specs.Prelude.{find, ◌==◌, ◌&&◌, ◌||◌, not, nat_le, nat_lt, if◌then◌else◌}
 use Rattle.std.specs.List.{list_any}
-use Rattle.std.proofs.lemmas.Bool.{eqb-true, leb-false, ltb-true, ltb-false}
+use Rattle.std.proofs.lemmas.Bool.{ltb-true, ltb-false}
 use Rattle.my_pool_core.specs.declared.connection.Connection.{Connection}
 use Rattle.my_pool_core.specs.declared.connection.Place.{Place}
 use Rattle.my_pool_core.specs.declared.connection.Place.TheVariants.{Idle, Leased, Connecting, Checking, Returned, Cleaning, Resetting, Closing}
@@ -13,18 +13,18 @@ use Rattle.my_pool_core.specs.declared.request.Standing.{Standing}
 use Rattle.my_pool_core.specs.declared.request.Standing.TheVariants.{Asks, Waits, Woken, Dials, Checks}
 use Rattle.my_pool_core.specs.declared.limits.Counts.{Counts}
 use Rattle.my_pool_core.specs.Lists.{without, how_many, found_is}
-use Rattle.my_pool_core.specs.Connections.{placed, has_number, is_idle, is_idle_place, is_usable, is_left, move_to, latest_usable, unexpired, expired, retire, next_to_clean, is_returned, mark_of_place, is_marked, is_resetting}
-use Rattle.my_pool_core.specs.Requests.{asking, has_age, is_waiting, is_waiting_standing, is_woken, is_free, holds, holds_number, is_dialing, standing_as, set_standing, set_waiting, ended, wake, waits_up_to, is_queued}
+use Rattle.my_pool_core.specs.Connections.{placed, has_number, is_idle, is_idle_place, is_usable, is_left, move_to, latest_usable, unexpired, expired, retire, next_to_clean, mark_of_place, is_marked, is_resetting}
+use Rattle.my_pool_core.specs.Requests.{asking, has_age, is_waiting, is_woken, is_free, holds, holds_number, is_dialing, standing_as, ended, wake, waits_up_to, is_queued}
 use Rattle.my_pool_core.specs.State.{State}
-use Rattle.my_pool_core.specs.Events.{Polled, Decided, Found, is_at_end, request, close, may_poll, queued, taken, dialed, sought, poll_request, is_full, has_waited, is_live, may_cancel, cancel_standing, cancel_found, cancel, creation_failed, may_settle, ready, let_go, failed, may_move, freed, moved, may_give_back, give_back, detach, found_next, take_returned, may_decide, resting, keep, decide, may_done, done, check_ttl, above_min, unestablished, dirty_return, outlived, being_reset, superfluous, kept, cleanup_failed}
+use Rattle.my_pool_core.specs.Events.{Polled, Decided, is_at_end, request, may_poll, queued, sought, poll_request, is_full, has_waited, is_live, may_cancel, cancel_standing, cancel_found, cancel, creation_failed, may_settle, ready, let_go, failed, may_give_back, give_back, detach, found_next, take_returned, may_decide, resting, keep, decide, may_done, done, check_ttl, above_min, unestablished, dirty_return, outlived, being_reset, superfluous, cleanup_failed}
 use Rattle.my_pool_core.specs.Sound.{IsSound, IsCovered, woken_first, is_unmarked}
-use Rattle.my_pool_core.proofs.Finding.{one, count-without-le, count-change, count-found, count-push, count-append, none-counted, count-and}
+use Rattle.my_pool_core.proofs.Finding.{one, count-without-le, count-change, count-found, count-push, count-append}
 use Rattle.my_pool_core.proofs.Fewer.{move-count}
 use Rattle.my_pool_core.proofs.Quiet.{IsAt, req}
-use Rattle.my_pool_core.proofs.Moving.{both, not-true, sound-retire, retire-same, retire-idle, none-expired-idle, swept, swept-same, swept-idle, all-count, retire-fewer}
+use Rattle.my_pool_core.proofs.Moving.{both, not-true, sound-retire, retire-same, retire-idle, none-expired-idle, swept, swept-same, swept-idle, all-count}
 use Rattle.my_pool_core.proofs.Holding.{connecting-found, checking-found, ended-less, wake-waiting}
-use Rattle.my_pool_core.proofs.Kept.{if-keeps, found-req, found-at, retired-there, next-place}
-use Rattle.my_pool_core.proofs.Keeping.{moved-length, found-there, movable, movable-there, decide-moves, done-moves, held-there}
+use Rattle.my_pool_core.proofs.Kept.{if-keeps, found-req, retired-there, next-place}
+use Rattle.my_pool_core.proofs.Keeping.{moved-length, found-there, movable-there, decide-moves, done-moves, held-there}
 use Rattle.my_pool_core.proofs.Finding.{found-any, shorter-where-any}
 use Rattle.my_pool_core.specs.Connections.{is_leased}
 use Rattle.my_pool_core.proofs.Fronts.{front-wake, front-ended, front-change, front-push, front-late}

@@ -1,10 +1,10 @@
 -- Counting in a list of which the first element that passes a test is taken out or changed.
-use Rattle.std.proofs.Common.{◌≡◌, ℕ, ◌+◌, ◌≤◌, ◌<◌, Bool, true, false, cond, Option, Some, None, List, [], ◌∷◌, ◌++◌, length, refl, sym, ap, ◌∙◌, arith, map, subst, suc, zero-add, add_assoc, take, drop}
+use Rattle.std.proofs.Common.{◌≡◌, ℕ, ◌+◌, ◌≤◌, ◌<◌, Bool, true, false, cond, Some, None, List, [], ◌∷◌, ◌++◌, length, refl, sym, ap, ◌∙◌, arith, map, subst, suc, zero-add}
 use Rattle.std.specs.Prelude.{find, count_by, ◌&&◌, ◌||◌, not, nat_lt}
 use Rattle.std.proofs.Math.ListN.{set}
 use Rattle.std.proofs.Common.{get_or}
 use Rattle.std.proofs.lemmas.Bool.{ltb-true, ltb-false}
-use Rattle.std.specs.List.{list_any, position, position_or_len, prefix_len, remove}
+use Rattle.std.specs.List.{list_any, position, position_or_len, remove}
 use Rattle.std.proofs.lemmas.List.Recursion.{is_count_by}
 use Rattle.my_pool_core.specs.Lists.{without, change_first, how_many, found_is}
 

@@ -1,13 +1,13 @@
 -- A request that makes or looks at a connection lets it go.
-use Rattle.std.proofs.Common.{◌≡◌, ℕ, ◌+◌, ◌-◌, ◌≤◌, ◌<◌, ◌^◌, Bool, true, false, cond, Option, Some, None, List, [], ◌∷◌, ◌++◌, length, refl, sym, ap, ◌∙◌, arith, map, subst}
-use Rattle.std.specs.Prelude.{find, ◌==◌, ◌&&◌, ◌||◌, not, nat_le}
-use Rattle.std.proofs.lemmas.Bool.{eqb-true, eq-eqb}
+use Rattle.std.proofs.Common.{◌≡◌, ℕ, ◌+◌, ◌≤◌, ◌<◌, Bool, true, false, cond, Some, List, refl, ap, ◌∙◌, arith}
+use Rattle.std.specs.Prelude.{find, ◌==◌, ◌&&◌, not}
+use Rattle.std.proofs.lemmas.Bool.{eq-eqb}
 use Rattle.my_pool_core.specs.declared.connection.Connection.{Connection}
 use Rattle.my_pool_core.specs.declared.connection.Place.{Place}
 use Rattle.my_pool_core.specs.declared.connection.Place.TheVariants.{Idle, Leased, Connecting, Checking, Returned, Cleaning, Resetting, Closing}
 use Rattle.my_pool_core.specs.declared.request.Request.{Request}
 use Rattle.my_pool_core.specs.declared.request.Standing.{Standing}
-use Rattle.my_pool_core.specs.declared.request.Standing.TheVariants.{Asks, Waits, Woken, Dials, Checks}
+use Rattle.my_pool_core.specs.declared.request.Standing.TheVariants.{Asks, Woken, Dials, Checks}
 use Rattle.my_pool_core.specs.declared.limits.Counts.{Counts}
 use Rattle.my_pool_core.specs.Lists.{without, change_first, how_many}
 use Rattle.my_pool_core.specs.Connections.{placed, has_number, is_idle, is_connecting, is_connecting_place, is_checking, is_checking_place, move_to}
@@ -15,7 +15,7 @@ use Rattle.my_pool_core.specs.Requests.{last_age, has_age, is_waiting, is_waitin
 use Rattle.my_pool_core.specs.State.{State}
 use Rattle.my_pool_core.specs.Sound.{IsSound, dials, checks, connects, is_checked, is_unmarked, is_dialer, is_last_holder}
 use Rattle.my_pool_core.proofs.Finding.{one, count-without, count-without-le, count-change, count-change-less, count-found, found-once}
-use Rattle.my_pool_core.proofs.Fewer.{FewerConnections, FewerRequests, sound_after, found-placed, move-fewer, move-count, freed-fewer, fewer-requests, ended-fewer, changed-fewer}
+use Rattle.my_pool_core.proofs.Fewer.{FewerConnections, FewerRequests, sound_after, found-placed, move-fewer, move-count, freed-fewer, fewer-requests, ended-fewer}
 use Rattle.my_pool_core.proofs.Rising.{rising-change}
 use Rattle.my_pool_core.proofs.Quiet.{IsAt, req, wake-quiet}
 

@@ -1,6 +1,6 @@
 -- Each event keeps what a pool keeps: a sound state, and room for it.
-use Rattle.std.proofs.Common.{◌≡◌, ℕ, ◌+◌, ◌-◌, ◌≤◌, ◌<◌, Bool, true, false, Option, Some, None, List, [], ◌∷◌, ◌++◌, length, refl, sym, ap, ◌∙◌, arith, subst, max, length-append}
-use Rattle.std.specs.Prelude.{find, if◌then◌else◌, nat_le, nat_lt, not, ◌||◌, ◌&&◌, IfSome}
+use Rattle.std.proofs.Common.{◌≡◌, ℕ, ◌+◌, ◌≤◌, ◌<◌, Bool, true, false, Option, Some, None, List, [], ◌∷◌, ◌++◌, length, refl, sym, ap, ◌∙◌, arith, subst, max, length-append}
+use Rattle.std.specs.Prelude.{find, if◌then◌else◌, not, ◌||◌, ◌&&◌, IfSome}
 use Rattle.std.proofs.lemmas.Bool.{eqb-true}
 use Rattle.std.specs.List.{list_any}
 use Rattle.my_pool_core.specs.declared.connection.Connection.{Connection}
@@ -14,14 +14,14 @@ use Rattle.my_pool_core.specs.declared.request.Standing.{Standing}
 use Rattle.my_pool_core.specs.declared.request.Standing.TheVariants.{Asks, Waits, Woken, Dials, Checks}
 use Rattle.my_pool_core.specs.Lists.{without, how_many, found_is}
 use Rattle.my_pool_core.specs.Connections.{has_number, is_leased, is_idle, is_idle_place, is_connecting_place, is_checking_place, is_cleaning_place, is_resetting_place, is_closing_place, returned, placed, move_to, is_cleaning, next_to_clean, mark_of_place, latest_usable, retire}
-use Rattle.my_pool_core.specs.Requests.{asking, has_age, holds, holds_number, is_free, ended, is_dialing, set_waiting, wake, wake_all}
+use Rattle.my_pool_core.specs.Requests.{asking, has_age, holds, holds_number, is_free, ended, set_waiting, wake, wake_all}
 use Rattle.my_pool_core.specs.State.{State}
-use Rattle.my_pool_core.specs.Events.{is_at_end, request, with_last, dialed, taken, above_min, may_move, freed, moved, resting, kept, keep, is_unheld, creation_failed, may_poll, may_cancel, cancel, cancel_found, cancel_standing, may_settle, ready, failed, may_give_back, give_back, close, check_ttl, may_decide, decide, may_finish, may_done, done, take_returned}
+use Rattle.my_pool_core.specs.Events.{is_at_end, request, with_last, dialed, taken, above_min, may_move, freed, moved, resting, kept, is_unheld, may_poll, may_cancel, cancel, cancel_found, cancel_standing, may_settle, ready, failed, may_give_back, give_back, close, check_ttl, may_decide, may_finish, may_done}
 use Rattle.my_pool_core.specs.Sound.{IsSound, IsKept, is_dialer}
-use Rattle.my_pool_core.proofs.Finding.{one, count-found, found-any, found-passes, shorter-where-any, shorter-without}
+use Rattle.my_pool_core.proofs.Finding.{one, count-found, found-any, found-passes, shorter-where-any}
 use Rattle.my_pool_core.proofs.Opening.{sound-close, sound-request, sound-ended, sound-waits, sound-takes, sound-dials, open-not-last, free-dialer}
 use Rattle.my_pool_core.proofs.Moving.{retire-fewer, sound-retire, swept-fewer}
-use Rattle.my_pool_core.proofs.Kept.{sound-cancel, sound-ready, sound-failed, sound-give-back, sound-freed, sound-move-on, sound-rested, IsUnheld, sound-decide, sound-done, sound-take-returned, sound-check-ttl, sound-found-next, next-place, none-ended, retired-there, found-req, found-at}
+use Rattle.my_pool_core.proofs.Kept.{sound-cancel, sound-ready, sound-failed, sound-give-back, sound-freed, sound-move-on, sound-rested, IsUnheld, sound-check-ttl, sound-found-next, next-place, none-ended, retired-there, found-req, found-at}
 use Rattle.my_pool_core.proofs.Holding.{connecting-found, checking-found}
 use Rattle.my_pool_core.proofs.Quiet.{IsAt, req}
 

@@ -1,17 +1,14 @@
 -- A request takes a place only before each that waits; a pool that is gone counts none.
-use Rattle.std.proofs.Common.{◌≡◌, ℕ, ◌+◌, ◌≤◌, ◌<◌, Bool, true, false, cond, Option, Some, None, List, [], ◌∷◌, length, refl, sym, ap, ◌∙◌, arith}
-use Rattle.std.specs.Prelude.{◌==◌, ◌&&◌, ◌||◌, not, nat_lt, nat_le, find, if◌then◌else◌}
+use Rattle.std.proofs.Common.{◌≡◌, ℕ, ◌<◌, Bool, true, false, Option, Some, None, List, [], ◌∷◌, length, refl, sym, ap, ◌∙◌}
+use Rattle.std.specs.Prelude.{◌==◌, ◌&&◌, ◌||◌, not, nat_le, find}
 use Rattle.std.specs.List.{All, AllByRecursion}
 use Rattle.std.proofs.lemmas.List.Elements.{All-from_recursion}
 use Rattle.std.proofs.lemmas.Bool.{eqb-true, leb-false}
 use Rattle.my_pool_core.specs.declared.request.Request.{Request}
-use Rattle.my_pool_core.specs.declared.event.PollAnswer.{PollAnswer}
-use Rattle.my_pool_core.specs.declared.event.PollAnswer.TheVariants.{Wait, Take, Dial, Closed, Full}
 use Rattle.my_pool_core.specs.Lists.{how_many, found_is}
-use Rattle.my_pool_core.specs.Connections.{latest_usable, retire}
 use Rattle.my_pool_core.specs.Requests.{has_age, is_waiting, is_queued, waits_up_to}
 use Rattle.my_pool_core.specs.State.{State}
-use Rattle.my_pool_core.specs.Events.{Polled, queued, sought, poll_request, takes_place, is_full, full_answer, has_waited, is_gone}
+use Rattle.my_pool_core.specs.Events.{Polled, queued, poll_request, takes_place, is_full, full_answer, has_waited, is_gone}
 use Rattle.my_pool_core.proofs.Moving.{both}
 use Rattle.my_pool_core.proofs.Kept.{if-keeps}
 

@@ -1,26 +1,24 @@
 -- A request begins, waits, or comes to hold a connection.
-use Rattle.std.proofs.Common.{◌≡◌, ℕ, ◌+◌, ◌-◌, ◌≤◌, ◌<◌, ◌^◌, Bool, true, false, cond, Option, Some, None, List, [], ◌∷◌, ◌++◌, length, refl, sym, ap, ◌∙◌, arith, map, subst, max, length-append}
-use Rattle.std.specs.Prelude.{find, ◌==◌, ◌&&◌, ◌||◌, not, nat_le, nat_lt, if◌then◌else◌}
+use Rattle.std.proofs.Common.{◌≡◌, ℕ, ◌+◌, ◌-◌, ◌≤◌, ◌<◌, Bool, true, false, cond, Some, List, [], ◌∷◌, ◌++◌, length, refl, ap, ◌∙◌, arith, subst, max, length-append}
+use Rattle.std.specs.Prelude.{find, ◌==◌, ◌&&◌, ◌||◌, not, nat_le, if◌then◌else◌}
 use Rattle.std.specs.List.{list_any}
-use Rattle.std.proofs.lemmas.Bool.{eqb-true, eq-eqb, leb-false, lt-ltb, lt-leb, leb-true, le-leb, eqb-false}
+use Rattle.std.proofs.lemmas.Bool.{eqb-true, leb-false, lt-ltb, lt-leb, leb-true, le-leb, eqb-false}
 use Rattle.std.proofs.lemmas.Bool.Decides.{nat_tests}
-use Rattle.my_pool_core.specs.declared.connection.Connection.{Connection}
-use Rattle.my_pool_core.specs.declared.connection.Place.{Place}
-use Rattle.my_pool_core.specs.declared.connection.Place.TheVariants.{Idle, Leased, Connecting, Checking, Returned, Cleaning, Resetting, Closing}
+use Rattle.my_pool_core.specs.declared.connection.Place.TheVariants.{Idle, Connecting, Checking}
 use Rattle.my_pool_core.specs.declared.connection.Times.{Times}
 use Rattle.my_pool_core.specs.declared.request.Request.{Request}
 use Rattle.my_pool_core.specs.declared.request.Standing.{Standing}
 use Rattle.my_pool_core.specs.declared.request.Standing.TheVariants.{Asks, Waits, Woken, Dials, Checks}
-use Rattle.my_pool_core.specs.Lists.{without, change_first, how_many}
-use Rattle.my_pool_core.specs.Connections.{placed, has_number, is_idle, is_usable, move_to}
-use Rattle.my_pool_core.specs.Requests.{last_age, asking, has_age, is_waiting, is_waiting_standing, is_free, may_dial, standing_as, now_waiting, set_standing, set_waiting, ended, roused, wake, wake_all}
+use Rattle.my_pool_core.specs.Lists.{how_many}
+use Rattle.my_pool_core.specs.Connections.{placed, has_number, is_idle, move_to}
+use Rattle.my_pool_core.specs.Requests.{last_age, asking, has_age, is_waiting, is_waiting_standing, is_free, may_dial, standing_as, now_waiting, set_standing, set_waiting, ended, roused, wake_all}
 use Rattle.my_pool_core.specs.State.{State, one_more}
 use Rattle.my_pool_core.specs.Events.{is_at_end, close, with_last, request}
-use Rattle.my_pool_core.specs.Sound.{IsRising, IsSound, dials, checks, connects, is_checked, is_unnumbered, is_unborn, is_unmarked, is_dialer, is_last_holder}
-use Rattle.my_pool_core.proofs.Finding.{one, count-change, count-found, count-push, count-map-same, count-append, count-either, count-implies, count-le-length, none-counted, some-counted}
-use Rattle.my_pool_core.proofs.Fewer.{FewerConnections, FewerRequests, sound_after, same-connections, move-fewer, move-count}
-use Rattle.my_pool_core.proofs.Rising.{rising-change, rising-map, rising-push}
-use Rattle.my_pool_core.proofs.Quiet.{QuietRequests, IsAt, req, ended-quiet}
+use Rattle.my_pool_core.specs.Sound.{IsSound, dials, checks, connects, is_checked, is_unnumbered, is_unborn, is_unmarked, is_dialer, is_last_holder}
+use Rattle.my_pool_core.proofs.Finding.{one, count-change, count-found, count-push, count-map-same, count-either, count-implies, count-le-length, none-counted}
+use Rattle.my_pool_core.proofs.Fewer.{sound_after, same-connections, move-fewer, move-count}
+use Rattle.my_pool_core.proofs.Rising.{rising-map, rising-push}
+use Rattle.my_pool_core.proofs.Quiet.{req, ended-quiet}
 use Rattle.my_pool_core.proofs.Holding.{found-change-fewer}
 
 -- ---- what is known of a request without a connection ----

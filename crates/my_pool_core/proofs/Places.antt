@@ -1,7 +1,7 @@
 -- What is found by place.
-use Rattle.std.proofs.Common.{◌≡◌, ℕ, ◌+◌, Bool, true, false, cond, Option, Some, None, List, refl, sym, ap, ◌∙◌, get_or}
+use Rattle.std.proofs.Common.{◌≡◌, ℕ, Bool, true, false, cond, Some, None, List, ap, ◌∙◌, get_or}
 use Rattle.std.specs.Prelude.{find}
-use Rattle.std.specs.List.{list_any, position}
+use Rattle.std.specs.List.{position}
 use Rattle.my_pool_core.specs.declared.connection.Connection.{Connection}
 use Rattle.my_pool_core.specs.Connections.{is_idle, is_returned, next_to_clean}
 use Rattle.my_pool_core.proofs.Finding.{find-position, find-nothing, any-position, position-isnt}

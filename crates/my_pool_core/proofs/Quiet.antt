@@ -1,14 +1,13 @@
 -- Requests of which none begins or ends to hold a connection.
-use Rattle.std.proofs.Common.{◌≡◌, ℕ, ◌+◌, ◌-◌, ◌≤◌, ◌<◌, ◌^◌, Bool, true, false, cond, Option, Some, None, List, [], ◌∷◌, ◌++◌, length, refl, sym, ap, ◌∙◌, arith, map, subst}
-use Rattle.std.specs.Prelude.{find, ◌==◌, ◌&&◌, ◌||◌, not, nat_le}
+use Rattle.std.proofs.Common.{◌≡◌, ℕ, ◌≤◌, Bool, true, false, cond, Some, List, refl, ◌∙◌, arith}
+use Rattle.std.specs.Prelude.{find, ◌==◌}
 use Rattle.my_pool_core.specs.declared.request.Request.{Request}
 use Rattle.my_pool_core.specs.declared.request.Standing.{Standing}
 use Rattle.my_pool_core.specs.declared.request.Standing.TheVariants.{Asks, Waits, Woken, Dials, Checks}
-use Rattle.my_pool_core.specs.Lists.{without, change_first, how_many}
-use Rattle.my_pool_core.specs.Requests.{last_age, has_age, is_waiting, is_waiting_standing, is_free, may_dial, standing_as, now_waiting, set_standing, set_waiting, ended, wake, wake_all}
-use Rattle.my_pool_core.specs.Sound.{IsRising, dials, checks, is_unmarked, is_dialer, is_last_holder}
-use Rattle.my_pool_core.proofs.Finding.{one, count-without, count-change, count-change-same, count-change-less, count-map-same}
-use Rattle.my_pool_core.proofs.Rising.{rising-map}
+use Rattle.my_pool_core.specs.Lists.{without, how_many}
+use Rattle.my_pool_core.specs.Requests.{last_age, has_age, is_waiting, is_waiting_standing, standing_as, ended, wake}
+use Rattle.my_pool_core.specs.Sound.{dials, checks, is_unmarked, is_dialer}
+use Rattle.my_pool_core.proofs.Finding.{one, count-without, count-change-same}
 use Rattle.my_pool_core.proofs.Fewer.{FewerRequests, same-requests, fewer-requests, ended-fewer, changed-fewer}
 
 pub record QuietRequests (rs qs : List Request) : Type 0 where

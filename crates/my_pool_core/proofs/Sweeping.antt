@@ -1,5 +1,5 @@
 -- Idle connections whose time is over are returned one after another, from the one that is idle longest on.
-use Rattle.std.proofs.Common.{◌≡◌, ℕ, ◌+◌, ◌-◌, ◌≤◌, ◌<◌, Bool, true, false, cond, List, [], ◌∷◌, ◌++◌, length, refl, sym, ap, ◌∙◌, arith, subst, suc, take, drop, get_or, append_assoc, append-nil, length-append, length-drop}
+use Rattle.std.proofs.Common.{◌≡◌, ℕ, ◌+◌, ◌≤◌, ◌<◌, true, false, cond, List, [], ◌∷◌, ◌++◌, length, refl, sym, ap, ◌∙◌, arith, subst, drop, get_or, append_assoc, append-nil, length-append, length-drop}
 use Rattle.std.specs.List.{remove}
 use Rattle.std.proofs.lemmas.List.{drop_more, get_or_at, drop_all}
 use Rattle.my_pool_core.specs.declared.connection.Connection.{Connection}

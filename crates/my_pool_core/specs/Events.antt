@@ -1,5 +1,5 @@
 -- What each event makes of a pool's state, and what is answered.
-use Rattle.std.specs.Prelude.{ℕ, ◌+◌, ◌-◌, ◌^◌, Bool, true, false, ◌||◌, ◌&&◌, ◌==◌, not, nat_lt, nat_le, max, Option, Some, None, is_some, option_map, List, [], ◌∷◌, ◌++◌, length, find, if◌then◌else◌}
+use Rattle.std.specs.Prelude.{ℕ, ◌+◌, ◌-◌, Bool, true, false, ◌||◌, ◌&&◌, ◌==◌, not, nat_lt, nat_le, max, Option, Some, None, List, [], ◌∷◌, ◌++◌, length, find, if◌then◌else◌}
 use Rattle.std.specs.List.{list_any}
 use Rattle.my_pool_core.specs.declared.connection.Connection.{Connection}
 use Rattle.my_pool_core.specs.declared.connection.Place.{Place}
@@ -16,8 +16,8 @@ use Rattle.my_pool_core.specs.declared.event.PollAnswer.TheVariants.{Wait, Take,
 use Rattle.my_pool_core.specs.declared.event.Verdict.{Verdict}
 use Rattle.my_pool_core.specs.declared.event.Verdict.TheVariants.{Drop, Clean, Close, Reset, Keep}
 use Rattle.my_pool_core.specs.Lists.{without, found_is, how_many}
-use Rattle.my_pool_core.specs.Connections.{placed, has_number, is_idle, is_leased, is_returned, is_cleaning, is_marked, is_resetting, is_closing, is_connecting, is_checking, mark_of_place, is_cleaning_place, move_to, latest_usable, retire, lasting, outdated, next_to_clean}
-use Rattle.my_pool_core.specs.Requests.{last_age, asking, has_age, is_waiting, is_dialing, is_free, holds, set_standing, set_waiting, ended, wake, wake_all, waits_up_to, may_dial, is_queued}
+use Rattle.my_pool_core.specs.Connections.{placed, has_number, is_idle, is_leased, is_cleaning, is_marked, is_resetting, is_closing, is_connecting, is_checking, mark_of_place, move_to, latest_usable, retire, lasting, outdated, next_to_clean}
+use Rattle.my_pool_core.specs.Requests.{last_age, asking, has_age, is_dialing, is_free, holds, set_standing, set_waiting, ended, wake, wake_all, waits_up_to, may_dial, is_queued}
 use Rattle.my_pool_core.specs.State.{State, one_more}
 
 -- the counts of a new pool

@@ -1,9 +1,9 @@
 -- What holds of each state of a pool.
-use Rattle.std.specs.Prelude.{◌≡◌, ℕ, ◌+◌, ◌-◌, ◌<◌, ◌≤◌, Bool, true, false, ◌||◌, ◌&&◌, ◌==◌, not, nat_lt, nat_le, List, [], ◌∷◌, length, if◌then◌else◌}
+use Rattle.std.specs.Prelude.{◌≡◌, ℕ, ◌+◌, ◌-◌, ◌<◌, ◌≤◌, Bool, true, false, ◌&&◌, ◌==◌, not, nat_le, List, [], ◌∷◌, length, if◌then◌else◌}
 use Rattle.my_pool_core.specs.declared.connection.Connection.{Connection}
 use Rattle.my_pool_core.specs.declared.request.Request.{Request}
 use Rattle.my_pool_core.specs.declared.request.Standing.{Standing}
-use Rattle.my_pool_core.specs.declared.request.Standing.TheVariants.{Asks, Waits, Woken, Dials, Checks}
+use Rattle.my_pool_core.specs.declared.request.Standing.TheVariants.{Dials, Checks}
 use Rattle.my_pool_core.specs.Lists.{how_many}
 use Rattle.my_pool_core.specs.Connections.{has_number, is_idle, is_connecting, is_checking}
 use Rattle.my_pool_core.specs.Requests.{last_age, has_age, is_waiting, is_woken, is_free, is_queued, may_dial}

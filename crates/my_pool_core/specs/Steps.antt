@@ -1,12 +1,11 @@
 -- One event of a pool, whichever it is, and any list of events.
-use Rattle.std.specs.Prelude.{◌≡◌, ℕ, Bool, true, List, [], ◌∷◌}
+use Rattle.std.specs.Prelude.{◌≡◌, Bool, true, List, [], ◌∷◌}
 use Rattle.my_pool_core.specs.declared.event.PoolEvent.{PoolEvent}
 use Rattle.my_pool_core.specs.declared.event.PoolEvent.TheVariants.{Request, PollRequest, Cancel, Ready, Failed, GiveBack, Detach, TakeReturned, Decide, Done, CheckTtl, Close, PollDisconnect}
 use Rattle.my_pool_core.specs.declared.event.Answer.{Answer}
 use Rattle.my_pool_core.specs.declared.event.Answer.TheVariants.{Done as Nothing, Age, Poll, Returned, Verdict, Moved, Gone}
-use Rattle.my_pool_core.specs.declared.limits.Limits.{Limits}
 use Rattle.my_pool_core.specs.State.{State}
-use Rattle.my_pool_core.specs.Events.{new_pool, request, request_age, may_poll, poll_request, may_cancel, cancel, may_settle, ready, failed, may_give_back, give_back, detach, take_returned, may_decide, decide, may_done, done, check_ttl, check_ttl_moved, close, is_gone}
+use Rattle.my_pool_core.specs.Events.{request, request_age, may_poll, poll_request, may_cancel, cancel, may_settle, ready, failed, may_give_back, give_back, detach, take_returned, may_decide, decide, may_done, done, check_ttl, check_ttl_moved, close, is_gone}
 
 -- whether an event may happen
 abbrev pub may : State → PoolEvent → Bool

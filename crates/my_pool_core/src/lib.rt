@@ -13,3 +13,6 @@ pub use event::{Answer, Facts, PollAnswer, PoolEvent, Verdict};
 pub use limits::{Counts, Limits, Metrics};
 pub use pool::Core;
 pub use request::{Request, Standing};
+
+#[cfg(test)]
+mod tests;

@@ -1,5 +1,4 @@
-use Rattle.std.proofs.Common.{arith, ◌<◌, ap, length}
-use Rattle.std.specs.Vec.{vec_len, vec_capacity}
+use Rattle.std.proofs.Common.{arith, ap, length}
 use Rattle.my_pool_core.specs.Connections.{has_number}
 use Rattle.my_pool_core.proofs.Finding.{shorter-where-any}
 use Rattle.my_pool_core.proofs.connection.move_to.Goals as goal

@@ -1,4 +1,4 @@
-use Rattle.std.proofs.Common.{◌≡◌, sym, ◌∙◌, ap, true, false, cond}
+use Rattle.std.proofs.Common.{sym, ◌∙◌}
 use Rattle.my_pool_core.proofs.Places.{next-returned, next-open, next-idle, next-none}
 use Rattle.my_pool_core.proofs.connection.next_to_clean.Goals as goal
 

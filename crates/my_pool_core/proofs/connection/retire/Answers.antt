@@ -1,4 +1,4 @@
-use Rattle.std.proofs.Common.{◌≡◌, ◌<◌, ◌≤◌, ◌-◌, ◌∙◌, ap, sym, arith, drop, length}
+use Rattle.std.proofs.Common.{◌≡◌, ◌∙◌, ap, sym, arith, drop}
 use Rattle.std.specs.List.{list_any}
 use Rattle.my_pool_core.specs.Connections.{is_usable}
 use Rattle.my_pool_core.proofs.Retiring.{retire-ends, retire-goes-on, none-latest}

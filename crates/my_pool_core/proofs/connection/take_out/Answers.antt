@@ -1,4 +1,4 @@
-use Rattle.std.proofs.Common.{sym, ◌∙◌, ap, subst}
+use Rattle.std.proofs.Common.{sym, ◌∙◌, ap}
 use Rattle.std.specs.List.{position}
 use Rattle.my_pool_core.specs.Connections.{has_number}
 use Rattle.my_pool_core.proofs.Finding.{without-position, without-nothing}

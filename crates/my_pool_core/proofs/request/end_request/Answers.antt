@@ -1,4 +1,4 @@
-use Rattle.std.proofs.Common.{◌≡◌, sym, ◌∙◌, ap, true, false, cond}
+use Rattle.std.proofs.Common.{◌≡◌, sym, ◌∙◌, ap, false, cond}
 use Rattle.my_pool_core.proofs.Finding.{without-position, without-nothing}
 use Rattle.my_pool_core.specs.Requests.{has_age, last_age}
 use Rattle.my_pool_core.specs.Lists.{without}

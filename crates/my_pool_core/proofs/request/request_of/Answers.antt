@@ -1,4 +1,4 @@
-use Rattle.std.proofs.Common.{◌≡◌, sym, ◌∙◌, ap, true, false, cond}
+use Rattle.std.proofs.Common.{sym, ◌∙◌}
 use Rattle.my_pool_core.proofs.Finding.{find-position, find-nothing}
 use Rattle.my_pool_core.specs.Requests.{has_age}
 use Rattle.my_pool_core.proofs.request.request_of.Goals as goal

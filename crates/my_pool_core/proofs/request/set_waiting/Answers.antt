@@ -1,4 +1,4 @@
-use Rattle.std.proofs.Common.{◌≡◌, sym, ◌∙◌, ap, true, false, cond, set}
+use Rattle.std.proofs.Common.{sym, ◌∙◌, ap, set}
 use Rattle.my_pool_core.proofs.Finding.{change-position, change-nothing}
 use Rattle.my_pool_core.specs.Requests.{has_age, now_waiting}
 use Rattle.std.specs.List.{position}

@@ -1,4 +1,4 @@
-use Rattle.std.proofs.Common.{◌≡◌, sym, ◌∙◌, ap, true, false, cond, set}
+use Rattle.std.proofs.Common.{sym, ◌∙◌, ap, set}
 use Rattle.my_pool_core.proofs.Finding.{change-position, change-nothing}
 use Rattle.my_pool_core.specs.Requests.{is_waiting, standing_as}
 use Rattle.std.specs.List.{position}

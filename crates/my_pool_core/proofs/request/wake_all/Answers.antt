@@ -1,4 +1,4 @@
-use Rattle.std.proofs.Common.{◌≡◌, ◌<◌, ◌≤◌, ◌++◌, ◌∙◌, ap, arith, length, set, length-set, map, take, drop, append-nil}
+use Rattle.std.proofs.Common.{◌<◌, ◌≤◌, ◌++◌, ◌∙◌, ap, arith, length, set, length-set, map, drop, append-nil}
 use Rattle.std.proofs.lemmas.List.{take_all, drop_all}
 use Rattle.std.proofs.lemmas.List.Edits.{map_over_more}
 use Rattle.my_pool_core.specs.Requests.{roused}

@@ -1,4 +1,4 @@
-use Rattle.std.proofs.Common.{◌≡◌, ◌-◌, ◌++◌, ap, ◌∙◌}
+use Rattle.std.proofs.Common.{◌-◌, ◌++◌, ap, ◌∙◌}
 use Rattle.my_pool_core.specs.State.{State}
 use Rattle.my_pool_core.specs.Lists.{how_many}
 use Rattle.my_pool_core.specs.Connections.{is_idle, lasting, outdated}

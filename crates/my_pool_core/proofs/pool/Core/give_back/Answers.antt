@@ -1,4 +1,4 @@
-use Rattle.std.proofs.Common.{◌≡◌, true, sym, subst, rules, arith}
+use Rattle.std.proofs.Common.{◌≡◌, true, sym, subst}
 use Rattle.my_pool_core.specs.contracts.pool.Core.{the_view}
 use Rattle.my_pool_core.proofs.Keeping.{kept-give-back}
 use Rattle.my_pool_core.specs.Events.{may_give_back}

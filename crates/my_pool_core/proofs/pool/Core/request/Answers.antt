@@ -1,8 +1,8 @@
-use Rattle.std.proofs.Common.{◌≡◌, ℕ, ◌<◌, ◌≤◌, ◌+◌, ◌++◌, ◌∷◌, [], true, false, refl, sym, ap, ◌∙◌, arith, length, max}
+use Rattle.std.proofs.Common.{◌≡◌, ℕ, ◌≤◌, ◌+◌, ◌++◌, ◌∷◌, [], true, false, sym, ap, ◌∙◌, arith, length, max}
 use Rattle.std.specs.Prelude.{is_ok, if◌then◌else◌}
 use Rattle.std.proofs.lemmas.List.{length-map}
 use Rattle.my_pool_core.specs.State.{State}
-use Rattle.my_pool_core.specs.Requests.{asking, roused, wake_all}
+use Rattle.my_pool_core.specs.Requests.{roused, wake_all}
 use Rattle.my_pool_core.specs.Events.{is_at_end, with_last}
 use Rattle.my_pool_core.specs.contracts.pool.Core.{the_view}
 use Rattle.my_pool_core.proofs.Keeping.{kept-as, kept-request, request-end, request-next}
