@@ -1,4 +1,5 @@
 pub mod Fronts
+pub mod Fitting
 pub mod Going
 pub mod Keeps
 pub mod LawOf

@@ -3,6 +3,7 @@ pub mod Commands
 pub mod Entries
 pub mod Errors
 pub mod Facts
+pub mod Fits
 pub mod Groups
 pub mod History
 pub mod Law

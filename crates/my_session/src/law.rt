@@ -8,3 +8,10 @@ ghost use Rattle.my_session.specs.Law.{EachHistory};
 pub fn each_history()
     ensures { EachHistory }
 {}
+
+ghost use Rattle.my_session.specs.Fits.{EachAnswerFits};
+
+/// A step of a session that stands for some history answers the open call by what its kind may be told, and logs in as before.
+pub fn each_answer_fits()
+    ensures { EachAnswerFits }
+{}

@@ -1,0 +1,68 @@
+-- Which answers a call may get, by its kind, and what no step changes.
+use Rattle.std.specs.Prelude.{◌≡◌, Option, Some, None, Bool, true, false, not}
+use Rattle.my_session.specs.declared.answer.SessionStep.{SessionStep}
+use Rattle.my_session.specs.declared.answer.SessionStep.TheVariants.{Send, Need, Done, Fault}
+use Rattle.my_session.specs.declared.call.CallKind.{CallKind}
+use Rattle.my_session.specs.declared.call.CallKind.TheVariants.{Connect, Query, NextRow, DropResult, Ping, Quit}
+use Rattle.my_session.specs.declared.call.Task.{Task}
+use Rattle.my_session.specs.declared.call.Task.TheVariants.{Nothing, Begun, Cleaning, Own, Reading, Dropping, Leaving, Failing}
+use Rattle.my_session.specs.Calls.{kind_in, fault_in}
+use Rattle.my_session.specs.History.{History, Told, ToldReady, ToldRow, ToldEnd, ToldNone, ToldError, Dropped, told}
+use Rattle.my_session.specs.Seen.{Seen}
+use Rattle.my_session.specs.Stands.{Stands}
+use Rattle.my_session.specs.Steps.{Steps}
+
+-- the one call that is answered by rows and ends
+abbrev pub reads : CallKind → Bool
+reads Connect = false
+reads Query = false
+reads NextRow = true
+reads DropResult = false
+reads Ping = false
+reads Quit = false
+
+-- a read is told a row, an end, or that nothing is left; each other call is told that it is done; each may fail
+abbrev pub may_be : CallKind → Told → Bool
+may_be c ToldReady = not (reads c)
+may_be c (ToldRow row) = reads c
+may_be c ToldEnd = reads c
+may_be c ToldNone = reads c
+may_be c (ToldError e) = true
+may_be c (Dropped closing) = true
+
+abbrev pub may_be_told : Option CallKind → Told → Bool
+may_be_told None t = true
+may_be_told (Some c) t = may_be c t
+
+abbrev pub AnswerFits : Option CallKind → SessionStep → Type 0
+AnswerFits c Send = Unit {0}
+AnswerFits c Need = Unit {0}
+AnswerFits c (Done a) = may_be_told c (told a) ≡ true
+AnswerFits c (Fault e) = Unit {0}
+
+-- a call that was never stepped
+abbrev pub is_begun : Task → Bool
+is_begun Nothing = false
+is_begun (Begun c) = true
+is_begun (Cleaning c) = false
+is_begun (Own c) = false
+is_begun Reading = false
+is_begun Dropping = false
+is_begun Leaving = false
+is_begun (Failing c fault) = false
+
+-- a call that asks for something was stepped, and wasn't told to fail
+abbrev pub WasStepped : Task → SessionStep → Type 0
+WasStepped t Send = (is_begun t ≡ false) × (fault_in t ≡ None)
+WasStepped t Need = (is_begun t ≡ false) × (fault_in t ≡ None)
+WasStepped t (Done a) = Unit {0}
+WasStepped t (Fault e) = Unit {0}
+
+-- the open call's answer is of its kind, or the call was stepped, and the session still logs in as it did
+pub record StepFits (old new : Seen) (step : SessionStep) : Type 0 where
+  pub answer : AnswerFits (kind_in old.task) step
+  pub stepped : WasStepped new.task step
+  pub login : new.login ≡ old.login
+
+abbrev pub EachAnswerFits : Type 0
+EachAnswerFits = (old new : Seen) (h : History) (step : SessionStep) → Stands old h → Steps old new step → StepFits old new step
