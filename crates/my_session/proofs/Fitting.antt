@@ -68,9 +68,27 @@ DoingFits c t (Tells x) = may_be_told c x ≡ true
 going : (c : Option CallKind) (t : Task) → is_proper t ≡ true → kind_in t ≡ c → is_begun t ≡ false → GoesOn c t
 going c t p k b = record { proper = p; kind = k; stepped = b }
 
-record MoveFits (c : Option CallKind) (login : Login) (m : Move) : Type 0 where
+-- what no move changes
+record IsOn (s n : Seen) : Type 0 where
+  pub login : n.login ≡ s.login
+  pub ended : n.ended ≡ s.ended
+  pub alive : n.closed ≡ false → s.closed ≡ false
+
+on_here : (s : Seen) → IsOn s s
+on_here s = record { login = refl; ended = refl; alive = λ e. e }
+
+on_task : (s n : Seen) (t : Task) (untold : Bool) → IsOn s n → IsOn s (with_task n t untold)
+on_task s n t untold w = record { login = w.login; ended = w.ended; alive = w.alive }
+
+on_fell : (s n : Seen) → IsOn s n → IsOn s (fell n)
+on_fell s n w = record { login = w.login; ended = w.ended; alive = λ e. let no : true ≡ false = e in cc }
+
+on_more : (s n m : Seen) → IsOn s n → IsOn n m → IsOn s m
+on_more s n m v w = record { login = w.login ∙ v.login; ended = w.ended ∙ v.ended; alive = λ e. v.alive (w.alive e) }
+
+record MoveFits (c : Option CallKind) (s : Seen) (m : Move) : Type 0 where
   pub fits : DoingFits c m.seen.task m.does
-  pub login_is : m.seen.login ≡ login
+  pub is_on : IsOn s m.seen
 
 abbrev ReactionFits : Task → Option CallKind → Reaction → Type 0
 ReactionFits t c (reactions.Goes u) = GoesOn c u
@@ -86,8 +104,8 @@ any_error : (c : Option CallKind) (e : Error) → may_be_told c (ToldError e) �
 any_error None e = refl
 any_error (Some c) e = refl
 
-failed_fits : (s : Seen) (e : Error) (c : Option CallKind) → MoveFits c s.login (failed_by s e)
-failed_fits s e c = record { fits = any_error c e; login_is = refl }
+failed_fits : (s : Seen) (e : Error) (c : Option CallKind) → MoveFits c s (failed_by s e)
+failed_fits s e c = record { fits = any_error c e; is_on = on_fell s s (on_here s) }
 
 cleaning_react : (c : CallKind) (k : Kind) → asks c ≡ true → ReactionFits (Cleaning c) (Some c) (react (Cleaning c) k)
 cleaning_react c (kinds.Greets n) a = tt
@@ -173,60 +191,60 @@ react_fits Dropping k a = dropping_react k
 react_fits Leaving k a = tt
 react_fits (Failing c fault) k a = tt
 
-gave_fits : (s n : Seen) (c : Option CallKind) (x : Option RowParts) → n.login ≡ s.login → ((row : RowParts) → may_be_told c (ToldRow row) ≡ true) → MoveFits c s.login (gave s n x)
+gave_fits : (s n : Seen) (c : Option CallKind) (x : Option RowParts) → IsOn s n → ((row : RowParts) → may_be_told c (ToldRow row) ≡ true) → MoveFits c s (gave s n x)
 gave_fits s n c None l f = failed_fits s (invalid_data s.facts.place) c
-gave_fits s n c (Some row) l f = record { fits = f row; login_is = l }
+gave_fits s n c (Some row) l f = record { fits = f row; is_on = on_task s n Nothing n.untold l }
 
 same_task : (s n : Seen) → n.task ≡ s.task → is_proper s.task ≡ true → is_begun s.task ≡ false → GoesOn (kind_in s.task) n.task
 same_task s n t a b = going (kind_in s.task) n.task (ap is_proper t ∙ a) (ap kind_in t) (ap is_begun t ∙ b)
 
-passed_fits : (s n : Seen) (x : Option RowParts) → n.login ≡ s.login → n.task ≡ s.task → is_proper s.task ≡ true → is_begun s.task ≡ false → MoveFits (kind_in s.task) s.login (passed s n x)
+passed_fits : (s n : Seen) (x : Option RowParts) → IsOn s n → n.task ≡ s.task → is_proper s.task ≡ true → is_begun s.task ≡ false → MoveFits (kind_in s.task) s (passed s n x)
 passed_fits s n None l t a b = failed_fits s (invalid_data s.facts.place) (kind_in s.task)
-passed_fits s n (Some row) l t a b = record { fits = same_task s n t a b; login_is = l }
+passed_fits s n (Some row) l t a b = record { fits = same_task s n t a b; is_on = l }
 
-either_login : (n m : Seen) (b : Bool) (login : Login) → n.login ≡ login → m.login ≡ login → (cond {A = Seen} b n m).login ≡ login
-either_login n m true login e f = e
-either_login n m false login e f = f
+on_either : (s n m : Seen) (b : Bool) → IsOn s n → IsOn s m → IsOn s (cond {A = Seen} b n m)
+on_either s n m true e f = e
+on_either s n m false e f = f
 
-refused_fits : (s n : Seen) (c : Option CallKind) (x : Option ErrPacket) → n.login ≡ s.login → MoveFits c s.login (refused s n x)
+refused_fits : (s n : Seen) (c : Option CallKind) (x : Option ErrPacket) → IsOn s n → MoveFits c s (refused s n x)
 refused_fits s n c None l = failed_fits s (invalid_data s.facts.place) c
-refused_fits s n c (Some e) l = record { fits = any_error c _; login_is = either_login (fell n) (with_task n Nothing n.untold) (is_connecting s.task) s.login l l }
+refused_fits s n c (Some e) l = record { fits = any_error c _; is_on = on_either s (fell n) (with_task n Nothing n.untold) (is_connecting s.task) (on_fell s n l) (on_task s n Nothing n.untold l) }
 
-reacted_fits : (s n : Seen) (p : List ℕ) (r : Reaction) → n.login ≡ s.login → n.task ≡ s.task → is_proper s.task ≡ true → ReactionFits s.task (kind_in s.task) r → MoveFits (kind_in s.task) s.login (reacted s n p r)
-reacted_fits s n p (reactions.Goes t) l e a f = record { fits = f; login_is = l }
-reacted_fits s n p (reactions.Readies untold) l e a f = record { fits = f; login_is = l }
+reacted_fits : (s n : Seen) (p : List ℕ) (r : Reaction) → IsOn s n → n.task ≡ s.task → is_proper s.task ≡ true → ReactionFits s.task (kind_in s.task) r → MoveFits (kind_in s.task) s (reacted s n p r)
+reacted_fits s n p (reactions.Goes t) l e a f = record { fits = f; is_on = on_task s n t n.untold l }
+reacted_fits s n p (reactions.Readies untold) l e a f = record { fits = f; is_on = on_task s n Nothing untold l }
 reacted_fits s n p reactions.Gives l e a f = gave_fits s n (kind_in s.task) (row_at s.facts.columns p) l f
-reacted_fits s n p reactions.Ends l e a f = record { fits = f; login_is = l }
+reacted_fits s n p reactions.Ends l e a f = record { fits = f; is_on = on_task s n Nothing n.untold l }
 reacted_fits s n p reactions.PassesRow l e a f = passed_fits s n (row_at s.facts.columns p) l e a f
-reacted_fits s n p reactions.PassesEnd l e a f = record { fits = same_task s n e a f; login_is = l }
+reacted_fits s n p reactions.PassesEnd l e a f = record { fits = same_task s n e a f; is_on = l }
 reacted_fits s n p reactions.Refuses l e a f = refused_fits s n (kind_in s.task) (err_at _ p) l
 reacted_fits s n p reactions.Breaks l e a f = failed_fits s (invalid_data s.facts.place) (kind_in s.task)
 
-unless_fits : (s : Seen) (c : Option CallKind) (x : Option ℕ) (m : Move) → MoveFits c s.login m → MoveFits c s.login (unless_above s x m)
+unless_fits : (s : Seen) (c : Option CallKind) (x : Option ℕ) (m : Move) → MoveFits c s m → MoveFits c s (unless_above s x m)
 unless_fits s c None m f = f
 unless_fits s c (Some len) m f = failed_fits s _ c
 
-kind_fits : (s : Seen) (p rest : List ℕ) (next : ℕ) (k : Kind) (b : Bool) → is_proper s.task ≡ true → MoveFits (kind_in s.task) s.login (cond {A = Move} b (failed_by s (invalid_data s.facts.place)) (read_by s (advanced s k p rest next) p (react s.task k) (reply_to s.login k p)))
+kind_fits : (s : Seen) (p rest : List ℕ) (next : ℕ) (k : Kind) (b : Bool) → is_proper s.task ≡ true → MoveFits (kind_in s.task) s (cond {A = Move} b (failed_by s (invalid_data s.facts.place)) (read_by s (advanced s k p rest next) p (react s.task k) (reply_to s.login k p)))
 kind_fits s p rest next k true a = failed_fits s (invalid_data s.facts.place) (kind_in s.task)
-kind_fits s p rest next k false a = unless_fits s (kind_in s.task) (above s.context.terms.limit (reply_to s.login k p)) _ (reacted_fits s (advanced s k p rest next) p (react s.task k) refl refl a (react_fits s.task k a))
+kind_fits s p rest next k false a = unless_fits s (kind_in s.task) (above s.context.terms.limit (reply_to s.login k p)) _ (reacted_fits s (advanced s k p rest next) p (react s.task k) (record { login = refl; ended = refl; alive = λ e. e }) refl a (react_fits s.task k a))
 
-waiting_fits : (s : Seen) (b : Bool) (c : Option CallKind) → is_begun s.task ≡ false → fault_in s.task ≡ None → MoveFits c s.login (cond {A = Move} b (failed_by s (unexpected_eof s.facts.place)) (record { seen = s; does = Needs }))
+waiting_fits : (s : Seen) (b : Bool) (c : Option CallKind) → is_begun s.task ≡ false → fault_in s.task ≡ None → MoveFits c s (cond {A = Move} b (failed_by s (unexpected_eof s.facts.place)) (record { seen = s; does = Needs }))
 waiting_fits s true c n e = failed_fits s (unexpected_eof s.facts.place) c
-waiting_fits s false c n e = record { fits = (n, e); login_is = refl }
+waiting_fits s false c n e = record { fits = (n, e); is_on = on_here s }
 
-reading_fits : (s : Seen) (f : Front) → is_proper s.task ≡ true → is_begun s.task ≡ false → fault_in s.task ≡ None → MoveFits (kind_in s.task) s.login (reading s f)
+reading_fits : (s : Seen) (f : Front) → is_proper s.task ≡ true → is_begun s.task ≡ false → fault_in s.task ≡ None → MoveFits (kind_in s.task) s (reading s f)
 reading_fits s Waiting a n e = waiting_fits s s.ended (kind_in s.task) n e
 reading_fits s (Broken fault) a n e = failed_fits s _ (kind_in s.task)
 reading_fits s (Whole p rest next) a n e = kind_fits s p rest next (kind_there s.context p) (is_breaking (react s.task (kind_there s.context p))) a
 
-queued_fits : (s : Seen) (c : CallKind) (talk : Talk) (b : Bool) → (asks c || is_connect c) ≡ true → MoveFits (Some c) s.login (cond {A = Move} b (too_large s s.login.max_packet (length (command_in talk))) (record { seen = queued s (Own c) talk; does = Goes }))
+queued_fits : (s : Seen) (c : CallKind) (talk : Talk) (b : Bool) → (asks c || is_connect c) ≡ true → MoveFits (Some c) s (cond {A = Move} b (too_large s s.login.max_packet (length (command_in talk))) (record { seen = queued s (Own c) talk; does = Goes }))
 queued_fits s c talk true a = failed_fits s _ (Some c)
-queued_fits s c talk false a = record { fits = going (Some c) (Own c) a refl refl; login_is = refl }
+queued_fits s c talk false a = record { fits = going (Some c) (Own c) a refl refl; is_on = record { login = refl; ended = refl; alive = λ e. e } }
 
-talk_fits : (s : Seen) (c : CallKind) (talk : Talk) → (asks c || is_connect c) ≡ true → MoveFits (Some c) s.login (asked s c (Some talk))
+talk_fits : (s : Seen) (c : CallKind) (talk : Talk) → (asks c || is_connect c) ≡ true → MoveFits (Some c) s (asked s c (Some talk))
 talk_fits s c talk a = queued_fits s c talk (nat_lt s.login.max_packet (length (command_in talk))) a
 
-asked_fits : (s : Seen) (c : CallKind) → asks c ≡ true → MoveFits (Some c) s.login (asked s c (opening s.login s.context.terms.kept (call_of c s.text)))
+asked_fits : (s : Seen) (c : CallKind) → asks c ≡ true → MoveFits (Some c) s (asked s c (opening s.login s.context.terms.kept (call_of c s.text)))
 asked_fits s Connect a = cc
 asked_fits s Query a = talk_fits s Query (Queried (command_terms s.login s.context.terms.kept) (query_command s.text) NoSets) refl
 asked_fits s NextRow a = cc
@@ -247,17 +265,17 @@ PlanFits t c plans.Dropped = may_be_told c ToldReady ≡ true
 PlanFits t c plans.Ends = may_be_told c ToldEnd ≡ true
 PlanFits t c plans.NoMore = may_be_told c ToldNone ≡ true
 
-planned_fits : (s : Seen) (p : Plan) → is_proper s.task ≡ true → fault_in s.task ≡ None → PlanFits s.task (kind_in s.task) p → MoveFits (kind_in s.task) s.login (planned s p)
+planned_fits : (s : Seen) (p : Plan) → is_proper s.task ≡ true → fault_in s.task ≡ None → PlanFits s.task (kind_in s.task) p → MoveFits (kind_in s.task) s (planned s p)
 planned_fits s plans.Reads a e f = reading_fits s (front_at s.number s.context.terms.limit s.unread) a f e
-planned_fits s (plans.Starts t) a e f = record { fits = f; login_is = refl }
-planned_fits s plans.Hears a e f = record { fits = going (kind_in s.task) s.task a refl f; login_is = refl }
-planned_fits s (plans.Asks c) a e f = subst (λ (k : Option CallKind). MoveFits k s.login (asked s c (opening s.login s.context.terms.kept (call_of c s.text)))) f.1 (asked_fits s c f.0)
-planned_fits s plans.Readies a e f = record { fits = f; login_is = refl }
-planned_fits s plans.Quits a e f = record { fits = f; login_is = refl }
-planned_fits s plans.Passes a e f = record { fits = going (kind_in s.task) s.task a refl f; login_is = refl }
-planned_fits s plans.Dropped a e f = record { fits = f; login_is = refl }
-planned_fits s plans.Ends a e f = record { fits = f; login_is = refl }
-planned_fits s plans.NoMore a e f = record { fits = f; login_is = refl }
+planned_fits s (plans.Starts t) a e f = record { fits = f; is_on = on_task s s t s.untold (on_here s) }
+planned_fits s plans.Hears a e f = record { fits = going (kind_in s.task) s.task a refl f; is_on = on_task s s s.task false (on_here s) }
+planned_fits s (plans.Asks c) a e f = subst (λ (k : Option CallKind). MoveFits k s (asked s c (opening s.login s.context.terms.kept (call_of c s.text)))) f.1 (asked_fits s c f.0)
+planned_fits s plans.Readies a e f = record { fits = f; is_on = on_task s s Nothing s.untold (on_here s) }
+planned_fits s plans.Quits a e f = record { fits = f; is_on = on_fell s s (on_here s) }
+planned_fits s plans.Passes a e f = record { fits = going (kind_in s.task) s.task a refl f; is_on = on_task s s s.task false (on_here s) }
+planned_fits s plans.Dropped a e f = record { fits = f; is_on = on_task s s Nothing s.untold (on_here s) }
+planned_fits s plans.Ends a e f = record { fits = f; is_on = on_task s s Nothing false (on_here s) }
+planned_fits s plans.NoMore a e f = record { fits = f; is_on = on_task s s Nothing s.untold (on_here s) }
 
 first_plan : (t : Task) (c : CallKind) → PlanFits t (Some c) (plans.Starts (first_task c))
 first_plan t Connect = going (Some Connect) (Own Connect) refl refl refl
@@ -340,22 +358,22 @@ sends_fits : (s : Seen) (b : ℕ) (bytes : List ℕ) (begun : Bool) → is_begun
 sends_fits s b bytes true e o q = let none : [] ≡ b ∷ bytes = sym (q e) ∙ o in cc
 sends_fits s b bytes false e o q = e
 
-owed_fits : (s : Seen) (owed : List ℕ) → s.owed ≡ owed → is_proper s.task ≡ true → IsQuiet s → fault_in s.task ≡ None → MoveFits (kind_in s.task) s.login (when_owed owed s)
+owed_fits : (s : Seen) (owed : List ℕ) → s.owed ≡ owed → is_proper s.task ≡ true → IsQuiet s → fault_in s.task ≡ None → MoveFits (kind_in s.task) s (when_owed owed s)
 owed_fits s [] o a q e = planned_fits s (plan_of s.task s.context.spot s.untold) a e (plan_fits s.task s.context.spot s.untold a e)
-owed_fits s (b ∷ bytes) o a q e = record { fits = (sends_fits s b bytes (is_begun s.task) refl o q, e); login_is = refl }
+owed_fits s (b ∷ bytes) o a q e = record { fits = (sends_fits s b bytes (is_begun s.task) refl o q, e); is_on = on_here s }
 
-fault_fits : (s : Seen) (fault : Option LinkFault) → is_proper s.task ≡ true → IsQuiet s → fault_in s.task ≡ fault → MoveFits (kind_in s.task) s.login (next_by fault s)
+fault_fits : (s : Seen) (fault : Option LinkFault) → is_proper s.task ≡ true → IsQuiet s → fault_in s.task ≡ fault → MoveFits (kind_in s.task) s (next_by fault s)
 fault_fits s (Some fault) a q e = failed_fits s _ (kind_in s.task)
 fault_fits s None a q e = owed_fits s s.owed refl a q e
 
-next_fits : (s : Seen) → is_proper s.task ≡ true → IsQuiet s → MoveFits (kind_in s.task) s.login (next s)
+next_fits : (s : Seen) → is_proper s.task ≡ true → IsQuiet s → MoveFits (kind_in s.task) s (next s)
 next_fits s a q = fault_fits s (fault_in s.task) a q refl
 
 -- behind moves that go on, the call is what it was
 record IsSame (old here : Seen) : Type 0 where
   pub proper : is_proper here.task ≡ true
   pub kind : kind_in here.task ≡ kind_in old.task
-  pub login : here.login ≡ old.login
+  pub is_on : IsOn old here
   pub quiet : IsQuiet here
 
 on_doing : (c : Option CallKind) (t : Task) (d : Doing) → goes_on d ≡ true → DoingFits c t d → GoesOn c t
@@ -369,39 +387,39 @@ stepped_quiet : (s : Seen) → is_begun s.task ≡ false → IsQuiet s
 stepped_quiet s n e = let no : false ≡ true = sym n ∙ e in cc
 
 same_moved : (n : ℕ) (old : Seen) → is_proper old.task ≡ true → IsQuiet old → AllGo n old → IsSame old (moved n old)
-same_moved zero old a q g = record { proper = a; kind = refl; login = refl; quiet = q }
+same_moved zero old a q g = record { proper = a; kind = refl; is_on = on_here old; quiet = q }
 same_moved (suc n) old a q g =
     let u = same_moved n old a q g.1 in
     let m = next_fits (moved n old) u.proper u.quiet in
     let on = on_doing (kind_in (moved n old).task) (next (moved n old)).seen.task (next (moved n old)).does g.0 m.fits in
-    record { proper = on.proper; kind = on.kind ∙ u.kind; login = m.login_is ∙ u.login; quiet = stepped_quiet (next (moved n old)).seen on.stepped }
+    record { proper = on.proper; kind = on.kind ∙ u.kind; is_on = on_more old (moved n old) (next (moved n old)).seen u.is_on m.is_on; quiet = stepped_quiet (next (moved n old)).seen on.stepped }
 
 told_fits : (c : Option CallKind) (t : Task) (d : Doing) (x : Told) → d ≡ Tells x → DoingFits c t d → may_be_told c x ≡ true
 told_fits c t d x e f = subst (DoingFits c t) e f
 
-did_login : (here new : Seen) (t : Tick) (login : Login) → (next here).seen.login ≡ login → Did (next here) new t → new.login ≡ login
-did_login here new t login e d = ap (λ (s : Seen). s.login) d.seen ∙ e
+did_on : (here new : Seen) (t : Tick) → IsOn here (next here).seen → Did (next here) new t → IsOn here new
+did_on here new t w d = subst (IsOn here) (sym d.seen) w
 
-fault_login : (here new : Seen) (e : Error) (login : Login) → here.login ≡ login → (next here).seen.login ≡ login → FaultIs (next here) here new e → new.login ≡ login
-fault_login here new (errors.Driver e) login k l d = did_login here new (ticks.Fault (errors.Driver e)) login l d
-fault_login here new (errors.Io e) login k l d = did_login here new (ticks.Fault (errors.Io e)) login l d
-fault_login here new (errors.Server e) login k l d = did_login here new (ticks.Fault (errors.Server e)) login l d
-fault_login here new errors.NoMemory login k l d = ap (λ (s : Seen). s.login) d ∙ k
+fault_on : (here new : Seen) (e : Error) → IsOn here (next here).seen → FaultIs (next here) here new e → IsOn here new
+fault_on here new (errors.Driver e) w d = did_on here new (ticks.Fault (errors.Driver e)) w d
+fault_on here new (errors.Io e) w d = did_on here new (ticks.Fault (errors.Io e)) w d
+fault_on here new (errors.Server e) w d = did_on here new (ticks.Fault (errors.Server e)) w d
+fault_on here new errors.NoMemory w d = subst (IsOn here) (sym d) (on_fell here here (on_here here))
+
+fits_on : (old here new : Seen) (step : SessionStep) → IsSame old here → IsOn here new → AnswerFits (kind_in old.task) step → WasStepped new.task step → StepFits old new step
+fits_on old here new step u w a b = let v = on_more old here new u.is_on w in record { answer = a; stepped = b; login = v.login; ended = v.ended; alive = v.alive }
 
 left_stepped : (here new : Seen) (t : Tick) → ((c : Option CallKind) (u : Task) → DoingFits c u (doing t) → (is_begun u ≡ false) × (fault_in u ≡ None)) → DoingFits (kind_in here.task) (next here).seen.task (next here).does → Did (next here) new t → (is_begun new.task ≡ false) × (fault_in new.task ≡ None)
 left_stepped here new t f m d = subst (λ (s : Seen). (is_begun s.task ≡ false) × (fault_in s.task ≡ None)) (sym d.seen) (f (kind_in here.task) (next here).seen.task (subst (DoingFits (kind_in here.task) (next here).seen.task) d.does m))
 
 last_fits : (old here new : Seen) (step : SessionStep) → IsSame old here → Does (next here) here new (last_tick step) → StepFits old new step
-last_fits old here new steps.Send u d = let m = next_fits here u.proper u.quiet in record { answer = tt; stepped = left_stepped here new ticks.Sends (λ k t f. f) m.fits d; login = did_login here new ticks.Sends old.login (m.login_is ∙ u.login) d }
-last_fits old here new steps.Need u d = let m = next_fits here u.proper u.quiet in record { answer = tt; stepped = left_stepped here new ticks.Needs (λ k t f. f) m.fits d; login = did_login here new ticks.Needs old.login (m.login_is ∙ u.login) d }
+last_fits old here new steps.Send u d = let m = next_fits here u.proper u.quiet in fits_on old here new steps.Send u (did_on here new ticks.Sends m.is_on d) tt (left_stepped here new ticks.Sends (λ k t f. f) m.fits d)
+last_fits old here new steps.Need u d = let m = next_fits here u.proper u.quiet in fits_on old here new steps.Need u (did_on here new ticks.Needs m.is_on d) tt (left_stepped here new ticks.Needs (λ k t f. f) m.fits d)
 last_fits old here new (steps.Done a) u d =
     let m = next_fits here u.proper u.quiet in
-    record {
-      answer = subst (λ (c : Option CallKind). may_be_told c (told a) ≡ true) u.kind (told_fits (kind_in here.task) (next here).seen.task (next here).does (told a) d.does m.fits);
-      stepped = tt;
-      login = did_login here new (ticks.Done a) old.login (m.login_is ∙ u.login) d;
-    }
-last_fits old here new (steps.Fault e) u d = let m = next_fits here u.proper u.quiet in record { answer = tt; stepped = tt; login = fault_login here new e old.login u.login (m.login_is ∙ u.login) d }
+    let fits : may_be_told (kind_in old.task) (told a) ≡ true = subst (λ (c : Option CallKind). may_be_told c (told a) ≡ true) u.kind (told_fits (kind_in here.task) (next here).seen.task (next here).does (told a) d.does m.fits) in
+    fits_on old here new (steps.Done a) u (did_on here new (ticks.Done a) m.is_on d) fits tt
+last_fits old here new (steps.Fault e) u d = let m = next_fits here u.proper u.quiet in fits_on old here new (steps.Fault e) u (fault_on here new e m.is_on d) tt tt
 
 own_proper : (c : CallKind) (spot : Spot) (connected : Bool) (newest : Entry) → OwnAt c spot connected newest → (asks c || is_connect c) ≡ true
 own_proper Connect spot connected newest w = refl

@@ -58,11 +58,14 @@ WasStepped t Need = (is_begun t ≡ false) × (fault_in t ≡ None)
 WasStepped t (Done a) = Unit {0}
 WasStepped t (Fault e) = Unit {0}
 
--- the open call's answer is of its kind, or the call was stepped, and the session still logs in as it did
+-- The open call's answer is of its kind, or the call was stepped; the session still logs in as it did, no step tells the link's end, and
+-- none opens a closed session.
 pub record StepFits (old new : Seen) (step : SessionStep) : Type 0 where
   pub answer : AnswerFits (kind_in old.task) step
   pub stepped : WasStepped new.task step
   pub login : new.login ≡ old.login
+  pub ended : new.ended ≡ old.ended
+  pub alive : new.closed ≡ false → old.closed ≡ false
 
 abbrev pub EachAnswerFits : Type 0
 EachAnswerFits = (old new : Seen) (h : History) (step : SessionStep) → Stands old h → Steps old new step → StepFits old new step
