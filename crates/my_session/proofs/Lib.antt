@@ -1,8 +1,10 @@
+pub mod Blames
 pub mod Fronts
 pub mod Fitting
 pub mod Going
 pub mod Keeps
 pub mod LawOf
+pub mod Passing
 pub mod Plain
 pub mod Plans
 pub mod Prefixes

@@ -8,9 +8,11 @@ pub mod Groups
 pub mod History
 pub mod Law
 pub mod Machine
+pub mod Passed
 pub mod Prefix
 pub mod Rows
 pub mod Seen
+pub mod ServerErrors
 pub mod Session
 pub mod Stands
 pub mod Steps

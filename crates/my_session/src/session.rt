@@ -30,11 +30,12 @@ impl Model for Session {
 }
 
 impl Session {
-    ghost use Rattle.my_session.specs.Calls.{is_open, kind_of};
+    ghost use Rattle.my_session.specs.Calls.{is_open, kind_in, kind_of};
     ghost use Rattle.my_session.specs.Errors.{connection_closed};
     ghost use Rattle.my_session.specs.Machine.{dropped};
     ghost use Rattle.my_session.specs.Steps.{AtBegun, is_begun_at, is_refused, is_settled, fresh, begun, with_owed, with_unread, with_end, with_failing, with_loss, StepIs, Steps, after_step};
     ghost use Rattle.my_session.specs.History.{History, Told, ToldError, Dropped, beginning, began, answered, passing, took, gone, ending, losing};
+    ghost use Rattle.my_session.specs.Passed.{ArePassed};
     ghost use Rattle.my_session.specs.Stands.{Stands};
     ghost use Rattle.my_session.specs.Tables.{closes_when_cancelled};
 
@@ -96,12 +97,14 @@ impl Session {
         }
     }
 
-    /// The next step of the open call.
+    /// The next step of the open call. Only `DropResult` passes over rows and ends.
     pub fn step(&mut self, alloc: Global) -> SessionStep
         requires { is_open self.old.seen.task ≡ true }
         ensures steps { Steps self.old.seen self.new.seen result }
         ensures leaves { StepIs self.new.seen result }
-        ensures stands { (h : History) → Stands self.old.seen h → (passed : List Told) × Stands self.new.seen (after_step (passing h passed) result) }
+        ensures login { self.new.seen.login ≡ self.old.seen.login }
+        ensures stands { (h : History) → Stands self.old.seen h
+            → (passed : List Told) × ArePassed (kind_in self.old.seen.task) passed × Stands self.new.seen (after_step (passing h passed) result) }
     {
         step_machine(alloc, &mut self.machine)
     }

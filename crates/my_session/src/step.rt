@@ -2,9 +2,10 @@
 
 ghost use Rattle.std.specs.Prelude.{◌≡◌, List, true};
 ghost use Rattle.my_session.specs.Session.{seen};
-ghost use Rattle.my_session.specs.Calls.{is_open};
+ghost use Rattle.my_session.specs.Calls.{is_open, kind_in};
 ghost use Rattle.my_session.specs.Steps.{StepIs, Steps, after_step};
 ghost use Rattle.my_session.specs.History.{History, Told, passing};
+ghost use Rattle.my_session.specs.Passed.{ArePassed};
 ghost use Rattle.my_session.specs.Stands.{Stands};
 
 use crate::answer::{SessionStep, Tick};
@@ -16,7 +17,9 @@ pub fn step_machine(alloc: Global, machine: &mut Machine) -> SessionStep
     requires { is_open (seen machine.old).task ≡ true }
     ensures steps { Steps (seen machine.old) (seen machine.new) result }
     ensures leaves { StepIs (seen machine.new) result }
-    ensures stands { (h : History) → Stands (seen machine.old) h → (passed : List Told) × Stands (seen machine.new) (after_step (passing h passed) result) }
+    ensures login { (seen machine.new).login ≡ (seen machine.old).login }
+    ensures stands { (h : History) → Stands (seen machine.old) h
+        → (passed : List Told) × ArePassed (kind_in (seen machine.old).task) passed × Stands (seen machine.new) (after_step (passing h passed) result) }
 {
     'moves: loop {
         match machine.tick(alloc) {

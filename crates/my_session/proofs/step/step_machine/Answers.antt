@@ -1,39 +1,71 @@
-use Rattle.std.proofs.Common.{◌∷◌, refl}
+use Rattle.std.proofs.Common.{◌∷◌, refl, sym, ◌∙◌}
 use Rattle.my_session.specs.Session.{seen}
 use Rattle.my_session.specs.declared.answer.Tick.TheVariants as ticks
 use Rattle.my_session.specs.History.{ToldRow, ToldEnd}
+use Rattle.my_session.proofs.Passing.{did_stay, goes_sound, does_login}
 use Rattle.my_session.proofs.Stepping.{one_more}
 use Rattle.my_session.proofs.step.step_machine.Goals as goal
 
 pub moves-preserved-in-Goes : goal.moves-preserved-in-Goes
-moves-preserved-in-Goes c = record {
-  at = one_more (seen c.args.machine.now) (seen c.moves.machine) (seen c.tick.new.self) ticks.Goes refl c.moves.invariant.at c.in-Goes.ensures.does;
-  stands = λ h st. let u = c.moves.invariant.stands h st in (u.0, c.in-Goes.ensures.stands _ u.1);
-  task = c.in-Goes.ensures.leaves.0;
-}
+moves-preserved-in-Goes c =
+    let now = c.moves.invariant in
+    let on = did_stay (seen c.moves.machine) (seen c.tick.new.self) ticks.Goes c.in-Goes.ensures.does in
+    record {
+      at = one_more (seen c.args.machine.now) (seen c.moves.machine) (seen c.tick.new.self) ticks.Goes refl now.at c.in-Goes.ensures.does;
+      stands = λ h st. let u = now.stands h st in (u.0, u.1, c.in-Goes.ensures.stands _ u.2);
+      kind = on.0 ∙ now.kind;
+      fault = on.1 ∙ sym (goes_sound (seen c.moves.machine) (seen c.tick.new.self) ticks.Goes refl c.in-Goes.ensures.does) ∙ now.fault;
+      login = does_login (seen c.moves.machine) (seen c.tick.new.self) ticks.Goes c.in-Goes.ensures.does ∙ now.login;
+      task = c.in-Goes.ensures.leaves.0;
+    }
 
 pub moves-preserved-in-PassedEnd : goal.moves-preserved-in-PassedEnd
-moves-preserved-in-PassedEnd c = record {
-  at = one_more (seen c.args.machine.now) (seen c.moves.machine) (seen c.tick.new.self) ticks.PassedEnd refl c.moves.invariant.at c.in-PassedEnd.ensures.does;
-  stands = λ h st. let u = c.moves.invariant.stands h st in (ToldEnd ∷ u.0, c.in-PassedEnd.ensures.stands _ u.1);
-  task = c.in-PassedEnd.ensures.leaves.0;
-}
+moves-preserved-in-PassedEnd c =
+    let now = c.moves.invariant in
+    let on = did_stay (seen c.moves.machine) (seen c.tick.new.self) ticks.PassedEnd c.in-PassedEnd.ensures.does in
+    record {
+      at = one_more (seen c.args.machine.now) (seen c.moves.machine) (seen c.tick.new.self) ticks.PassedEnd refl now.at c.in-PassedEnd.ensures.does;
+      stands = λ h st. let u = now.stands h st in (ToldEnd ∷ u.0, (sym now.kind ∙ on.2, on.3, u.1), c.in-PassedEnd.ensures.stands _ u.2);
+      kind = on.0 ∙ now.kind;
+      fault = on.1 ∙ sym (goes_sound (seen c.moves.machine) (seen c.tick.new.self) ticks.PassedEnd refl c.in-PassedEnd.ensures.does) ∙ now.fault;
+      login = does_login (seen c.moves.machine) (seen c.tick.new.self) ticks.PassedEnd c.in-PassedEnd.ensures.does ∙ now.login;
+      task = c.in-PassedEnd.ensures.leaves.0;
+    }
 
 pub moves-preserved : goal.moves-preserved
-moves-preserved c = record {
-  at = one_more (seen c.args.machine.now) (seen c.moves.machine) (seen c.tick.new.self) (ticks.PassedRow c.in-PassedRow.field-0) refl c.moves.invariant.at c.in-PassedRow.ensures.does;
-  stands = λ h st. let u = c.moves.invariant.stands h st in (ToldRow c.in-PassedRow.field-0 ∷ u.0, c.in-PassedRow.ensures.stands _ u.1);
-  task = c.in-PassedRow.ensures.leaves.0;
-}
+moves-preserved c =
+    let now = c.moves.invariant in
+    let row = c.in-PassedRow.field-0 in
+    let on = did_stay (seen c.moves.machine) (seen c.tick.new.self) (ticks.PassedRow row) c.in-PassedRow.ensures.does in
+    record {
+      at = one_more (seen c.args.machine.now) (seen c.moves.machine) (seen c.tick.new.self) (ticks.PassedRow row) refl now.at c.in-PassedRow.ensures.does;
+      stands = λ h st. let u = now.stands h st in (ToldRow row ∷ u.0, (sym now.kind ∙ on.2, on.3, u.1), c.in-PassedRow.ensures.stands _ u.2);
+      kind = on.0 ∙ now.kind;
+      fault = on.1 ∙ sym (goes_sound (seen c.moves.machine) (seen c.tick.new.self) (ticks.PassedRow row) refl c.in-PassedRow.ensures.does) ∙ now.fault;
+      login = does_login (seen c.moves.machine) (seen c.tick.new.self) (ticks.PassedRow row) c.in-PassedRow.ensures.does ∙ now.login;
+      task = c.in-PassedRow.ensures.leaves.0;
+    }
 
 pub returns-in-Sends-clause-stands : goal.returns-in-Sends-clause-stands
-returns-in-Sends-clause-stands c = λ h st. let u = c.moves.invariant.stands h st in (u.0, c.in-Sends.ensures.stands _ u.1)
+returns-in-Sends-clause-stands c = λ h st. let u = c.moves.invariant.stands h st in (u.0, u.1, c.in-Sends.ensures.stands _ u.2)
 
 pub returns-in-Needs-clause-stands : goal.returns-in-Needs-clause-stands
-returns-in-Needs-clause-stands c = λ h st. let u = c.moves.invariant.stands h st in (u.0, c.in-Needs.ensures.stands _ u.1)
+returns-in-Needs-clause-stands c = λ h st. let u = c.moves.invariant.stands h st in (u.0, u.1, c.in-Needs.ensures.stands _ u.2)
 
 pub returns-in-Done-clause-stands : goal.returns-in-Done-clause-stands
-returns-in-Done-clause-stands c = λ h st. let u = c.moves.invariant.stands h st in (u.0, c.in-Done.ensures.stands _ u.1)
+returns-in-Done-clause-stands c = λ h st. let u = c.moves.invariant.stands h st in (u.0, u.1, c.in-Done.ensures.stands _ u.2)
 
 pub returns-in-Fault-clause-stands : goal.returns-in-Fault-clause-stands
-returns-in-Fault-clause-stands c = λ h st. let u = c.moves.invariant.stands h st in (u.0, c.in-Fault.ensures.stands _ u.1)
+returns-in-Fault-clause-stands c = λ h st. let u = c.moves.invariant.stands h st in (u.0, u.1, c.in-Fault.ensures.stands _ u.2)
+
+pub returns-in-Sends-clause-login : goal.returns-in-Sends-clause-login
+returns-in-Sends-clause-login c = does_login (seen c.moves.machine) (seen c.tick.new.self) ticks.Sends c.in-Sends.ensures.does ∙ c.moves.invariant.login
+
+pub returns-in-Needs-clause-login : goal.returns-in-Needs-clause-login
+returns-in-Needs-clause-login c = does_login (seen c.moves.machine) (seen c.tick.new.self) ticks.Needs c.in-Needs.ensures.does ∙ c.moves.invariant.login
+
+pub returns-in-Done-clause-login : goal.returns-in-Done-clause-login
+returns-in-Done-clause-login c = does_login (seen c.moves.machine) (seen c.tick.new.self) (ticks.Done c.in-Done.answer) c.in-Done.ensures.does ∙ c.moves.invariant.login
+
+pub returns-in-Fault-clause-login : goal.returns-in-Fault-clause-login
+returns-in-Fault-clause-login c = does_login (seen c.moves.machine) (seen c.tick.new.self) (ticks.Fault c.in-Fault.error) c.in-Fault.ensures.does ∙ c.moves.invariant.login

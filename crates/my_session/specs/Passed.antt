@@ -1,0 +1,19 @@
+-- What a call passes over.
+use Rattle.std.specs.Prelude.{◌≡◌, List, [], ◌∷◌, Option, Some}
+use Rattle.my_session.specs.declared.call.CallKind.{CallKind}
+use Rattle.my_session.specs.declared.call.CallKind.TheVariants.{DropResult}
+use Rattle.my_session.specs.History.{Told, ToldReady, ToldRow, ToldEnd, ToldNone, ToldError, Dropped}
+
+-- a row, or the end of a set
+abbrev pub IsItem : Told → Type 0
+IsItem ToldReady = ⊥
+IsItem (ToldRow row) = Unit {0}
+IsItem ToldEnd = Unit {0}
+IsItem ToldNone = ⊥
+IsItem (ToldError e) = ⊥
+IsItem (Dropped closing) = ⊥
+
+-- Rows and ends that a call of this kind passed over: DropResult alone passes over any.
+abbrev pub ArePassed : Option CallKind → List Told → Type 0
+ArePassed kind [] = Unit {0}
+ArePassed kind (t ∷ ts) = (kind ≡ Some DropResult) × IsItem t × ArePassed kind ts

@@ -1,0 +1,77 @@
+-- The errors that the server told, and those that callers were told.
+-- MySQL internals, "ERR_Packet": it ends a response.
+use Rattle.std.specs.Prelude.{ℕ, List, [], ◌∷◌, ◌++◌, Option, Some, None, true, false}
+use Rattle.my_wire.specs.declared.err.ErrPacket.{ErrPacket}
+use Rattle.my_wire.specs.ErrPacket.{err_at}
+use Rattle.my_grammar.specs.declared.spot.Kind.{Kind}
+use Rattle.my_grammar.specs.declared.spot.Kind.TheVariants as kinds
+use Rattle.my_grammar.specs.Sets.{Sets, NoSets, Lone, Failed, Heading, Headed, Begun, Ended, Broken}
+use Rattle.my_grammar.specs.Talk.{Talk, Start, Unwelcome, Greeted, Settled, Asked, Replied, Queried, Silent}
+use Rattle.my_session.specs.declared.error.Error.{Error}
+use Rattle.my_session.specs.declared.error.Error.TheVariants as errors
+use Rattle.my_session.specs.declared.error.ServerError.{ServerError}
+use Rattle.my_session.specs.Entries.{Entry}
+use Rattle.my_session.specs.Errors.{server_error}
+use Rattle.my_session.specs.History.{Made, Told, ToldReady, ToldRow, ToldEnd, ToldNone, ToldError, Dropped}
+
+-- what an ERR says, the newest first
+abbrev pub error_onto : Option ErrPacket → List ServerError → List ServerError
+error_onto None es = es
+error_onto (Some e) es = server_error e ∷ es
+
+-- the one answer of an exchange, where it is an ERR
+abbrev pub error_of : Kind → List ℕ → List ServerError
+error_of (kinds.Greets capabilities) p = []
+error_of (kinds.Good status) p = []
+error_of kinds.Failed p = error_onto (err_at false p) []
+error_of (kinds.Count n) p = []
+error_of kinds.Column p = []
+error_of kinds.ColumnsDone p = []
+error_of kinds.Row p = []
+error_of (kinds.End status) p = []
+error_of kinds.Bad p = []
+
+-- the ERRs among sets
+abbrev pub errors_in_sets : Sets → List ServerError
+errors_in_sets NoSets = []
+errors_in_sets (Lone older p status) = errors_in_sets older
+errors_in_sets (Failed older p) = error_onto (err_at false p) (errors_in_sets older)
+errors_in_sets (Heading older head left) = errors_in_sets older
+errors_in_sets (Headed older head) = errors_in_sets older
+errors_in_sets (Begun older head rows) = errors_in_sets older
+errors_in_sets (Ended older head rows last status) = errors_in_sets older
+errors_in_sets (Broken older head rows last) = error_onto (err_at false last) (errors_in_sets older)
+
+-- the ERRs of an exchange; one in place of the greeting has no state
+abbrev pub errors_in : Talk → List ServerError
+errors_in (Start login) = []
+errors_in (Unwelcome login p) = error_onto (err_at true p) []
+errors_in (Greeted login p capabilities) = []
+errors_in (Settled login p capabilities last kind) = error_of kind last
+errors_in (Asked terms c) = []
+errors_in (Replied terms c last kind) = error_of kind last
+errors_in (Queried terms c sets) = errors_in_sets sets
+errors_in (Silent terms c) = []
+
+abbrev pub errors_of : List Entry → List ServerError
+errors_of [] = []
+errors_of (e ∷ es) = errors_in e.talk ++ errors_of es
+
+-- the server's errors that callers were told
+abbrev pub with_error : Error → List ServerError → List ServerError
+with_error (errors.Driver e) es = es
+with_error (errors.Io e) es = es
+with_error (errors.Server e) es = e ∷ es
+with_error errors.NoMemory es = es
+
+abbrev pub with_told : Told → List ServerError → List ServerError
+with_told ToldReady es = es
+with_told (ToldRow row) es = es
+with_told ToldEnd es = es
+with_told ToldNone es = es
+with_told (ToldError e) es = with_error e es
+with_told (Dropped closing) es = es
+
+abbrev pub errors_told : List Made → List ServerError
+errors_told [] = []
+errors_told (m ∷ ms) = with_told m.what (errors_told ms)
