@@ -1,12 +1,20 @@
 -- Which answers a call may get, by its kind, and what no step changes.
-use Rattle.std.specs.Prelude.{◌≡◌, Option, Some, None, Bool, true, false, not}
+use Rattle.std.specs.Prelude.{◌≡◌, ◌⊎◌, ℕ, Option, Some, None, Bool, true, false, not}
 use Rattle.my_session.specs.declared.answer.SessionStep.{SessionStep}
 use Rattle.my_session.specs.declared.answer.SessionStep.TheVariants.{Send, Need, Done, Fault}
 use Rattle.my_session.specs.declared.call.CallKind.{CallKind}
 use Rattle.my_session.specs.declared.call.CallKind.TheVariants.{Connect, Query, NextRow, DropResult, Ping, Quit}
 use Rattle.my_session.specs.declared.call.Task.{Task}
 use Rattle.my_session.specs.declared.call.Task.TheVariants.{Nothing, Begun, Cleaning, Own, Reading, Dropping, Leaving, Failing}
+use Rattle.my_session.specs.declared.call.LinkFault.{LinkFault}
+use Rattle.my_session.specs.declared.error.Error.{Error}
+use Rattle.my_session.specs.declared.error.Error.TheVariants as errors
+use Rattle.my_session.specs.declared.error.IoError.{IoError}
+use Rattle.my_session.specs.declared.error.IoError.TheVariants as ios
+use Rattle.my_session.specs.declared.error.IoKind.{IoKind}
+use Rattle.my_session.specs.declared.error.IoKind.TheVariants as kinds
 use Rattle.my_session.specs.Calls.{kind_in, fault_in}
+use Rattle.my_session.specs.Errors.{link_error}
 use Rattle.my_session.specs.History.{History, Told, ToldReady, ToldRow, ToldEnd, ToldNone, ToldError, Dropped, told}
 use Rattle.my_session.specs.Seen.{Seen}
 use Rattle.my_session.specs.Stands.{Stands}
@@ -58,10 +66,42 @@ WasStepped t Need = (is_begun t ≡ false) × (fault_in t ≡ None)
 WasStepped t (Done a) = Unit {0}
 WasStepped t (Fault e) = Unit {0}
 
+-- an error of the session's own: never of the link, and an end that came too early only where the link's end was told
+abbrev pub OwnKind : Bool → IoKind → Type 0
+OwnKind ended kinds.Link = ⊥
+OwnKind ended kinds.Dial = ⊥
+OwnKind ended kinds.UnexpectedEof = ended ≡ true
+OwnKind ended kinds.InvalidData = Unit {0}
+
+abbrev pub OwnIo : Bool → IoError → Type 0
+OwnIo ended (ios.Io fault) = OwnKind ended fault.kind
+OwnIo ended (ios.Codec fault) = Unit {0}
+
+abbrev pub OwnError : Bool → Error → Type 0
+OwnError ended (errors.Driver e) = ⊥
+OwnError ended (errors.Io e) = OwnIo ended e
+OwnError ended (errors.Server e) = Unit {0}
+OwnError ended errors.NoMemory = Unit {0}
+
+-- what a call that was told to fail is told, unless memory ran out
+abbrev pub IsLinkError : LinkFault → Error → Type 0
+IsLinkError fault e = (place : ℕ) × ((e ≡ link_error fault place) ⊎ (e ≡ errors.NoMemory))
+
+abbrev pub FaultFits : Option LinkFault → Bool → Error → Type 0
+FaultFits None ended e = OwnError ended e
+FaultFits (Some fault) ended e = IsLinkError fault e
+
+abbrev pub ErrorFits : Option LinkFault → Bool → SessionStep → Type 0
+ErrorFits fault ended Send = Unit {0}
+ErrorFits fault ended Need = Unit {0}
+ErrorFits fault ended (Done a) = Unit {0}
+ErrorFits fault ended (Fault e) = FaultFits fault ended e
+
 -- The open call's answer is of its kind, or the call was stepped; the session still logs in as it did, no step tells the link's end, and
 -- none opens a closed session.
 pub record StepFits (old new : Seen) (step : SessionStep) : Type 0 where
   pub answer : AnswerFits (kind_in old.task) step
+  pub error : ErrorFits (fault_in old.task) old.ended step
   pub stepped : WasStepped new.task step
   pub login : new.login ≡ old.login
   pub ended : new.ended ≡ old.ended
