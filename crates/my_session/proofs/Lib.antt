@@ -1,5 +1,6 @@
 pub mod Blames
 pub mod Fronts
+pub mod Ending
 pub mod Fitting
 pub mod Going
 pub mod Keeps

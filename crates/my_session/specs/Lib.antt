@@ -1,5 +1,6 @@
 pub mod Calls
 pub mod Commands
+pub mod Ends
 pub mod Entries
 pub mod Errors
 pub mod Facts

@@ -9,9 +9,15 @@ pub fn each_history()
     ensures { EachHistory }
 {}
 
+ghost use Rattle.my_session.specs.Ends.{EachEnd};
 ghost use Rattle.my_session.specs.Fits.{EachAnswerFits};
 
 /// A step of a session that stands for some history answers the open call by what its kind may be told, and logs in as before.
 pub fn each_answer_fits()
     ensures { EachAnswerFits }
+{}
+
+/// Where a step asked for bytes and then the link told its end, the call fails by an end that came too early.
+pub fn each_end()
+    ensures { EachEnd }
 {}

@@ -1,0 +1,13 @@
+-- What the link's end comes to.
+use Rattle.std.specs.Prelude.{◌≡◌, ◌⊎◌}
+use Rattle.my_session.specs.declared.answer.SessionStep.TheVariants.{Need, Fault}
+use Rattle.my_session.specs.declared.error.Error.{Error}
+use Rattle.my_session.specs.declared.error.Error.TheVariants.{NoMemory}
+use Rattle.my_session.specs.Errors.{unexpected_eof}
+use Rattle.my_session.specs.Seen.{Seen}
+use Rattle.my_session.specs.Steps.{Steps, with_end}
+
+-- Where a step asked for bytes and then the link's end is told, the next step fails by an end that came too early, unless memory ran out.
+abbrev pub EachEnd : Type 0
+EachEnd = (old new behind : Seen) (e : Error) → Steps old new Need → Steps (with_end new) behind (Fault e)
+    → (e ≡ unexpected_eof new.facts.place) ⊎ (e ≡ NoMemory)
