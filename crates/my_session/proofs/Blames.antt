@@ -1,18 +1,16 @@
 -- What a payload more does to the errors that the server told.
-use Rattle.std.proofs.Common.{◌≡◌, ℕ, List, [], ◌∷◌, ◌++◌, Bool, true, false, cond, leb, ◌-◌, Option, Some, None, refl, sym, ap, ◌∙◌}
+use Rattle.std.proofs.Common.{◌≡◌, ℕ, List, [], Bool, true, false, cond, leb, ◌-◌, refl, sym, ap, ◌∙◌}
 use Rattle.my_wire.specs.ErrPacket.{err_at}
 use Rattle.my_grammar.specs.declared.login.Login.{Login}
 use Rattle.my_grammar.specs.declared.spot.Kind.{Kind}
 use Rattle.my_grammar.specs.declared.spot.Kind.TheVariants as kinds
-use Rattle.my_grammar.specs.declared.spot.Spot.{Spot}
 use Rattle.my_grammar.specs.declared.spot.Spot.TheVariants as spots
-use Rattle.my_grammar.specs.Contexts.{deprecates_eof, more, has_more}
+use Rattle.my_grammar.specs.Contexts.{deprecates_eof, has_more}
 use Rattle.my_grammar.specs.Cut.{kind_of}
 use Rattle.my_grammar.specs.Growth.{grow}
 use Rattle.my_grammar.specs.Sets.{SetHead, Sets, NoSets, Lone, Failed, Heading, Headed, Begun, Ended, Broken, grow_sets, with_column, with_column_of, with_close, with_row, with_end, spot_in}
 use Rattle.my_grammar.specs.Sets as sets
 use Rattle.my_grammar.specs.Talk.{Talk, Start, Unwelcome, Greeted, Settled, Asked, Replied, Queried, Silent, context_of}
-use Rattle.my_session.specs.declared.error.ServerError.{ServerError}
 use Rattle.my_session.specs.Machine.{is_greeting}
 use Rattle.my_session.specs.ServerErrors.{error_onto, error_of, errors_in_sets, errors_in}
 

@@ -1,50 +1,40 @@
 -- Each move keeps what a session stands for.
-use Rattle.std.proofs.Common.{◌≡◌, ℕ, List, [], ◌∷◌, ◌++◌, length, nat_lt, ◌||◌, Bool, true, false, cond, Option, Some, None, inl, inr, refl, sym, ap, ◌∙◌, subst}
+use Rattle.std.proofs.Common.{◌≡◌, ℕ, List, [], ◌∷◌, Bool, true, false, cond, Option, Some, None, refl, sym, ap, ◌∙◌, subst}
 use Rattle.my_wire.specs.declared.err.ErrPacket.{ErrPacket}
 use Rattle.my_wire.specs.ErrPacket.{err_at}
-use Rattle.my_wire.specs.Front.{Front, Waiting, Broken, Whole, front_at}
-use Rattle.my_wire.specs.FrontLaws.{AreBytes, IsWhole}
-use Rattle.my_wire.proofs.Meanings.{whole_stands}
+use Rattle.my_wire.specs.FrontLaws.{IsWhole}
 use Rattle.my_value.specs.RowParts.{RowParts}
+use Rattle.my_grammar.specs.declared.spot.Context.{Context}
 use Rattle.my_grammar.specs.declared.spot.Kind.{Kind}
 use Rattle.my_grammar.specs.declared.spot.Kind.TheVariants as kinds
 use Rattle.my_grammar.specs.declared.spot.Spot.{Spot}
 use Rattle.my_grammar.specs.declared.spot.Spot.TheVariants as spots
 use Rattle.my_grammar.specs.Contexts.{deprecates_eof, is_bad, spot_after}
+use Rattle.my_grammar.specs.Growth.{grow}
 use Rattle.my_grammar.specs.Kinds.{kind_there}
-use Rattle.my_grammar.specs.Sets.{Sets, NoSets, Lone, Failed, Heading, Headed, Ended, Broken as BrokenSet}
-use Rattle.my_grammar.specs.Sets as sets
-use Rattle.my_grammar.specs.Talk.{Talk, Start, Asked, Queried, Silent, turns, context_of, packets_of, server_bytes, Fits, origin, login_in}
 use Rattle.my_grammar.proofs.SetGrowth.{not_greets}
-use Rattle.my_session.specs.declared.call.Call.{Call}
 use Rattle.my_session.specs.declared.call.Call.TheVariants as calls
 use Rattle.my_session.specs.declared.call.CallKind.{CallKind}
 use Rattle.my_session.specs.declared.call.CallKind.TheVariants.{Connect, Query, NextRow, DropResult, Ping, Quit}
-use Rattle.my_session.specs.declared.call.LinkFault.{LinkFault}
-use Rattle.my_session.specs.declared.call.LinkFault.TheVariants as faults
 use Rattle.my_session.specs.declared.call.Task.{Task}
 use Rattle.my_session.specs.declared.call.Task.TheVariants.{Nothing, Begun, Cleaning, Own, Reading, Dropping, Leaving, Failing}
 use Rattle.my_session.specs.declared.error.Error.TheVariants as errors
-use Rattle.my_session.specs.declared.tables.Plan.{Plan}
-use Rattle.my_session.specs.declared.tables.Plan.TheVariants as plans
-use Rattle.my_session.specs.declared.tables.Reaction.TheVariants as reactions
-use Rattle.my_session.specs.Calls.{kind_of, call_of, kind_in, fault_in, is_open, is_connect, asks}
-use Rattle.my_session.specs.Commands.{opening, command_in, command_terms}
-use Rattle.my_session.specs.Entries.{Entry, calls_in, givens, onto, sets_of, may_lack, connects, has_connected, IsTied}
-use Rattle.my_session.specs.Errors.{invalid_data, unexpected_eof, codec_error, link_error, server_error}
-use Rattle.my_session.specs.Groups.{Group, groups, with_stop, stop_given, given, given_after}
-use Rattle.my_session.specs.History.{History, Made, Told, ToldReady, ToldRow, ToldEnd, ToldNone, ToldError, answered, noted, closes, has_closed}
-use Rattle.my_session.specs.Machine.{Move, Tells, fell, advanced, with_task, failed_by, reply_to, above, unless_above, refused, gave, passed, reacted, read_by, read_kind, reading, asked, queued, too_large, planned, when_owed, next_by, next, after_doing, is_greeting}
+use Rattle.my_session.specs.Calls.{kind_of, call_of, kind_in, is_open, is_connect}
+use Rattle.my_session.specs.Entries.{calls_in, givens, may_lack, has_connected, IsTied}
+use Rattle.my_session.specs.Errors.{invalid_data, server_error}
+use Rattle.my_session.specs.History.{History, Made, Told, ToldRow, ToldEnd, ToldError, answered, noted}
+use Rattle.my_session.specs.Machine.{Move, fell, advanced, with_task, failed_by, refused, gave, passed, reacted, after_doing, is_greeting}
 use Rattle.my_session.specs.Rows.{row_at}
 use Rattle.my_session.specs.Seen.{Seen}
-use Rattle.my_session.specs.Stands.{Stands, Wire, Heard, TaskIs, TieIs, BegunAt, OwnAt, call_with, begun_of, is_left, is_reading, is_shaking, is_first, is_lone, keeps, known_part, is_alive}
+use Rattle.my_session.specs.ServerErrors.{error_onto, errors_in}
+use Rattle.my_session.specs.Stands.{Stands, Heard, begun_of, is_reading, is_shaking}
 use Rattle.my_session.specs.Steps.{is_settled}
-use Rattle.my_session.specs.Tables.{react, react_cleaning, react_connect, react_query, react_ping, react_own, react_reading, react_dropping, is_breaking, is_connecting, plan_of, clean_plan, own_plan, query_plan, read_plan, drop_plan, first_task}
-use Rattle.my_session.proofs.Reacts.{falls, fell_stands, goes, refuses, refuses_connect, welcomes, pongs, readies, first_parts, shows, heads, row_gives, end_gives, good_gives, knows, tied_on, tied_now}
-use Rattle.my_session.proofs.Spots.{row_spot, end_spot, good_spot, not_greeting, settled_more, greets_on, settled_reads, settled_not_greeting, reading_after}
-use Rattle.my_session.proofs.Ties.{answered_stands, noted_stands, closed_tie, all_begun, at_greeting, none_waits, quiet_more, asks_not}
-use Rattle.my_session.proofs.Views.{is_part, given_all, given_first, first_groups}
-use Rattle.my_session.proofs.Wired.{wire_queued}
+use Rattle.my_session.specs.Tables.{react, react_cleaning, react_connect, react_query, react_ping, react_own, react_reading, react_dropping, is_breaking, is_connecting}
+use Rattle.my_session.proofs.Blames.{is_failed, failed_blames}
+use Rattle.my_session.proofs.Reacts.{fell_stands, goes, refuses, refuses_connect, welcomes, pongs, readies, first_parts, shows, heads, row_gives, end_gives, good_gives, knows, tied_on, tied_now}
+use Rattle.my_session.proofs.Spots.{row_spot, end_spot, good_spot, not_greeting, settled_more, greets_on, settled_not_greeting, reading_after}
+use Rattle.my_session.proofs.Ties.{answered_stands, noted_stands, closed_tie, all_begun, none_waits, quiet_more, asks_not}
+use Rattle.my_session.proofs.Views.{is_part}
 
 -- what a move leads to
 abbrev pub Keeps : Move → History → Type 0
@@ -71,24 +61,31 @@ module _ (s : Seen) (h : History) (st : Stands s h) (open_still : s.closed ≡ f
   invalid : Keeps (failed_by s (invalid_data s.facts.place)) h
   invalid = fell_stands s h (invalid_data s.facts.place) (λ c. refl) op st
 
-  cleaning_goes : (c : CallKind) (k : Kind) → HeardAs (Cleaning c) → kind_there s.context p ≡ k → is_bad k ≡ false → not_greets k ≡ true → Stands (with_task (after k) (Cleaning c) false) h
-  cleaning_goes c k hd e good quiet =
+  cleaning_goes : (c : CallKind) (k : Kind) → HeardAs (Cleaning c) → kind_there s.context p ≡ k → is_bad k ≡ false → is_failed k ≡ false → not_greets k ≡ true → Stands (with_task (after k) (Cleaning c) false) h
+  cleaning_goes c k hd e good calm quiet =
       let spot = spot_after (deprecates_eof s.context.terms.kept) s.context.spot k in
       let behind : is_greeting spot ≡ false = not_greeting s.context.spot (deprecates_eof s.context.terms.kept) k in
-      goes s h st open_still nothing p rest next whole (Cleaning c) k e good refl hd (hd.at.0, hd.at.1, behind)
+      goes s h st open_still nothing p rest next whole (Cleaning c) k e good calm refl hd (hd.at.0, hd.at.1, behind)
       (none_waits spot h.calls st.newest.call st.older behind (all_begun s.context.spot h.calls st.newest.call st.older hd.at.2 hd.tie)) (λ _. quiet)
 
-  refuse : (t : Task) (c : CallKind) (x : Option ErrPacket) → HeardAs t → kind_there s.context p ≡ kinds.Failed → kind_in t ≡ Some c → is_connecting s.task ≡ false → is_connect (kind_of (call_of c s.text)) ≡ false → has_connected h.calls ≡ true → ((y : Told) → may_lack y (kind_of (call_of c s.text)) ≡ true → IsTied (record { call = call_of c s.text; what = y } ∷ h.calls) (begun_of (spot_after (deprecates_eof s.context.terms.kept) s.context.spot kinds.Failed) st.newest.call st.older)) → Keeps (refused s (after kinds.Failed) x) h
-  refuse t c None hd e call off not made tie = invalid
-  refuse t c (Some x) hd e call off not made tie =
-      subst (λ (b : Bool). Stands (cond b (fell (after kinds.Failed)) (with_task (after kinds.Failed) Nothing false)) (answered h (ToldError (errors.Server (server_error x))))) (sym off)
-      (refuses s h st open_still nothing p rest next whole t c (server_error x) e call not made hd (tie (ToldError (errors.Server (server_error x))) refl))
+  -- the ERR in front is one more of those that the server told
+  blames : (x : ErrPacket) → kind_there s.context p ≡ kinds.Failed → err_at (is_greeting s.context.spot) p ≡ Some x → server_error x ∷ errors_in st.newest.talk ≡ errors_in (grow kinds.Failed st.newest.talk p)
+  blames x e is =
+      ap (λ o. error_onto o (errors_in st.newest.talk)) (sym is)
+      ∙ ap (λ (c : Context). error_onto (err_at (is_greeting c.spot) p) (errors_in st.newest.talk)) st.wire.context_is
+      ∙ sym (failed_blames st.newest.talk p (ap (λ (c : Context). kind_there c p) (sym st.wire.context_is) ∙ e))
 
-  refuse_connect : (x : Option ErrPacket) → HeardAs (Own Connect) → kind_there s.context p ≡ kinds.Failed → is_connecting s.task ≡ true → Keeps (refused s (after kinds.Failed) x) h
-  refuse_connect None hd e on = invalid
-  refuse_connect (Some x) hd e on =
+  refuse : (t : Task) (c : CallKind) (x : Option ErrPacket) → err_at (is_greeting s.context.spot) p ≡ x → HeardAs t → kind_there s.context p ≡ kinds.Failed → kind_in t ≡ Some c → is_connecting s.task ≡ false → is_connect (kind_of (call_of c s.text)) ≡ false → has_connected h.calls ≡ true → ((y : Told) → may_lack y (kind_of (call_of c s.text)) ≡ true → IsTied (record { call = call_of c s.text; what = y } ∷ h.calls) (begun_of (spot_after (deprecates_eof s.context.terms.kept) s.context.spot kinds.Failed) st.newest.call st.older)) → Keeps (refused s (after kinds.Failed) x) h
+  refuse t c None is hd e call off not made tie = invalid
+  refuse t c (Some x) is hd e call off not made tie =
+      subst (λ (b : Bool). Stands (cond b (fell (after kinds.Failed)) (with_task (after kinds.Failed) Nothing false)) (answered h (ToldError (errors.Server (server_error x))))) (sym off)
+      (refuses s h st open_still nothing p rest next whole t c (server_error x) e (blames x e is) call not made hd (tie (ToldError (errors.Server (server_error x))) refl))
+
+  refuse_connect : (x : Option ErrPacket) → err_at (is_greeting s.context.spot) p ≡ x → HeardAs (Own Connect) → kind_there s.context p ≡ kinds.Failed → is_connecting s.task ≡ true → Keeps (refused s (after kinds.Failed) x) h
+  refuse_connect None is hd e on = invalid
+  refuse_connect (Some x) is hd e on =
       subst (λ (b : Bool). Stands (cond b (fell (after kinds.Failed)) (with_task (after kinds.Failed) Nothing false)) (answered h (ToldError (errors.Server (server_error x))))) (sym on)
-      (refuses_connect s h st open_still nothing p rest next whole (server_error x) e hd)
+      (refuses_connect s h st open_still nothing p rest next whole (server_error x) e (blames x e is) hd)
 
   -- the tie of a call that reads behind other exchanges
   tied_behind : (k : Kind) (c : CallKind) → is_greeting s.context.spot ≡ false → IsTied h.calls (begun_of s.context.spot st.newest.call st.older) → (y : Told) → may_lack y (kind_of (call_of c s.text)) ≡ true → IsTied (record { call = call_of c s.text; what = y } ∷ h.calls) (begun_of (spot_after (deprecates_eof s.context.terms.kept) s.context.spot k) st.newest.call st.older)
@@ -101,21 +98,21 @@ module _ (s : Seen) (h : History) (st : Stands s h) (open_still : s.closed ≡ f
 
   cleaning_keeps : (c : CallKind) (k : Kind) → HeardAs (Cleaning c) → is_connecting s.task ≡ false → kind_there s.context p ≡ k → is_breaking (react_cleaning c k) ≡ false → Keeps (reacted s (after k) p (react_cleaning c k)) h
   cleaning_keeps c (kinds.Greets n) hd off e b = cc
-  cleaning_keeps c (kinds.Good status) hd off e b = cleaning_goes c (kinds.Good status) hd e refl refl
-  cleaning_keeps c kinds.Failed hd off e b = refuse (Cleaning c) c (err_at (is_greeting s.context.spot) p) hd e refl off (asks_not c s.text hd.at.0) hd.at.1 (tied_behind kinds.Failed c hd.at.2 hd.tie)
-  cleaning_keeps c (kinds.Count n) hd off e b = cleaning_goes c (kinds.Count n) hd e refl refl
-  cleaning_keeps c kinds.Column hd off e b = cleaning_goes c kinds.Column hd e refl refl
-  cleaning_keeps c kinds.ColumnsDone hd off e b = cleaning_goes c kinds.ColumnsDone hd e refl refl
-  cleaning_keeps c kinds.Row hd off e b = cleaning_goes c kinds.Row hd e refl refl
-  cleaning_keeps c (kinds.End status) hd off e b = cleaning_goes c (kinds.End status) hd e refl refl
+  cleaning_keeps c (kinds.Good status) hd off e b = cleaning_goes c (kinds.Good status) hd e refl refl refl
+  cleaning_keeps c kinds.Failed hd off e b = refuse (Cleaning c) c (err_at (is_greeting s.context.spot) p) refl hd e refl off (asks_not c s.text hd.at.0) hd.at.1 (tied_behind kinds.Failed c hd.at.2 hd.tie)
+  cleaning_keeps c (kinds.Count n) hd off e b = cleaning_goes c (kinds.Count n) hd e refl refl refl
+  cleaning_keeps c kinds.Column hd off e b = cleaning_goes c kinds.Column hd e refl refl refl
+  cleaning_keeps c kinds.ColumnsDone hd off e b = cleaning_goes c kinds.ColumnsDone hd e refl refl refl
+  cleaning_keeps c kinds.Row hd off e b = cleaning_goes c kinds.Row hd e refl refl refl
+  cleaning_keeps c (kinds.End status) hd off e b = cleaning_goes c (kinds.End status) hd e refl refl refl
   cleaning_keeps c kinds.Bad hd off e b = cc
 
   connect_keeps : (k : Kind) → HeardAs (Own Connect) → is_connecting s.task ≡ true → kind_there s.context p ≡ k → is_breaking (react_connect k) ≡ false → Keeps (reacted s (after k) p (react_connect k)) h
   connect_keeps (kinds.Greets n) hd on e b =
       let spot : spot_after (deprecates_eof s.context.terms.kept) s.context.spot (kinds.Greets n) ≡ spots.Authentication = greets_on s.context.spot (deprecates_eof s.context.terms.kept) n (knows s h st open_still nothing p rest next whole (kinds.Greets n) e) in
-      goes s h st open_still nothing p rest next whole (Own Connect) (kinds.Greets n) e refl refl hd (hd.at.0, ap is_shaking spot) hd.tie (λ no. cc)
+      goes s h st open_still nothing p rest next whole (Own Connect) (kinds.Greets n) e refl refl refl hd (hd.at.0, ap is_shaking spot) hd.tie (λ no. cc)
   connect_keeps (kinds.Good status) hd on e b = welcomes s h st open_still nothing p rest next whole status e hd
-  connect_keeps kinds.Failed hd on e b = refuse_connect (err_at (is_greeting s.context.spot) p) hd e on
+  connect_keeps kinds.Failed hd on e b = refuse_connect (err_at (is_greeting s.context.spot) p) refl hd e on
   connect_keeps (kinds.Count n) hd on e b = cc
   connect_keeps kinds.Column hd on e b = cc
   connect_keeps kinds.ColumnsDone hd on e b = cc
@@ -126,7 +123,7 @@ module _ (s : Seen) (h : History) (st : Stands s h) (open_still : s.closed ≡ f
   query_keeps : (k : Kind) → HeardAs (Own Query) → is_connecting s.task ≡ false → kind_there s.context p ≡ k → is_breaking (react_query k) ≡ false → Keeps (reacted s (after k) p (react_query k)) h
   query_keeps (kinds.Greets n) hd off e b = cc
   query_keeps (kinds.Good status) hd off e b = readies s h st open_still nothing p rest next whole status e hd
-  query_keeps kinds.Failed hd off e b = refuse (Own Query) Query (err_at (is_greeting s.context.spot) p) hd e refl off refl hd.at.0 (tied_own kinds.Failed Query hd)
+  query_keeps kinds.Failed hd off e b = refuse (Own Query) Query (err_at (is_greeting s.context.spot) p) refl hd e refl off refl hd.at.0 (tied_own kinds.Failed Query hd)
   query_keeps (kinds.Count n) hd off e b = first_parts s h st open_still nothing p rest next whole (kinds.Count n) e refl refl refl hd
   query_keeps kinds.Column hd off e b = first_parts s h st open_still nothing p rest next whole kinds.Column e refl refl refl hd
   query_keeps kinds.ColumnsDone hd off e b = first_parts s h st open_still nothing p rest next whole kinds.ColumnsDone e refl refl refl hd
@@ -137,7 +134,7 @@ module _ (s : Seen) (h : History) (st : Stands s h) (open_still : s.closed ≡ f
   ping_keeps : (k : Kind) → HeardAs (Own Ping) → is_connecting s.task ≡ false → kind_there s.context p ≡ k → is_breaking (react_ping k) ≡ false → Keeps (reacted s (after k) p (react_ping k)) h
   ping_keeps (kinds.Greets n) hd off e b = cc
   ping_keeps (kinds.Good status) hd off e b = pongs s h st open_still nothing p rest next whole status e hd
-  ping_keeps kinds.Failed hd off e b = refuse (Own Ping) Ping (err_at (is_greeting s.context.spot) p) hd e refl off refl hd.at.0 (tied_own kinds.Failed Ping hd)
+  ping_keeps kinds.Failed hd off e b = refuse (Own Ping) Ping (err_at (is_greeting s.context.spot) p) refl hd e refl off refl hd.at.0 (tied_own kinds.Failed Ping hd)
   ping_keeps (kinds.Count n) hd off e b = cc
   ping_keeps kinds.Column hd off e b = cc
   ping_keeps kinds.ColumnsDone hd off e b = cc
@@ -170,7 +167,7 @@ module _ (s : Seen) (h : History) (st : Stands s h) (open_still : s.closed ≡ f
     give : (x : Option RowParts) → kind_there s.context p ≡ kinds.Row → row_at s.facts.columns p ≡ x → Keeps (gave s (after kinds.Row) x) h
     give None e is = invalid
     give (Some row) e is = answered_stands (with_task (after kinds.Row) Nothing false) h calls.NextRow (ToldRow row) hd.pending_is
-        (shows s h st open_still nothing told p rest next whole Reading NextRow refl refl hd.at.1 hd.at.0 hd hd.tie Nothing kinds.Row (ToldRow row) e refl refl refl refl refl hd.at.0
+        (shows s h st open_still nothing told p rest next whole Reading NextRow refl refl hd.at.1 hd.at.0 hd hd.tie Nothing kinds.Row (ToldRow row) e refl refl refl refl refl refl refl hd.at.0
         (ap (λ gs. gs ∷ givens st.older) (sym (row_gives s h st open_still nothing told p rest next whole Reading NextRow refl refl hd.at.1 hd.at.0 hd hd.tie row e is)))
         (λ m made. rests kinds.Row m made (row_rests e)) (λ m t. t))
 
@@ -182,16 +179,16 @@ module _ (s : Seen) (h : History) (st : Stands s h) (open_still : s.closed ≡ f
     reading_keeps : (k : Kind) → kind_there s.context p ≡ k → is_breaking (react_reading k) ≡ false → Keeps (reacted s (after k) p (react_reading k)) h
     reading_keeps (kinds.Greets n) e b = cc
     reading_keeps (kinds.Good status) e b = answered_stands (with_task (after (kinds.Good status)) Nothing false) h calls.NextRow ToldEnd hd.pending_is
-        (shows s h st open_still nothing told p rest next whole Reading NextRow refl refl hd.at.1 hd.at.0 hd hd.tie Nothing (kinds.Good status) ToldEnd e refl refl refl refl refl hd.at.0
+        (shows s h st open_still nothing told p rest next whole Reading NextRow refl refl hd.at.1 hd.at.0 hd hd.tie Nothing (kinds.Good status) ToldEnd e refl refl refl refl refl refl refl hd.at.0
         (ap (λ gs. gs ∷ givens st.older) (sym (good_gives s h st open_still nothing told p rest next whole Reading NextRow refl refl hd.at.1 hd.at.0 hd hd.tie status e)))
         (λ m made. rests (kinds.Good status) m made (good_rests status hd.at.1 e)) (λ m t. t))
-    reading_keeps kinds.Failed e b = refuse Reading NextRow (err_at (is_greeting s.context.spot) p) hd e refl (ap is_connecting task) refl hd.at.0 (tied_behind kinds.Failed NextRow (settled_not_greeting s.context.spot hd.at.1) hd.tie)
+    reading_keeps kinds.Failed e b = refuse Reading NextRow (err_at (is_greeting s.context.spot) p) refl hd e refl (ap is_connecting task) refl hd.at.0 (tied_behind kinds.Failed NextRow (settled_not_greeting s.context.spot hd.at.1) hd.tie)
     reading_keeps (kinds.Count n) e b = read_head (kinds.Count n) e refl refl refl
     reading_keeps kinds.Column e b = read_head kinds.Column e refl refl refl
     reading_keeps kinds.ColumnsDone e b = read_head kinds.ColumnsDone e refl refl refl
     reading_keeps kinds.Row e b = give (row_at s.facts.columns p) e refl
     reading_keeps (kinds.End status) e b = answered_stands (with_task (after (kinds.End status)) Nothing false) h calls.NextRow ToldEnd hd.pending_is
-        (shows s h st open_still nothing told p rest next whole Reading NextRow refl refl hd.at.1 hd.at.0 hd hd.tie Nothing (kinds.End status) ToldEnd e refl refl refl refl refl hd.at.0
+        (shows s h st open_still nothing told p rest next whole Reading NextRow refl refl hd.at.1 hd.at.0 hd hd.tie Nothing (kinds.End status) ToldEnd e refl refl refl refl refl refl refl hd.at.0
         (ap (λ gs. gs ∷ givens st.older) (sym (end_gives s h st open_still nothing told p rest next whole Reading NextRow refl refl hd.at.1 hd.at.0 hd hd.tie status e)))
         (λ m made. rests (kinds.End status) m made (end_rests status e)) (λ m t. t))
     reading_keeps kinds.Bad e b = cc
@@ -204,7 +201,7 @@ module _ (s : Seen) (h : History) (st : Stands s h) (open_still : s.closed ≡ f
     pass : (x : Option RowParts) → kind_there s.context p ≡ kinds.Row → row_at s.facts.columns p ≡ x → Keeps (passed s (after kinds.Row) x) h
     pass None e is = invalid
     pass (Some row) e is = same_task kinds.Row (noted h (ToldRow row)) (noted_stands (with_task (after kinds.Row) Dropping false) h calls.DropResult (ToldRow row) hd.pending_is
-        (shows s h st open_still nothing told p rest next whole Dropping DropResult refl refl hd.at.1 hd.at.0 hd hd.tie Dropping kinds.Row (ToldRow row) e refl refl refl refl refl hd.at.0
+        (shows s h st open_still nothing told p rest next whole Dropping DropResult refl refl hd.at.1 hd.at.0 hd hd.tie Dropping kinds.Row (ToldRow row) e refl refl refl refl refl refl refl hd.at.0
         (ap (λ gs. gs ∷ givens st.older) (sym (row_gives s h st open_still nothing told p rest next whole Dropping DropResult refl refl hd.at.1 hd.at.0 hd hd.tie row e is)))
         (λ m made. (made, reading_after s.context.spot (deprecates_eof s.context.terms.kept) kinds.Row hd.at.1)) (λ m t. t)))
 
@@ -216,16 +213,16 @@ module _ (s : Seen) (h : History) (st : Stands s h) (open_still : s.closed ≡ f
     dropping_keeps : (k : Kind) → kind_there s.context p ≡ k → is_breaking (react_dropping k) ≡ false → Keeps (reacted s (after k) p (react_dropping k)) h
     dropping_keeps (kinds.Greets n) e b = cc
     dropping_keeps (kinds.Good status) e b = same_task (kinds.Good status) (noted h ToldEnd) (noted_stands (with_task (after (kinds.Good status)) Dropping false) h calls.DropResult ToldEnd hd.pending_is
-        (shows s h st open_still nothing told p rest next whole Dropping DropResult refl refl hd.at.1 hd.at.0 hd hd.tie Dropping (kinds.Good status) ToldEnd e refl refl refl refl refl hd.at.0
+        (shows s h st open_still nothing told p rest next whole Dropping DropResult refl refl hd.at.1 hd.at.0 hd hd.tie Dropping (kinds.Good status) ToldEnd e refl refl refl refl refl refl refl hd.at.0
         (ap (λ gs. gs ∷ givens st.older) (sym (good_gives s h st open_still nothing told p rest next whole Dropping DropResult refl refl hd.at.1 hd.at.0 hd hd.tie status e)))
         (λ m made. (made, reading_after s.context.spot (deprecates_eof s.context.terms.kept) (kinds.Good status) hd.at.1)) (λ m t. t)))
-    dropping_keeps kinds.Failed e b = refuse Dropping DropResult (err_at (is_greeting s.context.spot) p) hd e refl (ap is_connecting task) refl hd.at.0 (tied_behind kinds.Failed DropResult (settled_not_greeting s.context.spot hd.at.1) hd.tie)
+    dropping_keeps kinds.Failed e b = refuse Dropping DropResult (err_at (is_greeting s.context.spot) p) refl hd e refl (ap is_connecting task) refl hd.at.0 (tied_behind kinds.Failed DropResult (settled_not_greeting s.context.spot hd.at.1) hd.tie)
     dropping_keeps (kinds.Count n) e b = drop_head (kinds.Count n) e refl refl refl
     dropping_keeps kinds.Column e b = drop_head kinds.Column e refl refl refl
     dropping_keeps kinds.ColumnsDone e b = drop_head kinds.ColumnsDone e refl refl refl
     dropping_keeps kinds.Row e b = pass (row_at s.facts.columns p) e refl
     dropping_keeps (kinds.End status) e b = same_task (kinds.End status) (noted h ToldEnd) (noted_stands (with_task (after (kinds.End status)) Dropping false) h calls.DropResult ToldEnd hd.pending_is
-        (shows s h st open_still nothing told p rest next whole Dropping DropResult refl refl hd.at.1 hd.at.0 hd hd.tie Dropping (kinds.End status) ToldEnd e refl refl refl refl refl hd.at.0
+        (shows s h st open_still nothing told p rest next whole Dropping DropResult refl refl hd.at.1 hd.at.0 hd hd.tie Dropping (kinds.End status) ToldEnd e refl refl refl refl refl refl refl hd.at.0
         (ap (λ gs. gs ∷ givens st.older) (sym (end_gives s h st open_still nothing told p rest next whole Dropping DropResult refl refl hd.at.1 hd.at.0 hd hd.tie status e)))
         (λ m made. (made, reading_after s.context.spot (deprecates_eof s.context.terms.kept) (kinds.End status) hd.at.1)) (λ m t. t)))
     dropping_keeps kinds.Bad e b = cc

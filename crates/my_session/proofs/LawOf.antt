@@ -1,31 +1,27 @@
 -- The law.
 use Rattle.std.proofs.Common.{◌≡◌, ℕ, suc, zero, List, [], ◌∷◌, ◌++◌, length, Bool, true, false, cond, Option, Some, None, inl, inr, refl, sym, ap, ◌∙◌, subst}
-use Rattle.std.proofs.lemmas.List.{append_assoc}
 use Rattle.my_wire.specs.Front.{Front, Waiting, Broken, Whole}
 use Rattle.my_grammar.specs.declared.spot.Kind.{Kind}
 use Rattle.my_grammar.specs.declared.spot.Spot.{Spot}
 use Rattle.my_grammar.specs.Contexts.{is_bad}
 use Rattle.my_grammar.specs.Growth.{grow}
-use Rattle.my_grammar.specs.Talk.{Talk, turns, server_bytes, context_of, origin}
-use Rattle.my_grammar.specs.Cut.{Read, Cut, rest_of, front_of, kind_of, read_front, read_within, read_from, is_idle, is_over, cut, cut_behind, onto}
-use Rattle.my_grammar.proofs.Sound.{exchange_is_cut, over_is_cut}
+use Rattle.my_grammar.specs.Talk.{Talk}
+use Rattle.my_grammar.specs.Cut.{Read, front_of, kind_of, read_front, read_within, read_from, cut}
+use Rattle.my_session.specs.declared.error.ServerError.{ServerError}
 use Rattle.my_session.specs.declared.call.Call.{Call}
-use Rattle.my_session.specs.declared.call.CallKind.{CallKind}
 use Rattle.my_session.specs.declared.call.Task.{Task}
 use Rattle.my_session.specs.declared.call.Task.TheVariants.{Nothing, Begun, Cleaning, Own, Reading, Dropping, Leaving, Failing}
 use Rattle.my_session.specs.Calls.{call_of, kind_in}
-use Rattle.my_session.specs.Entries.{Entry, taken_by, AllDone, AllGiven, IsGiven, calls_in, IsTied}
+use Rattle.my_session.specs.Entries.{Entry, AllGiven, IsGiven, calls_in, IsTied}
 use Rattle.my_session.specs.Groups.{Group}
 use Rattle.my_session.specs.History.{Made}
-use Rattle.my_session.specs.Law.{in_order, origins, shares, AreGiven, OwnsOpen, AreOf, EachHistory}
+use Rattle.my_session.specs.Law.{in_order, talks, origins, shares, errors_along, at_most_one, AreGiven, AreOf, EachHistory}
 use Rattle.my_session.specs.Machine.{is_greeting}
 use Rattle.my_session.specs.Stands.{TieIs, begun_of, call_with, owes}
 use Rattle.my_session.proofs.Prefixes.{given_fronts}
+use Rattle.my_session.proofs.Stopping.{talks_found, last_talk}
+use Rattle.my_session.proofs.Unheard.{unheard}
 use Rattle.my_session.proofs.Views.{given_on}
-
-abbrev talks : List Entry → List Talk
-talks [] = []
-talks (e ∷ es) = e.talk ∷ talks es
 
 -- what is read on stands later
 later_kind : (g : Option (List Group)) (t : Talk) (bytes p rest : List ℕ) (k : Kind) (go : Talk → List ℕ → Read) → ((u : Talk) (bs : List ℕ) → IsGiven g u → IsGiven g (go u bs).talk) → IsGiven g t → (b : Bool) → IsGiven g (cond {A = Read} b (record { talk = t; rest = bytes }) (go (grow k t p) rest)).talk
@@ -42,48 +38,26 @@ unfolding read_within
 later_within g zero t bytes i = i
 later_within g (suc most) t bytes i = later_front g t bytes (front_of t bytes) (read_within most) (λ u bs j. later_within g most u bs j) i
 
-later : (g : Option (List Group)) (t : Talk) (bytes : List ℕ) → IsGiven g t → IsGiven g (read_from t bytes).talk
+pub later : (g : Option (List Group)) (t : Talk) (bytes : List ℕ) → IsGiven g t → IsGiven g (read_from t bytes).talk
 unfolding read_from
 later g t bytes i = later_within g (length bytes) t bytes i
 
--- the whole exchanges are found again
-all_done : (es : List Entry) → AllDone es → (ts : List Talk) (rest : List ℕ) → (cut (in_order (origins es) ++ ts) (taken_by es ++ rest)).talks ≡ in_order (talks es) ++ (cut ts rest).talks
-all_done [] d ts rest = refl
-all_done (e ∷ es) d ts rest =
-    let o = origin e.talk in
-    let over : is_over e.talk ≡ true = ap is_idle d.0 in
-    let bytes = server_bytes (turns e.talk) ++ rest in
-    let one : (cut (o ∷ ts) bytes).talks ≡ e.talk ∷ (cut ts rest).talks = ap (λ (c : Cut). c.talks) (over_is_cut e.talk ts rest d.1 over) in
-    ap (λ (os : List Talk). (cut os (taken_by (e ∷ es) ++ rest)).talks) (append_assoc (in_order (origins es)) (o ∷ []) ts)
-    ∙ ap (λ (bs : List ℕ). (cut (in_order (origins es) ++ o ∷ ts) bs).talks) (append_assoc (taken_by es) (server_bytes (turns e.talk)) rest)
-    ∙ all_done es d.2 (o ∷ ts) bytes
-    ∙ ap (λ (us : List Talk). in_order (talks es) ++ us) one
-    ∙ sym (append_assoc (in_order (talks es)) (e.talk ∷ []) (cut ts rest).talks)
-
-push : (gs : List (Option (List Group))) (ts : List Talk) (g : Option (List Group)) (t : Talk) → AreGiven gs ts → IsGiven g t → AreGiven (gs ++ g ∷ []) (ts ++ t ∷ [])
+pub push : (gs : List (Option (List Group))) (ts : List Talk) (g : Option (List Group)) (t : Talk) → AreGiven gs ts → IsGiven g t → AreGiven (gs ++ g ∷ []) (ts ++ t ∷ [])
 push [] [] g t a i = (i, tt)
 push [] (u ∷ ts) g t a i = absurd a
 push (k ∷ gs) [] g t a i = absurd a
 push (k ∷ gs) (u ∷ ts) g t a i = (a.0, push gs ts g t a.1 i)
 
-given_in_order : (es : List Entry) → AllGiven es → AreGiven (in_order (shares es)) (in_order (talks es))
+pub given_in_order : (es : List Entry) → AllGiven es → AreGiven (in_order (shares es)) (in_order (talks es))
 given_in_order [] a = tt
 given_in_order (e ∷ es) a = push (in_order (shares es)) (in_order (talks es)) e.given e.talk (given_in_order es a.1) a.0
-
--- nothing stands behind the newest
-nothing_behind : (r : Read) (b : Bool) → (cond {A = Cut} b (onto r.talk (cut [] r.rest)) (record { talks = r.talk ∷ []; rest = rest_of r })).talks ≡ r.talk ∷ []
-nothing_behind r true = refl
-nothing_behind r false = refl
-
-last_one : (r : Read) → (cut_behind r (cut [])).talks ≡ r.talk ∷ []
-last_one r = nothing_behind r (is_over r.talk)
 
 -- whose the exchanges are
 own_open : (b : Bool) (call : Call) (made : List Made) (older : List Call) → IsTied made older → AreOf (Some call) made (cond b older (call ∷ older))
 own_open true call made older t = inr t
 own_open false call made older t = inl (refl, t)
 
-calls_are : (t : Task) (text : List ℕ) (spot : Spot) (made : List Made) (call : Call) (older : List Entry) → TieIs t text spot made call older → AreOf (call_with (kind_in t) text) made (begun_of spot call older)
+pub calls_are : (t : Task) (text : List ℕ) (spot : Spot) (made : List Made) (call : Call) (older : List Entry) → TieIs t text spot made call older → AreOf (call_with (kind_in t) text) made (begun_of spot call older)
 calls_are Nothing text spot made call older w = inr w
 calls_are (Begun c) text spot made call older w = inr w
 calls_are (Cleaning c) text spot made call older w = inr w
@@ -98,7 +72,7 @@ calls_are (Failing c fault) text spot made call older w =
     ]
 
 -- at rest nothing is owed
-rests_owe : (t : Task) (text : List ℕ) → call_with (kind_in t) text ≡ None → owes t ≡ false
+pub rests_owe : (t : Task) (text : List ℕ) → call_with (kind_in t) text ≡ None → owes t ≡ false
 rests_owe Nothing text e = refl
 rests_owe (Begun c) text e = cc
 rests_owe (Cleaning c) text e = cc
@@ -108,24 +82,23 @@ rests_owe Dropping text e = cc
 rests_owe Leaving text e = cc
 rests_owe (Failing c fault) text e = cc
 
-pub each_history : EachHistory
+unfoldable pub each_history : EachHistory
 each_history s h st =
     let e = st.newest in
     let es = st.older in
-    let o = origin e.talk in
-    let bytes = server_bytes (turns e.talk) ++ s.unread in
     let now = (read_from e.talk s.unread).talk in
-    let found : (cut (o ∷ []) bytes).talks ≡ now ∷ [] = ap (λ (c : Cut). c.talks) (exchange_is_cut e.talk [] s.unread st.wire.fits) ∙ last_one (read_from e.talk s.unread) in
     let all : (cut (in_order (origins (e ∷ es))) h.taken).talks ≡ in_order (talks es) ++ now ∷ [] =
-    ap (λ (bs : List ℕ). (cut (in_order (origins (e ∷ es))) bs).talks) (st.wire.taken_is ∙ append_assoc (taken_by es) (server_bytes (turns e.talk)) s.unread)
-    ∙ all_done es st.wire.done (o ∷ []) bytes
-    ∙ ap (λ (us : List Talk). in_order (talks es) ++ us) found in
+    talks_found e es h.taken s.unread st.wire.taken_is st.wire.done st.wire.fits ∙ ap (λ (us : List Talk). in_order (talks es) ++ us) (last_talk (read_from e.talk s.unread)) in
+    let left = unheard e es s.unread in
     let read : AreGiven (in_order (shares (e ∷ es))) (cut (in_order (origins (e ∷ es))) h.taken).talks = subst (AreGiven (in_order (shares (e ∷ es)))) (sym all) (push (in_order (shares es)) (in_order (talks es)) e.given now (given_in_order es st.heard.each.1) (later e.given e.talk s.unread st.heard.each.0)) in
     record {
       newest = e;
       older = es;
       table = st.wire.table;
       calls = subst (λ (c : Option Call). AreOf c h.calls (begun_of s.context.spot e.call es)) (sym st.heard.pending_is) (calls_are s.task s.text s.context.spot h.calls e.call es st.heard.tie);
+      taken = st.wire.taken_is;
+      done = st.wire.done;
+      fits = st.wire.fits;
       gone = st.wire.gone;
       rest = st.wire.cut;
       sent = st.wire.sent_is;
@@ -134,6 +107,8 @@ each_history s h st =
       given_is = st.heard.given_is;
       read = read;
       fronts = given_fronts _ _ read;
+      unheard = left.new;
+      errors = ap (λ (ts : List Talk). errors_along ts) all ∙ left.errors ∙ ap (λ (xs : List ServerError). in_order xs ++ at_most_one left.new) (sym st.heard.errors);
       facts = st.wire.facts_are;
       closed_is = st.heard.closed_is;
     }

@@ -1,5 +1,5 @@
 -- What the calls that move nothing do to what a session stands for.
-use Rattle.std.proofs.Common.{◌≡◌, ℕ, List, [], ◌∷◌, ◌++◌, ◌||◌, ◌&&◌, not, Bool, true, false, cond, Option, Some, None, inl, inr, refl, sym, ap, ◌∙◌, subst, take, drop}
+use Rattle.std.proofs.Common.{◌≡◌, ℕ, List, [], ◌∷◌, ◌++◌, ◌||◌, not, Bool, true, false, cond, Option, Some, None, inl, inr, refl, sym, ap, ◌∙◌, subst, take, drop}
 use Rattle.std.proofs.Math.Seq.{drop-nil}
 use Rattle.my_grammar.specs.declared.login.Login.{Login}
 use Rattle.my_grammar.specs.declared.spot.Spot.{Spot}
@@ -19,7 +19,7 @@ use Rattle.my_session.specs.Errors.{connection_closed}
 use Rattle.my_session.specs.History.{History, Made, ToldError, Dropped, beginning, began, answered, took, gone, ending, losing, is_idle, has_closed}
 use Rattle.my_session.specs.Machine.{fell, with_task, dropped, is_greeting}
 use Rattle.my_session.specs.Seen.{Seen}
-use Rattle.my_session.specs.Stands.{Stands, Heard, TaskIs, TieIs, BegunAt, call_with, begun_of, is_left, is_reading, keeps, owes}
+use Rattle.my_session.specs.Stands.{Stands, TaskIs, TieIs, BegunAt, call_with, begun_of, is_reading, keeps, owes}
 use Rattle.my_session.specs.Steps.{is_settled, AtBegun, is_refused, fresh, begun, with_owed, with_unread, with_end, failing, with_failing, with_loss}
 use Rattle.my_session.specs.Tables.{closes_when_cancelled, awaits_head}
 use Rattle.my_session.proofs.Reacts.{falls}
@@ -32,7 +32,7 @@ fresh_stands login = record {
   newest = record { call = calls.Connect; talk = Start login; given = None };
   older = [];
   wire = record { taken_is = refl; gone = []; cut = []; sent_is = refl; all_is = refl; owed_is = λ _. refl; dropped = λ no. cc; number_is = refl; context_is = refl; login_is = refl; fits = record { kinds = tt; within = tt }; done = tt; facts_are = refl; table = (refl, tt) };
-  heard = record { pending_is = refl; closed_is = refl; alive = λ no. cc; given_is = refl; each = (tt, tt); lone = λ no. cc; fresh = λ _ _ no. cc; at = λ _. refl; first = λ _. refl; tie = tt };
+  heard = record { pending_is = refl; closed_is = refl; alive = λ no. cc; given_is = refl; errors = refl; each = (tt, tt); lone = λ no. cc; fresh = λ _ _ no. cc; at = λ _. refl; first = λ _. refl; tie = tt };
   ended_is = refl;
   settled = λ _. refl;
 }
@@ -117,6 +117,7 @@ module _ (s : Seen) (h : History) (st : Stands s h) (task : s.task ≡ Nothing) 
       closed_is = st.heard.closed_is;
       alive = λ no. cc;
       given_is = st.heard.given_is;
+      errors = st.heard.errors;
       each = st.heard.each;
       lone = st.heard.lone;
       fresh = λ _ no _. cc;
@@ -136,6 +137,7 @@ module _ (s : Seen) (h : History) (st : Stands s h) (task : s.task ≡ Nothing) 
       closed_is = st.heard.closed_is;
       alive = λ _. e;
       given_is = st.heard.given_is;
+      errors = st.heard.errors;
       each = st.heard.each;
       lone = st.heard.lone;
       fresh = λ x _ left. st.heard.fresh x (ap keeps task) left;
@@ -161,6 +163,7 @@ module _ (s : Seen) (h : History) (st : Stands s h) (task : s.task ≡ Nothing) 
       closed_is = st.heard.closed_is;
       alive = st.heard.alive;
       given_is = st.heard.given_is;
+      errors = st.heard.errors;
       each = st.heard.each;
       lone = st.heard.lone;
       fresh = st.heard.fresh;
@@ -210,6 +213,7 @@ failing_stands s h fault op st =
         closed_is = st.heard.closed_is;
         alive = λ no. cc;
         given_is = st.heard.given_is;
+        errors = st.heard.errors;
         each = st.heard.each;
         lone = st.heard.lone;
         fresh = λ _ no _. cc;
@@ -238,6 +242,7 @@ lost_idle s h task st =
         closed_is = or_true (has_closed h.calls);
         alive = λ no. cc;
         given_is = st.heard.given_is;
+        errors = st.heard.errors;
         each = st.heard.each;
         lone = st.heard.lone;
         fresh = λ no _ _. cc;
@@ -320,7 +325,7 @@ task_owes Leaving spot off = refl
 task_owes (Failing c fault) spot off = cc
 
 cancel_by : (s : Seen) (h : History) (closing : Bool) → closes_when_cancelled s.task s.context.spot ≡ closing → is_open s.task ≡ true → Stands s h → Stands (cond closing (fell s) (with_task s Nothing s.untold)) (answered h (Dropped closing))
-cancel_by s h true e op st = let c = kind_there_is s.task op in falls s h (Dropped true) c.0 c.1 refl refl refl st
+cancel_by s h true e op st = let c = kind_there_is s.task op in falls s h (Dropped true) c.0 c.1 refl refl refl refl st
 cancel_by s h false e op st =
     let c = kind_there_is s.task op in
     let hd = st.heard in
@@ -333,6 +338,7 @@ cancel_by s h false e op st =
         closed_is = hd.closed_is;
         alive = λ no. cc;
         given_is = hd.given_is;
+        errors = hd.errors;
         each = hd.each;
         lone = hd.lone;
         fresh = λ x _ left. hd.fresh x (task_keeps s.task s.context.spot s.closed (has_connected h.calls) st.newest e hd.at x op) left;

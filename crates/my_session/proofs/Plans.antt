@@ -1,5 +1,5 @@
 -- What is done where no payload is read keeps what a session stands for, and so does each move.
-use Rattle.std.proofs.Common.{◌≡◌, ℕ, List, [], ◌∷◌, ◌++◌, length, nat_lt, ◌||◌, Bool, true, false, cond, Option, Some, None, ◌⊎◌, inl, inr, refl, sym, ap, ◌∙◌, subst}
+use Rattle.std.proofs.Common.{◌≡◌, ℕ, List, [], ◌∷◌, ◌++◌, length, ◌||◌, Bool, true, false, cond, Option, Some, None, ◌⊎◌, inl, inr, refl, sym, ap, ◌∙◌, subst}
 use Rattle.my_wire.specs.Front.{Front, Waiting, Broken, Whole, front_at}
 use Rattle.my_wire.specs.FrontLaws.{AreBytes, IsWhole}
 use Rattle.my_wire.proofs.Meanings.{whole_stands}
@@ -12,7 +12,6 @@ use Rattle.my_grammar.specs.declared.spot.Context.{Context}
 use Rattle.my_grammar.specs.declared.spot.Terms.{Terms}
 use Rattle.my_grammar.specs.Contexts.{has_more}
 use Rattle.my_grammar.specs.Talk.{Talk, Start, Unwelcome, Greeted, Settled, Asked, Replied, Queried, Silent, turns, context_of, packets_of, server_bytes, Fits, origin, login_in}
-use Rattle.my_session.specs.declared.call.Call.{Call}
 use Rattle.my_session.specs.declared.call.Call.TheVariants as calls
 use Rattle.my_session.specs.declared.call.CallKind.{CallKind}
 use Rattle.my_session.specs.declared.call.CallKind.TheVariants.{Connect, Query, NextRow, DropResult, Ping, Quit}
@@ -21,24 +20,25 @@ use Rattle.my_session.specs.declared.call.LinkFault.TheVariants as faults
 use Rattle.my_session.specs.declared.call.Task.{Task}
 use Rattle.my_session.specs.declared.call.Task.TheVariants.{Nothing, Begun, Cleaning, Own, Reading, Dropping, Leaving, Failing}
 use Rattle.my_session.specs.declared.error.Error.{Error}
-use Rattle.my_session.specs.declared.tables.Plan.{Plan}
 use Rattle.my_session.specs.declared.tables.Plan.TheVariants as plans
 use Rattle.my_session.specs.Calls.{kind_of, call_of, kind_in, fault_in, is_open, asks}
 use Rattle.my_session.specs.Commands.{opening, command_in, command_terms, query_command, ping_command, quit_command}
-use Rattle.my_session.specs.Entries.{Entry, calls_in, givens, onto, sets_of, may_lack, connects, has_connected, IsTied}
+use Rattle.my_session.specs.Entries.{givens, onto, sets_of, may_lack, connects, has_connected, IsTied}
 use Rattle.my_session.specs.Errors.{invalid_data, unexpected_eof, codec_error, link_error}
-use Rattle.my_session.specs.Groups.{Group, groups, with_stop, stop_given, given, given_after}
-use Rattle.my_session.specs.History.{History, Made, Told, ToldReady, ToldEnd, ToldNone, ToldError, answered, noted, closes, closes_by, has_closed}
-use Rattle.my_session.specs.Machine.{Move, Doing, Needs, Goes, Tells, fell, advanced, with_task, failed_by, reply_to, above, unless_above, reacted, read_by, read_kind, reading, asked, queued, too_large, planned, when_owed, next_by, next, after_doing, is_greeting}
+use Rattle.my_session.specs.Groups.{groups, with_stop, stop_given, given, given_after}
+use Rattle.my_session.specs.History.{History, Made, Told, ToldReady, ToldEnd, ToldNone, answered, noted, closes, closes_by, has_closed}
+use Rattle.my_session.specs.Machine.{Move, Needs, Goes, advanced, with_task, failed_by, reply_to, above, unless_above, reacted, read_by, reading, queued, too_large, planned, when_owed, next_by, next, is_greeting}
 use Rattle.my_session.specs.Seen.{Seen}
-use Rattle.my_session.specs.Stands.{Stands, Heard, TaskIs, TieIs, call_with, begun_of, is_left, is_reading, is_shaking, is_lone, keeps, known_part, is_alive, owes}
+use Rattle.my_session.specs.ServerErrors.{errors_in, errors_of, errors_told, with_told}
+use Rattle.my_session.specs.Stands.{Stands, Heard, TaskIs, TieIs, call_with, begun_of, is_left, is_shaking, is_lone, keeps, known_part, is_alive, owes}
 use Rattle.my_session.specs.Steps.{is_settled}
 use Rattle.my_session.specs.Tables.{react, is_breaking, plan_of, clean_plan, own_plan, query_plan, read_plan, drop_plan, first_task}
 use Rattle.my_session.proofs.Keeps.{Keeps, is_reader, react_keeps}
 use Rattle.my_session.proofs.Reacts.{falls, fell_stands}
 use Rattle.my_session.proofs.Spots.{settled_reads, settled_not_greeting}
 use Rattle.my_session.proofs.Ties.{answered_stands, noted_stands, own_behind, all_begun, at_greeting, quiet_more}
-use Rattle.my_session.proofs.Views.{given_all, given_first, first_groups}
+use Rattle.my_session.proofs.Firsts.{given_first, first_groups}
+use Rattle.my_session.proofs.Views.{given_all}
 use Rattle.my_session.proofs.Wired.{wire_queued}
 
 -- the end of a lone OK is all that wasn't given
@@ -123,6 +123,7 @@ module _ (s : Seen) (h : History) (st : Stands s h) (open_still : s.closed ≡ f
       closed_is = hd.closed_is;
       alive = λ _. open_still;
       given_is = hd.given_is;
+      errors = hd.errors;
       each = hd.each;
       lone = hd.lone;
       fresh = λ e _ left. hd.fresh e refl left;
@@ -153,6 +154,7 @@ module _ (s : Seen) (h : History) (st : Stands s h) (open_still : s.closed ≡ f
       closed_is = st.heard.closed_is;
       alive = λ _. open_still;
       given_is = st.heard.given_is;
+      errors = st.heard.errors;
       each = st.heard.each;
       lone = λ no. cc;
       fresh = λ _ kept _. let stop : true ≡ false = sym kept ∙ ap keeps task in cc;
@@ -165,8 +167,8 @@ module _ (s : Seen) (h : History) (st : Stands s h) (open_still : s.closed ≡ f
   }
 
   -- a command's exchange begins
-  commands : (c : CallKind) (talk : Talk) → HeardAs (Cleaning c) → s.untold ≡ false → s.context.spot ≡ spots.Idle → opening s.login s.context.terms.kept (call_of c s.text) ≡ Some talk → origin talk ≡ talk → Fits talk → server_bytes (turns talk) ≡ [] → packets_of talk ≡ [] → login_in s.login talk ≡ s.login → is_greeting (context_of talk).spot ≡ false → TaskIs (Own c) (context_of talk).spot s.closed (has_connected h.calls) (record { call = call_of c s.text; talk = talk; given = None }) → Stands (queued s (Own c) talk) h
-  commands c talk hd told idle opens orig fits none packets log past at = record {
+  commands : (c : CallKind) (talk : Talk) → HeardAs (Cleaning c) → s.untold ≡ false → s.context.spot ≡ spots.Idle → opening s.login s.context.terms.kept (call_of c s.text) ≡ Some talk → origin talk ≡ talk → Fits talk → server_bytes (turns talk) ≡ [] → packets_of talk ≡ [] → errors_in talk ≡ [] → login_in s.login talk ≡ s.login → is_greeting (context_of talk).spot ≡ false → TaskIs (Own c) (context_of talk).spot s.closed (has_connected h.calls) (record { call = call_of c s.text; talk = talk; given = None }) → Stands (queued s (Own c) talk) h
+  commands c talk hd told idle opens orig fits none packets calm log past at = record {
     newest = record { call = call_of c s.text; talk = talk; given = None };
     older = st.newest ∷ st.older;
     wire = wire_queued s.context s.number s.unread s.owed s.closed s.facts s.login h.taken h.sent st.newest st.older (call_of c s.text) talk open_still idle nothing opens orig fits none packets log st.wire;
@@ -175,6 +177,7 @@ module _ (s : Seen) (h : History) (st : Stands s h) (open_still : s.closed ≡ f
       closed_is = hd.closed_is;
       alive = λ _. open_still;
       given_is = hd.given_is;
+      errors = hd.errors ∙ ap (λ es. es ++ errors_of (st.newest ∷ st.older)) (sym calm);
       each = (tt, hd.each);
       lone = λ yes. let stop : true ≡ false = sym yes ∙ told in cc;
       fresh = λ _ no _. cc;
@@ -192,11 +195,11 @@ module _ (s : Seen) (h : History) (st : Stands s h) (open_still : s.closed ≡ f
 
   asks_keep : (c : CallKind) → HeardAs (Cleaning c) → s.untold ≡ false → s.context.spot ≡ spots.Idle → Keeps (planned s (plans.Asks c)) h
   asks_keep Connect hd told idle = let no : asks Connect ≡ true = hd.at.0 in cc
-  asks_keep Query hd told idle = unless_long Query (Queried (command_terms s.login s.context.terms.kept) (query_command s.text) NoSets) _ (commands Query (Queried (command_terms s.login s.context.terms.kept) (query_command s.text) NoSets) hd told idle refl refl (record { kinds = tt; within = tt }) refl refl refl refl (hd.at.1, refl, refl))
+  asks_keep Query hd told idle = unless_long Query (Queried (command_terms s.login s.context.terms.kept) (query_command s.text) NoSets) _ (commands Query (Queried (command_terms s.login s.context.terms.kept) (query_command s.text) NoSets) hd told idle refl refl (record { kinds = tt; within = tt }) refl refl refl refl refl (hd.at.1, refl, refl))
   asks_keep NextRow hd told idle = let no : asks NextRow ≡ true = hd.at.0 in cc
   asks_keep DropResult hd told idle = let no : asks DropResult ≡ true = hd.at.0 in cc
-  asks_keep Ping hd told idle = unless_long Ping (Asked (command_terms s.login s.context.terms.kept) ping_command) _ (commands Ping (Asked (command_terms s.login s.context.terms.kept) ping_command) hd told idle refl refl (record { kinds = tt; within = tt }) refl refl refl refl (hd.at.1, refl))
-  asks_keep Quit hd told idle = unless_long Quit (Silent (command_terms s.login s.context.terms.kept) quit_command) _ (commands Quit (Silent (command_terms s.login s.context.terms.kept) quit_command) hd told idle refl refl (record { kinds = tt; within = tt }) refl refl refl refl hd.at.1)
+  asks_keep Ping hd told idle = unless_long Ping (Asked (command_terms s.login s.context.terms.kept) ping_command) _ (commands Ping (Asked (command_terms s.login s.context.terms.kept) ping_command) hd told idle refl refl (record { kinds = tt; within = tt }) refl refl refl refl refl (hd.at.1, refl))
+  asks_keep Quit hd told idle = unless_long Quit (Silent (command_terms s.login s.context.terms.kept) quit_command) _ (commands Quit (Silent (command_terms s.login s.context.terms.kept) quit_command) hd told idle refl refl (record { kinds = tt; within = tt }) refl refl refl refl refl hd.at.1)
 
   cleans : AreBytes s.unread → (c : CallKind) → s.task ≡ Cleaning c → HeardAs (Cleaning c) → (spot : Spot) → s.context.spot ≡ spot → (untold : Bool) → s.untold ≡ untold → Keeps (planned s (clean_plan c spot untold)) h
   cleans bytes c task hd spots.Idle idle true e = hears c task
@@ -224,6 +227,7 @@ module _ (s : Seen) (h : History) (st : Stands s h) (open_still : s.closed ≡ f
       closed_is = hd.closed_is;
       alive = λ no. cc;
       given_is = ap (λ gs. [] ∷ gs) (hd.given_is ∙ ap (λ o. onto o (givens st.older)) hd.at.1);
+      errors = hd.errors;
       each = (given_first st.newest.talk st.wire.fits hd.at.2, hd.each.1);
       lone = hd.lone;
       fresh = λ _ _ _. ap Some (sym (first_groups s.untold (sets_of st.newest.talk) hd.at.2));
@@ -252,11 +256,11 @@ module _ (s : Seen) (h : History) (st : Stands s h) (open_still : s.closed ≡ f
   owns bytes NextRow task hd = absurd hd.at
   owns bytes DropResult task hd = absurd hd.at
   owns bytes Ping task hd = reads bytes (not_reader (Own Ping) task refl)
-  owns bytes Quit task hd = falls s h ToldReady Quit (ap kind_in task) refl refl refl st
+  owns bytes Quit task hd = falls s h ToldReady Quit (ap kind_in task) refl refl refl refl st
 
   -- a call ends that gives nothing
-  quiet : (t : Task) (c : CallKind) (w : Told) → HeardAs t → kind_in t ≡ Some c → keeps t ≡ true → closes w (kind_of (call_of c s.text)) ≡ false → may_lack w (kind_of (call_of c s.text)) ≡ true → connects w (kind_of (call_of c s.text)) ≡ false → given_after w (kind_of (call_of c s.text)) (given h.calls) ≡ given h.calls → has_connected h.calls ≡ true → is_settled s.context.spot ≡ true → IsTied h.calls (begun_of s.context.spot st.newest.call st.older) → Stands (with_task s Nothing s.untold) (answered h w)
-  quiet t c w hd call kept still lack quiet_one none made settled tie = answered_stands (with_task s Nothing s.untold) h (call_of c s.text) w (hd.pending_is ∙ ap (λ k. call_with k s.text) call) (record {
+  quiet : (t : Task) (c : CallKind) (w : Told) → HeardAs t → kind_in t ≡ Some c → keeps t ≡ true → closes w (kind_of (call_of c s.text)) ≡ false → may_lack w (kind_of (call_of c s.text)) ≡ true → connects w (kind_of (call_of c s.text)) ≡ false → given_after w (kind_of (call_of c s.text)) (given h.calls) ≡ given h.calls → with_told w (errors_told h.calls) ≡ errors_told h.calls → has_connected h.calls ≡ true → is_settled s.context.spot ≡ true → IsTied h.calls (begun_of s.context.spot st.newest.call st.older) → Stands (with_task s Nothing s.untold) (answered h w)
+  quiet t c w hd call kept still lack quiet_one none silent made settled tie = answered_stands (with_task s Nothing s.untold) h (call_of c s.text) w (hd.pending_is ∙ ap (λ k. call_with k s.text) call) (record {
     newest = st.newest;
     older = st.older;
     wire = st.wire;
@@ -265,6 +269,7 @@ module _ (s : Seen) (h : History) (st : Stands s h) (open_still : s.closed ≡ f
       closed_is = hd.closed_is ∙ ap (λ b. (b || has_closed h.calls) || h.lost) (sym still);
       alive = λ no. cc;
       given_is = none ∙ hd.given_is;
+      errors = silent ∙ hd.errors;
       each = hd.each;
       lone = hd.lone;
       fresh = λ e _ left. hd.fresh e kept left;
@@ -290,6 +295,7 @@ module _ (s : Seen) (h : History) (st : Stands s h) (open_still : s.closed ≡ f
           closed_is = hd.closed_is ∙ ap (λ b. (b || has_closed h.calls) || h.lost) (sym still);
           alive = λ _. open_still;
           given_is = ap stop_given (hd.given_is ∙ ap (λ o. onto o (givens st.older)) now) ∙ ap (λ gs. gs ∷ givens st.older) (lone_groups x (hd.lone untold));
+          errors = hd.errors;
           each = (given_all st.newest.talk st.wire.fits, hd.each.1);
           lone = λ no. cc;
           fresh = λ _ _ _. refl;
@@ -306,7 +312,7 @@ module _ (s : Seen) (h : History) (st : Stands s h) (open_still : s.closed ≡ f
   lone_rests untold hd = subst (λ (c : Context). is_settled c.spot ≡ true) (sym st.wire.context_is) (lone_settled st.newest.talk (hd.lone untold))
 
   reads_rest : AreBytes s.unread → s.task ≡ Reading → HeardAs Reading → s.untold ≡ false → (spot : Spot) → s.context.spot ≡ spot → Keeps (planned s (read_plan spot)) h
-  reads_rest bytes task hd told spots.Idle at = quiet Reading NextRow ToldNone hd refl refl refl refl refl refl hd.at.0 (ap is_settled at) hd.tie
+  reads_rest bytes task hd told spots.Idle at = quiet Reading NextRow ToldNone hd refl refl refl refl refl refl refl hd.at.0 (ap is_settled at) hd.tie
   reads_rest bytes task hd told spots.Greeting at = reads bytes (λ _. told)
   reads_rest bytes task hd told spots.Authentication at = reads bytes (λ _. told)
   reads_rest bytes task hd told spots.Single at = reads bytes (λ _. told)
@@ -317,7 +323,7 @@ module _ (s : Seen) (h : History) (st : Stands s h) (open_still : s.closed ≡ f
   reads_rest bytes task hd told spots.Rows at = reads bytes (λ _. told)
 
   drops_rest : AreBytes s.unread → s.task ≡ Dropping → HeardAs Dropping → s.untold ≡ false → (spot : Spot) → s.context.spot ≡ spot → Keeps (planned s (drop_plan spot)) h
-  drops_rest bytes task hd told spots.Idle at = quiet Dropping DropResult ToldReady hd refl refl refl refl refl refl hd.at.0 (ap is_settled at) hd.tie
+  drops_rest bytes task hd told spots.Idle at = quiet Dropping DropResult ToldReady hd refl refl refl refl refl refl refl hd.at.0 (ap is_settled at) hd.tie
   drops_rest bytes task hd told spots.Greeting at = reads bytes (λ _. told)
   drops_rest bytes task hd told spots.Authentication at = reads bytes (λ _. told)
   drops_rest bytes task hd told spots.Single at = reads bytes (λ _. told)
@@ -344,7 +350,7 @@ module _ (s : Seen) (h : History) (st : Stands s h) (open_still : s.closed ≡ f
   plan_keeps bytes sound (Own c) task hd = owns bytes c task hd
   plan_keeps bytes sound Reading task hd = reading_plan bytes task hd s.untold refl
   plan_keeps bytes sound Dropping task hd = dropping_plan bytes task hd s.untold refl
-  plan_keeps bytes sound Leaving task hd = falls s h ToldReady Quit (ap kind_in task) refl refl refl st
+  plan_keeps bytes sound Leaving task hd = falls s h ToldReady Quit (ap kind_in task) refl refl refl refl st
   plan_keeps bytes sound (Failing c fault) task hd = let no : Some fault ≡ None = sym (ap fault_in task) ∙ sound in cc
 
 module _ (s : Seen) (h : History) (st : Stands s h) (bytes : AreBytes s.unread) (op : is_open s.task ≡ true) where
@@ -355,7 +361,7 @@ module _ (s : Seen) (h : History) (st : Stands s h) (bytes : AreBytes s.unread) 
 
   -- a quit on a closed session, which owes nothing
   leaving_keeps : s.task ≡ Leaving → (owed : List ℕ) → s.owed ≡ owed → Keeps (when_owed owed s) h
-  leaving_keeps task [] e = subst (λ (t : Task). Keeps (planned s (plan_of t s.context.spot s.untold)) h) (sym task) (falls s h ToldReady Quit (ap kind_in task) refl refl refl st)
+  leaving_keeps task [] e = subst (λ (t : Task). Keeps (planned s (plan_of t s.context.spot s.untold)) h) (sym task) (falls s h ToldReady Quit (ap kind_in task) refl refl refl refl st)
   leaving_keeps task (b ∷ more) e = st
 
   alive_or : (t : Task) → s.task ≡ t → fault_in t ≡ None → (s.closed ≡ false) ⊎ (s.task ≡ Leaving)

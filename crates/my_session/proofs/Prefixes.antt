@@ -7,7 +7,7 @@ use Rattle.my_grammar.specs.declared.spot.Kind.{Kind}
 use Rattle.my_grammar.specs.declared.spot.Kind.TheVariants as kinds
 use Rattle.my_grammar.specs.FitSets.{FitSets, is_head}
 use Rattle.my_grammar.specs.declared.packet.Packet.{Packet}
-use Rattle.my_grammar.specs.Sets.{SetHead, Sets, NoSets, Lone, Failed, Heading, Headed, Begun, Ended, Broken, spot_in, grow_sets, with_column, with_column_of, with_close, with_close_of, with_row, with_end, with_error}
+use Rattle.my_grammar.specs.Sets.{SetHead, Sets, NoSets, Lone, Failed, Heading, Headed, Begun, Ended, Broken, spot_in, grow_sets, with_column, with_column_of, with_close, with_row, with_end, with_error}
 use Rattle.my_grammar.specs.Talk.{Talk}
 use Rattle.my_session.specs.Entries.{IsGiven}
 use Rattle.my_session.specs.Groups.{Group, groups, with_item, with_items, with_stop, head_columns, grown}

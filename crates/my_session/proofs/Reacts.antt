@@ -1,22 +1,20 @@
 -- Each payload keeps what a session stands for.
-use Rattle.std.proofs.Common.{◌≡◌, ℕ, List, [], ◌∷◌, ◌++◌, ◌||◌, Bool, true, false, cond, Option, Some, None, inl, inr, refl, sym, ap, ◌∙◌, subst}
-use Rattle.my_wire.specs.declared.err.ErrPacket.{ErrPacket}
+use Rattle.std.proofs.Common.{◌≡◌, ℕ, List, [], ◌∷◌, ◌++◌, ◌||◌, Bool, true, false, cond, Option, Some, None, refl, sym, ap, ◌∙◌, subst}
 use Rattle.my_wire.specs.FrontLaws.{IsWhole}
 use Rattle.my_value.specs.RowParts.{RowParts}
-use Rattle.my_grammar.specs.declared.login.Login.{Login}
 use Rattle.my_grammar.specs.declared.spot.Context.{Context}
 use Rattle.my_grammar.specs.declared.spot.Kind.{Kind}
 use Rattle.my_grammar.specs.declared.spot.Kind.TheVariants.{Greets, Good, Failed, Count, Column, ColumnsDone, Row, End, Bad}
 use Rattle.my_grammar.specs.declared.spot.Spot.{Spot}
 use Rattle.my_grammar.specs.declared.spot.Spot.TheVariants as spots
-use Rattle.my_grammar.specs.Contexts.{deprecates_eof, is_bad, more, spot_after}
+use Rattle.my_grammar.specs.Contexts.{deprecates_eof, is_bad, spot_after}
 use Rattle.my_grammar.specs.Growth.{grow}
 use Rattle.my_grammar.specs.Kinds.{kind_there}
-use Rattle.my_grammar.specs.Talk.{context_of, packets_of, origin}
+use Rattle.my_grammar.specs.Talk.{context_of, origin}
 use Rattle.my_grammar.proofs.SetGrowth.{not_greets}
 use Rattle.my_session.specs.declared.call.Call.{Call}
 use Rattle.my_session.specs.declared.call.CallKind.{CallKind}
-use Rattle.my_session.specs.declared.call.CallKind.TheVariants.{Connect, Query, NextRow, DropResult, Ping, Quit}
+use Rattle.my_session.specs.declared.call.CallKind.TheVariants.{Connect, Query, Ping}
 use Rattle.my_session.specs.declared.call.Task.{Task}
 use Rattle.my_session.specs.declared.call.Task.TheVariants as tasks
 use Rattle.my_session.specs.declared.error.Error.{Error}
@@ -24,23 +22,26 @@ use Rattle.my_session.specs.declared.error.Error.TheVariants as errors
 use Rattle.my_session.specs.declared.error.ServerError.{ServerError}
 use Rattle.my_session.specs.Calls.{kind_of, call_of, kind_in, is_open, is_connect}
 use Rattle.my_session.specs.Commands.{opening}
-use Rattle.my_session.specs.Entries.{Entry, kept_by, facts_of, givens, onto, sets_of, calls_in, may_lack, connects, has_connected, IsGiven, IsTied}
+use Rattle.my_session.specs.Entries.{Entry, kept_by, facts_of, givens, onto, sets_of, calls_in, may_lack, connects, has_connected, IsTied}
 use Rattle.my_session.specs.declared.facts.Facts.{Facts}
 use Rattle.my_session.specs.Groups.{Group, groups, given, given_after, with_item, with_stop}
-use Rattle.my_session.specs.History.{History, Made, Told, ToldReady, ToldRow, ToldEnd, ToldError, answered, noted, closes, closes_by, has_closed}
+use Rattle.my_session.specs.History.{History, Made, Told, ToldReady, ToldError, answered, closes, closes_by, has_closed}
 use Rattle.my_session.specs.Machine.{fell, with_task, advanced, reply_to, reply_bytes, is_greeting}
 use Rattle.my_session.specs.Rows.{row_at}
 use Rattle.my_session.specs.Seen.{Seen}
-use Rattle.my_session.specs.Stands.{Stands, Wire, Heard, TaskIs, TieIs, call_with, is_left, is_reading, is_shaking, is_first, is_lone, keeps, known_part, is_alive, owes, begun_of}
+use Rattle.my_session.specs.ServerErrors.{errors_in, errors_of, errors_told, with_error, with_told}
+use Rattle.my_session.specs.Stands.{Stands, Heard, TaskIs, TieIs, call_with, is_left, is_reading, keeps, known_part, owes, begun_of}
 use Rattle.my_session.specs.Steps.{is_settled}
+use Rattle.my_session.proofs.Blames.{is_failed, calm_blames}
 use Rattle.my_session.proofs.Spots.{is_known, known, row_spot, end_spot, good_spot, failed_idle, shaken, settled_more, reading_after, left_here, not_greeting, settled_not_greeting}
-use Rattle.my_session.proofs.Ties.{answered_stands, noted_stands, kind_there_is, closed_tie, own_behind, quiet_more, all_begun, none_waits}
-use Rattle.my_session.proofs.Views.{given_on, given_all, given_first, is_part, part_groups, end_groups, good_groups, row_groups, first_on, is_queried, IsReady, ready_on, query_talk}
+use Rattle.my_session.proofs.Ties.{answered_stands, kind_there_is, closed_tie, own_behind, quiet_more, all_begun, none_waits}
+use Rattle.my_session.proofs.Firsts.{given_first, first_on, is_queried, IsReady, ready_on, query_talk}
+use Rattle.my_session.proofs.Views.{given_on, given_all, is_part, part_groups, end_groups, good_groups, row_groups}
 use Rattle.my_session.proofs.Wired.{wire_read, wire_fell}
 
 -- a call ends and closes the session
-pub falls : (s : Seen) (h : History) (t : Told) (c : CallKind) → kind_in s.task ≡ Some c → closes t (kind_of (call_of c s.text)) ≡ true → may_lack t (kind_of (call_of c s.text)) ≡ true → given_after t (kind_of (call_of c s.text)) (given h.calls) ≡ given h.calls → Stands s h → Stands (fell s) (answered h t)
-falls s h t c call fatal lack none st =
+pub falls : (s : Seen) (h : History) (t : Told) (c : CallKind) → kind_in s.task ≡ Some c → closes t (kind_of (call_of c s.text)) ≡ true → may_lack t (kind_of (call_of c s.text)) ≡ true → given_after t (kind_of (call_of c s.text)) (given h.calls) ≡ given h.calls → with_told t (errors_told h.calls) ≡ errors_told h.calls → Stands s h → Stands (fell s) (answered h t)
+falls s h t c call fatal lack none silent st =
     let hd = st.heard in
     answered_stands (fell s) h (call_of c s.text) t (hd.pending_is ∙ ap (λ k. call_with k s.text) call) (record {
       newest = st.newest;
@@ -51,6 +52,7 @@ falls s h t c call fatal lack none st =
         closed_is = ap (λ b. (b || has_closed h.calls) || h.lost) (sym fatal);
         alive = λ no. cc;
         given_is = none ∙ hd.given_is;
+        errors = silent ∙ hd.errors;
         each = hd.each;
         lone = hd.lone;
         fresh = λ no _ _. cc;
@@ -62,13 +64,32 @@ falls s h t c call fatal lack none st =
       settled = λ _. refl;
     })
 
+-- what closes a session whatever the call is no server's error
+fatal_silent : (e : Error) (es : List ServerError) → ((c : CallKind) → closes_by e c ≡ true) → with_error e es ≡ es
+fatal_silent (errors.Driver e) es fatal = refl
+fatal_silent (errors.Io e) es fatal = refl
+fatal_silent (errors.Server e) es fatal = let no : is_connect Ping ≡ true = fatal Ping in cc
+fatal_silent errors.NoMemory es fatal = refl
+
 -- a fatal error
 pub fell_stands : (s : Seen) (h : History) (e : Error) → ((c : CallKind) → closes_by e c ≡ true) → is_open s.task ≡ true → Stands s h → Stands (fell s) (answered h (ToldError e))
-fell_stands s h e fatal op st = let c = kind_there_is s.task op in falls s h (ToldError e) c.0 c.1 (fatal _) refl refl st
+fell_stands s h e fatal op st = let c = kind_there_is s.task op in falls s h (ToldError e) c.0 c.1 (fatal _) refl refl (fatal_silent e (errors_told h.calls) fatal) st
 
 or_false : (b : Bool) → b || false ≡ b
 or_false true = refl
 or_false false = refl
+
+-- a part of a head is no ERR
+part_calm : (k : Kind) → is_part k ≡ true → is_failed k ≡ false
+part_calm (Greets c) e = refl
+part_calm (Good status) e = refl
+part_calm Failed e = cc
+part_calm (Count n) e = refl
+part_calm Column e = refl
+part_calm ColumnsDone e = refl
+part_calm Row e = refl
+part_calm (End status) e = refl
+part_calm Bad e = refl
 
 -- behind a payload
 module _ (s : Seen) (h : History) (st : Stands s h) (open_still : s.closed ≡ false) (nothing : s.owed ≡ []) (p rest : List ℕ) (next : ℕ) (whole : IsWhole s.number s.context.terms.limit s.unread p rest next) where
@@ -114,12 +135,13 @@ module _ (s : Seen) (h : History) (st : Stands s h) (open_still : s.closed ≡ f
   no_greeting k waits = let stop : true ≡ false = sym waits ∙ not_greeting s.context.spot (deprecates_eof s.context.terms.kept) k in cc
 
   -- the call goes on with its task, and callers are given nothing
-  pub goes : (t : Task) (k : Kind) → kind_there s.context p ≡ k → is_bad k ≡ false → keeps t ≡ false → Heard t s.text s.context.spot s.untold s.closed h.lost h.calls h.pending st.newest st.older → TaskIs t (spot_by k) s.closed (has_connected h.calls) (newest_by k st.newest.given) → TieIs t s.text (spot_by k) h.calls st.newest.call st.older → (owes t ≡ false → not_greets k ≡ true) → Stands (with_task (advanced s k p rest next) t false) h
-  goes t k e good lost hd at tie quiet = lands k t false st.newest.given h.calls h.pending e good (record {
+  pub goes : (t : Task) (k : Kind) → kind_there s.context p ≡ k → is_bad k ≡ false → is_failed k ≡ false → keeps t ≡ false → Heard t s.text s.context.spot s.untold s.closed h.lost h.calls h.pending st.newest st.older → TaskIs t (spot_by k) s.closed (has_connected h.calls) (newest_by k st.newest.given) → TieIs t s.text (spot_by k) h.calls st.newest.call st.older → (owes t ≡ false → not_greets k ≡ true) → Stands (with_task (advanced s k p rest next) t false) h
+  goes t k e good calm lost hd at tie quiet = lands k t false st.newest.given h.calls h.pending e good (record {
     pending_is = hd.pending_is;
     closed_is = hd.closed_is;
     alive = hd.alive;
     given_is = hd.given_is;
+    errors = hd.errors ∙ ap (λ es. es ++ errors_of st.older) (sym (calm_blames k st.newest.talk p calm));
     each = (given_on st.newest.given k st.newest.talk p hd.each.0, hd.each.1);
     lone = λ no. cc;
     fresh = λ _ no _. let stop : true ≡ false = sym no ∙ lost in cc;
@@ -129,14 +151,15 @@ module _ (s : Seen) (h : History) (st : Stands s h) (open_still : s.closed ≡ f
   }) quiet
 
   -- a server's error ends the call
-  pub refuses : (t : Task) (c : CallKind) (x : ServerError) → kind_there s.context p ≡ Failed → kind_in t ≡ Some c → is_connect (kind_of (call_of c s.text)) ≡ false → has_connected h.calls ≡ true → Heard t s.text s.context.spot s.untold s.closed h.lost h.calls h.pending st.newest st.older → IsTied (record { call = call_of c s.text; what = ToldError (errors.Server x) } ∷ h.calls) (begun_of (spot_by Failed) st.newest.call st.older) → Stands (with_task (advanced s Failed p rest next) tasks.Nothing false) (answered h (ToldError (errors.Server x)))
-  refuses t c x e call not made hd tie =
+  pub refuses : (t : Task) (c : CallKind) (x : ServerError) → kind_there s.context p ≡ Failed → x ∷ errors_in st.newest.talk ≡ errors_in (grow Failed st.newest.talk p) → kind_in t ≡ Some c → is_connect (kind_of (call_of c s.text)) ≡ false → has_connected h.calls ≡ true → Heard t s.text s.context.spot s.untold s.closed h.lost h.calls h.pending st.newest st.older → IsTied (record { call = call_of c s.text; what = ToldError (errors.Server x) } ∷ h.calls) (begun_of (spot_by Failed) st.newest.call st.older) → Stands (with_task (advanced s Failed p rest next) tasks.Nothing false) (answered h (ToldError (errors.Server x)))
+  refuses t c x e blame call not made hd tie =
       let idle : spot_by Failed ≡ spots.Idle = failed_idle s.context.spot (deprecates_eof s.context.terms.kept) (knows Failed e) in
       answered_stands _ h (call_of c s.text) (ToldError (errors.Server x)) (hd.pending_is ∙ ap (λ k. call_with k s.text) call) (lands Failed tasks.Nothing false st.newest.given _ None e refl (record {
         pending_is = refl;
         closed_is = hd.closed_is ∙ ap (λ b. (b || has_closed h.calls) || h.lost) (sym not);
         alive = λ no. cc;
         given_is = hd.given_is;
+        errors = ap (λ es. x ∷ es) hd.errors ∙ ap (λ es. es ++ errors_of st.older) blame;
         each = (given_on st.newest.given Failed st.newest.talk p hd.each.0, hd.each.1);
         lone = λ no. cc;
         fresh = λ _ _ left. let no : is_left spots.Idle ≡ true = subst (λ (x : Spot). is_left x ≡ true) idle left in cc;
@@ -146,8 +169,8 @@ module _ (s : Seen) (h : History) (st : Stands s h) (open_still : s.closed ≡ f
       }) (λ _. refl))
 
   -- while it isn't connected, it closes the session
-  pub refuses_connect : (x : ServerError) → kind_there s.context p ≡ Failed → Heard (tasks.Own Connect) s.text s.context.spot s.untold s.closed h.lost h.calls h.pending st.newest st.older → Stands (fell (advanced s Failed p rest next)) (answered h (ToldError (errors.Server x)))
-  refuses_connect x e hd = answered_stands (fell (advanced s Failed p rest next)) h (call_of Connect s.text) (ToldError (errors.Server x)) hd.pending_is (record {
+  pub refuses_connect : (x : ServerError) → kind_there s.context p ≡ Failed → x ∷ errors_in st.newest.talk ≡ errors_in (grow Failed st.newest.talk p) → Heard (tasks.Own Connect) s.text s.context.spot s.untold s.closed h.lost h.calls h.pending st.newest st.older → Stands (fell (advanced s Failed p rest next)) (answered h (ToldError (errors.Server x)))
+  refuses_connect x e blame hd = answered_stands (fell (advanced s Failed p rest next)) h (call_of Connect s.text) (ToldError (errors.Server x)) hd.pending_is (record {
     newest = newest_by Failed st.newest.given;
     older = st.older;
     wire = wire_fell s.login h.taken h.sent st.newest.call (grow Failed st.newest.talk p) st.older _ _ rest _ s.closed _ (wire_read s.login h.taken h.sent st.newest.call st.newest.talk st.older s.context s.number s.unread s.owed s.closed s.facts Failed p rest next open_still e refl whole st.wire);
@@ -156,6 +179,7 @@ module _ (s : Seen) (h : History) (st : Stands s h) (open_still : s.closed ≡ f
       closed_is = refl;
       alive = λ no. cc;
       given_is = hd.given_is;
+      errors = ap (λ es. x ∷ es) hd.errors ∙ ap (λ es. es ++ errors_of st.older) blame;
       each = (given_on st.newest.given Failed st.newest.talk p hd.each.0, hd.each.1);
       lone = λ no. cc;
       fresh = λ no _ _. cc;
@@ -175,6 +199,7 @@ module _ (s : Seen) (h : History) (st : Stands s h) (open_still : s.closed ≡ f
         closed_is = hd.closed_is ∙ ap (λ b. (b || has_closed h.calls) || h.lost) (sym still);
         alive = λ no. cc;
         given_is = none ∙ hd.given_is;
+        errors = hd.errors ∙ ap (λ es. es ++ errors_of st.older) (sym (calm_blames (Good status) st.newest.talk p refl));
         each = (given_on st.newest.given (Good status) st.newest.talk p hd.each.0, hd.each.1);
         lone = λ no. cc;
         fresh = λ _ _ left. let no : is_left spots.Idle ≡ true = subst (λ (x : Spot). is_left x ≡ true) idle left in cc;
@@ -204,6 +229,7 @@ module _ (s : Seen) (h : History) (st : Stands s h) (open_still : s.closed ≡ f
         closed_is = hd.closed_is;
         alive = λ no. cc;
         given_is = ap (λ gs. [] ∷ gs) (hd.given_is ∙ ap (λ o. onto o (givens st.older)) hd.at.1);
+        errors = hd.errors ∙ ap (λ es. es ++ errors_of st.older) (sym (calm_blames (Good status) st.newest.talk p refl));
         each = (given_on (Some []) (Good status) st.newest.talk p (given_first st.newest.talk st.wire.fits hd.at.2), hd.each.1);
         lone = λ _. ready.lone;
         fresh = λ _ _ _. ap Some (sym ready.none);
@@ -216,7 +242,7 @@ module _ (s : Seen) (h : History) (st : Stands s h) (open_still : s.closed ≡ f
   pub first_parts : (k : Kind) → kind_there s.context p ≡ k → is_part k ≡ true → is_bad k ≡ false → not_greets k ≡ true → Heard (tasks.Own Query) s.text s.context.spot s.untold s.closed h.lost h.calls h.pending st.newest st.older → Stands (with_task (advanced s k p rest next) (tasks.Own Query) false) h
   first_parts k e part good quiet hd =
       let queried = is_query hd in
-      goes (tasks.Own Query) k e good refl hd (hd.at.0, hd.at.1, first_on k st.newest.talk p queried hd.at.2 (talk_knows k e) part) hd.tie (λ _. quiet)
+      goes (tasks.Own Query) k e good (part_calm k part) refl hd (hd.at.0, hd.at.1, first_on k st.newest.talk p queried hd.at.2 (talk_knows k e) part) hd.tie (λ _. quiet)
 
 -- a task that reads what is left: it reads, or passes over
 module _ (s : Seen) (h : History) (st : Stands s h) (open_still : s.closed ≡ false) (nothing : s.owed ≡ []) (told : s.untold ≡ false) (p rest : List ℕ) (next : ℕ) (whole : IsWhole s.number s.context.terms.limit s.unread p rest next) (t : Task) (c : CallKind) (call : kind_in t ≡ Some c) (kept : keeps t ≡ true) (reads : is_reading s.context.spot ≡ true) (made : has_connected h.calls ≡ true) (hd : Heard t s.text s.context.spot s.untold s.closed h.lost h.calls h.pending st.newest st.older) (tied : IsTied h.calls (begun_of s.context.spot st.newest.call st.older)) where
@@ -241,12 +267,13 @@ module _ (s : Seen) (h : History) (st : Stands s h) (open_still : s.closed ≡ f
   tied_now = all_begun s.context.spot h.calls st.newest.call st.older (settled_not_greeting s.context.spot reads) tied
 
   -- an item or an end is told, or passed over
-  pub shows : (u : Task) (k : Kind) (w : Told) → kind_there s.context p ≡ k → is_bad k ≡ false → owes u ≡ false → not_greets k ≡ true → closes w (kind_of (call_of c s.text)) ≡ false → may_lack w (kind_of (call_of c s.text)) ≡ true → connects w (kind_of (call_of c s.text)) || has_connected h.calls ≡ true → given_after w (kind_of (call_of c s.text)) (groups (sets_of st.newest.talk) ∷ givens st.older) ≡ groups (sets_of (grow k st.newest.talk p)) ∷ givens st.older → ((m : List Made) → has_connected m ≡ true → TaskIs u (spot_by s h st open_still nothing p rest next whole k) s.closed (has_connected m) (newest_by s h st open_still nothing p rest next whole k (Some (groups (sets_of (grow k st.newest.talk p)))))) → ((m : List Made) → IsTied m (begun_of (spot_by s h st open_still nothing p rest next whole k) st.newest.call st.older) → TieIs u s.text (spot_by s h st open_still nothing p rest next whole k) m st.newest.call st.older) → Stands (with_task (advanced s k p rest next) u false) (record { sent = h.sent; taken = h.taken; calls = record { call = call_of c s.text; what = w } ∷ h.calls; pending = call_with (kind_in u) s.text; ended = h.ended; lost = h.lost })
-  shows u k w e good owe quiet still lack con gave at tie = lands s h st open_still nothing p rest next whole k u false (Some (groups (sets_of (grow k st.newest.talk p)))) _ (call_with (kind_in u) s.text) e good (record {
+  pub shows : (u : Task) (k : Kind) (w : Told) → kind_there s.context p ≡ k → is_bad k ≡ false → owes u ≡ false → not_greets k ≡ true → closes w (kind_of (call_of c s.text)) ≡ false → may_lack w (kind_of (call_of c s.text)) ≡ true → is_failed k ≡ false → with_told w (errors_told h.calls) ≡ errors_told h.calls → connects w (kind_of (call_of c s.text)) || has_connected h.calls ≡ true → given_after w (kind_of (call_of c s.text)) (groups (sets_of st.newest.talk) ∷ givens st.older) ≡ groups (sets_of (grow k st.newest.talk p)) ∷ givens st.older → ((m : List Made) → has_connected m ≡ true → TaskIs u (spot_by s h st open_still nothing p rest next whole k) s.closed (has_connected m) (newest_by s h st open_still nothing p rest next whole k (Some (groups (sets_of (grow k st.newest.talk p)))))) → ((m : List Made) → IsTied m (begun_of (spot_by s h st open_still nothing p rest next whole k) st.newest.call st.older) → TieIs u s.text (spot_by s h st open_still nothing p rest next whole k) m st.newest.call st.older) → Stands (with_task (advanced s k p rest next) u false) (record { sent = h.sent; taken = h.taken; calls = record { call = call_of c s.text; what = w } ∷ h.calls; pending = call_with (kind_in u) s.text; ended = h.ended; lost = h.lost })
+  shows u k w e good owe quiet still lack calm silent con gave at tie = lands s h st open_still nothing p rest next whole k u false (Some (groups (sets_of (grow k st.newest.talk p)))) _ (call_with (kind_in u) s.text) e good (record {
     pending_is = refl;
     closed_is = hd.closed_is ∙ ap (λ b. (b || has_closed h.calls) || h.lost) (sym still);
     alive = λ _. open_still;
     given_is = ap (given_after w (kind_of (call_of c s.text))) (given_now (is_left_now k e good)) ∙ gave;
+    errors = silent ∙ hd.errors ∙ ap (λ es. es ++ errors_of st.older) (sym (calm_blames k st.newest.talk p calm));
     each = (given_all (grow k st.newest.talk p) (wire_read s.login h.taken h.sent st.newest.call st.newest.talk st.older s.context s.number s.unread s.owed s.closed s.facts k p rest next open_still e good whole st.wire).fits, hd.each.1);
     lone = λ no. cc;
     fresh = λ _ _ _. refl;
@@ -262,6 +289,7 @@ module _ (s : Seen) (h : History) (st : Stands s h) (open_still : s.closed ≡ f
     closed_is = hd.closed_is;
     alive = hd.alive;
     given_is = hd.given_is;
+    errors = hd.errors ∙ ap (λ es. es ++ errors_of st.older) (sym (calm_blames k st.newest.talk p (part_calm k part)));
     each = (given_on st.newest.given k st.newest.talk p hd.each.0, hd.each.1);
     lone = λ no. cc;
     fresh = λ _ _ _. fresh_now (is_left_now k e good) ∙ ap Some (sym (part_groups k st.newest.talk p part));

@@ -1,10 +1,10 @@
 -- Where the reading stands, by the kind that came.
-use Rattle.std.proofs.Common.{◌≡◌, ℕ, List, Bool, true, false, cond, leb, refl, sym, ap, ◌∙◌, subst}
+use Rattle.std.proofs.Common.{◌≡◌, ℕ, List, Bool, true, false, cond, leb, refl, sym, ap, ◌∙◌}
 use Rattle.my_grammar.specs.declared.spot.Kind.{Kind}
 use Rattle.my_grammar.specs.declared.spot.Kind.TheVariants.{Greets, Good, Failed, Count, Column, ColumnsDone, Row, End, Bad}
 use Rattle.my_grammar.specs.declared.spot.Spot.{Spot}
 use Rattle.my_grammar.specs.declared.spot.Spot.TheVariants as spots
-use Rattle.my_grammar.specs.Contexts.{is_bad, more, has_more, spot_after, behind_column, behind_columns}
+use Rattle.my_grammar.specs.Contexts.{is_bad, more, has_more, spot_after, behind_columns}
 use Rattle.my_grammar.specs.Kinds.{kind_by, greeting_kind, single_kind, head_kind, column_kind, columns_end_kind, row_kind}
 use Rattle.my_grammar.proofs.Known.{is_greeting_kind, is_single_kind, is_head_kind, is_column_kind, is_close_kind, is_row_kind, known_greeting, known_single, known_head, known_column, known_close, known_row, is_then}
 use Rattle.my_session.specs.Machine.{is_greeting}

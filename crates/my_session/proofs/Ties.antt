@@ -1,5 +1,5 @@
 -- A call's answer beside the exchanges that belong to calls.
-use Rattle.std.proofs.Common.{◌≡◌, ℕ, List, [], ◌∷◌, Bool, true, false, cond, Option, Some, None, ◌⊎◌, inl, inr, refl, sym, ap, ◌∙◌, subst}
+use Rattle.std.proofs.Common.{◌≡◌, ℕ, List, ◌∷◌, Bool, true, false, cond, Option, Some, None, inl, inr, refl, sym, ap, ◌∙◌, subst}
 use Rattle.my_grammar.specs.declared.spot.Spot.{Spot}
 use Rattle.my_session.specs.declared.call.Call.{Call}
 use Rattle.my_session.specs.declared.call.CallKind.{CallKind}

@@ -1,5 +1,5 @@
 -- What moves do to the wire.
-use Rattle.std.proofs.Common.{◌≡◌, ℕ, suc, zero, ◌≤◌, List, [], ◌∷◌, ◌++◌, length, take, drop, Bool, true, false, Option, Some, None, refl, sym, ap, ◌∙◌, subst}
+use Rattle.std.proofs.Common.{◌≡◌, ℕ, ◌≤◌, List, [], ◌∷◌, ◌++◌, length, take, drop, Bool, true, false, Some, refl, sym, ap, ◌∙◌, subst}
 use Rattle.std.proofs.lemmas.List.{append_assoc, append-nil, take-append-drop}
 use Rattle.std.proofs.Math.Seq.{drop-nil, take-nil}
 use Rattle.my_wire.specs.Chunks.{chunks, number_behind}
@@ -12,13 +12,12 @@ use Rattle.my_grammar.specs.declared.spot.Spot.TheVariants as spots
 use Rattle.my_grammar.specs.Contexts.{context_after, is_bad}
 use Rattle.my_grammar.specs.Growth.{grow, replies, Grows, Reads, number_next, said}
 use Rattle.my_grammar.specs.Kinds.{kind_there}
-use Rattle.my_grammar.specs.declared.packet.Packet.{Packet}
 use Rattle.my_grammar.specs.Talk.{Talk, Start, Unwelcome, Greeted, Settled, Asked, Replied, Queried, Silent, Server, turns, number_of, server_bytes, client_bytes, context_of, packets_of, Fits, origin, login_in, limit_of}
 use Rattle.my_grammar.proofs.Growth.{grows, reads}
 use Rattle.my_session.specs.declared.call.Call.{Call}
 use Rattle.my_session.specs.declared.facts.Facts.{Facts}
 use Rattle.my_session.specs.Commands.{opening}
-use Rattle.my_session.specs.Entries.{Entry, taken_by, sent_by, facts_of, kept_by}
+use Rattle.my_session.specs.Entries.{Entry, taken_by, sent_by, facts_of}
 use Rattle.my_session.specs.Facts.{facts_after, facts_by}
 use Rattle.my_session.specs.Machine.{reply_to, reply_bytes, reply_number}
 use Rattle.my_session.specs.Stands.{Wire}
@@ -46,7 +45,7 @@ number_is login Row p n = refl
 number_is login (End status) p n = refl
 number_is login Bad p n = refl
 
-limit_is : (t : Talk) → (context_of t).terms.limit ≡ limit_of t
+pub limit_is : (t : Talk) → (context_of t).terms.limit ≡ limit_of t
 limit_is (Start login) = refl
 limit_is (Unwelcome login p) = refl
 limit_is (Greeted login p c) = refl

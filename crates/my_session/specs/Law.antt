@@ -1,19 +1,26 @@
 -- What holds of each history that a session stands for.
-use Rattle.std.specs.Prelude.{◌≡◌, ℕ, List, [], ◌∷◌, ◌++◌, ◌⊎◌, Option, Some, None, Bool, true, false}
-use Rattle.my_grammar.specs.Talk.{Talk, turns, client_bytes, packets_of, origin}
+use Rattle.std.specs.Prelude.{◌≡◌, ℕ, List, [], ◌∷◌, ◌++◌, ◌⊎◌, Option, Some, None, false}
+use Rattle.my_grammar.specs.Talk.{Talk, Fits, turns, client_bytes, origin}
 use Rattle.my_grammar.specs.Cut.{cut}
 use Rattle.my_session.specs.declared.call.Call.{Call}
-use Rattle.my_session.specs.Entries.{Entry, Follow, sent_by, facts_of, givens, IsGiven, IsTied}
+use Rattle.my_session.specs.declared.error.ServerError.{ServerError}
+use Rattle.my_session.specs.Entries.{Entry, Follow, AllDone, taken_by, sent_by, facts_of, givens, IsGiven, IsTied}
 use Rattle.my_session.specs.Groups.{Group, given}
 use Rattle.my_session.specs.History.{History, Made, is_closed}
 use Rattle.my_session.specs.Prefix.{AreFronts}
 use Rattle.my_session.specs.Seen.{Seen}
+use Rattle.my_session.specs.ServerErrors.{errors_in, errors_told}
 use Rattle.my_session.specs.Stands.{Stands, begun_of}
 
 -- what stands newest first, oldest first
 abbrev pub in_order : {A : Type 0} → List A → List A
 in_order [] = []
 in_order (x ∷ xs) = in_order xs ++ x ∷ []
+
+-- the exchanges as far as they were read
+abbrev pub talks : List Entry → List Talk
+talks [] = []
+talks (e ∷ es) = e.talk ∷ talks es
 
 -- how the exchanges began, and what was given of each
 abbrev pub origins : List Entry → List Talk
@@ -29,6 +36,15 @@ AreGiven [] [] = Unit {0}
 AreGiven (g ∷ gs) (t ∷ ts) = IsGiven g t × AreGiven gs ts
 AreGiven [] (t ∷ ts) = ⊥
 AreGiven (g ∷ gs) [] = ⊥
+
+-- the errors that the server told in exchanges, in order
+abbrev pub errors_along : List Talk → List ServerError
+errors_along [] = []
+errors_along (t ∷ ts) = in_order (errors_in t) ++ errors_along ts
+
+abbrev pub at_most_one : Option ServerError → List ServerError
+at_most_one None = []
+at_most_one (Some e) = e ∷ []
 
 -- the newest exchange is the open call's
 abbrev pub OwnsOpen : Option Call → List Made → List Call → Type 0
@@ -46,6 +62,10 @@ pub record Says (s : Seen) (h : History) : Type 0 where
   pub older : List Entry
   pub table : Follow s.login (newest ∷ older)
   pub calls : AreOf h.pending h.calls (begun_of s.context.spot newest.call older)
+  -- what was taken is the server's part of them, each as the protocol has it and all but the newest over, and bytes that weren't read
+  pub taken : h.taken ≡ taken_by (newest ∷ older) ++ s.unread
+  pub done : AllDone older
+  pub fits : Fits newest.talk
   -- what was sent is what the client says in them, the newest perhaps cut; at rest it is whole
   pub gone : List ℕ
   pub rest : List ℕ
@@ -57,6 +77,9 @@ pub record Says (s : Seen) (h : History) : Type 0 where
   pub read : AreGiven (in_order (shares (newest ∷ older))) (cut (in_order (origins (newest ∷ older))) h.taken).talks
   -- so of each set, callers were given a beginning, in order, and an end only behind the whole
   pub fronts : AreFronts (in_order (shares (newest ∷ older))) (cut (in_order (origins (newest ∷ older))) h.taken).talks
+  -- callers were told each ERR that the grammar finds there, once and in order, but perhaps the last
+  pub unheard : Option ServerError
+  pub errors : errors_along (cut (in_order (origins (newest ∷ older))) h.taken).talks ≡ in_order (errors_told h.calls) ++ at_most_one unheard
   -- what is known of the server is what it told in them
   pub facts : s.facts ≡ facts_of (newest ∷ older)
   -- closed exactly by a fatal error, a call that was cancelled while its answer was awaited, a quit, or bytes that were lost

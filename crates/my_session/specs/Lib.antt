@@ -1,4 +1,5 @@
 pub mod Calls
+pub mod Causes
 pub mod Commands
 pub mod Ends
 pub mod Entries

@@ -16,10 +16,11 @@ use Rattle.my_session.specs.declared.facts.Facts.{Facts}
 use Rattle.my_session.specs.Calls.{call_of, kind_in, asks}
 use Rattle.my_session.specs.Entries.{Entry, taken_by, sent_by, facts_of, Follow, AllDone, AllGiven, givens, sets_of, calls_in, IsTied, has_connected}
 use Rattle.my_session.specs.Facts.{facts_by}
-use Rattle.my_session.specs.Groups.{Group, groups, given}
+use Rattle.my_session.specs.Groups.{groups, given}
 use Rattle.my_session.specs.History.{History, Made, has_closed}
 use Rattle.my_session.specs.Machine.{is_greeting}
 use Rattle.my_session.specs.Seen.{Seen}
+use Rattle.my_session.specs.ServerErrors.{errors_of, errors_told}
 use Rattle.my_session.specs.Steps.{is_settled}
 
 -- The wire: the bytes are those of the exchanges, and each field is what the exchanges say. Of the newest exchange's bytes some went
@@ -194,6 +195,7 @@ pub record Heard (task : Task) (text : List ℕ) (spot : Spot) (untold closed lo
   pub closed_is : closed ≡ has_closed made || lost
   pub alive : is_alive task ≡ true → closed ≡ false
   pub given_is : given made ≡ givens (newest ∷ older)
+  pub errors : errors_told made ≡ errors_of (newest ∷ older)
   pub each : AllGiven (newest ∷ older)
   pub lone : untold ≡ true → is_lone (sets_of newest.talk) ≡ true
   pub fresh : closed ≡ false → keeps task ≡ true → untold || is_left spot ≡ true → newest.given ≡ Some (groups (known_part untold (sets_of newest.talk)))

@@ -31,6 +31,7 @@ impl Model for Session {
 
 impl Session {
     ghost use Rattle.my_session.specs.Calls.{is_open, kind_in, kind_of};
+    ghost use Rattle.my_session.specs.Causes.{HasCause};
     ghost use Rattle.my_session.specs.Errors.{connection_closed};
     ghost use Rattle.my_session.specs.Machine.{dropped};
     ghost use Rattle.my_session.specs.Steps.{AtBegun, is_begun_at, is_refused, is_settled, fresh, begun, with_owed, with_unread, with_end, with_failing, with_loss, StepIs, Steps, after_step};
@@ -97,14 +98,15 @@ impl Session {
         }
     }
 
-    /// The next step of the open call. Only `DropResult` passes over rows and ends.
+    /// The next step of the open call. Only `DropResult` passes over rows and ends. Each error, and word that nothing is left, has its
+    /// cause in the history behind what was passed over.
     pub fn step(&mut self, alloc: Global) -> SessionStep
         requires { is_open self.old.seen.task ≡ true }
         ensures steps { Steps self.old.seen self.new.seen result }
         ensures leaves { StepIs self.new.seen result }
         ensures login { self.new.seen.login ≡ self.old.seen.login }
         ensures stands { (h : History) → Stands self.old.seen h
-            → (passed : List Told) × ArePassed (kind_in self.old.seen.task) passed × Stands self.new.seen (after_step (passing h passed) result) }
+            → (passed : List Told) × ArePassed (kind_in self.old.seen.task) passed × Stands self.new.seen (after_step (passing h passed) result) × HasCause self.old.seen (passing h passed) result }
     {
         step_machine(alloc, &mut self.machine)
     }

@@ -3,6 +3,7 @@
 ghost use Rattle.std.specs.Prelude.{◌≡◌, List, true};
 ghost use Rattle.my_session.specs.Session.{seen};
 ghost use Rattle.my_session.specs.Calls.{is_open, kind_in};
+ghost use Rattle.my_session.specs.Causes.{HasCause};
 ghost use Rattle.my_session.specs.Steps.{StepIs, Steps, after_step};
 ghost use Rattle.my_session.specs.History.{History, Told, passing};
 ghost use Rattle.my_session.specs.Passed.{ArePassed};
@@ -19,7 +20,7 @@ pub fn step_machine(alloc: Global, machine: &mut Machine) -> SessionStep
     ensures leaves { StepIs (seen machine.new) result }
     ensures login { (seen machine.new).login ≡ (seen machine.old).login }
     ensures stands { (h : History) → Stands (seen machine.old) h
-        → (passed : List Told) × ArePassed (kind_in (seen machine.old).task) passed × Stands (seen machine.new) (after_step (passing h passed) result) }
+        → (passed : List Told) × ArePassed (kind_in (seen machine.old).task) passed × Stands (seen machine.new) (after_step (passing h passed) result) × HasCause (seen machine.old) (passing h passed) result }
 {
     'moves: loop {
         match machine.tick(alloc) {

@@ -1,7 +1,13 @@
-use Rattle.std.proofs.Common.{◌∷◌, refl, sym, ◌∙◌}
+use Rattle.std.proofs.Common.{◌≡◌, ◌∷◌, refl, sym, ◌∙◌}
 use Rattle.my_session.specs.Session.{seen}
+use Rattle.my_session.specs.declared.answer.SessionStep.{SessionStep}
+use Rattle.my_session.specs.declared.answer.SessionStep.TheVariants as steps
 use Rattle.my_session.specs.declared.answer.Tick.TheVariants as ticks
-use Rattle.my_session.specs.History.{ToldRow, ToldEnd}
+use Rattle.my_session.specs.Calls.{fault_in}
+use Rattle.my_session.specs.Causes.{EndCause, HasCause}
+use Rattle.my_session.specs.History.{History, ToldRow, ToldEnd, passing}
+use Rattle.my_session.specs.Seen.{Seen}
+use Rattle.my_session.proofs.Causing.{answer_cause, fault_because}
 use Rattle.my_session.proofs.Passing.{did_stay, goes_sound, does_login}
 use Rattle.my_session.proofs.Stepping.{one_more}
 use Rattle.my_session.proofs.step.step_machine.Goals as goal
@@ -46,17 +52,45 @@ moves-preserved c =
       task = c.in-PassedRow.ensures.leaves.0;
     }
 
+-- where the session stood when the step ended
+ended : (old here : Seen) (h : History) (step : SessionStep) → here.login ≡ old.login → fault_in here.task ≡ fault_in old.task → EndCause here h step → HasCause old h step
+ended old here h step login fault cause = record { here = here; login = login; fault = fault; cause = cause }
+
 pub returns-in-Sends-clause-stands : goal.returns-in-Sends-clause-stands
-returns-in-Sends-clause-stands c = λ h st. let u = c.moves.invariant.stands h st in (u.0, u.1, c.in-Sends.ensures.stands _ u.2)
+returns-in-Sends-clause-stands c = λ h st.
+    let now = c.moves.invariant in
+    let u = now.stands h st in
+    (u.0, u.1, c.in-Sends.ensures.stands _ u.2, ended (seen c.args.machine.now) (seen c.moves.machine) (passing h u.0) steps.Send now.login now.fault tt)
 
 pub returns-in-Needs-clause-stands : goal.returns-in-Needs-clause-stands
-returns-in-Needs-clause-stands c = λ h st. let u = c.moves.invariant.stands h st in (u.0, u.1, c.in-Needs.ensures.stands _ u.2)
+returns-in-Needs-clause-stands c = λ h st.
+    let now = c.moves.invariant in
+    let u = now.stands h st in
+    (u.0, u.1, c.in-Needs.ensures.stands _ u.2, ended (seen c.args.machine.now) (seen c.moves.machine) (passing h u.0) steps.Need now.login now.fault tt)
 
 pub returns-in-Done-clause-stands : goal.returns-in-Done-clause-stands
-returns-in-Done-clause-stands c = λ h st. let u = c.moves.invariant.stands h st in (u.0, u.1, c.in-Done.ensures.stands _ u.2)
+returns-in-Done-clause-stands c = λ h st.
+    let now = c.moves.invariant in
+    let u = now.stands h st in
+    let here = seen c.moves.machine in (
+      u.0,
+      u.1,
+      c.in-Done.ensures.stands _ u.2,
+      ended (seen c.args.machine.now) here (passing h u.0) (steps.Done c.in-Done.answer) now.login now.fault
+          (answer_cause here (passing h u.0) u.2 now.task c.in-Done.answer (seen c.tick.new.self) c.in-Done.ensures.does),
+    )
 
 pub returns-in-Fault-clause-stands : goal.returns-in-Fault-clause-stands
-returns-in-Fault-clause-stands c = λ h st. let u = c.moves.invariant.stands h st in (u.0, u.1, c.in-Fault.ensures.stands _ u.2)
+returns-in-Fault-clause-stands c = λ h st.
+    let now = c.moves.invariant in
+    let u = now.stands h st in
+    let here = seen c.moves.machine in (
+      u.0,
+      u.1,
+      c.in-Fault.ensures.stands _ u.2,
+      ended (seen c.args.machine.now) here (passing h u.0) (steps.Fault c.in-Fault.error) now.login now.fault
+          (fault_because here (passing h u.0) u.2 now.task c.in-Fault.error (seen c.tick.new.self) c.in-Fault.ensures.does),
+    )
 
 pub returns-in-Sends-clause-login : goal.returns-in-Sends-clause-login
 returns-in-Sends-clause-login c = does_login (seen c.moves.machine) (seen c.tick.new.self) ticks.Sends c.in-Sends.ensures.does ∙ c.moves.invariant.login

@@ -1,0 +1,147 @@
+-- Why a call was told an error, in the words of what the grammar finds in the bytes taken.
+-- MySQL client/server protocol, "MySQL Packets" (numbers and lengths of chunks) and "ERR_Packet".
+use Rattle.std.specs.Prelude.{◌≡◌, ℕ, ◌-◌, ◌^◌, ◌<◌, min, List, [], ◌∷◌, ◌++◌, ◌⊎◌, length, Some, true, false}
+use Rattle.my_wire.specs.declared.fault.CodecFault.{CodecFault}
+use Rattle.my_wire.specs.declared.fault.CodecFault.TheVariants.{TooLarge}
+use Rattle.my_wire.specs.declared.err.ErrPacket.{ErrPacket}
+use Rattle.my_wire.specs.ErrPacket.{err_at}
+use Rattle.my_wire.specs.Front.{Whole}
+use Rattle.my_grammar.specs.declared.spot.Kind.TheVariants.{Greets, Failed}
+use Rattle.my_grammar.specs.Cut.{Cut, Rest, Behind, Unfinished, Unfit, Blamed, cut, place_of, front_of, kind_of}
+use Rattle.my_grammar.specs.Growth.{grow}
+use Rattle.my_grammar.specs.Response.{response}
+use Rattle.my_grammar.specs.Talk.{Talk, context_of, limit_of}
+use Rattle.my_session.specs.declared.call.Call.{Call}
+use Rattle.my_session.specs.declared.call.LinkFault.TheVariants as faults
+use Rattle.my_session.specs.declared.error.Error.{Error}
+use Rattle.my_session.specs.declared.error.Error.TheVariants as errors
+use Rattle.my_session.specs.declared.error.DriverError.{DriverError}
+use Rattle.my_session.specs.declared.error.DriverError.TheVariants as drivers
+use Rattle.my_session.specs.declared.error.IoError.{IoError}
+use Rattle.my_session.specs.declared.error.IoError.TheVariants as ios
+use Rattle.my_session.specs.declared.error.IoKind.{IoKind}
+use Rattle.my_session.specs.declared.error.IoKind.TheVariants.{Link, Dial, UnexpectedEof, InvalidData}
+use Rattle.my_session.specs.declared.error.ServerError.{ServerError}
+use Rattle.my_session.specs.declared.answer.Answer.{Answer}
+use Rattle.my_session.specs.declared.answer.Answer.TheVariants as answers
+use Rattle.my_session.specs.declared.answer.SessionStep.{SessionStep}
+use Rattle.my_session.specs.declared.answer.SessionStep.TheVariants as steps
+use Rattle.my_session.specs.Calls.{fault_in, is_open}
+use Rattle.my_session.specs.Commands.{opening, command_in}
+use Rattle.my_session.specs.Entries.{Entry, kept_by}
+use Rattle.my_session.specs.Errors.{server_error}
+use Rattle.my_session.specs.History.{History, ToldError}
+use Rattle.my_session.specs.Law.{Says, in_order, talks, origins}
+use Rattle.my_session.specs.Machine.{Tells, is_greeting, next}
+use Rattle.my_session.specs.Seen.{Seen}
+use Rattle.my_session.specs.Stands.{Stands}
+
+-- what the grammar finds in the bytes taken
+abbrev pub found : List Entry → List ℕ → Cut
+found es taken = cut (in_order (origins es)) taken
+
+-- how many whole payloads were read, as an error tells it: the count stays at its last value
+abbrev pub place_in : List Entry → ℕ
+place_in es = min (place_of (in_order (talks es))) (2 ^ 64 - 1)
+
+-- All that the grammar finds in the bytes taken was read, and the reading stopped at this.
+pub record Stops (es : List Entry) (taken : List ℕ) (rest : Rest) : Type 0 where
+  pub talks_are : (found es taken).talks ≡ in_order (talks es)
+  pub rest_is : (found es taken).rest ≡ rest
+
+-- behind what was read stands a whole payload that fits no case there
+pub record IsUnfit (es : List Entry) (taken unread : List ℕ) : Type 0 where
+  pub payload : List ℕ
+  pub stops : Stops es taken (Unfit payload unread)
+
+-- The command of the open call is longer than the options allow.
+pub record IsLongCommand (s : Seen) (h : History) (es : List Entry) (fault : CodecFault) : Type 0 where
+  pub call : Call
+  pub pending : h.pending ≡ Some call
+  pub talk : Talk
+  pub opens : opening s.login (kept_by s.login es) call ≡ Some talk
+  pub above : s.login.max_packet < length (command_in talk)
+  pub fault_is : fault ≡ TooLarge (length (command_in talk)) s.login.max_packet
+
+-- The greeting stands in front, and the client's response to it is longer than a payload may be.
+pub record IsLongResponse (s : Seen) (talk : Talk) (fault : CodecFault) : Type 0 where
+  pub payload : List ℕ
+  pub rest : List ℕ
+  pub number : ℕ
+  pub capabilities : ℕ
+  pub front : front_of talk s.unread ≡ Whole payload rest number
+  pub kind : kind_of talk payload ≡ Greets capabilities
+  pub above : limit_of talk < length (response s.login payload)
+  pub fault_is : fault ≡ TooLarge (length (response s.login payload)) (limit_of talk)
+
+-- An ERR that says this stands in front, and the grammar finds it as the end of the newest exchange.
+pub record IsRefused (s : Seen) (h : History) (newest : Entry) (older : List Entry) (error : ServerError) : Type 0 where
+  pub payload : List ℕ
+  pub rest : List ℕ
+  pub number : ℕ
+  pub packet : ErrPacket
+  pub front : front_of newest.talk s.unread ≡ Whole payload rest number
+  pub kind : kind_of newest.talk payload ≡ Failed
+  pub reads : err_at (is_greeting (context_of newest.talk).spot) payload ≡ Some packet
+  pub error_is : error ≡ server_error packet
+  pub talks_are : (found (newest ∷ older) h.taken).talks ≡ in_order (talks older) ++ grow Failed newest.talk payload ∷ []
+
+-- The call was told to fail; the link's end was told, while a payload was awaited that isn't whole; a payload fits no case. No other.
+abbrev pub IoCause : Seen → History → List Entry → IoKind → Type 0
+IoCause s h es Link = fault_in s.task ≡ Some faults.Link
+IoCause s h es Dial = ⊥
+IoCause s h es UnexpectedEof = (h.ended ≡ true) × Stops es h.taken (Unfinished s.unread)
+IoCause s h es InvalidData = IsUnfit es h.taken s.unread
+
+-- The first faulty header has this fault; or what the client was to send is too long.
+abbrev pub CodecCause : Seen → History → Entry → List Entry → CodecFault → Type 0
+CodecCause s h newest older fault = Stops (newest ∷ older) h.taken (Blamed fault s.unread) ⊎ (IsLongCommand s h (newest ∷ older) fault ⊎ IsLongResponse s newest.talk fault)
+
+-- A refusal of a closed session is told as a call begins, and by no step.
+abbrev pub DriverCause : Seen → DriverError → Type 0
+DriverCause s drivers.TooLong = fault_in s.task ≡ Some faults.TooLong
+DriverCause s e = ⊥
+
+abbrev pub IoErrorCause : Seen → History → Entry → List Entry → IoError → Type 0
+IoErrorCause s h newest older (ios.Io fault) = (fault.place ≡ place_in (newest ∷ older)) × IoCause s h (newest ∷ older) fault.kind
+IoErrorCause s h newest older (ios.Codec fault) = CodecCause s h newest older fault
+
+-- why the open call is told this error; want of memory is free
+abbrev pub Cause : Seen → History → Entry → List Entry → Error → Type 0
+Cause s h newest older (errors.Driver e) = DriverCause s e
+Cause s h newest older (errors.Io e) = IoErrorCause s h newest older e
+Cause s h newest older (errors.Server e) = IsRefused s h newest older e
+Cause s h newest older errors.NoMemory = Unit {0}
+
+-- The cause, over the exchanges that the history's law speaks of.
+pub record Because (s : Seen) (h : History) (e : Error) : Type 0 where
+  pub says : Says s h
+  pub cause : Cause s h says.newest says.older e
+
+abbrev pub EachFault : Type 0
+EachFault = (s : Seen) (h : History) → Stands s h → is_open s.task ≡ true → (e : Error) → (next s).does ≡ Tells (ToldError e) → Because s h e
+
+-- Word that nothing is left: all that the grammar finds was read, its newest exchange is over, and no end is left to be told.
+pub record NothingLeft (s : Seen) (h : History) : Type 0 where
+  pub says : Says s h
+  pub stops : Stops (says.newest ∷ says.older) h.taken (Behind s.unread)
+  pub told : s.untold ≡ false
+
+abbrev pub AnswerCause : Seen → History → Answer → Type 0
+AnswerCause s h answers.Ready = Unit {0}
+AnswerCause s h (answers.Row row) = Unit {0}
+AnswerCause s h answers.SetEnd = Unit {0}
+AnswerCause s h answers.NoSet = NothingLeft s h
+
+abbrev pub EndCause : Seen → History → SessionStep → Type 0
+EndCause s h steps.Send = Unit {0}
+EndCause s h steps.Need = Unit {0}
+EndCause s h (steps.Done a) = AnswerCause s h a
+EndCause s h (steps.Fault e) = Because s h e
+
+-- The session as it stood when a step ended: at the same call, with nothing but more read.
+pub record HasCause (old : Seen) (h : History) (step : SessionStep) : Type 0 where
+  pub here : Seen
+  pub login : here.login ≡ old.login
+  pub fault : fault_in here.task ≡ fault_in old.task
+  pub cause : EndCause here h step
