@@ -1,5 +1,5 @@
 -- How long the named transactions are when written.
-use Rattle.std.proofs.Common.{◌≡◌, ℕ, ◌+◌, ◌*◌, ◌<◌, ◌^◌, List, [], ◌∷◌, ◌++◌, length, refl, sym, ap, ◌∙◌, arith, length-append}
+use Rattle.std.proofs.Common.{◌≡◌, ℕ, ◌+◌, ◌*◌, List, [], ◌∷◌, ◌++◌, length, refl, sym, ap, ◌∙◌, arith, length-append}
 use Rattle.std.proofs.lemmas.List.Concat.{flat_map-cons}
 use Rattle.std.proofs.lemmas.List.Sums.{sum_by-cons}
 use Rattle.std.specs.List.{flat_map, sum_by}
@@ -38,9 +38,3 @@ pub block_long : (sids : List Sid) → length (gtid_block sids) ≡ block_length
 unfolding gtid_block
 block_long sids =
     length-append (le_bytes 8 (length sids)) (flat_map sid_bytes sids) ∙ ap (λ n. n + length (flat_map sid_bytes sids)) (length-le_bytes 8 (length sids)) ∙ ap (λ n. 8 + n) (sids_long sids)
-
--- a block of one server with one pair is short
-pub one_sid_short : (sids : List Sid) (s : Sid) → sids ≡ s ∷ [] → length s.uuid ≡ 16 → length s.intervals.items ≡ 1 → length (gtid_block sids) < 2 ^ 32
-one_sid_short sids s e uuid one =
-    let all : length (gtid_block sids) ≡ block_length (s ∷ []) = block_long sids ∙ ap block_length e in
-    omega arith

@@ -13,9 +13,6 @@ use bytes::BytesMut;
 use std::alloc::Global;
 use std::marker::Model;
 
-#[cfg(test)]
-mod tests;
-
 /// Reads and writes payloads as numbered chunks. The number counts over both directions.
 #[derive(Debug, Drop)]
 pub struct PacketCodec {

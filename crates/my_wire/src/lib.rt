@@ -65,6 +65,3 @@ pub use std_edge::{StdSink, StdSource};
 pub use switch::{MoreData, SwitchRequest, read_more_data, read_switch, switch_is_read};
 pub use text::Text;
 pub use version::{ServerVersion, server_version};
-
-#[cfg(test)]
-mod packet_tests;

@@ -6,9 +6,6 @@ use crate::sink::{Sink, SinkStep};
 use crate::source::{Source, SourceStep};
 use std::io::{Read, Write};
 
-#[cfg(test)]
-mod tests;
-
 /// A reader as a source.
 #[derive(Drop)]
 pub struct StdSource<R> {

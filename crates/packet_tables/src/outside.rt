@@ -1,8 +1,6 @@
 ghost use Rattle.std.specs.Prelude.{◌≤◌, IfOk};
 
-use super::{StdSink, StdSource};
-use crate::sink::{MemSink, Sink, SinkStep};
-use crate::source::{MemSource, Source, SourceStep};
+use my_wire::{MemSink, MemSource, Sink, SinkStep, Source, SourceStep, StdSink, StdSource};
 use std::io;
 use std::io::{Read, Write};
 use std::test::Fail;

@@ -1,6 +1,5 @@
-use super::PacketCodec;
-use crate::fault::{CodecError, CodecFault};
 use bytes::BytesMut;
+use my_wire::{CodecError, CodecFault, PacketCodec, append_payload};
 use std::alloc::Global;
 use std::process::Abort;
 use std::test::Fail;
@@ -134,5 +133,14 @@ fn ample_bytes_that_come_one_by_one(rt: HostRuntime) -> Result<(), Fail> {
     assert_eq!(rt; whole, 3);
     assert!(rt; wire.is_empty());
     assert_eq!(rt; codec.max_allowed_packet(), 4_194_304);
+    Ok(())
+}
+
+#[test]
+fn ample_payloads_behind_others(rt: HostRuntime) -> Result<(), Fail> {
+    let mut wire = BytesMut::copy_from_slice(rt.alloc(), b"\x01\0\0\xffa")?;
+    assert_eq!(rt; append_payload(&mut wire, b"bc", 0)?, 1);
+    assert_eq!(rt; append_payload(&mut wire, b"", 255)?, 0);
+    assert!(rt; wire.as_slice() == b"\x01\0\0\xffa\x02\0\0\0bc\0\0\0\xff".as_slice());
     Ok(())
 }

@@ -1,0 +1,48 @@
+use crate::line::{Kind, line_of};
+use crate::told::{ENDS, GREETINGS, OTHERS, SETS, Told};
+use my_wire::ReadError;
+use std::alloc::Global;
+use std::process::Abort;
+use std::test::Fail;
+
+// The line of a record, or `None` where the payload is malformed.
+fn read(alloc: Global, kind: Kind, payload: &[u8]) -> Result<Option<String>, ReadError> {
+    match line_of(alloc, kind, payload) {
+        Ok(line) => Ok(Some(line)),
+        Err(ReadError::Malformed) => Ok(None),
+        Err(ReadError::NoMemory) => Err(ReadError::NoMemory),
+    }
+}
+
+// How many fronts of the payload, itself too, are a record.
+fn fronts_of(alloc: Global, kind: Kind, payload: &[u8]) -> Result<usize, ReadError> {
+    let mut fronts = 0usize;
+    for len in 0..=payload.len() {
+        let is_record = read(alloc, kind, &payload[..len])?.is_some();
+        fronts = fronts.saturating_add(usize::from(is_record));
+    }
+    Ok(fronts)
+}
+
+fn are_read(rt: &impl Abort, alloc: Global, table: &[Told]) -> Result<(), Fail> {
+    for (kind, payload, fronts, line) in table {
+        let told = read(alloc, *kind, payload)?;
+        let text = told.as_ref().map(|t| t.as_str());
+        assert!(rt; text == *line, "{kind:?}: {text:?}, not {line:?}");
+        assert_eq!(rt;
+            fronts_of(alloc, *kind, payload)?,
+            *fronts,
+            "fronts of {kind:?} {line:?}"
+        );
+    }
+    Ok(())
+}
+
+#[test]
+fn ample_payloads_read_as_the_protocol_says(rt: HostRuntime) -> Result<(), Fail> {
+    let alloc = rt.alloc();
+    are_read(&rt, alloc, GREETINGS)?;
+    are_read(&rt, alloc, ENDS)?;
+    are_read(&rt, alloc, SETS)?;
+    are_read(&rt, alloc, OTHERS)
+}
