@@ -35,6 +35,7 @@ use Rattle.my_session.specs.Law.{Says, in_order, talks, origins}
 use Rattle.my_session.specs.Machine.{Tells, is_greeting, next}
 use Rattle.my_session.specs.Seen.{Seen}
 use Rattle.my_session.specs.Stands.{Stands}
+use Rattle.my_session.specs.Steps.{moved}
 
 -- what the grammar finds in the bytes taken
 abbrev pub found : List Entry → List ℕ → Cut
@@ -139,9 +140,11 @@ EndCause s h steps.Need = Unit {0}
 EndCause s h (steps.Done a) = AnswerCause s h a
 EndCause s h (steps.Fault e) = Because s h e
 
--- The session as it stood when a step ended: at the same call, with nothing but more read.
+-- The session as it stood when a step ended, behind so many moves of the same call.
 pub record HasCause (old : Seen) (h : History) (step : SessionStep) : Type 0 where
   pub here : Seen
+  pub count : ℕ
+  pub at : here ≡ moved count old
   pub login : here.login ≡ old.login
   pub fault : fault_in here.task ≡ fault_in old.task
   pub cause : EndCause here h step

@@ -1,6 +1,8 @@
 //! What sessions and their histories say of each other. The function's clause is the law; it does nothing.
 
 ghost use Rattle.my_session.specs.Causes.{EachFault};
+ghost use Rattle.my_session.specs.Ends.{EachEnd};
+ghost use Rattle.my_session.specs.Fits.{EachAnswerFits};
 ghost use Rattle.my_session.specs.Law.{EachHistory};
 
 /// Of each session and each history for which it stands: the exchanges are those that the command table has for the history's calls;
@@ -10,9 +12,6 @@ ghost use Rattle.my_session.specs.Law.{EachHistory};
 pub fn each_history()
     ensures { EachHistory }
 {}
-
-ghost use Rattle.my_session.specs.Ends.{EachEnd};
-ghost use Rattle.my_session.specs.Fits.{EachAnswerFits};
 
 /// A step of a session that stands for some history answers the open call by what its kind may be told, and logs in as before.
 pub fn each_answer_fits()

@@ -35,7 +35,7 @@ impl Session {
     ghost use Rattle.my_session.specs.Errors.{connection_closed};
     ghost use Rattle.my_session.specs.Machine.{dropped};
     ghost use Rattle.my_session.specs.Steps.{AtBegun, is_begun_at, is_refused, is_settled, fresh, begun, with_owed, with_unread, with_end, with_failing, with_loss, StepIs, Steps, after_step};
-    ghost use Rattle.my_session.specs.History.{History, Told, ToldError, Dropped, beginning, began, answered, passing, took, gone, ending, losing};
+    ghost use Rattle.my_session.specs.History.{History, Told, ToldError, Dropped, is_closed, beginning, began, answered, passing, took, gone, ending, losing};
     ghost use Rattle.my_session.specs.Passed.{ArePassed};
     ghost use Rattle.my_session.specs.Stands.{Stands};
     ghost use Rattle.my_session.specs.Tables.{closes_when_cancelled};
@@ -57,6 +57,7 @@ impl Session {
         ensures err { OnErr result (self.new.seen ≡ self.old.seen) }
         ensures why { IfErr result (λ e. e ≡ connection_closed) }
         ensures closed { IsErr result ↔ (is_refused self.old.seen.closed (kind_of call) ≡ true) }
+        ensures known { (h : History) → Stands self.old.seen h → (IsErr result ↔ (is_refused (is_closed h) (kind_of call) ≡ true)) }
         ensures stands { OnOk result ((h : History) → Stands self.old.seen h → Stands self.new.seen (began h call)) }
         ensures refused { OnErr result ((h : History) → Stands self.old.seen h → Stands self.new.seen (answered (began h call) (ToldError connection_closed))) }
     {

@@ -9,7 +9,7 @@ use Rattle.my_session.specs.History.{History, ToldRow, ToldEnd, passing}
 use Rattle.my_session.specs.Seen.{Seen}
 use Rattle.my_session.proofs.Causing.{answer_cause, fault_because}
 use Rattle.my_session.proofs.Passing.{did_stay, goes_sound, does_login}
-use Rattle.my_session.proofs.Stepping.{one_more}
+use Rattle.my_session.proofs.Stepping.{IsAt, one_more}
 use Rattle.my_session.proofs.step.step_machine.Goals as goal
 
 pub moves-preserved-in-Goes : goal.moves-preserved-in-Goes
@@ -53,20 +53,20 @@ moves-preserved c =
     }
 
 -- where the session stood when the step ended
-ended : (old here : Seen) (h : History) (step : SessionStep) → here.login ≡ old.login → fault_in here.task ≡ fault_in old.task → EndCause here h step → HasCause old h step
-ended old here h step login fault cause = record { here = here; login = login; fault = fault; cause = cause }
+ended : (old here : Seen) (h : History) (step : SessionStep) → IsAt old here → here.login ≡ old.login → fault_in here.task ≡ fault_in old.task → EndCause here h step → HasCause old h step
+ended old here h step at login fault cause = record { here = here; count = at.count; at = at.here_is; login = login; fault = fault; cause = cause }
 
 pub returns-in-Sends-clause-stands : goal.returns-in-Sends-clause-stands
 returns-in-Sends-clause-stands c = λ h st.
     let now = c.moves.invariant in
     let u = now.stands h st in
-    (u.0, u.1, c.in-Sends.ensures.stands _ u.2, ended (seen c.args.machine.now) (seen c.moves.machine) (passing h u.0) steps.Send now.login now.fault tt)
+    (u.0, u.1, c.in-Sends.ensures.stands _ u.2, ended (seen c.args.machine.now) (seen c.moves.machine) (passing h u.0) steps.Send now.at now.login now.fault tt)
 
 pub returns-in-Needs-clause-stands : goal.returns-in-Needs-clause-stands
 returns-in-Needs-clause-stands c = λ h st.
     let now = c.moves.invariant in
     let u = now.stands h st in
-    (u.0, u.1, c.in-Needs.ensures.stands _ u.2, ended (seen c.args.machine.now) (seen c.moves.machine) (passing h u.0) steps.Need now.login now.fault tt)
+    (u.0, u.1, c.in-Needs.ensures.stands _ u.2, ended (seen c.args.machine.now) (seen c.moves.machine) (passing h u.0) steps.Need now.at now.login now.fault tt)
 
 pub returns-in-Done-clause-stands : goal.returns-in-Done-clause-stands
 returns-in-Done-clause-stands c = λ h st.
@@ -76,7 +76,7 @@ returns-in-Done-clause-stands c = λ h st.
       u.0,
       u.1,
       c.in-Done.ensures.stands _ u.2,
-      ended (seen c.args.machine.now) here (passing h u.0) (steps.Done c.in-Done.answer) now.login now.fault
+      ended (seen c.args.machine.now) here (passing h u.0) (steps.Done c.in-Done.answer) now.at now.login now.fault
           (answer_cause here (passing h u.0) u.2 now.task c.in-Done.answer (seen c.tick.new.self) c.in-Done.ensures.does),
     )
 
@@ -88,7 +88,7 @@ returns-in-Fault-clause-stands c = λ h st.
       u.0,
       u.1,
       c.in-Fault.ensures.stands _ u.2,
-      ended (seen c.args.machine.now) here (passing h u.0) (steps.Fault c.in-Fault.error) now.login now.fault
+      ended (seen c.args.machine.now) here (passing h u.0) (steps.Fault c.in-Fault.error) now.at now.login now.fault
           (fault_because here (passing h u.0) u.2 now.task c.in-Fault.error (seen c.tick.new.self) c.in-Fault.ensures.does),
     )
 
