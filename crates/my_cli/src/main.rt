@@ -6,7 +6,7 @@ mod help;
 mod tests;
 
 use help::{HELP, VERSION};
-use my_run::memory::world::MemWorld;
+use my_world::memory::world::MemWorld;
 use my_run::output::write_all;
 use my_run::tool::run_tool;
 use my_wire::{StdSink, StdSource};

@@ -2,7 +2,7 @@
 
 ghost use Rattle.std.specs.Prelude.{None};
 
-use my_run::memory::world::MemWorld;
+use my_world::memory::world::MemWorld;
 use my_run::tool::run_tool;
 use my_wire::{MemSink, MemSource, NoMemory, Source, SourceStep};
 use std::alloc::Global;

@@ -1,7 +1,7 @@
 -- How a script's lines go on.
 use Rattle.std.proofs.Common.{◌≡◌, ◌+◌, ◌≤◌, ◌<◌, ℕ, suc, List, length, Option, Some, None, Bool, sym, ap, ◌∙◌, Bor, option_map, IfSome, arith}
 use Rattle.my_run.specs.declared.step.Step.{Step}
-use Rattle.my_run.specs.declared.step.WorldLine.{WorldLine}
+use Rattle.my_world.specs.declared.line.WorldLine.{WorldLine}
 use Rattle.my_run.specs.declared.reading.line.Item.{Item}
 use Rattle.my_run.specs.declared.reading.script.Sofar.{Sofar}
 use Rattle.my_run.specs.Cut.{first_of, rest_of, pieces_left}

@@ -3,7 +3,7 @@ use Rattle.std.specs.Prelude.{ℕ, ◌==◌, nat_le, List, [], ◌∷◌, length
 use Rattle.std.specs.Str.{bytes_eq}
 use Rattle.my_wire.specs.Numbers.{◌>>=◌}
 use Rattle.my_run.specs.declared.step.Step.TheVariants as steps
-use Rattle.my_run.specs.declared.step.WorldLine.TheVariants as lines
+use Rattle.my_world.specs.declared.line.WorldLine.TheVariants as lines
 use Rattle.my_run.specs.declared.reading.line.Item.{Item}
 use Rattle.my_run.specs.declared.reading.line.Item.TheVariants.{Nothing, Plans, Steps, Wrong}
 use Rattle.my_run.specs.declared.reading.line.Keyword.{Keyword}

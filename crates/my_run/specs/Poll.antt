@@ -6,16 +6,17 @@ use Rattle.my_session.specs.declared.answer.SessionStep.TheVariants.{Send, Need}
 use Rattle.my_session.specs.Calls.{is_open}
 use Rattle.my_session.specs.Seen.{Seen}
 use Rattle.my_session.specs.Steps.{StepIs}
-use Rattle.my_run.specs.declared.link.ReadItem.{ReadItem}
+use Rattle.my_world.specs.declared.link.ReadItem.{ReadItem}
 use Rattle.my_run.specs.declared.poll.After.{After}
 use Rattle.my_run.specs.declared.poll.After.TheVariants.{Pending, Answered as Replied, Failed as Broke}
 use Rattle.my_run.specs.declared.poll.Polled.{Polled}
 use Rattle.my_run.specs.declared.transcript.Use.{Use}
-use Rattle.my_run.specs.Spent.{IsSpent, CountsTo}
+use Rattle.my_world.specs.Spent.{IsSpent}
+use Rattle.my_run.specs.Uses.{CountsTo}
 use Rattle.my_run.specs.declared.poll.Turn.{Turn}
 use Rattle.my_run.specs.declared.poll.Turn.TheVariants.{Sent, Took, Ended, Failed, Held, Full, Answered, Faulted}
-use Rattle.my_run.specs.Outside.{Counts, FaultRose, HoldRose, EndRose}
-use Rattle.my_run.specs.Link.{Told, Gave, behind_hold, behind_fault, behind_end, behind_write}
+use Rattle.my_world.specs.Outside.{Counts, FaultRose, HoldRose, EndRose}
+use Rattle.my_world.specs.Link.{Told, Gave, behind_hold, behind_fault, behind_end, behind_write}
 
 -- what clauses see of a link
 pub record Looks : Type 0 where

@@ -2,8 +2,8 @@
 use Rattle.std.specs.Prelude.{ℕ, ◌+◌, ◌==◌, ◌&&◌, nat_lt, not, List, [], ◌∷◌, ◌++◌, Option, Some, None, Bool, true, false, if◌then◌else◌}
 use Rattle.std.specs.List.{slice_split}
 use Rattle.my_run.specs.declared.step.Step.{Step}
-use Rattle.my_run.specs.declared.step.Step.TheVariants.{Conn, Query, Next}
-use Rattle.my_run.specs.declared.step.WorldLine.{WorldLine}
+use Rattle.my_run.specs.declared.step.Step.TheVariants.{Conn, Query, Next, Collect, Drop, Ping, Quit, Fields, Poll, Cancel}
+use Rattle.my_world.specs.declared.line.WorldLine.{WorldLine}
 use Rattle.my_run.specs.declared.reading.line.Item.{Item}
 use Rattle.my_run.specs.declared.reading.line.Item.TheVariants.{Nothing, Plans, Steps, Wrong}
 use Rattle.my_run.specs.declared.reading.script.Read.{Read}
@@ -21,6 +21,13 @@ abbrev pub admitted_step : Sofar → Step → Option Sofar
 admitted_step s Conn = if nat_lt s.conns 1 then Some (record { stepped = true; conns = s.conns + 1; queries = s.queries }) else None
 admitted_step s (Query c text) = if nat_lt s.queries 1 then Some (record { stepped = true; conns = s.conns; queries = s.queries + 1 }) else None
 admitted_step s (Next c) = Some (record { stepped = true; conns = s.conns; queries = s.queries })
+admitted_step s (Collect c) = Some (record { stepped = true; conns = s.conns; queries = s.queries })
+admitted_step s (Drop c) = Some (record { stepped = true; conns = s.conns; queries = s.queries })
+admitted_step s (Ping c) = Some (record { stepped = true; conns = s.conns; queries = s.queries })
+admitted_step s (Quit c) = Some (record { stepped = true; conns = s.conns; queries = s.queries })
+admitted_step s (Fields c) = Some (record { stepped = true; conns = s.conns; queries = s.queries })
+admitted_step s (Poll c) = Some (record { stepped = true; conns = s.conns; queries = s.queries })
+admitted_step s (Cancel c) = Some (record { stepped = true; conns = s.conns; queries = s.queries })
 
 -- the lines up to this one, where it may stand there: a world's line stands before the first step, over a world that plans
 abbrev pub admitted : Bool → Sofar → Item → Option Sofar

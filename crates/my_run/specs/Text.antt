@@ -4,11 +4,12 @@ use Rattle.std.specs.Fmt.{decimal}
 use Rattle.hex.specs.Hex.{encode_lower}
 use Rattle.my_wire.specs.declared.version.ServerVersion.{ServerVersion}
 use Rattle.my_run.specs.declared.transcript.Outcome.{Outcome}
-use Rattle.my_run.specs.declared.transcript.Outcome.TheVariants.{Done, Pending, SetEnd, NoSet, Row, Connected, Failed, NoSuchHandle, Unread}
+use Rattle.my_run.specs.declared.transcript.Outcome.TheVariants.{Done, Pending, SetEnd, NoSet, Row, Rows, Fields, Connected, Failed, NoSuchHandle, Unread}
 use Rattle.my_run.specs.declared.transcript.StepAnswer.{StepAnswer}
 use Rattle.my_run.specs.declared.transcript.Tape.{Tape}
 use Rattle.my_run.specs.TextParts.{marked}
-use Rattle.my_run.specs.ValueText.{row_text}
+use Rattle.my_run.specs.OkText.{fields_text}
+use Rattle.my_run.specs.ValueText.{row_text, rows_text}
 use Rattle.my_run.specs.ErrorText.{error_text}
 
 unfoldable pub version_text : ServerVersion → List ℕ
@@ -24,6 +25,8 @@ outcome_text Pending = codes "pending"
 outcome_text SetEnd = codes "end"
 outcome_text NoSet = codes "none"
 outcome_text (Row row) = row_text row.cells
+outcome_text (Rows rows) = rows_text rows.items
+outcome_text (Fields fields) = fields_text fields
 outcome_text (Connected number id version) = connected_text number id version
 outcome_text (Failed error) = codes "error " ++ error_text error
 outcome_text NoSuchHandle = codes "refused NoSuchHandle"

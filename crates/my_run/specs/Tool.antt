@@ -2,7 +2,7 @@
 use Rattle.std.specs.Prelude.{◌≡◌, ℕ, List, [], ◌∷◌, Bool, Option, Some, None}
 use Rattle.my_opts.specs.Opts.{OptsView}
 use Rattle.my_run.specs.declared.step.Step.{Step}
-use Rattle.my_run.specs.declared.step.WorldLine.{WorldLine}
+use Rattle.my_world.specs.declared.line.WorldLine.{WorldLine}
 use Rattle.my_run.specs.declared.transcript.Transcript.{Transcript}
 use Rattle.my_run.specs.declared.transcript.StepAnswer.{StepAnswer}
 use Rattle.my_run.specs.declared.transcript.Outcome.TheVariants.{Unread}

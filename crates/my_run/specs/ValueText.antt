@@ -1,10 +1,11 @@
 -- Values and rows as text.
-use Rattle.std.specs.Prelude.{ℕ, List, [], ◌∷◌, ◌++◌, codes, if◌then◌else◌, Option, Some, None}
+use Rattle.std.specs.Prelude.{ℕ, List, [], ◌∷◌, ◌++◌, codes, length, if◌then◌else◌, Option, Some, None}
 use Rattle.std.specs.Int.{to_be_bytes, w32, w64}
 use Rattle.std.specs.Fmt.{decimal, signed_decimal}
 use Rattle.hex.specs.Hex.{encode_lower}
 use Rattle.my_value.specs.declared.value.Value.{Value}
 use Rattle.my_value.specs.declared.value.Value.TheVariants.{NULL, Bytes, Int, UInt, FloatBits, DoubleBits, Date, Time}
+use Rattle.my_value.specs.RowParts.{RowParts}
 use Rattle.my_run.specs.TextParts.{marked, bytes_text}
 
 -- `y-m-d`
@@ -37,6 +38,23 @@ cell_text (Some value) = 32 ∷ value_text value
 abbrev pub cells_text : List Value → List ℕ
 cells_text [] = []
 cells_text (value ∷ rest) = cell_text (Some value) ++ cells_text rest
+
+-- values, a blank between them
+abbrev pub joined_text : List Value → List ℕ
+joined_text [] = []
+joined_text (value ∷ rest) = value_text value ++ cells_text rest
+
+-- ` [V V]`
+unfoldable pub boxed_text : List Value → List ℕ
+boxed_text cells = codes " [" ++ joined_text cells ++ 93 ∷ []
+
+abbrev pub boxes_text : List RowParts → List ℕ
+boxes_text [] = []
+boxes_text (row ∷ rest) = boxed_text row.cells ++ boxes_text rest
+
+-- `rows N [V V] [V V]`
+unfoldable pub rows_text : List RowParts → List ℕ
+rows_text rows = codes "rows " ++ decimal (length rows) ++ boxes_text rows
 
 abbrev pub row_text : List Value → List ℕ
 row_text cells = codes "row" ++ cells_text cells

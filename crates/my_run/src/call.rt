@@ -3,7 +3,7 @@ ghost use Rattle.std.specs.Prelude.{◌≡◌, ◌∷◌, [], IfOk, OnOk, true, 
 ghost use Rattle.my_session.specs.Calls.{is_open};
 ghost use Rattle.my_session.specs.Errors.{connection_closed};
 
-use crate::link::Link;
+use my_world::link::Link;
 use crate::poll::{After, Polled, poll_conn};
 use crate::slot::{Conn, OpenCall, Slot};
 use crate::transcript::{Outcome, TapeCall, Use};

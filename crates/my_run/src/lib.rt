@@ -4,9 +4,7 @@
 pub mod call;
 pub mod connect;
 pub mod input;
-pub mod link;
 pub mod login;
-pub mod memory;
 pub mod output;
 pub mod poll;
 pub mod reading;
@@ -17,6 +15,5 @@ pub mod text;
 pub mod tool;
 pub mod transcript;
 pub mod words;
-pub mod world;
 
-pub use step::{Step, WorldLine};
+pub use step::Step;

@@ -5,7 +5,7 @@ ghost use Rattle.my_session.specs.Steps.{StepIs};
 ghost use Rattle.my_session.specs.declared.call.Task.TheVariants.{Nothing};
 ghost use Rattle.my_run.specs.Poll.{TurnIs, took_by, is_full, quiet, IsFailed, Polls};
 
-use crate::link::{Link, ReadStep, WriteStep};
+use my_world::link::{Link, ReadStep, WriteStep};
 use crate::slot::Conn;
 use crate::transcript::Use;
 use my_session::{Answer, Error, LinkFault, SessionStep};

@@ -7,7 +7,7 @@ use crate::connect::connect;
 use crate::slot::{Conn, Slot};
 use crate::step::Step;
 use crate::transcript::{StepAnswer, Tape, TapeCall, Transcript};
-use crate::world::World;
+use my_world::world::World;
 use my_opts::Opts;
 use my_session::Call;
 use my_wire::NoMemory;
@@ -27,6 +27,13 @@ fn run_step<N: World>(
             begin_in(alloc, slots, *number, Call::Query(text))
         }
         Step::Next(number) => begin_in(alloc, slots, *number, Call::NextRow),
+        Step::Collect(_)
+        | Step::Drop(_)
+        | Step::Ping(_)
+        | Step::Quit(_)
+        | Step::Fields(_)
+        | Step::Poll(_)
+        | Step::Cancel(_) => Err(NoMemory),
     }
 }
 

@@ -1,25 +1,8 @@
-//! What a script names: the lines of a world and the steps over it.
+//! What a script asks for.
 
 use my_wire::Blob;
 
-/// A line of a world's plan. Each names the number of its link, which is the number of the link's connection.
-#[derive(Drop)]
-pub enum WorldLine {
-    /// A packet can be read: a header with this number, then the payload.
-    Packet(u64, u8, Blob),
-    /// These bytes can be read.
-    Bytes(u64, Blob),
-    /// What follows can be read once a write took a byte while this line is first.
-    Turn(u64),
-    /// The next read holds, once.
-    Wait(u64),
-    /// The next read fails, once.
-    Fail(u64),
-    /// Reading is at its end, for good.
-    End(u64),
-}
-
-/// A step of a script.
+/// A step of a script. Each but the first names a connection by its number.
 #[derive(Drop)]
 pub enum Step {
     /// Dials and connects the next connection.
@@ -28,4 +11,18 @@ pub enum Step {
     Query(u64, Blob),
     /// Reads on in this connection's result.
     Next(u64),
+    /// Reads all rows that are left of the set that is read.
+    Collect(u64),
+    /// Passes over all that is left of this connection's result.
+    Drop(u64),
+    /// Asks whether the server is there.
+    Ping(u64),
+    /// Leaves the server.
+    Quit(u64),
+    /// Tells what the server's last OK said.
+    Fields(u64),
+    /// Goes on with this connection's open call.
+    Poll(u64),
+    /// Drops this connection's open call.
+    Cancel(u64),
 }

@@ -1,6 +1,6 @@
 //! The top call.
 ghost use Rattle.std.specs.Prelude.{◌≡◌, [], ℕ, OnOk, IfOk, true, map, string_bytes};
-ghost use Rattle.my_run.specs.Plan.{planned_lines};
+ghost use Rattle.my_world.specs.Plan.{planned_lines};
 ghost use Rattle.my_run.specs.Script.{script_of};
 ghost use Rattle.my_run.specs.Text.{text_of};
 ghost use Rattle.my_run.specs.Tool.{IsEmpty, IsUnread, Ran, ScriptEnds, TextEnds, InputEnds, WordEnds, ToolEnds, IsReport, code_of};
@@ -9,11 +9,11 @@ use crate::input::{Came, MOST_INPUT, read_all};
 use crate::output::write_all;
 use crate::reading::{Read, Script, read_script};
 use crate::run::run_steps;
-use crate::step::WorldLine;
+use my_world::WorldLine;
 use crate::text::transcript::text_of;
 use crate::transcript::{Outcome, StepAnswer, Transcript};
 use crate::words::{read_word, script_word};
-use crate::world::World;
+use my_world::world::World;
 use my_opts::Opts;
 use my_wire::{NoMemory, Sink, Source};
 use std::alloc::Global;

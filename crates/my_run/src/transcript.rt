@@ -2,7 +2,7 @@
 
 use my_session::{Answer, Call, Error};
 use my_value::Row;
-use my_wire::ServerVersion;
+use my_wire::{OkPacket, ServerVersion};
 
 /// How often the outside gave each counted answer to one poll of a call, or to one dial, and how many bytes came.
 #[derive(Clone, Copy, Debug, PartialEq, Eq)]
@@ -44,6 +44,10 @@ pub enum Outcome {
     NoSet,
     /// `row V V`
     Row(Row),
+    /// `rows N [V V] [V V]`
+    Rows(Vec<Row>),
+    /// `ok affected=A insert=I warnings=W status=F info=b:HEX`, or `ok -` where there is no OK.
+    Fields(Option<OkPacket>),
     /// `conn C id=I version=A.B.C`
     Connected(u64, u32, ServerVersion),
     /// `error` with the error.

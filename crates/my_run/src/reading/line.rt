@@ -4,8 +4,9 @@ ghost use Rattle.my_run.specs.Line.{keyword_of, packet_parts, link_parts, query_
 
 use super::cut::cut;
 use super::number::{bytes, number, number_to};
-use crate::{Step, WorldLine};
+use crate::Step;
 use my_wire::Blob;
+use my_world::WorldLine;
 use std::alloc::{AllocError, Global};
 
 /// The largest number of a link in a world's lines.

@@ -4,7 +4,8 @@ ghost use Rattle.my_run.specs.Script.{Script as Scripts, front, with_item, admit
 
 use super::cut::cut;
 use super::line::{Item, read_line};
-use crate::{Step, WorldLine};
+use crate::Step;
+use my_world::WorldLine;
 use std::alloc::{AllocError, Global};
 
 /// How many `conn` lines read.
@@ -59,7 +60,14 @@ fn admitted_by_step(sofar: Sofar, step: &Step) -> Option<Sofar>
                 queries: sofar.queries + 1,
             })
         }
-        Step::Next(_) => Some(Sofar {
+        Step::Next(_)
+        | Step::Collect(_)
+        | Step::Drop(_)
+        | Step::Ping(_)
+        | Step::Quit(_)
+        | Step::Fields(_)
+        | Step::Poll(_)
+        | Step::Cancel(_) => Some(Sofar {
             stepped: true,
             conns: sofar.conns,
             queries: sofar.queries,

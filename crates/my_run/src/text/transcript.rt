@@ -5,7 +5,8 @@ ghost use Rattle.my_run.specs.Text.{version_text, connected_text, outcome_text, 
 
 use super::error::push_error;
 use super::parts::{push_decimal, push_hex, push_marked};
-use super::value::push_row;
+use super::ok::push_fields;
+use super::value::{push_row, push_rows};
 use crate::transcript::{Outcome, StepAnswer, Tape, Transcript};
 use my_session::Error;
 use my_wire::ServerVersion;
@@ -54,6 +55,8 @@ fn push_outcome(alloc: Global, out: &mut Vec<u8>, outcome: &Outcome) -> Result<(
         Outcome::SetEnd => out.extend_from_slice(b"end"),
         Outcome::NoSet => out.extend_from_slice(b"none"),
         Outcome::Row(row) => push_row(alloc, out, row),
+        Outcome::Rows(rows) => push_rows(alloc, out, rows),
+        Outcome::Fields(fields) => push_fields(alloc, out, fields.as_ref()),
         Outcome::Connected(number, id, version) => {
             push_connected(alloc, out, *number, *id, *version)
         }

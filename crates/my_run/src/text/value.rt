@@ -1,6 +1,6 @@
 //! Values and rows as text.
-ghost use Rattle.std.specs.Prelude.{◌≡◌, ◌++◌, ◌∷◌, [], OnOk, if◌then◌else◌, ◌<◌, length, slice_get};
-ghost use Rattle.my_run.specs.ValueText.{date_text, clock_text, bits_text, value_text, cell_text, cells_text, row_text};
+ghost use Rattle.std.specs.Prelude.{◌≡◌, ◌++◌, ◌∷◌, [], OnOk, if◌then◌else◌, ◌<◌, ◌≤◌, length, slice_get, drop};
+ghost use Rattle.my_run.specs.ValueText.{date_text, clock_text, bits_text, value_text, cell_text, cells_text, joined_text, boxed_text, boxes_text, rows_text, row_text};
 
 use super::parts::{push_bytes, push_decimal, push_hex, push_marked, push_signed};
 use my_value::{Row, Value};
@@ -101,11 +101,12 @@ fn push_cell(alloc: Global, out: &mut Vec<u8>, row: &Row, index: usize) -> Resul
     }
 }
 
-// A blank and a value, for each cell.
-fn push_cells(alloc: Global, out: &mut Vec<u8>, row: &Row) -> Result<(), AllocError>
-    ensures { OnOk result (out.new.items ≡ out.old.items ++ cells_text row.now.cells) }
+// A blank and a value, for each cell from this place on.
+fn push_cells(alloc: Global, out: &mut Vec<u8>, row: &Row, from: usize) -> Result<(), AllocError>
+    requires { from ≤ length row.now.cells }
+    ensures { OnOk result (out.new.items ≡ out.old.items ++ cells_text (drop from row.now.cells)) }
 {
-    for i in 0..row.len() {
+    for i in from..row.len() {
         push_cell(alloc, out, row, i)?;
     }
     Ok(())
@@ -116,5 +117,47 @@ pub fn push_row(alloc: Global, out: &mut Vec<u8>, row: &Row) -> Result<(), Alloc
     ensures { OnOk result (out.new.items ≡ out.old.items ++ row_text row.now.cells) }
 {
     out.extend_from_slice(b"row")?;
-    push_cells(alloc, out, row)
+    push_cells(alloc, out, row, 0)
+}
+
+// The values, a blank between them.
+fn push_joined(alloc: Global, out: &mut Vec<u8>, row: &Row) -> Result<(), AllocError>
+    ensures { OnOk result (out.new.items ≡ out.old.items ++ joined_text row.now.cells) }
+{
+    match row.as_ref(0) {
+        None => Ok(()),
+        Some(value) => {
+            push_value(alloc, out, value)?;
+            push_cells(alloc, out, row, 1)
+        }
+    }
+}
+
+#[tactic(auto, unfolding(crate::specs::ValueText::boxed_text))]
+fn push_boxed(alloc: Global, out: &mut Vec<u8>, row: &Row) -> Result<(), AllocError>
+    ensures { OnOk result (out.new.items ≡ out.old.items ++ boxed_text row.now.cells) }
+{
+    out.extend_from_slice(b" [")?;
+    push_joined(alloc, out, row)?;
+    out.push(b']')?;
+    Ok(())
+}
+
+fn push_boxes(alloc: Global, out: &mut Vec<u8>, rows: &[Row]) -> Result<(), AllocError>
+    ensures { OnOk result (out.new.items ≡ out.old.items ++ boxes_text rows.now) }
+{
+    for row in rows {
+        push_boxed(alloc, out, row)?;
+    }
+    Ok(())
+}
+
+/// Rows as text: `rows`, how many they are, and each in brackets.
+#[tactic(auto, unfolding(crate::specs::ValueText::rows_text))]
+pub fn push_rows(alloc: Global, out: &mut Vec<u8>, rows: &[Row]) -> Result<(), AllocError>
+    ensures { OnOk result (out.new.items ≡ out.old.items ++ rows_text rows.now) }
+{
+    out.extend_from_slice(b"rows ")?;
+    push_decimal(alloc, out, rows.len() as u64)?;
+    push_boxes(alloc, out, rows)
 }

@@ -1,5 +1,5 @@
 use Rattle.std.proofs.Common.{◌≡◌, ℕ, true, drop}
-use Rattle.my_run.specs.Plan.{planned_lines}
+use Rattle.my_world.specs.Plan.{planned_lines}
 use Rattle.my_run.proofs.tool.prepare_each.Given as goal
 
 abbrev pub invariant-loop-line : goal.invariant-loop-line

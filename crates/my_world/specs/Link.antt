@@ -1,0 +1,96 @@
+-- What reads and writes of a link do to the items that it has left.
+use Rattle.std.specs.Prelude.{◌≡◌, ℕ, ◌<◌, ◌≤◌, List, [], ◌∷◌, ◌++◌, length, take, Option, Some, None}
+use Rattle.my_world.specs.declared.link.ReadItem.{ReadItem}
+use Rattle.my_world.specs.declared.link.ReadItem.TheVariants as items
+use Rattle.my_world.specs.declared.link.ReadStep.{ReadStep}
+use Rattle.my_world.specs.declared.link.ReadStep.TheVariants as reads
+use Rattle.my_world.specs.declared.link.WriteStep.{WriteStep}
+use Rattle.my_world.specs.declared.link.WriteStep.TheVariants as writes
+use Rattle.my_wire.specs.Outside.{Comes}
+use Rattle.my_world.specs.Outside.{Counts, FaultRose, HoldRose, EndRose}
+
+-- where a link tells its items, what becomes of them
+abbrev pub Told : Option (List ReadItem) → Option (List ReadItem) → (List ReadItem → List ReadItem → Type 0) → Type 0
+Told None new R = new ≡ None
+Told (Some old) None R = ⊥
+Told (Some old) (Some new) R = R old new
+
+-- what is left of an item that was read in part
+abbrev pub put_back : List ℕ → List ReadItem → List ReadItem
+put_back [] more = more
+put_back (b ∷ bytes) more = items.Bytes (b ∷ bytes) ∷ more
+
+-- these bytes were read from the first item
+pub record Gave (bytes : List ℕ) (old new : List ReadItem) : Type 0 where
+  pub rest : List ℕ
+  pub more : List ReadItem
+  pub stood : old ≡ items.Bytes (bytes ++ rest) ∷ more
+  pub stands : new ≡ put_back rest more
+
+-- what is left behind a read that holds, where one may: at a wait, at a turn that wasn't met, and where nothing is left
+abbrev pub behind_hold : List ReadItem → Option (List ReadItem)
+behind_hold [] = Some []
+behind_hold (items.Bytes bytes ∷ more) = None
+behind_hold (items.Turn ∷ more) = Some (items.Turn ∷ more)
+behind_hold (items.Wait ∷ more) = Some more
+behind_hold (items.Fail ∷ more) = None
+behind_hold (items.End ∷ more) = None
+
+-- what is left behind a read that fails, where one may
+abbrev pub behind_fault : List ReadItem → Option (List ReadItem)
+behind_fault [] = None
+behind_fault (items.Bytes bytes ∷ more) = None
+behind_fault (items.Turn ∷ more) = None
+behind_fault (items.Wait ∷ more) = None
+behind_fault (items.Fail ∷ more) = Some more
+behind_fault (items.End ∷ more) = None
+
+-- what is left behind a read that tells the end, where one may
+abbrev pub behind_end : List ReadItem → Option (List ReadItem)
+behind_end [] = None
+behind_end (items.Bytes bytes ∷ more) = None
+behind_end (items.Turn ∷ more) = None
+behind_end (items.Wait ∷ more) = None
+behind_end (items.Fail ∷ more) = None
+behind_end (items.End ∷ more) = Some (items.End ∷ more)
+
+-- a write that took a byte meets a turn that stands first
+abbrev pub behind_write : List ReadItem → List ReadItem
+behind_write [] = []
+behind_write (items.Bytes bytes ∷ more) = items.Bytes bytes ∷ more
+behind_write (items.Turn ∷ more) = more
+behind_write (items.Wait ∷ more) = items.Wait ∷ more
+behind_write (items.Fail ∷ more) = items.Fail ∷ more
+behind_write (items.End ∷ more) = items.End ∷ more
+
+abbrev pub Reads : Option (List ReadItem) → List ℕ → Option (List ReadItem) → ReadStep → Type 0
+Reads old buf new (reads.Got n) = (0 < n) × (n ≤ length buf) × Told old new (Gave (take n buf))
+Reads old buf new reads.NotYet = Told old new (λ is js. behind_hold is ≡ Some js)
+Reads old buf new reads.End = Told old new (λ is js. behind_end is ≡ Some js)
+Reads old buf new reads.Failed = Told old new (λ is js. behind_fault is ≡ Some js)
+
+-- a write of a link that tells its items neither holds nor fails
+abbrev pub Writes : Option (List ReadItem) → Option (List ReadItem) → WriteStep → Type 0
+Writes old new (writes.Took n) = Told old new (λ is js. js ≡ behind_write is)
+Writes old new writes.NotYet = Told old new (λ is js. ⊥)
+Writes old new writes.Failed = Told old new (λ is js. ⊥)
+Writes old new writes.NoMemory = new ≡ old
+
+-- what became of the bytes that the link was sent
+abbrev pub TakesIn : Option (List ℕ) → List ℕ → Option (List ℕ) → WriteStep → Type 0
+TakesIn old bytes new (writes.Took n) = (0 < n) × (n ≤ length bytes) × Comes old (take n bytes) new
+TakesIn old bytes new writes.NotYet = new ≡ old
+TakesIn old bytes new writes.Failed = new ≡ old
+TakesIn old bytes new writes.NoMemory = new ≡ old
+
+abbrev pub CountsRead : Counts → Counts → ReadStep → Type 0
+CountsRead c d (reads.Got n) = d ≡ c
+CountsRead c d reads.NotYet = HoldRose c d
+CountsRead c d reads.End = EndRose c d
+CountsRead c d reads.Failed = FaultRose c d
+
+abbrev pub CountsWrite : Counts → Counts → WriteStep → Type 0
+CountsWrite c d (writes.Took n) = d ≡ c
+CountsWrite c d writes.NotYet = HoldRose c d
+CountsWrite c d writes.Failed = FaultRose c d
+CountsWrite c d writes.NoMemory = d ≡ c

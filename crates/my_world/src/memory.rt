@@ -1,0 +1,132 @@
+//! A link in memory, which plays the items that it was made with.
+ghost use Rattle.std.specs.Prelude.{◌≡◌, ◌<◌, ◌≤◌, ◌++◌, [], ℕ, List, Option, Some, None, true, false, length, take, drop};
+ghost use Rattle.std.specs.List.{list_all};
+ghost use Rattle.my_world.specs.Memory.{is_sound, is_filled, CopiesFront};
+
+pub mod planned;
+pub mod world;
+
+use crate::link::{Link, ReadItem, ReadStep, WriteStep};
+use std::alloc::Global;
+
+/// A link in memory.
+///
+/// It keeps what it was sent. A read gives bytes of one item at a time.
+#[derive(Drop)]
+pub struct MemLink {
+    items: Vec<ReadItem>,
+    // The item that is read, and how many of its bytes were read.
+    place: usize,
+    from: usize,
+    got: Vec<u8>,
+    faults: u64,
+    holds: u64,
+    ends: u64,
+    ghost sound: { is_sound from (drop place items.items) ≡ true },
+}
+
+fn copy_front(buf: &mut [u8], bytes: &[u8]) -> usize
+    requires room { 0 < length buf.old }
+    requires some { 0 < length bytes.now }
+    ensures { CopiesFront buf.new bytes.now result }
+{
+    let n = buf.len().min(bytes.len());
+    buf[..n].copy_from_slice(&bytes[..n]);
+    n
+}
+
+fn behind(bytes: &[u8], from: usize) -> &[u8]
+    requires { from < length bytes.now }
+    ensures { result.now ≡ drop from bytes.now }
+{
+    &bytes[from..]
+}
+
+impl MemLink {
+    ghost use Rattle.my_world.specs.MemLink.{unread, counted, sent_to};
+    ghost use Rattle.my_world.specs.Outside.{no_counts};
+
+    /// A link that has these items to be read.
+    pub fn new(alloc: Global, items: Vec<ReadItem>) -> MemLink
+        requires { list_all is_filled items.items ≡ true }
+        ensures items { unread result ≡ items.items }
+        ensures counts { counted result ≡ no_counts }
+        ensures got { sent_to result ≡ [] }
+    {
+        MemLink {
+            items,
+            place: 0,
+            from: 0,
+            got: Vec::new(alloc),
+            faults: 0,
+            holds: 0,
+            ends: 0,
+        }
+    }
+}
+
+impl Link for MemLink {
+    ghost use Rattle.my_world.specs.MemLink.{unread, counted, sent_to};
+
+    ghost counts = { counted };
+
+    ghost items = { λ m. Some (unread m) };
+
+    ghost got = { λ m. Some (sent_to m) };
+
+    ghost socket = { λ m. false };
+
+    fn read(&mut self, buf: &mut [u8]) -> ReadStep {
+        match self.items.get(self.place) {
+            None => {
+                self.holds = self.holds.saturating_add(1);
+                ReadStep::NotYet
+            }
+            Some(ReadItem::Bytes(bytes)) => {
+                let n = copy_front(buf, behind(bytes.as_slice(), self.from));
+                let from = self.from + n;
+                if from < bytes.len() {
+                    self.from = from;
+                } else {
+                    self.place += 1;
+                    self.from = 0;
+                }
+                ReadStep::Got(n)
+            }
+            Some(ReadItem::Turn) => {
+                self.holds = self.holds.saturating_add(1);
+                ReadStep::NotYet
+            }
+            Some(ReadItem::Wait) => {
+                self.place += 1;
+                self.holds = self.holds.saturating_add(1);
+                ReadStep::NotYet
+            }
+            Some(ReadItem::Fail) => {
+                self.place += 1;
+                self.faults = self.faults.saturating_add(1);
+                ReadStep::Failed
+            }
+            Some(ReadItem::End) => {
+                self.ends = self.ends.saturating_add(1);
+                ReadStep::End
+            }
+        }
+    }
+
+    fn write(&mut self, bytes: &[u8]) -> WriteStep {
+        match self.got.extend_from_slice(bytes) {
+            Err(_) => WriteStep::NoMemory,
+            Ok(()) => {
+                if let Some(ReadItem::Turn) = self.items.get(self.place) {
+                    self.place += 1;
+                }
+                WriteStep::Took(bytes.len())
+            }
+        }
+    }
+
+    fn is_socket(&self) -> bool {
+        false
+    }
+}
