@@ -1,37 +1,40 @@
 -- How the items of a world in memory change.
-use Rattle.std.proofs.Common.{◌≡◌, ◌≢◌, ◌<◌, ◌≤◌, ◌+◌, ◌==◌, ℕ, suc, List, [], ◌∷◌, ◌++◌, length, get_or, slice_set, Bool, true, false, if◌then◌else◌, refl, sym, ap, ◌∙◌, arith}
-use Rattle.std.proofs.lemmas.List.{append-nil}
+use Rattle.std.proofs.Common.{◌≡◌, ◌≢◌, ◌<◌, ◌≤◌, ◌+◌, ◌==◌, ℕ, suc, List, [], ◌∷◌, ◌++◌, length, drop, get_or, slice_set, Bool, true, false, if◌then◌else◌, refl, sym, ap, ◌∙◌, arith}
+use Rattle.std.proofs.lemmas.List.{append-nil, drop_all}
+use Rattle.std.specs.List.{list_all}
 use Rattle.std.proofs.lemmas.Bool.Decides.{nat_tests}
 use Rattle.my_world.specs.declared.link.ReadItem.{ReadItem}
+use Rattle.my_world.specs.Memory.{is_filled}
+use Rattle.my_world.specs.Plan.{LinkItems, no_items, grown, dripped}
 use Rattle.my_world.specs.Planned.{PlannedItems, items_at, place_at}
 
 -- nothing stands for a link without a place
-pub at_end : (n : ℕ) (ps : List PlannedItems) → length ps ≤ place_at n ps → items_at n ps ≡ []
+pub at_end : (n : ℕ) (ps : List PlannedItems) → length ps ≤ place_at n ps → items_at n ps ≡ no_items
 at_end n [] h = refl
 at_end n (p ∷ ps) h = by_test (p.number == n) refl (at_end n ps)
   where
-    by_test : (t : Bool) → (p.number == n) ≡ t → (length ps ≤ place_at n ps → items_at n ps ≡ []) → items_at n (p ∷ ps) ≡ []
+    by_test : (t : Bool) → (p.number == n) ≡ t → (length ps ≤ place_at n ps → items_at n ps ≡ no_items) → items_at n (p ∷ ps) ≡ no_items
     by_test true e more = absurd (let k : length (p ∷ ps) ≤ place_at n (p ∷ ps) = h in let z : place_at n (p ∷ ps) ≡ 0 = rw e refl in omega (arith, k, z))
     by_test false e more = rw e (more (let k : length (p ∷ ps) ≤ place_at n (p ∷ ps) = h in let z : place_at n (p ∷ ps) ≡ suc (place_at n ps) = rw e refl in omega (arith, k, z)))
 
 -- an empty entry says nothing
-pub at_new : (n m : ℕ) (ps : List PlannedItems) → items_at m (ps ++ record { number = n; items = [] } ∷ []) ≡ items_at m ps
+pub at_new : (n m : ℕ) (ps : List PlannedItems) → items_at m (ps ++ record { number = n; items = no_items } ∷ []) ≡ items_at m ps
 at_new n m [] = by_test (n == m) refl
   where
-    by_test : (t : Bool) → (n == m) ≡ t → items_at m (record { number = n; items = [] } ∷ []) ≡ []
+    by_test : (t : Bool) → (n == m) ≡ t → items_at m (record { number = n; items = no_items } ∷ []) ≡ no_items
     by_test true e = rw e refl
     by_test false e = rw e refl
 at_new n m (p ∷ ps) = ap (λ is. if p.number == m then p.items else is) (at_new n m ps)
 
 -- where an entry that is new stands
-pub place_new : (n : ℕ) (ps : List PlannedItems) → length ps ≤ place_at n ps → place_at n ps ≡ place_at n (ps ++ record { number = n; items = [] } ∷ [])
+pub place_new : (n : ℕ) (ps : List PlannedItems) → length ps ≤ place_at n ps → place_at n ps ≡ place_at n (ps ++ record { number = n; items = no_items } ∷ [])
 place_new n [] h = rw same refl
   where
     same : (n == n) ≡ true
     same = grind (arith, nat_tests)
 place_new n (p ∷ ps) h = by_test (p.number == n) refl (place_new n ps)
   where
-    by_test : (t : Bool) → (p.number == n) ≡ t → (length ps ≤ place_at n ps → place_at n ps ≡ place_at n (ps ++ record { number = n; items = [] } ∷ [])) → place_at n (p ∷ ps) ≡ place_at n (p ∷ ps ++ record { number = n; items = [] } ∷ [])
+    by_test : (t : Bool) → (p.number == n) ≡ t → (length ps ≤ place_at n ps → place_at n ps ≡ place_at n (ps ++ record { number = n; items = no_items } ∷ [])) → place_at n (p ∷ ps) ≡ place_at n (p ∷ ps ++ record { number = n; items = no_items } ∷ [])
     by_test true e more = rw e refl
     by_test false e more = rw e (ap suc (more (let k : length (p ∷ ps) ≤ place_at n (p ∷ ps) = h in let z : place_at n (p ∷ ps) ≡ suc (place_at n ps) = rw e refl in omega (arith, k, z))))
 
@@ -52,11 +55,11 @@ number_at n (p ∷ ps) d h = by_test (p.number == n) refl (number_at n ps d)
     by_test true e more = rw e (grind (arith, nat_tests))
     by_test false e more = rw e (more (let k : place_at n (p ∷ ps) < length (p ∷ ps) = h in let z : place_at n (p ∷ ps) ≡ suc (place_at n ps) = rw e refl in omega (arith, k, z)))
 
-same_twice : (t : Bool) (x y z : List ReadItem) → (if t then x else z) ≡ (if t then x else (if t then y else z))
+same_twice : (t : Bool) (x y z : LinkItems) → (if t then x else z) ≡ (if t then x else (if t then y else z))
 same_twice true x y z = refl
 same_twice false x y z = refl
 
-swapped : (t u : Bool) (x y z : List ReadItem) → (t ≡ true → u ≡ true → ⊥) → (if t then y else (if u then x else z)) ≡ (if u then x else (if t then y else z))
+swapped : (t u : Bool) (x y z : LinkItems) → (t ≡ true → u ≡ true → ⊥) → (if t then y else (if u then x else z)) ≡ (if u then x else (if t then y else z))
 swapped true true x y z never = absurd (never refl refl)
 swapped true false x y z never = refl
 swapped false true x y z never = refl
@@ -84,31 +87,53 @@ new_place n (p ∷ ps) h = by_test (p.number == n) refl (new_place n ps)
     by_test false e more = rw e (ap suc (more (let k : length (p ∷ ps) ≤ place_at n (p ∷ ps) = h in let z : place_at n (p ∷ ps) ≡ suc (place_at n ps) = rw e refl in omega (arith, k, z))))
 
 -- an entry was made
-pub entered : (n place : ℕ) (ps new : List PlannedItems) → place ≡ place_at n ps → length ps ≤ place → new ≡ ps ++ record { number = n; items = [] } ∷ [] → (place ≡ place_at n new) × (place < length new)
+pub entered : (n place : ℕ) (ps new : List PlannedItems) → place ≡ place_at n ps → length ps ≤ place → new ≡ ps ++ record { number = n; items = no_items } ∷ [] → (place ≡ place_at n new) × (place < length new)
 entered n place ps new e h f =
     let past : length ps ≤ place_at n ps = omega (arith, e, h) in
     let longer : length new ≡ length ps + 1 = ap length f ∙ longer_by_one ps in
     (e ∙ place_new n ps past ∙ ap (place_at n) (sym f), omega (arith, e, new_place n ps past, longer))
   where
-    longer_by_one : (ps : List PlannedItems) → length (ps ++ record { number = n; items = [] } ∷ []) ≡ length ps + 1
+    longer_by_one : (ps : List PlannedItems) → length (ps ++ record { number = n; items = no_items } ∷ []) ≡ length ps + 1
     longer_by_one [] = refl
     longer_by_one (p ∷ ps) = omega (arith, longer_by_one ps)
 
-pub entered_same : (n : ℕ) (ps new : List PlannedItems) → new ≡ ps ++ record { number = n; items = [] } ∷ [] → (m : ℕ) → items_at m new ≡ items_at m ps
+pub entered_same : (n : ℕ) (ps new : List PlannedItems) → new ≡ ps ++ record { number = n; items = no_items } ∷ [] → (m : ℕ) → items_at m new ≡ items_at m ps
 entered_same n ps new f m = ap (items_at m) f ∙ at_new n m ps
 
--- an item more for link n
-pub pushed : (n place : ℕ) (ps old : List PlannedItems) (p q : PlannedItems) (item : ReadItem) → place ≡ place_at n ps → place < length ps → p ≡ get_or ps place p → q ≡ record { number = p.number; items = p.items ++ item ∷ [] } → ((m : ℕ) → items_at m ps ≡ items_at m old) → (m : ℕ) → items_at m (slice_set ps place q) ≡ items_at m old ++ (if n == m then item ∷ [] else [])
-pushed n place ps old p q item e h f g same m =
+grown_none : (a : LinkItems) → grown a no_items ≡ a
+grown_none a = ap (λ rs. record { reads = rs; writes = a.writes ++ [] }) (append-nil a.reads) ∙ ap (λ ws. record { reads = a.reads; writes = ws }) (append-nil a.writes)
+
+-- more items for link n
+pub pushed : (n place : ℕ) (ps old : List PlannedItems) (p q : PlannedItems) (more : LinkItems) → place ≡ place_at n ps → place < length ps → p ≡ get_or ps place p → q ≡ record { number = p.number; items = grown p.items more } → ((m : ℕ) → items_at m ps ≡ items_at m old) → (m : ℕ) → items_at m (slice_set ps place q) ≡ grown (items_at m old) (if n == m then more else no_items)
+pushed n place ps old p q more e h f g same m =
     let h' : place_at n ps < length ps = omega (arith, e, h) in
     let at : p ≡ get_or ps (place_at n ps) p = f ∙ ap (λ k. get_or ps k p) e in
     let numbered : q.number ≡ n = ap (λ (r : PlannedItems). r.number) g ∙ ap (λ (r : PlannedItems). r.number) at ∙ number_at n ps p h' in
-    let mine : q.items ≡ items_at n ps ++ item ∷ [] = ap (λ (r : PlannedItems). r.items) g ∙ ap (λ (r : PlannedItems). r.items ++ item ∷ []) at ∙ ap (λ is. is ++ item ∷ []) (sym (got_at n ps p h')) in
+    let mine : q.items ≡ grown (items_at n ps) more = ap (λ (r : PlannedItems). r.items) g ∙ ap (λ (r : PlannedItems). grown r.items more) at ∙ ap (λ is. grown is more) (sym (got_at n ps p h')) in
     ap (λ k. items_at m (slice_set ps k q)) e ∙ set_at n m ps q h' numbered ∙ by_test (n == m) refl mine
   where
-    by_test : (t : Bool) → (n == m) ≡ t → q.items ≡ items_at n ps ++ item ∷ [] → (if t then q.items else items_at m ps) ≡ items_at m old ++ (if t then item ∷ [] else [])
-    by_test true t mine = let n_is : n ≡ m = grind (arith, nat_tests) in mine ∙ ap (λ k. items_at k ps ++ item ∷ []) n_is ∙ ap (λ is. is ++ item ∷ []) (same m)
-    by_test false t mine = same m ∙ sym (append-nil (items_at m old))
+    by_test : (t : Bool) → (n == m) ≡ t → q.items ≡ grown (items_at n ps) more → (if t then q.items else items_at m ps) ≡ grown (items_at m old) (if t then more else no_items)
+    by_test true t mine = let n_is : n ≡ m = grind (arith, nat_tests) in mine ∙ ap (λ k. grown (items_at k ps) more) n_is ∙ ap (λ is. grown is more) (same m)
+    by_test false t mine = same m ∙ sym (grown_none (items_at m old))
+
+-- what came to be read, and for writes
+pub more_reads : (t : Bool) (now before more : LinkItems) → now ≡ grown before (if t then more else no_items) → now.reads ≡ before.reads ++ (if t then more.reads else [])
+more_reads true now before more e = ap (λ (a : LinkItems). a.reads) e
+more_reads false now before more e = ap (λ (a : LinkItems). a.reads) e
+
+pub more_writes : (t : Bool) (now before more : LinkItems) → now ≡ grown before (if t then more else no_items) → now.writes ≡ before.writes ++ (if t then more.writes else [])
+more_writes true now before more e = ap (λ (a : LinkItems). a.writes) e
+more_writes false now before more e = ap (λ (a : LinkItems). a.writes) e
+
+-- each byte that drips is one to be read
+drip_filled : (bytes : List ℕ) → list_all is_filled (dripped bytes) ≡ true
+drip_filled [] = refl
+drip_filled (b ∷ bytes) = drip_filled bytes
+
+pub drip_through : (i : ℕ) (bytes : List ℕ) (items : List ReadItem) → length bytes ≤ i → items ++ dripped (drop i bytes) ≡ dripped bytes → list_all is_filled items ≡ true
+drip_through i bytes items h e =
+    let all : items ≡ dripped bytes = sym (append-nil items) ∙ ap (λ bs. items ++ dripped bs) (sym (drop_all i bytes h)) ∙ e in
+    ap (list_all is_filled) all ∙ drip_filled bytes
 
 -- the items of link n were handed out
 pub handed : (n place : ℕ) (ps : List PlannedItems) (p : PlannedItems) → place ≡ place_at n ps → place < length ps → p ≡ get_or ps place p → p.items ≡ items_at n ps
@@ -116,7 +141,7 @@ handed n place ps p e h f =
     let at : p ≡ get_or ps (place_at n ps) p = f ∙ ap (λ k. get_or ps k p) e in
     ap (λ (r : PlannedItems). r.items) at ∙ sym (got_at n ps p (omega (arith, e, h)))
 
-pub others : (n place : ℕ) (ps : List PlannedItems) (p q : PlannedItems) → place ≡ place_at n ps → place < length ps → p ≡ get_or ps place p → q ≡ record { number = p.number; items = [] } → (m : ℕ) → m ≢ n → items_at m (slice_set ps place q) ≡ items_at m ps
+pub others : (n place : ℕ) (ps : List PlannedItems) (p q : PlannedItems) → place ≡ place_at n ps → place < length ps → p ≡ get_or ps place p → q ≡ record { number = p.number; items = no_items } → (m : ℕ) → m ≢ n → items_at m (slice_set ps place q) ≡ items_at m ps
 others n place ps p q e h f g m differs =
     let h' : place_at n ps < length ps = omega (arith, e, h) in
     let at : p ≡ get_or ps (place_at n ps) p = f ∙ ap (λ k. get_or ps k p) e in

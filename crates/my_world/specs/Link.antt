@@ -1,7 +1,9 @@
 -- What reads and writes of a link do to the items that it has left.
-use Rattle.std.specs.Prelude.{◌≡◌, ℕ, ◌<◌, ◌≤◌, List, [], ◌∷◌, ◌++◌, length, take, Option, Some, None}
+use Rattle.std.specs.Prelude.{◌≡◌, ℕ, ◌-◌, ◌<◌, ◌≤◌, ◌==◌, min, List, [], ◌∷◌, ◌++◌, length, take, Option, Some, None, if◌then◌else◌}
 use Rattle.my_world.specs.declared.link.ReadItem.{ReadItem}
 use Rattle.my_world.specs.declared.link.ReadItem.TheVariants as items
+use Rattle.my_world.specs.declared.link.WriteItem.{WriteItem}
+use Rattle.my_world.specs.declared.link.WriteItem.TheVariants as puts
 use Rattle.my_world.specs.declared.link.ReadStep.{ReadStep}
 use Rattle.my_world.specs.declared.link.ReadStep.TheVariants as reads
 use Rattle.my_world.specs.declared.link.WriteStep.{WriteStep}
@@ -10,7 +12,7 @@ use Rattle.my_wire.specs.Outside.{Comes}
 use Rattle.my_world.specs.Outside.{Counts, FaultRose, HoldRose, EndRose}
 
 -- where a link tells its items, what becomes of them
-abbrev pub Told : Option (List ReadItem) → Option (List ReadItem) → (List ReadItem → List ReadItem → Type 0) → Type 0
+abbrev pub Told : {I : Type 0} → Option (List I) → Option (List I) → (List I → List I → Type 0) → Type 0
 Told None new R = new ≡ None
 Told (Some old) None R = ⊥
 Told (Some old) (Some new) R = R old new
@@ -69,12 +71,51 @@ Reads old buf new reads.NotYet = Told old new (λ is js. behind_hold is ≡ Some
 Reads old buf new reads.End = Told old new (λ is js. behind_end is ≡ Some js)
 Reads old buf new reads.Failed = Told old new (λ is js. behind_fault is ≡ Some js)
 
--- a write of a link that tells its items neither holds nor fails
+-- a write that holds or fails leaves the items that are read
 abbrev pub Writes : Option (List ReadItem) → Option (List ReadItem) → WriteStep → Type 0
 Writes old new (writes.Took n) = Told old new (λ is js. js ≡ behind_write is)
-Writes old new writes.NotYet = Told old new (λ is js. ⊥)
-Writes old new writes.Failed = Told old new (λ is js. ⊥)
+Writes old new writes.NotYet = new ≡ old
+Writes old new writes.Failed = new ≡ old
 Writes old new writes.NoMemory = new ≡ old
+
+-- how many of so many bytes a write takes, where it takes any
+abbrev pub taken_of : ℕ → List WriteItem → Option ℕ
+taken_of len [] = Some len
+taken_of len (puts.Accept n ∷ more) = Some (min len n)
+taken_of len (puts.Wait ∷ more) = None
+taken_of len (puts.Fail ∷ more) = None
+
+-- so many bytes are still to be taken in one piece
+abbrev pub accept_back : ℕ → List WriteItem → List WriteItem
+accept_back n more = if n == 0 then more else puts.Accept n ∷ more
+
+-- what is left behind a write that took so many bytes
+abbrev pub behind_taken : ℕ → List WriteItem → List WriteItem
+behind_taken n [] = []
+behind_taken n (puts.Accept k ∷ more) = accept_back (k - n) more
+behind_taken n (puts.Wait ∷ more) = puts.Wait ∷ more
+behind_taken n (puts.Fail ∷ more) = puts.Fail ∷ more
+
+-- what is left behind a write that holds, where one may
+abbrev pub behind_write_hold : List WriteItem → Option (List WriteItem)
+behind_write_hold [] = None
+behind_write_hold (puts.Accept n ∷ more) = None
+behind_write_hold (puts.Wait ∷ more) = Some more
+behind_write_hold (puts.Fail ∷ more) = None
+
+-- what is left behind a write that fails, where one may
+abbrev pub behind_write_fault : List WriteItem → Option (List WriteItem)
+behind_write_fault [] = None
+behind_write_fault (puts.Accept n ∷ more) = None
+behind_write_fault (puts.Wait ∷ more) = None
+behind_write_fault (puts.Fail ∷ more) = Some more
+
+-- what a write of so many bytes does to the items that rule writes
+abbrev pub WritesOut : Option (List WriteItem) → ℕ → Option (List WriteItem) → WriteStep → Type 0
+WritesOut old len new (writes.Took n) = Told old new (λ ws vs. (taken_of len ws ≡ Some n) × (vs ≡ behind_taken n ws))
+WritesOut old len new writes.NotYet = Told old new (λ ws vs. behind_write_hold ws ≡ Some vs)
+WritesOut old len new writes.Failed = Told old new (λ ws vs. behind_write_fault ws ≡ Some vs)
+WritesOut old len new writes.NoMemory = new ≡ old
 
 -- what became of the bytes that the link was sent
 abbrev pub TakesIn : Option (List ℕ) → List ℕ → Option (List ℕ) → WriteStep → Type 0

@@ -1,6 +1,11 @@
 -- What a link in memory has left.
-use Rattle.std.specs.Prelude.{◌≡◌, ℕ, ◌<◌, ◌≤◌, ◌==◌, ◌&&◌, nat_lt, Bool, true, List, [], ◌∷◌, length, take, drop}
+use Rattle.std.specs.Prelude.{◌≡◌, ℕ, ◌<◌, ◌≤◌, ◌==◌, ◌&&◌, nat_lt, Bool, true, List, [], ◌∷◌, length, take, drop, Some}
 use Rattle.std.specs.List.{list_all}
+use Rattle.my_world.specs.declared.link.WriteItem.{WriteItem}
+use Rattle.my_world.specs.declared.link.WriteItem.TheVariants as puts
+use Rattle.my_world.specs.declared.memory.writes.Room.{Room}
+use Rattle.my_world.specs.declared.memory.writes.Room.TheVariants as rooms
+use Rattle.my_world.specs.Link.{taken_of, behind_write_hold, behind_write_fault}
 use Rattle.my_world.specs.declared.link.ReadItem.{ReadItem}
 use Rattle.my_world.specs.declared.link.ReadItem.TheVariants.{Bytes, Turn, Wait, Fail, End}
 
@@ -36,3 +41,15 @@ pub record CopiesFront (buf bytes : List ℕ) (n : ℕ) : Type 0 where
   pub fits : n ≤ length buf
   pub there : n ≤ length bytes
   pub copied : take n buf ≡ take n bytes
+
+-- bytes that are to be taken are at least one
+abbrev pub is_open : WriteItem → Bool
+is_open (puts.Accept n) = nat_lt 0 n
+is_open puts.Wait = true
+is_open puts.Fail = true
+
+-- what a write of so many bytes comes to, by what is left for writes
+abbrev pub RoomIs : List WriteItem → ℕ → Room → Type 0
+RoomIs ws len (rooms.Take n) = (0 < n) × (n ≤ len) × (taken_of len ws ≡ Some n)
+RoomIs ws len rooms.Hold = behind_write_hold ws ≡ Some (drop 1 ws)
+RoomIs ws len rooms.Fail = behind_write_fault ws ≡ Some (drop 1 ws)

@@ -1,9 +1,23 @@
--- What the lines of a world give each link to be read.
+-- What the lines of a world give each link, to be read and for its writes.
 use Rattle.std.specs.Prelude.{ℕ, ◌/◌, ◌%◌, ◌==◌, List, [], ◌∷◌, ◌++◌, length, Option, option_map, if◌then◌else◌}
 use Rattle.my_world.specs.declared.line.WorldLine.{WorldLine}
 use Rattle.my_world.specs.declared.line.WorldLine.TheVariants as lines
 use Rattle.my_world.specs.declared.link.ReadItem.{ReadItem}
 use Rattle.my_world.specs.declared.link.ReadItem.TheVariants as items
+use Rattle.my_world.specs.declared.link.WriteItem.{WriteItem}
+use Rattle.my_world.specs.declared.link.WriteItem.TheVariants as puts
+use Rattle.my_world.specs.Link.{accept_back}
+
+-- what is to be read, and what is to be done with writes
+pub record LinkItems : Type 0 where
+  pub reads : List ReadItem
+  pub writes : List WriteItem
+
+abbrev pub no_items : LinkItems
+no_items = record { reads = []; writes = [] }
+
+abbrev pub grown : LinkItems → LinkItems → LinkItems
+grown a b = record { reads = a.reads ++ b.reads; writes = a.writes ++ b.writes }
 
 -- a packet's header: the payload's length in three bytes, the lowest first, and the packet's number
 -- MySQL internals, "MySQL Packets"
@@ -17,20 +31,54 @@ link_of (lines.Turn link) = link
 link_of (lines.Wait link) = link
 link_of (lines.Fail link) = link
 link_of (lines.End link) = link
+link_of (lines.Drip link number payload) = link
+link_of (lines.Accept link n) = link
+link_of (lines.WriteWait link) = link
+link_of (lines.WriteFail link) = link
 
 -- no item where no byte is to be read
 abbrev pub bytes_item : List ℕ → List ReadItem
 bytes_item [] = []
 bytes_item (b ∷ bytes) = items.Bytes (b ∷ bytes) ∷ []
 
+-- a packet's bytes, the header's first
+abbrev pub packet_of : ℕ → List ℕ → List ℕ
+packet_of number payload = header_of (length payload) number ++ payload
+
+-- each byte by itself, with a hold behind it
+abbrev pub dripped : List ℕ → List ReadItem
+dripped [] = []
+dripped (b ∷ bytes) = items.Bytes (b ∷ []) ∷ items.Wait ∷ dripped bytes
+
 -- what a line gives to be read
 abbrev pub items_of : WorldLine → List ReadItem
-items_of (lines.Packet link number payload) = items.Bytes (header_of (length payload) number ++ payload) ∷ []
+items_of (lines.Packet link number payload) = items.Bytes (packet_of number payload) ∷ []
 items_of (lines.Bytes link bytes) = bytes_item bytes
 items_of (lines.Turn link) = items.Turn ∷ []
 items_of (lines.Wait link) = items.Wait ∷ []
 items_of (lines.Fail link) = items.Fail ∷ []
 items_of (lines.End link) = items.End ∷ []
+items_of (lines.Drip link number payload) = dripped (packet_of number payload)
+items_of (lines.Accept link n) = []
+items_of (lines.WriteWait link) = []
+items_of (lines.WriteFail link) = []
+
+-- what a line gives for writes; no byte to be taken gives nothing
+abbrev pub writes_of : WorldLine → List WriteItem
+writes_of (lines.Packet link number payload) = []
+writes_of (lines.Bytes link bytes) = []
+writes_of (lines.Turn link) = []
+writes_of (lines.Wait link) = []
+writes_of (lines.Fail link) = []
+writes_of (lines.End link) = []
+writes_of (lines.Drip link number payload) = []
+writes_of (lines.Accept link n) = accept_back n []
+writes_of (lines.WriteWait link) = puts.Wait ∷ []
+writes_of (lines.WriteFail link) = puts.Fail ∷ []
+
+-- both
+abbrev pub given_by : WorldLine → LinkItems
+given_by line = record { reads = items_of line; writes = writes_of line }
 
 -- what a line gives the link of number n
 abbrev pub items_for : ℕ → WorldLine → List ReadItem
@@ -48,3 +96,17 @@ all_for n (line ∷ rest) = items_for n line ++ all_for n rest
 -- the plan of link n, with these lines more
 abbrev pub planned_lines : ℕ → List WorldLine → Option (List ReadItem) → Option (List ReadItem)
 planned_lines n lines plan = option_map (λ is. is ++ all_for n lines) plan
+
+-- the same for writes
+abbrev pub writes_for : ℕ → WorldLine → List WriteItem
+writes_for n line = if link_of line == n then writes_of line else []
+
+abbrev pub written_on : ℕ → WorldLine → Option (List WriteItem) → Option (List WriteItem)
+written_on n line plan = option_map (λ ws. ws ++ writes_for n line) plan
+
+abbrev pub all_writes_for : ℕ → List WorldLine → List WriteItem
+all_writes_for n [] = []
+all_writes_for n (line ∷ rest) = writes_for n line ++ all_writes_for n rest
+
+abbrev pub written_lines : ℕ → List WorldLine → Option (List WriteItem) → Option (List WriteItem)
+written_lines n lines plan = option_map (λ ws. ws ++ all_writes_for n lines) plan

@@ -1,8 +1,9 @@
 //! What a session is driven over.
 ghost use Rattle.std.specs.Prelude.{◌≡◌, ◌<◌, ℕ, List, Option, Bool, length};
 ghost use Rattle.my_world.specs.Outside.{Counts};
-ghost use Rattle.my_world.specs.Link.{Reads, CountsRead, Writes, CountsWrite, TakesIn};
+ghost use Rattle.my_world.specs.Link.{Reads, CountsRead, Writes, WritesOut, CountsWrite, TakesIn};
 ghost use Rattle.my_world.specs.declared.link.ReadItem.{ReadItem};
+ghost use Rattle.my_world.specs.declared.link.WriteItem.{WriteItem};
 
 use my_wire::Blob;
 
@@ -19,6 +20,17 @@ pub enum ReadItem {
     Fail,
     /// Reading is at its end, for good.
     End,
+}
+
+/// What a link does with writes, one after another. Where nothing is left it takes all bytes of a write.
+#[derive(Clone, Copy, Debug, PartialEq, Eq)]
+pub enum WriteItem {
+    /// So many bytes are taken, at most so many by one write.
+    Accept(u64),
+    /// The next write holds, once.
+    Wait,
+    /// The next write fails, once.
+    Fail,
 }
 
 /// What a read answers. `Got` says how many bytes stand in the buffer, at least one.
@@ -49,6 +61,9 @@ pub trait Link {
     /// What it has left to be read, if it tells.
     ghost items: { Self → Option (List ReadItem) };
 
+    /// What it has left to do with writes, if it tells.
+    ghost writes: { Self → Option (List WriteItem) };
+
     /// The bytes that it was sent, if it tells.
     ghost got: { Self → Option (List ℕ) };
 
@@ -59,6 +74,7 @@ pub trait Link {
     fn read(&mut self, buf: &mut [u8]) -> ReadStep
         requires { 0 < length buf.old }
         ensures items { Reads (items self.old) buf.new (items self.new) result }
+        ensures writes { writes self.new ≡ writes self.old }
         ensures got { got self.new ≡ got self.old }
         ensures counts { CountsRead (counts self.old) (counts self.new) result }
         ensures socket { socket self.new ≡ socket self.old };
@@ -67,6 +83,7 @@ pub trait Link {
     fn write(&mut self, bytes: &[u8]) -> WriteStep
         requires { 0 < length bytes.now }
         ensures items { Writes (items self.old) (items self.new) result }
+        ensures writes { WritesOut (writes self.old) (length bytes.now) (writes self.new) result }
         ensures got { TakesIn (got self.old) bytes.now (got self.new) result }
         ensures counts { CountsWrite (counts self.old) (counts self.new) result }
         ensures socket { socket self.new ≡ socket self.old };

@@ -5,19 +5,22 @@ ghost use Rattle.my_world.specs.Memory.{is_sound, is_filled, CopiesFront};
 
 pub mod planned;
 pub mod world;
+pub mod writes;
 
 use crate::link::{Link, ReadItem, ReadStep, WriteStep};
+use crate::memory::writes::{Room, Writes};
 use std::alloc::Global;
 
 /// A link in memory.
 ///
-/// It keeps what it was sent. A read gives bytes of one item at a time.
+/// It keeps what it was sent. A read gives bytes of one item at a time, and a write takes bytes for one.
 #[derive(Drop)]
 pub struct MemLink {
     items: Vec<ReadItem>,
     // The item that is read, and how many of its bytes were read.
     place: usize,
     from: usize,
+    writes: Writes,
     got: Vec<u8>,
     faults: u64,
     holds: u64,
@@ -42,14 +45,22 @@ fn behind(bytes: &[u8], from: usize) -> &[u8]
     &bytes[from..]
 }
 
+fn front(bytes: &[u8], n: usize) -> &[u8]
+    requires { n ≤ length bytes.now }
+    ensures { result.now ≡ take n bytes.now }
+{
+    &bytes[..n]
+}
+
 impl MemLink {
-    ghost use Rattle.my_world.specs.MemLink.{unread, counted, sent_to};
+    ghost use Rattle.my_world.specs.MemLink.{unread, unwritten, counted, sent_to, Keeps};
     ghost use Rattle.my_world.specs.Outside.{no_counts};
 
-    /// A link that has these items to be read.
-    pub fn new(alloc: Global, items: Vec<ReadItem>) -> MemLink
+    /// A link that has these items to be read, and does so with writes.
+    pub fn new(alloc: Global, items: Vec<ReadItem>, writes: Writes) -> MemLink
         requires { list_all is_filled items.items ≡ true }
         ensures items { unread result ≡ items.items }
+        ensures writes { unwritten result ≡ writes }
         ensures counts { counted result ≡ no_counts }
         ensures got { sent_to result ≡ [] }
     {
@@ -57,20 +68,40 @@ impl MemLink {
             items,
             place: 0,
             from: 0,
+            writes,
             got: Vec::new(alloc),
             faults: 0,
             holds: 0,
             ends: 0,
         }
     }
+
+    // These bytes are written whole.
+    fn keep(&mut self, bytes: &[u8]) -> WriteStep
+        requires { 0 < length bytes.now }
+        ensures { Keeps self.old self.new bytes.now result }
+    {
+        match self.got.extend_from_slice(bytes) {
+            Err(_) => WriteStep::NoMemory,
+            Ok(()) => {
+                if let Some(ReadItem::Turn) = self.items.get(self.place) {
+                    self.place += 1;
+                }
+                self.writes.take(bytes.len() as u64);
+                WriteStep::Took(bytes.len())
+            }
+        }
+    }
 }
 
 impl Link for MemLink {
-    ghost use Rattle.my_world.specs.MemLink.{unread, counted, sent_to};
+    ghost use Rattle.my_world.specs.MemLink.{unread, unwritten, counted, sent_to};
 
     ghost counts = { counted };
 
     ghost items = { λ m. Some (unread m) };
+
+    ghost writes = { λ m. Some (unwritten m) };
 
     ghost got = { λ m. Some (sent_to m) };
 
@@ -115,13 +146,17 @@ impl Link for MemLink {
     }
 
     fn write(&mut self, bytes: &[u8]) -> WriteStep {
-        match self.got.extend_from_slice(bytes) {
-            Err(_) => WriteStep::NoMemory,
-            Ok(()) => {
-                if let Some(ReadItem::Turn) = self.items.get(self.place) {
-                    self.place += 1;
-                }
-                WriteStep::Took(bytes.len())
+        match self.writes.room(bytes.len()) {
+            Room::Take(n) => self.keep(front(bytes, n)),
+            Room::Hold => {
+                self.writes.pass();
+                self.holds = self.holds.saturating_add(1);
+                WriteStep::NotYet
+            }
+            Room::Fail => {
+                self.writes.pass();
+                self.faults = self.faults.saturating_add(1);
+                WriteStep::Failed
             }
         }
     }

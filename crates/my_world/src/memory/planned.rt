@@ -1,18 +1,30 @@
-//! What a link of a world in memory will have to be read.
-ghost use Rattle.std.specs.Prelude.{◌≡◌, ◌++◌, ◌∷◌, [], OnOk, OnErr, true};
+//! What a link of a world in memory will have.
+ghost use Rattle.std.specs.Prelude.{◌≡◌, OnOk, OnErr, IfOk, true};
 ghost use Rattle.std.specs.List.{list_all};
 ghost use Rattle.my_world.specs.Memory.{is_filled};
+ghost use Rattle.my_world.specs.Plan.{no_items, grown};
+ghost use Rattle.my_world.specs.Planned.{added, is_lawful};
 
-use crate::link::ReadItem;
+use crate::link::{ReadItem, WriteItem};
+use crate::memory::writes::Writes;
 use std::alloc::{AllocError, Global};
 use std::marker::Model;
 use std::mem;
+
+/// What a line gives its link.
+#[derive(Drop)]
+pub enum Addition {
+    Nothing,
+    Reads(Vec<ReadItem>),
+    Write(WriteItem),
+}
 
 /// The items of the link of a number.
 #[derive(Drop)]
 pub struct Planned {
     number: u64,
-    items: Vec<ReadItem>,
+    reads: Vec<ReadItem>,
+    writes: Writes,
 }
 
 impl Model for Planned {
@@ -23,18 +35,19 @@ impl Model for Planned {
 
     ghost Value = { PlannedItems };
 
-    ghost view = { λ p. record { number = p.number; items = p.items.items } };
+    ghost view = { λ p. record { number = p.number; items = record { reads = p.reads.items; writes = p.writes } } };
 
-    ghost invariant = { λ p. list_all is_filled p.items.items ≡ true };
+    ghost invariant = { λ p. list_all is_filled p.reads.items ≡ true };
 }
 
 impl Planned {
     pub fn new(alloc: Global, number: u64) -> Planned
-        ensures { result ≡ record { number = number; items = [] } }
+        ensures { result ≡ record { number = number; items = no_items } }
     {
         Planned {
             number,
-            items: Vec::new(alloc),
+            reads: Vec::new(alloc),
+            writes: Writes::new(alloc),
         }
     }
 
@@ -44,21 +57,36 @@ impl Planned {
         self.number
     }
 
-    pub fn push(&mut self, item: ReadItem) -> Result<(), AllocError>
-        requires { is_filled item ≡ true }
-        ensures ok { OnOk result (self.new ≡ record { number = self.old.number; items = self.old.items ++ item ∷ [] }) }
+    fn add_reads(&mut self, mut reads: Vec<ReadItem>) -> Result<(), AllocError>
+        requires { list_all is_filled reads.items ≡ true }
+        ensures ok { OnOk result (self.new ≡ record { number = self.old.number; items = grown self.old.items (added (Addition.Reads reads)) }) }
         ensures err { OnErr result (self.new ≡ self.old) }
     {
-        self.items.push(item)?;
-        Ok(())
+        self.reads.append(&mut reads)
+    }
+
+    /// Puts these items behind those that stand.
+    pub fn add(&mut self, addition: Addition) -> Result<(), AllocError>
+        requires { is_lawful addition ≡ true }
+        ensures ok { OnOk result (self.new ≡ record { number = self.old.number; items = grown self.old.items (added addition) }) }
+        ensures err { OnErr result (self.new ≡ self.old) }
+    {
+        match addition {
+            Addition::Nothing => Ok(()),
+            Addition::Reads(reads) => self.add_reads(reads),
+            Addition::Write(item) => self.writes.push(item),
+        }
     }
 
     /// Hands out all items.
-    pub fn take(&mut self, alloc: Global) -> Vec<ReadItem>
-        ensures items { result.items ≡ self.old.items }
-        ensures filled { list_all is_filled result.items ≡ true }
-        ensures left { self.new ≡ record { number = self.old.number; items = [] } }
+    pub fn take(&mut self, alloc: Global) -> (Vec<ReadItem>, Writes)
+        ensures reads { result.0.items ≡ self.old.items.reads }
+        ensures writes { result.1 ≡ self.old.items.writes }
+        ensures filled { list_all is_filled result.0.items ≡ true }
+        ensures left { self.new ≡ record { number = self.old.number; items = no_items } }
     {
-        mem::replace(&mut self.items, Vec::new(alloc))
+        let reads = mem::replace(&mut self.reads, Vec::new(alloc));
+        let writes = mem::replace(&mut self.writes, Writes::new(alloc));
+        (reads, writes)
     }
 }

@@ -1,19 +1,20 @@
 //! A world in memory, which plays its plan.
-ghost use Rattle.std.specs.Prelude.{◌≡◌, ◌+◌, ◌++◌, ◌∷◌, [], ℕ, List, Option, Some, true, length, IfOk, OnOk, OnErr, IfSome, ◌==◌, ◌<◌, if◌then◌else◌};
-ghost use Rattle.std.specs.Option.{option_to_list};
+ghost use Rattle.std.specs.Prelude.{◌≡◌, ◌∷◌, [], ℕ, Some, true, length, IfOk, OnOk, OnErr, ◌==◌, ◌<◌, if◌then◌else◌};
+ghost use Rattle.my_world.specs.Link.{accept_back};
 ghost use Rattle.my_world.specs.Memory.{is_filled};
-ghost use Rattle.my_world.specs.Plan.{header_of, link_of, items_of};
-ghost use Rattle.my_world.specs.Planned.{items_at, place_at};
+ghost use Rattle.my_world.specs.Plan.{no_items, grown, given_by, packet_of, dripped, bytes_item, link_of};
+ghost use Rattle.my_world.specs.Planned.{added, is_lawful, items_at, place_at};
 
-use crate::link::ReadItem;
-use crate::memory::MemLink;
-use crate::memory::planned::Planned;
 use crate::line::WorldLine;
+use crate::link::{ReadItem, WriteItem};
+use crate::memory::MemLink;
+use crate::memory::planned::{Addition, Planned};
+use crate::memory::writes::Writes;
 use crate::world::{DialStep, World};
 use my_wire::{Blob, NoMemory};
 use std::alloc::{AllocError, Global};
 
-/// A world in memory: each link has what the lines of its number say, one after another. No dial fails.
+/// A world in memory: each link has what the lines of its number say, one after another, by itself for reads and for writes. No dial fails.
 #[derive(Drop)]
 pub struct MemWorld {
     alloc: Global,
@@ -21,7 +22,7 @@ pub struct MemWorld {
 }
 
 fn packet_bytes(alloc: Global, number: u8, payload: &[u8]) -> Result<Vec<u8>, AllocError>
-    ensures { IfOk result (λ bytes. bytes.items ≡ header_of (length payload.now) number ++ payload.now) }
+    ensures { IfOk result (λ bytes. bytes.items ≡ packet_of number payload.now) }
 {
     let len = payload.len();
     let mut bytes = Vec::new(alloc);
@@ -42,30 +43,79 @@ fn link_number(line: &WorldLine) -> u64
         | WorldLine::Turn(link)
         | WorldLine::Wait(link)
         | WorldLine::Fail(link)
-        | WorldLine::End(link) => *link,
+        | WorldLine::End(link)
+        | WorldLine::Drip(link, _, _)
+        | WorldLine::Accept(link, _)
+        | WorldLine::WriteWait(link)
+        | WorldLine::WriteFail(link) => *link,
     }
 }
 
-fn item(alloc: Global, line: &WorldLine) -> Result<Option<ReadItem>, AllocError>
-    ensures items { IfOk result (λ item. option_to_list item ≡ items_of line.now) }
-    ensures filled { IfOk result (λ item. IfSome item (λ i. is_filled i ≡ true)) }
+// One item to be read.
+fn one(alloc: Global, item: ReadItem) -> Result<Addition, AllocError>
+    requires { is_filled item ≡ true }
+    ensures added { IfOk result (λ a. added a ≡ record { reads = item ∷ []; writes = [] }) }
+    ensures lawful { IfOk result (λ a. is_lawful a ≡ true) }
+{
+    let mut items = Vec::new(alloc);
+    items.push(item)?;
+    Ok(Addition::Reads(items))
+}
+
+// Each byte by itself, with a hold behind it.
+fn drip(alloc: Global, bytes: &[u8]) -> Result<Addition, AllocError>
+    ensures added { IfOk result (λ a. added a ≡ record { reads = dripped bytes.now; writes = [] }) }
+    ensures lawful { IfOk result (λ a. is_lawful a ≡ true) }
+{
+    let mut items = Vec::new(alloc);
+    for byte in bytes {
+        items.push(ReadItem::Bytes(Blob::from_slice(alloc, &[*byte])?))?;
+        items.push(ReadItem::Wait)?;
+    }
+    Ok(Addition::Reads(items))
+}
+
+fn read_bytes(alloc: Global, bytes: &Blob) -> Result<Addition, AllocError>
+    ensures added { IfOk result (λ a. added a ≡ record { reads = bytes_item bytes.now; writes = [] }) }
+    ensures lawful { IfOk result (λ a. is_lawful a ≡ true) }
+{
+    if bytes.is_empty() {
+        return Ok(Addition::Nothing);
+    }
+    one(alloc, ReadItem::Bytes(bytes.copy(alloc)?))
+}
+
+fn accept(count: u64) -> Addition
+    ensures added { added result ≡ record { reads = []; writes = accept_back count [] } }
+    ensures lawful { is_lawful result ≡ true }
+{
+    if count == 0 {
+        return Addition::Nothing;
+    }
+    Addition::Write(WriteItem::Accept(count))
+}
+
+fn addition(alloc: Global, line: &WorldLine) -> Result<Addition, AllocError>
+    ensures added { IfOk result (λ a. added a ≡ given_by line.now) }
+    ensures lawful { IfOk result (λ a. is_lawful a ≡ true) }
 {
     match line {
         WorldLine::Packet(_, number, payload) => {
             let bytes = packet_bytes(alloc, *number, payload.as_slice())?;
-            Ok(Some(ReadItem::Bytes(Blob::from(bytes))))
+            one(alloc, ReadItem::Bytes(Blob::from(bytes)))
         }
-        WorldLine::Bytes(_, bytes) => {
-            if bytes.is_empty() {
-                return Ok(None);
-            }
-            let bytes = bytes.copy(alloc)?;
-            Ok(Some(ReadItem::Bytes(bytes)))
+        WorldLine::Drip(_, number, payload) => {
+            let bytes = packet_bytes(alloc, *number, payload.as_slice())?;
+            drip(alloc, &bytes)
         }
-        WorldLine::Turn(_) => Ok(Some(ReadItem::Turn)),
-        WorldLine::Wait(_) => Ok(Some(ReadItem::Wait)),
-        WorldLine::Fail(_) => Ok(Some(ReadItem::Fail)),
-        WorldLine::End(_) => Ok(Some(ReadItem::End)),
+        WorldLine::Bytes(_, bytes) => read_bytes(alloc, bytes),
+        WorldLine::Turn(_) => one(alloc, ReadItem::Turn),
+        WorldLine::Wait(_) => one(alloc, ReadItem::Wait),
+        WorldLine::Fail(_) => one(alloc, ReadItem::Fail),
+        WorldLine::End(_) => one(alloc, ReadItem::End),
+        WorldLine::Accept(_, count) => Ok(accept(*count)),
+        WorldLine::WriteWait(_) => Ok(Addition::Write(WriteItem::Wait)),
+        WorldLine::WriteFail(_) => Ok(Addition::Write(WriteItem::Fail)),
     }
 }
 
@@ -102,18 +152,18 @@ fn entry(alloc: Global, links: &mut Vec<Planned>, number: u64) -> Result<usize, 
     Ok(place)
 }
 
-fn add_item(
+fn add(
     alloc: Global,
     links: &mut Vec<Planned>,
     number: u64,
-    item: ReadItem,
+    addition: Addition,
 ) -> Result<(), AllocError>
-    requires { is_filled item ≡ true }
-    ensures ok { OnOk result ((n : ℕ) → items_at n links.new.items ≡ items_at n links.old.items ++ (if number == n then item ∷ [] else [])) }
+    requires { is_lawful addition ≡ true }
+    ensures ok { OnOk result ((n : ℕ) → items_at n links.new.items ≡ grown (items_at n links.old.items) (if number == n then added addition else no_items)) }
     ensures err { OnErr result ((n : ℕ) → items_at n links.new.items ≡ items_at n links.old.items) }
 {
     let place = entry(alloc, links, number)?;
-    links[place].push(item)?;
+    links[place].add(addition)?;
     Ok(())
 }
 
@@ -122,7 +172,9 @@ impl World for MemWorld {
 
     ghost takes_plan = { λ w. true };
 
-    ghost plan = { λ w n. Some (items_at n w.links.items) };
+    ghost plan = { λ w n. Some ((items_at n w.links.items).reads) };
+
+    ghost write_plan = { λ w n. Some ((items_at n w.links.items).writes) };
 
     ghost faults = { λ w. 0 };
 
@@ -133,22 +185,20 @@ impl World for MemWorld {
     }
 
     fn prepare(&mut self, line: &WorldLine) -> Result<(), NoMemory> {
-        match item(self.alloc, line)? {
-            None => Ok(()),
-            Some(item) => {
-                add_item(self.alloc, &mut self.links, link_number(line), item)?;
-                Ok(())
-            }
-        }
+        let addition = addition(self.alloc, line)?;
+        add(self.alloc, &mut self.links, link_number(line), addition)?;
+        Ok(())
     }
 
     fn dial(&mut self, number: u64) -> DialStep<MemLink> {
         let place = place_of(&self.links, number);
         if place >= self.links.len() {
-            return DialStep::Link(MemLink::new(self.alloc, Vec::new(self.alloc)));
+            let empty = MemLink::new(self.alloc, Vec::new(self.alloc), Writes::new(self.alloc));
+            return DialStep::Link(empty);
         }
-        let items = self.links[place].take(self.alloc);
-        DialStep::Link(MemLink::new(self.alloc, items))
+        let (reads, writes) = self.links[place].take(self.alloc);
+        let link = MemLink::new(self.alloc, reads, writes);
+        DialStep::Link(link)
     }
 
     fn now(&mut self) -> u64 {
