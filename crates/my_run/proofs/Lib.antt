@@ -3,3 +3,4 @@ pub mod Scripts
 pub mod Outputs
 pub mod Texts
 pub mod Numbering
+pub mod Spends

@@ -1,26 +1,27 @@
 -- What a turn of a poll does.
-use Rattle.std.specs.Prelude.{◌≡◌, ◌≢◌, ℕ, ◌+◌, ◌<◌, ◌≤◌, ◌⊎◌, List, [], ◌++◌, length, Option, Some, Bool, true, false}
-use Rattle.my_wire.specs.Front.{Waiting, front_at}
+use Rattle.std.specs.Prelude.{◌≡◌, ℕ, ◌+◌, ◌<◌, ◌≤◌, ◌⊎◌, List, ◌++◌, length, Option, Some, Bool, true, false}
 use Rattle.my_session.specs.declared.call.Task.TheVariants.{Nothing}
 use Rattle.my_session.specs.declared.answer.SessionStep.TheVariants.{Send, Need}
 use Rattle.my_session.specs.Calls.{is_open}
 use Rattle.my_session.specs.Seen.{Seen}
 use Rattle.my_session.specs.Steps.{StepIs}
 use Rattle.my_world.specs.declared.link.ReadItem.{ReadItem}
+use Rattle.my_world.specs.declared.link.WriteItem.{WriteItem}
 use Rattle.my_run.specs.declared.poll.After.{After}
 use Rattle.my_run.specs.declared.poll.After.TheVariants.{Pending, Answered as Replied, Failed as Broke}
 use Rattle.my_run.specs.declared.poll.Polled.{Polled}
 use Rattle.my_run.specs.declared.transcript.Use.{Use}
-use Rattle.my_world.specs.Spent.{IsSpent}
+use Rattle.my_world.specs.Spent.{IsSpent, Spends}
 use Rattle.my_run.specs.Uses.{CountsTo}
 use Rattle.my_run.specs.declared.poll.Turn.{Turn}
 use Rattle.my_run.specs.declared.poll.Turn.TheVariants.{Sent, Took, Ended, Failed, Held, Full, Answered, Faulted}
 use Rattle.my_world.specs.Outside.{Counts, FaultRose, HoldRose, EndRose}
-use Rattle.my_world.specs.Link.{Told, Gave, behind_hold, behind_fault, behind_end, behind_write}
+use Rattle.my_world.specs.Link.{Told, Gave, behind_hold, behind_fault, behind_end, behind_write, taken_of, behind_taken, behind_write_hold, behind_write_fault}
 
 -- what clauses see of a link
 pub record Looks : Type 0 where
   pub items : Option (List ReadItem)
+  pub writes : Option (List WriteItem)
   pub counts : Counts
 
 -- the call is still open, and asks for a sending or for bytes
@@ -33,6 +34,7 @@ pub record CameIn (x y : Looks) (taken taken' : List ℕ) (n : ℕ) : Type 0 whe
   pub count : length bytes ≡ n
   pub some : 0 < n
   pub items : Told x.items y.items (Gave bytes)
+  pub writes : y.writes ≡ x.writes
   pub taken_is : taken' ≡ taken ++ bytes
 
 -- these bytes went out
@@ -40,13 +42,49 @@ pub record WentOut (sent sent' : List ℕ) : Type 0 where
   pub bytes : List ℕ
   pub sent_is : sent' ≡ sent ++ bytes
 
+-- the link took so many bytes of those that it was offered
+pub record TakesOut (x y : Looks) : Type 0 where
+  pub offered : ℕ
+  pub size : ℕ
+  pub items : Told x.items y.items (λ is js. js ≡ behind_write is)
+  pub writes : Told x.writes y.writes (λ ws vs. (taken_of offered ws ≡ Some size) × (vs ≡ behind_taken size ws))
+
+-- a read told the end
+pub record Ends (x y : Looks) : Type 0 where
+  pub items : Told x.items y.items (λ is js. behind_end is ≡ Some js)
+  pub writes : y.writes ≡ x.writes
+
+-- a read held, or a write did
+pub record ReadHeld (x y : Looks) : Type 0 where
+  pub items : Told x.items y.items (λ is js. behind_hold is ≡ Some js)
+  pub writes : y.writes ≡ x.writes
+
+pub record WriteHeld (x y : Looks) : Type 0 where
+  pub items : y.items ≡ x.items
+  pub writes : Told x.writes y.writes (λ ws vs. behind_write_hold ws ≡ Some vs)
+
+abbrev pub Holds : Looks → Looks → Type 0
+Holds x y = ReadHeld x y ⊎ WriteHeld x y
+
+-- a read failed, or a write did
+pub record ReadFailed (x y : Looks) : Type 0 where
+  pub items : Told x.items y.items (λ is js. behind_fault is ≡ Some js)
+  pub writes : y.writes ≡ x.writes
+
+pub record WriteFailed (x y : Looks) : Type 0 where
+  pub items : y.items ≡ x.items
+  pub writes : Told x.writes y.writes (λ ws vs. behind_write_fault ws ≡ Some vs)
+
+abbrev pub Fails : Looks → Looks → Type 0
+Fails x y = ReadFailed x y ⊎ WriteFailed x y
+
 -- by what the turn did: what became of the session, the link, and the bytes that were sent and taken
 abbrev pub TurnIs : Seen → Looks → Looks → List ℕ → List ℕ → List ℕ → List ℕ → Turn → Type 0
-TurnIs t x y sent sent' taken taken' Sent = (is_open t.task ≡ true) × (y.counts ≡ x.counts) × Told x.items y.items (λ is js. js ≡ behind_write is) × WentOut sent sent' × (taken' ≡ taken)
+TurnIs t x y sent sent' taken taken' Sent = (is_open t.task ≡ true) × (y.counts ≡ x.counts) × TakesOut x y × WentOut sent sent' × (taken' ≡ taken)
 TurnIs t x y sent sent' taken taken' (Took n) = (is_open t.task ≡ true) × (y.counts ≡ x.counts) × CameIn x y taken taken' n × (sent' ≡ sent)
-TurnIs t x y sent sent' taken taken' Ended = (is_open t.task ≡ true) × EndRose x.counts y.counts × Told x.items y.items (λ is js. behind_end is ≡ Some js) × (sent' ≡ sent) × (taken' ≡ taken)
-TurnIs t x y sent sent' taken taken' Failed = (is_open t.task ≡ true) × FaultRose x.counts y.counts × Told x.items y.items (λ is js. behind_fault is ≡ Some js) × (sent' ≡ sent) × (taken' ≡ taken)
-TurnIs t x y sent sent' taken taken' Held = Waits t × HoldRose x.counts y.counts × Told x.items y.items (λ is js. behind_hold is ≡ Some js) × (sent' ≡ sent) × (taken' ≡ taken)
+TurnIs t x y sent sent' taken taken' Ended = (is_open t.task ≡ true) × EndRose x.counts y.counts × Ends x y × (sent' ≡ sent) × (taken' ≡ taken)
+TurnIs t x y sent sent' taken taken' Failed = (is_open t.task ≡ true) × FaultRose x.counts y.counts × Fails x y × (sent' ≡ sent) × (taken' ≡ taken)
+TurnIs t x y sent sent' taken taken' Held = Waits t × HoldRose x.counts y.counts × Holds x y × (sent' ≡ sent) × (taken' ≡ taken)
 TurnIs t x y sent sent' taken taken' Full = Waits t × (y ≡ x) × (sent' ≡ sent) × (taken' ≡ taken)
 TurnIs t x y sent sent' taken taken' (Answered answer) = (t.task ≡ Nothing) × (y ≡ x) × (sent' ≡ sent) × (taken' ≡ taken)
 TurnIs t x y sent sent' taken taken' (Faulted error) = (t.task ≡ Nothing) × (y ≡ x) × (sent' ≡ sent) × (taken' ≡ taken)
@@ -105,7 +143,6 @@ pub record Polls (t : Seen) (x y : Looks) (sent sent' taken taken' : List ℕ) (
   pub within : p.used.taken ≤ 67108864
   pub came : length taken' ≡ length taken + p.used.taken
   pub sent_on : WentOut sent sent'
-  pub spent : (plan : Option (List ReadItem)) (f e : ℕ) → IsSpent plan x.items taken f e → IsSpent plan y.items taken' (f + p.used.faults) (e + p.used.ends)
 
 -- so far in a poll
 pub record SoFar (x y : Looks) (sent sent' taken taken' : List ℕ) (n : ℕ) (u : Use) : Type 0 where
@@ -116,4 +153,11 @@ pub record SoFar (x y : Looks) (sent sent' taken taken' : List ℕ) (n : ℕ) (u
   pub within : u.taken ≤ 67108864
   pub came : length taken' ≡ length taken + u.taken
   pub sent_on : WentOut sent sent'
-  pub spent : (plan : Option (List ReadItem)) (f e : ℕ) → IsSpent plan x.items taken f e → IsSpent plan y.items taken' f (e + u.ends)
+
+-- what a poll used of the link's plan, whatever was used before
+abbrev pub SpendsOn : Looks → Looks → List ℕ → List ℕ → Use → Type 0
+SpendsOn x y taken taken' u = (plan : Option (List ReadItem)) (rules : Option (List WriteItem)) (f w e : ℕ) → IsSpent plan x.items rules x.writes taken f w e → Spends plan y.items rules y.writes taken' (f + u.faults) w u.holds (e + u.ends)
+
+-- so far in a poll, in which nothing failed or held
+abbrev pub SpentSoFar : Looks → Looks → List ℕ → List ℕ → ℕ → Type 0
+SpentSoFar x y taken taken' ends = (plan : Option (List ReadItem)) (rules : Option (List WriteItem)) (f w e : ℕ) → IsSpent plan x.items rules x.writes taken f w e → IsSpent plan y.items rules y.writes taken' f w (e + ends)

@@ -3,13 +3,13 @@ ghost use Rattle.std.specs.Prelude.{◌≡◌, ◌<◌, ◌≤◌, true, false, 
 ghost use Rattle.my_session.specs.Calls.{is_open};
 ghost use Rattle.my_session.specs.Steps.{StepIs};
 ghost use Rattle.my_session.specs.declared.call.Task.TheVariants.{Nothing};
-ghost use Rattle.my_run.specs.Poll.{TurnIs, took_by, is_full, quiet, IsFailed, Polls};
+ghost use Rattle.my_run.specs.Poll.{TurnIs, took_by, is_full, quiet, IsFailed, Polls, SpendsOn};
 
-use my_world::link::{Link, ReadStep, WriteStep};
 use crate::slot::Conn;
 use crate::transcript::Use;
 use my_session::{Answer, Error, LinkFault, SessionStep};
 use my_wire::NoMemory;
+use my_world::link::{Link, ReadStep, WriteStep};
 use std::alloc::Global;
 
 /// The most bytes that one poll takes.
@@ -52,7 +52,7 @@ pub enum Turn {
 // Sends some of what is owed.
 fn send<L: Link>(conn: &mut Conn<L>) -> Result<Turn, NoMemory>
     requires { StepIs conn.old.session.seen SessionStep.Send }
-    ensures turn { IfOk result (λ turn. TurnIs conn.new.session.seen (record { items = L.items conn.old.link; counts = L.counts conn.old.link }) (record { items = L.items conn.new.link; counts = L.counts conn.new.link }) conn.old.sent.items conn.new.sent.items conn.old.taken.items conn.new.taken.items turn) }
+    ensures turn { IfOk result (λ turn. TurnIs conn.new.session.seen (record { items = L.items conn.old.link; writes = L.writes conn.old.link; counts = L.counts conn.old.link }) (record { items = L.items conn.new.link; writes = L.writes conn.new.link; counts = L.counts conn.new.link }) conn.old.sent.items conn.new.sent.items conn.old.taken.items conn.new.taken.items turn) }
     ensures took { IfOk result (λ turn. took_by turn ≡ 0) }
     ensures full { IfOk result (λ turn. is_full turn ≡ false) }
 {
@@ -75,7 +75,7 @@ fn send<L: Link>(conn: &mut Conn<L>) -> Result<Turn, NoMemory>
 fn receive<L: Link>(conn: &mut Conn<L>, room: u64) -> Result<Turn, NoMemory>
     requires step { StepIs conn.old.session.seen SessionStep.Need }
     requires room { 0 < room }
-    ensures turn { IfOk result (λ turn. TurnIs conn.new.session.seen (record { items = L.items conn.old.link; counts = L.counts conn.old.link }) (record { items = L.items conn.new.link; counts = L.counts conn.new.link }) conn.old.sent.items conn.new.sent.items conn.old.taken.items conn.new.taken.items turn) }
+    ensures turn { IfOk result (λ turn. TurnIs conn.new.session.seen (record { items = L.items conn.old.link; writes = L.writes conn.old.link; counts = L.counts conn.old.link }) (record { items = L.items conn.new.link; writes = L.writes conn.new.link; counts = L.counts conn.new.link }) conn.old.sent.items conn.new.sent.items conn.old.taken.items conn.new.taken.items turn) }
     ensures within { IfOk result (λ turn. took_by turn ≤ room) }
     ensures full { IfOk result (λ turn. is_full turn ≡ false) }
 {
@@ -102,7 +102,7 @@ fn receive<L: Link>(conn: &mut Conn<L>, room: u64) -> Result<Turn, NoMemory>
 // One turn: what the session asks for is done with the link.
 fn take_turn<L: Link>(alloc: Global, conn: &mut Conn<L>, room: u64) -> Result<Turn, NoMemory>
     requires { is_open conn.old.session.seen.task ≡ true }
-    ensures turn { IfOk result (λ turn. TurnIs conn.new.session.seen (record { items = L.items conn.old.link; counts = L.counts conn.old.link }) (record { items = L.items conn.new.link; counts = L.counts conn.new.link }) conn.old.sent.items conn.new.sent.items conn.old.taken.items conn.new.taken.items turn) }
+    ensures turn { IfOk result (λ turn. TurnIs conn.new.session.seen (record { items = L.items conn.old.link; writes = L.writes conn.old.link; counts = L.counts conn.old.link }) (record { items = L.items conn.new.link; writes = L.writes conn.new.link; counts = L.counts conn.new.link }) conn.old.sent.items conn.new.sent.items conn.old.taken.items conn.new.taken.items turn) }
     ensures within { IfOk result (λ turn. took_by turn ≤ room) }
     ensures full { IfOk result (λ turn. is_full turn ≡ true → room ≡ 0) }
 {
@@ -158,7 +158,8 @@ pub fn poll_conn<L: Link>(
     number: u64,
 ) -> Result<Polled, NoMemory>
     requires { is_open conn.old.session.seen.task ≡ true }
-    ensures { IfOk result (λ p. Polls conn.new.session.seen (record { items = L.items conn.old.link; counts = L.counts conn.old.link }) (record { items = L.items conn.new.link; counts = L.counts conn.new.link }) conn.old.sent.items conn.new.sent.items conn.old.taken.items conn.new.taken.items number p) }
+    ensures polls { IfOk result (λ p. Polls conn.new.session.seen (record { items = L.items conn.old.link; writes = L.writes conn.old.link; counts = L.counts conn.old.link }) (record { items = L.items conn.new.link; writes = L.writes conn.new.link; counts = L.counts conn.new.link }) conn.old.sent.items conn.new.sent.items conn.old.taken.items conn.new.taken.items number p) }
+    ensures spends { IfOk result (λ p. SpendsOn (record { items = L.items conn.old.link; writes = L.writes conn.old.link; counts = L.counts conn.old.link }) (record { items = L.items conn.new.link; writes = L.writes conn.new.link; counts = L.counts conn.new.link }) conn.old.taken.items conn.new.taken.items p.used) }
 {
     let mut used = quiet_use(number);
     'turns: for _ in 0..u64::MAX {

@@ -4,7 +4,7 @@ use Rattle.my_world.specs.declared.link.ReadItem.{ReadItem}
 use Rattle.my_world.specs.declared.link.ReadItem.TheVariants.{Bytes, Turn, Wait, Fail, End}
 use Rattle.my_world.specs.declared.link.WriteItem.{WriteItem}
 use Rattle.my_world.specs.declared.link.WriteItem.TheVariants as puts
-use Rattle.my_world.specs.Link.{Told, Gave, put_back, behind_hold, behind_fault, behind_end, behind_write, behind_taken, behind_write_hold, behind_write_fault}
+use Rattle.my_world.specs.Link.{Told, Gave, put_back, behind_hold, behind_fault, behind_end, behind_write, taken_of, behind_taken, behind_write_hold, behind_write_fault}
 use Rattle.my_world.specs.Spent.{spelled, fails_in, waits_in, write_fails_in, write_waits_in, has_end, is_at_end, IsDry, IsDryWhere, Spends, Spent, CountsSpent, ReadsSpent, AllSpent, IsSpent}
 
 -- unchanged, where it is told
@@ -86,13 +86,13 @@ taken_waits n (puts.Wait ∷ more) = refl
 taken_waits n (puts.Fail ∷ more) = refl
 
 -- a write took bytes
-pub spent_sent : (plan x y : Option (List ReadItem)) (rules ws vs : Option (List WriteItem)) (n : ℕ) (taken : List ℕ) (f w e : ℕ) → Told x y (λ is js. js ≡ behind_write is) → Told ws vs (λ us vs. vs ≡ behind_taken n us) → IsSpent plan x rules ws taken f w e → IsSpent plan y rules vs taken f w e
-spent_sent plan x y rules ws vs n taken f w e t u s = record {
+pub spent_sent : (plan x y : Option (List ReadItem)) (rules ws vs : Option (List WriteItem)) (len n : ℕ) (taken : List ℕ) (f w e : ℕ) → Told x y (λ is js. js ≡ behind_write is) → Told ws vs (λ us vs. (taken_of len us ≡ Some n) × (vs ≡ behind_taken n us)) → IsSpent plan x rules ws taken f w e → IsSpent plan y rules vs taken f w e
+spent_sent plan x y rules ws vs len n taken f w e t u s = record {
   reads = reads_on plan x y taken taken e e (λ is js. js ≡ behind_write is) t (λ p is js g k. alike_spent p is js taken e (subst (Alike is) (sym g) (met is)) k) s.reads;
-  counts = counts_on plan x y rules ws vs f w f w (λ is js. js ≡ behind_write is) (λ us vs. vs ≡ behind_taken n us) t u
+  counts = counts_on plan x y rules ws vs f w f w (λ is js. js ≡ behind_write is) (λ us vs. (taken_of len us ≡ Some n) × (vs ≡ behind_taken n us)) t u
       (λ p is js rs us vs g h k. record {
-        failed = k.failed ∙ sym (ap (λ m. f + m) (ap (λ m. m + write_fails_in vs) (ap fails_in g ∙ (met is).fails) ∙ ap (λ m. fails_in is + m) (ap write_fails_in h ∙ taken_fails n us)));
-        waited = k.waited ∙ sym (ap (λ m. w + m) (ap (λ m. m + write_waits_in vs) (ap waits_in g ∙ met_waits is) ∙ ap (λ m. waits_in is + m) (ap write_waits_in h ∙ taken_waits n us)));
+        failed = k.failed ∙ sym (ap (λ m. f + m) (ap (λ m. m + write_fails_in vs) (ap fails_in g ∙ (met is).fails) ∙ ap (λ m. fails_in is + m) (ap write_fails_in h.1 ∙ taken_fails n us)));
+        waited = k.waited ∙ sym (ap (λ m. w + m) (ap (λ m. m + write_waits_in vs) (ap waits_in g ∙ met_waits is) ∙ ap (λ m. waits_in is + m) (ap write_waits_in h.1 ∙ taken_waits n us)));
       }) s.counts;
 }
 
