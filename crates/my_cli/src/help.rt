@@ -15,32 +15,57 @@ the server may wait, at most 31536000. For example:
 
 A script has a line for each thing. Empty lines and lines that begin with # are skipped.
 Words stand one space apart. The lines of the world come first: what the link of a number
-gives to be read, as the server's side of the connection of that number would.
+does, as the server's side of the connection of that number would. What it gives to be read:
 
   packet L N HEX   a packet with the number N and this payload; HEX is hexadecimal, - is none
+  drip L N HEX     the same byte by byte; behind each byte a read has nothing yet, once
   bytes L HEX      these bytes as they are
   turn L           what follows comes once the client sent something
   wait L           the next read has nothing yet, once
   fail L           the next read fails, once
   end L            the link ends here
 
+What it does with the bytes that the client sends; where none of these is left it takes all:
+
+  accept L N       takes the next N bytes in one piece
+  wwait L          takes nothing of the next write yet, once
+  wfail L          the next write fails, once
+
+For example:
+
   packet 0 2 00000002000000
   turn 0
+  drip 0 1 00000002000000
+  accept 0 5
 
-Then the steps, each of which prints one line with its number:
+L is a number from 0 to 65535. Then the steps, each of which prints one line with its number.
+C is a connection; at most 1000 lines connect:
 
   conn             connects; connections are numbered from 0
   query C TEXT     sends a query over connection C and reads the head of its result
   next C           reads the next row
+  collect C        reads all rows that are left of the set
+  drop C           passes over all that is left of the result
+  fields C         tells what the server's last OK said
+  ping C           asks whether the server is there
+  quit C           leaves the server
+  poll C           goes on with a call that is pending
+  cancel C         drops a call that is pending
 
   conn             1 conn 0 id=7 version=8.0.36
   query 0 SELECT 1 2 ok
   next 0           3 row b:31
-  next 0           4 end          the result ended
+  next 0           4 end          the set ended
   next 0           5 none         nothing is left to be read
+  query 0 SELECT 2 6 pending      the link has nothing yet
+  poll 0           7 ok           now it came
+  collect 0        8 rows 2 [b:31 NULL] [b:32 b:61]
+  fields 0         9 ok affected=0 insert=- warnings=0 status=2 info=b:
+  quit 0           10 ok
 
-A step may also print pending, where the link has nothing yet; refused NoSuchHandle, where
-there is no such connection or its call is still pending; or an error, as
+A step may also print pending, where the link has nothing yet; ok -, where no OK came yet;
+refused NoSuchHandle, where there is no such connection, its call is still pending, or there
+is no call to go on with or to drop; or an error, as
 
   error Io Link
   error Io InvalidData 4

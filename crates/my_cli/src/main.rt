@@ -4,12 +4,14 @@
 mod help;
 #[cfg(test)]
 mod tests;
+#[cfg(test)]
+mod world_tests;
 
 use help::{HELP, VERSION};
-use my_world::memory::world::MemWorld;
 use my_run::output::write_all;
 use my_run::tool::run_tool;
 use my_wire::{StdSink, StdSource};
+use my_world::memory::world::MemWorld;
 use std::alloc::AllocError;
 use std::process::ExitCode;
 use std::rt::Env;

@@ -2,15 +2,15 @@
 
 ghost use Rattle.std.specs.Prelude.{None};
 
-use my_world::memory::world::MemWorld;
 use my_run::tool::run_tool;
 use my_wire::{MemSink, MemSource, NoMemory, Source, SourceStep};
+use my_world::memory::world::MemWorld;
 use std::alloc::Global;
 use std::test::Fail;
 
-const WORD: &str = "plain,root,,4194304,28800";
+pub const WORD: &str = "plain,root,,4194304,28800";
 
-const GREETING: &str =
+pub const GREETING: &str =
     "packet 0 0 0a382e302e333600070000006162636465666768008ba22d02001f011500000000000000000000696a6b6c6d6e6f7071727374006d7973716c5f6e61746976655f70617373776f726400\nturn 0\npacket 0 2 00000002000000\nturn 0\n";
 
 // A source whose every read fails.
@@ -46,9 +46,9 @@ impl Source for Endless {
 
 // How a run ended, and what it wrote.
 #[derive(Drop)]
-struct Ended {
-    status: u8,
-    text: Vec<u8>,
+pub struct Ended {
+    pub status: u8,
+    pub text: Vec<u8>,
 }
 
 fn words_of(alloc: Global, words: &[&str]) -> Result<Vec<String>, NoMemory> {
@@ -76,7 +76,7 @@ fn run_over<S: Source>(
     })
 }
 
-fn run_text(alloc: Global, words: &[&str], text: &str, room: usize) -> Result<Ended, NoMemory> {
+pub fn run_text(alloc: Global, words: &[&str], text: &str, room: usize) -> Result<Ended, NoMemory> {
     let mut src = MemSource::new(text.as_bytes().to_vec(alloc)?);
     run_over(alloc, words, &mut src, room)
 }
@@ -98,7 +98,7 @@ fn statuses_of_words_and_lines(rt: HostRuntime) -> Result<(), Fail> {
         ),
         (&["script", WORD], "fly 0\n", 3),
         (&["script", WORD], "conn\nturn 0\n", 3),
-        (&["script", WORD], "conn\nconn\n", 3),
+        (&["script", WORD], "conn\nconn\n", 0),
         (&["script", WORD], "# nothing\n\n", 0),
     ];
     for (words, text, status) in cases {

@@ -1,5 +1,5 @@
 -- How answers are numbered.
-use Rattle.std.proofs.Common.{◌≡◌, ◌<◌, ◌+◌, ℕ, zero, suc, List, [], ◌∷◌, ◌++◌, length, take, refl, sym, ap, ◌∙◌, subst, arith}
+use Rattle.std.proofs.Common.{◌≡◌, ◌<◌, ◌+◌, ℕ, zero, suc, List, [], ◌∷◌, ◌++◌, length, take, sym, subst, arith}
 use Rattle.my_run.specs.declared.step.Step.{Step}
 use Rattle.my_run.specs.declared.transcript.StepAnswer.{StepAnswer}
 use Rattle.my_run.specs.Run.{AreNumbered}

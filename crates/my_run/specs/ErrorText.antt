@@ -1,5 +1,5 @@
 -- Errors as text.
-use Rattle.std.specs.Prelude.{ℕ, List, [], ◌∷◌, ◌++◌, codes}
+use Rattle.std.specs.Prelude.{ℕ, List, ◌∷◌, ◌++◌, codes}
 use Rattle.std.specs.Fmt.{decimal}
 use Rattle.my_wire.specs.declared.fault.CodecFault.{CodecFault}
 use Rattle.my_wire.specs.declared.fault.CodecFault.TheVariants.{OutOfOrder, TooLarge}

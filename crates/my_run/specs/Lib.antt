@@ -1,5 +1,6 @@
 pub mod Cut
 pub mod Number
+pub mod Keyword
 pub mod Line
 pub mod Script
 pub mod Words

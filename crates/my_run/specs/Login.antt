@@ -1,5 +1,5 @@
 -- What a client with some options says of itself when a connection is made.
-use Rattle.std.specs.Prelude.{ℕ, [], Option, unwrap_or}
+use Rattle.std.specs.Prelude.{[], unwrap_or}
 use Rattle.my_grammar.specs.declared.login.Login.{Login}
 use Rattle.my_opts.specs.Opts.{OptsView}
 use Rattle.my_opts.specs.Capabilities.{capabilities_of}

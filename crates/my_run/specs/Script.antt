@@ -2,7 +2,7 @@
 use Rattle.std.specs.Prelude.{ℕ, ◌+◌, ◌==◌, ◌&&◌, nat_lt, not, List, [], ◌∷◌, ◌++◌, Option, Some, None, Bool, true, false, if◌then◌else◌}
 use Rattle.std.specs.List.{slice_split}
 use Rattle.my_run.specs.declared.step.Step.{Step}
-use Rattle.my_run.specs.declared.step.Step.TheVariants.{Conn, Query, Next, Collect, Drop, Ping, Quit, Fields, Poll, Cancel}
+use Rattle.my_run.specs.declared.step.Step.TheVariants.{Conn}
 use Rattle.my_world.specs.declared.line.WorldLine.{WorldLine}
 use Rattle.my_run.specs.declared.reading.line.Item.{Item}
 use Rattle.my_run.specs.declared.reading.line.Item.TheVariants.{Nothing, Plans, Steps, Wrong}
@@ -16,18 +16,10 @@ pub data Script : Type 0 where
   Good : (plan : List WorldLine) (steps : List Step) → Script
   Bad : (n : ℕ) → Script
 
--- at most one line connects, and at most one queries
+-- at most 1,000 lines connect
 abbrev pub admitted_step : Sofar → Step → Option Sofar
-admitted_step s Conn = if nat_lt s.conns 1 then Some (record { stepped = true; conns = s.conns + 1; queries = s.queries }) else None
-admitted_step s (Query c text) = if nat_lt s.queries 1 then Some (record { stepped = true; conns = s.conns; queries = s.queries + 1 }) else None
-admitted_step s (Next c) = Some (record { stepped = true; conns = s.conns; queries = s.queries })
-admitted_step s (Collect c) = Some (record { stepped = true; conns = s.conns; queries = s.queries })
-admitted_step s (Drop c) = Some (record { stepped = true; conns = s.conns; queries = s.queries })
-admitted_step s (Ping c) = Some (record { stepped = true; conns = s.conns; queries = s.queries })
-admitted_step s (Quit c) = Some (record { stepped = true; conns = s.conns; queries = s.queries })
-admitted_step s (Fields c) = Some (record { stepped = true; conns = s.conns; queries = s.queries })
-admitted_step s (Poll c) = Some (record { stepped = true; conns = s.conns; queries = s.queries })
-admitted_step s (Cancel c) = Some (record { stepped = true; conns = s.conns; queries = s.queries })
+admitted_step s Conn = if nat_lt s.conns 1000 then Some (record { stepped = true; conns = s.conns + 1 }) else None
+admitted_step s _ = Some (record { stepped = true; conns = s.conns })
 
 -- the lines up to this one, where it may stand there: a world's line stands before the first step, over a world that plans
 abbrev pub admitted : Bool → Sofar → Item → Option Sofar
@@ -58,7 +50,7 @@ script_from plans s n (l ∷ ls) = on_line (admitted plans s (line_of l)) n (lin
 
 -- all bytes as lines, which end with a line feed; a last line without one reads too
 abbrev pub script_of : Bool → List ℕ → Script
-script_of plans bytes = script_from plans (record { stepped = false; conns = 0; queries = 0 }) 1 (slice_split (λ b. b == 10) bytes)
+script_of plans bytes = script_from plans (record { stepped = false; conns = 0 }) 1 (slice_split (λ b. b == 10) bytes)
 
 abbrev pub read_as : Read → Script
 read_as (reads.Good s) = Good s.plan.items s.steps.items

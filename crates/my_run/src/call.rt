@@ -3,12 +3,12 @@ ghost use Rattle.std.specs.Prelude.{◌≡◌, ◌∷◌, [], IfOk, OnOk, true, 
 ghost use Rattle.my_session.specs.Calls.{is_open};
 ghost use Rattle.my_session.specs.Errors.{connection_closed};
 
-use my_world::link::Link;
 use crate::poll::{After, Polled, poll_conn};
 use crate::slot::{Conn, OpenCall, Slot};
 use crate::transcript::{Outcome, TapeCall, Use};
 use my_session::{Answer, Call, CallKind, Error, ServerError};
 use my_wire::NoMemory;
+use my_world::link::Link;
 use std::alloc::Global;
 
 /// What a step came to.

@@ -4,15 +4,15 @@ ghost use Rattle.my_session.specs.Steps.{fresh};
 ghost use Rattle.my_run.specs.Login.{login_of};
 
 use crate::call::{Did, copy_error, did_once, note};
-use my_world::link::Link;
 use crate::login::login_for;
 use crate::poll::{After, Polled, poll_conn, quiet_use};
 use crate::slot::{Conn, OpenCall, Slot};
 use crate::transcript::{Outcome, Use};
-use my_world::world::{DialStep, World};
 use my_opts::Opts;
 use my_session::{Answer, Call, Error, IoError, IoFault, IoKind, Session};
 use my_wire::{NoMemory, server_version};
+use my_world::link::Link;
+use my_world::world::{DialStep, World};
 use std::alloc::Global;
 
 fn dial_error() -> Error {

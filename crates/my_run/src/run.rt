@@ -7,10 +7,10 @@ use crate::connect::connect;
 use crate::slot::{Conn, Slot};
 use crate::step::Step;
 use crate::transcript::{StepAnswer, Tape, TapeCall, Transcript};
-use my_world::world::World;
 use my_opts::Opts;
 use my_session::Call;
 use my_wire::NoMemory;
+use my_world::world::World;
 use std::alloc::Global;
 
 fn run_step<N: World>(

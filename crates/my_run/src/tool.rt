@@ -9,13 +9,13 @@ use crate::input::{Came, MOST_INPUT, read_all};
 use crate::output::write_all;
 use crate::reading::{Read, Script, read_script};
 use crate::run::run_steps;
-use my_world::WorldLine;
 use crate::text::transcript::text_of;
 use crate::transcript::{Outcome, StepAnswer, Transcript};
 use crate::words::{read_word, script_word};
-use my_world::world::World;
 use my_opts::Opts;
 use my_wire::{NoMemory, Sink, Source};
+use my_world::WorldLine;
+use my_world::world::World;
 use std::alloc::Global;
 
 /// How a run ended.

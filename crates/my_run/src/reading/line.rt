@@ -1,8 +1,9 @@
 //! Reads a line of a script.
 ghost use Rattle.std.specs.Prelude.{◌≡◌, IfOk, option_map};
-ghost use Rattle.my_run.specs.Line.{keyword_of, packet_parts, link_parts, query_parts, packet_view, link_view, query_view, packet_with, bytes_with, packet_item, bytes_item, query_item, link_item, connection_item, bare_item, item_with, line_of};
+ghost use Rattle.my_run.specs.Line.{packet_parts, link_parts, accept_parts, query_parts, packet_view, link_view, accept_view, query_view, packet_as, packet_with, bytes_with, packet_item, bytes_item, accept_item, query_item, link_item, connection_item, bare_item, item_with, line_of};
 
 use super::cut::cut;
+use super::keyword::{Keyword, known_keyword};
 use super::number::{bytes, number, number_to};
 use crate::Step;
 use my_wire::Blob;
@@ -26,55 +27,7 @@ pub enum Item {
     Wrong,
 }
 
-/// The word that a line begins with.
-#[derive(Clone, Copy, Debug, PartialEq, Eq)]
-pub enum Keyword {
-    Packet,
-    Bytes,
-    Turn,
-    Wait,
-    Fail,
-    End,
-    Conn,
-    Query,
-    Next,
-    Unknown,
-}
-
-fn known_keyword(word: &[u8]) -> Keyword
-    ensures { result ≡ keyword_of word.now }
-{
-    if word == b"packet".as_slice() {
-        return Keyword::Packet;
-    }
-    if word == b"bytes".as_slice() {
-        return Keyword::Bytes;
-    }
-    if word == b"turn".as_slice() {
-        return Keyword::Turn;
-    }
-    if word == b"wait".as_slice() {
-        return Keyword::Wait;
-    }
-    if word == b"fail".as_slice() {
-        return Keyword::Fail;
-    }
-    if word == b"end".as_slice() {
-        return Keyword::End;
-    }
-    if word == b"conn".as_slice() {
-        return Keyword::Conn;
-    }
-    if word == b"query".as_slice() {
-        return Keyword::Query;
-    }
-    if word == b"next".as_slice() {
-        return Keyword::Next;
-    }
-    Keyword::Unknown
-}
-
-// What stands behind `packet`: a link, a packet's number and a payload's digits.
+// What stands behind `packet` and `drip`: a link, a packet's number and a payload's digits.
 #[derive(Clone, Copy)]
 struct PacketParts<'a> {
     link: u64,
@@ -115,6 +68,23 @@ fn link_and_digits(rest: &[u8]) -> Option<LinkParts<'_>>
     Some(LinkParts { link, digits })
 }
 
+// What stands behind `accept`: a link and how many bytes.
+#[derive(Clone, Copy)]
+struct AcceptParts {
+    link: u64,
+    count: u64,
+}
+
+#[tactic(auto, unfolding(crate::specs::Line::accept_parts))]
+fn link_and_count(rest: &[u8]) -> Option<AcceptParts>
+    ensures { option_map accept_view result ≡ accept_parts rest.now }
+{
+    let first = cut(b' ', rest);
+    let link = number_to(LAST_LINK, first.first)?;
+    let count = number(first.rest?)?;
+    Some(AcceptParts { link, count })
+}
+
 // What stands behind `query`: a connection and a text, which may be empty.
 #[derive(Clone, Copy)]
 struct QueryParts<'a> {
@@ -132,8 +102,19 @@ fn connection_and_text(rest: &[u8]) -> Option<QueryParts<'_>>
     Some(QueryParts { connection, text })
 }
 
-fn planned_packet(link: u64, number: u8, payload: Option<Blob>) -> Item
-    ensures { result ≡ packet_with link number payload }
+// A packet comes whole, or byte by byte.
+fn packet_as(keyword: Keyword, link: u64, number: u8, payload: Blob) -> Item
+    ensures { result ≡ packet_as keyword link number payload }
+{
+    match keyword {
+        Keyword::Packet => Item::Plans(WorldLine::Packet(link, number, payload)),
+        Keyword::Drip => Item::Plans(WorldLine::Drip(link, number, payload)),
+        _ => Item::Wrong,
+    }
+}
+
+fn planned_packet(keyword: Keyword, link: u64, number: u8, payload: Option<Blob>) -> Item
+    ensures { result ≡ packet_with keyword link number payload }
 {
     match payload {
         None => Item::Wrong,
@@ -141,7 +122,7 @@ fn planned_packet(link: u64, number: u8, payload: Option<Blob>) -> Item
             if payload.len() > LONGEST_PAYLOAD {
                 return Item::Wrong;
             }
-            Item::Plans(WorldLine::Packet(link, number, payload))
+            packet_as(keyword, link, number, payload)
         }
     }
 }
@@ -160,14 +141,14 @@ fn planned_bytes(link: u64, bytes: Option<Blob>) -> Item
     }
 }
 
-fn packet_line(alloc: Global, rest: &[u8]) -> Result<Item, AllocError>
-    ensures { IfOk result (λ item. item ≡ packet_item (packet_parts rest.now)) }
+fn packet_line(alloc: Global, keyword: Keyword, rest: &[u8]) -> Result<Item, AllocError>
+    ensures { IfOk result (λ item. item ≡ packet_item keyword (packet_parts rest.now)) }
 {
     match packet(rest) {
         None => Ok(Item::Wrong),
         Some(parts) => {
             let payload = bytes(alloc, parts.digits)?;
-            Ok(planned_packet(parts.link, parts.number, payload))
+            Ok(planned_packet(keyword, parts.link, parts.number, payload))
         }
     }
 }
@@ -181,6 +162,15 @@ fn bytes_line(alloc: Global, rest: &[u8]) -> Result<Item, AllocError>
             let read = bytes(alloc, parts.digits)?;
             Ok(planned_bytes(parts.link, read))
         }
+    }
+}
+
+fn accept_line(rest: &[u8]) -> Item
+    ensures { result ≡ accept_item (accept_parts rest.now) }
+{
+    match link_and_count(rest) {
+        None => Item::Wrong,
+        Some(parts) => Item::Plans(WorldLine::Accept(parts.link, parts.count)),
     }
 }
 
@@ -207,6 +197,8 @@ fn link_line(keyword: Keyword, link: Option<u64>) -> Item
             Keyword::Wait => Item::Plans(WorldLine::Wait(link)),
             Keyword::Fail => Item::Plans(WorldLine::Fail(link)),
             Keyword::End => Item::Plans(WorldLine::End(link)),
+            Keyword::WriteWait => Item::Plans(WorldLine::WriteWait(link)),
+            Keyword::WriteFail => Item::Plans(WorldLine::WriteFail(link)),
             _ => Item::Wrong,
         },
     }
@@ -220,6 +212,13 @@ fn connection_line(keyword: Keyword, connection: Option<u64>) -> Item
         None => Item::Wrong,
         Some(connection) => match keyword {
             Keyword::Next => Item::Steps(Step::Next(connection)),
+            Keyword::Collect => Item::Steps(Step::Collect(connection)),
+            Keyword::Drop => Item::Steps(Step::Drop(connection)),
+            Keyword::Ping => Item::Steps(Step::Ping(connection)),
+            Keyword::Quit => Item::Steps(Step::Quit(connection)),
+            Keyword::Fields => Item::Steps(Step::Fields(connection)),
+            Keyword::Poll => Item::Steps(Step::Poll(connection)),
+            Keyword::Cancel => Item::Steps(Step::Cancel(connection)),
             _ => Item::Wrong,
         },
     }
@@ -239,13 +238,24 @@ fn with_arguments(alloc: Global, keyword: Keyword, rest: &[u8]) -> Result<Item, 
     ensures { IfOk result (λ item. item ≡ item_with keyword rest.now) }
 {
     match keyword {
-        Keyword::Packet => packet_line(alloc, rest),
+        Keyword::Packet | Keyword::Drip => packet_line(alloc, keyword, rest),
         Keyword::Bytes => bytes_line(alloc, rest),
+        Keyword::Accept => Ok(accept_line(rest)),
         Keyword::Query => query_line(alloc, rest),
-        Keyword::Turn | Keyword::Wait | Keyword::Fail | Keyword::End => {
-            Ok(link_line(keyword, number_to(LAST_LINK, rest)))
-        }
-        Keyword::Next => Ok(connection_line(keyword, number(rest))),
+        Keyword::Turn
+        | Keyword::Wait
+        | Keyword::Fail
+        | Keyword::End
+        | Keyword::WriteWait
+        | Keyword::WriteFail => Ok(link_line(keyword, number_to(LAST_LINK, rest))),
+        Keyword::Next
+        | Keyword::Collect
+        | Keyword::Drop
+        | Keyword::Ping
+        | Keyword::Quit
+        | Keyword::Fields
+        | Keyword::Poll
+        | Keyword::Cancel => Ok(connection_line(keyword, number(rest))),
         Keyword::Conn | Keyword::Unknown => Ok(Item::Wrong),
     }
 }

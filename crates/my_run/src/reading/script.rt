@@ -9,10 +9,7 @@ use my_world::WorldLine;
 use std::alloc::{AllocError, Global};
 
 /// How many `conn` lines read.
-pub const MOST_CONNS: u64 = 1;
-
-/// How many `query` lines read.
-pub const MOST_QUERIES: u64 = 1;
+pub const MOST_CONNS: u64 = 1000;
 
 /// A script: the lines of its world, then its steps.
 #[derive(Drop)]
@@ -33,7 +30,6 @@ pub enum Read {
 pub struct Sofar {
     pub stepped: bool,
     pub conns: u64,
-    pub queries: u64,
 }
 
 fn admitted_by_step(sofar: Sofar, step: &Step) -> Option<Sofar>
@@ -47,30 +43,11 @@ fn admitted_by_step(sofar: Sofar, step: &Step) -> Option<Sofar>
             Some(Sofar {
                 stepped: true,
                 conns: sofar.conns + 1,
-                queries: sofar.queries,
             })
         }
-        Step::Query(_, _) => {
-            if sofar.queries >= MOST_QUERIES {
-                return None;
-            }
-            Some(Sofar {
-                stepped: true,
-                conns: sofar.conns,
-                queries: sofar.queries + 1,
-            })
-        }
-        Step::Next(_)
-        | Step::Collect(_)
-        | Step::Drop(_)
-        | Step::Ping(_)
-        | Step::Quit(_)
-        | Step::Fields(_)
-        | Step::Poll(_)
-        | Step::Cancel(_) => Some(Sofar {
+        _ => Some(Sofar {
             stepped: true,
             conns: sofar.conns,
-            queries: sofar.queries,
         }),
     }
 }
@@ -119,7 +96,6 @@ pub fn read_script(alloc: Global, plans: bool, bytes: &[u8]) -> Result<Read, All
     let mut sofar = Sofar {
         stepped: false,
         conns: 0,
-        queries: 0,
     };
     let mut number = 1u64;
     let mut rest = Some(bytes);

@@ -4,8 +4,8 @@ ghost use Rattle.my_run.specs.ErrorText.{error_text};
 ghost use Rattle.my_run.specs.Text.{version_text, connected_text, outcome_text, answer_text, answers_text, stream_text, tape_text, tapes_text, text_of};
 
 use super::error::push_error;
-use super::parts::{push_decimal, push_hex, push_marked};
 use super::ok::push_fields;
+use super::parts::{push_decimal, push_hex, push_marked};
 use super::value::{push_row, push_rows};
 use crate::transcript::{Outcome, StepAnswer, Tape, Transcript};
 use my_session::Error;

@@ -1,5 +1,4 @@
-use Rattle.std.proofs.Common.{◌≡◌, ◌<◌, ◌≤◌, ◌+◌, ◌++◌, ◌∷◌, [], List, length, take, rules, arith}
-use Rattle.std.proofs.lemmas.List.{take_more, length-take}
+use Rattle.std.proofs.Common.{◌≡◌, ◌+◌, ◌++◌, ◌∷◌, [], rules, arith}
 use Rattle.my_run.specs.declared.transcript.StepAnswer.{StepAnswer}
 use Rattle.my_run.proofs.Numbering.{numbered_on}
 use Rattle.my_run.proofs.run.run_each.Goals as goal

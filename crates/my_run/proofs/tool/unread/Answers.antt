@@ -1,4 +1,4 @@
-use Rattle.std.proofs.Common.{◌≡◌, ◌∷◌, [], rules}
+use Rattle.std.proofs.Common.{rules}
 use Rattle.my_run.proofs.tool.unread.Goals as goal
 
 pub returns : goal.returns
