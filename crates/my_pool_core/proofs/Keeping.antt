@@ -17,7 +17,8 @@ use Rattle.my_pool_core.specs.Connections.{has_number, is_leased, is_idle, is_id
 use Rattle.my_pool_core.specs.Requests.{asking, has_age, holds, holds_number, is_free, ended, set_waiting, wake, wake_all}
 use Rattle.my_pool_core.specs.State.{State}
 use Rattle.my_pool_core.specs.Events.{is_at_end, request, with_last, dialed, taken, above_min, may_move, freed, moved, resting, kept, is_unheld, may_poll, may_cancel, cancel, cancel_found, cancel_standing, may_settle, ready, failed, may_give_back, give_back, close, check_ttl, may_decide, may_finish, may_done}
-use Rattle.my_pool_core.specs.Sound.{IsSound, IsKept, is_dialer}
+use Rattle.my_pool_core.specs.Sound.{IsSound, IsKept, IsRising, is_dialer}
+use Rattle.my_pool_core.proofs.Waking.{rising-awake, wake-all-last}
 use Rattle.my_pool_core.proofs.Finding.{one, count-found, found-any, found-passes, shorter-where-any}
 use Rattle.my_pool_core.proofs.Opening.{sound-close, sound-request, sound-ended, sound-waits, sound-takes, sound-dials, open-not-last, free-dialer}
 use Rattle.my_pool_core.proofs.Moving.{retire-fewer, sound-retire, swept-fewer}
@@ -242,3 +243,15 @@ decide-moves n s e = found-weaker is_cleaning is_unheld (λ c k. cleaning-moves 
 
 pub done-moves : (n : ℕ) (ok : Bool) (s : State) → may_done n ok s ≡ true → may_move n s ≡ true
 done-moves n ok s e = found-weaker (may_finish ok) is_unheld (λ c k. finish-moves ok c.place k) (find (has_number n) s.connections) e
+
+-- the ages of the requests rise where one comes
+pub last-rises : (s : State) → IsSound s → is_at_end s ≡ true → IsRising 0 (with_last s.requests)
+last-rises s h e =
+    let t = subst IsSound (request-end s e) (sound-request s h) in
+    rising-awake 0 (with_last s.requests) (subst (λ rs. IsRising 0 rs) (sym (wake-all-last s.requests)) t.rising)
+
+pub next-rises : (s : State) → IsSound s → is_at_end s ≡ false → IsRising 0 (s.requests ++ asking s.next_age ∷ [])
+next-rises s h e = (subst IsSound (request-next s e) (sound-request s h)).rising
+
+pub request-is : (s seen u t : State) → request s ≡ t → u ≡ t → s ≡ seen → u ≡ request seen
+request-is s seen u t e f view = f ∙ sym e ∙ ap request view

@@ -14,3 +14,7 @@ pub mod Covering
 pub mod Always
 pub mod Sweeping
 pub mod Oldest
+pub mod Searching
+pub mod Queue
+pub mod Lived
+pub mod Waking

@@ -7,3 +7,4 @@ pub mod Steps
 pub mod Sound
 pub mod Seen
 pub mod Made
+pub mod Live

@@ -5,6 +5,7 @@ mod connection;
 mod event;
 pub mod laws;
 mod limits;
+mod live;
 mod pool;
 mod request;
 

@@ -11,7 +11,7 @@ mod whole;
 
 use crate::connection::Connection;
 use crate::limits::{Counts, Limits};
-use crate::request::Request;
+use crate::live::Live;
 use std::alloc::Global;
 use std::marker::Model;
 
@@ -24,7 +24,7 @@ pub struct Core {
     closed: bool,
     settled: bool,
     connections: Vec<Connection>,
-    requests: Vec<Request>,
+    requests: Live,
     next_age: u64,
     next_number: u64,
     spare: u64,
@@ -43,7 +43,7 @@ impl Model for Core {
       closed = c.closed;
       settled = c.settled;
       connections = c.connections.items;
-      requests = c.requests.items;
+      requests = c.requests;
       next_age = c.next_age;
       next_number = c.next_number;
       spare = c.spare;
@@ -55,7 +55,7 @@ impl Model for Core {
       closed = c.closed;
       settled = c.settled;
       connections = c.connections.items;
-      requests = c.requests.items;
+      requests = c.requests;
       next_age = c.next_age;
       next_number = c.next_number;
       spare = c.spare;
@@ -73,7 +73,7 @@ impl Core {
             closed: false,
             settled: false,
             connections: Vec::new(alloc),
-            requests: Vec::new(alloc),
+            requests: Live::new(alloc),
             next_age: 0,
             next_number: first,
             spare: 0,

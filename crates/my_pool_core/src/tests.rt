@@ -1,8 +1,8 @@
 //! Lists of events with their answers, and many events from a seed.
 
 use crate::{
-    Answer, Connection, Core, Facts, Limits, Metrics, Place, PollAnswer, PoolEvent, Standing,
-    Verdict,
+    Answer, Connection, Core, Facts, Limits, Metrics, Place, PollAnswer, PoolEvent, Request,
+    Standing, Verdict,
 };
 use std::process::Abort;
 use std::test::Fail;
@@ -499,6 +499,74 @@ fn some_event(core: &Core, x: u64, now: u64, closes: bool) -> PoolEvent {
     }
 }
 
+/// The oldest waiting request of a scanned list is woken.
+fn scanned_wake(plain: &mut Vec<Request>) {
+    if let Some(index) = plain.iter().position(|r| r.is_waiting()) {
+        let request = &mut plain[index];
+        request.standing = Standing::Woken;
+    }
+}
+
+/// The request of an age in a scanned list gets another standing, or where it gets none ends.
+fn scanned_set(plain: &mut Vec<Request>, age: u64, standing: Option<Standing>) {
+    if let Some(index) = plain.iter().position(|r| r.age == age) {
+        match standing {
+            Some(standing) => {
+                let request = &mut plain[index];
+                request.waited = request.waited || matches!(standing, Standing::Waits);
+                request.standing = standing;
+            }
+            None => {
+                plain.remove(index);
+            }
+        }
+    }
+}
+
+/// What an event with its answer makes of a scanned list of requests.
+fn scanned(plain: &mut Vec<Request>, event: PoolEvent, answer: Answer) -> Result<(), Fail> {
+    match (event, answer) {
+        (PoolEvent::Request, Answer::Age(age)) => {
+            plain.push(Request::asking(age))?;
+        }
+        (PoolEvent::PollRequest { age, .. }, Answer::Poll(poll)) => {
+            let standing = match poll {
+                PollAnswer::Wait => Some(Standing::Waits),
+                PollAnswer::Take(number) => Some(Standing::Checks(number)),
+                PollAnswer::Dial(number) => Some(Standing::Dials(number)),
+                PollAnswer::Closed | PollAnswer::Full { .. } => None,
+            };
+            scanned_set(plain, age, standing);
+        }
+        (PoolEvent::Cancel { age }, _) => {
+            let wakes = plain.iter().any(|r| r.age == age
+                && !matches!(r.standing, Standing::Asks | Standing::Waits));
+            scanned_set(plain, age, None);
+            if wakes {
+                scanned_wake(plain);
+            }
+        }
+        (PoolEvent::Ready { age, .. }, _) => scanned_set(plain, age, None),
+        (PoolEvent::Failed { age, .. }, _) => {
+            let dials = plain.iter().any(|r| r.age == age && r.is_dialing());
+            scanned_set(plain, age, if dials { None } else { Some(Standing::Asks) });
+            scanned_wake(plain);
+        }
+        (PoolEvent::Detach { .. }, _)
+        | (_, Answer::Verdict(Verdict::Drop))
+        | (_, Answer::Verdict(Verdict::Keep)) => scanned_wake(plain),
+        (PoolEvent::Close, _) => {
+            for request in plain.iter_mut() {
+                if request.is_waiting() {
+                    request.standing = Standing::Woken;
+                }
+            }
+        }
+        _ => {}
+    }
+    Ok(())
+}
+
 #[test]
 fn many_events(rt: HostRuntime) -> Result<(), Fail> {
     let mut x = 1u64;
@@ -512,6 +580,7 @@ fn many_events(rt: HostRuntime) -> Result<(), Fail> {
             waiting: if round % 2 == 0 { None } else { Some(4) },
         };
         let mut core = Core::with_limits(rt.alloc(), limits, 1000);
+        let mut plain = Vec::new(rt.alloc());
         let mut happened = 0u64;
         for turn in 0..1000u64 {
             x = x
@@ -519,7 +588,9 @@ fn many_events(rt: HostRuntime) -> Result<(), Fail> {
                 .wrapping_add(1442695040888963407);
             let event = some_event(&core, x, turn / 4, turn > 900);
             if core.may(event) {
-                core.apply(event)?;
+                let answer = core.apply(event)?;
+                scanned(&mut plain, event, answer)?;
+                assert_eq!(rt; core.requests(), plain.as_slice(), "{event:?}");
                 happened = happened.saturating_add(1);
                 assert!(rt; core.connections().len() as u64 <= max, "{event:?}");
                 assert!(rt; connections_are_sound(&core), "{event:?}");

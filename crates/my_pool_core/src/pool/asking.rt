@@ -9,10 +9,8 @@ use super::Core;
 use crate::connection::{Connection, Place, move_to, retire, take_out};
 use crate::event::PollAnswer;
 use crate::limits::one_more;
-use crate::request::{
-    LAST, Request, Standing, add_last, count_may_dial, count_queued, end_request, has_last,
-    has_waited, let_go, request_of, set_standing, set_waiting, waits_up_to, wake, wake_all,
-};
+use crate::request::{LAST, Standing};
+use my_wait_heap::Uncounted;
 use my_wire::NoMemory;
 
 impl Core {
@@ -21,8 +19,8 @@ impl Core {
         ensures { result ≡ is_at_end self.now }
     {
         self.next_age == LAST
-            || has_last(&self.requests)
-            || LAST - self.next_number <= count_may_dial(&self.requests) as u64
+            || self.requests.has_last()
+            || LAST - self.next_number <= self.requests.count_may_dial() as u64
     }
 
     /// Somebody asks for a connection; answers the age of the new request.
@@ -36,17 +34,17 @@ impl Core {
     {
         let at_end = self.is_at_end();
         let room = self.requests.len() + 1;
-        self.requests.reserve(1)?;
         self.connections.reserve(room)?;
-        self.spare = self.spare.max(room as u64);
         if at_end {
+            self.requests.add_last()?;
+            self.requests.wake_all(&mut Uncounted);
+            self.spare = self.spare.max(room as u64);
             self.closed = true;
-            wake_all(&mut self.requests);
-            add_last(&mut self.requests);
             return Ok(LAST);
         }
         let age = self.next_age;
-        self.requests.push(Request::asking(age)).unwrap();
+        self.requests.add(age)?;
+        self.spare = self.spare.max(room as u64);
         self.next_age = age + 1;
         Ok(age)
     }
@@ -58,16 +56,16 @@ impl Core {
         ensures state { self.new ≡ (queued age self.old).state }
         ensures answer { result ≡ (queued age self.old).answer }
     {
-        if !has_waited(&self.requests, age)
+        if !self.requests.has_waited(age, &mut Uncounted)
             && let Some(limit) = self.limits.waiting
         {
-            let waiting = count_queued(&self.requests) as u64;
+            let waiting = self.requests.count_queued() as u64;
             if limit <= waiting {
-                end_request(&mut self.requests, age);
+                self.requests.end(age, &mut Uncounted);
                 return PollAnswer::Full { waiting, limit };
             }
         }
-        set_waiting(&mut self.requests, age);
+        self.requests.set_waiting(age, &mut Uncounted);
         PollAnswer::Wait
     }
 
@@ -86,7 +84,8 @@ impl Core {
                 place: Place::Connecting,
             })
             .unwrap();
-        set_standing(&mut self.requests, age, Standing::Dials(number));
+        self.requests
+            .set_standing(age, Standing::Dials(number), &mut Uncounted);
         self.next_number = one_more(number);
         self.spare -= 1;
         PollAnswer::Dial(number)
@@ -102,7 +101,8 @@ impl Core {
     {
         if let Some(number) = latest {
             move_to(&mut self.connections, number, Place::Checking);
-            set_standing(&mut self.requests, age, Standing::Checks(number));
+            self.requests
+                .set_standing(age, Standing::Checks(number), &mut Uncounted);
             return PollAnswer::Take(number);
         }
         if (self.connections.len() as u64) < self.limits.max {
@@ -119,10 +119,10 @@ impl Core {
         ensures answer { result ≡ (poll_request age now self.old).answer }
     {
         if self.closed {
-            end_request(&mut self.requests, age);
+            self.requests.end(age, &mut Uncounted);
             return PollAnswer::Closed;
         }
-        if waits_up_to(&self.requests, age) {
+        if self.requests.waits_up_to(age, &mut Uncounted) {
             return self.queue(age);
         }
         let latest = retire(&mut self.connections, now);
@@ -134,17 +134,17 @@ impl Core {
         requires { IsTrue (may_cancel age self.old) }
         ensures { self.new ≡ cancel age self.old }
     {
-        let Some(request) = request_of(&self.requests, age) else {
+        let Some(request) = self.requests.find(age, &mut Uncounted) else {
             return;
         };
-        end_request(&mut self.requests, age);
+        self.requests.end(age, &mut Uncounted);
         match request.standing {
             Standing::Asks | Standing::Waits => {}
-            Standing::Woken => wake(&mut self.requests),
+            Standing::Woken => self.requests.wake(&mut Uncounted),
             Standing::Dials(number) | Standing::Checks(number) => {
                 take_out(&mut self.connections, number);
                 self.spare += 1;
-                wake(&mut self.requests);
+                self.requests.wake(&mut Uncounted);
                 self.counts.creation_failed();
             }
         }
@@ -156,7 +156,7 @@ impl Core {
         ensures { self.new ≡ ready age conn self.old }
     {
         move_to(&mut self.connections, conn, Place::Leased);
-        end_request(&mut self.requests, age);
+        self.requests.end(age, &mut Uncounted);
     }
 
     /// A request's connection isn't good: it is freed. A request that was making it ends, one that was looking at it has
@@ -165,10 +165,10 @@ impl Core {
         requires { IsTrue (may_settle age conn self.old) }
         ensures { self.new ≡ failed age conn self.old }
     {
-        let_go(&mut self.requests, age);
+        self.requests.let_go(age, &mut Uncounted);
         take_out(&mut self.connections, conn);
         self.spare += 1;
-        wake(&mut self.requests);
+        self.requests.wake(&mut Uncounted);
         self.counts.creation_failed();
     }
 }

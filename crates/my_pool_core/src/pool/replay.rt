@@ -6,7 +6,6 @@ ghost use Rattle.my_pool_core.specs.Steps.{may, step, answer};
 use super::Core;
 use crate::connection::{is_cleaning, is_finishing, is_leased};
 use crate::event::{Answer, PoolEvent};
-use crate::request::{is_free, is_held, is_live};
 use my_wire::NoMemory;
 
 impl Core {
@@ -15,10 +14,10 @@ impl Core {
         ensures { result ≡ may self.now event }
     {
         match event {
-            PoolEvent::PollRequest { age, .. } => is_free(&self.requests, age),
-            PoolEvent::Cancel { age } => is_live(&self.requests, age),
+            PoolEvent::PollRequest { age, .. } => self.requests.is_free(age),
+            PoolEvent::Cancel { age } => self.requests.is_live(age),
             PoolEvent::Ready { age, conn } | PoolEvent::Failed { age, conn } => {
-                is_held(&self.requests, age, conn)
+                self.requests.is_held(age, conn)
             }
             PoolEvent::GiveBack { conn } | PoolEvent::Detach { conn } => {
                 is_leased(&self.connections, conn)

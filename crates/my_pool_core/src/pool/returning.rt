@@ -8,7 +8,7 @@ use crate::connection::{
     Place, Times, count_idle, is_marked, is_resetting, move_to, next_to_clean, take_out,
 };
 use crate::event::{Facts, Verdict};
-use crate::request::wake;
+use my_wait_heap::Uncounted;
 
 impl Core {
     /// A leased connection comes back.
@@ -30,7 +30,7 @@ impl Core {
     {
         take_out(&mut self.connections, conn);
         self.spare += 1;
-        wake(&mut self.requests);
+        self.requests.wake(&mut Uncounted);
     }
 
     /// A leased connection is taken out of the pool for good.
@@ -82,7 +82,7 @@ impl Core {
             conn,
             Place::Idle(facts.idle_since(now)),
         );
-        wake(&mut self.requests);
+        self.requests.wake(&mut Uncounted);
         self.counts.kept();
         Verdict::Keep
     }

@@ -7,7 +7,8 @@ ghost use Rattle.my_pool_core.specs.Seen.{metrics_of};
 use super::Core;
 use crate::connection::{Connection, count_idle, count_leased, sweep};
 use crate::limits::Metrics;
-use crate::request::{Request, count_waiting, wake_all};
+use crate::request::Request;
+use my_wait_heap::Uncounted;
 
 impl Core {
     /// Idle connections whose time is over are marked and returned; answers how many.
@@ -28,7 +29,7 @@ impl Core {
         ensures { self.new ≡ close self.old }
     {
         self.closed = true;
-        wake_all(&mut self.requests);
+        self.requests.wake_all(&mut Uncounted);
     }
 
     /// Whether the pool is closed, counts nothing, and was seen to count nothing by `take_returned`.
@@ -46,7 +47,7 @@ impl Core {
             connection_count: self.connections.len() as u64,
             connections_in_pool: count_idle(&self.connections) as u64,
             connections_in_use: count_leased(&self.connections) as u64,
-            active_wait_requests: count_waiting(&self.requests) as u64,
+            active_wait_requests: self.requests.count_waiting() as u64,
             create_failed: self.counts.create_failed,
             discarded_unestablished_connection: self.counts.discarded_unestablished_connection,
             dirty_connection_return: self.counts.dirty_connection_return,
@@ -69,7 +70,7 @@ impl Core {
     pub fn requests(&self) -> &[Request]
         ensures { result.now ≡ self.now.requests }
     {
-        &self.requests
+        self.requests.as_slice()
     }
 
     /// Whether the pool is closed.

@@ -1,9 +1,0 @@
-use Rattle.std.proofs.Common.{◌≡◌, sym, ◌∙◌}
-use Rattle.std.proofs.Common.{rules}
-use Rattle.std.specs.Prelude.{count_by}
-use Rattle.my_pool_core.proofs.Finding.{count-std}
-use Rattle.my_pool_core.specs.Requests.{may_dial}
-use Rattle.my_pool_core.proofs.request.count_may_dial.Goals as goal
-
-pub returns : goal.returns
-returns c = let e : c.count.result ≡ count_by may_dial c.args.requests.now = search rules in e ∙ sym (count-std may_dial c.args.requests.now)
