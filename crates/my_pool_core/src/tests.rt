@@ -4,6 +4,7 @@ use crate::{
     Answer, Connection, Core, Facts, Limits, Metrics, Place, PollAnswer, PoolEvent, Request,
     Standing, Verdict,
 };
+use my_wait_heap::Counted;
 use std::process::Abort;
 use std::test::Fail;
 
@@ -599,6 +600,63 @@ fn many_events(rt: HostRuntime) -> Result<(), Fail> {
             }
         }
         assert!(rt; happened > 300, "{happened}");
+    }
+    Ok(())
+}
+
+/// How many binary digits a number has.
+fn digits(n: u64) -> u64 {
+    let mut count = 0u64;
+    let mut left = n;
+    for _ in 0..64 {
+        if left > 0 {
+            count = count.saturating_add(1);
+            left /= 2;
+        }
+    }
+    count
+}
+
+/// A request waits as the last one of so many, and the first one of them is handed the connection that came back: how
+/// many ages are compared from the request to `ready`.
+fn steps_to_ready(rt: &impl Abort, mut core: Core, waiting: u64) -> Result<u64, Fail> {
+    play(
+        rt,
+        &mut core,
+        &[
+            (ASK, Answer::Age(0)),
+            (poll(0, 0), dial(1000)),
+            ready(0, 1000),
+        ],
+    );
+    let mut steps = Counted::new();
+    for age in 1..=waiting {
+        steps = Counted::new();
+        assert_eq!(rt; core.request()?, age);
+        assert!(rt; core.may(PoolEvent::PollRequest { age, now: 0 }));
+        assert_eq!(rt; core.poll_request_in(age, 0, &mut steps), PollAnswer::Wait);
+    }
+    let keep = decide(1000, clean(0, false), 0, Verdict::Keep);
+    play(rt, &mut core, &[give(1000), returned(1000), keep]);
+    assert!(rt; core.may(PoolEvent::PollRequest { age: 1, now: 0 }));
+    assert_eq!(rt;
+        core.poll_request_in(1, 0, &mut steps),
+        PollAnswer::Take(1000)
+    );
+    let last = PoolEvent::Ready { age: 1, conn: 1000 };
+    assert!(rt; core.may(last));
+    core.ready_in(1, 1000, &mut steps);
+    Ok(steps.count())
+}
+
+#[test]
+fn few_steps(rt: HostRuntime) -> Result<(), Fail> {
+    for waiting in [10, 1000, 100000] {
+        let core = Core::with_limits(rt.alloc(), limits(1, 1, None), 1000);
+        let steps = steps_to_ready(&rt, core, waiting)?;
+        println!(rt; "waiting={waiting} steps={steps}")?;
+        let bound = digits(waiting).saturating_mul(11).saturating_add(10);
+        assert!(rt; steps > 0 && steps <= bound, "{waiting} {steps} {bound}");
     }
     Ok(())
 }

@@ -1,6 +1,6 @@
 //! The events of a request.
 
-ghost use Rattle.std.specs.Prelude.{◌≡◌, ◌<◌, false, IsTrue, OnOk, OnErr, IfOk, IfSome, find, length};
+ghost use Rattle.std.specs.Prelude.{◌≡◌, ℕ, ◌+◌, ◌*◌, ◌^◌, ◌≤◌, ◌<◌, false, IsTrue, OnOk, OnErr, IfOk, IfSome, find, length};
 ghost use Rattle.my_pool_core.specs.Lists.{found_is};
 ghost use Rattle.my_pool_core.specs.Connections.{has_number, is_idle};
 ghost use Rattle.my_pool_core.specs.Events.{is_at_end, request, request_age, may_poll, poll_request, queued, sought, dialed, may_cancel, cancel, may_settle, ready, failed};
@@ -10,7 +10,7 @@ use crate::connection::{Connection, Place, move_to, retire, take_out};
 use crate::event::PollAnswer;
 use crate::limits::one_more;
 use crate::request::{LAST, Standing};
-use my_wait_heap::Uncounted;
+use my_wait_heap::{Ledger, Uncounted};
 use my_wire::NoMemory;
 
 impl Core {
@@ -50,32 +50,34 @@ impl Core {
     }
 
     /// A polled request waits, or ends where too many do.
-    fn queue(&mut self, age: u64) -> PollAnswer
+    fn queue<C: Ledger>(&mut self, age: u64, steps: &mut C) -> PollAnswer
         requires live { IsTrue (may_poll age self.old) }
         requires open_ { self.old.closed ≡ false }
         ensures state { self.new ≡ (queued age self.old).state }
         ensures answer { result ≡ (queued age self.old).answer }
+        ensures cost { (d : ℕ) → length self.old.requests < 2 ^ d → C.noted steps.new ≤ C.noted steps.old + 4 * d + 3 }
     {
-        if !self.requests.has_waited(age, &mut Uncounted)
+        if !self.requests.has_waited(age, steps)
             && let Some(limit) = self.limits.waiting
         {
             let waiting = self.requests.count_queued() as u64;
             if limit <= waiting {
-                self.requests.end(age, &mut Uncounted);
+                self.requests.end(age, steps);
                 return PollAnswer::Full { waiting, limit };
             }
         }
-        self.requests.set_waiting(age, &mut Uncounted);
+        self.requests.set_waiting(age, steps);
         PollAnswer::Wait
     }
 
     /// A polled request makes the next connection.
-    fn dial(&mut self, age: u64) -> PollAnswer
+    fn dial<C: Ledger>(&mut self, age: u64, steps: &mut C) -> PollAnswer
         requires live { IsTrue (may_poll age self.old) }
         requires open_ { self.old.closed ≡ false }
         requires few { length self.old.connections < self.old.limits.max }
         ensures state { self.new ≡ (dialed age self.old).state }
         ensures answer { result ≡ (dialed age self.old).answer }
+        ensures cost { (d : ℕ) → length self.old.requests < 2 ^ d → C.noted steps.new ≤ C.noted steps.old + 3 * d + 2 }
     {
         let number = self.next_number;
         self.connections
@@ -85,30 +87,31 @@ impl Core {
             })
             .unwrap();
         self.requests
-            .set_standing(age, Standing::Dials(number), &mut Uncounted);
+            .set_standing(age, Standing::Dials(number), steps);
         self.next_number = one_more(number);
         self.spare -= 1;
         PollAnswer::Dial(number)
     }
 
     /// A polled request looks for a connection, where this is the latest usable idle one.
-    fn seek(&mut self, age: u64, latest: Option<u64>) -> PollAnswer
+    fn seek<C: Ledger>(&mut self, age: u64, latest: Option<u64>, steps: &mut C) -> PollAnswer
         requires live { IsTrue (may_poll age self.old) }
         requires open_ { self.old.closed ≡ false }
         requires idle { IfSome latest (λ n. IsTrue (found_is is_idle (find (has_number n) self.old.connections))) }
         ensures state { self.new ≡ (sought age latest self.old).state }
         ensures answer { result ≡ (sought age latest self.old).answer }
+        ensures cost { (d : ℕ) → length self.old.requests < 2 ^ d → C.noted steps.new ≤ C.noted steps.old + 4 * d + 3 }
     {
         if let Some(number) = latest {
             move_to(&mut self.connections, number, Place::Checking);
             self.requests
-                .set_standing(age, Standing::Checks(number), &mut Uncounted);
+                .set_standing(age, Standing::Checks(number), steps);
             return PollAnswer::Take(number);
         }
         if (self.connections.len() as u64) < self.limits.max {
-            self.dial(age)
+            self.dial(age, steps)
         } else {
-            self.queue(age)
+            self.queue(age, steps)
         }
     }
 
@@ -118,15 +121,30 @@ impl Core {
         ensures state { self.new ≡ (poll_request age now self.old).state }
         ensures answer { result ≡ (poll_request age now self.old).answer }
     {
+        self.poll_request_in(age, now, &mut Uncounted)
+    }
+
+    /// The same, where the steps are noted.
+    pub(crate) fn poll_request_in<C: Ledger>(
+        &mut self,
+        age: u64,
+        now: u64,
+        steps: &mut C,
+    ) -> PollAnswer
+        requires { IsTrue (may_poll age self.old) }
+        ensures state { self.new ≡ (poll_request age now self.old).state }
+        ensures answer { result ≡ (poll_request age now self.old).answer }
+        ensures cost { (d : ℕ) → length self.old.requests < 2 ^ d → C.noted steps.new ≤ C.noted steps.old + 4 * d + 4 }
+    {
         if self.closed {
-            self.requests.end(age, &mut Uncounted);
+            self.requests.end(age, steps);
             return PollAnswer::Closed;
         }
-        if self.requests.waits_up_to(age, &mut Uncounted) {
-            return self.queue(age);
+        if self.requests.waits_up_to(age, steps) {
+            return self.queue(age, steps);
         }
         let latest = retire(&mut self.connections, now);
-        self.seek(age, latest)
+        self.seek(age, latest, steps)
     }
 
     /// A request is given up: one that was woken wakes the next, and one with a connection frees it.
@@ -155,8 +173,17 @@ impl Core {
         requires { IsTrue (may_settle age conn self.old) }
         ensures { self.new ≡ ready age conn self.old }
     {
+        self.ready_in(age, conn, &mut Uncounted);
+    }
+
+    /// The same, where the steps are noted.
+    pub(crate) fn ready_in<C: Ledger>(&mut self, age: u64, conn: u64, steps: &mut C)
+        requires { IsTrue (may_settle age conn self.old) }
+        ensures state { self.new ≡ ready age conn self.old }
+        ensures cost { (d : ℕ) → length self.old.requests < 2 ^ d → C.noted steps.new ≤ C.noted steps.old + 3 * d + 2 }
+    {
         move_to(&mut self.connections, conn, Place::Leased);
-        self.requests.end(age, &mut Uncounted);
+        self.requests.end(age, steps);
     }
 
     /// A request's connection isn't good: it is freed. A request that was making it ends, one that was looking at it has

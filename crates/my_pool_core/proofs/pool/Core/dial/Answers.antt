@@ -9,19 +9,19 @@ use Rattle.my_pool_core.specs.Connections.{placed}
 use Rattle.my_pool_core.proofs.pool.Core.dial.Goals as goal
 
 pub unwrap-requires : goal.unwrap-requires
-unwrap-requires c =
+unwrap-requires g c =
     let may = subst (λ s. may_poll c.args.age s ≡ true) (sym c.self.view_is) c.requires.live in
     let open_ = subst (λ s. s.closed ≡ false) (sym c.self.view_is) c.requires.open_ in
     c.push.ensures.succeeds (omega (arith, dial-room c.args.age (the_view c.self.inside) c.self.invariant.sound may open_, c.self.invariant.reserved))
 
 pub overflow_sub-self : goal.overflow_sub-self
-overflow_sub-self c =
+overflow_sub-self g c =
     let may = subst (λ s. may_poll c.args.age s ≡ true) (sym c.self.view_is) c.requires.live in
     let open_ = subst (λ s. s.closed ≡ false) (sym c.self.view_is) c.requires.open_ in
     dial-room c.args.age (the_view c.self.inside) c.self.invariant.sound may open_
 
 pub invariant_of-self : goal.invariant_of-self
-invariant_of-self c =
+invariant_of-self g c =
     let may = subst (λ s. may_poll c.args.age s ≡ true) (sym c.self.view_is) c.requires.live in
     let open_ = subst (λ s. s.closed ≡ false) (sym c.self.view_is) c.requires.open_ in
     let few : length c.self.inside.connections.items < c.self.inside.limits.max = subst (λ s. length s.connections < s.limits.max) (sym c.self.view_is) c.requires.few in

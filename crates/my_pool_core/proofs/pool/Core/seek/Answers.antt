@@ -9,12 +9,12 @@ use Rattle.my_pool_core.proofs.Finding.{found-any}
 use Rattle.my_pool_core.proofs.pool.Core.seek.Goals as goal
 
 pub move_to-requires : goal.move_to-requires
-move_to-requires c =
+move_to-requires g c =
     let idle = subst (λ s. found_is is_idle (find (has_number c.in-Some.number) s.connections) ≡ true) (sym c.self.view_is) (subst (λ o. IfSome o (λ n. found_is is_idle (find (has_number n) c.args.self.now.connections) ≡ true)) c.in-Some.is c.requires.idle) in
     found-any is_idle (has_number c.in-Some.number) c.self.inside.connections.items idle
 
 pub invariant_of-self : goal.invariant_of-self
-invariant_of-self c =
+invariant_of-self g c =
     let may = subst (λ s. may_poll c.args.age s ≡ true) (sym c.self.view_is) c.requires.live in
     let open_ = subst (λ s. s.closed ≡ false) (sym c.self.view_is) c.requires.open_ in
     let idle = subst (λ s. found_is is_idle (find (has_number c.in-Some.number) s.connections) ≡ true) (sym c.self.view_is) (subst (λ o. IfSome o (λ n. found_is is_idle (find (has_number n) c.args.self.now.connections) ≡ true)) c.in-Some.is c.requires.idle) in
