@@ -1,6 +1,6 @@
 //! What notes the steps that a heap takes.
 
-ghost use Rattle.std.specs.Prelude.{◌≡◌, ℕ, ◌+◌, ◌≤◌};
+ghost use Rattle.std.specs.Prelude.{◌≡◌, ℕ, ◌+◌, ◌-◌, ◌^◌, ◌≤◌, min};
 
 /// Something that steps are noted in.
 pub trait Ledger {
@@ -45,7 +45,9 @@ impl Counted {
 impl Ledger for Counted {
     ghost noted = { λ s. s.0 };
 
-    fn step(&mut self) {
+    fn step(&mut self)
+        ensures { self.new.0 ≡ min (self.old.0 + 1) (2 ^ 64 - 1) }
+    {
         self.0 = self.0.saturating_add(1);
     }
 }
