@@ -1,5 +1,5 @@
 //! Where links come from.
-ghost use Rattle.std.specs.Prelude.{◌≡◌, ◌≢◌, ℕ, List, Option, Bool, true, OnOk, OnErr};
+ghost use Rattle.std.specs.Prelude.{◌≡◌, ◌≢◌, ℕ, List, Option, None, Bool, true, OnOk, OnErr};
 ghost use Rattle.my_wire.specs.Outside.{Rose};
 ghost use Rattle.my_world.specs.Outside.{no_counts};
 ghost use Rattle.my_world.specs.World.{IfLink, OnFailed, OnHeld, IsFresh};
@@ -51,7 +51,7 @@ pub trait World {
         ensures err_writes { OnErr result ((n : ℕ) → write_plan self.new n ≡ write_plan self.old n) }
         ensures takes { takes_plan self.new ≡ takes_plan self.old };
 
-    /// Dials the link of this number.
+    /// Dials the link of this number. A world that told its plan holds no dial.
     fn dial(&mut self, number: u64) -> DialStep<Self::L>
         ensures items { IfLink result (λ l. Self.L.items l ≡ plan self.old number) }
         ensures writes { IfLink result (λ l. Self.L.writes l ≡ write_plan self.old number) }
@@ -61,6 +61,7 @@ pub trait World {
         ensures other_writes { (n : ℕ) → n ≢ number → write_plan self.new n ≡ write_plan self.old n }
         ensures takes { takes_plan self.new ≡ takes_plan self.old }
         ensures fault { OnFailed result (Rose (faults self.old) (faults self.new)) }
+        ensures told_hold { OnHeld result (plan self.old number ≡ None) }
         ensures hold { OnHeld result (Rose (holds self.old) (holds self.new)) };
 
     /// The moment, in milliseconds.
