@@ -2,5 +2,15 @@ pub mod Cuts
 pub mod Scripts
 pub mod Outputs
 pub mod Texts
-pub mod Numbering
 pub mod Spends
+pub mod Hearing
+pub mod Rounds
+pub mod Driving
+pub mod Beginning
+pub mod Numbers
+pub mod Connecting
+pub mod Runs
+pub mod Cancelling
+pub mod Taping
+pub mod Resuming
+pub mod Gathered

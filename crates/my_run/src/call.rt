@@ -1,12 +1,25 @@
-//! A call on what stands at a connection's number.
-ghost use Rattle.std.specs.Prelude.{◌≡◌, ◌∷◌, [], IfOk, OnOk, true, false};
+//! A step that makes a call on what stands at a connection's number.
+ghost use Rattle.std.specs.Prelude.{◌≡◌, ◌∷◌, [], Some, None, length, map, option_map, IfOk, OnOk, true, false};
+ghost use Rattle.my_grammar.specs.declared.login.Login.{Login as LoginOf};
 ghost use Rattle.my_session.specs.Calls.{is_open};
 ghost use Rattle.my_session.specs.Errors.{connection_closed};
+ghost use Rattle.my_run.specs.Did.{OpenPolled, Did as DidAt, Stepped};
+ghost use Rattle.my_run.specs.Grows.{At, Calls, answer_shown as answer_of, shown as shown_of};
+ghost use Rattle.my_run.specs.Keeps.{Plans, StandsBy, IsStood, AreStood};
+ghost use Rattle.my_run.specs.Kept.{Asked, asking, ended_by};
+ghost use Rattle.my_run.specs.Rests.{IsAsked};
+ghost use Rattle.my_run.specs.Slot.{asked_in, handle_of, kept_of};
+ghost use Rattle.my_run.specs.declared.slot.Slot.TheVariants.{There as ThereAt};
+ghost use Rattle.my_run.specs.declared.tape.Said.TheVariants as says;
 
-use crate::poll::{After, Polled, poll_conn};
-use crate::slot::{Conn, OpenCall, Slot};
-use crate::transcript::{Outcome, TapeCall, Use};
-use my_session::{Answer, Call, CallKind, Error, ServerError};
+use crate::copy::{copy_call, copy_error};
+use crate::drive::{drive, note};
+use crate::poll::After;
+use crate::slot::{Conn, Slot};
+use crate::tape::{OpenCall, Said};
+use crate::transcript::{Outcome, Use};
+use my_session::{Answer, Call, Error};
+use my_value::Row;
 use my_wire::NoMemory;
 use my_world::link::Link;
 use std::alloc::Global;
@@ -18,52 +31,9 @@ pub struct Did {
     pub uses: Vec<Use>,
 }
 
-fn copy_server(alloc: Global, error: &ServerError) -> Result<ServerError, NoMemory>
-    ensures { IfOk result (λ copy. copy ≡ error.now) }
+fn answer_shown(answer: Answer) -> Outcome
+    ensures { result ≡ answer_of answer }
 {
-    Ok(ServerError {
-        code: error.code,
-        state: error.state.copy(alloc)?,
-        message: error.message.copy(alloc)?,
-    })
-}
-
-pub fn copy_error(alloc: Global, error: &Error) -> Result<Error, NoMemory>
-    ensures { IfOk result (λ copy. copy ≡ error.now) }
-{
-    match error {
-        Error::Driver(error) => Ok(Error::Driver(*error)),
-        Error::Io(error) => Ok(Error::Io(*error)),
-        Error::Server(error) => Ok(Error::Server(copy_server(alloc, error)?)),
-        Error::NoMemory => Ok(Error::NoMemory),
-    }
-}
-
-fn copy_answer(alloc: Global, answer: &Answer) -> Result<Answer, NoMemory>
-    ensures { IfOk result (λ copy. copy ≡ answer.now) }
-{
-    match answer {
-        Answer::Ready => Ok(Answer::Ready),
-        Answer::Row(row) => Ok(Answer::Row(row.copy(alloc)?)),
-        Answer::SetEnd => Ok(Answer::SetEnd),
-        Answer::NoSet => Ok(Answer::NoSet),
-    }
-}
-
-fn copy_call(alloc: Global, call: &Call) -> Result<Call, NoMemory>
-    ensures { IfOk result (λ copy. copy ≡ call.now) }
-{
-    match call {
-        Call::Connect => Ok(Call::Connect),
-        Call::Query(text) => Ok(Call::Query(text.copy(alloc)?)),
-        Call::NextRow => Ok(Call::NextRow),
-        Call::DropResult => Ok(Call::DropResult),
-        Call::Ping => Ok(Call::Ping),
-        Call::Quit => Ok(Call::Quit),
-    }
-}
-
-fn outcome_of(answer: Answer) -> Outcome {
     match answer {
         Answer::Ready => Outcome::Done,
         Answer::Row(row) => Outcome::Row(row),
@@ -72,68 +42,69 @@ fn outcome_of(answer: Answer) -> Outcome {
     }
 }
 
-// The open call was answered so.
-pub fn note<L>(conn: &mut Conn<L>, answer: Result<Answer, Error>) -> Result<(), NoMemory> {
-    match conn.open.take() {
-        None => Err(NoMemory),
-        Some(open) => {
-            conn.calls.push(TapeCall {
-                call: open.call,
-                sent_from: open.sent_from,
-                answer: Some(answer),
-            })?;
-            Ok(())
-        }
+fn shown(after: After) -> Outcome
+    ensures { result ≡ shown_of after }
+{
+    match after {
+        After::Pending => Outcome::Pending,
+        After::Answered(answer) => answer_shown(answer),
+        After::Failed(error) => Outcome::Failed(error),
     }
 }
 
 /// The handle isn't there.
-pub fn refused(alloc: Global) -> Did {
+pub fn refused(alloc: Global) -> Did
+    ensures outcome { result.outcome ≡ Outcome.NoSuchHandle }
+    ensures uses { result.uses.items ≡ [] }
+{
     Did {
         outcome: Outcome::NoSuchHandle,
         uses: Vec::new(alloc),
     }
 }
 
-pub fn did_once(alloc: Global, outcome: Outcome, used: Use) -> Result<Did, NoMemory> {
+pub fn did_once(alloc: Global, outcome: Outcome, used: Use) -> Result<Did, NoMemory>
+    ensures outcome { IfOk result (λ d. d.outcome ≡ outcome) }
+    ensures uses { IfOk result (λ d. d.uses.items ≡ used ∷ []) }
+{
     let mut uses = Vec::new(alloc);
     uses.push(used)?;
     Ok(Did { outcome, uses })
 }
 
-fn answered<L>(
-    alloc: Global,
-    conn: &mut Conn<L>,
-    answer: Answer,
-    used: Use,
-) -> Result<Did, NoMemory> {
-    let copy = copy_answer(alloc, &answer)?;
-    note(conn, Ok(copy))?;
-    did_once(alloc, outcome_of(answer), used)
-}
-
-fn failed<L>(alloc: Global, conn: &mut Conn<L>, error: Error, used: Use) -> Result<Did, NoMemory> {
-    let copy = copy_error(alloc, &error)?;
-    note(conn, Err(copy))?;
-    did_once(alloc, Outcome::Failed(error), used)
+/// The connection keeps that this call is open, and the rows that it gathers, where it gathers any.
+pub fn ask<L>(conn: &mut Conn<L>, call: Call, rows: Option<Vec<Row>>)
+    ensures kept { kept_of conn.new ≡ asking (kept_of conn.old) call (option_map (λ rows. rows.items) rows) }
+    ensures session { conn.new.session ≡ conn.old.session }
+    ensures link { conn.new.link ≡ conn.old.link }
+{
+    let sent_from = conn.sent.len() as u64;
+    conn.pending = Some(OpenCall {
+        call,
+        sent_from,
+        rows,
+    });
 }
 
 // Polls the open call.
-fn poll_open<L: Link>(alloc: Global, conn: &mut Conn<L>, number: u64) -> Result<Did, NoMemory>
+pub fn poll_open<L: Link>(alloc: Global, conn: &mut Conn<L>, number: u64) -> Result<Did, NoMemory>
     requires { is_open conn.old.session.seen.task ≡ true }
+    ensures { IfOk result (λ d. (login : LoginOf) (a : Asked) → IsAsked login conn.old.session.seen (kept_of conn.old) a → OpenPolled login number a conn.new.session.seen (record { items = L.items conn.old.link; writes = L.writes conn.old.link; counts = L.counts conn.old.link }) (record { items = L.items conn.new.link; writes = L.writes conn.new.link; counts = L.counts conn.new.link }) (kept_of conn.old) (kept_of conn.new) d.outcome d.uses.items) }
 {
-    let Polled { after, used } = poll_conn(alloc, conn, number)?;
-    match after {
-        After::Pending => did_once(alloc, Outcome::Pending, used),
-        After::Answered(answer) => answered(alloc, conn, answer, used),
-        After::Failed(error) => failed(alloc, conn, error, used),
-    }
+    let driven = drive(alloc, conn, number)?;
+    did_once(alloc, shown(driven.polled.after), driven.polled.used)
 }
 
 // The session is closed, and refuses the call.
-fn refused_call<L>(alloc: Global, conn: &mut Conn<L>, error: Error) -> Result<Did, NoMemory> {
+pub fn refused_call<L>(alloc: Global, conn: &mut Conn<L>, error: Error) -> Result<Did, NoMemory>
+    ensures outcome { IfOk result (λ d. d.outcome ≡ Outcome.Failed error) }
+    ensures uses { IfOk result (λ d. d.uses.items ≡ []) }
+    ensures kept { OnOk result ((a : Asked) → asked_in conn.old.pending ≡ Some a → kept_of conn.new ≡ ended_by (kept_of conn.old) a (says.Failed error)) }
+    ensures session { conn.new.session ≡ conn.old.session }
+    ensures link { conn.new.link ≡ conn.old.link }
+{
     let copy = copy_error(alloc, &error)?;
-    note(conn, Err(copy))?;
+    let _ = note(conn, Said::Failed(copy))?;
     Ok(Did {
         outcome: Outcome::Failed(error),
         uses: Vec::new(alloc),
@@ -145,7 +116,9 @@ fn begin_call<L: Link>(
     conn: &mut Conn<L>,
     number: u64,
     call: Call,
-) -> Result<Did, NoMemory> {
+) -> Result<Did, NoMemory>
+    ensures { IfOk result (λ d. (login : LoginOf) → StandsBy login conn.old → DidAt (λ l. record { items = L.items l; writes = L.writes l; counts = L.counts l }) login number (Calls login number call) d.outcome d.uses.items (ThereAt conn.old) (ThereAt conn.new)) }
+{
     if conn.session.is_open() {
         return Ok(refused(alloc));
     }
@@ -153,10 +126,7 @@ fn begin_call<L: Link>(
         return Err(NoMemory);
     }
     let copy = copy_call(alloc, &call)?;
-    conn.open = Some(OpenCall {
-        call: copy,
-        sent_from: conn.sent.len() as u64,
-    });
+    ask(conn, copy, None);
     match conn.session.begin(call) {
         Ok(()) => poll_open(alloc, conn, number),
         Err(error) => refused_call(alloc, conn, error),
@@ -168,7 +138,9 @@ fn begin_at<L: Link>(
     slot: &mut Slot<L>,
     number: u64,
     call: Call,
-) -> Result<Did, NoMemory> {
+) -> Result<Did, NoMemory>
+    ensures { IfOk result (λ d. (login : LoginOf) → IsStood login slot.old → DidAt (λ l. record { items = L.items l; writes = L.writes l; counts = L.counts l }) login number (Calls login number call) d.outcome d.uses.items slot.old slot.new) }
+{
     match slot {
         Slot::There(conn) => begin_call(alloc, conn, number, call),
         Slot::Gone | Slot::Held | Slot::Ended(_) => Ok(refused(alloc)),
@@ -181,7 +153,10 @@ pub fn begin_in<L: Link>(
     slots: &mut Vec<Slot<L>>,
     number: u64,
     call: Call,
-) -> Result<Did, NoMemory> {
+) -> Result<Did, NoMemory>
+    ensures count { length slots.new.items ≡ length slots.old.items }
+    ensures steps { IfOk result (λ d. (login : LoginOf) (plans : Plans) → AreStood login slots.old.items → Stepped (λ l. record { items = L.items l; writes = L.writes l; counts = L.counts l }) login plans d.uses.items slots.old.items slots.new.items (At number (Calls login number call) (map handle_of slots.old.items) d.outcome d.uses.items (map handle_of slots.new.items))) }
+{
     if number >= slots.len() as u64 {
         return Ok(refused(alloc));
     }

@@ -1,21 +1,35 @@
 //! Dials the next connection, and connects it.
-ghost use Rattle.std.specs.Prelude.{◌≡◌, IfOk};
+ghost use Rattle.std.specs.Prelude.{◌≡◌, ◌≢◌, ◌∷◌, [], ℕ, suc, None, length, map, IfOk, OnOk};
+ghost use Rattle.my_session.specs.declared.call.Call.TheVariants.{Connect as ConnectCall};
+ghost use Rattle.my_session.specs.Errors.{io_error};
+ghost use Rattle.my_session.specs.History.{beginning};
+ghost use Rattle.my_session.specs.Stands.{Stands};
 ghost use Rattle.my_session.specs.Steps.{fresh};
+ghost use Rattle.my_run.specs.Connecting.{Settles, Joins, Dialed};
+ghost use Rattle.my_run.specs.Did.{Stepped};
+ghost use Rattle.my_run.specs.Grows.{DialsNext, asked_by};
+ghost use Rattle.my_run.specs.Keeps.{Plans, AreStood};
+ghost use Rattle.my_run.specs.Kept.{asking, nothing_kept};
 ghost use Rattle.my_run.specs.Login.{login_of};
+ghost use Rattle.my_run.specs.Poll.{quiet};
+ghost use Rattle.my_run.specs.Slot.{handle_of, kept_of};
 
-use crate::call::{Did, copy_error, did_once, note};
+use crate::call::{Did, ask, did_once};
+use crate::drive::drive;
 use crate::login::login_for;
-use crate::poll::{After, Polled, poll_conn, quiet_use};
-use crate::slot::{Conn, OpenCall, Slot};
+use crate::poll::{After, quiet_use};
+use crate::slot::{Conn, Slot};
 use crate::transcript::{Outcome, Use};
 use my_opts::Opts;
-use my_session::{Answer, Call, Error, IoError, IoFault, IoKind, Session};
+use my_session::{Call, Error, IoError, IoFault, IoKind, Session};
 use my_wire::{NoMemory, server_version};
 use my_world::link::Link;
 use my_world::world::{DialStep, World};
 use std::alloc::Global;
 
-fn dial_error() -> Error {
+fn dial_error() -> Error
+    ensures { result ≡ io_error IoKind.Dial 0 }
+{
     Error::Io(IoError::Io(IoFault {
         kind: IoKind::Dial,
         place: 0,
@@ -24,7 +38,10 @@ fn dial_error() -> Error {
 
 // A connection that didn't begin to connect.
 fn new_conn<L: Link + Drop>(alloc: Global, opts: &Opts, link: L) -> Result<Conn<L>, NoMemory>
-    ensures { IfOk result (λ c. c.session.seen ≡ fresh (login_of opts.now)) }
+    ensures seen { IfOk result (λ c. c.session.seen ≡ fresh (login_of opts.now)) }
+    ensures stands { IfOk result (λ c. Stands c.session.seen beginning) }
+    ensures kept { IfOk result (λ c. kept_of c ≡ nothing_kept) }
+    ensures link { IfOk result (λ c. c.link ≡ link) }
 {
     let login = login_for(alloc, opts)?;
     let session = Session::new(alloc, login)?;
@@ -34,60 +51,59 @@ fn new_conn<L: Link + Drop>(alloc: Global, opts: &Opts, link: L) -> Result<Conn<
         sent: Vec::new(alloc),
         taken: Vec::new(alloc),
         calls: Vec::new(alloc),
-        open: None,
+        pending: None,
     })
 }
 
-// What stands at a new connection's number, and what its step came to.
+/// What stands at a connection's number, and what its step came to.
 #[derive(Drop)]
-struct Connected<L> {
-    slot: Slot<L>,
-    did: Did,
+pub struct Connected<L> {
+    pub slot: Slot<L>,
+    pub did: Did,
 }
 
-// The connection was polled for the first time.
-fn settle<L: Drop>(
-    alloc: Global,
-    mut conn: Conn<L>,
-    number: u64,
-    polled: Polled,
-) -> Result<Connected<L>, NoMemory> {
-    let Polled { after, used } = polled;
-    let mut uses = Vec::new(alloc);
-    uses.push(quiet_use(number))?;
-    uses.push(used)?;
+// The handshake was polled.
+pub fn settle<L>(conn: Conn<L>, number: u64, after: After, uses: Vec<Use>) -> Connected<L>
+    ensures settles { Settles conn number after result.slot result.did.outcome }
+    ensures uses { result.did.uses ≡ uses }
+{
     match after {
-        After::Pending => Ok(Connected {
+        After::Pending => Connected {
             slot: Slot::There(conn),
             did: Did {
                 outcome: Outcome::Pending,
                 uses,
             },
-        }),
-        After::Answered(answer) => {
-            note(&mut conn, Ok(answer))?;
+        },
+        After::Answered(_) => {
             let id = conn.session.connection_id();
             let version = server_version(conn.session.version());
-            Ok(Connected {
+            Connected {
                 slot: Slot::There(conn),
                 did: Did {
                     outcome: Outcome::Connected(number, id, version),
                     uses,
                 },
-            })
+            }
         }
-        After::Failed(error) => {
-            let copy = copy_error(alloc, &error)?;
-            note(&mut conn, Err(copy))?;
-            Ok(Connected {
-                slot: Slot::Ended(conn),
-                did: Did {
-                    outcome: Outcome::Failed(error),
-                    uses,
-                },
-            })
-        }
+        After::Failed(error) => Connected {
+            slot: Slot::Ended(conn),
+            did: Did {
+                outcome: Outcome::Failed(error),
+                uses,
+            },
+        },
     }
+}
+
+// The use of a dial that gave a link, then that of the poll behind it.
+fn dial_uses(alloc: Global, number: u64, used: Use) -> Result<Vec<Use>, NoMemory>
+    ensures { IfOk result (λ us. us.items ≡ quiet number ∷ used ∷ []) }
+{
+    let mut uses = Vec::new(alloc);
+    uses.push(quiet_use(number))?;
+    uses.push(used)?;
+    Ok(uses)
 }
 
 // Makes the connection's first call and polls it.
@@ -96,50 +112,73 @@ fn first_call<L: Link + Drop>(
     opts: &Opts,
     link: L,
     number: u64,
-) -> Result<Connected<L>, NoMemory> {
+) -> Result<Connected<L>, NoMemory>
+    ensures { IfOk result (λ c. (used : Use) × (c.did.uses.items ≡ quiet number ∷ used ∷ []) × Joins (λ l. record { items = L.items l; writes = L.writes l; counts = L.counts l }) (login_of opts.now) number (asked_by nothing_kept ConnectCall) (asking nothing_kept ConnectCall None) (record { items = L.items link; writes = L.writes link; counts = L.counts link }) c.slot c.did.outcome used) }
+{
     let mut conn = new_conn(alloc, opts, link)?;
-    conn.open = Some(OpenCall {
-        call: Call::Connect,
-        sent_from: 0,
-    });
+    ask(&mut conn, Call::Connect, None);
     match conn.session.begin(Call::Connect) {
         Ok(()) => {
-            let polled = poll_conn(alloc, &mut conn, number)?;
-            settle(alloc, conn, number, polled)
+            let driven = drive(alloc, &mut conn, number)?;
+            let uses = dial_uses(alloc, number, driven.polled.used)?;
+            Ok(settle(conn, number, driven.polled.after, uses))
         }
         Err(_) => Err(NoMemory),
     }
 }
 
-/// Dials the link of the next number and connects over it.
+/// Dials the link of this number, and connects over it.
+pub fn dial_at<N: World>(
+    alloc: Global,
+    opts: &Opts,
+    world: &mut N,
+    number: u64,
+) -> Result<Connected<N::L>, NoMemory>
+    ensures reads { (m : ℕ) → m ≢ number → N.plan world.new m ≡ N.plan world.old m }
+    ensures writes { (m : ℕ) → m ≢ number → N.write_plan world.new m ≡ N.write_plan world.old m }
+    ensures dialed { IfOk result (λ c. Dialed (λ l. record { items = N.L.items l; writes = N.L.writes l; counts = N.L.counts l }) (login_of opts.now) number (N.plan world.old number) (N.write_plan world.old number) c.slot c.did.outcome c.did.uses.items) }
+{
+    match world.dial(number) {
+        DialStep::Link(link) => first_call(alloc, opts, link, number),
+        DialStep::NotYet => {
+            let used = Use {
+                holds: 1,
+                ..quiet_use(number)
+            };
+            let did = did_once(alloc, Outcome::Pending, used)?;
+            Ok(Connected {
+                slot: Slot::Held,
+                did,
+            })
+        }
+        DialStep::Failed => {
+            let used = Use {
+                faults: 1,
+                ..quiet_use(number)
+            };
+            let did = did_once(alloc, Outcome::Failed(dial_error()), used)?;
+            Ok(Connected {
+                slot: Slot::Gone,
+                did,
+            })
+        }
+    }
+}
+
+/// Dials the link of the next number, and connects over it.
 pub fn connect<N: World>(
     alloc: Global,
     opts: &Opts,
     world: &mut N,
     slots: &mut Vec<Slot<N::L>>,
-) -> Result<Did, NoMemory> {
+) -> Result<Did, NoMemory>
+    ensures reads { (m : ℕ) → m ≢ length slots.old.items → N.plan world.new m ≡ N.plan world.old m }
+    ensures writes { (m : ℕ) → m ≢ length slots.old.items → N.write_plan world.new m ≡ N.write_plan world.old m }
+    ensures count { OnOk result (length slots.new.items ≡ suc (length slots.old.items)) }
+    ensures steps { IfOk result (λ d. (plans : Plans) → plans.reads (length slots.old.items) ≡ N.plan world.old (length slots.old.items) → plans.writes (length slots.old.items) ≡ N.write_plan world.old (length slots.old.items) → AreStood (login_of opts.now) slots.old.items → Stepped (λ l. record { items = N.L.items l; writes = N.L.writes l; counts = N.L.counts l }) (login_of opts.now) plans d.uses.items slots.old.items slots.new.items (DialsNext (login_of opts.now) (map handle_of slots.old.items) d.outcome d.uses.items (map handle_of slots.new.items))) }
+{
     let number = slots.len() as u64;
-    match world.dial(number) {
-        DialStep::Link(link) => {
-            let connected = first_call(alloc, opts, link, number)?;
-            slots.push(connected.slot)?;
-            Ok(connected.did)
-        }
-        DialStep::NotYet => {
-            slots.push(Slot::Held)?;
-            let used = Use {
-                holds: 1,
-                ..quiet_use(number)
-            };
-            did_once(alloc, Outcome::Pending, used)
-        }
-        DialStep::Failed => {
-            slots.push(Slot::Gone)?;
-            let used = Use {
-                faults: 1,
-                ..quiet_use(number)
-            };
-            did_once(alloc, Outcome::Failed(dial_error()), used)
-        }
-    }
+    let connected = dial_at(alloc, opts, world, number)?;
+    slots.push(connected.slot)?;
+    Ok(connected.did)
 }

@@ -1,9 +1,13 @@
 //! Drives a connection's open call until it is answered or the link holds.
-ghost use Rattle.std.specs.Prelude.{◌≡◌, ◌<◌, ◌≤◌, true, false, IfOk};
+ghost use Rattle.std.specs.Prelude.{◌≡◌, ◌≢◌, ◌+◌, ◌<◌, ◌≤◌, Some, true, false, IfOk, OnOk};
+ghost use Rattle.my_grammar.specs.declared.login.Login.{Login as LoginOf};
+ghost use Rattle.my_run.specs.Kept.{Asked, IsHeard};
+ghost use Rattle.my_run.specs.Rests.{AwaitsBytes, IsAsked, IsHeld, FailsNow, TurnRests, PollRests};
+ghost use Rattle.my_run.specs.Slot.{asked_in, kept_of};
 ghost use Rattle.my_session.specs.Calls.{is_open};
 ghost use Rattle.my_session.specs.Steps.{StepIs};
 ghost use Rattle.my_session.specs.declared.call.Task.TheVariants.{Nothing};
-ghost use Rattle.my_run.specs.Poll.{TurnIs, took_by, is_full, quiet, IsFailed, Polls, SpendsOn};
+ghost use Rattle.my_run.specs.Poll.{TurnIs, took_by, is_full, quiet, Polls, SpendsOn, round_of};
 
 use crate::slot::Conn;
 use crate::transcript::Use;
@@ -37,10 +41,10 @@ pub enum Turn {
     Sent,
     /// So many bytes came in.
     Took(u64),
-    /// The link told its end.
-    Ended,
-    /// The link failed.
-    Failed,
+    /// The link told its end, and the call failed.
+    Ended(Error),
+    /// The link failed, and so did the call.
+    Broke(Error),
     /// The link holds.
     Held,
     /// The poll took all that it may.
@@ -49,12 +53,51 @@ pub enum Turn {
     Faulted(Error),
 }
 
+/// Whether a poll goes on, with what it met so far, or what it came to.
+#[derive(Drop)]
+pub enum Round {
+    On(Use),
+    Over(Polled),
+}
+
+// A fault's error, unless it is want of memory.
+fn fault(error: Error) -> Result<Error, NoMemory>
+    ensures value { IfOk result (λ e. e ≡ error) }
+    ensures kept { IfOk result (λ e. e ≢ Error.NoMemory) }
+{
+    match error {
+        Error::NoMemory => Err(NoMemory),
+        other => Ok(other),
+    }
+}
+
+// The link failed or ended. The session's next step says so, and closes it.
+fn fail_now<L: Link>(alloc: Global, conn: &mut Conn<L>) -> Result<Error, NoMemory>
+    requires { is_open conn.old.session.seen.task ≡ true }
+    ensures task { OnOk result (conn.new.session.seen.task ≡ Nothing) }
+    ensures found { IfOk result (λ e. e ≢ Error.NoMemory) }
+    ensures link { OnOk result (conn.new.link ≡ conn.old.link) }
+    ensures sent { OnOk result (conn.new.sent ≡ conn.old.sent) }
+    ensures taken { OnOk result (conn.new.taken ≡ conn.old.taken) }
+    ensures calls { OnOk result (conn.new.calls ≡ conn.old.calls) }
+    ensures pending { OnOk result (conn.new.pending ≡ conn.old.pending) }
+    ensures rests { IfOk result (λ e. (login : LoginOf) (a : Asked) → IsHeard login conn.old.session.seen (kept_of conn.old) → asked_in conn.old.pending ≡ Some a → FailsNow login conn.old.session.seen conn.new.session.seen (kept_of conn.old) a e) }
+{
+    match conn.session.step(alloc) {
+        SessionStep::Fault(error) => fault(error),
+        _ => Err(NoMemory),
+    }
+}
+
 // Sends some of what is owed.
-fn send<L: Link>(conn: &mut Conn<L>) -> Result<Turn, NoMemory>
+fn send<L: Link>(alloc: Global, conn: &mut Conn<L>) -> Result<Turn, NoMemory>
     requires { StepIs conn.old.session.seen SessionStep.Send }
     ensures turn { IfOk result (λ turn. TurnIs conn.new.session.seen (record { items = L.items conn.old.link; writes = L.writes conn.old.link; counts = L.counts conn.old.link }) (record { items = L.items conn.new.link; writes = L.writes conn.new.link; counts = L.counts conn.new.link }) conn.old.sent.items conn.new.sent.items conn.old.taken.items conn.new.taken.items turn) }
     ensures took { IfOk result (λ turn. took_by turn ≡ 0) }
     ensures full { IfOk result (λ turn. is_full turn ≡ false) }
+    ensures calls { OnOk result (conn.new.calls ≡ conn.old.calls) }
+    ensures pending { OnOk result (conn.new.pending ≡ conn.old.pending) }
+    ensures rests { IfOk result (λ turn. (login : LoginOf) (a : Asked) → IsHeld login conn.old.session.seen (kept_of conn.old) a → TurnRests login conn.new.session.seen (kept_of conn.new) a turn) }
 {
     match conn.link.write(conn.session.owed()) {
         WriteStep::Took(n) => {
@@ -65,19 +108,22 @@ fn send<L: Link>(conn: &mut Conn<L>) -> Result<Turn, NoMemory>
         WriteStep::NotYet => Ok(Turn::Held),
         WriteStep::Failed => {
             conn.session.fail(LinkFault::Link);
-            Ok(Turn::Failed)
+            Ok(Turn::Broke(fail_now(alloc, conn)?))
         }
         WriteStep::NoMemory => Err(NoMemory),
     }
 }
 
 // Takes some of what the link has, at most so many bytes.
-fn receive<L: Link>(conn: &mut Conn<L>, room: u64) -> Result<Turn, NoMemory>
+fn receive<L: Link>(alloc: Global, conn: &mut Conn<L>, room: u64) -> Result<Turn, NoMemory>
     requires step { StepIs conn.old.session.seen SessionStep.Need }
     requires room { 0 < room }
     ensures turn { IfOk result (λ turn. TurnIs conn.new.session.seen (record { items = L.items conn.old.link; writes = L.writes conn.old.link; counts = L.counts conn.old.link }) (record { items = L.items conn.new.link; writes = L.writes conn.new.link; counts = L.counts conn.new.link }) conn.old.sent.items conn.new.sent.items conn.old.taken.items conn.new.taken.items turn) }
     ensures within { IfOk result (λ turn. took_by turn ≤ room) }
     ensures full { IfOk result (λ turn. is_full turn ≡ false) }
+    ensures calls { OnOk result (conn.new.calls ≡ conn.old.calls) }
+    ensures pending { OnOk result (conn.new.pending ≡ conn.old.pending) }
+    ensures rests { IfOk result (λ turn. (login : LoginOf) (a : Asked) → IsHeld login conn.old.session.seen (kept_of conn.old) a → AwaitsBytes conn.old.session.seen → TurnRests login conn.new.session.seen (kept_of conn.new) a turn) }
 {
     let mut buf = [0u8; 4096];
     let most = room.min(4096) as usize;
@@ -90,11 +136,11 @@ fn receive<L: Link>(conn: &mut Conn<L>, room: u64) -> Result<Turn, NoMemory>
         ReadStep::NotYet => Ok(Turn::Held),
         ReadStep::End => {
             conn.session.end();
-            Ok(Turn::Ended)
+            Ok(Turn::Ended(fail_now(alloc, conn)?))
         }
         ReadStep::Failed => {
             conn.session.fail(LinkFault::Link);
-            Ok(Turn::Failed)
+            Ok(Turn::Broke(fail_now(alloc, conn)?))
         }
     }
 }
@@ -105,17 +151,20 @@ fn take_turn<L: Link>(alloc: Global, conn: &mut Conn<L>, room: u64) -> Result<Tu
     ensures turn { IfOk result (λ turn. TurnIs conn.new.session.seen (record { items = L.items conn.old.link; writes = L.writes conn.old.link; counts = L.counts conn.old.link }) (record { items = L.items conn.new.link; writes = L.writes conn.new.link; counts = L.counts conn.new.link }) conn.old.sent.items conn.new.sent.items conn.old.taken.items conn.new.taken.items turn) }
     ensures within { IfOk result (λ turn. took_by turn ≤ room) }
     ensures full { IfOk result (λ turn. is_full turn ≡ true → room ≡ 0) }
+    ensures calls { OnOk result (conn.new.calls ≡ conn.old.calls) }
+    ensures pending { OnOk result (conn.new.pending ≡ conn.old.pending) }
+    ensures rests { IfOk result (λ turn. (login : LoginOf) (a : Asked) → IsAsked login conn.old.session.seen (kept_of conn.old) a → TurnRests login conn.new.session.seen (kept_of conn.new) a turn) }
 {
     match conn.session.step(alloc) {
-        SessionStep::Send => send(conn),
+        SessionStep::Send => send(alloc, conn),
         SessionStep::Need => {
             if room == 0 {
                 return Ok(Turn::Full);
             }
-            receive(conn, room)
+            receive(alloc, conn, room)
         }
         SessionStep::Done(answer) => Ok(Turn::Answered(answer)),
-        SessionStep::Fault(error) => Ok(Turn::Faulted(error)),
+        SessionStep::Fault(error) => Ok(Turn::Faulted(fault(error)?)),
     }
 }
 
@@ -137,17 +186,41 @@ pub fn quiet_use(number: u64) -> Use
     }
 }
 
-// The link failed: the session's next step says so, and closes it.
-fn end_failed<L: Link>(alloc: Global, conn: &mut Conn<L>, used: Use) -> Result<Polled, NoMemory>
-    requires { is_open conn.old.session.seen.task ≡ true }
-    ensures { IfOk result (λ p. (p.used ≡ record used { faults = 1 }) × IsFailed p.after × (conn.new.session.seen.task ≡ Nothing) × (conn.new.link ≡ conn.old.link) × (conn.new.sent ≡ conn.old.sent) × (conn.new.taken ≡ conn.old.taken)) }
+// Whether the poll goes on behind a turn, and what it met.
+fn count_turn(turn: Turn, used: Use) -> Round
+    requires { used.taken + took_by turn ≤ 67108864 }
+    ensures { result ≡ round_of turn used }
 {
-    match conn.session.step(alloc) {
-        SessionStep::Fault(error) => Ok(Polled {
+    match turn {
+        Turn::Sent => Round::On(used),
+        Turn::Took(n) => Round::On(Use {
+            taken: used.taken + n,
+            ..used
+        }),
+        Turn::Ended(error) => Round::Over(Polled {
+            after: After::Failed(error),
+            used: Use { ends: 1, ..used },
+        }),
+        Turn::Broke(error) => Round::Over(Polled {
             after: After::Failed(error),
             used: Use { faults: 1, ..used },
         }),
-        _ => Err(NoMemory),
+        Turn::Held => Round::Over(Polled {
+            after: After::Pending,
+            used: Use { holds: 1, ..used },
+        }),
+        Turn::Full => Round::Over(Polled {
+            after: After::Pending,
+            used,
+        }),
+        Turn::Answered(answer) => Round::Over(Polled {
+            after: After::Answered(answer),
+            used,
+        }),
+        Turn::Faulted(error) => Round::Over(Polled {
+            after: After::Failed(error),
+            used,
+        }),
     }
 }
 
@@ -160,38 +233,16 @@ pub fn poll_conn<L: Link>(
     requires { is_open conn.old.session.seen.task ≡ true }
     ensures polls { IfOk result (λ p. Polls conn.new.session.seen (record { items = L.items conn.old.link; writes = L.writes conn.old.link; counts = L.counts conn.old.link }) (record { items = L.items conn.new.link; writes = L.writes conn.new.link; counts = L.counts conn.new.link }) conn.old.sent.items conn.new.sent.items conn.old.taken.items conn.new.taken.items number p) }
     ensures spends { IfOk result (λ p. SpendsOn (record { items = L.items conn.old.link; writes = L.writes conn.old.link; counts = L.counts conn.old.link }) (record { items = L.items conn.new.link; writes = L.writes conn.new.link; counts = L.counts conn.new.link }) conn.old.taken.items conn.new.taken.items p.used) }
+    ensures calls { OnOk result (conn.new.calls ≡ conn.old.calls) }
+    ensures pending { OnOk result (conn.new.pending ≡ conn.old.pending) }
+    ensures rests { IfOk result (λ p. (login : LoginOf) (a : Asked) → IsAsked login conn.old.session.seen (kept_of conn.old) a → PollRests login conn.new.session.seen (kept_of conn.new) a p.used p.after) }
 {
     let mut used = quiet_use(number);
     'turns: for _ in 0..u64::MAX {
-        match take_turn(alloc, conn, MOST_TAKEN - used.taken)? {
-            Turn::Sent => {}
-            Turn::Took(n) => used.taken += n,
-            Turn::Ended => used.ends = 1,
-            Turn::Failed => return end_failed(alloc, conn, used),
-            Turn::Held => {
-                return Ok(Polled {
-                    after: After::Pending,
-                    used: Use { holds: 1, ..used },
-                });
-            }
-            Turn::Full => {
-                return Ok(Polled {
-                    after: After::Pending,
-                    used,
-                });
-            }
-            Turn::Answered(answer) => {
-                return Ok(Polled {
-                    after: After::Answered(answer),
-                    used,
-                });
-            }
-            Turn::Faulted(error) => {
-                return Ok(Polled {
-                    after: After::Failed(error),
-                    used,
-                });
-            }
+        let turn = take_turn(alloc, conn, MOST_TAKEN - used.taken)?;
+        match count_turn(turn, used) {
+            Round::On(more) => used = more,
+            Round::Over(polled) => return Ok(polled),
         }
     }
     Err(NoMemory)

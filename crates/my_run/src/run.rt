@@ -1,15 +1,27 @@
 //! Runs steps in order.
-ghost use Rattle.std.specs.Prelude.{◌≡◌, [], IfOk, OnOk};
-ghost use Rattle.my_run.specs.Run.{AreNumbered};
+ghost use Rattle.std.specs.Prelude.{◌≡◌, ◌≤◌, ◌++◌, [], ℕ, length, map, IfOk, OnOk};
+ghost use Rattle.my_run.specs.Slot.{kept_of, handle_of};
+ghost use Rattle.my_run.specs.Tapes.{tape_view, tape_of, tape_at, tapes_in};
+ghost use Rattle.my_run.specs.Did.{Stepped};
+ghost use Rattle.my_run.specs.Grows.{StepGrows};
+ghost use Rattle.my_run.specs.Headline.{SoFar, Headline};
+ghost use Rattle.my_run.specs.Keeps.{Plans, AreStood};
+ghost use Rattle.my_run.specs.Login.{login_of};
 
 use crate::call::{Did, begin_in};
+use crate::cancel::cancel_in;
 use crate::connect::connect;
+use crate::fields::fields_in;
+use crate::gather::collect_in;
+use crate::resume::resume_in;
 use crate::slot::{Conn, Slot};
 use crate::step::Step;
-use crate::transcript::{StepAnswer, Tape, TapeCall, Transcript};
+use crate::tape::tape_calls;
+use crate::transcript::{StepAnswer, Tape, Transcript};
 use my_opts::Opts;
 use my_session::Call;
 use my_wire::NoMemory;
+use my_world::link::Link;
 use my_world::world::World;
 use std::alloc::Global;
 
@@ -19,7 +31,12 @@ fn run_step<N: World>(
     world: &mut N,
     slots: &mut Vec<Slot<N::L>>,
     step: &Step,
-) -> Result<Did, NoMemory> {
+) -> Result<Did, NoMemory>
+    ensures longer { OnOk result (length slots.old.items ≤ length slots.new.items) }
+    ensures reads { OnOk result ((m : ℕ) → length slots.new.items ≤ m → N.plan world.new m ≡ N.plan world.old m) }
+    ensures writes { OnOk result ((m : ℕ) → length slots.new.items ≤ m → N.write_plan world.new m ≡ N.write_plan world.old m) }
+    ensures steps { IfOk result (λ d. (plans : Plans) → ((m : ℕ) → length slots.old.items ≤ m → plans.reads m ≡ N.plan world.old m) → ((m : ℕ) → length slots.old.items ≤ m → plans.writes m ≡ N.write_plan world.old m) → AreStood (login_of opts.now) slots.old.items → Stepped (λ l. record { items = N.L.items l; writes = N.L.writes l; counts = N.L.counts l }) (login_of opts.now) plans d.uses.items slots.old.items slots.new.items (StepGrows (login_of opts.now) (map handle_of slots.old.items) step.now d.outcome d.uses.items (map handle_of slots.new.items))) }
+{
     match step {
         Step::Conn => connect(alloc, opts, world, slots),
         Step::Query(number, text) => {
@@ -27,13 +44,13 @@ fn run_step<N: World>(
             begin_in(alloc, slots, *number, Call::Query(text))
         }
         Step::Next(number) => begin_in(alloc, slots, *number, Call::NextRow),
-        Step::Collect(_)
-        | Step::Drop(_)
-        | Step::Ping(_)
-        | Step::Quit(_)
-        | Step::Fields(_)
-        | Step::Poll(_)
-        | Step::Cancel(_) => Err(NoMemory),
+        Step::Drop(number) => begin_in(alloc, slots, *number, Call::DropResult),
+        Step::Ping(number) => begin_in(alloc, slots, *number, Call::Ping),
+        Step::Quit(number) => begin_in(alloc, slots, *number, Call::Quit),
+        Step::Fields(number) => fields_in(alloc, slots, *number),
+        Step::Cancel(number) => cancel_in(alloc, slots, *number),
+        Step::Collect(number) => collect_in(alloc, slots, *number),
+        Step::Poll(number) => resume_in(alloc, opts, world, slots, *number),
     }
 }
 
@@ -45,8 +62,9 @@ fn run_each<N: World>(
     answers: &mut Vec<StepAnswer>,
     steps: &[Step],
 ) -> Result<(), NoMemory>
-    requires { answers.old.items ≡ [] }
-    ensures { OnOk result (AreNumbered 1 steps.now answers.new.items) }
+    requires no_slots { slots.old.items ≡ [] }
+    requires no_answers { answers.old.items ≡ [] }
+    ensures { OnOk result ((plans : Plans) → ((n : ℕ) → plans.reads n ≡ N.plan world.old n) → ((n : ℕ) → plans.writes n ≡ N.write_plan world.old n) → SoFar (λ l. record { items = N.L.items l; writes = N.L.writes l; counts = N.L.counts l }) (login_of opts.now) plans steps.now slots.new.items answers.new.items) }
 {
     for (i, step) in steps.iter().enumerate() {
         let did = run_step(alloc, opts, world, slots, step)?;
@@ -60,22 +78,18 @@ fn run_each<N: World>(
 }
 
 // The tape of a connection at the end of a run.
-fn end_tape<L: Drop>(conn: Conn<L>, number: u64) -> Result<Tape, NoMemory> {
+fn end_tape<L: Drop>(alloc: Global, conn: Conn<L>, number: u64) -> Result<Tape, NoMemory>
+    ensures { IfOk result (λ t. tape_view t ≡ tape_of number (kept_of conn)) }
+{
     let Conn {
         session: _,
         link: _,
         sent,
         taken,
-        mut calls,
-        open,
+        calls,
+        pending,
     } = conn;
-    if let Some(open) = open {
-        calls.push(TapeCall {
-            call: open.call,
-            sent_from: open.sent_from,
-            answer: None,
-        })?;
-    }
+    let calls = tape_calls(alloc, calls, pending)?;
     Ok(Tape {
         number,
         sent,
@@ -84,21 +98,32 @@ fn end_tape<L: Drop>(conn: Conn<L>, number: u64) -> Result<Tape, NoMemory> {
     })
 }
 
-fn keep_tape<L: Drop>(tapes: &mut Vec<Tape>, slot: Slot<L>, number: u64) -> Result<(), NoMemory> {
+fn keep_tape<L: Drop>(
+    alloc: Global,
+    tapes: &mut Vec<Tape>,
+    slot: Slot<L>,
+    number: u64,
+) -> Result<(), NoMemory>
+    ensures { OnOk result (map tape_view tapes.new.items ≡ map tape_view tapes.old.items ++ tape_at number (handle_of slot)) }
+{
     match slot {
         Slot::Gone | Slot::Held => Ok(()),
         Slot::There(conn) | Slot::Ended(conn) => {
-            tapes.push(end_tape(conn, number)?)?;
+            tapes.push(end_tape(alloc, conn, number)?)?;
             Ok(())
         }
     }
 }
 
 // The tapes, in the order of their numbers.
-fn tapes_of<L: Drop>(alloc: Global, slots: Vec<Slot<L>>) -> Result<Vec<Tape>, NoMemory> {
+fn tapes_of<L: Link + Drop>(alloc: Global, mut slots: Vec<Slot<L>>) -> Result<Vec<Tape>, NoMemory>
+    ensures { IfOk result (λ tapes. map tape_view tapes.items ≡ tapes_in 0 (map handle_of slots.items)) }
+{
     let mut tapes = Vec::new(alloc);
-    for (number, slot) in slots.into_iter().enumerate() {
-        keep_tape(&mut tapes, slot, number as u64)?;
+    let mut number = 0u64;
+    'slots: while !slots.is_empty() {
+        keep_tape(alloc, &mut tapes, slots.remove(0), number)?;
+        number += 1;
     }
     Ok(tapes)
 }
@@ -110,7 +135,7 @@ pub fn run_steps<N: World>(
     world: &mut N,
     steps: &[Step],
 ) -> Result<Transcript, NoMemory>
-    ensures { IfOk result (λ t. AreNumbered 1 steps.now t.answers.items) }
+    ensures { IfOk result (λ t. (plans : Plans) → ((n : ℕ) → plans.reads n ≡ N.plan world.old n) → ((n : ℕ) → plans.writes n ≡ N.write_plan world.old n) → Headline (login_of opts.now) plans steps.now t.answers.items t.tapes.items) }
 {
     let mut slots = Vec::new(alloc);
     let mut answers = Vec::new(alloc);

@@ -1,25 +1,19 @@
 //! What stands at a connection's number.
 
-use crate::transcript::TapeCall;
-use my_session::{Call, Session};
-
-/// A call that has no answer yet.
-#[derive(Drop)]
-pub struct OpenCall {
-    pub call: Call,
-    /// How many bytes were sent when it began.
-    pub sent_from: u64,
-}
+use crate::tape::{DoneCall, OpenCall};
+use my_session::Session;
 
 /// A connection: a session on its link, with what it did so far.
 #[derive(Drop)]
 pub struct Conn<L> {
     pub session: Session,
     pub link: L,
+    /// The bytes that were sent and taken.
     pub sent: Vec<u8>,
     pub taken: Vec<u8>,
-    pub calls: Vec<TapeCall>,
-    pub open: Option<OpenCall>,
+    /// The calls that ended, the oldest first.
+    pub calls: Vec<DoneCall>,
+    pub pending: Option<OpenCall>,
 }
 
 /// What stands at a number that a `conn` took.

@@ -1,9 +1,11 @@
 //! The top call.
 ghost use Rattle.std.specs.Prelude.{◌≡◌, [], ℕ, OnOk, IfOk, true, map, string_bytes};
-ghost use Rattle.my_world.specs.Plan.{planned_lines};
+ghost use Rattle.my_world.specs.Plan.{planned_lines, written_lines};
+ghost use Rattle.my_run.specs.Headline.{Headline};
+ghost use Rattle.my_run.specs.Login.{login_of};
 ghost use Rattle.my_run.specs.Script.{script_of};
 ghost use Rattle.my_run.specs.Text.{text_of};
-ghost use Rattle.my_run.specs.Tool.{IsEmpty, IsUnread, Ran, ScriptEnds, TextEnds, InputEnds, WordEnds, ToolEnds, IsReport, code_of};
+ghost use Rattle.my_run.specs.Tool.{IsEmpty, IsUnread, plans_with, ScriptEnds, TextEnds, InputEnds, WordEnds, ToolEnds, IsReport, code_of};
 
 use crate::input::{Came, MOST_INPUT, read_all};
 use crate::output::write_all;
@@ -106,7 +108,8 @@ fn unread(alloc: Global, number: u64) -> Result<Transcript, NoMemory>
 
 fn prepare_each<N: World>(world: &mut N, plan: &[WorldLine]) -> Result<(), NoMemory>
     requires { N.takes_plan world.old ≡ true }
-    ensures { OnOk result ((n : ℕ) → N.plan world.new n ≡ planned_lines n plan.now (N.plan world.old n)) }
+    ensures reads { OnOk result ((n : ℕ) → N.plan world.new n ≡ planned_lines n plan.now (N.plan world.old n)) }
+    ensures writes { OnOk result ((n : ℕ) → N.write_plan world.new n ≡ written_lines n plan.now (N.write_plan world.old n)) }
 {
     for line in plan {
         world.prepare(line)?;
@@ -115,7 +118,10 @@ fn prepare_each<N: World>(world: &mut N, plan: &[WorldLine]) -> Result<(), NoMem
 }
 
 // Hands the world the lines of its plan, if it takes one.
-fn prepare_all<N: World>(world: &mut N, plan: &[WorldLine]) -> Result<(), NoMemory> {
+fn prepare_all<N: World>(world: &mut N, plan: &[WorldLine]) -> Result<(), NoMemory>
+    ensures reads { OnOk result ((n : ℕ) → (plans_with (record { takes = N.takes_plan world.old; reads = N.plan world.old; writes = N.write_plan world.old }) plan.now).reads n ≡ N.plan world.new n) }
+    ensures writes { OnOk result ((n : ℕ) → (plans_with (record { takes = N.takes_plan world.old; reads = N.plan world.old; writes = N.write_plan world.old }) plan.now).writes n ≡ N.write_plan world.new n) }
+{
     if world.plans() {
         prepare_each(world, plan)?;
     }
@@ -129,7 +135,7 @@ fn run_script<N: World>(
     script: &Script,
     world: &mut N,
 ) -> Result<(Transcript, Vec<u8>), NoMemory>
-    ensures { IfOk result (λ r. Ran script.now.steps.items r.0 × (r.1.items ≡ text_of r.0.answers.items r.0.tapes.items)) }
+    ensures { IfOk result (λ r. Headline (login_of opts.now) (plans_with (record { takes = N.takes_plan world.old; reads = N.plan world.old; writes = N.write_plan world.old }) script.now.plan.items) script.now.steps.items r.0.answers.items r.0.tapes.items × (r.1.items ≡ text_of r.0.answers.items r.0.tapes.items)) }
 {
     prepare_all(world, &script.plan)?;
     let transcript = run_steps(alloc, opts, world, &script.steps)?;
@@ -144,7 +150,7 @@ fn run_good<W: Sink, N: World>(
     out: &mut W,
     world: &mut N,
 ) -> Ended
-    ensures { ScriptEnds script.now.steps.items (record { took = W.took out.old; faults = W.faults out.old }) (record { took = W.took out.new; faults = W.faults out.new }) result.transcript result.status }
+    ensures { ScriptEnds (login_of opts.now) (plans_with (record { takes = N.takes_plan world.old; reads = N.plan world.old; writes = N.write_plan world.old }) script.now.plan.items) script.now.steps.items (record { took = W.took out.old; faults = W.faults out.old }) (record { took = W.took out.new; faults = W.faults out.new }) result.transcript result.status }
 {
     match run_script(alloc, opts, script, world) {
         Err(_) => blank(alloc, Status::NoMemory),
@@ -171,7 +177,7 @@ fn run_text<W: Sink, N: World>(
     out: &mut W,
     world: &mut N,
 ) -> Ended
-    ensures { TextEnds (script_of (N.takes_plan world.old) bytes.now) (record { took = W.took out.old; faults = W.faults out.old }) (record { took = W.took out.new; faults = W.faults out.new }) result.transcript result.status }
+    ensures { TextEnds (login_of opts.now) (record { takes = N.takes_plan world.old; reads = N.plan world.old; writes = N.write_plan world.old }) (script_of (N.takes_plan world.old) bytes.now) (record { took = W.took out.old; faults = W.faults out.old }) (record { took = W.took out.new; faults = W.faults out.new }) result.transcript result.status }
 {
     match read_script(alloc, world.plans(), bytes) {
         Err(_) => blank(alloc, Status::NoMemory),
@@ -193,7 +199,7 @@ fn run_input<S: Source, W: Sink, N: World>(
     out: &mut W,
     world: &mut N,
 ) -> Ended
-    ensures { InputEnds (N.takes_plan world.old) (record { left = S.left src.old; faults = S.faults src.old }) (record { left = S.left src.new; faults = S.faults src.new }) (record { took = W.took out.old; faults = W.faults out.old }) (record { took = W.took out.new; faults = W.faults out.new }) result.transcript result.status }
+    ensures { InputEnds (login_of opts.now) (record { takes = N.takes_plan world.old; reads = N.plan world.old; writes = N.write_plan world.old }) (record { left = S.left src.old; faults = S.faults src.old }) (record { left = S.left src.new; faults = S.faults src.new }) (record { took = W.took out.old; faults = W.faults out.old }) (record { took = W.took out.new; faults = W.faults out.new }) result.transcript result.status }
 {
     match read_all(alloc, src) {
         Err(_) => blank(alloc, Status::NoMemory),
@@ -210,7 +216,7 @@ fn run_word<S: Source, W: Sink, N: World>(
     out: &mut W,
     world: &mut N,
 ) -> Ended
-    ensures { WordEnds word.now (N.takes_plan world.old) (record { left = S.left src.old; faults = S.faults src.old }) (record { left = S.left src.new; faults = S.faults src.new }) (record { took = W.took out.old; faults = W.faults out.old }) (record { took = W.took out.new; faults = W.faults out.new }) result.transcript result.status }
+    ensures { WordEnds word.now (record { takes = N.takes_plan world.old; reads = N.plan world.old; writes = N.write_plan world.old }) (record { left = S.left src.old; faults = S.faults src.old }) (record { left = S.left src.new; faults = S.faults src.new }) (record { took = W.took out.old; faults = W.faults out.old }) (record { took = W.took out.new; faults = W.faults out.new }) result.transcript result.status }
 {
     match read_word(alloc, word) {
         Err(_) => blank(alloc, Status::NoMemory),
@@ -226,7 +232,7 @@ fn run_words<S: Source, W: Sink, N: World>(
     out: &mut W,
     world: &mut N,
 ) -> Ended
-    ensures { ToolEnds (map string_bytes words.now) (N.takes_plan world.old) (record { left = S.left src.old; faults = S.faults src.old }) (record { left = S.left src.new; faults = S.faults src.new }) (record { took = W.took out.old; faults = W.faults out.old }) (record { took = W.took out.new; faults = W.faults out.new }) result.transcript result.status }
+    ensures { ToolEnds (map string_bytes words.now) (record { takes = N.takes_plan world.old; reads = N.plan world.old; writes = N.write_plan world.old }) (record { left = S.left src.old; faults = S.faults src.old }) (record { left = S.left src.new; faults = S.faults src.new }) (record { took = W.took out.old; faults = W.faults out.old }) (record { took = W.took out.new; faults = W.faults out.new }) result.transcript result.status }
 {
     match script_word(words) {
         None => blank(alloc, Status::NoCommand),
@@ -245,7 +251,7 @@ pub fn run_tool<S: Source, W: Sink, N: World>(
     out: &mut W,
     world: &mut N,
 ) -> Report
-    ensures { IsReport (map string_bytes words.now) (N.takes_plan world.old) (record { left = S.left src.old; faults = S.faults src.old }) (record { left = S.left src.new; faults = S.faults src.new }) (record { took = W.took out.old; faults = W.faults out.old }) (record { took = W.took out.new; faults = W.faults out.new }) result }
+    ensures { IsReport (map string_bytes words.now) (record { takes = N.takes_plan world.old; reads = N.plan world.old; writes = N.write_plan world.old }) (record { left = S.left src.old; faults = S.faults src.old }) (record { left = S.left src.new; faults = S.faults src.new }) (record { took = W.took out.old; faults = W.faults out.old }) (record { took = W.took out.new; faults = W.faults out.new }) result }
 {
     let ended = run_words(alloc, words, src, out, world);
     Report {

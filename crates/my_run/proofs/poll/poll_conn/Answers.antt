@@ -1,73 +1,43 @@
-use Rattle.std.proofs.Common.{◌≡◌, Ok, Err, IfOk, refl, ap, ◌∙◌, rules, arith}
-use Rattle.std.proofs.lemmas.Grind.{common_steps}
-use Rattle.std.specs.declared.result.Result.{Result}
-use Rattle.my_wire.specs.declared.no_memory.NoMemory.{NoMemory}
-use Rattle.my_run.specs.declared.poll.Polled.{Polled}
-use Rattle.my_run.specs.declared.transcript.Use.{Use}
-use Rattle.my_run.specs.Poll.{Looks}
-use Rattle.my_run.proofs.Spends.{sent_turn, took_turn, ended_turn, held_turn, failed_turn, full_turn, answered_turn, faulted_turn}
-use Rattle.my_run.proofs.poll.poll_conn.Goals.{in-Sent, in-Took, in-Ended}
+use Rattle.std.proofs.Common.{◌≡◌, ◌≤◌, ◌+◌, true, arith, sym, ◌∙◌, subst}
+use Rattle.my_run.specs.declared.poll.Round.{Round}
+use Rattle.my_run.specs.declared.poll.Round.TheVariants.{On, Over}
+use Rattle.my_run.specs.Poll.{Looks, took_by, is_full}
+use Rattle.my_run.specs.Slot.{kept_of}
+use Rattle.my_run.proofs.Rounds.{IsRound, RoundRests, round_is, round_rests}
 use Rattle.my_run.proofs.poll.poll_conn.Goals as goal
 
-pub returns-in-Held-clause-spends : goal.returns-in-Held-clause-spends
-returns-in-Held-clause-spends g c =
+pub returns-in-Over-clause-spends : goal.returns-in-Over-clause-spends
+returns-in-Over-clause-spends g c =
     let x : Looks = record { items = g.L.Link.items c.args.conn.now.link; writes = g.L.Link.writes c.args.conn.now.link; counts = g.L.Link.counts c.args.conn.now.link } in
     let y : Looks = record { items = g.L.Link.items c.turns.conn.link; writes = g.L.Link.writes c.turns.conn.link; counts = g.L.Link.counts c.turns.conn.link } in
     let z : Looks = record { items = g.L.Link.items c.take_turn.new.conn.link; writes = g.L.Link.writes c.take_turn.new.conn.link; counts = g.L.Link.counts c.take_turn.new.conn.link } in
-    held_turn c.take_turn.new.conn.session.seen x y z c.turns.conn.sent.items c.take_turn.new.conn.sent.items c.args.conn.now.taken.items c.turns.conn.taken.items c.take_turn.new.conn.taken.items c.in_ok-take_turn.field-0 (record c.turns.used { holds = 1 }) c.turns.used.ends c.in-Held.is c.in_ok-take_turn.ensures.turn c.turns.invariant.spent c.turns.invariant.so.no_fault refl refl
+    let within : c.turns.used.taken + took_by c.in_ok-turn.turn ≤ 67108864 = omega (arith, c.in_ok-turn.ensures.within, c.turns.invariant.so.within) in
+    let full : is_full c.in_ok-turn.turn ≡ true → 67108864 ≤ c.turns.used.taken = λ e. omega (arith, c.in_ok-turn.ensures.full e, c.turns.invariant.so.within) in
+    let here : IsRound c.take_turn.new.conn.session.seen x z c.args.conn.now.sent.items c.take_turn.new.conn.sent.items c.args.conn.now.taken.items c.take_turn.new.conn.taken.items c.args.number (Over c.in-Over.polled) =
+    subst (λ (r : Round). IsRound c.take_turn.new.conn.session.seen x z c.args.conn.now.sent.items c.take_turn.new.conn.sent.items c.args.conn.now.taken.items c.take_turn.new.conn.taken.items c.args.number r) (sym c.count_turn.ensures ∙ c.in-Over.is)
+    (round_is x y z c.take_turn.new.conn.session.seen c.args.conn.now.sent.items c.turns.conn.sent.items c.take_turn.new.conn.sent.items c.args.conn.now.taken.items c.turns.conn.taken.items c.take_turn.new.conn.taken.items c.args.number c.turns.used c.turns.invariant.so c.turns.invariant.spent c.in_ok-turn.turn c.in_ok-turn.ensures.turn within full) in
+    here.1
 
-pub returns-in-Full-clause-spends : goal.returns-in-Full-clause-spends
-returns-in-Full-clause-spends g c =
-    let x : Looks = record { items = g.L.Link.items c.args.conn.now.link; writes = g.L.Link.writes c.args.conn.now.link; counts = g.L.Link.counts c.args.conn.now.link } in
-    let y : Looks = record { items = g.L.Link.items c.turns.conn.link; writes = g.L.Link.writes c.turns.conn.link; counts = g.L.Link.counts c.turns.conn.link } in
-    let z : Looks = record { items = g.L.Link.items c.take_turn.new.conn.link; writes = g.L.Link.writes c.take_turn.new.conn.link; counts = g.L.Link.counts c.take_turn.new.conn.link } in
-    full_turn c.take_turn.new.conn.session.seen x y z c.turns.conn.sent.items c.take_turn.new.conn.sent.items c.args.conn.now.taken.items c.turns.conn.taken.items c.take_turn.new.conn.taken.items c.in_ok-take_turn.field-0 c.turns.used c.turns.used.ends c.in-Full.is c.in_ok-take_turn.ensures.turn c.turns.invariant.spent c.turns.invariant.so.no_fault c.turns.invariant.so.no_hold refl
-
-pub returns-in-Answered-clause-spends : goal.returns-in-Answered-clause-spends
-returns-in-Answered-clause-spends g c =
-    let x : Looks = record { items = g.L.Link.items c.args.conn.now.link; writes = g.L.Link.writes c.args.conn.now.link; counts = g.L.Link.counts c.args.conn.now.link } in
-    let y : Looks = record { items = g.L.Link.items c.turns.conn.link; writes = g.L.Link.writes c.turns.conn.link; counts = g.L.Link.counts c.turns.conn.link } in
-    let z : Looks = record { items = g.L.Link.items c.take_turn.new.conn.link; writes = g.L.Link.writes c.take_turn.new.conn.link; counts = g.L.Link.counts c.take_turn.new.conn.link } in
-    answered_turn c.take_turn.new.conn.session.seen x y z c.turns.conn.sent.items c.take_turn.new.conn.sent.items c.args.conn.now.taken.items c.turns.conn.taken.items c.take_turn.new.conn.taken.items c.in_ok-take_turn.field-0 c.in-Answered.answer c.turns.used c.turns.used.ends c.in-Answered.is c.in_ok-take_turn.ensures.turn c.turns.invariant.spent c.turns.invariant.so.no_fault c.turns.invariant.so.no_hold refl
-
-pub returns-in-Faulted-clause-spends : goal.returns-in-Faulted-clause-spends
-returns-in-Faulted-clause-spends g c =
-    let x : Looks = record { items = g.L.Link.items c.args.conn.now.link; writes = g.L.Link.writes c.args.conn.now.link; counts = g.L.Link.counts c.args.conn.now.link } in
-    let y : Looks = record { items = g.L.Link.items c.turns.conn.link; writes = g.L.Link.writes c.turns.conn.link; counts = g.L.Link.counts c.turns.conn.link } in
-    let z : Looks = record { items = g.L.Link.items c.take_turn.new.conn.link; writes = g.L.Link.writes c.take_turn.new.conn.link; counts = g.L.Link.counts c.take_turn.new.conn.link } in
-    faulted_turn c.take_turn.new.conn.session.seen x y z c.turns.conn.sent.items c.take_turn.new.conn.sent.items c.args.conn.now.taken.items c.turns.conn.taken.items c.take_turn.new.conn.taken.items c.in_ok-take_turn.field-0 c.in-Faulted.error c.turns.used c.turns.used.ends c.in-Faulted.is c.in_ok-take_turn.ensures.turn c.turns.invariant.spent c.turns.invariant.so.no_fault c.turns.invariant.so.no_hold refl
-
-ok_on : (r : Result Polled NoMemory) (P Q : Polled → Type 0) → IfOk r P → ((p : Polled) → P p → Q p) → IfOk r Q
-ok_on (Ok p) P Q h go = go p h
-ok_on (Err e) P Q h go = tt
-
-pub returns-in-Failed-clause-spends : goal.returns-in-Failed-clause-spends
-returns-in-Failed-clause-spends g c =
-    let x : Looks = record { items = g.L.Link.items c.args.conn.now.link; writes = g.L.Link.writes c.args.conn.now.link; counts = g.L.Link.counts c.args.conn.now.link } in
-    let y : Looks = record { items = g.L.Link.items c.turns.conn.link; writes = g.L.Link.writes c.turns.conn.link; counts = g.L.Link.counts c.turns.conn.link } in
-    let z : Looks = record { items = g.L.Link.items c.take_turn.new.conn.link; writes = g.L.Link.writes c.take_turn.new.conn.link; counts = g.L.Link.counts c.take_turn.new.conn.link } in
-    ok_on c.end_failed.result _ _ c.end_failed.ensures
-    (λ p k.
-    let faults : p.used.faults ≡ 1 = ap (λ (used : Use). used.faults) k.0 in
-    let holds : p.used.holds ≡ 0 = ap (λ (used : Use). used.holds) k.0 ∙ c.turns.invariant.so.no_hold in
-    let ends : p.used.ends ≡ c.turns.used.ends = ap (λ (used : Use). used.ends) k.0 in
-    rw (k.3, k.5) (failed_turn c.take_turn.new.conn.session.seen x y z c.turns.conn.sent.items c.take_turn.new.conn.sent.items c.args.conn.now.taken.items c.turns.conn.taken.items c.take_turn.new.conn.taken.items c.in_ok-take_turn.field-0 p.used c.turns.used.ends c.in-Failed.is c.in_ok-take_turn.ensures.turn c.turns.invariant.spent faults holds ends))
+pub returns-in-Over-clause-rests : goal.returns-in-Over-clause-rests
+returns-in-Over-clause-rests g c = λ login a w.
+    let now = c.in_ok-turn.ensures.rests login a (c.turns.invariant.rests login a w) in
+    subst (λ (r : Round). RoundRests login c.take_turn.new.conn.session.seen (kept_of c.take_turn.new.conn) a r) (sym c.count_turn.ensures ∙ c.in-Over.is) (round_rests login c.take_turn.new.conn.session.seen (kept_of c.take_turn.new.conn) a c.turns.used c.in_ok-turn.turn c.turns.invariant.so.no_fault c.turns.invariant.so.no_end now)
 
 pub turns-preserved : goal.turns-preserved
 turns-preserved g c =
     let x : Looks = record { items = g.L.Link.items c.args.conn.now.link; writes = g.L.Link.writes c.args.conn.now.link; counts = g.L.Link.counts c.args.conn.now.link } in
     let y : Looks = record { items = g.L.Link.items c.turns.conn.link; writes = g.L.Link.writes c.turns.conn.link; counts = g.L.Link.counts c.turns.conn.link } in
     let z : Looks = record { items = g.L.Link.items c.take_turn.new.conn.link; writes = g.L.Link.writes c.take_turn.new.conn.link; counts = g.L.Link.counts c.take_turn.new.conn.link } in
+    let within : c.turns.used.taken + took_by c.in_ok-turn.turn ≤ 67108864 = omega (arith, c.in_ok-turn.ensures.within, c.turns.invariant.so.within) in
+    let full : is_full c.in_ok-turn.turn ≡ true → 67108864 ≤ c.turns.used.taken = λ e. omega (arith, c.in_ok-turn.ensures.full e, c.turns.invariant.so.within) in
+    let here : IsRound c.take_turn.new.conn.session.seen x z c.args.conn.now.sent.items c.take_turn.new.conn.sent.items c.args.conn.now.taken.items c.take_turn.new.conn.taken.items c.args.number (On c.in-On.more) =
+    subst (λ (r : Round). IsRound c.take_turn.new.conn.session.seen x z c.args.conn.now.sent.items c.take_turn.new.conn.sent.items c.args.conn.now.taken.items c.take_turn.new.conn.taken.items c.args.number r) (sym c.count_turn.ensures ∙ c.in-On.is)
+    (round_is x y z c.take_turn.new.conn.session.seen c.args.conn.now.sent.items c.turns.conn.sent.items c.take_turn.new.conn.sent.items c.args.conn.now.taken.items c.turns.conn.taken.items c.take_turn.new.conn.taken.items c.args.number c.turns.used c.turns.invariant.so c.turns.invariant.spent c.in_ok-turn.turn c.in_ok-turn.ensures.turn within full) in
     record {
-      is_on = search rules;
-      so = elim c.match-branch-2.branch [
-        | in-Sent w ↦ first_of (search rules, grind (arith, common_steps))
-        | in-Took w ↦ first_of (search rules, grind (arith, common_steps))
-        | in-Ended w ↦ first_of (search rules, grind (arith, common_steps))
-      ];
-      spent = elim c.match-branch-2.branch [
-        | in-Sent w ↦ sent_turn c.take_turn.new.conn.session.seen x y z c.turns.conn.sent.items c.take_turn.new.conn.sent.items c.args.conn.now.taken.items c.turns.conn.taken.items c.take_turn.new.conn.taken.items c.in_ok-take_turn.field-0 c.turns.used.ends c.match-branch-2.used.ends w.in-Sent.is c.in_ok-take_turn.ensures.turn c.turns.invariant.spent (ap (λ (used : Use). used.ends) w.used-is)
-        | in-Took w ↦ took_turn c.take_turn.new.conn.session.seen x y z c.turns.conn.sent.items c.take_turn.new.conn.sent.items c.args.conn.now.taken.items c.turns.conn.taken.items c.take_turn.new.conn.taken.items c.in_ok-take_turn.field-0 w.in-Took.n c.turns.used.ends c.match-branch-2.used.ends w.in-Took.is c.in_ok-take_turn.ensures.turn c.turns.invariant.spent (ap (λ (used : Use). used.ends) w.used-is)
-        | in-Ended w ↦ ended_turn c.take_turn.new.conn.session.seen x y z c.turns.conn.sent.items c.take_turn.new.conn.sent.items c.args.conn.now.taken.items c.turns.conn.taken.items c.take_turn.new.conn.taken.items c.in_ok-take_turn.field-0 c.turns.used.ends c.match-branch-2.used.ends w.in-Ended.is c.in_ok-take_turn.ensures.turn c.turns.invariant.spent
-      ];
+      is_on = here.0;
+      so = here.1;
+      spent = here.2;
+      calls = c.in_ok-turn.ensures.calls ∙ c.turns.invariant.calls;
+      pending = c.in_ok-turn.ensures.pending ∙ c.turns.invariant.pending;
+      rests = λ login a w. let r : RoundRests login c.take_turn.new.conn.session.seen (kept_of c.take_turn.new.conn) a (On c.in-On.more) = subst (λ (r : Round). RoundRests login c.take_turn.new.conn.session.seen (kept_of c.take_turn.new.conn) a r) (sym c.count_turn.ensures ∙ c.in-On.is) (round_rests login c.take_turn.new.conn.session.seen (kept_of c.take_turn.new.conn) a c.turns.used c.in_ok-turn.turn c.turns.invariant.so.no_fault c.turns.invariant.so.no_end (c.in_ok-turn.ensures.rests login a (c.turns.invariant.rests login a w))) in r.0;
     }

@@ -1,0 +1,216 @@
+-- How a call begins on a connection.
+use Rattle.std.proofs.Common.{◌≡◌, ◌≢◌, ℕ, ◌+◌, List, [], ◌∷◌, ◌++◌, length, ◌||◌, Bool, true, false, cond, Option, Some, None, refl, sym, ap, ◌∙◌, subst, arith}
+use Rattle.std.proofs.lemmas.Bool.Decides.{nat_tests}
+use Rattle.my_grammar.specs.declared.login.Login.{Login}
+use Rattle.my_value.specs.RowParts.{RowParts}
+use Rattle.my_session.specs.declared.call.Call.{Call}
+use Rattle.my_session.specs.declared.call.CallKind.{CallKind}
+use Rattle.my_session.specs.declared.call.CallKind.TheVariants.{Connect, Query, NextRow, DropResult, Ping, Quit}
+use Rattle.my_session.specs.declared.call.Task.{Task}
+use Rattle.my_session.specs.declared.call.Task.TheVariants.{Nothing, Begun, Cleaning, Own, Reading, Dropping, Leaving, Failing}
+use Rattle.my_session.specs.declared.error.Error.{Error}
+use Rattle.my_session.specs.Calls.{kind_of, kind_in, call_of, fault_in, is_open}
+use Rattle.my_session.specs.Errors.{connection_closed}
+use Rattle.my_session.specs.Fits.{is_begun}
+use Rattle.my_session.specs.History.{History, Made, Told, ToldReady, ToldRow, ToldEnd, ToldNone, ToldError, Dropped, began, answered, closes, has_closed}
+use Rattle.my_session.specs.Seen.{Seen}
+use Rattle.my_session.specs.Stands.{Stands, call_with}
+use Rattle.my_session.specs.Steps.{begun, is_refused}
+use Rattle.my_run.specs.declared.poll.Polled.{Polled}
+use Rattle.my_run.specs.declared.tape.Said.TheVariants as says
+use Rattle.my_run.specs.declared.transcript.Outcome.{Outcome}
+use Rattle.my_run.specs.declared.transcript.Use.{Use}
+use Rattle.my_world.specs.Spent.{IsSpent}
+use Rattle.my_run.specs.declared.slot.Conn.{Conn}
+use Rattle.my_run.specs.declared.slot.Slot.TheVariants.{There}
+use Rattle.my_run.specs.declared.transcript.Outcome.TheVariants.{NoSuchHandle, Failed}
+use Rattle.my_run.specs.Did.{Did, OpenPolled}
+use Rattle.my_run.specs.Slot.{kept_of}
+use Rattle.my_run.specs.Drives.{Drives}
+use Rattle.my_run.specs.Grows.{Begins, BeginsOn, Calls, asked_by, shown}
+use Rattle.my_run.specs.Handle.{Joined}
+use Rattle.my_run.specs.Keeps.{StandsBy, LinkSpent}
+use Rattle.my_run.specs.Kept.{Asked, Kept, IsHeard, made_of, is_note, answers_in, call_in, asking, ended_by}
+use Rattle.my_run.specs.Poll.{Looks}
+use Rattle.my_run.specs.Rests.{Rests, IsAsked}
+use Rattle.my_run.specs.Sums.{faults_for, ends_for, IsSilent}
+use Rattle.my_run.proofs.Hearing.{answer_counts, ended_of}
+
+-- notes close nothing
+note_keeps : (c : CallKind) (t : Told) → is_note c t ≡ true → closes t c ≡ false
+note_keeps Connect t n = cc
+note_keeps Query t n = cc
+note_keeps NextRow t n = cc
+note_keeps DropResult ToldReady n = cc
+note_keeps DropResult (ToldRow row) n = refl
+note_keeps DropResult ToldEnd n = refl
+note_keeps DropResult ToldNone n = cc
+note_keeps DropResult (ToldError e) n = cc
+note_keeps DropResult (Dropped closing) n = cc
+note_keeps Ping t n = cc
+note_keeps Quit t n = cc
+
+closed_if : (m : Made) (ms : List Made) (b : Bool) → is_note (kind_of m.call) m.what ≡ b → has_closed ms ≡ has_closed (answers_in ms) → has_closed (m ∷ ms) ≡ has_closed (cond b (answers_in ms) (m ∷ answers_in ms))
+closed_if m ms true n e = ap (λ (b : Bool). b || has_closed ms) (note_keeps (kind_of m.call) m.what n) ∙ e
+closed_if m ms false n e = ap (λ (b : Bool). closes m.what (kind_of m.call) || b) e
+
+closed_answers : (ms : List Made) → has_closed ms ≡ has_closed (answers_in ms)
+closed_answers [] = refl
+closed_answers (m ∷ ms) = closed_if m ms (is_note (kind_of m.call) m.what) refl (closed_answers ms)
+
+or_none : (b c : Bool) → c ≡ false → b || c ≡ b
+or_none true c e = refl
+or_none false c e = e
+
+-- whether the session is closed stands in the calls that were kept
+pub closed_kept : (login : Login) (s : Seen) (k : Kept) → IsHeard login s k → s.closed ≡ has_closed (made_of k.calls)
+closed_kept login s k w = w.stands.heard.closed_is ∙ or_none (has_closed w.history.calls) w.history.lost w.kept.lost_is ∙ closed_answers w.history.calls ∙ ap has_closed w.kept.calls_are
+
+-- where the session has an open call, the connection keeps one, and where it has none, none
+open_call : (t : Task) (text : List ℕ) (p : Option Call) (q : Option Asked) → is_open t ≡ true → p ≡ call_with (kind_in t) text → p ≡ call_in q → (a : Asked) × (q ≡ Some a)
+open_call t text p (Some a) o e f = (a, refl)
+open_call Nothing text p None o e f = cc
+open_call (Begun c) text p None o e f = let no : Some (call_of c text) ≡ None = sym e ∙ f in cc
+open_call (Cleaning c) text p None o e f = let no : Some (call_of c text) ≡ None = sym e ∙ f in cc
+open_call (Own c) text p None o e f = let no : Some (call_of c text) ≡ None = sym e ∙ f in cc
+open_call Reading text p None o e f = let no : Some (call_of NextRow text) ≡ None = sym e ∙ f in cc
+open_call Dropping text p None o e f = let no : Some (call_of DropResult text) ≡ None = sym e ∙ f in cc
+open_call Leaving text p None o e f = let no : Some (call_of Quit text) ≡ None = sym e ∙ f in cc
+open_call (Failing c fault) text p None o e f = let no : Some (call_of c text) ≡ None = sym e ∙ f in cc
+
+pub is_asked : (login : Login) (s : Seen) (k : Kept) → is_open s.task ≡ true → IsHeard login s k → (a : Asked) × (k.pending ≡ Some a)
+is_asked login s k o w = open_call s.task s.text w.history.pending k.pending o w.stands.heard.pending_is w.kept.pending_is
+
+no_call : (t : Task) (text : List ℕ) (p : Option Call) (q : Option Asked) → is_open t ≡ false → p ≡ call_with (kind_in t) text → p ≡ call_in q → q ≡ None
+no_call t text p None o e f = refl
+no_call Nothing text p (Some a) o e f = let no : None ≡ Some a.call = sym e ∙ f in cc
+no_call (Begun c) text p (Some a) o e f = cc
+no_call (Cleaning c) text p (Some a) o e f = cc
+no_call (Own c) text p (Some a) o e f = cc
+no_call Reading text p (Some a) o e f = cc
+no_call Dropping text p (Some a) o e f = cc
+no_call Leaving text p (Some a) o e f = cc
+no_call (Failing c fault) text p (Some a) o e f = cc
+
+pub is_idle : (login : Login) (s : Seen) (k : Kept) → is_open s.task ≡ false → IsHeard login s k → k.pending ≡ None
+is_idle login s k o w = no_call s.task s.text w.history.pending k.pending o w.stands.heard.pending_is w.kept.pending_is
+
+-- the call begins
+begun_fault : (b : Bool) (c : CallKind) → fault_in (cond b Leaving (Begun c)) ≡ None
+begun_fault true c = refl
+begun_fault false c = refl
+
+pub begins : (login : Login) (s t : Seen) (k : Kept) (call : Call) (rows : Option (List RowParts)) → t ≡ begun s call → ((h : History) → Stands s h → Stands t (began h call)) → Rests login s k → IsAsked login t (asking k call rows) (record { call = call; sent_from = length k.sent; rows = rows })
+begins login s t k call rows e st w = record {
+  rests = record {
+    heard = record {
+      history = began w.heard.history call;
+      stands = st w.heard.history w.heard.stands;
+      login_is = ap (λ (s : Seen). s.login) e ∙ w.heard.login_is;
+      kept = record { sent_is = w.heard.kept.sent_is; taken_is = w.heard.kept.taken_is; calls_are = w.heard.kept.calls_are; pending_is = refl; lost_is = w.heard.kept.lost_is };
+    };
+    sound = ap (λ (s : Seen). fault_in s.task) e ∙ begun_fault s.closed (kind_of call);
+    alive = λ c. ap (λ (s : Seen). s.ended) e ∙ w.alive (sym (ap (λ (s : Seen). s.closed) e) ∙ c);
+  };
+  asked = refl;
+}
+
+-- the closed session refuses it
+pub refuses : (login : Login) (s t : Seen) (k : Kept) (call : Call) → t ≡ s → ((h : History) → Stands s h → Stands t (answered (began h call) (ToldError connection_closed))) → Rests login s k → Rests login t (ended_by (asking k call None) (asked_by k call) (says.Failed connection_closed))
+refuses login s t k call e st w = record {
+  heard = record {
+    history = answered (began w.heard.history call) (ToldError connection_closed);
+    stands = st w.heard.history w.heard.stands;
+    login_is = ap (λ (s : Seen). s.login) e ∙ w.heard.login_is;
+    kept = ended_of (asking k call None) (asked_by k call) (began w.heard.history call) (says.Failed connection_closed) refl (answer_counts (kind_of call) (ToldError connection_closed) refl)
+        (record { sent_is = w.heard.kept.sent_is; taken_is = w.heard.kept.taken_is; calls_are = w.heard.kept.calls_are; pending_is = refl; lost_is = w.heard.kept.lost_is });
+  };
+  sound = ap (λ (s : Seen). fault_in s.task) e ∙ w.sound;
+  alive = λ c. ap (λ (s : Seen). s.ended) e ∙ w.alive (sym (ap (λ (s : Seen). s.closed) e) ∙ c);
+}
+
+-- uses of one poll
+faults_here : (u : Use) (us all : List Use) (n : ℕ) → us ≡ u ∷ [] → u.number ≡ n → faults_for n all + u.faults ≡ faults_for n (us ++ all)
+faults_here u us all n e f = subst (λ (vs : List Use). faults_for n all + u.faults ≡ faults_for n (vs ++ all)) (sym e) (grind (arith, nat_tests, f))
+
+ends_here : (u : Use) (us all : List Use) (n : ℕ) → us ≡ u ∷ [] → u.number ≡ n → ends_for n all + u.ends ≡ ends_for n (us ++ all)
+ends_here u us all n e f = subst (λ (vs : List Use). ends_for n all + u.ends ≡ ends_for n (vs ++ all)) (sym e) (grind (arith, nat_tests, f))
+
+pub silent_elsewhere : (u : Use) (us : List Use) (n m : ℕ) → us ≡ u ∷ [] → u.number ≡ n → m ≢ n → IsSilent m us
+silent_elsewhere u us n m e f ne = subst (IsSilent m) (sym e) (record { faults = grind (arith, nat_tests, f, ne); ends = grind (arith, nat_tests, f, ne) })
+
+-- a poll of the open call, as a step shows it
+pub open_polled : (login : Login) (n : ℕ) (a : Asked) (t : Seen) (x y : Looks) (k end : Kept) (p : Polled) (o : Outcome) (us : List Use) → Drives login n a t x y k end p → o ≡ shown p.after → us ≡ p.used ∷ [] → OpenPolled login n a t x y k end o us
+open_polled login n a t x y k end p o us w e f = record {
+  once = record { used = p.used; uses = f; after = p.after; end = end; polled = w.polled; outcome = e; left = refl };
+  rests = w.rests;
+  stepped = w.stepped;
+  spent = λ plans all s.
+      let v = w.spent (plans.reads n) (plans.writes n) (faults_for n all) s.waits (ends_for n all) s.spent in
+      record {
+        waits = s.waits + v.planned;
+        spent = subst (λ (i : ℕ). IsSpent (plans.reads n) y.items (plans.writes n) y.writes end.taken i (s.waits + v.planned) (ends_for n (us ++ all))) (faults_here p.used us all n f w.polled.of_call.number)
+            (subst (λ (i : ℕ). IsSpent (plans.reads n) y.items (plans.writes n) y.writes end.taken (faults_for n all + p.used.faults) (s.waits + v.planned) i) (ends_here p.used us all n f w.polled.of_call.number) v.spent);
+      };
+  silent = λ m ne. silent_elsewhere p.used us n m f w.polled.of_call.number ne;
+}
+
+-- the step finds an open call
+pub refused_did : {L : Type 0} (look : L → Looks) (login : Login) (n : ℕ) (call : Call) (c : Conn L) (o : Outcome) (us : List Use) → is_open c.session.seen.task ≡ true → o ≡ NoSuchHandle → us ≡ [] → StandsBy login c → Did look login n (Calls login n call) o us (There c) (There c)
+refused_did look login n call c o us op e f w =
+    let a = is_asked login c.session.seen (kept_of c) op w.rests.heard in
+    record {
+      stood = w;
+      played = λ plans all s. subst (λ (vs : List Use). LinkSpent plans n (look c.link) c.taken.items (vs ++ all)) (sym f) s;
+      silent = λ m _. subst (IsSilent m) (sym f) (record { faults = refl; ends = refl });
+      does = subst (λ (p : Option Asked). BeginsOn p login n call (kept_of c) o us (Joined true (kept_of c))) (sym a.1) (record { outcome = e; uses = f; same = refl });
+    }
+
+-- the step begins its call, and polls it
+pub begun_did : {L : Type 0} (look : L → Looks) (login : Login) (n : ℕ) (call : Call) (c d : Conn L) (o : Outcome) (us : List Use) → is_open c.session.seen.task ≡ false → is_refused c.session.seen.closed (kind_of call) ≡ false → StandsBy login c → OpenPolled login n (asked_by (kept_of c) call) d.session.seen (look c.link) (look d.link) (asking (kept_of c) call None) (kept_of d) o us → Did look login n (Calls login n call) o us (There c) (There d)
+begun_did look login n call c d o us idle open_still w v =
+    let pending : (kept_of c).pending ≡ None = is_idle login c.session.seen (kept_of c) idle w.rests.heard in
+    let known : is_refused (has_closed (made_of (kept_of c).calls)) (kind_of call) ≡ false = ap (λ (b : Bool). is_refused b (kind_of call)) (sym (closed_kept login c.session.seen (kept_of c) w.rests.heard)) ∙ open_still in
+    record {
+      stood = record { rests = v.rests; stepped = v.stepped };
+      played = v.spent;
+      silent = v.silent;
+      does = subst (λ (p : Option Asked). BeginsOn p login n call (kept_of c) o us (Joined true (kept_of d))) (sym pending) (subst (λ (b : Bool). Begins b login n call (kept_of c) o us (Joined true (kept_of d))) (sym known) v.once);
+    }
+
+-- the session is closed
+pub closed_did : {L : Type 0} (look : L → Looks) (login : Login) (n : ℕ) (call : Call) (c d : Conn L) (o : Outcome) (us : List Use) → is_open c.session.seen.task ≡ false → is_refused c.session.seen.closed (kind_of call) ≡ true → StandsBy login c → Rests login d.session.seen (ended_by (asking (kept_of c) call None) (asked_by (kept_of c) call) (says.Failed connection_closed)) → d.session.seen ≡ c.session.seen → kept_of d ≡ ended_by (asking (kept_of c) call None) (asked_by (kept_of c) call) (says.Failed connection_closed) → d.link ≡ c.link → o ≡ Failed connection_closed → us ≡ [] → Did look login n (Calls login n call) o us (There c) (There d)
+closed_did look login n call c d o us idle shut w rests seen kept link e f =
+    let pending : (kept_of c).pending ≡ None = is_idle login c.session.seen (kept_of c) idle w.rests.heard in
+    let known : is_refused (has_closed (made_of (kept_of c).calls)) (kind_of call) ≡ true = ap (λ (b : Bool). is_refused b (kind_of call)) (sym (closed_kept login c.session.seen (kept_of c) w.rests.heard)) ∙ shut in
+    record {
+      stood = record { rests = subst (Rests login d.session.seen) (sym kept) rests; stepped = ap (λ (s : Seen). is_begun s.task) seen ∙ w.stepped };
+      played = λ plans all s. subst (λ (vs : List Use). LinkSpent plans n (look d.link) d.taken.items (vs ++ all)) (sym f) (subst (λ l. LinkSpent plans n (look l) d.taken.items all) (sym link) (subst (λ (bytes : List ℕ). LinkSpent plans n (look c.link) bytes all) (sym (ap (λ (k : Kept). k.taken) kept)) s));
+      silent = λ m _. subst (IsSilent m) (sym f) (record { faults = refl; ends = refl });
+      does = subst (λ (p : Option Asked). BeginsOn p login n call (kept_of c) o us (Joined true (kept_of d))) (sym pending) (subst (λ (b : Bool). Begins b login n call (kept_of c) o us (Joined true (kept_of d))) (sym known) (record { outcome = e; uses = f; left = ap (Joined true) kept }));
+    }
+
+pub not_refused : (b : Bool) → (b ≡ true → false ≡ true) → b ≡ false
+not_refused true f = let no : false ≡ true = f refl in cc
+not_refused false f = refl
+
+-- the same, where what was kept and the link are told by equations
+pub begun_so : {L : Type 0} (look : L → Looks) (login : Login) (n : ℕ) (call copy : Call) (c b d : Conn L) (s t : Seen) (o : Outcome) (us : List Use) → copy ≡ call → is_open c.session.seen.task ≡ false → is_refused s.closed (kind_of call) ≡ false → s ≡ c.session.seen → t ≡ begun s call → ((h : History) → Stands s h → Stands t (began h call)) → kept_of b ≡ asking (kept_of c) copy None → b.link ≡ c.link → StandsBy login c → ((a : Asked) → IsAsked login t (kept_of b) a → OpenPolled login n a d.session.seen (look b.link) (look d.link) (kept_of b) (kept_of d) o us) → Did look login n (Calls login n call) o us (There c) (There d)
+begun_so look login n call copy c b d s t o us same idle open_still seen is st kept link w polled =
+    let here : kept_of b ≡ asking (kept_of c) call None = kept ∙ ap (λ (x : Call). asking (kept_of c) x None) same in
+    let rests : Rests login s (kept_of c) = subst (λ (s : Seen). Rests login s (kept_of c)) (sym seen) w.rests in
+    let asked : IsAsked login t (kept_of b) (asked_by (kept_of c) call) = subst (λ (k : Kept). IsAsked login t k (asked_by (kept_of c) call)) (sym here) (begins login s t (kept_of c) call None is st rests) in
+    let p : OpenPolled login n (asked_by (kept_of c) call) d.session.seen (look b.link) (look d.link) (kept_of b) (kept_of d) o us = polled (asked_by (kept_of c) call) asked in
+    begun_did look login n call c d o us idle (ap (λ (s : Seen). is_refused s.closed (kind_of call)) (sym seen) ∙ open_still) w
+    (subst (λ (l : _). OpenPolled login n (asked_by (kept_of c) call) d.session.seen (look l) (look d.link) (asking (kept_of c) call None) (kept_of d) o us) link
+    (subst (λ (k : Kept). OpenPolled login n (asked_by (kept_of c) call) d.session.seen (look b.link) (look d.link) k (kept_of d) o us) here p))
+
+pub closed_so : {L : Type 0} (look : L → Looks) (login : Login) (n : ℕ) (call copy : Call) (c b d : Conn L) (s t : Seen) (e : Error) (o : Outcome) (us : List Use) → copy ≡ call → is_open c.session.seen.task ≡ false → is_refused s.closed (kind_of call) ≡ true → s ≡ c.session.seen → t ≡ s → ((h : History) → Stands s h → Stands t (answered (began h call) (ToldError connection_closed))) → kept_of b ≡ asking (kept_of c) copy None → b.link ≡ c.link → e ≡ connection_closed → ((a : Asked) → (kept_of b).pending ≡ Some a → kept_of d ≡ ended_by (kept_of b) a (says.Failed e)) → d.session.seen ≡ t → d.link ≡ b.link → StandsBy login c → o ≡ Failed e → us ≡ [] → Did look login n (Calls login n call) o us (There c) (There d)
+closed_so look login n call copy c b d s t e o us same idle shut seen is st kept link why noted session dlink w shown none =
+    let here : kept_of b ≡ asking (kept_of c) call None = kept ∙ ap (λ (x : Call). asking (kept_of c) x None) same in
+    let rests : Rests login s (kept_of c) = subst (λ (s : Seen). Rests login s (kept_of c)) (sym seen) w.rests in
+    let behind : Rests login t (ended_by (asking (kept_of c) call None) (asked_by (kept_of c) call) (says.Failed connection_closed)) = refuses login s t (kept_of c) call is st rests in
+    let end : kept_of d ≡ ended_by (asking (kept_of c) call None) (asked_by (kept_of c) call) (says.Failed connection_closed) = noted (asked_by (kept_of c) call) (ap (λ (k : Kept). k.pending) here) ∙ ap (λ (k : Kept). ended_by k (asked_by (kept_of c) call) (says.Failed e)) here ∙ ap (λ (x : Error). ended_by (asking (kept_of c) call None) (asked_by (kept_of c) call) (says.Failed x)) why in
+    closed_did look login n call c d o us idle (ap (λ (s : Seen). is_refused s.closed (kind_of call)) (sym seen) ∙ shut) w
+    (subst (λ (s : Seen). Rests login s (ended_by (asking (kept_of c) call None) (asked_by (kept_of c) call) (says.Failed connection_closed))) (sym session) behind)
+    (session ∙ is ∙ seen) end (dlink ∙ link) (shown ∙ ap Failed why) none

@@ -1,0 +1,150 @@
+-- How an open call is cancelled, and what tells without a call.
+use Rattle.std.proofs.Common.{◌≡◌, ℕ, List, [], ◌++◌, ◌&&◌, not, Bool, true, false, cond, Option, Some, refl, sym, ap, ◌∙◌, subst}
+use Rattle.my_grammar.specs.declared.login.Login.{Login}
+use Rattle.my_wire.specs.declared.ok.OkPacket.{OkPacket}
+use Rattle.my_session.specs.declared.call.Task.{Task}
+use Rattle.my_session.specs.declared.call.Task.TheVariants.{Nothing}
+use Rattle.my_session.specs.Calls.{kind_of, fault_in, is_open, is_connect}
+use Rattle.my_session.specs.Fits.{is_begun}
+use Rattle.my_session.specs.History.{History, Dropped, answered}
+use Rattle.my_session.specs.Machine.{dropped, fell, with_task}
+use Rattle.my_session.specs.Seen.{Seen}
+use Rattle.my_session.specs.Stands.{Stands}
+use Rattle.my_session.specs.Tables.{closes_when_cancelled}
+use Rattle.my_run.specs.declared.slot.Conn.{Conn}
+use Rattle.my_run.specs.declared.slot.Slot.{Slot}
+use Rattle.my_run.specs.declared.slot.Slot.TheVariants.{Gone, Held, There, Ended}
+use Rattle.my_run.specs.declared.tape.Said.TheVariants as says
+use Rattle.my_run.specs.declared.transcript.Outcome.{Outcome}
+use Rattle.my_run.specs.declared.transcript.Outcome.TheVariants.{Done, Fields, NoSuchHandle}
+use Rattle.my_run.specs.declared.transcript.Use.{Use}
+use Rattle.my_run.specs.Did.{Did}
+use Rattle.my_run.specs.Grows.{Cancels, CancelsWith, TellsFields, TellsWith}
+use Rattle.my_run.specs.Handle.{Handle, Joined}
+use Rattle.my_run.specs.Keeps.{Plans, StandsBy, LinkSpent, IsStood, IsPlayed}
+use Rattle.my_run.specs.Kept.{Asked, Kept, ended_by}
+use Rattle.my_run.specs.Poll.{Looks}
+use Rattle.my_run.specs.Rests.{Rests}
+use Rattle.my_run.specs.Slot.{handle_of, kept_of}
+use Rattle.my_run.specs.Sums.{IsSilent}
+use Rattle.my_run.proofs.Beginning.{is_asked, is_idle}
+use Rattle.my_run.proofs.Hearing.{answer_counts, ended_of, is_leaving}
+
+-- where a step has no uses, nothing is used
+none_spent : (plans : Plans) (n : ℕ) (x : Looks) (taken : List ℕ) (us all : List Use) → us ≡ [] → LinkSpent plans n x taken all → LinkSpent plans n x taken (us ++ all)
+none_spent plans n x taken us all e w = subst (λ (vs : List Use). LinkSpent plans n x taken (vs ++ all)) (sym e) w
+
+none_silent : (us : List Use) (m : ℕ) → us ≡ [] → IsSilent m us
+none_silent us m e = subst (IsSilent m) (sym e) (record { faults = refl; ends = refl })
+
+-- a cancelling closes the session exactly where the table says so
+closing_by : (s : Seen) (cl b : Bool) → s.closed ≡ b → (b ≡ true → cl ≡ false) → (cond {A = Seen} cl (fell s) (with_task s Nothing s.untold)).closed && not s.closed ≡ cl
+closing_by s true true e f = let no : true ≡ false = f refl in cc
+closing_by s true false e f = ap not e
+closing_by s false b e f = and_not s.closed
+  where
+    and_not : (b : Bool) → b && not b ≡ false
+    and_not true = refl
+    and_not false = refl
+
+closing_is : (login : Login) (s : Seen) (k : Kept) → Rests login s k → is_open s.task ≡ true → (dropped s).closed && not s.closed ≡ closes_when_cancelled s.task s.context.spot
+closing_is login s k w o = closing_by s (closes_when_cancelled s.task s.context.spot) s.closed refl (λ e. ap (λ (t : Task). closes_when_cancelled t s.context.spot) (is_leaving s.task s.closed e o w.sound w.heard.stands.heard.alive))
+
+dropped_task : (s : Seen) (b : Bool) → (cond {A = Seen} b (fell s) (with_task s Nothing s.untold)).task ≡ Nothing
+dropped_task s true = refl
+dropped_task s false = refl
+
+dropped_ended : (s : Seen) (b : Bool) → (cond {A = Seen} b (fell s) (with_task s Nothing s.untold)).ended ≡ s.ended
+dropped_ended s true = refl
+dropped_ended s false = refl
+
+dropped_login : (s : Seen) (b : Bool) → (cond {A = Seen} b (fell s) (with_task s Nothing s.untold)).login ≡ s.login
+dropped_login s true = refl
+dropped_login s false = refl
+
+dropped_open : (s : Seen) (b : Bool) → (cond {A = Seen} b (fell s) (with_task s Nothing s.untold)).closed ≡ false → s.closed ≡ false
+dropped_open s true e = cc
+dropped_open s false e = e
+
+left_is : {L : Type 0} (P : Slot L → Type 0) (c : Conn L) (b : Bool) → P (Ended c) → P (There c) → P (cond b (Ended c) (There c))
+left_is P c true p q = p
+left_is P c false p q = q
+
+left_handle : {L : Type 0} (c : Conn L) (b : Bool) → handle_of (cond b (Ended c) (There c)) ≡ Joined (not b) (kept_of c)
+left_handle c true = refl
+left_handle c false = refl
+
+pub cancelled : {L : Type 0} (look : L → Looks) (login : Login) (n : ℕ) (c d : Conn L) (connecting : Bool) (o : Outcome) (us : List Use) → is_open c.session.seen.task ≡ true → d.session.seen ≡ dropped c.session.seen → ((h : History) → Stands c.session.seen h → Stands d.session.seen (answered h (Dropped (closes_when_cancelled c.session.seen.task c.session.seen.context.spot)))) → d.link ≡ c.link → ((a : Asked) → (kept_of c).pending ≡ Some a → kept_of d ≡ ended_by (kept_of c) a (says.Cancelled (d.session.seen.closed && not c.session.seen.closed))) → ((a : Asked) → (kept_of c).pending ≡ Some a → connecting ≡ is_connect (kind_of a.call)) → o ≡ Done → us ≡ [] → StandsBy login c → Did look login n (Cancels login) o us (There c) (cond connecting (Ended d) (There d))
+cancelled {L} look login n c d connecting o us op seen st link kept kind e f w =
+    let s = c.session.seen in
+    let k = kept_of c in
+    let closes = closes_when_cancelled s.task s.context.spot in
+    let asked = is_asked login s k op w.rests.heard in
+    let a = asked.0 in
+    let closing : d.session.seen.closed && not s.closed ≡ closes = ap (λ (t : Seen). t.closed && not s.closed) seen ∙ closing_is login s k w.rests op in
+    let end : kept_of d ≡ ended_by k a (says.Cancelled closes) = kept a asked.1 ∙ ap (λ (b : Bool). ended_by k a (says.Cancelled b)) closing in
+    let rests : Rests login d.session.seen (ended_by k a (says.Cancelled closes)) = record {
+      heard = record {
+        history = answered w.rests.heard.history (Dropped closes);
+        stands = st w.rests.heard.history w.rests.heard.stands;
+        login_is = ap (λ (t : Seen). t.login) seen ∙ dropped_login s closes ∙ w.rests.heard.login_is;
+        kept = ended_of k a w.rests.heard.history (says.Cancelled closes) asked.1 (answer_counts (kind_of a.call) (Dropped closes) refl) w.rests.heard.kept;
+      };
+      sound = ap (λ (t : Seen). fault_in t.task) seen ∙ ap fault_in (dropped_task s closes);
+      alive = λ b. ap (λ (t : Seen). t.ended) seen ∙ dropped_ended s closes ∙ w.rests.alive (dropped_open s closes (sym (ap (λ (t : Seen). t.closed) seen) ∙ b));
+    } in
+    let stands : StandsBy login d = record {
+      rests = subst (Rests login d.session.seen) (sym end) rests;
+      stepped = ap (λ (t : Seen). is_begun t.task) seen ∙ ap is_begun (dropped_task s closes);
+    } in
+    let spent : (plans : Plans) (all : List Use) → LinkSpent plans n (look c.link) c.taken.items all → LinkSpent plans n (look d.link) d.taken.items (us ++ all) = λ plans all v. none_spent plans n (look d.link) d.taken.items us all f
+    (subst (λ l. LinkSpent plans n (look l) d.taken.items all) (sym link) (subst (λ (bytes : List ℕ). LinkSpent plans n (look c.link) bytes all) (sym (ap (λ (x : Kept). x.taken) end)) v)) in
+    record {
+      stood = left_is (IsStood login) d connecting stands stands;
+      played = λ plans all v. left_is (IsPlayed look plans n (us ++ all)) d connecting (spent plans all v) (spent plans all v);
+      silent = λ m _. none_silent us m f;
+      does = subst (λ (p : Option Asked). CancelsWith p login k o us (handle_of (cond connecting (Ended d) (There d)))) (sym asked.1) (record {
+        session = s;
+        heard = w.rests.heard;
+        stepped = w.stepped;
+        outcome = e;
+        uses = f;
+        left = left_handle d connecting ∙ ap (λ (b : Bool). Joined (not b) (kept_of d)) (kind a asked.1) ∙ ap (Joined (not (is_connect (kind_of a.call)))) end;
+      });
+    }
+
+-- nothing to cancel
+pub not_cancelled : {L : Type 0} (look : L → Looks) (login : Login) (n : ℕ) (c : Conn L) (o : Outcome) (us : List Use) → is_open c.session.seen.task ≡ false → o ≡ NoSuchHandle → us ≡ [] → StandsBy login c → Did look login n (Cancels login) o us (There c) (There c)
+not_cancelled look login n c o us idle e f w = record {
+  stood = w;
+  played = λ plans all v. none_spent plans n (look c.link) c.taken.items us all f v;
+  silent = λ m _. none_silent us m f;
+  does = subst (λ (p : Option Asked). CancelsWith p login (kept_of c) o us (Joined true (kept_of c))) (sym (is_idle login c.session.seen (kept_of c) idle w.rests.heard)) (record { outcome = e; uses = f; same = refl });
+}
+
+-- a step that changes nothing at its number
+pub same_did : {L : Type 0} (look : L → Looks) (login : Login) (n : ℕ) (R : Handle → Outcome → List Use → Handle → Type 0) (o : Outcome) (us : List Use) (s : Slot L) → us ≡ [] → IsStood login s → R (handle_of s) o us (handle_of s) → Did look login n R o us s s
+same_did look login n R o us s f w r = record {
+  stood = w;
+  played = λ plans all v. subst (λ (vs : List Use). IsPlayed look plans n (vs ++ all) s) (sym f) v;
+  silent = λ m _. none_silent us m f;
+  does = r;
+}
+
+-- the held dial is dropped
+pub dropped_did : {L : Type 0} (look : L → Looks) (login : Login) (n : ℕ) (o : Outcome) (us : List Use) → o ≡ Done → us ≡ [] → Did {L = L} look login n (Cancels login) o us Held Gone
+dropped_did look login n o us e f = record {
+  stood = tt;
+  played = λ plans all v. tt;
+  silent = λ m _. none_silent us m f;
+  does = record { outcome = e; uses = f; left = refl };
+}
+
+-- the last OK is told
+pub fields_did : {L : Type 0} (look : L → Looks) (login : Login) (n : ℕ) (c : Conn L) (fields : Option OkPacket) (us : List Use) → is_open c.session.seen.task ≡ false → fields ≡ c.session.seen.facts.ok → us ≡ [] → StandsBy login c → Did look login n (TellsFields login) (Fields fields) us (There c) (There c)
+fields_did look login n c fields us idle e f w = same_did look login n (TellsFields login) (Fields fields) us (There c) f w
+    (subst (λ (p : Option Asked). TellsWith p login (kept_of c) (Fields fields) us (Joined true (kept_of c))) (sym (is_idle login c.session.seen (kept_of c) idle w.rests.heard)) (record { session = c.session.seen; heard = w.rests.heard; outcome = ap Fields e; uses = f; left = refl }))
+
+pub no_fields : {L : Type 0} (look : L → Looks) (login : Login) (n : ℕ) (c : Conn L) (o : Outcome) (us : List Use) → is_open c.session.seen.task ≡ true → o ≡ NoSuchHandle → us ≡ [] → StandsBy login c → Did look login n (TellsFields login) o us (There c) (There c)
+no_fields look login n c o us op e f w = same_did look login n (TellsFields login) o us (There c) f w
+    (subst (λ (p : Option Asked). TellsWith p login (kept_of c) o us (Joined true (kept_of c))) (sym (is_asked login c.session.seen (kept_of c) op w.rests.heard).1) (record { outcome = e; uses = f; same = refl }))

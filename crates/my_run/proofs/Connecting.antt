@@ -1,0 +1,186 @@
+-- How a connection is dialed and connects.
+use Rattle.std.proofs.Common.{◌≡◌, ◌≢◌, ℕ, ◌+◌, suc, List, [], ◌∷◌, ◌++◌, length, map, Option, Some, None, true, false, refl, sym, ap, ◌∙◌, subst, arith}
+use Rattle.std.proofs.lemmas.Bool.Decides.{nat_tests}
+use Rattle.std.proofs.lemmas.List.{length-append, length-map}
+use Rattle.my_grammar.specs.declared.login.Login.{Login}
+use Rattle.my_world.specs.declared.link.ReadItem.{ReadItem}
+use Rattle.my_world.specs.declared.link.WriteItem.{WriteItem}
+use Rattle.my_world.specs.Spent.{ReadsSpent, AllSpent, IsSpent}
+use Rattle.my_session.specs.declared.call.Call.TheVariants.{Connect}
+use Rattle.my_session.specs.Calls.{fault_in}
+use Rattle.my_session.specs.Errors.{io_error}
+use Rattle.my_session.specs.declared.error.IoKind.TheVariants.{Dial}
+use Rattle.my_session.specs.History.{History, beginning, began}
+use Rattle.my_session.specs.Seen.{Seen}
+use Rattle.my_session.specs.Stands.{Stands}
+use Rattle.my_session.specs.Steps.{fresh, begun}
+use Rattle.my_run.specs.declared.poll.After.{After}
+use Rattle.my_run.specs.declared.poll.After.TheVariants as after
+use Rattle.my_run.specs.declared.poll.Polled.{Polled}
+use Rattle.my_run.specs.declared.slot.Conn.{Conn}
+use Rattle.my_run.specs.declared.slot.Slot.{Slot}
+use Rattle.my_run.specs.declared.slot.Slot.TheVariants.{Gone, Held, There, Ended}
+use Rattle.my_run.specs.declared.transcript.Outcome.{Outcome}
+use Rattle.my_run.specs.declared.transcript.Outcome.TheVariants.{Pending, Failed}
+use Rattle.my_run.specs.declared.transcript.Use.{Use}
+use Rattle.my_run.specs.Connecting.{Settles, Joins, Dialed}
+use Rattle.my_run.specs.Did.{Stepped}
+use Rattle.my_run.specs.Drives.{Drives}
+use Rattle.my_run.specs.Grows.{ConnectShows, Dials, Holds, Fails, Links, DialsNext, asked_by}
+use Rattle.my_run.specs.Handle.{Joined}
+use Rattle.my_run.specs.Keeps.{Plans, StandsBy, LinkSpent, IsStood, AreStood, IsPlayed, ArePlayed}
+use Rattle.my_run.specs.Kept.{Asked, Kept, nothing_kept, asking}
+use Rattle.my_run.specs.Poll.{Looks, quiet}
+use Rattle.my_run.specs.Rests.{Rests, IsAsked}
+use Rattle.my_run.specs.Slot.{kept_of, handle_of}
+use Rattle.my_run.specs.Sums.{faults_for, ends_for, IsSilent}
+use Rattle.my_run.proofs.Beginning.{begins, silent_elsewhere}
+use Rattle.my_run.proofs.Numbers.{played_elsewhere}
+
+-- a new session stands for nothing
+pub fresh_rests : (login : Login) (s : Seen) → s ≡ fresh login → Stands s beginning → Rests login s nothing_kept
+fresh_rests login s e st = record {
+  heard = record {
+    history = beginning;
+    stands = st;
+    login_is = ap (λ (s : Seen). s.login) e;
+    kept = record { sent_is = refl; taken_is = refl; calls_are = refl; pending_is = refl; lost_is = refl };
+  };
+  sound = ap (λ (s : Seen). fault_in s.task) e;
+  alive = λ c. ap (λ (s : Seen). s.ended) e;
+}
+
+-- a link of which nothing was used
+pub fresh_spent : (plans : Plans) (n : ℕ) (x : Looks) (all : List Use) → x.items ≡ plans.reads n → x.writes ≡ plans.writes n → IsSilent n all → LinkSpent plans n x [] all
+fresh_spent plans n x all e f q = record {
+  waits = 0;
+  spent = subst (λ (i : ℕ). IsSpent (plans.reads n) x.items (plans.writes n) x.writes [] i 0 (ends_for n all)) (sym q.faults)
+      (subst (λ (i : ℕ). IsSpent (plans.reads n) x.items (plans.writes n) x.writes [] 0 0 i) (sym q.ends)
+      (subst (λ (is : Option (List ReadItem)). IsSpent (plans.reads n) is (plans.writes n) x.writes [] 0 0 0) (sym e)
+      (subst (λ (ws : Option (List WriteItem)). IsSpent (plans.reads n) (plans.reads n) (plans.writes n) ws [] 0 0 0) (sym f)
+      (record { reads = reads_unspent (plans.reads n); counts = counts_unspent (plans.reads n) (plans.writes n) }))));
+}
+  where
+    reads_unspent : (plan : Option (List ReadItem)) → ReadsSpent plan plan [] 0
+    reads_unspent None = tt
+    reads_unspent (Some plan) = record { bytes = refl; ended = λ h. absurd (omega (arith, h)); planned_end = λ e. e }
+
+    counts_unspent : (plan : Option (List ReadItem)) (rules : Option (List WriteItem)) → AllSpent plan plan rules rules 0 0
+    counts_unspent None rules = tt
+    counts_unspent (Some plan) None = tt
+    counts_unspent (Some plan) (Some rules) = record { failed = omega arith; waited = omega arith }
+
+-- where no plan was told, there is nothing to be kept
+pub untold_spent : (plans : Plans) (n : ℕ) (x : Looks) (taken : List ℕ) (all : List Use) → plans.reads n ≡ None → LinkSpent plans n x taken all
+untold_spent plans n x taken all e = record {
+  waits = 0;
+  spent = subst (λ (plan : Option (List ReadItem)). IsSpent plan x.items (plans.writes n) x.writes taken (faults_for n all) 0 (ends_for n all)) (sym e) (record { reads = tt; counts = tt });
+}
+
+-- the handshake was polled
+shows : {L : Type 0} (login : Login) (n : ℕ) (a : Asked) (k end : Kept) (u : Use) (c : Conn L) (after : After) (slot : Slot L) (o : Outcome) → kept_of c ≡ end → Rests login c.session.seen end → Settles c n after slot o → ConnectShows login n after end o (handle_of slot)
+shows login n a k end u c after.Pending slot o e w s = (s.1, ap handle_of s.0 ∙ ap (Joined true) e)
+shows login n a k end u c (after.Answered answer) slot o e w s = (record { session = c.session.seen; heard = w.heard; outcome = s.1 }, ap handle_of s.0 ∙ ap (Joined true) e)
+shows login n a k end u c (after.Failed x) slot o e w s = (s.1, ap handle_of s.0 ∙ ap (Joined false) e)
+
+slot_is : {L : Type 0} (P : Slot L → Type 0) (c : Conn L) (n : ℕ) (after : After) (slot : Slot L) (o : Outcome) → Settles c n after slot o → P (There c) → P (Ended c) → P slot
+slot_is P c n after.Pending slot o s p q = subst P (sym s.0) p
+slot_is P c n (after.Answered answer) slot o s p q = subst P (sym s.0) p
+slot_is P c n (after.Failed e) slot o s p q = subst P (sym s.0) q
+
+pub joins : {L : Type 0} (look : L → Looks) (login : Login) (n : ℕ) (a : Asked) (k : Kept) (x : Looks) (c : Conn L) (p : Polled) (slot : Slot L) (o : Outcome) → Drives login n a c.session.seen x (look c.link) k (kept_of c) p → Settles c n p.after slot o → Joins look login n a k x slot o p.used
+joins {L} look login n a k x c p slot o w s =
+    let stands : StandsBy login c = record { rests = w.rests; stepped = w.stepped } in
+    let spent : (plans : Plans) (all : List Use) → LinkSpent plans n x k.taken all → LinkSpent plans n (look c.link) c.taken.items (p.used ∷ all) = λ plans all v.
+    let u = w.spent (plans.reads n) (plans.writes n) (faults_for n all) v.waits (ends_for n all) v.spent in
+    let faults : faults_for n all + p.used.faults ≡ faults_for n (p.used ∷ all) = grind (arith, nat_tests, w.polled.of_call.number) in
+    let ends : ends_for n all + p.used.ends ≡ ends_for n (p.used ∷ all) = grind (arith, nat_tests, w.polled.of_call.number) in
+    record {
+      waits = v.waits + u.planned;
+      spent = subst (λ (i : ℕ). IsSpent (plans.reads n) (look c.link).items (plans.writes n) (look c.link).writes c.taken.items i (v.waits + u.planned) (ends_for n (p.used ∷ all))) faults
+          (subst (λ (i : ℕ). IsSpent (plans.reads n) (look c.link).items (plans.writes n) (look c.link).writes c.taken.items (faults_for n all + p.used.faults) (v.waits + u.planned) i) ends u.spent);
+    } in
+    record {
+      stood = slot_is (IsStood login) c n p.after slot o s stands stands;
+      played = λ plans all v. slot_is (IsPlayed look plans n (p.used ∷ all)) c n p.after slot o s (spent plans all v) (spent plans all v);
+      number = w.polled.of_call.number;
+      does = record { after = p.after; end = kept_of c; polled = w.polled; shows = shows login n a k (kept_of c) p.used c p.after slot o refl w.rests s };
+    }
+
+-- a slot more
+stood_push : {L : Type 0} (login : Login) (ss : List (Slot L)) (s : Slot L) → AreStood login ss → IsStood login s → AreStood login (ss ++ s ∷ [])
+stood_push login [] s w v = (v, tt)
+stood_push login (x ∷ ss) s w v = (w.0, stood_push login ss s w.1 v)
+
+played_push : {L : Type 0} (look : L → Looks) (plans : Plans) (all : List Use) (i n : ℕ) (ss : List (Slot L)) (s : Slot L) → n ≡ i + length ss → ArePlayed look plans all i ss → IsPlayed look plans n all s → ArePlayed look plans all i (ss ++ s ∷ [])
+played_push look plans all i n [] s e w v = let same : n ≡ i = omega (arith, e) in (subst (λ (j : ℕ). IsPlayed look plans j all s) same v, tt)
+played_push look plans all i n (x ∷ ss) s e w v = (w.0, played_push look plans all (suc i) n ss s (omega (arith, e)) w.1 v)
+
+behind_played : {L : Type 0} (look : L → Looks) (plans : Plans) (us all : List Use) (i n : ℕ) (ss : List (Slot L)) → n ≡ i + length ss → ((m : ℕ) → m ≢ n → IsSilent m us) → ArePlayed look plans all i ss → ArePlayed look plans (us ++ all) i ss
+behind_played look plans us all i n [] e q w = tt
+behind_played look plans us all i n (s ∷ ss) e q w = (played_elsewhere look plans i us all s (q i (λ z. absurd (omega (arith, e, z)))) w.0, behind_played look plans us all (suc i) n ss (omega (arith, e)) q w.1)
+
+map_push : {A B : Type 0} (f : A → B) (xs : List A) (x : A) → map f (xs ++ x ∷ []) ≡ map f xs ++ f x ∷ []
+map_push f [] x = refl
+map_push f (y ∷ xs) x = ap (λ ys. f y ∷ ys) (map_push f xs x)
+
+pub stepped_new : {L : Type 0} (look : L → Looks) (login : Login) (plans : Plans) (n : ℕ) (o : Outcome) (us : List Use) (ss ts : List (Slot L)) (s : Slot L) → ts ≡ ss ++ s ∷ [] → n ≡ length ss → IsStood login s → ((m : ℕ) → m ≢ n → IsSilent m us) → ((all : List Use) → IsSilent n all → IsPlayed look plans n (us ++ all) s) → Dials login n o us (handle_of s) → AreStood login ss → Stepped look login plans us ss ts (DialsNext login (map handle_of ss) o us (map handle_of ts))
+stepped_new look login plans n o us ss ts s e is st q p d all_st =
+    let counted : length ts ≡ length ss + 1 = ap length e ∙ length-append ss (s ∷ []) in
+    record {
+      stood = subst (AreStood login) (sym e) (stood_push login ss s all_st st);
+      played = λ all none w. subst (ArePlayed look plans (us ++ all) 0) (sym e) (played_push look plans (us ++ all) 0 n ss s (omega (arith, is)) (behind_played look plans us all 0 n ss (omega (arith, is)) q w) (p all (none n (omega (arith, is)))));
+      past = λ m h. q m (λ z. absurd (omega (arith, z, h, is, counted)));
+      longer = omega (arith, counted);
+      grows = record { made = handle_of s; dials = subst (λ (i : ℕ). Dials login i o us (handle_of s)) (is ∙ sym (length-map ss handle_of)) d; others = ap (map handle_of) e ∙ map_push handle_of ss s };
+    }
+
+-- a dial's own use meets nothing of a link, and the poll's behind it is the link's
+pub dialed_spent : {L : Type 0} (look : L → Looks) (plans : Plans) (n : ℕ) (s : Slot L) (u : Use) (us all : List Use) → us ≡ quiet n ∷ u ∷ [] → u.number ≡ n → IsPlayed look plans n (u ∷ all) s → IsPlayed look plans n (us ++ all) s
+dialed_spent look plans n s u us all e f w = subst (λ (vs : List Use). IsPlayed look plans n (vs ++ all) s) (sym e) (played_elsewhere look plans n (quiet n ∷ []) (u ∷ all) s (record { faults = grind (arith, nat_tests); ends = grind (arith, nat_tests) }) w)
+
+pub dialed_silent : (n m : ℕ) (u : Use) (us : List Use) → us ≡ quiet n ∷ u ∷ [] → u.number ≡ n → m ≢ n → IsSilent m us
+dialed_silent n m u us e f ne = subst (IsSilent m) (sym e) (record { faults = grind (arith, nat_tests, f, ne); ends = grind (arith, nat_tests, f, ne) })
+
+-- the dial gave a link, over which the handshake was polled
+pub linked : {L : Type 0} (look : L → Looks) (login : Login) (n : ℕ) (l : L) (reads : Option (List ReadItem)) (writes : Option (List WriteItem)) (slot : Slot L) (o : Outcome) (us : List Use) (u : Use) → (look l).items ≡ reads → (look l).writes ≡ writes → us ≡ quiet n ∷ u ∷ [] → Joins look login n (asked_by nothing_kept Connect) (asking nothing_kept Connect None) (look l) slot o u → Dialed look login n reads writes slot o us
+linked look login n l reads writes slot o us u e f is w = record {
+  stood = w.stood;
+  played = λ plans all p q s. dialed_spent look plans n slot u us all is w.number (w.played plans all (fresh_spent plans n (look l) all (e ∙ sym p) (f ∙ sym q) s));
+  untold = λ plans all p. dialed_spent look plans n slot u us all is w.number (w.played plans all (untold_spent plans n (look l) [] all p));
+  silent = λ m ne. dialed_silent n m u us is w.number ne;
+  does = Links u is w.does;
+}
+
+pub dial_held : {L : Type 0} (look : L → Looks) (login : Login) (n : ℕ) (reads : Option (List ReadItem)) (writes : Option (List WriteItem)) (o : Outcome) (us : List Use) → reads ≡ None → o ≡ Pending → us ≡ record (quiet n) { holds = 1 } ∷ [] → Dialed look login n reads writes Held o us
+dial_held look login n reads writes o us none e f = record {
+  stood = tt;
+  played = λ plans all p q s. p ∙ none;
+  untold = λ plans all p. p;
+  silent = λ m ne. silent_elsewhere (record (quiet n) { holds = 1 }) us n m f refl ne;
+  does = Holds e f refl;
+}
+
+pub dial_failed : {L : Type 0} (look : L → Looks) (login : Login) (n : ℕ) (reads : Option (List ReadItem)) (writes : Option (List WriteItem)) (o : Outcome) (us : List Use) → o ≡ Failed (io_error Dial 0) → us ≡ record (quiet n) { faults = 1 } ∷ [] → Dialed look login n reads writes Gone o us
+dial_failed look login n reads writes o us e f = record {
+  stood = tt;
+  played = λ plans all p q s. tt;
+  untold = λ plans all p. tt;
+  silent = λ m ne. silent_elsewhere (record (quiet n) { faults = 1 }) us n m f refl ne;
+  does = Fails e f refl;
+}
+
+-- the connection's first call
+pub joins_first : {L : Type 0} (look : L → Looks) (login : Login) (n : ℕ) (l : L) (c b d : Conn L) (t : Seen) (p : Polled) (slot : Slot L) (o : Outcome) → c.session.seen ≡ fresh login → Stands c.session.seen beginning → kept_of c ≡ nothing_kept → c.link ≡ l → kept_of b ≡ asking (kept_of c) Connect None → b.session ≡ c.session → b.link ≡ c.link → t ≡ begun b.session.seen Connect → ((h : History) → Stands b.session.seen h → Stands t (began h Connect)) → ((login : Login) (a : Asked) → IsAsked login t (kept_of b) a → Drives login n a d.session.seen (look b.link) (look d.link) (kept_of b) (kept_of d) p) → Settles d n p.after slot o → Joins look login n (asked_by nothing_kept Connect) (asking nothing_kept Connect None) (look l) slot o p.used
+joins_first look login n l c b d t p slot o seen st kept link bkept bsession blink is begun_st drives settles =
+    let here : kept_of b ≡ asking nothing_kept Connect None = bkept ∙ ap (λ (k : Kept). asking k Connect None) kept in
+    let same : b.session.seen ≡ c.session.seen = ap (λ s. s.seen) bsession in
+    let rests : Rests login b.session.seen nothing_kept = fresh_rests login b.session.seen (same ∙ seen) (subst (λ (s : Seen). Stands s beginning) (sym same) st) in
+    let asked : IsAsked login t (kept_of b) (asked_by nothing_kept Connect) = subst (λ (k : Kept). IsAsked login t k (asked_by nothing_kept Connect)) (sym here) (begins login b.session.seen t nothing_kept Connect None is begun_st rests) in
+    let w : Drives login n (asked_by nothing_kept Connect) d.session.seen (look l) (look d.link) (asking nothing_kept Connect None) (kept_of d) p =
+    subst (λ (x : _). Drives login n (asked_by nothing_kept Connect) d.session.seen (look x) (look d.link) (asking nothing_kept Connect None) (kept_of d) p) (blink ∙ link)
+    (subst (λ (k : Kept). Drives login n (asked_by nothing_kept Connect) d.session.seen (look b.link) (look d.link) k (kept_of d) p) here (drives login (asked_by nothing_kept Connect) asked)) in
+    joins look login n (asked_by nothing_kept Connect) (asking nothing_kept Connect None) (look l) d p slot o w settles
+
+pub stepped_dialed : {L : Type 0} (look : L → Looks) (login : Login) (plans : Plans) (n : ℕ) (reads : Option (List ReadItem)) (writes : Option (List WriteItem)) (o : Outcome) (us : List Use) (ss ts : List (Slot L)) (s : Slot L) → ts ≡ ss ++ s ∷ [] → n ≡ length ss → Dialed look login n reads writes s o us → plans.reads n ≡ reads → plans.writes n ≡ writes → AreStood login ss → Stepped look login plans us ss ts (DialsNext login (map handle_of ss) o us (map handle_of ts))
+stepped_dialed look login plans n reads writes o us ss ts s e is w p q st = stepped_new look login plans n o us ss ts s e is w.stood w.silent (λ all none. w.played plans all p q none) w.does st

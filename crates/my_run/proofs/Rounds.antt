@@ -1,0 +1,164 @@
+-- A poll, turn by turn.
+use Rattle.std.proofs.Common.{◌≡◌, inl, inr, ℕ, ◌+◌, ◌≤◌, List, ◌++◌, true, refl, sym, ap, ◌∙◌, subst, arith}
+use Rattle.std.proofs.lemmas.List.{append_assoc, length-append}
+use Rattle.my_wire.specs.Outside.{Rose}
+use Rattle.my_grammar.specs.declared.login.Login.{Login}
+use Rattle.my_session.specs.Calls.{is_open}
+use Rattle.my_session.specs.Seen.{Seen}
+use Rattle.my_world.specs.Outside.{Counts}
+use Rattle.my_run.specs.declared.poll.Round.{Round}
+use Rattle.my_run.specs.declared.poll.Round.TheVariants.{On, Over}
+use Rattle.my_run.specs.declared.poll.Turn.{Turn}
+use Rattle.my_run.specs.declared.poll.Turn.TheVariants.{Sent, Took, Ended, Broke, Held, Full, Answered, Faulted}
+use Rattle.my_run.specs.declared.transcript.Use.{Use}
+use Rattle.my_run.specs.Kept.{Asked, Kept}
+use Rattle.my_run.specs.Poll.{Looks, CameIn, CameBy, WentOut, TurnIs, took_by, is_full, Polls, SoFar, SpendsOn, SpentSoFar, round_of}
+use Rattle.my_run.specs.Rests.{IsAsked, HasFailed, TurnRests, PollRests}
+use Rattle.my_run.specs.Uses.{RoseBy, CountsTo}
+use Rattle.my_run.proofs.Spends.{sent_on, took_on, ended_on, held_by, failed_by, rested_by}
+
+-- the poll is where it was, or is over
+abbrev pub IsRound : Seen → Looks → Looks → List ℕ → List ℕ → List ℕ → List ℕ → ℕ → Round → Type 0
+IsRound t x y sent sent' taken taken' n (On u) = (is_open t.task ≡ true) × SoFar x y sent sent' taken taken' n u × SpentSoFar x y taken taken' 0
+IsRound t x y sent sent' taken taken' n (Over p) = Polls t x y sent sent' taken taken' n p × SpendsOn x y taken taken' p.used
+
+abbrev pub RoundRests : Login → Seen → Kept → Asked → Round → Type 0
+RoundRests login s k a (On u) = IsAsked login s k a × (u.faults ≡ 0) × (u.ends ≡ 0)
+RoundRests login s k a (Over p) = PollRests login s k a p.used p.after
+
+none_rose : (m n o k : ℕ) → n ≡ m → o ≡ n → k ≡ 0 → RoseBy m o k
+none_rose m n o k e f z = record { same = λ _. f ∙ e; rose = λ h. absurd (omega (arith, z)) }
+
+one_rose : (m n o k : ℕ) → n ≡ m → Rose n o → k ≡ 1 → RoseBy m o k
+one_rose m n o k e r z = record { same = λ f. absurd (omega (arith, z, f)); rose = λ _. subst (λ (i : ℕ). Rose i o) e r }
+
+none_yet : (m n k : ℕ) → k ≡ 0 → RoseBy m n k → n ≡ m
+none_yet m n k z r = r.same z
+
+went_more : (a b c : List ℕ) → WentOut a b → WentOut b c → WentOut a c
+went_more a b c v w = record { bytes = v.bytes ++ w.bytes; sent_is = w.sent_is ∙ ap (λ bs. bs ++ w.bytes) v.sent_is ∙ append_assoc a v.bytes w.bytes }
+
+went_same : (a b c : List ℕ) → WentOut a b → c ≡ b → WentOut a c
+went_same a b c v e = record { bytes = v.bytes; sent_is = e ∙ v.sent_is }
+
+came_same : (a b c : List ℕ) (n : ℕ) → CameBy a b n → c ≡ b → CameBy a c n
+came_same a b c n v e = record { bytes = v.bytes; taken_is = e ∙ v.taken_is; count = v.count }
+
+came_more : (x y : Looks) (a b c : List ℕ) (n m : ℕ) → CameBy a b n → CameIn x y b c m → CameBy a c (n + m)
+came_more x y a b c n m v w = record {
+  bytes = v.bytes ++ w.bytes;
+  taken_is = w.taken_is ∙ ap (λ bs. bs ++ w.bytes) v.taken_is ∙ append_assoc a v.bytes w.bytes;
+  count = omega (arith, length-append v.bytes w.bytes, v.count, w.count);
+}
+
+module _ (x y z : Looks) (s : Seen) (sent sent' sent'' taken taken' taken'' : List ℕ) (n : ℕ) (u : Use) (so : SoFar x y sent sent' taken taken' n u) (spent : SpentSoFar x y taken taken' 0) where
+  quiet_counts : z.counts ≡ y.counts → CountsTo x.counts z.counts u
+  quiet_counts e = record {
+    faults = none_rose x.counts.faults y.counts.faults z.counts.faults u.faults (so.counts.faults.same so.no_fault) (ap (λ (c : Counts). c.faults) e) so.no_fault;
+    holds = none_rose x.counts.holds y.counts.holds z.counts.holds u.holds (so.counts.holds.same so.no_hold) (ap (λ (c : Counts). c.holds) e) so.no_hold;
+    ends = none_rose x.counts.ends y.counts.ends z.counts.ends u.ends (so.counts.ends.same so.no_end) (ap (λ (c : Counts). c.ends) e) so.no_end;
+  }
+
+  on_quiet : (taken_now : ℕ) → z.counts ≡ y.counts → WentOut sent sent'' → CameBy taken taken'' taken_now → taken_now ≤ 67108864 → SoFar x z sent sent'' taken taken'' n (record u { taken = taken_now })
+  on_quiet taken_now e went came within = record {
+    of_call = record { number = so.of_call.number; deaths = so.of_call.deaths; broken = so.of_call.broken; unlisted = so.of_call.unlisted; absent = so.of_call.absent; refused = so.of_call.refused; fed = so.of_call.fed };
+    no_fault = so.no_fault;
+    no_hold = so.no_hold;
+    no_end = so.no_end;
+    counts = record { faults = (quiet_counts e).faults; holds = (quiet_counts e).holds; ends = (quiet_counts e).ends };
+    within = within;
+    came = came;
+    sent_on = went;
+  }
+
+  pub round_is : (turn : Turn) → TurnIs s y z sent' sent'' taken' taken'' turn → u.taken + took_by turn ≤ 67108864 → (is_full turn ≡ true → 67108864 ≤ u.taken) → IsRound s x z sent sent'' taken taken'' n (round_of turn u)
+  round_is Sent t h full = (t.0, on_quiet u.taken t.1 (went_more sent sent' sent'' so.sent_on t.3) (came_same taken taken' taken'' u.taken so.came t.4) so.within, sent_on x y z taken taken' taken'' 0 spent t.2 t.4)
+  round_is (Took m) t h full = (t.0, on_quiet (u.taken + m) t.1 (went_same sent sent' sent'' so.sent_on t.3) (came_more y z taken taken' taken'' u.taken m so.came t.2) h, took_on x y z taken taken' taken'' m 0 spent t.2)
+  round_is (Ended e) t h full = (
+    record {
+      of_call = record { number = so.of_call.number; deaths = so.of_call.deaths; broken = so.of_call.broken; unlisted = so.of_call.unlisted; absent = so.of_call.absent; refused = so.of_call.refused; fed = so.of_call.fed };
+      cause = (t.0, so.no_hold);
+      counts = record {
+        faults = none_rose x.counts.faults y.counts.faults z.counts.faults u.faults (so.counts.faults.same so.no_fault) t.1.faults so.no_fault;
+        holds = none_rose x.counts.holds y.counts.holds z.counts.holds u.holds (so.counts.holds.same so.no_hold) t.1.holds so.no_hold;
+        ends = one_rose x.counts.ends y.counts.ends z.counts.ends 1 (so.counts.ends.same so.no_end) t.1.ends refl;
+      };
+      within = so.within;
+      came = came_same taken taken' taken'' u.taken so.came t.4;
+      sent_on = went_same sent sent' sent'' so.sent_on t.3;
+    },
+    rested_by x z z taken taken'' taken'' 1 (record u { ends = 1 }) (ended_on x y z taken taken' taken'' 0 1 spent t.2 t.4) refl refl so.no_fault so.no_hold refl,
+  )
+  round_is (Broke e) t h full = (
+    record {
+      of_call = record { number = so.of_call.number; deaths = so.of_call.deaths; broken = so.of_call.broken; unlisted = so.of_call.unlisted; absent = so.of_call.absent; refused = so.of_call.refused; fed = so.of_call.fed };
+      cause = (t.0, so.no_hold);
+      counts = record {
+        faults = one_rose x.counts.faults y.counts.faults z.counts.faults 1 (so.counts.faults.same so.no_fault) t.1.faults refl;
+        holds = none_rose x.counts.holds y.counts.holds z.counts.holds u.holds (so.counts.holds.same so.no_hold) t.1.holds so.no_hold;
+        ends = none_rose x.counts.ends y.counts.ends z.counts.ends u.ends (so.counts.ends.same so.no_end) t.1.ends so.no_end;
+      };
+      within = so.within;
+      came = came_same taken taken' taken'' u.taken so.came t.4;
+      sent_on = went_same sent sent' sent'' so.sent_on t.3;
+    },
+    failed_by x y z taken taken' taken'' 0 (record u { faults = 1 }) spent t.2 t.4 refl so.no_hold so.no_end,
+  )
+  round_is Held t h full = (
+    record {
+      of_call = record { number = so.of_call.number; deaths = so.of_call.deaths; broken = so.of_call.broken; unlisted = so.of_call.unlisted; absent = so.of_call.absent; refused = so.of_call.refused; fed = so.of_call.fed };
+      cause = (t.0, so.no_fault, inl (omega arith));
+      counts = record {
+        faults = none_rose x.counts.faults y.counts.faults z.counts.faults u.faults (so.counts.faults.same so.no_fault) t.1.faults so.no_fault;
+        holds = one_rose x.counts.holds y.counts.holds z.counts.holds 1 (so.counts.holds.same so.no_hold) t.1.holds refl;
+        ends = none_rose x.counts.ends y.counts.ends z.counts.ends u.ends (so.counts.ends.same so.no_end) t.1.ends so.no_end;
+      };
+      within = so.within;
+      came = came_same taken taken' taken'' u.taken so.came t.4;
+      sent_on = went_same sent sent' sent'' so.sent_on t.3;
+    },
+    held_by x y z taken taken' taken'' 0 (record u { holds = 1 }) spent t.2 t.4 so.no_fault refl so.no_end,
+  )
+  round_is Full t h full = (
+    record {
+      of_call = so.of_call;
+      cause = (t.0, so.no_fault, inr (so.no_hold, full refl));
+      counts = quiet_counts (ap (λ (l : Looks). l.counts) t.1);
+      within = so.within;
+      came = came_same taken taken' taken'' u.taken so.came t.3;
+      sent_on = went_same sent sent' sent'' so.sent_on t.2;
+    },
+    rested_by x y z taken taken' taken'' 0 u spent t.1 t.3 so.no_fault so.no_hold so.no_end,
+  )
+  round_is (Answered answer) t h full = (
+    record {
+      of_call = so.of_call;
+      cause = (t.0, so.no_fault, so.no_hold, so.no_end);
+      counts = quiet_counts (ap (λ (l : Looks). l.counts) t.1);
+      within = so.within;
+      came = came_same taken taken' taken'' u.taken so.came t.3;
+      sent_on = went_same sent sent' sent'' so.sent_on t.2;
+    },
+    rested_by x y z taken taken' taken'' 0 u spent t.1 t.3 so.no_fault so.no_hold so.no_end,
+  )
+  round_is (Faulted e) t h full = (
+    record {
+      of_call = so.of_call;
+      cause = (t.0, so.no_hold);
+      counts = quiet_counts (ap (λ (l : Looks). l.counts) t.1);
+      within = so.within;
+      came = came_same taken taken' taken'' u.taken so.came t.3;
+      sent_on = went_same sent sent' sent'' so.sent_on t.2;
+    },
+    rested_by x y z taken taken' taken'' 0 u spent t.1 t.3 so.no_fault so.no_hold so.no_end,
+  )
+
+pub round_rests : (login : Login) (s : Seen) (k : Kept) (a : Asked) (u : Use) (turn : Turn) → u.faults ≡ 0 → u.ends ≡ 0 → TurnRests login s k a turn → RoundRests login s k a (round_of turn u)
+round_rests login s k a u Sent f e t = (t, f, e)
+round_rests login s k a u (Took n) f e t = (t, f, e)
+round_rests login s k a u (Ended error) f e t = subst (λ (i : ℕ). HasFailed login s k a error i 1) (sym f) t
+round_rests login s k a u (Broke error) f e t = subst (λ (i : ℕ). HasFailed login s k a error 1 i) (sym e) t
+round_rests login s k a u Held f e t = t
+round_rests login s k a u Full f e t = t
+round_rests login s k a u (Answered answer) f e t = t
+round_rests login s k a u (Faulted error) f e t = subst (λ (i : ℕ). HasFailed login s k a error i u.ends) (sym f) (subst (λ (i : ℕ). HasFailed login s k a error 0 i) (sym e) t)

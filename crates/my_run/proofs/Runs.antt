@@ -1,0 +1,135 @@
+-- The run, step by step.
+use Rattle.std.proofs.Common.{◌≡◌, ℕ, ◌+◌, ◌<◌, suc, zero, List, [], ◌∷◌, ◌++◌, length, map, take, Option, Some, None, true, refl, sym, ap, ◌∙◌, subst, arith}
+use Rattle.std.proofs.lemmas.List.{length-append}
+use Rattle.my_grammar.specs.declared.login.Login.{Login}
+use Rattle.my_session.proofs.LawOf.{each_history}
+use Rattle.my_world.specs.declared.link.ReadItem.{ReadItem}
+use Rattle.my_world.specs.declared.link.ReadItem.TheVariants.{Bytes, Turn, Wait, Fail, End}
+use Rattle.my_world.specs.declared.link.WriteItem.{WriteItem}
+use Rattle.my_world.specs.Spent.{ReadsSpent, AllSpent, spelled, has_end, is_at_end}
+use Rattle.my_run.specs.declared.slot.Conn.{Conn}
+use Rattle.my_run.specs.declared.slot.Slot.{Slot}
+use Rattle.my_run.specs.declared.slot.Slot.TheVariants.{Gone, Held, There, Ended}
+use Rattle.my_run.specs.declared.step.Step.{Step}
+use Rattle.my_run.specs.declared.transcript.Outcome.{Outcome}
+use Rattle.my_run.specs.declared.transcript.StepAnswer.{StepAnswer}
+use Rattle.my_run.specs.declared.transcript.Tape.{Tape}
+use Rattle.my_run.specs.declared.transcript.Use.{Use}
+use Rattle.my_run.specs.Did.{Stepped}
+use Rattle.my_run.specs.Grows.{At, TellsFields, Line, StepGrows}
+use Rattle.my_run.specs.Handle.{Handle}
+use Rattle.my_run.specs.Headline.{AnswerView, answer_view, steps_of, uses_of, IsSaid, FewFaults, PlaysReads, Plays, IsExplained, AreExplained, Headline, SoFar}
+use Rattle.my_run.specs.Keeps.{Plans, StandsBy, LinkSpent, IsStood, AreStood, IsPlayed, ArePlayed}
+use Rattle.my_run.specs.Poll.{Looks}
+use Rattle.my_run.specs.Slot.{kept_of, handle_of}
+use Rattle.my_run.specs.Sums.{faults_for, ends_for, IsSilent}
+use Rattle.my_run.specs.Tapes.{tape_view, tapes_in}
+
+end_stays : (left : List ReadItem) → is_at_end left ≡ true → has_end left ≡ true
+end_stays [] e = e
+end_stays (Bytes bytes ∷ more) e = cc
+end_stays (Turn ∷ more) e = cc
+end_stays (Wait ∷ more) e = cc
+end_stays (Fail ∷ more) e = cc
+end_stays (End ∷ more) e = refl
+
+plays_reads : (plan left : Option (List ReadItem)) (taken : List ℕ) (ends : ℕ) → ReadsSpent plan left taken ends → PlaysReads plan taken ends
+plays_reads None left taken ends w = tt
+plays_reads (Some plan) None taken ends w = absurd w
+plays_reads (Some plan) (Some left) taken ends w = record { rest = spelled left; bytes = w.bytes; end = λ h. w.planned_end (end_stays left (w.ended h)) }
+
+few_faults : (plan left : Option (List ReadItem)) (rules rest : Option (List WriteItem)) (faults waits : ℕ) → AllSpent plan left rules rest faults waits → FewFaults plan rules faults
+few_faults None left rules rest faults waits w = tt
+few_faults (Some plan) left None rest faults waits w = tt
+few_faults (Some plan) None (Some rules) rest faults waits w = absurd w
+few_faults (Some plan) (Some left) (Some rules) None faults waits w = absurd w
+few_faults (Some plan) (Some left) (Some rules) (Some rest) faults waits w = omega (arith, w.failed)
+
+plays : (plans : Plans) (n : ℕ) (x : Looks) (taken : List ℕ) (all : List Use) → LinkSpent plans n x taken all → Plays plans n taken all
+plays plans n x taken all w = record {
+  reads = plays_reads (plans.reads n) x.items taken (ends_for n all) w.spent.reads;
+  faults = few_faults (plans.reads n) x.items (plans.writes n) x.writes (faults_for n all) w.waits w.spent.counts;
+}
+
+said : {L : Type 0} (login : Login) (c : Conn L) → StandsBy login c → IsSaid login (kept_of c)
+said login c w = record { session = c.session.seen; history = w.rests.heard.history; login_is = w.rests.heard.login_is; kept = w.rests.heard.kept; says = each_history c.session.seen w.rests.heard.history w.rests.heard.stands }
+
+is_explained : {L : Type 0} (look : L → Looks) (login : Login) (plans : Plans) (n : ℕ) (all : List Use) (s : Slot L) → IsStood login s → IsPlayed look plans n all s → IsExplained login plans n all (handle_of s)
+is_explained look login plans n all Gone w p = tt
+is_explained look login plans n all Held w p = p
+is_explained look login plans n all (There c) w p = (said login c w, plays plans n (look c.link) c.taken.items all p)
+is_explained look login plans n all (Ended c) w p = (said login c w, plays plans n (look c.link) c.taken.items all p)
+
+are_explained : {L : Type 0} (look : L → Looks) (login : Login) (plans : Plans) (all : List Use) (n : ℕ) (ss : List (Slot L)) → AreStood login ss → ArePlayed look plans all n ss → AreExplained login plans all n (map handle_of ss)
+are_explained look login plans all n [] w p = tt
+are_explained look login plans all n (s ∷ ss) w p = (is_explained look login plans n all s w.0 p.0, are_explained look login plans all (suc n) ss w.1 p.1)
+
+count_steps : (ls : List Line) → length (steps_of ls) ≡ length ls
+count_steps [] = refl
+count_steps (l ∷ ls) = omega (arith, count_steps ls, length-append (steps_of ls) (l.step ∷ []))
+
+both_faults : (m : ℕ) (us vs : List Use) → IsSilent m us → IsSilent m vs → IsSilent m (us ++ vs)
+both_faults m [] vs p q = q
+both_faults m (u ∷ us) vs p q =
+    let r = both_faults m us vs (record { faults = omega (arith, p.faults); ends = omega (arith, p.ends) }) q in
+    record { faults = omega (arith, r.faults, p.faults); ends = omega (arith, r.ends, p.ends) }
+
+map_push : {A B : Type 0} (f : A → B) (xs : List A) (x : A) → map f (xs ++ x ∷ []) ≡ map f xs ++ f x ∷ []
+map_push f [] x = refl
+map_push f (y ∷ xs) x = ap (λ ys. f y ∷ ys) (map_push f xs x)
+
+pub none_yet : {L : Type 0} (look : L → Looks) (login : Login) (plans : Plans) (done : List Step) (ss : List (Slot L)) (given : List StepAnswer) → done ≡ [] → ss ≡ [] → given ≡ [] → SoFar look login plans done ss given
+none_yet {L} look login plans done ss given d e f = record {
+  lines = [];
+  steps_are = sym d;
+  answered = ap (map answer_view) f;
+  handles_are = ap (map handle_of) e;
+  stood = subst (AreStood login) (sym e) tt;
+  played = subst (ArePlayed look plans [] 0) (sym e) tt;
+  silent = λ m _. record { faults = refl; ends = refl };
+  grown = tt;
+  explained = tt;
+}
+
+pub step_on : {L : Type 0} (look : L → Looks) (login : Login) (plans : Plans) (done next : List Step) (ss ts : List (Slot L)) (given bs : List StepAnswer) (step : Step) (a : StepAnswer) → SoFar look login plans done ss given → Stepped look login plans a.uses.items ss ts (StepGrows login (map handle_of ss) step a.outcome a.uses.items (map handle_of ts)) → a.number ≡ length done + 1 → bs ≡ given ++ a ∷ [] → next ≡ done ++ step ∷ [] → SoFar look login plans next ts bs
+step_on {L} look login plans done next ss ts given bs step a u w num e f =
+    let played : ArePlayed look plans (a.uses.items ++ uses_of u.lines) 0 ts = w.played (uses_of u.lines) u.silent u.played in
+    record {
+      lines = record { step = step; number = a.number; outcome = a.outcome; uses = a.uses.items; handles = map handle_of ts } ∷ u.lines;
+      steps_are = ap (λ ss. ss ++ step ∷ []) u.steps_are ∙ sym f;
+      answered = ap (map answer_view) e ∙ map_push answer_view given a ∙ ap (λ (vs : List AnswerView). vs ++ answer_view a ∷ []) u.answered;
+      handles_are = refl;
+      stood = w.stood;
+      played = played;
+      silent = λ m h. both_faults m a.uses.items (uses_of u.lines) (w.past m h) (u.silent m (omega (arith, h, w.longer)));
+      grown = (
+        record {
+          number = num ∙ ap (λ n. n + 1) (sym (ap length u.steps_are) ∙ count_steps u.lines);
+          answer = subst (λ (hs : List Handle). StepGrows login hs step a.outcome a.uses.items (map handle_of ts)) u.handles_are w.grows;
+        },
+        u.grown,
+      );
+      explained = (are_explained look login plans (a.uses.items ++ uses_of u.lines) 0 ts w.stood played, u.explained);
+    }
+
+pub headline : {L : Type 0} (look : L → Looks) (login : Login) (plans : Plans) (steps : List Step) (ss : List (Slot L)) (given : List StepAnswer) (tapes : List Tape) → SoFar look login plans steps ss given → map tape_view tapes ≡ tapes_in 0 (map handle_of ss) → Headline login plans steps given tapes
+headline look login plans steps ss given tapes u e = record {
+  lines = u.lines;
+  steps_are = u.steps_are;
+  answered = u.answered;
+  grown = u.grown;
+  explained = u.explained;
+  tapes_are = e ∙ ap (tapes_in 0) u.handles_are;
+}
+
+pub count_up : {X : Type 0} (i : ℕ) (xs : List X) → i < length xs → i + 1 ≡ length (take i xs) + 1
+count_up zero xs h = refl
+count_up (suc i) [] h = absurd (omega (arith, h))
+count_up (suc i) (x ∷ xs) h = let r : i + 1 ≡ length (take i xs) + 1 = count_up i xs (omega (arith, h)) in omega (arith, r)
+
+-- a step by what it is
+pub stepped_as : {L : Type 0} (look : L → Looks) (login : Login) (plans : Plans) (o : Outcome) (us : List Use) (ss ts : List (Slot L)) (step known : Step) → step ≡ known → Stepped look login plans us ss ts (StepGrows login (map handle_of ss) known o us (map handle_of ts)) → Stepped look login plans us ss ts (StepGrows login (map handle_of ss) step o us (map handle_of ts))
+stepped_as look login plans o us ss ts step known e w = subst (λ (s : Step). Stepped look login plans us ss ts (StepGrows login (map handle_of ss) s o us (map handle_of ts))) (sym e) w
+
+pub fields_here : {L : Type 0} (look : L → Looks) (login : Login) (plans : Plans) (n : ℕ) (o : Outcome) (us : List Use) (read ss : List (Slot L)) → read ≡ ss → (AreStood login read → Stepped look login plans us read read (At n (TellsFields login) (map handle_of read) o us (map handle_of read))) → AreStood login ss → Stepped look login plans us ss ss (At n (TellsFields login) (map handle_of ss) o us (map handle_of ss))
+fields_here {L} look login plans n o us read ss e = subst (λ (xs : List (Slot L)). (AreStood login xs → Stepped look login plans us xs xs (At n (TellsFields login) (map handle_of xs) o us (map handle_of xs))) → AreStood login ss → Stepped look login plans us ss ss (At n (TellsFields login) (map handle_of ss) o us (map handle_of ss))) (sym e) (λ f. f)

@@ -1,0 +1,6 @@
+use Rattle.my_run.proofs.Hearing.{ok_turn}
+use Rattle.my_run.proofs.Numbers.{both_did}
+use Rattle.my_run.proofs.fields.tell_at.Goals as goal
+
+pub returns-in-There : goal.returns-in-There
+returns-in-There g c = ok_turn c.tell.result _ _ c.tell.ensures (λ d f login w. both_did (λ l. record { items = g.L.Link.items l; writes = g.L.Link.writes l; counts = g.L.Link.counts l }) login c.args.number _ d.outcome d.uses.items c.args.slot.now c.in-There.conn c.in-There.is w (f login))

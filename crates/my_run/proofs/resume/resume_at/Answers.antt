@@ -1,0 +1,11 @@
+use Rattle.my_run.specs.Login.{login_of}
+use Rattle.my_run.proofs.Hearing.{ok_turn}
+use Rattle.my_run.proofs.Numbers.{put_did}
+use Rattle.my_run.proofs.Resuming.{held_resumed}
+use Rattle.my_run.proofs.resume.resume_at.Goals as goal
+
+pub returns-in-There-clause-did : goal.returns-in-There-clause-did
+returns-in-There-clause-did g c = ok_turn c.resume_there.result _ _ c.resume_there.ensures (λ d f w. put_did (λ l. record { items = g.N.L.Link.items l; writes = g.N.L.Link.writes l; counts = g.N.L.Link.counts l }) (login_of c.args.opts.now) c.args.number _ d.did.outcome d.did.uses.items c.args.slot c.in-There.conn d.slot c.in-There.is w (f (login_of c.args.opts.now)))
+
+pub returns-in-Held-clause-did : goal.returns-in-Held-clause-did
+returns-in-Held-clause-did g c = ok_turn c.dial_at.result _ _ c.dial_at.ensures.dialed (λ d f w. held_resumed (λ l. record { items = g.N.L.Link.items l; writes = g.N.L.Link.writes l; counts = g.N.L.Link.counts l }) (login_of c.args.opts.now) c.args.number _ _ c.args.slot d.slot d.did.outcome d.did.uses.items c.in-Held.is f)

@@ -1,0 +1,258 @@
+-- How a transcript grows by a step.
+use Rattle.std.specs.Prelude.{◌≡◌, ℕ, ◌+◌, List, [], ◌∷◌, ◌++◌, length, Option, Some, None, Bool, true, false, not, unwrap_or}
+use Rattle.my_wire.specs.Version.{version_of}
+use Rattle.my_value.specs.RowParts.{RowParts}
+use Rattle.my_grammar.specs.declared.login.Login.{Login}
+use Rattle.my_session.specs.declared.answer.Answer.{Answer}
+use Rattle.my_session.specs.declared.answer.Answer.TheVariants as answers
+use Rattle.my_session.specs.declared.call.Call.{Call}
+use Rattle.my_session.specs.declared.call.Call.TheVariants.{Connect, Query, NextRow, DropResult, Ping, Quit}
+use Rattle.my_session.specs.Calls.{kind_of, is_connect}
+use Rattle.my_session.specs.Errors.{connection_closed, io_error}
+use Rattle.my_session.specs.Fits.{is_begun}
+use Rattle.my_session.specs.History.{has_closed}
+use Rattle.my_session.specs.Seen.{Seen}
+use Rattle.my_session.specs.Steps.{is_refused}
+use Rattle.my_session.specs.Tables.{closes_when_cancelled}
+use Rattle.my_session.specs.declared.error.IoKind.TheVariants.{Dial}
+use Rattle.my_run.specs.declared.poll.After.{After}
+use Rattle.my_run.specs.declared.poll.After.TheVariants as after
+use Rattle.my_run.specs.declared.step.Step.{Step}
+use Rattle.my_run.specs.declared.step.Step.TheVariants as steps
+use Rattle.my_run.specs.declared.tape.Said.TheVariants as says
+use Rattle.my_run.specs.declared.transcript.Outcome.{Outcome}
+use Rattle.my_run.specs.declared.transcript.Outcome.TheVariants.{Done, Pending, SetEnd, NoSet, Row, Rows, Fields, Connected, Failed, NoSuchHandle, Unread}
+use Rattle.my_run.specs.declared.transcript.Use.{Use}
+use Rattle.my_run.specs.Causes.{IsPolled}
+use Rattle.my_run.specs.Handle.{Handle, Absent, Dialing, Joined, at_number, put_at}
+use Rattle.my_run.specs.Kept.{Asked, Kept, IsHeard, nothing_kept, made_of, asking, ended_by}
+use Rattle.my_run.specs.Poll.{quiet}
+
+-- the step names a number at which it finds nothing to do: it is refused, and changes nothing
+pub record IsRefused (h : Handle) (o : Outcome) (us : List Use) (t : Handle) : Type 0 where
+  pub outcome : o ≡ NoSuchHandle
+  pub uses : us ≡ []
+  pub same : t ≡ h
+
+-- what a step of one call shows of its poll
+abbrev pub answer_shown : Answer → Outcome
+answer_shown answers.Ready = Done
+answer_shown (answers.Row row) = Row row
+answer_shown answers.SetEnd = SetEnd
+answer_shown answers.NoSet = NoSet
+
+abbrev pub shown : After → Outcome
+shown after.Pending = Pending
+shown (after.Answered answer) = answer_shown answer
+shown (after.Failed e) = Failed e
+
+-- the open call was polled once, and the step shows what it came to
+pub record PolledOnce (login : Login) (n : ℕ) (a : Asked) (k : Kept) (o : Outcome) (us : List Use) (t : Handle) : Type 0 where
+  pub used : Use
+  pub uses : us ≡ used ∷ []
+  pub after : After
+  pub end : Kept
+  pub polled : IsPolled login n a k used after end
+  pub outcome : o ≡ shown after
+  pub left : t ≡ Joined true end
+
+abbrev pub asked_by : Kept → Call → Asked
+asked_by k call = record { call = call; sent_from = length k.sent; rows = None }
+
+-- a closed session refuses the call at once, and it stands on the tape with that answer
+pub record IsClosed (k : Kept) (call : Call) (o : Outcome) (us : List Use) (t : Handle) : Type 0 where
+  pub outcome : o ≡ Failed connection_closed
+  pub uses : us ≡ []
+  pub left : t ≡ Joined true (ended_by (asking k call None) (asked_by k call) (says.Failed connection_closed))
+
+abbrev pub Begins : Bool → Login → ℕ → Call → Kept → Outcome → List Use → Handle → Type 0
+Begins true login n call k o us t = IsClosed k call o us t
+Begins false login n call k o us t = PolledOnce login n (asked_by k call) (asking k call None) o us t
+
+abbrev pub BeginsOn : Option Asked → Login → ℕ → Call → Kept → Outcome → List Use → Handle → Type 0
+BeginsOn None login n call k o us t = Begins (is_refused (has_closed (made_of k.calls)) (kind_of call)) login n call k o us t
+BeginsOn (Some a) login n call k o us t = IsRefused (Joined true k) o us t
+
+-- a step that begins a call on connection n: refused where no connection is there or another call is open
+abbrev pub Calls : Login → ℕ → Call → Handle → Outcome → List Use → Handle → Type 0
+Calls login n call Absent o us t = IsRefused Absent o us t
+Calls login n call Dialing o us t = IsRefused Dialing o us t
+Calls login n call (Joined false k) o us t = IsRefused (Joined false k) o us t
+Calls login n call (Joined true k) o us t = BeginsOn k.pending login n call k o us t
+
+-- the answer tells the connection's number, and what the server told of itself
+pub record IsGreeted (login : Login) (n : ℕ) (k : Kept) (o : Outcome) : Type 0 where
+  pub session : Seen
+  pub heard : IsHeard login session k
+  pub outcome : o ≡ Connected n session.facts.connection (version_of session.facts.version)
+
+-- a connection that couldn't connect isn't there any more
+abbrev pub ConnectShows : Login → ℕ → After → Kept → Outcome → Handle → Type 0
+ConnectShows login n after.Pending end o t = (o ≡ Pending) × (t ≡ Joined true end)
+ConnectShows login n (after.Answered answer) end o t = IsGreeted login n end o × (t ≡ Joined true end)
+ConnectShows login n (after.Failed e) end o t = (o ≡ Failed e) × (t ≡ Joined false end)
+
+-- the handshake was polled once
+pub record Connects (login : Login) (n : ℕ) (a : Asked) (k : Kept) (o : Outcome) (used : Use) (t : Handle) : Type 0 where
+  pub after : After
+  pub end : Kept
+  pub polled : IsPolled login n a k used after end
+  pub shows : ConnectShows login n after end o t
+
+-- the dial holds, once; it failed, once; or it gave a link, over which the handshake was polled
+pub data Dials (login : Login) (n : ℕ) (o : Outcome) (us : List Use) (t : Handle) : Type 0 where
+  Holds : o ≡ Pending → us ≡ record (quiet n) { holds = 1 } ∷ [] → t ≡ Dialing → Dials login n o us t
+  Fails : o ≡ Failed (io_error Dial 0) → us ≡ record (quiet n) { faults = 1 } ∷ [] → t ≡ Absent → Dials login n o us t
+  Links : (used : Use) → us ≡ quiet n ∷ used ∷ [] → Connects login n (asked_by nothing_kept Connect) (asking nothing_kept Connect None) o used t → Dials login n o us t
+
+-- the rows of a set, as a step shows them
+abbrev pub rows_shown : Outcome → Option (List RowParts)
+rows_shown Done = None
+rows_shown Pending = None
+rows_shown SetEnd = None
+rows_shown NoSet = None
+rows_shown (Row row) = None
+rows_shown (Rows rows) = Some rows.items
+rows_shown (Fields fields) = None
+rows_shown (Connected number id version) = None
+rows_shown (Failed e) = None
+rows_shown NoSuchHandle = None
+rows_shown Unread = None
+
+-- the rows that the open call gathered so far
+abbrev pub gathered : Asked → List RowParts
+gathered a = unwrap_or a.rows []
+
+-- behind a row the next one is asked for; behind anything else the gathering ends, or holds
+abbrev pub GathersOn : (Asked → Kept → Outcome → Handle → Type 0) → Asked → After → Kept → Outcome → List Use → Handle → Type 0
+GathersOn more a after.Pending end o us t = (o ≡ Pending) × (us ≡ []) × (t ≡ Joined true end)
+GathersOn more a (after.Answered answers.Ready) end o us t = (o ≡ Done) × (us ≡ []) × (t ≡ Joined true end)
+GathersOn more a (after.Answered (answers.Row row)) end o us t = more (record { call = NextRow; sent_from = length end.sent; rows = Some (gathered a ++ row ∷ []) }) (asking end NextRow (Some (gathered a ++ row ∷ []))) o t
+GathersOn more a (after.Answered answers.SetEnd) end o us t = (rows_shown o ≡ Some (gathered a)) × (us ≡ []) × (t ≡ Joined true end)
+GathersOn more a (after.Answered answers.NoSet) end o us t = (rows_shown o ≡ Some (gathered a)) × (us ≡ []) × (t ≡ Joined true end)
+GathersOn more a (after.Failed e) end o us t = (o ≡ Failed e) × (us ≡ []) × (t ≡ Joined true end)
+
+-- one poll for each use, row by row
+abbrev pub Gathers : Login → ℕ → List Use → Asked → Kept → Outcome → Handle → Type 0
+Gathers login n [] a k o t = ⊥
+Gathers login n (u ∷ us) a k o t = (after : After) × (end : Kept) × IsPolled login n a k u after end × GathersOn (Gathers login n us) a after end o us t
+
+-- a step that gathers a set's rows
+abbrev pub Collects : Bool → Login → ℕ → Kept → Outcome → List Use → Handle → Type 0
+Collects true login n k o us t = IsClosed k NextRow o us t
+Collects false login n k o us t = Gathers login n us (record { call = NextRow; sent_from = length k.sent; rows = Some [] }) (asking k NextRow (Some [])) o t
+
+abbrev pub CollectsOn : Option Asked → Login → ℕ → Kept → Outcome → List Use → Handle → Type 0
+CollectsOn None login n k o us t = Collects (has_closed (made_of k.calls)) login n k o us t
+CollectsOn (Some a) login n k o us t = IsRefused (Joined true k) o us t
+
+abbrev pub CollectsAt : Login → ℕ → Handle → Outcome → List Use → Handle → Type 0
+CollectsAt login n Absent o us t = IsRefused Absent o us t
+CollectsAt login n Dialing o us t = IsRefused Dialing o us t
+CollectsAt login n (Joined false k) o us t = IsRefused (Joined false k) o us t
+CollectsAt login n (Joined true k) o us t = CollectsOn k.pending login n k o us t
+
+-- a step that polls what is open: the handshake, a gathering, or another call
+abbrev pub PollsOn : Bool → Option (List RowParts) → Login → ℕ → Asked → Kept → Outcome → List Use → Handle → Type 0
+PollsOn true rows login n a k o us t = (used : Use) × (us ≡ used ∷ []) × Connects login n a k o used t
+PollsOn false None login n a k o us t = PolledOnce login n a k o us t
+PollsOn false (Some rows) login n a k o us t = Gathers login n us a k o t
+
+abbrev pub GoesOnWith : Option Asked → Login → ℕ → Kept → Outcome → List Use → Handle → Type 0
+GoesOnWith None login n k o us t = IsRefused (Joined true k) o us t
+GoesOnWith (Some a) login n k o us t = PollsOn (is_connect (kind_of a.call)) a.rows login n a k o us t
+
+abbrev pub GoesOn : Login → ℕ → Handle → Outcome → List Use → Handle → Type 0
+GoesOn login n Absent o us t = IsRefused Absent o us t
+GoesOn login n Dialing o us t = Dials login n o us t
+GoesOn login n (Joined false k) o us t = IsRefused (Joined false k) o us t
+GoesOn login n (Joined true k) o us t = GoesOnWith k.pending login n k o us t
+
+-- The open call was cancelled, which closed the session by the table of its task and place. A connection whose handshake was cancelled isn't there any more.
+pub record IsCancelled (login : Login) (a : Asked) (k : Kept) (o : Outcome) (us : List Use) (t : Handle) : Type 0 where
+  pub session : Seen
+  pub heard : IsHeard login session k
+  pub stepped : is_begun session.task ≡ false
+  pub outcome : o ≡ Done
+  pub uses : us ≡ []
+  pub left : t ≡ Joined (not (is_connect (kind_of a.call))) (ended_by k a (says.Cancelled (closes_when_cancelled session.task session.context.spot)))
+
+-- the held dial was dropped
+pub record IsDropped (o : Outcome) (us : List Use) (t : Handle) : Type 0 where
+  pub outcome : o ≡ Done
+  pub uses : us ≡ []
+  pub left : t ≡ Absent
+
+abbrev pub CancelsWith : Option Asked → Login → Kept → Outcome → List Use → Handle → Type 0
+CancelsWith None login k o us t = IsRefused (Joined true k) o us t
+CancelsWith (Some a) login k o us t = IsCancelled login a k o us t
+
+abbrev pub Cancels : Login → Handle → Outcome → List Use → Handle → Type 0
+Cancels login Absent o us t = IsRefused Absent o us t
+Cancels login Dialing o us t = IsDropped o us t
+Cancels login (Joined false k) o us t = IsRefused (Joined false k) o us t
+Cancels login (Joined true k) o us t = CancelsWith k.pending login k o us t
+
+-- the last OK, as the server told it
+pub record IsTold (login : Login) (k : Kept) (o : Outcome) (us : List Use) (t : Handle) : Type 0 where
+  pub session : Seen
+  pub heard : IsHeard login session k
+  pub outcome : o ≡ Fields session.facts.ok
+  pub uses : us ≡ []
+  pub left : t ≡ Joined true k
+
+abbrev pub TellsWith : Option Asked → Login → Kept → Outcome → List Use → Handle → Type 0
+TellsWith None login k o us t = IsTold login k o us t
+TellsWith (Some a) login k o us t = IsRefused (Joined true k) o us t
+
+abbrev pub TellsFields : Login → Handle → Outcome → List Use → Handle → Type 0
+TellsFields login Absent o us t = IsRefused Absent o us t
+TellsFields login Dialing o us t = IsRefused Dialing o us t
+TellsFields login (Joined false k) o us t = IsRefused (Joined false k) o us t
+TellsFields login (Joined true k) o us t = TellsWith k.pending login k o us t
+
+-- the connection of the next number
+pub record DialsNext (login : Login) (hs : List Handle) (o : Outcome) (us : List Use) (ts : List Handle) : Type 0 where
+  pub made : Handle
+  pub dials : Dials login (length hs) o us made
+  pub others : ts ≡ hs ++ made ∷ []
+
+-- a step at a number changes nothing at the others
+pub record At (n : ℕ) (R : Handle → Outcome → List Use → Handle → Type 0) (hs : List Handle) (o : Outcome) (us : List Use) (ts : List Handle) : Type 0 where
+  pub made : Handle
+  pub does : R (at_number hs n) o us made
+  pub others : ts ≡ put_at n made hs
+
+-- by the step, over what the earlier steps and their answers made of the numbers
+abbrev pub StepGrows : Login → List Handle → Step → Outcome → List Use → List Handle → Type 0
+StepGrows login hs steps.Conn o us ts = DialsNext login hs o us ts
+StepGrows login hs (steps.Query n text) o us ts = At n (Calls login n (Query text)) hs o us ts
+StepGrows login hs (steps.Next n) o us ts = At n (Calls login n NextRow) hs o us ts
+StepGrows login hs (steps.Collect n) o us ts = At n (CollectsAt login n) hs o us ts
+StepGrows login hs (steps.Drop n) o us ts = At n (Calls login n DropResult) hs o us ts
+StepGrows login hs (steps.Ping n) o us ts = At n (Calls login n Ping) hs o us ts
+StepGrows login hs (steps.Quit n) o us ts = At n (Calls login n Quit) hs o us ts
+StepGrows login hs (steps.Fields n) o us ts = At n (TellsFields login) hs o us ts
+StepGrows login hs (steps.Poll n) o us ts = At n (GoesOn login n) hs o us ts
+StepGrows login hs (steps.Cancel n) o us ts = At n (Cancels login) hs o us ts
+
+-- a step, its answer, and what the numbers stand for then
+pub record Line : Type 0 where
+  pub step : Step
+  pub number : ℕ
+  pub outcome : Outcome
+  pub uses : List Use
+  pub handles : List Handle
+
+abbrev pub handles_after : List Line → List Handle
+handles_after [] = []
+handles_after (l ∷ ls) = l.handles
+
+-- the lines stand newest first; each is what its step may come to behind the earlier ones
+pub record Grows (login : Login) (before : List Line) (l : Line) : Type 0 where
+  pub number : l.number ≡ length before + 1
+  pub answer : StepGrows login (handles_after before) l.step l.outcome l.uses l.handles
+
+abbrev pub AreGrown : Login → List Line → Type 0
+AreGrown login [] = Unit {0}
+AreGrown login (l ∷ ls) = Grows login ls l × AreGrown login ls

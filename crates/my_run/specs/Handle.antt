@@ -1,0 +1,19 @@
+-- What the steps so far made of a connection's number.
+use Rattle.std.specs.Prelude.{ℕ, zero, suc, List, [], ◌∷◌, Bool}
+use Rattle.my_run.specs.Kept.{Kept}
+
+-- no connection, and none that began; one whose dial holds; or one that was linked, with whether steps may still name it
+pub data Handle : Type 0 where
+  Absent : Handle
+  Dialing : Handle
+  Joined : (there : Bool) (kept : Kept) → Handle
+
+abbrev pub at_number : List Handle → ℕ → Handle
+at_number [] n = Absent
+at_number (h ∷ hs) zero = h
+at_number (h ∷ hs) (suc n) = at_number hs n
+
+abbrev pub put_at : ℕ → Handle → List Handle → List Handle
+put_at n new [] = []
+put_at zero new (h ∷ hs) = new ∷ hs
+put_at (suc n) new (h ∷ hs) = h ∷ put_at n new hs

@@ -1,0 +1,115 @@
+-- The theorem on a run.
+use Rattle.std.specs.Prelude.{◌≡◌, ℕ, ◌+◌, ◌<◌, ◌≤◌, suc, List, [], ◌∷◌, ◌++◌, length, map, Option, Some, None, true}
+use Rattle.my_grammar.specs.declared.login.Login.{Login}
+use Rattle.my_session.specs.History.{History}
+use Rattle.my_session.specs.Law.{Says}
+use Rattle.my_session.specs.Seen.{Seen}
+use Rattle.my_world.specs.declared.link.ReadItem.{ReadItem}
+use Rattle.my_world.specs.declared.link.WriteItem.{WriteItem}
+use Rattle.my_world.specs.Spent.{spelled, fails_in, write_fails_in, has_end}
+use Rattle.my_run.specs.declared.slot.Slot.{Slot}
+use Rattle.my_run.specs.declared.step.Step.{Step}
+use Rattle.my_run.specs.declared.transcript.Outcome.{Outcome}
+use Rattle.my_run.specs.declared.transcript.StepAnswer.{StepAnswer}
+use Rattle.my_run.specs.declared.transcript.Tape.{Tape}
+use Rattle.my_run.specs.declared.transcript.Use.{Use}
+use Rattle.my_run.specs.Grows.{Line, AreGrown, handles_after}
+use Rattle.my_run.specs.Handle.{Handle, Absent, Dialing, Joined}
+use Rattle.my_run.specs.Kept.{Kept, IsOf}
+use Rattle.my_run.specs.Keeps.{Plans, AreStood, ArePlayed}
+use Rattle.my_run.specs.Poll.{Looks}
+use Rattle.my_run.specs.Slot.{handle_of}
+use Rattle.my_run.specs.Sums.{faults_for, ends_for, IsSilent}
+use Rattle.my_run.specs.Tapes.{tape_view, tapes_in}
+
+-- an answer, without where it lies in memory
+pub record AnswerView : Type 0 where
+  pub number : ℕ
+  pub outcome : Outcome
+  pub uses : List Use
+
+abbrev pub answer_view : StepAnswer → AnswerView
+answer_view a = record { number = a.number; outcome = a.outcome; uses = a.uses.items }
+
+-- in order, of lines that stand newest first
+abbrev pub steps_of : List Line → List Step
+steps_of [] = []
+steps_of (l ∷ ls) = steps_of ls ++ l.step ∷ []
+
+abbrev pub answers_of : List Line → List AnswerView
+answers_of [] = []
+answers_of (l ∷ ls) = answers_of ls ++ record { number = l.number; outcome = l.outcome; uses = l.uses } ∷ []
+
+-- all uses, the newest step's first
+abbrev pub uses_of : List Line → List Use
+uses_of [] = []
+uses_of (l ∷ ls) = l.uses ++ uses_of ls
+
+-- The tape is explained: some history is what was kept, and of it the session's law holds: the calls' commands by the table were
+-- sent, the last perhaps cut, the grammar finds in the bytes taken the responses, and of each set callers were given a beginning.
+pub record IsSaid (login : Login) (k : Kept) : Type 0 where
+  pub session : Seen
+  pub history : History
+  pub login_is : session.login ≡ login
+  pub kept : IsOf k history
+  pub says : Says session history
+
+-- over a world that told its plan, the bytes taken are the beginning of the planned ones, the link failed no more often than the
+-- plan says, and it told its end only where the plan has one
+pub record FitsPlan (plan : List ReadItem) (taken : List ℕ) (ends : ℕ) : Type 0 where
+  pub rest : List ℕ
+  pub bytes : spelled plan ≡ taken ++ rest
+  pub end : 0 < ends → has_end plan ≡ true
+
+abbrev pub FewFaults : Option (List ReadItem) → Option (List WriteItem) → ℕ → Type 0
+FewFaults None rules faults = Unit {0}
+FewFaults (Some plan) None faults = Unit {0}
+FewFaults (Some plan) (Some rules) faults = faults ≤ fails_in plan + write_fails_in rules
+
+abbrev pub PlaysReads : Option (List ReadItem) → List ℕ → ℕ → Type 0
+PlaysReads None taken ends = Unit {0}
+PlaysReads (Some plan) taken ends = FitsPlan plan taken ends
+
+pub record Plays (plans : Plans) (n : ℕ) (taken : List ℕ) (all : List Use) : Type 0 where
+  pub reads : PlaysReads (plans.reads n) taken (ends_for n all)
+  pub faults : FewFaults (plans.reads n) (plans.writes n) (faults_for n all)
+
+-- a connection at number n, over all uses of the run
+abbrev pub IsExplained : Login → Plans → ℕ → List Use → Handle → Type 0
+IsExplained login plans n all Absent = Unit {0}
+IsExplained login plans n all Dialing = plans.reads n ≡ None
+IsExplained login plans n all (Joined there k) = IsSaid login k × Plays plans n k.taken all
+
+abbrev pub AreExplained : Login → Plans → List Use → ℕ → List Handle → Type 0
+AreExplained login plans all n [] = Unit {0}
+AreExplained login plans all n (h ∷ hs) = IsExplained login plans n all h × AreExplained login plans all (suc n) hs
+
+-- so it holds behind each line
+abbrev pub EachExplained : Login → Plans → List Line → Type 0
+EachExplained login plans [] = Unit {0}
+EachExplained login plans (l ∷ ls) = AreExplained login plans (uses_of (l ∷ ls)) 0 l.handles × EachExplained login plans ls
+
+-- What the steps came to, over a world with these plans.
+pub record Headline (login : Login) (plans : Plans) (steps : List Step) (answers : List StepAnswer) (tapes : List Tape) : Type 0 where
+  -- the transcript's lines, the newest first: one answer for each step
+  pub lines : List Line
+  pub steps_are : steps_of lines ≡ steps
+  pub answered : map answer_view answers ≡ answers_of lines
+  -- each answer is what the step may come to behind the earlier ones, with its cause
+  pub grown : AreGrown login lines
+  -- behind each line each connection's calls, bytes and rows are explained, and fit the plan
+  pub explained : EachExplained login plans lines
+  -- the tapes are what the connections kept
+  pub tapes_are : map tape_view tapes ≡ tapes_in 0 (handles_after lines)
+
+-- so far in a run
+pub record SoFar {L : Type 0} (look : L → Looks) (login : Login) (plans : Plans) (done : List Step) (slots : List (Slot L)) (answers : List StepAnswer) : Type 0 where
+  pub lines : List Line
+  pub steps_are : steps_of lines ≡ done
+  pub answered : map answer_view answers ≡ answers_of lines
+  pub handles_are : map handle_of slots ≡ handles_after lines
+  pub stood : AreStood login slots
+  pub played : ArePlayed look plans (uses_of lines) 0 slots
+  pub silent : (m : ℕ) → length slots ≤ m → IsSilent m (uses_of lines)
+  pub grown : AreGrown login lines
+  pub explained : EachExplained login plans lines

@@ -1,0 +1,91 @@
+//! What a connection keeps of what it did.
+
+ghost use Rattle.std.specs.Prelude.{◌≡◌, ◌++◌, map, IfOk};
+ghost use Rattle.my_run.specs.Slot.{asked_in};
+ghost use Rattle.my_run.specs.Tapes.{answer_in as answer_of, tape_call as call_of, open_call as open_of};
+
+use crate::transcript::TapeCall;
+use my_session::{Answer, Call, Error};
+use my_value::Row;
+use my_wire::NoMemory;
+use std::alloc::Global;
+
+/// How a call ended.
+#[derive(Drop)]
+pub enum Said {
+    Answered(Answer),
+    Failed(Error),
+    /// It was cancelled, which closed the session or not.
+    Cancelled(bool),
+}
+
+/// A call that ended.
+#[derive(Drop)]
+pub struct DoneCall {
+    pub call: Call,
+    /// How many bytes were sent when it began.
+    pub sent_from: u64,
+    pub said: Said,
+}
+
+/// A call that has no answer yet.
+#[derive(Drop)]
+pub struct OpenCall {
+    pub call: Call,
+    /// How many bytes were sent when it began.
+    pub sent_from: u64,
+    /// The rows that came so far, where it gathers a set's rows.
+    pub rows: Option<Vec<Row>>,
+}
+
+// A call that was cancelled has no answer.
+fn answer_in(said: Said) -> Option<Result<Answer, Error>>
+    ensures { result ≡ answer_of said }
+{
+    match said {
+        Said::Answered(answer) => Some(Ok(answer)),
+        Said::Failed(error) => Some(Err(error)),
+        Said::Cancelled(_) => None,
+    }
+}
+
+fn tape_call(call: DoneCall) -> TapeCall
+    ensures { result ≡ call_of call }
+{
+    TapeCall {
+        call: call.call,
+        sent_from: call.sent_from,
+        answer: answer_in(call.said),
+    }
+}
+
+// Nor has one that is open.
+fn open_call(alloc: Global, pending: Option<OpenCall>) -> Result<Vec<TapeCall>, NoMemory>
+    ensures { IfOk result (λ tape. tape.items ≡ open_of (asked_in pending)) }
+{
+    let mut tape = Vec::new(alloc);
+    if let Some(open) = pending {
+        tape.push(TapeCall {
+            call: open.call,
+            sent_from: open.sent_from,
+            answer: None,
+        })?;
+    }
+    Ok(tape)
+}
+
+/// The calls of a connection as a transcript shows them, the oldest first.
+pub fn tape_calls(
+    alloc: Global,
+    mut calls: Vec<DoneCall>,
+    pending: Option<OpenCall>,
+) -> Result<Vec<TapeCall>, NoMemory>
+    ensures { IfOk result (λ tape. tape.items ≡ map call_of calls.items ++ open_of (asked_in pending)) }
+{
+    let mut tape = open_call(alloc, pending)?;
+    'calls: while let Some(call) = calls.pop() {
+        tape.push(tape_call(call))?;
+    }
+    tape.reverse();
+    Ok(tape)
+}
