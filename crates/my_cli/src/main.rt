@@ -3,6 +3,8 @@
 
 mod help;
 #[cfg(test)]
+mod set_tests;
+#[cfg(test)]
 mod tests;
 #[cfg(test)]
 mod world_tests;
