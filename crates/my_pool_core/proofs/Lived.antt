@@ -1,6 +1,6 @@
 -- The live requests with their queue: what a request that changes, ends or comes leaves.
-use Rattle.std.proofs.Common.{◌≡◌, ◌≢◌, ℕ, ◌+◌, ◌-◌, ◌^◌, ◌<◌, ◌≤◌, ◌⊎◌, ◌++◌, Bool, true, false, cond, Option, Some, None, List, [], ◌∷◌, length, get_or, set, take, drop, map, zero, suc, refl, sym, ap, ◌∙◌, subst, arith, inl, inr}
-use Rattle.std.specs.Prelude.{remove, replicate}
+use Rattle.std.proofs.Common.{◌≡◌, ℕ, ◌+◌, ◌^◌, ◌<◌, ◌≤◌, ◌++◌, Bool, true, false, cond, Option, Some, None, List, [], ◌∷◌, length, get_or, set, take, drop, map, zero, suc, refl, sym, ap, ◌∙◌, subst, arith, inl, inr}
+use Rattle.std.specs.Prelude.{remove}
 use Rattle.std.proofs.lemmas.Bool.{cases_eq, cases_lt}
 use Rattle.std.proofs.lemmas.List.{length-map, get_or_read, map-set, map-append, take-map, drop-map}
 use Rattle.my_wait_heap.specs.Ages.{age_of, how_many as how_many_held}
@@ -11,7 +11,7 @@ use Rattle.my_pool_core.specs.Sound.{IsRising}
 use Rattle.my_pool_core.specs.Live.{age_if, IsQueue, IsLive}
 use Rattle.my_pool_core.proofs.Finding.{one, count-le-length, count-push}
 use Rattle.my_pool_core.proofs.Searching.{rising-at}
-use Rattle.my_pool_core.proofs.Queue.{queue-set, queue-removed, queue-slot, queue-pushed}
+use Rattle.my_pool_core.proofs.Queue.{queue-set, queue-removed, queue-pushed}
 
 -- ---- counts at a place ----
 

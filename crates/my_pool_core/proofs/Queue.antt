@@ -1,8 +1,8 @@
 -- The slots of the requests beside those of the heap, on plain lists.
-use Rattle.std.proofs.Common.{◌≡◌, ◌≢◌, ℕ, ◌+◌, ◌-◌, ◌<◌, ◌≤◌, ◌⊎◌, ◌++◌, Option, Some, None, List, [], ◌∷◌, length, get_or, set, take, drop, length-set, length-append, get_or-set_same, get_or-set_other, zero, suc, refl, sym, ap, ◌∙◌, subst, arith, inl, inr}
+use Rattle.std.proofs.Common.{◌≡◌, ℕ, ◌+◌, ◌-◌, ◌<◌, ◌≤◌, ◌⊎◌, ◌++◌, Option, Some, None, List, [], ◌∷◌, length, get_or, set, take, drop, length-set, length-append, get_or-set_same, get_or-set_other, zero, suc, refl, sym, ap, ◌∙◌, subst, arith, inl, inr}
 use Rattle.std.specs.Prelude.{replicate, remove}
 use Rattle.std.proofs.lemmas.Bool.{cases_eq, cases_lt}
-use Rattle.std.proofs.lemmas.List.{get_or_append_left, get_or_past, length_push, get_or_push, length-replicate, take-set, drop-set-lt}
+use Rattle.std.proofs.lemmas.List.{get_or_append_left, get_or_past, length_push, get_or_push, take-set, drop-set-lt}
 use Rattle.std.proofs.lemmas.List.Edits.{length-remove, get_or-remove_below, get_or-remove_above}
 use Rattle.my_wait_heap.specs.Ages.{age_of, how_many}
 use Rattle.my_pool_core.specs.Live.{IsQueue}

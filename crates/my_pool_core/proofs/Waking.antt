@@ -1,17 +1,17 @@
 -- The oldest waiting request is that of the heap's least age.
-use Rattle.std.proofs.Common.{◌≡◌, ◌≢◌, ℕ, ◌+◌, ◌<◌, ◌≤◌, ◌⊎◌, ◌++◌, Bool, true, false, cond, eqb, leb, Option, Some, None, List, [], ◌∷◌, length, get_or, set, map, zero, suc, refl, sym, ap, ◌∙◌, subst, arith, inl, inr}
+use Rattle.std.proofs.Common.{◌≡◌, ℕ, ◌+◌, ◌<◌, ◌≤◌, ◌++◌, Bool, true, false, cond, Option, Some, None, List, [], ◌∷◌, length, get_or, map, zero, suc, refl, sym, ap, ◌∙◌, subst, arith, inl, inr}
 use Rattle.std.specs.Prelude.{nat_le, is_some, ◌||◌, ◌&&◌, ◌==◌, not}
 use Rattle.std.specs.List.{list_any, position}
-use Rattle.std.proofs.lemmas.Bool.{cases_eq, ne_eqb, eq-eqb, eqb-true, leb-false, lt-leb}
-use Rattle.std.proofs.lemmas.List.{length-map, map-append}
+use Rattle.std.proofs.lemmas.Bool.{cases_eq, ne_eqb, eq-eqb, leb-false, lt-leb}
+use Rattle.std.proofs.lemmas.List.{map-append}
 use Rattle.my_wait_heap.specs.Ages.{age_of, IsLeast, how_many as how_many_held}
 use Rattle.my_pool_core.specs.declared.request.Request.{Request}
 use Rattle.my_pool_core.specs.declared.request.Standing.TheVariants.{Woken}
 use Rattle.my_pool_core.specs.Lists.{how_many, change_first}
-use Rattle.my_pool_core.specs.Requests.{last_age, asking, has_age, is_waiting, is_dialing, may_dial, standing_as, roused, wake, wake_all, waits_up_to, set_standing}
+use Rattle.my_pool_core.specs.Requests.{last_age, asking, has_age, is_waiting, is_dialing, may_dial, standing_as, roused, wake, wake_all, waits_up_to}
 use Rattle.my_pool_core.specs.Events.{with_last}
 use Rattle.my_pool_core.specs.Sound.{IsRising}
-use Rattle.my_pool_core.specs.Live.{age_if, IsQueue, IsLive}
+use Rattle.my_pool_core.specs.Live.{age_if, IsLive}
 use Rattle.my_pool_core.proofs.Finding.{one, any-position, position-isnt}
 
 pub count-waiting : (rs : List Request) → how_many_held (map age_if rs) ≡ how_many is_waiting rs

@@ -1,6 +1,4 @@
-use Rattle.std.proofs.Common.{◌≡◌, ℕ, ◌+◌, ◌-◌, ◌*◌, ◌/◌, ◌<◌, ◌≤◌, length, get_or, ap, arith}
-use Rattle.my_pool_core.specs.declared.request.Request.{Request}
-use Rattle.my_pool_core.specs.Requests.{asking}
+use Rattle.std.proofs.Common.{◌+◌, ◌-◌, ◌/◌, ◌<◌, length, arith}
 use Rattle.my_pool_core.proofs.Searching.{below-from, above-from, halved}
 use Rattle.my_pool_core.proofs.live.first_from.Goals as goal
 

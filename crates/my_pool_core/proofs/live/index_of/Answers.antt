@@ -1,9 +1,8 @@
-use Rattle.std.proofs.Common.{◌≡◌, ◌∙◌, ℕ, ◌<◌, ◌≤◌, ap, get_or, length, sym, arith}
+use Rattle.std.proofs.Common.{◌∙◌, ◌<◌, ap, get_or, length, sym, arith}
 use Rattle.std.proofs.lemmas.Bool.{cases_eq, cases_lt}
 use Rattle.my_pool_core.specs.Requests.{asking}
 use Rattle.my_pool_core.proofs.Searching.{rising-at, position-at, position-none}
 use Rattle.std.proofs.Common.{inl, inr}
-use Rattle.my_pool_core.proofs.Queue.{queue-set, queue-removed, queue-more, queue-slot, queue-pushed}
 use Rattle.my_pool_core.proofs.live.index_of.Goals as goal
 
 pub returns-then-first-requests-clause-answer : goal.returns-then-first-requests-clause-answer

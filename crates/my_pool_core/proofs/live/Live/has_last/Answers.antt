@@ -1,4 +1,4 @@
-use Rattle.std.proofs.Common.{sym, ap, ◌∙◌}
+use Rattle.std.proofs.Common.{ap, ◌∙◌}
 use Rattle.std.specs.Prelude.{is_some}
 use Rattle.my_pool_core.specs.Requests.{has_age, last_age}
 use Rattle.my_pool_core.proofs.Waking.{any-is-some}

@@ -1,8 +1,6 @@
-use Rattle.std.proofs.Common.{◌≡◌, ℕ, ◌++◌, ◌∷◌, [], Some, None, false, length, get_or, set, refl, sym, ap, ◌∙◌, arith}
+use Rattle.std.proofs.Common.{◌++◌, ◌∷◌, [], None, false, set, refl, sym, ap, ◌∙◌, arith}
 use Rattle.std.specs.Prelude.{is_ok, if◌then◌else◌, remove}
-use Rattle.my_pool_core.specs.declared.request.Request.{Request}
 use Rattle.my_pool_core.specs.Requests.{asking, is_dialing, is_queued}
-use Rattle.my_pool_core.specs.Live.{IsLive}
 use Rattle.my_pool_core.proofs.Lived.{read-at, live-counted, live-few, live-removed, live-as, held-few}
 use Rattle.my_pool_core.proofs.live.Live.remove_at.Goals as goal
 

@@ -1,4 +1,4 @@
-use Rattle.std.proofs.Common.{◌≡◌, ◌<◌, sym, ap, ◌∙◌, arith}
+use Rattle.std.proofs.Common.{sym, ap, ◌∙◌, arith}
 use Rattle.my_pool_core.specs.Lists.{how_many}
 use Rattle.my_pool_core.specs.Requests.{is_waiting, wake_all}
 use Rattle.my_pool_core.proofs.Waking.{wake-fewer, wake-all-wake, all-awake}

@@ -1,10 +1,8 @@
-use Rattle.std.proofs.Common.{◌≡◌, true, sym, ap, ◌∙◌, subst, arith, inl, inr}
+use Rattle.std.proofs.Common.{◌≡◌, true, sym, ◌∙◌, subst, arith, inl, inr}
 use Rattle.my_pool_core.specs.contracts.pool.Core.{the_view}
 use Rattle.my_pool_core.proofs.Keeping.{kept-cancel}
 use Rattle.my_pool_core.specs.Events.{may_cancel}
 use Rattle.my_pool_core.specs.declared.request.Standing.TheVariants.{Asks, Waits, Woken, Dials, Checks}
-use Rattle.std.specs.Prelude.{find}
-use Rattle.my_pool_core.specs.Requests.{has_age}
 use Rattle.my_pool_core.proofs.pool.Core.cancel.Goals as goal
 
 pub invariant_of-self : goal.invariant_of-self
