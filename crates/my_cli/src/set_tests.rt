@@ -17,17 +17,20 @@ struct Talk {
 }
 
 // Two sets of two columns: (1, 2), (3, 4), and (5, 6).
-const TWO_SETS: &str = "packet 0 1 02\npacket 0 2 036465660000000131000c3f0001000000088100000000\npacket 0 3 036465660000000132000c3f0001000000088100000000\npacket 0 4 01310132\npacket 0 5 01330134\npacket 0 6 fe00000a000000\npacket 0 7 02\npacket 0 8 036465660000000135000c3f0001000000088100000000\npacket 0 9 036465660000000136000c3f0001000000088100000000\npacket 0 10 01350136\npacket 0 11 fe000002000000\nturn 0\n";
+const TWO_SETS: &str =
+    "packet 0 1 02\npacket 0 2 036465660000000131000c3f0001000000088100000000\npacket 0 3 036465660000000132000c3f0001000000088100000000\npacket 0 4 01310132\npacket 0 5 01330134\npacket 0 6 fe00000a000000\npacket 0 7 02\npacket 0 8 036465660000000135000c3f0001000000088100000000\npacket 0 9 036465660000000136000c3f0001000000088100000000\npacket 0 10 01350136\npacket 0 11 fe000002000000\nturn 0\n";
 
 // An OK with more behind it, an ERR, and the OK of the next command.
-const OK_THEN_ERR: &str = "packet 0 1 0000000a000000\npacket 0 2 ff2804233432303030424c41424c41\nturn 0\npacket 0 1 00000002000000\nturn 0\n";
+const OK_THEN_ERR: &str =
+    "packet 0 1 0000000a000000\npacket 0 2 ff2804233432303030424c41424c41\nturn 0\npacket 0 1 00000002000000\nturn 0\n";
 
 // An ERR, and the OK of the next command.
 const ERR_THEN_OK: &str =
     "packet 0 1 ff280423343230303058\nturn 0\npacket 0 1 00000002000000\nturn 0\n";
 
 // A row whose bytes are held in the middle.
-const HELD_ROW: &str = "packet 0 1 01\npacket 0 2 036465660000000131000c3f0001000000088100000000\nbytes 0 0200\nwait 0\nbytes 0 00030131\n";
+const HELD_ROW: &str =
+    "packet 0 1 01\npacket 0 2 036465660000000131000c3f0001000000088100000000\nbytes 0 0200\nwait 0\nbytes 0 00030131\n";
 
 // An empty packet in the place of a row.
 const EMPTY_ROW: &str =
