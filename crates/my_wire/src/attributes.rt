@@ -54,15 +54,23 @@ fn place_of(pairs: &[Attribute], key: &[u8]) -> usize
     greater_of(pairs, key).unwrap_or(pairs.len())
 }
 
+// A second value of the same pair.
+fn copy_pair(alloc: Global, pair: &Attribute) -> Result<Attribute, AllocError>
+    ensures { IfOk result (λ copy. copy ≡ pair.now) }
+{
+    Ok(Attribute {
+        key: pair.key.copy(alloc)?,
+        value: pair.value.copy(alloc)?,
+    })
+}
+
 // A second list of the same pairs.
 fn copy_pairs(alloc: Global, pairs: &[Attribute]) -> Result<Vec<Attribute>, AllocError>
     ensures { IfOk result (λ copies. copies.items ≡ pairs.now) }
 {
     let mut copies = Vec::new(alloc);
     for pair in pairs {
-        let key = pair.key.copy(alloc)?;
-        let value = pair.value.copy(alloc)?;
-        copies.push(Attribute { key, value })?;
+        copies.push(copy_pair(alloc, pair)?)?;
     }
     Ok(copies)
 }

@@ -12,7 +12,7 @@ pub use statement::{BulkExecute, Execute, Parameter, ParameterType};
 pub use write::write_client;
 
 /// A packet of the client.
-#[derive(Debug, Drop)]
+#[derive(Drop)]
 pub enum ClientPacket {
     /// The answer to the server's greeting.
     Response(HandshakeResponse),

@@ -6,13 +6,12 @@ ghost use Rattle.my_wire.specs.declared.fault.CodecError.TheVariants.{Fault, NoM
 use std::alloc::AllocError;
 use thiserror::Error;
 
-/// What is wrong with a stream of chunks, or with a payload that is to be sent.
+/// What is wrong with a stream of chunks, or with a payload that is to be sent: a chunk came with the number `found` where
+/// `expected` is the next one, or a payload has at least `length` bytes, which is more than `limit`.
 #[derive(Clone, Copy, Debug, PartialEq, Eq, Error)]
 pub enum CodecFault {
-    /// A chunk came with the number `found` where `expected` is the next one.
     #[error("packet out of order: expected number {expected}, found {found}")]
     OutOfOrder { expected: u8, found: u8 },
-    /// A payload has at least `length` bytes, which is more than `limit`.
     #[error("packet too large: {length} bytes, the limit is {limit}")]
     TooLarge { length: u64, limit: u64 },
 }

@@ -6,10 +6,10 @@ ghost use Rattle.my_wire.specs.declared.read_error.ReadError.TheVariants.{NoMemo
 use std::alloc::AllocError;
 use thiserror::Error;
 
-/// What a reader of packets answers where it gives no record.
+/// What a reader of packets answers where it gives no record: the payload is no record of the kind that is read, or an
+/// allocation failed.
 #[derive(Clone, Copy, Debug, PartialEq, Eq, Error)]
 pub enum ReadError {
-    /// The payload is no record of the kind that is read.
     #[error("malformed packet")]
     Malformed,
     #[error("out of memory")]

@@ -14,7 +14,7 @@ use crate::writing::{put_len, put_text, put_text0, put_u8, put_u16, put_u32};
 use std::alloc::{AllocError, Global};
 
 /// A packet of the server.
-#[derive(Debug, Drop)]
+#[derive(Drop)]
 pub enum ServerPacket {
     /// Sent first.
     Greeting(Greeting),

@@ -1,4 +1,4 @@
-use my_wire::{Attributes, Blob, Text};
+use my_wire::{Attributes, Blob, Text, read_eof};
 use std::test::Fail;
 
 #[test]
@@ -7,12 +7,21 @@ fn ample_copies(rt: HostRuntime) -> Result<(), Fail> {
     let text = Text::from_str(alloc, "x")?;
     assert_eq!(rt; text.copy(alloc)?.as_str(), "x");
     let mut attributes = Attributes::new(alloc);
-    for key in [b"b", b"a"] {
-        let value = Blob::new(alloc);
-        attributes.put(Blob::from_slice(alloc, key)?, value)?;
-    }
+    attributes.put(Blob::from_slice(alloc, b"b")?, Blob::new(alloc))?;
+    attributes.put(Blob::from_slice(alloc, b"a")?, Blob::new(alloc))?;
     let copy = attributes.copy(alloc)?;
-    let keys = copy.as_slice().iter().map(|pair| pair.key.as_slice());
-    assert!(rt; keys.eq([b"a".as_slice(), b"b".as_slice()].into_iter()));
+    let [first, second] = copy.as_slice() else {
+        return Err("not two attributes".into());
+    };
+    assert!(rt; first.key.as_slice() == b"a".as_slice());
+    assert!(rt; second.key.as_slice() == b"b".as_slice());
+    Ok(())
+}
+
+#[test]
+fn ample_first(rt: HostRuntime) -> Result<(), Fail> {
+    let eof = read_eof(&[0xfe, 1, 0, 2, 0])?;
+    assert_eq!(rt; eof.warnings, 1);
+    assert_eq!(rt; eof.status, 2);
     Ok(())
 }

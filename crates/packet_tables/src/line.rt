@@ -1,15 +1,14 @@
-//! What a reader gives, as a line: the fields of the record in their order, with blanks between.
+//! What a reader gives, as a line: the numbers of the record in their order, each with a blank behind it, and then its
+//! texts, each with a bar.
 
-use my_wire::numbers::take_len;
 use my_wire::{
-    Blob, ColumnCount, OkPacket, ReadError, ServerVersion, read_column, read_column_count,
-    read_end_ok, read_eof, read_err, read_event, read_greeting, read_infile, read_more_data,
-    read_ok, read_prepare_ok, read_switch, server_version,
+    OkPacket, ReadError, read_column, read_column_count, read_end_ok, read_eof, read_err,
+    read_event, read_greeting, read_infile, read_more_data, read_ok, read_prepare_ok, read_switch,
 };
 use std::alloc::{AllocError, Global};
 
 /// Which reader.
-#[derive(Clone, Copy, Debug)]
+#[derive(Clone, Copy)]
 pub enum Kind {
     Greeting,
     Fine,
@@ -29,27 +28,53 @@ pub enum Kind {
     Event,
 }
 
-fn text(alloc: Global, blob: &Blob) -> Result<String, AllocError> {
-    String::from_utf8_lossy(alloc, blob.as_slice())
+fn add_numbers(alloc: Global, line: &mut String, numbers: &[u64]) -> Result<(), AllocError> {
+    for number in numbers {
+        line.push_str(number.to_string(alloc)?.as_str())?;
+        line.push(' ')?;
+    }
+    Ok(())
+}
+
+fn add_texts(alloc: Global, line: &mut String, texts: &[&[u8]]) -> Result<(), AllocError> {
+    for text in texts {
+        line.push_str(String::from_utf8_lossy(alloc, *text)?.as_str())?;
+        line.push('|')?;
+    }
+    Ok(())
+}
+
+fn joined(alloc: Global, numbers: &[u64], texts: &[&[u8]]) -> Result<String, AllocError> {
+    let mut line = String::new(alloc);
+    add_numbers(alloc, &mut line, numbers)?;
+    add_texts(alloc, &mut line, texts)?;
+    Ok(line)
 }
 
 fn greeting(alloc: Global, payload: &[u8]) -> Result<String, ReadError> {
     let greeting = read_greeting(alloc, payload)?;
-    let version = text(alloc, &greeting.version)?;
-    let nonce = text(alloc, &greeting.nonce)?;
-    let plugin = text(alloc, &greeting.plugin)?;
-    Ok(format!(in alloc;
-        "{version} {} {nonce} {} {} {plugin} {}",
-        greeting.id, greeting.capabilities, greeting.status, greeting.extended
-    )?)
+    let numbers = [
+        u64::from(greeting.id),
+        u64::from(greeting.capabilities),
+        u64::from(greeting.status),
+        u64::from(greeting.extended),
+    ];
+    let texts = [
+        greeting.version.as_slice(),
+        greeting.nonce.as_slice(),
+        greeting.plugin.as_slice(),
+    ];
+    Ok(joined(alloc, &numbers, &texts)?)
 }
 
 fn ok(alloc: Global, ok: &OkPacket) -> Result<String, ReadError> {
-    let info = text(alloc, &ok.info)?;
-    Ok(format!(in alloc;
-        "{} {} {} {} {info}",
-        ok.affected, ok.insert, ok.status, ok.warnings
-    )?)
+    let numbers = [
+        ok.affected,
+        ok.insert,
+        u64::from(ok.status),
+        u64::from(ok.warnings),
+    ];
+    Ok(joined(alloc, &numbers, &[ok.info.as_slice()])?)
 }
 
 fn fine(alloc: Global, payload: &[u8]) -> Result<String, ReadError> {
@@ -62,65 +87,80 @@ fn end(alloc: Global, payload: &[u8]) -> Result<String, ReadError> {
 
 fn err(alloc: Global, payload: &[u8], before_response: bool) -> Result<String, ReadError> {
     let err = read_err(alloc, payload, before_response)?;
-    let state = String::from_utf8_lossy(alloc, &err.state)?;
-    Ok(format!(in alloc; "{} {state} {}", err.code, err.message.as_str())?)
+    let texts = [err.state.as_slice(), err.message.as_str().as_bytes()];
+    Ok(joined(alloc, &[u64::from(err.code)], &texts)?)
 }
 
 fn eof(alloc: Global, payload: &[u8]) -> Result<String, ReadError> {
     let eof = read_eof(payload)?;
-    Ok(format!(in alloc; "{} {}", eof.warnings, eof.status)?)
+    let numbers = [u64::from(eof.warnings), u64::from(eof.status)];
+    Ok(joined(alloc, &numbers, &[])?)
 }
 
 fn count(alloc: Global, payload: &[u8], cached: bool) -> Result<String, ReadError> {
-    let ColumnCount { count, skipped } = read_column_count(payload, cached)?;
-    Ok(format!(in alloc; "{count} {skipped}")?)
+    let columns = read_column_count(payload, cached)?;
+    let numbers = [u64::from(columns.count), u64::from(columns.skipped)];
+    Ok(joined(alloc, &numbers, &[])?)
 }
 
 fn column(alloc: Global, payload: &[u8]) -> Result<String, ReadError> {
     let column = read_column(alloc, payload)?;
-    let schema = text(alloc, &column.schema)?;
-    let table = text(alloc, &column.table)?;
-    let org_table = text(alloc, &column.org_table)?;
-    let name = text(alloc, &column.name)?;
-    let org_name = text(alloc, &column.org_name)?;
-    let names = format!(in alloc; "{schema}.{table}.{org_table}.{name}.{org_name}")?;
-    Ok(format!(in alloc;
-        "{names} {} {} {} {} {}",
-        column.charset, column.length, column.column_type, column.flags, column.decimals
-    )?)
+    let numbers = [
+        u64::from(column.charset),
+        u64::from(column.length),
+        u64::from(column.column_type),
+        u64::from(column.flags),
+        u64::from(column.decimals),
+    ];
+    let texts = [
+        column.schema.as_slice(),
+        column.table.as_slice(),
+        column.org_table.as_slice(),
+        column.name.as_slice(),
+        column.org_name.as_slice(),
+    ];
+    Ok(joined(alloc, &numbers, &texts)?)
 }
 
 fn switch(alloc: Global, payload: &[u8]) -> Result<String, ReadError> {
     let request = read_switch(alloc, payload)?;
-    let plugin = text(alloc, &request.plugin)?;
-    let nonce = text(alloc, &request.nonce)?;
-    Ok(format!(in alloc; "{plugin} {nonce}")?)
+    let texts = [request.plugin.as_slice(), request.nonce.as_slice()];
+    Ok(joined(alloc, &[], &texts)?)
 }
 
 fn more(alloc: Global, payload: &[u8]) -> Result<String, ReadError> {
     let more = read_more_data(payload)?;
-    Ok(format!(in alloc; "{}", more.kind)?)
+    Ok(joined(alloc, &[u64::from(more.kind)], &[])?)
 }
 
 fn prepared(alloc: Global, payload: &[u8]) -> Result<String, ReadError> {
     let ok = read_prepare_ok(payload)?;
-    Ok(format!(in alloc; "{} {} {} {}", ok.id, ok.columns, ok.params, ok.warnings)?)
+    let numbers = [
+        u64::from(ok.id),
+        u64::from(ok.columns),
+        u64::from(ok.params),
+        u64::from(ok.warnings),
+    ];
+    Ok(joined(alloc, &numbers, &[])?)
 }
 
 fn infile(alloc: Global, payload: &[u8]) -> Result<String, ReadError> {
     let request = read_infile(alloc, payload)?;
-    Ok(text(alloc, &request.name)?)
+    Ok(joined(alloc, &[], &[request.name.as_slice()])?)
 }
 
 fn event(alloc: Global, payload: &[u8]) -> Result<String, ReadError> {
     let event = read_event(alloc, payload)?;
-    let body = text(alloc, &event.body)?;
-    let table = event.table_id().unwrap_or(0);
-    let place = format!(in alloc; "{} {} {}", event.size, event.position, event.flags)?;
-    Ok(format!(in alloc;
-        "{} {} {} {place} {body} {table}",
-        event.timestamp, event.kind, event.server
-    )?)
+    let numbers = [
+        u64::from(event.timestamp),
+        u64::from(event.kind),
+        u64::from(event.server),
+        u64::from(event.size),
+        u64::from(event.position),
+        u64::from(event.flags),
+        event.table_id().unwrap_or(0),
+    ];
+    Ok(joined(alloc, &numbers, &[event.body.as_slice()])?)
 }
 
 /// What the reader of this kind gives.

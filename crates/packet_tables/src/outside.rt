@@ -58,32 +58,24 @@ fn writes<K: Sink>(sink: &mut K) -> [SinkStep; 3] {
 #[test]
 fn ample_sources(rt: HostRuntime) -> Result<(), Fail> {
     let mut memory = MemSource::new(b"abc".to_vec(rt.alloc())?);
-    let [first, second, third] = reads(&mut memory);
-    assert_eq!(rt; first, SourceStep::Got(2));
-    assert_eq!(rt; second, SourceStep::Got(1));
-    assert_eq!(rt; third, SourceStep::End);
+    let steps = reads(&mut memory);
+    assert!(rt; steps == [SourceStep::Got(2), SourceStep::Got(1), SourceStep::End]);
     let mut reader = StdSource::new(Failing { turns: 0 });
-    let [first, second, third] = reads(&mut reader);
-    assert_eq!(rt; first, SourceStep::Got(1));
-    assert_eq!(rt; second, SourceStep::Failed);
-    assert_eq!(rt; third, SourceStep::End);
-    assert_eq!(rt; reader.faults, 1);
+    let steps = reads(&mut reader);
+    assert!(rt; steps == [SourceStep::Got(1), SourceStep::Failed, SourceStep::End]);
+    assert!(rt; reader.faults == 1);
     Ok(())
 }
 
 #[test]
 fn ample_sinks(rt: HostRuntime) -> Result<(), Fail> {
     let mut memory = MemSink::new(rt.alloc(), 3)?;
-    let [first, second, third] = writes(&mut memory);
-    assert_eq!(rt; first, SinkStep::Took(2));
-    assert_eq!(rt; second, SinkStep::Took(1));
-    assert_eq!(rt; third, SinkStep::Failed);
-    assert_eq!(rt; memory.taken(), b"abc".as_slice());
+    let steps = writes(&mut memory);
+    assert!(rt; steps == [SinkStep::Took(2), SinkStep::Took(1), SinkStep::Failed]);
+    assert!(rt; memory.taken() == b"abc".as_slice());
     let mut writer = StdSink::new(Failing { turns: 0 });
-    let [first, second, third] = writes(&mut writer);
-    assert_eq!(rt; first, SinkStep::Took(1));
-    assert_eq!(rt; second, SinkStep::Failed);
-    assert_eq!(rt; third, SinkStep::Failed);
-    assert_eq!(rt; writer.faults, 2);
+    let steps = writes(&mut writer);
+    assert!(rt; steps == [SinkStep::Took(1), SinkStep::Failed, SinkStep::Failed]);
+    assert!(rt; writer.faults == 2);
     Ok(())
 }

@@ -28,12 +28,9 @@ fn are_read(rt: &impl Abort, alloc: Global, table: &[Told]) -> Result<(), Fail> 
     for (kind, payload, fronts, line) in table {
         let told = read(alloc, *kind, payload)?;
         let text = told.as_ref().map(|t| t.as_str());
-        assert!(rt; text == *line, "{kind:?}: {text:?}, not {line:?}");
-        assert_eq!(rt;
-            fronts_of(alloc, *kind, payload)?,
-            *fronts,
-            "fronts of {kind:?} {line:?}"
-        );
+        assert!(rt; text == *line, "{payload:?}: {text:?}");
+        let found = fronts_of(alloc, *kind, payload)?;
+        assert!(rt; found == *fronts, "{payload:?}: {found} fronts");
     }
     Ok(())
 }

@@ -11,7 +11,7 @@ use my_wire::{
 use std::alloc::{AllocError, Global};
 
 /// Which packet.
-#[derive(Clone, Copy, Debug)]
+#[derive(Clone, Copy)]
 pub enum Case {
     /// With no scramble.
     Login { capabilities: u32, extended: u32 },

@@ -1,5 +1,6 @@
 use crate::sent::{Case, packet_of};
-use my_wire::write_client;
+use my_wire::{NoMemory, write_client};
+use std::alloc::Global;
 use std::test::Fail;
 
 // What a client sends, and its payload.
@@ -81,12 +82,17 @@ const SENT: &[(Case, &[u8])] = &[
     ),
 ];
 
+fn written(alloc: Global, case: Case) -> Result<Vec<u8>, NoMemory> {
+    let packet = packet_of(alloc, case)?;
+    write_client(alloc, &packet)
+}
+
 #[test]
 fn ample_packets_are_written(rt: HostRuntime) -> Result<(), Fail> {
     let alloc = rt.alloc();
     for (case, want) in SENT {
-        let payload = write_client(alloc, &packet_of(alloc, *case)?)?;
-        assert!(rt; payload.as_slice() == *want, "{case:?}: {payload:?}");
+        let payload = written(alloc, *case)?;
+        assert!(rt; payload.as_slice() == *want, "{payload:?}");
     }
     Ok(())
 }

@@ -11,7 +11,7 @@ use crate::writing::{put_short, put_text, put_text0, put_u8, put_u16, put_u32};
 use std::alloc::{AllocError, Global};
 
 /// The answer to the server's greeting.
-#[derive(Debug, Drop)]
+#[derive(Drop)]
 pub struct HandshakeResponse {
     /// The capabilities that both sides have.
     pub capabilities: u32,
@@ -34,7 +34,7 @@ pub struct HandshakeResponse {
 }
 
 /// A new login on a connection that stands.
-#[derive(Debug, Drop)]
+#[derive(Drop)]
 pub struct ChangeUser {
     /// Cut before its first zero byte, as the other names are.
     pub user: Blob,
@@ -53,12 +53,18 @@ const CONNECT_WITH_DB: u32 = 0x8;
 
 const CONNECT_ATTRS: u32 = 0x10_0000;
 
+fn put_pair(out: &mut Vec<u8>, pair: &Attribute) -> Result<(), AllocError>
+    ensures { OnOk result (out.new.items ≡ out.old.items ++ pair_bytes pair.now) }
+{
+    put_text(out, pair.key.as_slice())?;
+    put_text(out, pair.value.as_slice())
+}
+
 fn put_pairs(out: &mut Vec<u8>, pairs: &[Attribute]) -> Result<(), AllocError>
     ensures { OnOk result (out.new.items ≡ out.old.items ++ flat_map pair_bytes pairs.now) }
 {
     for pair in pairs {
-        put_text(out, pair.key.as_slice())?;
-        put_text(out, pair.value.as_slice())?;
+        put_pair(out, pair)?;
     }
     Ok(())
 }

@@ -9,7 +9,7 @@ use crate::writing::{put_short, put_u8, put_u16, put_u32, put_u64};
 use std::alloc::{AllocError, Global};
 
 /// Transactions of one server.
-#[derive(Debug, Drop, PartialEq, Eq)]
+#[derive(Drop)]
 pub struct Sid {
     /// The server's number.
     pub uuid: [u8; 16],
@@ -18,7 +18,7 @@ pub struct Sid {
 }
 
 /// Makes the client known as a replica.
-#[derive(Debug, Drop)]
+#[derive(Drop)]
 pub struct RegisterSlave {
     /// The client's number among the servers.
     pub server: u32,
@@ -30,7 +30,7 @@ pub struct RegisterSlave {
 }
 
 /// Asks for a binary log from a place in a file on.
-#[derive(Debug, Drop)]
+#[derive(Drop)]
 pub struct Dump {
     /// The place, of which the low 32 bits are sent.
     pub position: u64,
@@ -42,7 +42,7 @@ pub struct Dump {
 }
 
 /// Asks for a binary log without the transactions that are named.
-#[derive(Debug, Drop)]
+#[derive(Drop)]
 pub struct DumpGtid {
     pub position: u64,
     /// The stream ends where the log does.

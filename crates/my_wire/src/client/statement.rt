@@ -18,7 +18,7 @@ pub struct ParameterType {
 }
 
 /// A parameter of a statement.
-#[derive(Debug, Drop, PartialEq, Eq)]
+#[derive(Drop)]
 pub struct Parameter {
     pub form: ParameterType,
     /// The value as it is written, empty where it went ahead; `None` is NULL.
@@ -26,14 +26,14 @@ pub struct Parameter {
 }
 
 /// Executes a statement.
-#[derive(Debug, Drop)]
+#[derive(Drop)]
 pub struct Execute {
     pub statement: u32,
     pub parameters: Vec<Parameter>,
 }
 
 /// Executes a statement of a MariaDB once for each row.
-#[derive(Debug, Drop)]
+#[derive(Drop)]
 pub struct BulkExecute {
     pub statement: u32,
     pub types: Vec<ParameterType>,
