@@ -1,8 +1,6 @@
 -- What a URL's pairs gather is what the setters make of a builder.
 use Rattle.std.proofs.Common.{◌≡◌, ℕ, ◌∙◌, ◌||◌, ◌==◌, nat_lt, codes, unwrap_or, Bool, true, false, List, [], ◌∷◌, Option, Some, None, Result, Ok, Err, if◌then◌else◌, refl, sym, ap, subst}
 use Rattle.form_urlencoded.specs.Form.{raw_pairs}
-use Rattle.url.specs.Parts.{Parts}
-use Rattle.my_opts.specs.declared.error.UrlError.{UrlError}
 use Rattle.my_opts.specs.declared.error.UrlError.TheVariants.{FeatureRequired, InvalidPoolConstraints}
 use Rattle.my_opts.specs.declared.query.TruthOption.{TruthOption}
 use Rattle.my_opts.specs.declared.query.TruthOption.TheVariants.{TcpNodelay, PreferSocket, SecureAuth, ClientFoundRows, EnableCleartextPlugin, ResetConnection, RequireSsl, VerifyCa, VerifyIdentity, BuiltInRoots}
@@ -12,10 +10,11 @@ use Rattle.my_opts.specs.declared.query.Row.{Row}
 use Rattle.my_opts.specs.declared.query.Row.TheVariants.{Truth, Whole32, Whole64, SocketPath, Compression}
 use Rattle.my_opts.specs.declared.query.Gathered.{Gathered}
 use Rattle.my_opts.specs.Opts.{OptsView}
+use Rattle.my_opts.specs.Pool.{Bounds}
 use Rattle.my_opts.specs.Query.{table, row_among, text_pair, put_number, put_truth, set_or_refused, after_row, after_pair, after_pairs, and_then}
-use Rattle.my_opts.specs.Url.{url_of, begun, gathered, finished, options_of}
+use Rattle.my_opts.specs.Url.{begun, gathered, bounds_told, finished}
 use Rattle.my_opts.specs.Values.{truth, whole_number}
-use Rattle.my_opts.specs.Built.{set_number, set_truth, set_where_read, set_row, set_pairs, built_opts, GivesWhatIsBuilt}
+use Rattle.my_opts.specs.Built.{set_number, set_truth, set_where_read, set_row, set_pairs, GivesWhatIsBuilt}
 
 -- the options that what is gathered stands for
 abbrev meant : Gathered → OptsView
@@ -81,8 +80,11 @@ last_ok false false e e' x y ok = cc ok
 
 finish_ok : (g : Gathered) (opts : OptsView) → finished g ≡ Ok opts → opts ≡ meant g
 finish_ok g opts ok =
-    last_ok (nat_lt g.pool_max g.pool_min || g.pool_max == 0) g.require_ssl (InvalidPoolConstraints g.pool_min g.pool_max)
-    (FeatureRequired (codes "tls") (codes "require_ssl")) (meant g) opts ok
+    let with_bounds = (λ (bounds : Bounds). record g.builder { pool_opts = record g.pool { constraints = bounds } }) in
+    let (bounds, told, end) = both_ok (bounds_told g.pool_min g.pool_max g.require_ssl) (λ (b : Bounds). Ok (with_bounds b)) opts ok in
+    sym (of_ok (with_bounds bounds) opts end)
+    ∙ ap with_bounds (last_ok (nat_lt g.pool_max g.pool_min || g.pool_max == 0) g.require_ssl (InvalidPoolConstraints g.pool_min g.pool_max)
+    (FeatureRequired (codes "tls") (codes "require_ssl")) (record { min = g.pool_min; max = g.pool_max }) bounds told)
 
 pub gives-built : (text : List ℕ) → GivesWhatIsBuilt text
 gives-built text url opts at_url at_opts =

@@ -1,6 +1,6 @@
 -- What a text says of options, by the definitions of URLs (the URL Standard): its host, port, user,
 -- password, first segment of the path, and query.
-use Rattle.std.specs.Prelude.{ℕ, ◌==◌, ◌||◌, false, not, List, [], take, drop, codes, bytes_eq, nat_lt, slice_index, Option, Some, None, unwrap_or, option_map, Result, Ok, Err, if◌then◌else◌}
+use Rattle.std.specs.Prelude.{ℕ, ◌==◌, ◌||◌, Bool, false, not, List, [], take, drop, codes, bytes_eq, nat_lt, slice_index, Option, Some, None, unwrap_or, option_map, Result, Ok, Err, if◌then◌else◌}
 use Rattle.std.specs.List.{position_or_len}
 use Rattle.std.specs.Str.Lossy.{utf8_lossy}
 use Rattle.percent_encoding.specs.Percent.{percent_decode}
@@ -13,7 +13,7 @@ use Rattle.my_opts.specs.declared.error.UrlError.{UrlError}
 use Rattle.my_opts.specs.declared.error.UrlError.TheVariants.{FeatureRequired, Invalid, InvalidPoolConstraints, Parse, UnsupportedScheme}
 use Rattle.my_opts.specs.declared.query.Gathered.{Gathered}
 use Rattle.my_opts.specs.Opts.{OptsView, default_opts}
-use Rattle.my_opts.specs.Pool.{default_pool}
+use Rattle.my_opts.specs.Pool.{Bounds, default_pool}
 use Rattle.my_opts.specs.Query.{after_pairs, and_then}
 
 -- percent-encoded bytes as text, with a replacement for what is no UTF-8
@@ -67,14 +67,18 @@ begun url = record {
 abbrev pub gathered : Parts → Result Gathered UrlError
 gathered url = after_pairs (raw_pairs (unwrap_or url.query [])) (begun url)
 
--- the options that were gathered, with their pool; a pool that can't be is refused, and then TLS is
+-- the bounds of a pool; a pool that can't be is refused, and then TLS is
+abbrev pub bounds_told : ℕ → ℕ → Bool → Result Bounds UrlError
+bounds_told min max require_ssl =
+    if nat_lt max min || max == 0 then Err (InvalidPoolConstraints min max)
+    else (if require_ssl then Err (FeatureRequired (codes "tls") (codes "require_ssl"))
+    else Ok (record { min = min; max = max }))
+
+-- the options that were gathered, with their pool
 abbrev pub finished : Gathered → Result OptsView UrlError
 finished g =
-    if nat_lt g.pool_max g.pool_min || g.pool_max == 0 then Err (InvalidPoolConstraints g.pool_min g.pool_max)
-    else (if g.require_ssl then Err (FeatureRequired (codes "tls") (codes "require_ssl"))
-    else Ok (record g.builder {
-      pool_opts = record g.pool { constraints = record { min = g.pool_min; max = g.pool_max } };
-    }))
+    and_then (bounds_told g.pool_min g.pool_max g.require_ssl)
+    (λ bounds. Ok (record g.builder { pool_opts = record g.pool { constraints = bounds } }))
 
 -- the options of a text, or why it gives none
 abbrev pub options_of : List ℕ → Result OptsView UrlError

@@ -5,7 +5,7 @@ ghost use Rattle.url.specs.Host.{host_text};
 ghost use Rattle.url.specs.Parts.{nonempty_host};
 ghost use Rattle.my_opts.specs.Faults.{Tells, IsFault};
 ghost use Rattle.my_opts.specs.Query.{and_then};
-ghost use Rattle.my_opts.specs.Url.{decoded, unless_empty, before_slash, first_segment, url_of, begun, gathered, finished, options_of};
+ghost use Rattle.my_opts.specs.Url.{decoded, unless_empty, before_slash, first_segment, url_of, begun, gathered, bounds_told, finished, options_of};
 
 use crate::builder::OptsBuilder;
 use crate::error::{UrlError, UrlFault};
@@ -86,18 +86,57 @@ fn gather(alloc: Global, url: &Url) -> Result<Gathered, UrlFault>
 fn begin(alloc: Global, url: &Url) -> Result<Gathered, NoMemory>
     ensures { IfOk result (λ g. g ≡ begun url.now) }
 {
-    let builder = OptsBuilder::new(alloc)?
-        .ip_or_hostname(host_of(alloc, url)?)
-        .tcp_port(url.port().unwrap_or(3306))
-        .user(text_unless_empty(alloc, url.username())?)
-        .pass(text_unless_empty(alloc, url.password().unwrap_or(""))?)
-        .db_name(text_unless_empty(alloc, segment(url))?);
+    let host = host_of(alloc, url)?;
+    let login = login_of(alloc, url)?;
+    let builder = OptsBuilder::new(alloc)?;
+    let builder = builder
+        .ip_or_hostname(host)
+        .tcp_port(url.port().unwrap_or(3306));
     Ok(Gathered {
-        builder,
+        builder: login.put_into(builder),
         pool: PoolOpts::new(),
         pool_min: 10,
         pool_max: 100,
         require_ssl: false,
+    })
+}
+
+/// What a URL says of its user.
+#[derive(Drop)]
+struct Login {
+    user: Option<String>,
+    pass: Option<String>,
+    db_name: Option<String>,
+}
+
+impl Login {
+    fn put_into(self, builder: OptsBuilder) -> OptsBuilder
+        ensures { result ≡ record builder {
+          user = option_map string_bytes self.user;
+          pass = option_map string_bytes self.pass;
+          db_name = option_map string_bytes self.db_name;
+        } }
+    {
+        builder
+            .user(self.user)
+            .pass(self.pass)
+            .db_name(self.db_name)
+    }
+}
+
+/// What the URL says of its user.
+fn login_of(alloc: Global, url: &Url) -> Result<Login, NoMemory>
+    ensures user { IfOk result (λ l. option_map string_bytes l.user ≡ option_map decoded (unless_empty url.now.username)) }
+    ensures pass { IfOk result (λ l. option_map string_bytes l.pass ≡ option_map decoded (unless_empty url.now.password)) }
+    ensures db_name { IfOk result (λ l. option_map string_bytes l.db_name ≡ option_map decoded (first_segment url.now.path)) }
+{
+    let user = text_unless_empty(alloc, url.username())?;
+    let pass = text_unless_empty(alloc, url.password().unwrap_or(""))?;
+    let db_name = text_unless_empty(alloc, segment(url))?;
+    Ok(Login {
+        user,
+        pass,
+        db_name,
     })
 }
 
@@ -153,15 +192,29 @@ fn up_to_slash(rest: &str) -> &str
 fn finish(alloc: Global, gathered: Gathered) -> Result<OptsBuilder, UrlFault>
     ensures { Tells result (finished gathered) }
 {
-    let Some(constraints) = PoolConstraints::new(gathered.pool_min, gathered.pool_max) else {
-        return Err(UrlFault::Url(UrlError::InvalidPoolConstraints {
-            min: gathered.pool_min,
-            max: gathered.pool_max,
-        }));
+    let constraints = bounds_of(
+        alloc,
+        gathered.pool_min,
+        gathered.pool_max,
+        gathered.require_ssl,
+    )?;
+    Ok(gathered.into_builder(constraints))
+}
+
+/// The bounds of the pool, where nothing that was gathered is refused.
+fn bounds_of(
+    alloc: Global,
+    min: u64,
+    max: u64,
+    require_ssl: bool,
+) -> Result<PoolConstraints, UrlFault>
+    ensures { Tells result (bounds_told min max require_ssl) }
+{
+    let Some(constraints) = PoolConstraints::new(min, max) else {
+        return Err(UrlFault::Url(UrlError::InvalidPoolConstraints { min, max }));
     };
-    if gathered.require_ssl {
+    if require_ssl {
         return Err(feature_required(alloc, "tls", "require_ssl"));
     }
-    let pool = gathered.pool.with_constraints(constraints);
-    Ok(gathered.builder.pool_opts(pool))
+    Ok(constraints)
 }

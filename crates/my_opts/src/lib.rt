@@ -34,6 +34,3 @@ pub use pool::{
 pub use target::Target;
 pub use transaction::IsolationLevel;
 pub use transaction_options::TxOpts;
-
-#[cfg(test)]
-mod tests;

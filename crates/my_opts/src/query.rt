@@ -8,7 +8,7 @@ ghost use Rattle.my_opts.specs.Values.{truth, whole_number};
 use crate::builder::OptsBuilder;
 use crate::error::{UrlError, UrlFault};
 use crate::millis::Millis;
-use crate::pool::PoolOpts;
+use crate::pool::{PoolConstraints, PoolOpts};
 use crate::values::{is_compression, truth_of, whole32, whole64};
 use my_wire::Text;
 use std::alloc::Global;
@@ -99,6 +99,14 @@ fn row_named(name: &str) -> Option<Row>
 }
 
 impl Gathered {
+    /// The options that were gathered, with these bounds of their pool.
+    pub(crate) fn into_builder(self, constraints: PoolConstraints) -> OptsBuilder
+        ensures { result ≡ record self.builder { pool_opts = record self.pool { constraints = constraints } } }
+    {
+        let pool = self.pool.with_constraints(constraints);
+        self.builder.pool_opts(pool)
+    }
+
     /// What is set once this pair is read.
     pub(crate) fn with_pair(
         self,

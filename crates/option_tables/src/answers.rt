@@ -1,0 +1,160 @@
+//! What options answer: whether their host is the machine itself, what a client says that it can do, when a
+//! connection of a pool ends, and what a transaction begins with.
+
+use my_opts::{
+    DEFAULT_PORT, DEFAULT_STMT_CACHE_SIZE, IsolationLevel, Millis, Opts, OptsBuilder,
+    PoolConstraints, PoolOpts, TxOpts,
+};
+use std::alloc::Global;
+use std::test::Fail;
+
+/// Hosts, and whether each is the machine itself.
+const HOSTS: &[(&str, bool)] = &[
+    ("localhost", true),
+    ("127.0.0.1", true),
+    ("127.1.2.3", true),
+    ("::1", true),
+    ("[::1]", true),
+    ("0:0:0:0:0:0:0:1", true),
+    ("", false),
+    ("example", false),
+    ("Localhost", false),
+    ("128.0.0.1", false),
+    ("127.1", false),
+    ("[127.0.0.1]", false),
+    ("::2", false),
+    ("[::1", false),
+    ("[]", false),
+];
+
+/// URLs, and the capabilities of their clients.
+const CAPABILITIES: &[(&str, u32)] = &[
+    ("mysql://h", 0x010F_A281),
+    ("mysql://h/shop", 0x010F_A289),
+    ("mysql://h?client_found_rows=true", 0x010F_A283),
+    ("mysql://h/shop?client_found_rows=true", 0x010F_A28B),
+];
+
+/// Bounds of a pool, and whether a pool can have them.
+const BOUNDS: &[(u64, u64, bool)] = &[
+    (2, 1, false),
+    (0, 0, false),
+    (0, 1, true),
+    (1, 1, true),
+    (u64::MAX, u64::MAX, true),
+];
+
+/// A time to live and its jitter in milliseconds, now, a random word, and the end.
+type Life = (Option<u64>, Option<u64>, u64, u64, Option<u128>);
+
+const LIVES: &[Life] = &[
+    (None, Some(3000), 5, 7, None),
+    (Some(2000), None, 5, 7, Some(2005)),
+    (Some(2000), Some(0), 5, 7, Some(2005)),
+    (Some(2999), Some(3999), 5, 7, Some(5005)),
+    (Some(2000), Some(3000), 5, 8, Some(2005)),
+    (Some(0), None, u64::MAX, 0, Some(18_446_744_073_709_551_615)),
+    (
+        Some(1000),
+        None,
+        u64::MAX,
+        0,
+        Some(18_446_744_073_709_552_615),
+    ),
+];
+
+/// How long idle connections stay in milliseconds, and how many connections stay.
+const IDLE: &[(u64, u64)] = &[(0, 10), (1, 100)];
+
+fn is_loopback(alloc: Global, host: &str) -> Result<bool, Fail> {
+    let host = String::from_str(alloc, host)?;
+    let opts = Opts::from(OptsBuilder::new(alloc)?.ip_or_hostname(host));
+    Ok(opts.addr_is_loopback())
+}
+
+#[test]
+fn ample_hosts_are_told(rt: HostRuntime) -> Result<(), Fail> {
+    for (host, expected) in HOSTS {
+        let told = is_loopback(rt.alloc(), host)?;
+        assert!(rt; told == *expected, "{host}");
+    }
+    Ok(())
+}
+
+#[test]
+fn ample_capabilities_are_told(rt: HostRuntime) -> Result<(), Fail> {
+    for (url, expected) in CAPABILITIES {
+        assert!(rt; url.len() <= 1000);
+        let told = Opts::from_url(rt.alloc(), url)?.get_capabilities().0;
+        assert!(rt; told == *expected, "{url}: {told}");
+    }
+    Ok(())
+}
+
+fn end_of(life: &Life) -> Option<u128> {
+    let (ttl, jitter, now, random, _) = *life;
+    PoolOpts::new()
+        .with_abs_conn_ttl(ttl.map(Millis::from_millis))
+        .with_abs_conn_ttl_jitter(jitter.map(Millis::from_millis))
+        .new_deadline(now, random)
+}
+
+fn kept(ttl: u64) -> u64 {
+    PoolOpts::new()
+        .with_inactive_connection_ttl(Millis::from_millis(ttl))
+        .active_bound()
+}
+
+#[test]
+fn pools_keep_their_bounds(rt: HostRuntime) {
+    for (min, max, expected) in BOUNDS {
+        let told = PoolConstraints::new(*min, *max).is_some();
+        assert!(rt; told == *expected, "{min} {max}");
+    }
+    for life in LIVES {
+        let told = end_of(life);
+        assert!(rt; told == life.4, "{life:?}: {told:?}");
+    }
+    for (ttl, expected) in IDLE {
+        assert!(rt; kept(*ttl) == *expected, "{ttl}");
+    }
+}
+
+/// Levels with their words and numbers.
+const LEVELS: &[(IsolationLevel, &str, u8)] = &[
+    (IsolationLevel::ReadUncommitted, "READ UNCOMMITTED", 0),
+    (IsolationLevel::ReadCommitted, "READ COMMITTED", 1),
+    (IsolationLevel::RepeatableRead, "REPEATABLE READ", 2),
+    (IsolationLevel::Serializable, "SERIALIZABLE", 3),
+];
+
+#[test]
+fn ample_levels_are_told(rt: HostRuntime) -> Result<(), Fail> {
+    for (level, words, number) in LEVELS {
+        let told = format!(in rt.alloc(); "{level}")?;
+        assert!(rt; told.as_str() == *words, "{told}");
+        assert!(rt; level.number() == *number, "{words}");
+    }
+    Ok(())
+}
+
+fn transaction() -> TxOpts {
+    let mut opts = TxOpts::new();
+    opts.with_consistent_snapshot(true)
+        .with_isolation_level(Some(IsolationLevel::ReadCommitted))
+        .with_readonly(Some(false));
+    opts
+}
+
+#[test]
+fn values_keep_what_was_set(rt: HostRuntime) -> Result<(), Fail> {
+    let opts = transaction();
+    assert!(rt; opts.consistent_snapshot());
+    assert!(rt; opts.isolation_level() == Some(IsolationLevel::ReadCommitted));
+    assert!(rt; opts.readonly() == Some(false));
+    assert!(rt; opts.clone()? == opts);
+    assert!(rt; opts != TxOpts::default());
+    assert!(rt; PoolOpts::default().clone()? == PoolOpts::new());
+    assert!(rt; DEFAULT_PORT == 3306 && DEFAULT_STMT_CACHE_SIZE == 32);
+    Ok(())
+}

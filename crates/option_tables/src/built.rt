@@ -1,0 +1,297 @@
+//! Options that are built by calls, with what is told of them and where they lead.
+
+use crate::line::line_of_owned;
+use my_opts::{Millis, Opts, OptsBuilder, PoolConstraints, PoolOpts, Target};
+use my_wire::NoMemory;
+use std::alloc::{AllocError, Global};
+use std::collections::BTreeMap;
+use std::net::{IpAddr, Ipv4Addr, Ipv6Addr};
+use std::test::Fail;
+
+/// Which options.
+#[derive(Clone, Copy, Debug)]
+enum Case {
+    /// Nothing is said.
+    Default,
+    /// With each list.
+    Lists,
+    /// A copy of those, with another port.
+    Copied,
+    /// With each list, and two attributes more.
+    Attributes,
+    /// With each text.
+    Texts,
+    /// With each number.
+    Numbers,
+    /// With each truth value turned.
+    Truths,
+    /// With each option of the pool.
+    Pool,
+    /// A URL's, with numbers past their limits.
+    Limited,
+    /// With what a URL sets too: its line stands beside that URL.
+    Mixed,
+    /// With addresses of which the last is the machine itself.
+    Known,
+}
+
+/// Options, what is told of them, and their target.
+const BUILT: &[(Case, &str, &str)] = &[
+    (
+        Case::Default,
+        "127.0.0.1 3306 loopback",
+        "127.0.0.1 3306 ips=0",
+    ),
+    (
+        Case::Lists,
+        "127.0.0.1 3306 loopback init=A init=B setup=C setup=D ip=10.0.0.1 b=2",
+        "127.0.0.1 3306 ips=1",
+    ),
+    (
+        Case::Copied,
+        "127.0.0.1 1 loopback init=A init=B setup=C setup=D ip=10.0.0.1 b=2",
+        "127.0.0.1 1 ips=1",
+    ),
+    (
+        Case::Attributes,
+        "127.0.0.1 3306 loopback init=A init=B setup=C setup=D ip=10.0.0.1 _os=9 b=2",
+        "127.0.0.1 3306 ips=1",
+    ),
+    (Case::Texts, "foo 3306 user=u pass=p w db=d socket=/s", "/s"),
+    (
+        Case::Numbers,
+        "127.0.0.1 33306 packet=1025 wait=7 conn_ttl=2000 keepalive=5 cache=0 loopback",
+        "127.0.0.1 33306 ips=0",
+    ),
+    (
+        Case::Truths,
+        "127.0.0.1 3306 tcp_nodelay=false prefer_socket=false secure_auth=false client_found_rows enable_cleartext_plugin loopback",
+        "127.0.0.1 3306 ips=0",
+    ),
+    (
+        Case::Pool,
+        "127.0.0.1 3306 abs_ttl=4000 jitter=5000 pool=3..20 max_waiting=6 inactive_ttl=1 interval=1000 reset_connection=false loopback",
+        "127.0.0.1 3306 ips=0",
+    ),
+    (
+        Case::Limited,
+        "localhost 3306 user=root packet=1024 wait=31536000 loopback",
+        "localhost 3306 ips=0",
+    ),
+    (
+        Case::Mixed,
+        "h 7 user=u pass=p w db=d socket=/s conn_ttl=2000 pool=3..20 secure_auth=false",
+        "/s",
+    ),
+    (
+        Case::Known,
+        "example 3306 loopback ip=10.0.0.1 ip=::1",
+        "example 3306 ips=2",
+    ),
+];
+
+fn text(alloc: Global, text: &str) -> Result<String, AllocError> {
+    String::from_str(alloc, text)
+}
+
+fn queries(alloc: Global, first: &str, second: &str) -> Result<Vec<String>, AllocError> {
+    let mut queries = Vec::new(alloc);
+    queries.push(text(alloc, first)?)?;
+    queries.push(text(alloc, second)?)?;
+    Ok(queries)
+}
+
+fn attributes(alloc: Global) -> Result<BTreeMap<String, String>, Fail> {
+    let name = text(alloc, "b")?;
+    let value = text(alloc, "=2")?;
+    let mut attributes = BTreeMap::new(alloc);
+    attributes.insert(name, value)?;
+    Ok(attributes)
+}
+
+fn pair(alloc: Global, first: &str, second: &str) -> Result<(String, String), AllocError> {
+    let first = text(alloc, first)?;
+    Ok((first, text(alloc, second)?))
+}
+
+fn lists(alloc: Global) -> Result<OptsBuilder, Fail> {
+    let init = queries(alloc, "A", "B")?;
+    let setup = queries(alloc, "C", "D")?;
+    let ips = Vec::from_slice(alloc, &[IpAddr::V4(Ipv4Addr::new(10, 0, 0, 1))])?;
+    let attributes = attributes(alloc)?;
+    let builder = OptsBuilder::new(alloc)?.init(init).setup(setup);
+    let builder = builder.resolved_ips(Some(ips));
+    Ok(builder.connect_attributes(Some(attributes)))
+}
+
+fn copied(alloc: Global) -> Result<OptsBuilder, Fail> {
+    let builder = lists(alloc)?;
+    let copy = builder.copy(alloc)?;
+    Ok(copy.tcp_port(1))
+}
+
+fn two_more(alloc: Global) -> Result<OptsBuilder, Fail> {
+    let (first, early) = pair(alloc, "_os", "=1")?;
+    let (second, late) = pair(alloc, "_os", "=9")?;
+    let builder = lists(alloc)?.connect_attribute(alloc, first, early)?;
+    Ok(builder.connect_attribute(alloc, second, late)?)
+}
+
+fn texts(alloc: Global) -> Result<OptsBuilder, Fail> {
+    let (user, pass) = pair(alloc, "u", "p w")?;
+    let (db_name, socket) = pair(alloc, "d", "/s")?;
+    let host = text(alloc, "foo")?;
+    let builder = OptsBuilder::new(alloc)?.ip_or_hostname(host);
+    let builder = builder.user(Some(user)).pass(Some(pass));
+    Ok(builder.db_name(Some(db_name)).socket(Some(socket)))
+}
+
+fn mixed(alloc: Global) -> Result<OptsBuilder, Fail> {
+    let host = text(alloc, "h")?;
+    let bounds = PoolConstraints::new(3, 20).ok_or("no bounds")?;
+    let builder = texts(alloc)?.ip_or_hostname(host).tcp_port(7);
+    let builder = builder
+        .conn_ttl(Some(Millis::from_secs(2)))
+        .secure_auth(false);
+    Ok(builder.pool_opts(PoolOpts::new().with_constraints(bounds)))
+}
+
+fn numbers(builder: OptsBuilder) -> OptsBuilder {
+    builder
+        .tcp_port(33306)
+        .tcp_keepalive(Some(Millis::from_millis(5)))
+        .conn_ttl(Some(Millis::from_secs(2)))
+        .stmt_cache_size(0)
+        .max_allowed_packet(Some(1025))
+        .wait_timeout(Some(7))
+}
+
+fn truths(builder: OptsBuilder) -> OptsBuilder {
+    builder
+        .tcp_nodelay(false)
+        .prefer_socket(false)
+        .secure_auth(false)
+        .client_found_rows(true)
+        .enable_cleartext_plugin(true)
+}
+
+fn pool() -> Option<PoolOpts> {
+    Some(
+        PoolOpts::new()
+            .with_constraints(PoolConstraints::new(3, 20)?)
+            .with_inactive_connection_ttl(Millis::from_millis(1))
+            .with_ttl_check_interval(Millis::from_secs(1))
+            .with_abs_conn_ttl(Some(Millis::from_secs(4)))
+            .with_abs_conn_ttl_jitter(Some(Millis::from_secs(5)))
+            .with_reset_connection(false)
+            .with_max_waiting(Some(6)),
+    )
+}
+
+fn limited(alloc: Global) -> Result<OptsBuilder, Fail> {
+    Ok(
+        OptsBuilder::from_url(alloc, "mysql://root@localhost")?
+            .max_allowed_packet(Some(1))
+            .wait_timeout(Some(99_999_999)),
+    )
+}
+
+fn pooled(alloc: Global) -> Result<OptsBuilder, Fail> {
+    let pool = pool().ok_or("no bounds")?;
+    Ok(OptsBuilder::new(alloc)?.pool_opts(pool))
+}
+
+fn known(alloc: Global) -> Result<OptsBuilder, Fail> {
+    let ips = [
+        IpAddr::V4(Ipv4Addr::new(10, 0, 0, 1)),
+        IpAddr::V6(Ipv6Addr::LOCALHOST),
+    ];
+    let host = text(alloc, "example")?;
+    let ips = Vec::from_slice(alloc, &ips)?;
+    let builder = OptsBuilder::new(alloc)?.ip_or_hostname(host);
+    Ok(builder.resolved_ips(Some(ips)))
+}
+
+fn new(alloc: Global) -> Result<OptsBuilder, Fail> {
+    Ok(OptsBuilder::new(alloc)?)
+}
+
+fn numbered(alloc: Global) -> Result<OptsBuilder, Fail> {
+    Ok(numbers(OptsBuilder::new(alloc)?))
+}
+
+fn turned(alloc: Global) -> Result<OptsBuilder, Fail> {
+    Ok(truths(OptsBuilder::new(alloc)?))
+}
+
+fn builder_of(alloc: Global, case: Case) -> Result<OptsBuilder, Fail> {
+    match case {
+        Case::Default => new(alloc),
+        Case::Lists => lists(alloc),
+        Case::Copied => copied(alloc),
+        Case::Attributes => two_more(alloc),
+        Case::Texts => texts(alloc),
+        Case::Numbers => numbered(alloc),
+        Case::Truths => turned(alloc),
+        Case::Pool => pooled(alloc),
+        Case::Limited => limited(alloc),
+        Case::Mixed => mixed(alloc),
+        Case::Known => known(alloc),
+    }
+}
+
+fn target_line(alloc: Global, target: Target) -> Result<String, AllocError> {
+    match target {
+        Target::Socket(path) => Ok(path.into_string()),
+        Target::Tcp { host, port, ips } => {
+            let known = ips.map_or(0, |ips| ips.as_vec().len());
+            format!(in alloc; "{} {port} ips={known}", host.as_str())
+        }
+    }
+}
+
+fn told(alloc: Global, case: Case) -> Result<String, Fail> {
+    let builder = builder_of(alloc, case)?;
+    Ok(line_of_owned(alloc, Opts::from(builder))?)
+}
+
+fn led(alloc: Global, case: Case) -> Result<String, Fail> {
+    let opts = Opts::from(builder_of(alloc, case)?);
+    let target = opts.target(alloc)?;
+    Ok(target_line(alloc, target)?)
+}
+
+#[test]
+fn ample_builders_give_what_was_set(rt: HostRuntime) -> Result<(), Fail> {
+    for (case, expected, target) in BUILT {
+        let line = told(rt.alloc(), *case)?;
+        assert!(rt; line.as_str() == *expected, "{case:?}: {line}");
+        let place = led(rt.alloc(), *case)?;
+        assert!(rt; place.as_str() == *target, "{case:?}: {place}");
+    }
+    Ok(())
+}
+
+// Whether a copy is equal, and differs with another port.
+fn is_copied(alloc: Global, opts: &Opts) -> Result<bool, NoMemory> {
+    let copy = opts.copy(alloc)?;
+    let is_same = copy == *opts;
+    let other = Opts::from(OptsBuilder::from_opts(copy).tcp_port(2));
+    Ok(is_same && other != *opts)
+}
+
+fn is_owned_copied(alloc: Global, opts: Opts) -> Result<bool, NoMemory> {
+    is_copied(alloc, &opts)
+}
+
+#[test]
+fn ample_copies_of_options(rt: HostRuntime) -> Result<(), Fail> {
+    for (case, _, _) in BUILT {
+        let builder = builder_of(rt.alloc(), *case)?;
+        assert!(rt;
+            is_owned_copied(rt.alloc(), Opts::from(builder))?,
+            "{case:?}"
+        );
+    }
+    Ok(())
+}
