@@ -18,3 +18,4 @@ pub mod Searching
 pub mod Queue
 pub mod Lived
 pub mod Waking
+pub mod Costs

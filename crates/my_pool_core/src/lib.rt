@@ -14,6 +14,3 @@ pub use event::{Answer, Facts, PollAnswer, PoolEvent, Verdict};
 pub use limits::{Counts, Limits, Metrics};
 pub use pool::Core;
 pub use request::{Request, Standing};
-
-#[cfg(test)]
-mod tests;

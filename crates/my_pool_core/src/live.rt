@@ -321,7 +321,8 @@ impl Live {
 
     /// Each waiting request is woken.
     pub fn wake_all<C: Ledger>(&mut self, steps: &mut C)
-        ensures { self.new ≡ wake_all self.old }
+        ensures requests { self.new ≡ wake_all self.old }
+        ensures cost { (d : ℕ) → length self.old < 2 ^ d → C.noted steps.new ≤ C.noted steps.old + how_many is_waiting self.old * (3 * d + 2) }
     {
         while self.count_waiting() > 0 {
             self.wake(steps);
@@ -343,19 +344,21 @@ impl Live {
     }
 
     /// Whether the request of the last age is live.
-    pub fn has_last(&self) -> bool
-        ensures { result ≡ list_any (has_age last_age) self.now }
+    pub fn has_last<C: Ledger>(&self, steps: &mut C) -> bool
+        ensures answer { result ≡ list_any (has_age last_age) self.now }
+        ensures cost { (d : ℕ) → length self.now < 2 ^ d → C.noted steps.new ≤ C.noted steps.old + d + 1 }
     {
-        self.index_of(LAST, &mut Uncounted).is_some()
+        self.index_of(LAST, steps).is_some()
     }
 
     /// The request of the last age is live from now on. Without memory nothing changes.
-    pub fn add_last(&mut self) -> Result<(), NoMemory>
+    pub fn add_last<C: Ledger>(&mut self, steps: &mut C) -> Result<(), NoMemory>
         requires { IsRising 0 (with_last self.old) }
         ensures ok { OnOk result (self.new ≡ with_last self.old) }
         ensures err { OnErr result (self.new ≡ self.old) }
+        ensures cost { (d : ℕ) → length self.old < 2 ^ d → C.noted steps.new ≤ C.noted steps.old + d + 1 }
     {
-        if self.has_last() {
+        if self.has_last(steps) {
             return Ok(());
         }
         self.add(LAST)

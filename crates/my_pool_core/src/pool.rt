@@ -65,7 +65,7 @@ impl Model for Core {
 
 impl Core {
     /// A pool with no connection, the first of which will have the number `first`.
-    pub(crate) fn with_limits(alloc: Global, limits: Limits, first: u64) -> Core
+    pub fn with_limits(alloc: Global, limits: Limits, first: u64) -> Core
         ensures { result ≡ new_pool limits first }
     {
         Core {

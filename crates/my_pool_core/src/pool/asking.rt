@@ -1,8 +1,9 @@
 //! The events of a request.
 
 ghost use Rattle.std.specs.Prelude.{◌≡◌, ℕ, ◌+◌, ◌*◌, ◌^◌, ◌≤◌, ◌<◌, false, IsTrue, OnOk, OnErr, IfOk, IfSome, find, length};
-ghost use Rattle.my_pool_core.specs.Lists.{found_is};
+ghost use Rattle.my_pool_core.specs.Lists.{found_is, how_many};
 ghost use Rattle.my_pool_core.specs.Connections.{has_number, is_idle};
+ghost use Rattle.my_pool_core.specs.Requests.{is_waiting};
 ghost use Rattle.my_pool_core.specs.Events.{is_at_end, request, request_age, may_poll, poll_request, queued, sought, dialed, may_cancel, cancel, may_settle, ready, failed};
 
 use super::Core;
@@ -15,11 +16,12 @@ use my_wire::NoMemory;
 
 impl Core {
     /// Whether ages or numbers stand at their last one.
-    fn is_at_end(&self) -> bool
-        ensures { result ≡ is_at_end self.now }
+    fn is_at_end<C: Ledger>(&self, steps: &mut C) -> bool
+        ensures answer { result ≡ is_at_end self.now }
+        ensures cost { (d : ℕ) → length self.now.requests < 2 ^ d → C.noted steps.new ≤ C.noted steps.old + d + 1 }
     {
         self.next_age == LAST
-            || self.requests.has_last()
+            || self.requests.has_last(steps)
             || LAST - self.next_number <= self.requests.count_may_dial() as u64
     }
 
@@ -32,12 +34,23 @@ impl Core {
         ensures age { IfOk result (λ age. age ≡ request_age self.old) }
         ensures err { OnErr result (self.new ≡ self.old) }
     {
-        let at_end = self.is_at_end();
+        self.request_noting(&mut Uncounted)
+    }
+
+    /// The same, where each comparison of two ages is a step in a ledger: at the end of ages or numbers there are some for
+    /// each waiting request.
+    pub fn request_noting<C: Ledger>(&mut self, steps: &mut C) -> Result<u64, NoMemory>
+        ensures ok { OnOk result (self.new ≡ request self.old) }
+        ensures age { IfOk result (λ age. age ≡ request_age self.old) }
+        ensures err { OnErr result (self.new ≡ self.old) }
+        ensures cost { (d : ℕ) → length self.old.requests < 2 ^ d → C.noted steps.new ≤ C.noted steps.old + 2 * d + 2 + how_many is_waiting self.old.requests * (3 * d + 5) }
+    {
+        let at_end = self.is_at_end(steps);
         let room = self.requests.len() + 1;
         self.connections.reserve(room)?;
         if at_end {
-            self.requests.add_last()?;
-            self.requests.wake_all(&mut Uncounted);
+            self.requests.add_last(steps)?;
+            self.requests.wake_all(steps);
             self.spare = self.spare.max(room as u64);
             self.closed = true;
             return Ok(LAST);
@@ -121,11 +134,11 @@ impl Core {
         ensures state { self.new ≡ (poll_request age now self.old).state }
         ensures answer { result ≡ (poll_request age now self.old).answer }
     {
-        self.poll_request_in(age, now, &mut Uncounted)
+        self.poll_request_noting(age, now, &mut Uncounted)
     }
 
-    /// The same, where the steps are noted.
-    pub(crate) fn poll_request_in<C: Ledger>(
+    /// The same, where each comparison of two ages is a step in a ledger.
+    pub fn poll_request_noting<C: Ledger>(
         &mut self,
         age: u64,
         now: u64,
@@ -152,17 +165,26 @@ impl Core {
         requires { IsTrue (may_cancel age self.old) }
         ensures { self.new ≡ cancel age self.old }
     {
-        let Some(request) = self.requests.find(age, &mut Uncounted) else {
+        self.cancel_noting(age, &mut Uncounted);
+    }
+
+    /// The same, where each comparison of two ages is a step in a ledger.
+    pub fn cancel_noting<C: Ledger>(&mut self, age: u64, steps: &mut C)
+        requires { IsTrue (may_cancel age self.old) }
+        ensures state { self.new ≡ cancel age self.old }
+        ensures cost { (d : ℕ) → length self.old.requests < 2 ^ d → C.noted steps.new ≤ C.noted steps.old + 7 * d + 5 }
+    {
+        let Some(request) = self.requests.find(age, steps) else {
             return;
         };
-        self.requests.end(age, &mut Uncounted);
+        self.requests.end(age, steps);
         match request.standing {
             Standing::Asks | Standing::Waits => {}
-            Standing::Woken => self.requests.wake(&mut Uncounted),
+            Standing::Woken => self.requests.wake(steps),
             Standing::Dials(number) | Standing::Checks(number) => {
                 take_out(&mut self.connections, number);
                 self.spare += 1;
-                self.requests.wake(&mut Uncounted);
+                self.requests.wake(steps);
                 self.counts.creation_failed();
             }
         }
@@ -173,11 +195,11 @@ impl Core {
         requires { IsTrue (may_settle age conn self.old) }
         ensures { self.new ≡ ready age conn self.old }
     {
-        self.ready_in(age, conn, &mut Uncounted);
+        self.ready_noting(age, conn, &mut Uncounted);
     }
 
-    /// The same, where the steps are noted.
-    pub(crate) fn ready_in<C: Ledger>(&mut self, age: u64, conn: u64, steps: &mut C)
+    /// The same, where each comparison of two ages is a step in a ledger.
+    pub fn ready_noting<C: Ledger>(&mut self, age: u64, conn: u64, steps: &mut C)
         requires { IsTrue (may_settle age conn self.old) }
         ensures state { self.new ≡ ready age conn self.old }
         ensures cost { (d : ℕ) → length self.old.requests < 2 ^ d → C.noted steps.new ≤ C.noted steps.old + 3 * d + 2 }
@@ -192,10 +214,19 @@ impl Core {
         requires { IsTrue (may_settle age conn self.old) }
         ensures { self.new ≡ failed age conn self.old }
     {
-        self.requests.let_go(age, &mut Uncounted);
+        self.failed_noting(age, conn, &mut Uncounted);
+    }
+
+    /// The same, where each comparison of two ages is a step in a ledger.
+    pub fn failed_noting<C: Ledger>(&mut self, age: u64, conn: u64, steps: &mut C)
+        requires { IsTrue (may_settle age conn self.old) }
+        ensures state { self.new ≡ failed age conn self.old }
+        ensures cost { (d : ℕ) → length self.old.requests < 2 ^ d → C.noted steps.new ≤ C.noted steps.old + 7 * d + 5 }
+    {
+        self.requests.let_go(age, steps);
         take_out(&mut self.connections, conn);
         self.spare += 1;
-        self.requests.wake(&mut Uncounted);
+        self.requests.wake(steps);
         self.counts.creation_failed();
     }
 }

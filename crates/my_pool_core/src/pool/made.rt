@@ -28,29 +28,3 @@ impl Core {
         Ok(Core::with_limits(alloc, limits, first))
     }
 }
-
-#[cfg(test)]
-mod tests {
-    use crate::{Answer, Core, PollAnswer, PoolEvent};
-    use my_opts::{PoolConstraints, PoolOpts};
-    use std::test::Fail;
-
-    #[test]
-    fn ample_new(rt: HostRuntime) -> Result<(), Fail> {
-        let constraints = PoolConstraints::new(1, 2).ok_or("the bounds are in order")?;
-        let opts = PoolOpts::new().with_constraints(constraints);
-        let mut core = Core::new(rt.alloc(), &opts, 1000)?;
-        let answers = [
-            (PoolEvent::Request, Answer::Age(0)),
-            (
-                PoolEvent::PollRequest { age: 0, now: 0 },
-                Answer::Poll(PollAnswer::Dial(1000)),
-            ),
-        ];
-        for (event, answer) in answers {
-            assert!(rt; core.may(event));
-            assert_eq!(rt; core.apply(event)?, answer);
-        }
-        Ok(())
-    }
-}

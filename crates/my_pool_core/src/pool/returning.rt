@@ -1,6 +1,6 @@
 //! The events of a connection that is handed out or came back.
 
-ghost use Rattle.std.specs.Prelude.{◌≡◌, IsTrue};
+ghost use Rattle.std.specs.Prelude.{◌≡◌, ℕ, ◌+◌, ◌*◌, ◌^◌, ◌≤◌, ◌<◌, IsTrue, length};
 ghost use Rattle.my_pool_core.specs.Events.{may_move, freed, may_give_back, give_back, detach, take_returned, may_decide, keep, decide, may_done, done};
 
 use super::Core;
@@ -8,7 +8,7 @@ use crate::connection::{
     Place, Times, count_idle, is_marked, is_resetting, move_to, next_to_clean, take_out,
 };
 use crate::event::{Facts, Verdict};
-use my_wait_heap::Uncounted;
+use my_wait_heap::{Ledger, Uncounted};
 
 impl Core {
     /// A leased connection comes back.
@@ -24,13 +24,14 @@ impl Core {
     }
 
     /// A connection that no request holds is no longer counted, and the oldest waiting request is woken.
-    fn free(&mut self, conn: u64)
+    fn free<C: Ledger>(&mut self, conn: u64, steps: &mut C)
         requires { IsTrue (may_move conn self.old) }
-        ensures { self.new ≡ freed conn self.old.requests self.old }
+        ensures state { self.new ≡ freed conn self.old.requests self.old }
+        ensures cost { (d : ℕ) → length self.old.requests < 2 ^ d → C.noted steps.new ≤ C.noted steps.old + 3 * d + 2 }
     {
         take_out(&mut self.connections, conn);
         self.spare += 1;
-        self.requests.wake(&mut Uncounted);
+        self.requests.wake(steps);
     }
 
     /// A leased connection is taken out of the pool for good.
@@ -38,7 +39,16 @@ impl Core {
         requires { IsTrue (may_give_back conn self.old) }
         ensures { self.new ≡ detach conn self.old }
     {
-        self.free(conn);
+        self.detach_noting(conn, &mut Uncounted);
+    }
+
+    /// The same, where each comparison of two ages is a step in a ledger.
+    pub fn detach_noting<C: Ledger>(&mut self, conn: u64, steps: &mut C)
+        requires { IsTrue (may_give_back conn self.old) }
+        ensures state { self.new ≡ detach conn self.old }
+        ensures cost { (d : ℕ) → length self.old.requests < 2 ^ d → C.noted steps.new ≤ C.noted steps.old + 3 * d + 2 }
+    {
+        self.free(conn, steps);
     }
 
     /// The next connection to be cleaned: the one that returned first, or where the pool is closed and none is returned
@@ -67,10 +77,11 @@ impl Core {
     }
 
     /// A connection is kept, unless enough are idle.
-    fn keep(&mut self, conn: u64, facts: Facts, now: u64) -> Verdict
+    fn keep<C: Ledger>(&mut self, conn: u64, facts: Facts, now: u64, steps: &mut C) -> Verdict
         requires { IsTrue (may_move conn self.old) }
         ensures state { self.new ≡ (keep conn facts now self.old).state }
         ensures answer { result ≡ (keep conn facts now self.old).answer }
+        ensures cost { (d : ℕ) → length self.old.requests < 2 ^ d → C.noted steps.new ≤ C.noted steps.old + 3 * d + 2 }
     {
         if self.limits.bound <= count_idle(&self.connections) as u64 {
             move_to(&mut self.connections, conn, Place::Closing);
@@ -82,7 +93,7 @@ impl Core {
             conn,
             Place::Idle(facts.idle_since(now)),
         );
-        self.requests.wake(&mut Uncounted);
+        self.requests.wake(steps);
         self.counts.kept();
         Verdict::Keep
     }
@@ -93,9 +104,25 @@ impl Core {
         ensures state { self.new ≡ (decide conn facts now self.old).state }
         ensures answer { result ≡ (decide conn facts now self.old).answer }
     {
+        self.decide_noting(conn, facts, now, &mut Uncounted)
+    }
+
+    /// The same, where each comparison of two ages is a step in a ledger.
+    pub fn decide_noting<C: Ledger>(
+        &mut self,
+        conn: u64,
+        facts: Facts,
+        now: u64,
+        steps: &mut C,
+    ) -> Verdict
+        requires { IsTrue (may_decide conn self.old) }
+        ensures state { self.new ≡ (decide conn facts now self.old).state }
+        ensures answer { result ≡ (decide conn facts now self.old).answer }
+        ensures cost { (d : ℕ) → length self.old.requests < 2 ^ d → C.noted steps.new ≤ C.noted steps.old + 3 * d + 2 }
+    {
         if facts.link_closed {
             self.counts.unestablished();
-            self.free(conn);
+            self.free(conn, steps);
             return Verdict::Drop;
         }
         if facts.dirty {
@@ -112,7 +139,7 @@ impl Core {
             self.counts.being_reset();
             return Verdict::Reset;
         }
-        self.keep(conn, facts, now)
+        self.keep(conn, facts, now, steps)
     }
 
     /// A reset, a close, or a cleaning that failed came to its end.
@@ -121,18 +148,35 @@ impl Core {
         ensures state { self.new ≡ (done conn ok facts now self.old).state }
         ensures answer { result ≡ (done conn ok facts now self.old).answer }
     {
+        self.done_noting(conn, ok, facts, now, &mut Uncounted)
+    }
+
+    /// The same, where each comparison of two ages is a step in a ledger.
+    pub fn done_noting<C: Ledger>(
+        &mut self,
+        conn: u64,
+        ok: bool,
+        facts: Facts,
+        now: u64,
+        steps: &mut C,
+    ) -> Verdict
+        requires { IsTrue (may_done conn ok self.old) }
+        ensures state { self.new ≡ (done conn ok facts now self.old).state }
+        ensures answer { result ≡ (done conn ok facts now self.old).answer }
+        ensures cost { (d : ℕ) → length self.old.requests < 2 ^ d → C.noted steps.new ≤ C.noted steps.old + 3 * d + 2 }
+    {
         if ok && is_resetting(&self.connections, conn) {
             if self.closed {
                 move_to(&mut self.connections, conn, Place::Closing);
                 self.counts.superfluous();
                 return Verdict::Close;
             }
-            return self.keep(conn, facts, now);
+            return self.keep(conn, facts, now, steps);
         }
         if !ok {
             self.counts.cleanup_failed();
         }
-        self.free(conn);
+        self.free(conn, steps);
         Verdict::Drop
     }
 }

@@ -1,6 +1,8 @@
 //! The events of the whole pool, and what is seen of it.
 
-ghost use Rattle.std.specs.Prelude.{◌≡◌, IsTrue};
+ghost use Rattle.std.specs.Prelude.{◌≡◌, ℕ, ◌+◌, ◌*◌, ◌^◌, ◌≤◌, ◌<◌, IsTrue, length};
+ghost use Rattle.my_pool_core.specs.Lists.{how_many};
+ghost use Rattle.my_pool_core.specs.Requests.{is_waiting};
 ghost use Rattle.my_pool_core.specs.Events.{check_ttl, check_ttl_moved, close, is_gone};
 ghost use Rattle.my_pool_core.specs.Seen.{metrics_of};
 
@@ -8,7 +10,7 @@ use super::Core;
 use crate::connection::{Connection, count_idle, count_leased, sweep};
 use crate::limits::Metrics;
 use crate::request::Request;
-use my_wait_heap::Uncounted;
+use my_wait_heap::{Ledger, Uncounted};
 
 impl Core {
     /// Idle connections whose time is over are marked and returned; answers how many.
@@ -28,8 +30,16 @@ impl Core {
     pub fn close(&mut self)
         ensures { self.new ≡ close self.old }
     {
+        self.close_noting(&mut Uncounted);
+    }
+
+    /// The same, where each comparison of two ages is a step in a ledger: there are some for each waiting request.
+    pub fn close_noting<C: Ledger>(&mut self, steps: &mut C)
+        ensures state { self.new ≡ close self.old }
+        ensures cost { (d : ℕ) → length self.old.requests < 2 ^ d → C.noted steps.new ≤ C.noted steps.old + how_many is_waiting self.old.requests * (3 * d + 2) }
+    {
         self.closed = true;
-        self.requests.wake_all(&mut Uncounted);
+        self.requests.wake_all(steps);
     }
 
     /// Whether the pool is closed, counts nothing, and was seen to count nothing by `take_returned`.

@@ -5,6 +5,6 @@ use Rattle.my_pool_core.specs.Events.{may_move}
 use Rattle.my_pool_core.proofs.pool.Core.free.Goals as goal
 
 pub invariant_of-self : goal.invariant_of-self
-invariant_of-self c =
+invariant_of-self g c =
     let may = subst (λ s. may_move c.args.conn s ≡ true) (sym c.self.view_is) c.requires in
     kept-freed c.args.conn (the_view c.self.inside) _ _ _ c.self.invariant may (cc) (omega (arith, c.take_out.ensures.capacity))

@@ -8,21 +8,21 @@ use Rattle.my_pool_core.specs.Connections.{is_idle}
 use Rattle.my_pool_core.proofs.pool.Core.keep.Goals as goal
 
 pub move_to-requires : goal.move_to-requires
-move_to-requires c =
+move_to-requires g c =
     let may = subst (λ s. may_move c.args.conn s ≡ true) (sym c.self.view_is) c.requires in
     movable-there c.args.conn (the_view c.self.inside) may
 
 pub invariant_of-self : goal.invariant_of-self
-invariant_of-self c =
+invariant_of-self g c =
     let may = subst (λ s. may_move c.args.conn s ≡ true) (sym c.self.view_is) c.requires in
     kept-moved c.args.conn Closing (superfluous c.self.inside.counts) (the_view c.self.inside) _ _ _ c.self.invariant may (refl, refl) refl (cc) (omega (arith, c.move_to.ensures.capacity))
 
 pub move_to-requires-2 : goal.move_to-requires-2
-move_to-requires-2 c =
+move_to-requires-2 g c =
     let may = subst (λ s. may_move c.args.conn s ≡ true) (sym c.self.view_is) c.requires in
     movable-there c.args.conn (the_view c.self.inside) may
 
 pub invariant_of-self-2 : goal.invariant_of-self-2
-invariant_of-self-2 c =
+invariant_of-self-2 g c =
     let may = subst (λ s. may_move c.args.conn s ≡ true) (sym c.self.view_is) c.requires in
     kept-rested c.args.conn c.args.facts c.args.now (the_view c.self.inside) _ _ _ c.self.invariant may (omega (arith, c.if-self-count_idle.false, c.count_idle.ensures, ap (how_many is_idle) c.deref.ensures.value)) (cc) (omega (arith, c.move_to-2.ensures.capacity))

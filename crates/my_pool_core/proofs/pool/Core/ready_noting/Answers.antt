@@ -2,7 +2,7 @@ use Rattle.std.proofs.Common.{◌≡◌, true, sym, subst, arith}
 use Rattle.my_pool_core.specs.contracts.pool.Core.{the_view}
 use Rattle.my_pool_core.proofs.Keeping.{held-there, kept-ready}
 use Rattle.my_pool_core.specs.Events.{may_settle}
-use Rattle.my_pool_core.proofs.pool.Core.ready_in.Goals as goal
+use Rattle.my_pool_core.proofs.pool.Core.ready_noting.Goals as goal
 
 pub move_to-requires : goal.move_to-requires
 move_to-requires g c =

@@ -2,7 +2,7 @@ use Rattle.std.proofs.Common.{◌≡◌, true, sym, subst, arith}
 use Rattle.my_pool_core.specs.contracts.pool.Core.{the_view}
 use Rattle.my_pool_core.proofs.Keeping.{kept-ended, kept-retired, retired-may}
 use Rattle.my_pool_core.specs.Events.{may_poll}
-use Rattle.my_pool_core.proofs.pool.Core.poll_request_in.Goals as goal
+use Rattle.my_pool_core.proofs.pool.Core.poll_request_noting.Goals as goal
 
 pub invariant_of-self : goal.invariant_of-self
 invariant_of-self g c =

@@ -1,0 +1,18 @@
+//! Tables over my_pool_core: lists of events with what each is answered, and many events from a seed. This crate has
+//! tests alone.
+#![tactic(auto)]
+
+#[cfg(test)]
+mod line;
+#[cfg(test)]
+mod many;
+#[cfg(test)]
+mod scanned;
+#[cfg(test)]
+mod scripts;
+#[cfg(test)]
+mod seed;
+#[cfg(test)]
+mod sound;
+#[cfg(test)]
+mod steps;
