@@ -5,7 +5,7 @@ use Rattle.my_world.specs.declared.link.ReadItem.TheVariants.{Bytes, Turn, Wait,
 use Rattle.my_world.specs.declared.link.WriteItem.{WriteItem}
 use Rattle.my_world.specs.declared.link.WriteItem.TheVariants as puts
 use Rattle.my_world.specs.Link.{Told, Gave, put_back, behind_hold, behind_fault, behind_end, behind_write, taken_of, behind_taken, behind_write_hold, behind_write_fault}
-use Rattle.my_world.specs.Spent.{spelled, fails_in, waits_in, write_fails_in, write_waits_in, has_end, is_at_end, IsDry, IsDryWhere, Spends, Spent, CountsSpent, ReadsSpent, AllSpent, IsSpent}
+use Rattle.my_world.specs.Spent.{spelled, fails_in, waits_in, write_fails_in, write_waits_in, has_end, is_at_end, IsDry, IsDryWhere, IsLeft, Whole, Part, Spends, Spent, CountsSpent, ReadsSpent, AllSpent, IsSpent}
 
 -- unchanged, where it is told
 pub told_same : {I : Type 0} (x y : Option (List I)) → y ≡ x → Told x y (λ is js. js ≡ is)
@@ -35,20 +35,50 @@ items_in (Some is) = is
 no_end : false ≡ true → ⊥
 no_end e = cc
 
+-- what stands behind the first item
+abbrev behind_first : List ReadItem → List ReadItem
+behind_first [] = []
+behind_first (i ∷ is) = is
+
+-- the bytes of the first item
+abbrev first_bytes : List ReadItem → List ℕ
+first_bytes (Bytes bytes ∷ more) = bytes
+first_bytes is = []
+
+-- the first item was used
+left_behind : (p js : List ReadItem) (i : ReadItem) → IsLeft p (i ∷ js) → IsLeft p js
+left_behind p js i (Whole used e) = Whole (used ++ i ∷ []) (e ∙ sym (append_assoc used (i ∷ []) js))
+left_behind p js i (Part used more read rest e f) =
+    let same : js ≡ more = ap behind_first f in
+    Whole (used ++ Bytes (read ++ rest) ∷ []) (e ∙ ap (λ (xs : List ReadItem). used ++ Bytes (read ++ rest) ∷ xs) (sym same) ∙ sym (append_assoc used (Bytes (read ++ rest) ∷ []) js))
+
+-- the first item was read in part
+left_inside : (p more : List ReadItem) (bytes rest : List ℕ) → IsLeft p (Bytes (bytes ++ rest) ∷ more) → IsLeft p (Bytes rest ∷ more)
+left_inside p more bytes rest (Whole used e) = Part used more bytes rest e refl
+left_inside p more bytes rest (Part used others read left e f) =
+    let inside : left ≡ bytes ++ rest = sym (ap first_bytes f) in
+    let behind : others ≡ more = sym (ap behind_first f) in
+    Part used more (read ++ bytes) rest (e ∙ ap (λ (xs : List ReadItem). used ++ Bytes (read ++ left) ∷ xs) behind ∙ ap (λ (bs : List ℕ). used ++ Bytes bs ∷ more) (ap (λ (bs : List ℕ). read ++ bs) inside ∙ sym (append_assoc read bytes rest))) refl
+
+left_put : (p more : List ReadItem) (bytes rest : List ℕ) → IsLeft p (Bytes (bytes ++ rest) ∷ more) → IsLeft p (put_back rest more)
+left_put p more bytes [] l = left_behind p more (Bytes (bytes ++ [])) l
+left_put p more bytes (b ∷ rest) l = left_inside p more bytes (b ∷ rest) l
+
 -- these items say the same of bytes, faults, holds and the end
 record Alike (is js : List ReadItem) : Type 0 where
+  left : (p : List ReadItem) → IsLeft p is → IsLeft p js
   spells : spelled js ≡ spelled is
   fails : fails_in js ≡ fails_in is
   ends : has_end js ≡ has_end is
   stays : is_at_end is ≡ true → is_at_end js ≡ true
 
 met : (is : List ReadItem) → Alike is (behind_write is)
-met [] = record { spells = refl; fails = refl; ends = refl; stays = λ e. e }
-met (Bytes bytes ∷ more) = record { spells = refl; fails = refl; ends = refl; stays = λ e. e }
-met (Turn ∷ more) = record { spells = refl; fails = refl; ends = refl; stays = λ e. absurd (no_end e) }
-met (Wait ∷ more) = record { spells = refl; fails = refl; ends = refl; stays = λ e. e }
-met (Fail ∷ more) = record { spells = refl; fails = refl; ends = refl; stays = λ e. e }
-met (End ∷ more) = record { spells = refl; fails = refl; ends = refl; stays = λ e. e }
+met [] = record { left = λ p l. l; spells = refl; fails = refl; ends = refl; stays = λ e. e }
+met (Bytes bytes ∷ more) = record { left = λ p l. l; spells = refl; fails = refl; ends = refl; stays = λ e. e }
+met (Turn ∷ more) = record { left = λ p l. left_behind p more Turn l; spells = refl; fails = refl; ends = refl; stays = λ e. absurd (no_end e) }
+met (Wait ∷ more) = record { left = λ p l. l; spells = refl; fails = refl; ends = refl; stays = λ e. e }
+met (Fail ∷ more) = record { left = λ p l. l; spells = refl; fails = refl; ends = refl; stays = λ e. e }
+met (End ∷ more) = record { left = λ p l. l; spells = refl; fails = refl; ends = refl; stays = λ e. e }
 
 met_waits : (is : List ReadItem) → waits_in (behind_write is) ≡ waits_in is
 met_waits [] = refl
@@ -60,6 +90,7 @@ met_waits (End ∷ more) = refl
 
 alike_spent : (p is js : List ReadItem) (taken : List ℕ) (e : ℕ) → Alike is js → Spent p is taken e → Spent p js taken e
 alike_spent p is js taken e a s = record {
+  left_is = a.left p s.left_is;
   bytes = s.bytes ∙ ap (λ bs. taken ++ bs) (sym a.spells);
   ended = λ h. a.stays (s.ended h);
   planned_end = λ h. s.planned_end (sym a.ends ∙ h);
@@ -151,6 +182,7 @@ put_ends (b ∷ bytes) more = refl
 
 gave_spent : (p is js : List ReadItem) (taken bytes : List ℕ) (e : ℕ) → Gave bytes is js → Spent p is taken e → Spent p js (taken ++ bytes) e
 gave_spent p is js taken bytes e g s = record {
+  left_is = subst (IsLeft p) (sym g.stands) (left_put p g.more bytes g.rest (subst (IsLeft p) g.stood s.left_is));
   bytes = s.bytes ∙ ap (λ (xs : List ReadItem). taken ++ spelled xs) g.stood ∙ ap (λ xs. taken ++ xs) (append_assoc bytes g.rest (spelled g.more)) ∙ sym (append_assoc taken bytes (g.rest ++ spelled g.more)) ∙ ap (λ xs. (taken ++ bytes) ++ xs) (sym (put_spells g.rest g.more) ∙ ap spelled (sym g.stands));
   ended = λ h. absurd (no_end (sym (ap is_at_end g.stood) ∙ s.ended h));
   planned_end = λ h. s.planned_end (ap has_end g.stood ∙ sym (put_ends g.rest g.more) ∙ ap has_end (sym g.stands) ∙ h);
@@ -180,6 +212,7 @@ spent_read_failed plan x y rules ws vs taken f w e t u s = record {
   reads = reads_on plan x y taken taken e e (λ is js. behind_fault is ≡ Some js) t
       (λ p is js g k. let split : is ≡ Fail ∷ js = failed_at is js g in
       record {
+        left_is = left_behind p js Fail (subst (IsLeft p) split k.left_is);
         bytes = k.bytes ∙ ap (λ (xs : List ReadItem). taken ++ spelled xs) split;
         ended = λ h. absurd (no_end (sym (ap is_at_end split) ∙ k.ended h));
         planned_end = λ h. k.planned_end (ap has_end split ∙ h);
@@ -206,6 +239,7 @@ spent_ended plan x y rules ws vs taken f w e e' t u s = record {
   reads = reads_on plan x y taken taken e e' (λ is js. behind_end is ≡ Some js) t
       (λ p is js g k. let at = ended_at is js g in
       record {
+        left_is = subst (IsLeft p) (sym at.0) k.left_is;
         bytes = k.bytes ∙ ap (λ (xs : List ReadItem). taken ++ spelled xs) (sym at.0);
         ended = λ h. at.1;
         planned_end = λ h. k.planned_end (ap has_end (sym at.0) ∙ h);
@@ -234,6 +268,7 @@ spent_waited : (plan x y : Option (List ReadItem)) (rules ws vs : Option (List W
 spent_waited plan x y rules ws vs taken f w e t u s = record {
   reads = reads_on plan x y taken taken e e (λ is js. is ≡ Wait ∷ js) t
       (λ p is js g k. record {
+        left_is = left_behind p js Wait (subst (IsLeft p) g k.left_is);
         bytes = k.bytes ∙ ap (λ (xs : List ReadItem). taken ++ spelled xs) g;
         ended = λ h. absurd (no_end (sym (ap is_at_end g) ∙ k.ended h));
         planned_end = λ h. k.planned_end (ap has_end g ∙ h);
@@ -247,18 +282,15 @@ spent_waited plan x y rules ws vs taken f w e t u s = record {
 
 -- one hold, which was planned
 planned_hold : (plan left : Option (List ReadItem)) (rules rest : Option (List WriteItem)) (taken : List ℕ) (f w e : ℕ) → IsSpent plan left rules rest taken f (w + 1) e → Spends plan left rules rest taken f w 1 e
-planned_hold plan left rules rest taken f w e s = record { planned = 1; fits = omega arith; dry = λ h. absurd (omega (arith, h)); spent = s }
+planned_hold plan left rules rest taken f w e s = record { planned = 1; fits = omega arith; last = omega arith; dry = λ h. absurd (omega (arith, h)); spent = s }
 
 -- one hold where nothing can be read
 dry_hold : (plan left : Option (List ReadItem)) (rules rest : Option (List WriteItem)) (taken : List ℕ) (f w e : ℕ) → IsDryWhere left → IsSpent plan left rules rest taken f w e → Spends plan left rules rest taken f w 1 e
-dry_hold plan left rules rest taken f w e d s = record { planned = 0; fits = omega arith; dry = λ h. d; spent = let same : w + 0 ≡ w = omega arith in subst (λ (n : ℕ). IsSpent plan left rules rest taken f n e) (sym same) s }
+dry_hold plan left rules rest taken f w e d s = record { planned = 0; fits = omega arith; last = omega arith; dry = λ h. d; spent = let same : w + 0 ≡ w = omega arith in subst (λ (n : ℕ). IsSpent plan left rules rest taken f n e) (sym same) s }
 
 -- no hold
 pub no_hold : (plan left : Option (List ReadItem)) (rules rest : Option (List WriteItem)) (taken : List ℕ) (f w e : ℕ) → IsSpent plan left rules rest taken f w e → Spends plan left rules rest taken f w 0 e
-no_hold plan left rules rest taken f w e s = record { planned = 0; fits = omega arith; dry = λ h. absurd (omega (arith, h)); spent = let same : w + 0 ≡ w = omega arith in subst (λ (n : ℕ). IsSpent plan left rules rest taken f n e) (sym same) s }
-
-pub spends_write_held : (plan x y : Option (List ReadItem)) (rules ws vs : Option (List WriteItem)) (taken : List ℕ) (f w e : ℕ) → y ≡ x → Told ws vs (λ us vs. behind_write_hold us ≡ Some vs) → IsSpent plan x rules ws taken f w e → Spends plan y rules vs taken f w 1 e
-spends_write_held plan x y rules ws vs taken f w e t u s = planned_hold plan y rules vs taken f w e (spent_write_held plan x y rules ws vs taken f w e t u s)
+no_hold plan left rules rest taken f w e s = record { planned = 0; fits = omega arith; last = omega arith; dry = λ h. absurd (omega (arith, h)); spent = let same : w + 0 ≡ w = omega arith in subst (λ (n : ℕ). IsSpent plan left rules rest taken f n e) (sym same) s }
 
 pub spends_read_held : (plan x y : Option (List ReadItem)) (rules ws vs : Option (List WriteItem)) (taken : List ℕ) (f w e : ℕ) → Told x y (λ is js. behind_hold is ≡ Some js) → vs ≡ ws → IsSpent plan x rules ws taken f w e → Spends plan y rules vs taken f w 1 e
 spends_read_held plan None y rules ws vs taken f w e t u s = dry_hold plan y rules vs taken f w e (subst IsDryWhere (sym t) tt) (spent_same plan None y rules ws vs taken f w e t u s)

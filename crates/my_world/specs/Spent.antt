@@ -1,5 +1,5 @@
 -- What of a link's planned items was used.
-use Rattle.std.specs.Prelude.{◌≡◌, ℕ, ◌+◌, ◌<◌, ◌≤◌, List, [], ◌∷◌, ◌++◌, Option, Some, None, Bool, true, false}
+use Rattle.std.specs.Prelude.{◌≡◌, ℕ, suc, ◌+◌, ◌<◌, ◌≤◌, List, [], ◌∷◌, ◌++◌, Option, Some, None, Bool, true, false}
 use Rattle.my_world.specs.declared.link.WriteItem.{WriteItem}
 use Rattle.my_world.specs.declared.link.WriteItem.TheVariants as puts
 use Rattle.my_world.specs.declared.link.ReadItem.{ReadItem}
@@ -73,9 +73,15 @@ IsDry (Wait ∷ more) = ⊥
 IsDry (Fail ∷ more) = ⊥
 IsDry (End ∷ more) = ⊥
 
+-- What is left of planned items is their end, whole or with its first item read in part.
+pub data IsLeft (plan left : List ReadItem) : Type 0 where
+  Whole : (used : List ReadItem) → plan ≡ used ++ left → IsLeft plan left
+  Part : (used more : List ReadItem) (read rest : List ℕ) → plan ≡ used ++ Bytes (read ++ rest) ∷ more → left ≡ Bytes rest ∷ more → IsLeft plan left
+
 -- Of the planned items these are left to be read, once these bytes were taken and the end was told so often: what was used and what
 -- is left are the planned items.
 pub record Spent (plan left : List ReadItem) (taken : List ℕ) (ends : ℕ) : Type 0 where
+  pub left_is : IsLeft plan left
   pub bytes : spelled plan ≡ taken ++ spelled left
   pub ended : 0 < ends → is_at_end left ≡ true
   pub planned_end : has_end left ≡ true → has_end plan ≡ true
@@ -110,9 +116,10 @@ abbrev pub IsDryWhere : Option (List ReadItem) → Type 0
 IsDryWhere None = Unit {0}
 IsDryWhere (Some left) = IsDry left
 
--- The same, with so many holds more, of which some were planned; where not all were, nothing can be read now.
+-- The same, with so many holds more, of which some were planned; where not all were, the last wasn't, and nothing can be read now.
 pub record Spends (plan left : Option (List ReadItem)) (rules rest : Option (List WriteItem)) (taken : List ℕ) (faults waits holds ends : ℕ) : Type 0 where
   pub planned : ℕ
   pub fits : planned ≤ holds
+  pub last : holds ≤ suc planned
   pub dry : planned < holds → IsDryWhere left
   pub spent : IsSpent plan left rules rest taken faults (waits + planned) ends

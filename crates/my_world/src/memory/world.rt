@@ -132,7 +132,10 @@ fn place_of(links: &[Planned], number: u64) -> usize
 }
 
 impl MemWorld {
-    pub fn new(alloc: Global) -> MemWorld {
+    /// A world whose plan has no line.
+    pub fn new(alloc: Global) -> MemWorld
+        ensures { (n : ℕ) → items_at n result.links.items ≡ no_items }
+    {
         MemWorld {
             alloc,
             links: Vec::new(alloc),
@@ -201,11 +204,19 @@ impl World for MemWorld {
         DialStep::Link(link)
     }
 
-    fn now(&mut self) -> u64 {
+    // Time stands still.
+    fn now(&mut self) -> u64
+        ensures value { result ≡ 0 }
+        ensures same { self.new ≡ self.old }
+    {
         0
     }
 
-    fn random(&mut self) -> u64 {
+    // There are no random words.
+    fn random(&mut self) -> u64
+        ensures value { result ≡ 0 }
+        ensures same { self.new ≡ self.old }
+    {
         0
     }
 }
