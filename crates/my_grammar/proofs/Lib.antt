@@ -3,6 +3,7 @@ pub mod SetGrowth
 pub mod Growth
 pub mod Fronts
 pub mod Cutting
+pub mod Staying
 pub mod Reaching
 pub mod Sound
 pub mod InFronts

@@ -5,7 +5,7 @@ use Rattle.my_wire.specs.Front.{Front, Waiting, Broken, Whole}
 use Rattle.my_grammar.specs.Contexts.{is_bad}
 use Rattle.my_grammar.specs.Sets.{Packet}
 use Rattle.my_grammar.specs.Talk.{Talk, Fits, turns, server_bytes, packets_of, origin}
-use Rattle.my_grammar.specs.Cut.{Read, Rest, Behind, Unfinished, Unfit, Blamed, Cut, front_of, kind_of, is_over}
+use Rattle.my_grammar.specs.Cut.{Read, Rest, Behind, Unfinished, Unfit, Blamed, Cut, cut, front_of, kind_of, is_over}
 
 -- no payload that may stand there stands in front
 abbrev pub StopsAt : Talk → Front → Type 0
@@ -49,3 +49,17 @@ pub record IsCut (ts : List Talk) (bytes : List ℕ) (c : Cut) : Type 0 where
   pub began : map origin ts ≡ map origin c.talks ++ later
   pub over : AreOver c.talks
   pub spelled : spell c.talks (bytes_of c.rest) ≡ bytes
+
+-- A cut stays when more bytes come, but where it stopped at a payload that isn't whole.
+abbrev pub RestStays : List ℕ → List Talk → Rest → Cut → Type 0
+RestStays more talks (Behind bytes) later = later ≡ record { talks = talks; rest = Behind (bytes ++ more) }
+RestStays more talks (Unfinished bytes) later = Unit {0}
+RestStays more talks (Unfit payload bytes) later = later ≡ record { talks = talks; rest = Unfit payload (bytes ++ more) }
+RestStays more talks (Blamed fault bytes) later = later ≡ record { talks = talks; rest = Blamed fault (bytes ++ more) }
+
+-- Where more exchanges may follow, they are cut behind the others once these are over.
+abbrev pub RestGoesOn : List Talk → List Talk → Rest → Cut → Type 0
+RestGoesOn us talks (Behind bytes) later = later ≡ record { talks = talks ++ (cut us bytes).talks; rest = (cut us bytes).rest }
+RestGoesOn us talks (Unfinished bytes) later = later ≡ record { talks = talks; rest = Unfinished bytes }
+RestGoesOn us talks (Unfit payload bytes) later = later ≡ record { talks = talks; rest = Unfit payload bytes }
+RestGoesOn us talks (Blamed fault bytes) later = later ≡ record { talks = talks; rest = Blamed fault bytes }

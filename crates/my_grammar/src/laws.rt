@@ -8,7 +8,7 @@ ghost use Rattle.my_grammar.specs.Contexts.{is_bad};
 ghost use Rattle.my_grammar.specs.Talk.{Fits, Talk, Turn, limit_of, origin, server_bytes, turns};
 ghost use Rattle.my_grammar.specs.Growth.{Grows, Reads};
 ghost use Rattle.my_grammar.specs.Cut.{cut, is_over, kind_of, onto, read_from};
-ghost use Rattle.my_grammar.specs.CutLaws.{IsCut, IsRead};
+ghost use Rattle.my_grammar.specs.CutLaws.{IsCut, IsRead, RestGoesOn, RestStays};
 
 /// A payload within the limit that may stand where an exchange awaits one makes it an exchange with one payload more, in each
 /// reading: its place, its payloads, both sides' turns, and that it is as the protocol has it.
@@ -40,4 +40,11 @@ pub fn reading_is_sound()
 /// The exchanges that bytes are cut into are as the protocol has them, in order, and spell the bytes up to the rest.
 pub fn cutting_is_sound()
     ensures { (ts : List Talk) (bytes : List ℕ) → AreBytes bytes → IsCut ts bytes (cut (map origin ts) bytes) }
+{}
+
+/// However bytes are cut into exchanges, what was read stays when more bytes come, and so does what can't be read; and further
+/// exchanges are cut behind those that are over.
+pub fn cutting_stays()
+    ensures stays { (ts : List Talk) (bytes more : List ℕ) → RestStays more (cut ts bytes).talks (cut ts bytes).rest (cut ts (bytes ++ more)) }
+    ensures goes_on { (ts us : List Talk) (bytes : List ℕ) → RestGoesOn us (cut ts bytes).talks (cut ts bytes).rest (cut (ts ++ us) bytes) }
 {}

@@ -11,8 +11,6 @@ mod progress;
 mod queue;
 mod scramble;
 mod spot;
-#[cfg(test)]
-mod tests;
 
 pub use kinds::kind_at;
 pub use login::{Login, login_response};
