@@ -140,7 +140,10 @@ module _ (s : Seen) (h : History) (st : Stands s h) (op : is_open s.task ≡ tru
       error_is = refl;
       talks_are =
           talks_found st.newest st.older h.taken s.unread st.wire.taken_is st.wire.done st.wire.fits
-          ∙ ap (λ (ts : List Talk). in_order (talks st.older) ++ ts) (failed_found talk s.unread p rest next (front_here ∙ at) (kind_here p ∙ k));
+          ∙ ap (λ (c : Cut). in_order (talks st.older) ++ c.talks) (failed_found talk s.unread p rest next (front_here ∙ at) (kind_here p ∙ k));
+      rest_is =
+          rest_found st.newest st.older h.taken s.unread st.wire.taken_is st.wire.done st.wire.fits
+          ∙ ap (λ (c : Cut). c.rest) (failed_found talk s.unread p rest next (front_here ∙ at) (kind_here p ∙ k));
     }
 
     -- a payload that is a row reads as one

@@ -7,25 +7,30 @@ use Rattle.my_value.specs.RowParts.{RowParts}
 use Rattle.my_grammar.specs.declared.spot.Kind.{Kind}
 use Rattle.my_grammar.specs.Kinds.{kind_there}
 use Rattle.my_grammar.specs.Talk.{Talk}
-use Rattle.my_session.specs.declared.answer.SessionStep.TheVariants.{Need, Fault}
+use Rattle.my_session.specs.declared.answer.Answer.{Answer}
+use Rattle.my_session.specs.declared.answer.Answer.TheVariants as answers
+use Rattle.my_session.specs.declared.answer.SessionStep.{SessionStep}
+use Rattle.my_session.specs.declared.answer.SessionStep.TheVariants.{Send, Need, Done, Fault}
 use Rattle.my_session.specs.declared.answer.Tick.TheVariants as ticks
 use Rattle.my_session.specs.declared.call.CallKind.{CallKind}
 use Rattle.my_session.specs.declared.call.LinkFault.{LinkFault}
+use Rattle.my_session.specs.declared.call.Task.{Task}
+use Rattle.my_session.specs.declared.call.Task.TheVariants as tasks
 use Rattle.my_session.specs.declared.error.Error.{Error}
 use Rattle.my_session.specs.declared.error.Error.TheVariants as errors
 use Rattle.my_session.specs.declared.tables.Plan.{Plan}
 use Rattle.my_session.specs.declared.tables.Plan.TheVariants as plans
 use Rattle.my_session.specs.declared.tables.Reaction.{Reaction}
 use Rattle.my_session.specs.declared.tables.Reaction.TheVariants as reactions
-use Rattle.my_session.specs.Calls.{fault_in, call_of}
+use Rattle.my_session.specs.Calls.{fault_in, call_of, is_open}
 use Rattle.my_session.specs.Commands.{opening, command_in}
-use Rattle.my_session.specs.Errors.{invalid_data, unexpected_eof}
-use Rattle.my_session.specs.Ends.{EachEnd}
-use Rattle.my_session.specs.History.{Told, ToldReady, ToldRow, ToldEnd, ToldNone, ToldError, Dropped}
-use Rattle.my_session.specs.Machine.{Doing, Goes, Passes, Sends, Needs, Tells, Move, Did, Does, FaultIs, doing, failed_by, reply_to, above, unless_above, refused, gave, passed, reacted, read_by, read_kind, reading, asked, planned, when_owed, next_by, next, advanced}
+use Rattle.my_session.specs.Errors.{invalid_data, link_error, unexpected_eof}
+use Rattle.my_session.specs.Ends.{EachEnd, IsFault, Fails}
+use Rattle.my_session.specs.History.{ToldReady, ToldRow, ToldEnd, ToldNone, ToldError, Dropped}
+use Rattle.my_session.specs.Machine.{Doing, Goes, Passes, Sends, Needs, Tells, Move, Did, Does, FaultIs, failed_by, reply_to, above, unless_above, refused, gave, passed, reacted, read_by, reading, asked, planned, when_owed, next_by, next, advanced}
 use Rattle.my_session.specs.Rows.{row_at}
 use Rattle.my_session.specs.Seen.{Seen}
-use Rattle.my_session.specs.Steps.{goes_on, moved, AllGo, Steps, with_end}
+use Rattle.my_session.specs.Steps.{goes_on, moved, AllGo, Steps, last_tick, with_end, failing, with_failing}
 use Rattle.my_session.specs.Tables.{react, is_breaking, plan_of}
 
 needs : Doing → Bool
@@ -150,7 +155,7 @@ told_error (Tells (ToldError e)) = e
 told_error (Tells (Dropped closing)) = errors.NoMemory
 
 -- a step from where the first move ends it
-first_goes : (n : ℕ) (s : Seen) → AllGo (suc n) s → goes_on (next s).does ≡ true
+pub first_goes : (n : ℕ) (s : Seen) → AllGo (suc n) s → goes_on (next s).does ≡ true
 first_goes zero s g = g.0
 first_goes (suc n) s g = first_goes n s g.1
 
@@ -174,3 +179,44 @@ end_from s t place e (suc n) m g d = absurd (stopped n s place m g)
 pub each_end : EachEnd
 unfolding RestsAt
 each_end old new behind e w v = end_from (with_end new) behind new.facts.place e v.count (asks_again (moved w.count old) new w.last).1 v.go v.last
+
+-- where the next move tells an error, the next step is one
+tells_fault : (s t : Seen) (e : Error) (step : SessionStep) → (next s).does ≡ Tells (ToldError e) → Does (next s) s t (last_tick step) → IsFault step
+tells_fault s t e Send d l = let no : Tells (ToldError e) ≡ Sends = sym d ∙ l.does in cc
+tells_fault s t e Need d l = let no : Tells (ToldError e) ≡ Needs = sym d ∙ l.does in cc
+tells_fault s t e (Done answers.Ready) d l = let no : Tells (ToldError e) ≡ Tells ToldReady = sym d ∙ l.does in cc
+tells_fault s t e (Done (answers.Row row)) d l = let no : Tells (ToldError e) ≡ Tells (ToldRow row) = sym d ∙ l.does in cc
+tells_fault s t e (Done answers.SetEnd) d l = let no : Tells (ToldError e) ≡ Tells ToldEnd = sym d ∙ l.does in cc
+tells_fault s t e (Done answers.NoSet) d l = let no : Tells (ToldError e) ≡ Tells ToldNone = sym d ∙ l.does in cc
+tells_fault s t e (Fault f) d l = tt
+
+fails_from : (s t : Seen) (e : Error) (step : SessionStep) (n : ℕ) → (next s).does ≡ Tells (ToldError e) → AllGo n s → Does (next (moved n s)) (moved n s) t (last_tick step) → IsFault step
+fails_from s t e step zero d g l = tells_fault s t e step d l
+fails_from s t e step (suc n) d g l = let no : false ≡ true = sym (ap goes_on d) ∙ first_goes n s g in cc
+
+tells_fails : (s : Seen) (e : Error) → (next s).does ≡ Tells (ToldError e) → Fails s
+tells_fails s e d t step v = fails_from s t e step v.count d v.go v.last
+
+-- a call that is told to fail does
+failing_tells : (s : Seen) (fault : LinkFault) (t : Task) → is_open t ≡ true → (next_by (fault_in (failing t fault)) s).does ≡ Tells (ToldError (link_error fault s.facts.place))
+failing_tells s fault tasks.Nothing o = cc
+failing_tells s fault (tasks.Begun c) o = refl
+failing_tells s fault (tasks.Cleaning c) o = refl
+failing_tells s fault (tasks.Own c) o = refl
+failing_tells s fault tasks.Reading o = refl
+failing_tells s fault tasks.Dropping o = refl
+failing_tells s fault tasks.Leaving o = refl
+failing_tells s fault (tasks.Failing c old) o = refl
+
+pub failing_fails : (s t : Seen) (fault : LinkFault) → is_open s.task ≡ true → t ≡ with_failing s fault → Fails t
+failing_fails s t fault o e = subst Fails (sym e) (tells_fails (with_failing s fault) (link_error fault s.facts.place) (failing_tells (with_failing s fault) fault s.task o))
+
+-- where bytes were asked for, the link's end lets the call fail
+pub ended_fails : (old new : Seen) → Steps old new Need → Fails (with_end new)
+unfolding RestsAt
+ended_fails old new w = tells_fails (with_end new) (unexpected_eof new.facts.place) (ap (λ (m : Move). m.does) (asks_again (moved w.count old) new w.last).1)
+
+pub only_fails : (s t : Seen) (step : SessionStep) → Fails s → Steps s t step → (step ≡ Send) ⊎ ((step ≡ Need) ⊎ ((answer : Answer) × (step ≡ Done answer))) → ⊥
+only_fails s t step f v (inl e) = subst IsFault e (f t step v)
+only_fails s t step f v (inr (inl e)) = subst IsFault e (f t step v)
+only_fails s t step f v (inr (inr e)) = subst IsFault e.1 (f t step v)

@@ -1,8 +1,12 @@
 pub mod Awaits
 pub mod Blames
 pub mod Causing
+pub mod Completing
 pub mod Ending
 pub mod Firsts
+pub mod FitMoves
+pub mod FitPlans
+pub mod FitReacts
 pub mod Fitting
 pub mod Fronts
 pub mod Going

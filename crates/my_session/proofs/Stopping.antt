@@ -2,20 +2,18 @@
 use Rattle.std.proofs.Common.{◌≡◌, ℕ, suc, zero, ◌<◌, List, [], ◌∷◌, ◌++◌, length, Bool, true, false, cond, refl, sym, ap, ◌∙◌, subst, arith}
 use Rattle.std.proofs.lemmas.List.{append_assoc}
 use Rattle.my_wire.specs.Front.{Front, Waiting, Broken, Whole}
-use Rattle.my_grammar.specs.declared.spot.Spot.{Spot}
-use Rattle.my_grammar.specs.declared.spot.Spot.TheVariants as spots
 use Rattle.my_grammar.specs.declared.spot.Kind.{Kind}
 use Rattle.my_grammar.specs.declared.spot.Kind.TheVariants.{Failed}
 use Rattle.my_grammar.specs.Contexts.{is_bad}
 use Rattle.my_grammar.specs.Cut.{Read, Rest, Behind, Cut, front_of, kind_of, read_payload, read_front, read_within, read_from, rest_in_front, is_idle, is_over, rest_of, onto, cut_behind, cut}
 use Rattle.my_grammar.specs.CutLaws.{StopsAt}
 use Rattle.my_grammar.specs.Growth.{grow}
-use Rattle.my_grammar.specs.Kinds.{kind_by}
 use Rattle.my_grammar.specs.Sets.{Sets, NoSets, Lone, Heading, Headed, Begun, Ended, with_error, spot_in}
 use Rattle.my_grammar.specs.Sets as sets
-use Rattle.my_grammar.specs.Talk.{Talk, Start, Unwelcome, Greeted, Settled, Asked, Replied, Queried, Silent, Fits, turns, number_of, server_bytes, context_of, limit_of, origin}
+use Rattle.my_grammar.specs.Talk.{Talk, Start, Unwelcome, Greeted, Settled, Asked, Replied, Queried, Silent, Fits, turns, number_of, server_bytes, limit_of, origin}
 use Rattle.my_grammar.proofs.Fronts.{takes_whole}
 use Rattle.my_grammar.proofs.Sound.{exchange_is_cut, over_is_cut}
+use Rattle.my_grammar.proofs.Staying.{over_stops}
 use Rattle.my_session.specs.Entries.{Entry, taken_by, AllDone}
 use Rattle.my_session.specs.Law.{in_order, origins, talks}
 
@@ -118,22 +116,6 @@ failed_over (Replied terms c last kind) p = refl
 failed_over (Queried terms c x) p = error_ends x p
 failed_over (Silent terms c) p = refl
 
-idle_bad : (spot : Spot) (d : Bool) (n : ℕ) (p : List ℕ) → is_idle spot ≡ true → is_bad (kind_by spot d n p) ≡ true
-idle_bad spots.Idle d n p e = refl
-idle_bad spots.Greeting d n p e = cc
-idle_bad spots.Authentication d n p e = cc
-idle_bad spots.Single d n p e = cc
-idle_bad spots.Head d n p e = cc
-idle_bad spots.Further d n p e = cc
-idle_bad (spots.Columns left) d n p e = cc
-idle_bad spots.ColumnsEnd d n p e = cc
-idle_bad spots.Rows d n p e = cc
-
-pub over_stops : (t : Talk) (f : Front) → is_over t ≡ true → StopsAt t f
-over_stops t Waiting e = tt
-over_stops t (Broken fault) e = tt
-over_stops t (Whole p rest next) e = idle_bad (context_of t).spot _ _ p e
-
 -- nothing is found behind an exchange that is over
 pub over_found : (t : Talk) (bytes : List ℕ) → is_over t ≡ true → cut_behind (read_from t bytes) (cut []) ≡ record { talks = t ∷ []; rest = Behind bytes }
 over_found t bytes over =
@@ -153,5 +135,8 @@ unfolding read_from
 fail_read t bytes p rest next at e = let less = (takes_whole (number_of (turns t)) (limit_of t) bytes p rest next at).shorter in fail_within (length bytes) t bytes p rest next (omega arith) at e
 
 -- an ERR in front is found as the end of its exchange
-pub failed_found : (t : Talk) (bytes p rest : List ℕ) (next : ℕ) → front_of t bytes ≡ Whole p rest next → kind_of t p ≡ Failed → (cut_behind (read_from t bytes) (cut [])).talks ≡ grow Failed t p ∷ []
-failed_found t bytes p rest next at e = ap (λ (r : Read). (cut_behind r (cut [])).talks) (fail_read t bytes p rest next at e) ∙ last_talk (record { talk = grow Failed t p; rest = rest })
+pub failed_found : (t : Talk) (bytes p rest : List ℕ) (next : ℕ) → front_of t bytes ≡ Whole p rest next → kind_of t p ≡ Failed → cut_behind (read_from t bytes) (cut []) ≡ record { talks = grow Failed t p ∷ []; rest = Behind rest }
+failed_found t bytes p rest next at e =
+    let u = grow Failed t p in
+    ap (λ (r : Read). cut_behind r (cut [])) (fail_read t bytes p rest next at e)
+    ∙ ap (λ (b : Bool). cond {A = Cut} b (record { talks = u ∷ []; rest = Behind rest }) (record { talks = u ∷ []; rest = cond {A = Rest} b (Behind rest) (rest_in_front rest (front_of u rest)) })) (failed_over t p)

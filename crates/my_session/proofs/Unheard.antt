@@ -16,7 +16,8 @@ use Rattle.my_session.specs.Law.{in_order, talks, at_most_one, errors_along}
 use Rattle.my_session.specs.Machine.{is_greeting}
 use Rattle.my_session.specs.ServerErrors.{error_onto, errors_in, errors_of}
 use Rattle.my_session.proofs.Blames.{is_failed, calm_blames, failed_blames}
-use Rattle.my_session.proofs.Stopping.{stop_within, over_stops, failed_over}
+use Rattle.my_session.proofs.Stopping.{stop_within, failed_over}
+use Rattle.my_grammar.proofs.Staying.{over_stops}
 
 -- of what is read on at most one error is new
 record Adds (t u : Talk) : Type 0 where

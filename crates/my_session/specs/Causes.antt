@@ -86,6 +86,7 @@ pub record IsRefused (s : Seen) (h : History) (newest : Entry) (older : List Ent
   pub reads : err_at (is_greeting (context_of newest.talk).spot) payload ≡ Some packet
   pub error_is : error ≡ server_error packet
   pub talks_are : (found (newest ∷ older) h.taken).talks ≡ in_order (talks older) ++ grow Failed newest.talk payload ∷ []
+  pub rest_is : (found (newest ∷ older) h.taken).rest ≡ Behind rest
 
 -- The call was told to fail; the link's end was told, while a payload was awaited that isn't whole; a payload fits no case. No other.
 abbrev pub IoCause : Seen → History → List Entry → IoKind → Type 0

@@ -1,5 +1,6 @@
 pub mod Calls
 pub mod Causes
+pub mod Complete
 pub mod Commands
 pub mod Ends
 pub mod Entries

@@ -1,6 +1,7 @@
 //! What sessions and their histories say of each other. The function's clause is the law; it does nothing.
 
 ghost use Rattle.my_session.specs.Causes.{EachFault};
+ghost use Rattle.my_session.specs.Complete.{EachWholeCall};
 ghost use Rattle.my_session.specs.Ends.{EachEnd};
 ghost use Rattle.my_session.specs.Fits.{EachAnswerFits};
 ghost use Rattle.my_session.specs.Law.{EachHistory};
@@ -28,4 +29,10 @@ pub fn each_end()
 /// a response that is too long to be sent. A call that was told to fail is told that. Want of memory has no cause.
 pub fn each_fault()
     ensures { EachFault }
+{}
+
+/// Where the bytes that were taken, with those that may still come, are whole exchanges and bring no further ERR, no call fails by them:
+/// an error is want of memory, a command or response above the limit, or what the link told.
+pub fn each_whole_call()
+    ensures { EachWholeCall }
 {}

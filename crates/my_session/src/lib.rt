@@ -16,8 +16,6 @@ mod read;
 mod session;
 mod step;
 mod tables;
-#[cfg(test)]
-mod tests;
 
 pub use answer::{Answer, SessionStep, Tick};
 pub use arrival::Arrival;

@@ -3,10 +3,11 @@
 ghost use Rattle.std.specs.Prelude.{◌≡◌, true, OnOk};
 ghost use Rattle.my_session.specs.Calls.{is_open};
 
-use crate::{
+use crate::hex::bytes_of;
+use my_grammar::Login;
+use my_session::{
     Answer, Call, DriverError, Error, IoError, IoFault, IoKind, LinkFault, Session, SessionStep,
 };
-use my_grammar::Login;
 use my_value::{Row, Value};
 use my_wire::{Attributes, Blob, CodecFault, NoMemory};
 use std::alloc::{AllocError, Global};
@@ -51,35 +52,6 @@ const DO: &str = "0500000003444f2031 ok";
 struct Talk<'a> {
     turns: &'a [(&'a str, &'a str, &'a str)],
     then: Then,
-}
-
-fn nibble(digit: u8) -> u8 {
-    match digit {
-        b'0'..=b'9' => digit - b'0',
-        b'a'..=b'f' => digit - b'a' + 10,
-        _ => 0,
-    }
-}
-
-// The bytes that hexadecimal digits spell; blanks are passed over.
-fn bytes_of(alloc: Global, text: &str) -> Result<Vec<u8>, AllocError> {
-    let mut bytes = Vec::new(alloc);
-    let mut high = None;
-    for &digit in text.as_bytes() {
-        if digit == b' ' {
-            continue;
-        }
-        let value = nibble(digit);
-        match high {
-            None => high = Some(value),
-            Some(first) => {
-                let byte: u8 = value | (first & 15) << 4;
-                bytes.push(byte)?;
-                high = None;
-            }
-        }
-    }
-    Ok(bytes)
 }
 
 fn new_session(alloc: Global) -> Result<Session, NoMemory> {

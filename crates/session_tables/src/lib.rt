@@ -1,0 +1,10 @@
+//! Tables of talks with a server: what the bytes of a stream are cut into, and what a session answers and sends. The
+//! expected values stand in the public pages of the protocol and in worked conversations. This crate has tests alone.
+#![tactic(auto)]
+
+#[cfg(test)]
+mod hex;
+#[cfg(test)]
+mod streams;
+#[cfg(test)]
+mod talks;
