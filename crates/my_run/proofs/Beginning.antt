@@ -1,5 +1,5 @@
 -- How a call begins on a connection.
-use Rattle.std.proofs.Common.{◌≡◌, ◌≢◌, ℕ, ◌+◌, List, [], ◌∷◌, ◌++◌, length, ◌||◌, Bool, true, false, cond, Option, Some, None, refl, sym, ap, ◌∙◌, subst, arith}
+use Rattle.std.proofs.Common.{◌≡◌, ◌≢◌, ℕ, List, [], ◌∷◌, length, ◌||◌, Bool, true, false, cond, Option, Some, None, refl, sym, ap, ◌∙◌, subst, arith}
 use Rattle.std.proofs.lemmas.Bool.Decides.{nat_tests}
 use Rattle.my_grammar.specs.declared.login.Login.{Login}
 use Rattle.my_value.specs.RowParts.{RowParts}
@@ -20,7 +20,6 @@ use Rattle.my_run.specs.declared.poll.Polled.{Polled}
 use Rattle.my_run.specs.declared.tape.Said.TheVariants as says
 use Rattle.my_run.specs.declared.transcript.Outcome.{Outcome}
 use Rattle.my_run.specs.declared.transcript.Use.{Use}
-use Rattle.my_world.specs.Spent.{IsSpent}
 use Rattle.my_run.specs.declared.slot.Conn.{Conn}
 use Rattle.my_run.specs.declared.slot.Slot.TheVariants.{There}
 use Rattle.my_run.specs.declared.transcript.Outcome.TheVariants.{NoSuchHandle, Failed}
@@ -33,8 +32,9 @@ use Rattle.my_run.specs.Keeps.{StandsBy, LinkSpent}
 use Rattle.my_run.specs.Kept.{Asked, Kept, IsHeard, made_of, is_note, answers_in, call_in, asking, ended_by}
 use Rattle.my_run.specs.Poll.{Looks}
 use Rattle.my_run.specs.Rests.{Rests, IsAsked}
-use Rattle.my_run.specs.Sums.{faults_for, ends_for, IsSilent}
+use Rattle.my_run.specs.Sums.{IsSilent}
 use Rattle.my_run.proofs.Hearing.{answer_counts, ended_of}
+use Rattle.my_run.proofs.Playing.{plays_end, there_plays, slot_rests}
 
 -- notes close nothing
 note_keeps : (c : CallKind) (t : Told) → is_note c t ≡ true → closes t c ≡ false
@@ -129,15 +129,9 @@ refuses login s t k call e st w = record {
   alive = λ c. ap (λ (s : Seen). s.ended) e ∙ w.alive (sym (ap (λ (s : Seen). s.closed) e) ∙ c);
 }
 
--- uses of one poll
-faults_here : (u : Use) (us all : List Use) (n : ℕ) → us ≡ u ∷ [] → u.number ≡ n → faults_for n all + u.faults ≡ faults_for n (us ++ all)
-faults_here u us all n e f = subst (λ (vs : List Use). faults_for n all + u.faults ≡ faults_for n (vs ++ all)) (sym e) (grind (arith, nat_tests, f))
-
-ends_here : (u : Use) (us all : List Use) (n : ℕ) → us ≡ u ∷ [] → u.number ≡ n → ends_for n all + u.ends ≡ ends_for n (us ++ all)
-ends_here u us all n e f = subst (λ (vs : List Use). ends_for n all + u.ends ≡ ends_for n (vs ++ all)) (sym e) (grind (arith, nat_tests, f))
-
+-- the use of one poll
 pub silent_elsewhere : (u : Use) (us : List Use) (n m : ℕ) → us ≡ u ∷ [] → u.number ≡ n → m ≢ n → IsSilent m us
-silent_elsewhere u us n m e f ne = subst (IsSilent m) (sym e) (record { faults = grind (arith, nat_tests, f, ne); ends = grind (arith, nat_tests, f, ne) })
+silent_elsewhere u us n m e f ne = subst (IsSilent m) (sym e) (record { faults = grind (arith, nat_tests, f, ne); holds = grind (arith, nat_tests, f, ne); ends = grind (arith, nat_tests, f, ne) })
 
 -- a poll of the open call, as a step shows it
 pub open_polled : (login : Login) (n : ℕ) (a : Asked) (t : Seen) (x y : Looks) (k end : Kept) (p : Polled) (o : Outcome) (us : List Use) → Drives login n a t x y k end p → o ≡ shown p.after → us ≡ p.used ∷ [] → OpenPolled login n a t x y k end o us
@@ -145,13 +139,7 @@ open_polled login n a t x y k end p o us w e f = record {
   once = record { used = p.used; uses = f; after = p.after; end = end; polled = w.polled; outcome = e; left = refl };
   rests = w.rests;
   stepped = w.stepped;
-  spent = λ plans all s.
-      let v = w.spent (plans.reads n) (plans.writes n) (faults_for n all) s.waits (ends_for n all) s.spent in
-      record {
-        waits = s.waits + v.planned;
-        spent = subst (λ (i : ℕ). IsSpent (plans.reads n) y.items (plans.writes n) y.writes end.taken i (s.waits + v.planned) (ends_for n (us ++ all))) (faults_here p.used us all n f w.polled.of_call.number)
-            (subst (λ (i : ℕ). IsSpent (plans.reads n) y.items (plans.writes n) y.writes end.taken (faults_for n all + p.used.faults) (s.waits + v.planned) i) (ends_here p.used us all n f w.polled.of_call.number) v.spent);
-      };
+  spent = λ plans all before s. plays_end login n a t x y k end p [] us plans all before f w s refl;
   silent = λ m ne. silent_elsewhere p.used us n m f w.polled.of_call.number ne;
 }
 
@@ -161,8 +149,8 @@ refused_did look login n call c o us op e f w =
     let a = is_asked login c.session.seen (kept_of c) op w.rests.heard in
     record {
       stood = w;
-      played = λ plans all s. subst (λ (vs : List Use). LinkSpent plans n (look c.link) c.taken.items (vs ++ all)) (sym f) s;
-      silent = λ m _. subst (IsSilent m) (sym f) (record { faults = refl; ends = refl });
+      played = λ plans all before s. slot_rests look login plans n us all before (There c) f s;
+      silent = λ m _. subst (IsSilent m) (sym f) (record { faults = refl; holds = refl; ends = refl });
       does = subst (λ (p : Option Asked). BeginsOn p login n call (kept_of c) o us (Joined true (kept_of c))) (sym a.1) (record { outcome = e; uses = f; same = refl });
     }
 
@@ -173,7 +161,7 @@ begun_did look login n call c d o us idle open_still w v =
     let known : is_refused (has_closed (made_of (kept_of c).calls)) (kind_of call) ≡ false = ap (λ (b : Bool). is_refused b (kind_of call)) (sym (closed_kept login c.session.seen (kept_of c) w.rests.heard)) ∙ open_still in
     record {
       stood = record { rests = v.rests; stepped = v.stepped };
-      played = v.spent;
+      played = λ plans all before s. there_plays look login plans n us all before d (v.spent plans all before s);
       silent = v.silent;
       does = subst (λ (p : Option Asked). BeginsOn p login n call (kept_of c) o us (Joined true (kept_of d))) (sym pending) (subst (λ (b : Bool). Begins b login n call (kept_of c) o us (Joined true (kept_of d))) (sym known) v.once);
     }
@@ -185,8 +173,8 @@ closed_did look login n call c d o us idle shut w rests seen kept link e f =
     let known : is_refused (has_closed (made_of (kept_of c).calls)) (kind_of call) ≡ true = ap (λ (b : Bool). is_refused b (kind_of call)) (sym (closed_kept login c.session.seen (kept_of c) w.rests.heard)) ∙ shut in
     record {
       stood = record { rests = subst (Rests login d.session.seen) (sym kept) rests; stepped = ap (λ (s : Seen). is_begun s.task) seen ∙ w.stepped };
-      played = λ plans all s. subst (λ (vs : List Use). LinkSpent plans n (look d.link) d.taken.items (vs ++ all)) (sym f) (subst (λ l. LinkSpent plans n (look l) d.taken.items all) (sym link) (subst (λ (bytes : List ℕ). LinkSpent plans n (look c.link) bytes all) (sym (ap (λ (k : Kept). k.taken) kept)) s));
-      silent = λ m _. subst (IsSilent m) (sym f) (record { faults = refl; ends = refl });
+      played = λ plans all before s. slot_rests look login plans n us all before (There d) f (subst (λ l. LinkSpent plans n (look l) d.taken.items all before) (sym link) (subst (λ (bytes : List ℕ). LinkSpent plans n (look c.link) bytes all before) (sym (ap (λ (k : Kept). k.taken) kept)) s));
+      silent = λ m _. subst (IsSilent m) (sym f) (record { faults = refl; holds = refl; ends = refl });
       does = subst (λ (p : Option Asked). BeginsOn p login n call (kept_of c) o us (Joined true (kept_of d))) (sym pending) (subst (λ (b : Bool). Begins b login n call (kept_of c) o us (Joined true (kept_of d))) (sym known) (record { outcome = e; uses = f; left = ap (Joined true) kept }));
     }
 

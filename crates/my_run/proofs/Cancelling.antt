@@ -1,7 +1,8 @@
 -- How an open call is cancelled, and what tells without a call.
-use Rattle.std.proofs.Common.{◌≡◌, ℕ, List, [], ◌++◌, ◌&&◌, not, Bool, true, false, cond, Option, Some, refl, sym, ap, ◌∙◌, subst}
+use Rattle.std.proofs.Common.{◌≡◌, ◌⊎◌, inl, inr, ℕ, List, [], ◌&&◌, not, Bool, true, false, cond, Option, Some, refl, sym, ap, ◌∙◌, subst}
 use Rattle.my_grammar.specs.declared.login.Login.{Login}
 use Rattle.my_wire.specs.declared.ok.OkPacket.{OkPacket}
+use Rattle.my_session.specs.declared.call.Call.{Call}
 use Rattle.my_session.specs.declared.call.Task.{Task}
 use Rattle.my_session.specs.declared.call.Task.TheVariants.{Nothing}
 use Rattle.my_session.specs.Calls.{kind_of, fault_in, is_open, is_connect}
@@ -19,7 +20,7 @@ use Rattle.my_run.specs.declared.transcript.Outcome.{Outcome}
 use Rattle.my_run.specs.declared.transcript.Outcome.TheVariants.{Done, Fields, NoSuchHandle}
 use Rattle.my_run.specs.declared.transcript.Use.{Use}
 use Rattle.my_run.specs.Did.{Did}
-use Rattle.my_run.specs.Grows.{Cancels, CancelsWith, TellsFields, TellsWith}
+use Rattle.my_run.specs.Grows.{Calls, CollectsAt, CollectsOn, Cancels, CancelsWith, TellsFields, TellsWith}
 use Rattle.my_run.specs.Handle.{Handle, Joined}
 use Rattle.my_run.specs.Keeps.{Plans, StandsBy, LinkSpent, IsStood, IsPlayed}
 use Rattle.my_run.specs.Kept.{Asked, Kept, ended_by}
@@ -29,13 +30,11 @@ use Rattle.my_run.specs.Slot.{handle_of, kept_of}
 use Rattle.my_run.specs.Sums.{IsSilent}
 use Rattle.my_run.proofs.Beginning.{is_asked, is_idle}
 use Rattle.my_run.proofs.Hearing.{answer_counts, ended_of, is_leaving}
+use Rattle.my_run.proofs.Playing.{slot_rests}
 
--- where a step has no uses, nothing is used
-none_spent : (plans : Plans) (n : ℕ) (x : Looks) (taken : List ℕ) (us all : List Use) → us ≡ [] → LinkSpent plans n x taken all → LinkSpent plans n x taken (us ++ all)
-none_spent plans n x taken us all e w = subst (λ (vs : List Use). LinkSpent plans n x taken (vs ++ all)) (sym e) w
-
+-- where a step has no uses, nothing was met
 none_silent : (us : List Use) (m : ℕ) → us ≡ [] → IsSilent m us
-none_silent us m e = subst (IsSilent m) (sym e) (record { faults = refl; ends = refl })
+none_silent us m e = subst (IsSilent m) (sym e) (record { faults = refl; holds = refl; ends = refl })
 
 -- a cancelling closes the session exactly where the table says so
 closing_by : (s : Seen) (cl b : Bool) → s.closed ≡ b → (b ≡ true → cl ≡ false) → (cond {A = Seen} cl (fell s) (with_task s Nothing s.untold)).closed && not s.closed ≡ cl
@@ -97,11 +96,11 @@ cancelled {L} look login n c d connecting o us op seen st link kept kind e f w =
       rests = subst (Rests login d.session.seen) (sym end) rests;
       stepped = ap (λ (t : Seen). is_begun t.task) seen ∙ ap is_begun (dropped_task s closes);
     } in
-    let spent : (plans : Plans) (all : List Use) → LinkSpent plans n (look c.link) c.taken.items all → LinkSpent plans n (look d.link) d.taken.items (us ++ all) = λ plans all v. none_spent plans n (look d.link) d.taken.items us all f
-    (subst (λ l. LinkSpent plans n (look l) d.taken.items all) (sym link) (subst (λ (bytes : List ℕ). LinkSpent plans n (look c.link) bytes all) (sym (ap (λ (x : Kept). x.taken) end)) v)) in
+    let spent : (plans : Plans) (all : List Use) (before : ℕ) → LinkSpent plans n (look c.link) c.taken.items all before → LinkSpent plans n (look d.link) d.taken.items all before = λ plans all before v.
+    subst (λ l. LinkSpent plans n (look l) d.taken.items all before) (sym link) (subst (λ (bytes : List ℕ). LinkSpent plans n (look c.link) bytes all before) (sym (ap (λ (x : Kept). x.taken) end)) v) in
     record {
       stood = left_is (IsStood login) d connecting stands stands;
-      played = λ plans all v. left_is (IsPlayed look plans n (us ++ all)) d connecting (spent plans all v) (spent plans all v);
+      played = λ plans all before v. slot_rests look login plans n us all before (cond connecting (Ended d) (There d)) f (left_is (IsPlayed look plans n all before) d connecting (spent plans all before v) (spent plans all before v));
       silent = λ m _. none_silent us m f;
       does = subst (λ (p : Option Asked). CancelsWith p login k o us (handle_of (cond connecting (Ended d) (There d)))) (sym asked.1) (record {
         session = s;
@@ -117,7 +116,7 @@ cancelled {L} look login n c d connecting o us op seen st link kept kind e f w =
 pub not_cancelled : {L : Type 0} (look : L → Looks) (login : Login) (n : ℕ) (c : Conn L) (o : Outcome) (us : List Use) → is_open c.session.seen.task ≡ false → o ≡ NoSuchHandle → us ≡ [] → StandsBy login c → Did look login n (Cancels login) o us (There c) (There c)
 not_cancelled look login n c o us idle e f w = record {
   stood = w;
-  played = λ plans all v. none_spent plans n (look c.link) c.taken.items us all f v;
+  played = λ plans all before v. slot_rests look login plans n us all before (There c) f v;
   silent = λ m _. none_silent us m f;
   does = subst (λ (p : Option Asked). CancelsWith p login (kept_of c) o us (Joined true (kept_of c))) (sym (is_idle login c.session.seen (kept_of c) idle w.rests.heard)) (record { outcome = e; uses = f; same = refl });
 }
@@ -126,7 +125,7 @@ not_cancelled look login n c o us idle e f w = record {
 pub same_did : {L : Type 0} (look : L → Looks) (login : Login) (n : ℕ) (R : Handle → Outcome → List Use → Handle → Type 0) (o : Outcome) (us : List Use) (s : Slot L) → us ≡ [] → IsStood login s → R (handle_of s) o us (handle_of s) → Did look login n R o us s s
 same_did look login n R o us s f w r = record {
   stood = w;
-  played = λ plans all v. subst (λ (vs : List Use). IsPlayed look plans n (vs ++ all) s) (sym f) v;
+  played = λ plans all before v. slot_rests look login plans n us all before s f v;
   silent = λ m _. none_silent us m f;
   does = r;
 }
@@ -135,10 +134,52 @@ same_did look login n R o us s f w r = record {
 pub dropped_did : {L : Type 0} (look : L → Looks) (login : Login) (n : ℕ) (o : Outcome) (us : List Use) → o ≡ Done → us ≡ [] → Did {L = L} look login n (Cancels login) o us Held Gone
 dropped_did look login n o us e f = record {
   stood = tt;
-  played = λ plans all v. tt;
+  played = λ plans all before v. slot_rests look login plans n us all before Gone f tt;
   silent = λ m _. none_silent us m f;
   does = record { outcome = e; uses = f; left = refl };
 }
+
+-- where the number's slot is known
+pub back_did : {L : Type 0} (look : L → Looks) (login : Login) (n : ℕ) (R : Handle → Outcome → List Use → Handle → Type 0) (o : Outcome) (us : List Use) (s t : Slot L) → s ≡ t → us ≡ [] → IsStood login s → R (handle_of t) o us (handle_of t) → Did look login n R o us s t
+back_did {L} look login n R o us s t e f w r = subst (λ (x : Slot L). Did look login n R o us x t) (sym e) (same_did look login n R o us t f (subst (IsStood login) e w) r)
+
+pub gone_did : {L : Type 0} (look : L → Looks) (login : Login) (n : ℕ) (o : Outcome) (us : List Use) (s : Slot L) → s ≡ Held → o ≡ Done → us ≡ [] → Did look login n (Cancels login) o us s Gone
+gone_did {L} look login n o us s e f g = subst (λ (x : Slot L). Did look login n (Cancels login) o us x Gone) (sym e) (dropped_did look login n o us f g)
+
+-- no connection is there that a step may name
+abbrev pub NotThere : {L : Type 0} → Slot L → Type 0
+NotThere Gone = Unit {0}
+NotThere Held = Unit {0}
+NotThere (There c) = ⊥
+NotThere (Ended c) = Unit {0}
+
+pub not_there : {L : Type 0} (s : Slot L) → (s ≡ Gone) ⊎ ((s ≡ Held) ⊎ ((c : Conn L) × (s ≡ Ended c))) → NotThere s
+not_there {L} s (inl e) = subst (λ (x : Slot L). NotThere x) (sym e) tt
+not_there {L} s (inr (inl e)) = subst (λ (x : Slot L). NotThere x) (sym e) tt
+not_there {L} s (inr (inr e)) = subst (λ (x : Slot L). NotThere x) (sym e.1) tt
+
+pub calls_away : {L : Type 0} (login : Login) (n : ℕ) (call : Call) (o : Outcome) (us : List Use) (s : Slot L) → NotThere s → o ≡ NoSuchHandle → us ≡ [] → Calls login n call (handle_of s) o us (handle_of s)
+calls_away login n call o us Gone w e f = record { outcome = e; uses = f; same = refl }
+calls_away login n call o us Held w e f = record { outcome = e; uses = f; same = refl }
+calls_away login n call o us (There c) w e f = absurd w
+calls_away login n call o us (Ended c) w e f = record { outcome = e; uses = f; same = refl }
+
+pub collects_away : {L : Type 0} (login : Login) (n : ℕ) (o : Outcome) (us : List Use) (s : Slot L) → NotThere s → o ≡ NoSuchHandle → us ≡ [] → CollectsAt login n (handle_of s) o us (handle_of s)
+collects_away login n o us Gone w e f = record { outcome = e; uses = f; same = refl }
+collects_away login n o us Held w e f = record { outcome = e; uses = f; same = refl }
+collects_away login n o us (There c) w e f = absurd w
+collects_away login n o us (Ended c) w e f = record { outcome = e; uses = f; same = refl }
+
+pub tells_away : {L : Type 0} (login : Login) (o : Outcome) (us : List Use) (s : Slot L) → NotThere s → o ≡ NoSuchHandle → us ≡ [] → TellsFields login (handle_of s) o us (handle_of s)
+tells_away login o us Gone w e f = record { outcome = e; uses = f; same = refl }
+tells_away login o us Held w e f = record { outcome = e; uses = f; same = refl }
+tells_away login o us (There c) w e f = absurd w
+tells_away login o us (Ended c) w e f = record { outcome = e; uses = f; same = refl }
+
+-- the step finds an open call
+pub collect_refused : {L : Type 0} (look : L → Looks) (login : Login) (n : ℕ) (c : Conn L) (o : Outcome) (us : List Use) → is_open c.session.seen.task ≡ true → o ≡ NoSuchHandle → us ≡ [] → StandsBy login c → Did look login n (CollectsAt login n) o us (There c) (There c)
+collect_refused look login n c o us op e f w = same_did look login n (CollectsAt login n) o us (There c) f w
+    (subst (λ (p : Option Asked). CollectsOn p login n (kept_of c) o us (Joined true (kept_of c))) (sym (is_asked login c.session.seen (kept_of c) op w.rests.heard).1) (record { outcome = e; uses = f; same = refl }))
 
 -- the last OK is told
 pub fields_did : {L : Type 0} (look : L → Looks) (login : Login) (n : ℕ) (c : Conn L) (fields : Option OkPacket) (us : List Use) → is_open c.session.seen.task ≡ false → fields ≡ c.session.seen.facts.ok → us ≡ [] → StandsBy login c → Did look login n (TellsFields login) (Fields fields) us (There c) (There c)

@@ -1,11 +1,11 @@
 -- How a connection is dialed and connects.
-use Rattle.std.proofs.Common.{◌≡◌, ◌≢◌, ℕ, ◌+◌, suc, List, [], ◌∷◌, ◌++◌, length, map, Option, Some, None, true, false, refl, sym, ap, ◌∙◌, subst, arith}
+use Rattle.std.proofs.Common.{◌≡◌, ◌≢◌, inl, ℕ, ◌+◌, suc, List, [], ◌∷◌, ◌++◌, length, map, Option, Some, None, true, false, refl, sym, ap, ◌∙◌, subst, arith}
 use Rattle.std.proofs.lemmas.Bool.Decides.{nat_tests}
-use Rattle.std.proofs.lemmas.List.{length-append, length-map}
+use Rattle.std.proofs.lemmas.List.{length-append, length-map, map-append}
 use Rattle.my_grammar.specs.declared.login.Login.{Login}
 use Rattle.my_world.specs.declared.link.ReadItem.{ReadItem}
 use Rattle.my_world.specs.declared.link.WriteItem.{WriteItem}
-use Rattle.my_world.specs.Spent.{ReadsSpent, AllSpent, IsSpent}
+use Rattle.my_world.specs.Spent.{ReadsSpent, AllSpent, IsSpent, Whole}
 use Rattle.my_session.specs.declared.call.Call.TheVariants.{Connect}
 use Rattle.my_session.specs.Calls.{fault_in}
 use Rattle.my_session.specs.Errors.{io_error}
@@ -27,15 +27,17 @@ use Rattle.my_run.specs.Connecting.{Settles, Joins, Dialed}
 use Rattle.my_run.specs.Did.{Stepped}
 use Rattle.my_run.specs.Drives.{Drives}
 use Rattle.my_run.specs.Grows.{ConnectShows, Dials, Holds, Fails, Links, DialsNext, asked_by}
-use Rattle.my_run.specs.Handle.{Joined}
-use Rattle.my_run.specs.Keeps.{Plans, StandsBy, LinkSpent, IsStood, AreStood, IsPlayed, ArePlayed}
+use Rattle.my_run.specs.Handle.{Handle, Joined, at_number}
+use Rattle.my_run.specs.Held.{HeldBy}
+use Rattle.my_run.specs.Keeps.{Plans, StandsBy, LinkSpent, LinkPlays, IsStood, AreStood, IsPlayed, ArePlayed, SlotPlays}
 use Rattle.my_run.specs.Kept.{Asked, Kept, nothing_kept, asking}
 use Rattle.my_run.specs.Poll.{Looks, quiet}
 use Rattle.my_run.specs.Rests.{Rests, IsAsked}
 use Rattle.my_run.specs.Slot.{kept_of, handle_of}
-use Rattle.my_run.specs.Sums.{faults_for, ends_for, IsSilent}
+use Rattle.my_run.specs.Sums.{faults_for, holds_for, ends_for, IsSilent}
 use Rattle.my_run.proofs.Beginning.{begins, silent_elsewhere}
-use Rattle.my_run.proofs.Numbers.{played_elsewhere}
+use Rattle.my_run.proofs.Numbers.{played_elsewhere, put_count, put_here, put_there, held_put}
+use Rattle.my_run.proofs.Playing.{plays_end, there_plays, ended_plays}
 
 -- a new session stands for nothing
 pub fresh_rests : (login : Login) (s : Seen) → s ≡ fresh login → Stands s beginning → Rests login s nothing_kept
@@ -51,19 +53,17 @@ fresh_rests login s e st = record {
 }
 
 -- a link of which nothing was used
-pub fresh_spent : (plans : Plans) (n : ℕ) (x : Looks) (all : List Use) → x.items ≡ plans.reads n → x.writes ≡ plans.writes n → IsSilent n all → LinkSpent plans n x [] all
-fresh_spent plans n x all e f q = record {
-  waits = 0;
-  spent = subst (λ (i : ℕ). IsSpent (plans.reads n) x.items (plans.writes n) x.writes [] i 0 (ends_for n all)) (sym q.faults)
-      (subst (λ (i : ℕ). IsSpent (plans.reads n) x.items (plans.writes n) x.writes [] 0 0 i) (sym q.ends)
-      (subst (λ (is : Option (List ReadItem)). IsSpent (plans.reads n) is (plans.writes n) x.writes [] 0 0 0) (sym e)
-      (subst (λ (ws : Option (List WriteItem)). IsSpent (plans.reads n) (plans.reads n) (plans.writes n) ws [] 0 0 0) (sym f)
-      (record { reads = reads_unspent (plans.reads n); counts = counts_unspent (plans.reads n) (plans.writes n) }))));
-}
+pub fresh_spent : (plans : Plans) (n : ℕ) (x : Looks) (all : List Use) → x.items ≡ plans.reads n → x.writes ≡ plans.writes n → IsSilent n all → LinkSpent plans n x [] all 0
+fresh_spent plans n x all e f q =
+    subst (λ (i : ℕ). IsSpent (plans.reads n) x.items (plans.writes n) x.writes [] i 0 (ends_for n all)) (sym q.faults)
+    (subst (λ (i : ℕ). IsSpent (plans.reads n) x.items (plans.writes n) x.writes [] 0 0 i) (sym q.ends)
+    (subst (λ (is : Option (List ReadItem)). IsSpent (plans.reads n) is (plans.writes n) x.writes [] 0 0 0) (sym e)
+    (subst (λ (ws : Option (List WriteItem)). IsSpent (plans.reads n) (plans.reads n) (plans.writes n) ws [] 0 0 0) (sym f)
+    (record { reads = reads_unspent (plans.reads n); counts = counts_unspent (plans.reads n) (plans.writes n) }))))
   where
     reads_unspent : (plan : Option (List ReadItem)) → ReadsSpent plan plan [] 0
     reads_unspent None = tt
-    reads_unspent (Some plan) = record { bytes = refl; ended = λ h. absurd (omega (arith, h)); planned_end = λ e. e }
+    reads_unspent (Some plan) = record { left_is = Whole [] refl; bytes = refl; ended = λ h. absurd (omega (arith, h)); planned_end = λ e. e }
 
     counts_unspent : (plan : Option (List ReadItem)) (rules : Option (List WriteItem)) → AllSpent plan plan rules rules 0 0
     counts_unspent None rules = tt
@@ -71,11 +71,8 @@ fresh_spent plans n x all e f q = record {
     counts_unspent (Some plan) (Some rules) = record { failed = omega arith; waited = omega arith }
 
 -- where no plan was told, there is nothing to be kept
-pub untold_spent : (plans : Plans) (n : ℕ) (x : Looks) (taken : List ℕ) (all : List Use) → plans.reads n ≡ None → LinkSpent plans n x taken all
-untold_spent plans n x taken all e = record {
-  waits = 0;
-  spent = subst (λ (plan : Option (List ReadItem)). IsSpent plan x.items (plans.writes n) x.writes taken (faults_for n all) 0 (ends_for n all)) (sym e) (record { reads = tt; counts = tt });
-}
+pub untold_spent : (plans : Plans) (n : ℕ) (x : Looks) (taken : List ℕ) (all : List Use) (planned : ℕ) → plans.reads n ≡ None → LinkSpent plans n x taken all planned
+untold_spent plans n x taken all planned e = subst (λ (plan : Option (List ReadItem)). IsSpent plan x.items (plans.writes n) x.writes taken (faults_for n all) planned (ends_for n all)) (sym e) (record { reads = tt; counts = tt })
 
 -- the handshake was polled
 shows : {L : Type 0} (login : Login) (n : ℕ) (a : Asked) (k end : Kept) (u : Use) (c : Conn L) (after : After) (slot : Slot L) (o : Outcome) → kept_of c ≡ end → Rests login c.session.seen end → Settles c n after slot o → ConnectShows login n after end o (handle_of slot)
@@ -91,18 +88,11 @@ slot_is P c n (after.Failed e) slot o s p q = subst P (sym s.0) q
 pub joins : {L : Type 0} (look : L → Looks) (login : Login) (n : ℕ) (a : Asked) (k : Kept) (x : Looks) (c : Conn L) (p : Polled) (slot : Slot L) (o : Outcome) → Drives login n a c.session.seen x (look c.link) k (kept_of c) p → Settles c n p.after slot o → Joins look login n a k x slot o p.used
 joins {L} look login n a k x c p slot o w s =
     let stands : StandsBy login c = record { rests = w.rests; stepped = w.stepped } in
-    let spent : (plans : Plans) (all : List Use) → LinkSpent plans n x k.taken all → LinkSpent plans n (look c.link) c.taken.items (p.used ∷ all) = λ plans all v.
-    let u = w.spent (plans.reads n) (plans.writes n) (faults_for n all) v.waits (ends_for n all) v.spent in
-    let faults : faults_for n all + p.used.faults ≡ faults_for n (p.used ∷ all) = grind (arith, nat_tests, w.polled.of_call.number) in
-    let ends : ends_for n all + p.used.ends ≡ ends_for n (p.used ∷ all) = grind (arith, nat_tests, w.polled.of_call.number) in
-    record {
-      waits = v.waits + u.planned;
-      spent = subst (λ (i : ℕ). IsSpent (plans.reads n) (look c.link).items (plans.writes n) (look c.link).writes c.taken.items i (v.waits + u.planned) (ends_for n (p.used ∷ all))) faults
-          (subst (λ (i : ℕ). IsSpent (plans.reads n) (look c.link).items (plans.writes n) (look c.link).writes c.taken.items (faults_for n all + p.used.faults) (v.waits + u.planned) i) ends u.spent);
-    } in
     record {
       stood = slot_is (IsStood login) c n p.after slot o s stands stands;
-      played = λ plans all v. slot_is (IsPlayed look plans n (p.used ∷ all)) c n p.after slot o s (spent plans all v) (spent plans all v);
+      played = λ plans all before v.
+          let u : LinkPlays login plans n (look c.link) (kept_of c) (p.used ∷ []) all before = plays_end login n a c.session.seen x (look c.link) k (kept_of c) p [] (p.used ∷ []) plans all before refl w v refl in
+          slot_is (SlotPlays look login plans n (p.used ∷ []) all before) c n p.after slot o s (there_plays look login plans n (p.used ∷ []) all before c u) (ended_plays look login plans n (p.used ∷ []) all before c u);
       number = w.polled.of_call.number;
       does = record { after = p.after; end = kept_of c; polled = w.polled; shows = shows login n a k (kept_of c) p.used c p.after slot o refl w.rests s };
     }
@@ -112,42 +102,59 @@ stood_push : {L : Type 0} (login : Login) (ss : List (Slot L)) (s : Slot L) → 
 stood_push login [] s w v = (v, tt)
 stood_push login (x ∷ ss) s w v = (w.0, stood_push login ss s w.1 v)
 
-played_push : {L : Type 0} (look : L → Looks) (plans : Plans) (all : List Use) (i n : ℕ) (ss : List (Slot L)) (s : Slot L) → n ≡ i + length ss → ArePlayed look plans all i ss → IsPlayed look plans n all s → ArePlayed look plans all i (ss ++ s ∷ [])
-played_push look plans all i n [] s e w v = let same : n ≡ i = omega (arith, e) in (subst (λ (j : ℕ). IsPlayed look plans j all s) same v, tt)
-played_push look plans all i n (x ∷ ss) s e w v = (w.0, played_push look plans all (suc i) n ss s (omega (arith, e)) w.1 v)
+played_push : {L : Type 0} (look : L → Looks) (plans : Plans) (all : List Use) (planned : ℕ → ℕ) (i n : ℕ) (ss : List (Slot L)) (s : Slot L) → n ≡ i + length ss → ArePlayed look plans all planned i ss → IsPlayed look plans n all (planned n) s → ArePlayed look plans all planned i (ss ++ s ∷ [])
+played_push look plans all planned i n [] s e w v = let same : n ≡ i = omega (arith, e) in (subst (λ (j : ℕ). IsPlayed look plans j all (planned j) s) same v, tt)
+played_push look plans all planned i n (x ∷ ss) s e w v = (w.0, played_push look plans all planned (suc i) n ss s (omega (arith, e)) w.1 v)
 
-behind_played : {L : Type 0} (look : L → Looks) (plans : Plans) (us all : List Use) (i n : ℕ) (ss : List (Slot L)) → n ≡ i + length ss → ((m : ℕ) → m ≢ n → IsSilent m us) → ArePlayed look plans all i ss → ArePlayed look plans (us ++ all) i ss
-behind_played look plans us all i n [] e q w = tt
-behind_played look plans us all i n (s ∷ ss) e q w = (played_elsewhere look plans i us all s (q i (λ z. absurd (omega (arith, e, z)))) w.0, behind_played look plans us all (suc i) n ss (omega (arith, e)) q w.1)
+behind_played : {L : Type 0} (look : L → Looks) (plans : Plans) (us all : List Use) (before planned : ℕ → ℕ) (i n : ℕ) (ss : List (Slot L)) → n ≡ i + length ss → ((m : ℕ) → m ≢ n → IsSilent m us × (planned m ≡ before m)) → ArePlayed look plans all before i ss → ArePlayed look plans (us ++ all) planned i ss
+behind_played look plans us all before planned i n [] e q w = tt
+behind_played look plans us all before planned i n (s ∷ ss) e q w = (played_elsewhere look plans i us all (before i) (planned i) s (q i (λ z. absurd (omega (arith, e, z)))) w.0, behind_played look plans us all before planned (suc i) n ss (omega (arith, e)) q w.1)
 
-map_push : {A B : Type 0} (f : A → B) (xs : List A) (x : A) → map f (xs ++ x ∷ []) ≡ map f xs ++ f x ∷ []
-map_push f [] x = refl
-map_push f (y ∷ xs) x = ap (λ ys. f y ∷ ys) (map_push f xs x)
+handle_pushed : {L : Type 0} (ss : List (Slot L)) (s : Slot L) → at_number (map handle_of (ss ++ s ∷ [])) (length ss) ≡ handle_of s
+handle_pushed [] s = refl
+handle_pushed (x ∷ ss) s = handle_pushed ss s
 
-pub stepped_new : {L : Type 0} (look : L → Looks) (login : Login) (plans : Plans) (n : ℕ) (o : Outcome) (us : List Use) (ss ts : List (Slot L)) (s : Slot L) → ts ≡ ss ++ s ∷ [] → n ≡ length ss → IsStood login s → ((m : ℕ) → m ≢ n → IsSilent m us) → ((all : List Use) → IsSilent n all → IsPlayed look plans n (us ++ all) s) → Dials login n o us (handle_of s) → AreStood login ss → Stepped look login plans us ss ts (DialsNext login (map handle_of ss) o us (map handle_of ts))
-stepped_new look login plans n o us ss ts s e is st q p d all_st =
+pub stepped_new : {L : Type 0} (look : L → Looks) (login : Login) (plans : Plans) (n : ℕ) (o : Outcome) (us : List Use) (ss ts : List (Slot L)) (s : Slot L) → ts ≡ ss ++ s ∷ [] → n ≡ length ss → IsStood login s → ((m : ℕ) → m ≢ n → IsSilent m us) → ((all : List Use) → IsSilent n all → SlotPlays look login plans n us all 0 s) → Dials login n o us (handle_of s) → AreStood login ss → Stepped look login plans us ss ts (DialsNext login (map handle_of ss) o us (map handle_of ts))
+stepped_new {L} look login plans n o us ss ts s e is st q p d all_st =
     let counted : length ts ≡ length ss + 1 = ap length e ∙ length-append ss (s ∷ []) in
+    let last : at_number (map handle_of ts) n ≡ handle_of s = ap (λ (xs : List (Slot L)). at_number (map handle_of xs) n) e ∙ ap (at_number (map handle_of (ss ++ s ∷ []))) is ∙ handle_pushed ss s in
     record {
       stood = subst (AreStood login) (sym e) (stood_push login ss s all_st st);
-      played = λ all none w. subst (ArePlayed look plans (us ++ all) 0) (sym e) (played_push look plans (us ++ all) 0 n ss s (omega (arith, is)) (behind_played look plans us all 0 n ss (omega (arith, is)) q w) (p all (none n (omega (arith, is)))));
+      played = λ all before none w.
+          let past = none n (omega (arith, is)) in
+          let v = p all past.0 in
+          let planned : ℕ → ℕ = put_count n v.planned before in
+          record {
+            planned = planned;
+            played = subst (ArePlayed look plans (us ++ all) planned 0) (sym e) (played_push look plans (us ++ all) planned 0 n ss s (omega (arith, is)) (behind_played look plans us all before planned 0 n ss (omega (arith, is)) (λ m ne. (q m ne, put_there n m v.planned before ne)) w) (subst (λ (i : ℕ). IsPlayed look plans n (us ++ all) i s) (sym (put_here n v.planned before)) v.played));
+            held = held_put login plans n (map handle_of ts) us before v.planned q (subst (λ (h : Handle). HeldBy login (plans.reads n) h (holds_for n us) (before n) v.planned) (sym last) (subst (λ (i : ℕ). HeldBy login (plans.reads n) (handle_of s) (holds_for n us) i v.planned) (sym past.1) v.held));
+            past = λ m h. put_there n m v.planned before (λ z. absurd (omega (arith, z, h, is, counted))) ∙ (none m (omega (arith, h, counted))).1;
+          };
       past = λ m h. q m (λ z. absurd (omega (arith, z, h, is, counted)));
       longer = omega (arith, counted);
-      grows = record { made = handle_of s; dials = subst (λ (i : ℕ). Dials login i o us (handle_of s)) (is ∙ sym (length-map ss handle_of)) d; others = ap (map handle_of) e ∙ map_push handle_of ss s };
+      grows = record { made = handle_of s; dials = subst (λ (i : ℕ). Dials login i o us (handle_of s)) (is ∙ sym (length-map ss handle_of)) d; others = ap (map handle_of) e ∙ map-append handle_of ss (s ∷ []) };
     }
 
 -- a dial's own use meets nothing of a link, and the poll's behind it is the link's
-pub dialed_spent : {L : Type 0} (look : L → Looks) (plans : Plans) (n : ℕ) (s : Slot L) (u : Use) (us all : List Use) → us ≡ quiet n ∷ u ∷ [] → u.number ≡ n → IsPlayed look plans n (u ∷ all) s → IsPlayed look plans n (us ++ all) s
-dialed_spent look plans n s u us all e f w = subst (λ (vs : List Use). IsPlayed look plans n (vs ++ all) s) (sym e) (played_elsewhere look plans n (quiet n ∷ []) (u ∷ all) s (record { faults = grind (arith, nat_tests); ends = grind (arith, nat_tests) }) w)
+pub dialed_spent : {L : Type 0} (look : L → Looks) (login : Login) (plans : Plans) (n : ℕ) (s : Slot L) (u : Use) (us all : List Use) (before : ℕ) → us ≡ quiet n ∷ u ∷ [] → u.number ≡ n → SlotPlays look login plans n (u ∷ []) all before s → SlotPlays look login plans n us all before s
+dialed_spent look login plans n s u us all before e f w =
+    let none : holds_for n (quiet n ∷ []) ≡ 0 = grind (arith, nat_tests) in
+    let same : holds_for n us ≡ holds_for n (u ∷ []) = ap (holds_for n) e ∙ omega (arith, none) in
+    record {
+      planned = w.planned;
+      played = subst (λ (vs : List Use). IsPlayed look plans n (vs ++ all) w.planned s) (sym e) (played_elsewhere look plans n (quiet n ∷ []) (u ∷ all) w.planned w.planned s (record { faults = grind (arith, nat_tests); holds = none; ends = grind (arith, nat_tests) }, refl) w.played);
+      held = subst (λ (i : ℕ). HeldBy login (plans.reads n) (handle_of s) i before w.planned) (sym same) w.held;
+    }
 
 pub dialed_silent : (n m : ℕ) (u : Use) (us : List Use) → us ≡ quiet n ∷ u ∷ [] → u.number ≡ n → m ≢ n → IsSilent m us
-dialed_silent n m u us e f ne = subst (IsSilent m) (sym e) (record { faults = grind (arith, nat_tests, f, ne); ends = grind (arith, nat_tests, f, ne) })
+dialed_silent n m u us e f ne = subst (IsSilent m) (sym e) (record { faults = grind (arith, nat_tests, f, ne); holds = grind (arith, nat_tests, f, ne); ends = grind (arith, nat_tests, f, ne) })
 
 -- the dial gave a link, over which the handshake was polled
 pub linked : {L : Type 0} (look : L → Looks) (login : Login) (n : ℕ) (l : L) (reads : Option (List ReadItem)) (writes : Option (List WriteItem)) (slot : Slot L) (o : Outcome) (us : List Use) (u : Use) → (look l).items ≡ reads → (look l).writes ≡ writes → us ≡ quiet n ∷ u ∷ [] → Joins look login n (asked_by nothing_kept Connect) (asking nothing_kept Connect None) (look l) slot o u → Dialed look login n reads writes slot o us
 linked look login n l reads writes slot o us u e f is w = record {
   stood = w.stood;
-  played = λ plans all p q s. dialed_spent look plans n slot u us all is w.number (w.played plans all (fresh_spent plans n (look l) all (e ∙ sym p) (f ∙ sym q) s));
-  untold = λ plans all p. dialed_spent look plans n slot u us all is w.number (w.played plans all (untold_spent plans n (look l) [] all p));
+  played = λ plans all p q s. dialed_spent look login plans n slot u us all 0 is w.number (w.played plans all 0 (fresh_spent plans n (look l) all (e ∙ sym p) (f ∙ sym q) s));
+  untold = λ plans all before p. dialed_spent look login plans n slot u us all before is w.number (w.played plans all before (untold_spent plans n (look l) [] all before p));
   silent = λ m ne. dialed_silent n m u us is w.number ne;
   does = Links u is w.does;
 }
@@ -155,8 +162,8 @@ linked look login n l reads writes slot o us u e f is w = record {
 pub dial_held : {L : Type 0} (look : L → Looks) (login : Login) (n : ℕ) (reads : Option (List ReadItem)) (writes : Option (List WriteItem)) (o : Outcome) (us : List Use) → reads ≡ None → o ≡ Pending → us ≡ record (quiet n) { holds = 1 } ∷ [] → Dialed look login n reads writes Held o us
 dial_held look login n reads writes o us none e f = record {
   stood = tt;
-  played = λ plans all p q s. p ∙ none;
-  untold = λ plans all p. p;
+  played = λ plans all p q s. record { planned = 0 + holds_for n us; played = p ∙ none; held = inl refl };
+  untold = λ plans all before p. record { planned = before + holds_for n us; played = p; held = inl refl };
   silent = λ m ne. silent_elsewhere (record (quiet n) { holds = 1 }) us n m f refl ne;
   does = Holds e f refl;
 }
@@ -164,8 +171,8 @@ dial_held look login n reads writes o us none e f = record {
 pub dial_failed : {L : Type 0} (look : L → Looks) (login : Login) (n : ℕ) (reads : Option (List ReadItem)) (writes : Option (List WriteItem)) (o : Outcome) (us : List Use) → o ≡ Failed (io_error Dial 0) → us ≡ record (quiet n) { faults = 1 } ∷ [] → Dialed look login n reads writes Gone o us
 dial_failed look login n reads writes o us e f = record {
   stood = tt;
-  played = λ plans all p q s. tt;
-  untold = λ plans all p. tt;
+  played = λ plans all p q s. record { planned = 0 + holds_for n us; played = tt; held = inl refl };
+  untold = λ plans all before p. record { planned = before + holds_for n us; played = tt; held = inl refl };
   silent = λ m ne. silent_elsewhere (record (quiet n) { faults = 1 }) us n m f refl ne;
   does = Fails e f refl;
 }

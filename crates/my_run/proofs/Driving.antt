@@ -34,7 +34,7 @@ taken_kept k a Pending = refl
 taken_kept k a (Answered answer) = refl
 taken_kept k a (Failed e) = refl
 
-pub drives : (login : Login) (n : ℕ) (a : Asked) (t : Seen) (x y : Looks) (k b end : Kept) (p : Polled) → Polls t x y k.sent b.sent k.taken b.taken n p → SpendsOn x y k.taken b.taken p.used → b.calls ≡ k.calls → b.pending ≡ Some a → PollRests login t b a p.used p.after → end ≡ kept_behind b a p.after → Drives login n a t x y k end p
+pub drives : (login : Login) (n : ℕ) (a : Asked) (t : Seen) (x y : Looks) (k b end : Kept) (p : Polled) → Polls t x y k.sent b.sent k.taken b.taken n p → SpendsOn t x y k.taken b.taken p.used → b.calls ≡ k.calls → b.pending ≡ Some a → PollRests login t b a p.used p.after → end ≡ kept_behind b a p.after → Drives login n a t x y k end p
 drives login n a t x y k b end p w s calls pending r is =
     let rests = poll_rests login t b a p.used p.after w.cause r in
     let at : Drives login n a t x y k (kept_behind b a p.after) p = record {
@@ -50,7 +50,7 @@ drives login n a t x y k b end p w s calls pending r is =
       };
       rests = rests.0;
       stepped = rests.1;
-      spent = subst (λ (bytes : List ℕ). SpendsOn x y k.taken bytes p.used) (sym (taken_kept b a p.after)) s;
+      spent = subst (λ (bytes : List ℕ). SpendsOn t x y k.taken bytes p.used) (sym (taken_kept b a p.after)) s;
     } in
     subst (λ (e : Kept). Drives login n a t x y k e p) (sym is) at
 

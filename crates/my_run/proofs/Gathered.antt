@@ -1,10 +1,10 @@
 -- A gathering, row by row.
-use Rattle.std.proofs.Common.{if◌then◌else◌, ◌≡◌, ◌≢◌, ℕ, ◌+◌, List, [], ◌∷◌, ◌++◌, length, Option, Some, None, unwrap_or, Bool, true, false, refl, sym, ap, ◌∙◌, subst, arith}
+use Rattle.std.proofs.Common.{if◌then◌else◌, ◌≡◌, ◌≢◌, ℕ, List, [], ◌∷◌, ◌++◌, length, Option, Some, None, unwrap_or, Bool, true, false, refl, sym, ap, ◌∙◌, subst, arith}
 use Rattle.std.proofs.lemmas.Bool.Decides.{nat_tests}
-use Rattle.std.proofs.lemmas.List.{append_assoc}
+use Rattle.std.proofs.lemmas.List.{append_assoc, append-nil}
 use Rattle.my_value.specs.RowParts.{RowParts}
 use Rattle.my_grammar.specs.declared.login.Login.{Login}
-use Rattle.my_world.specs.Spent.{IsSpent}
+use Rattle.my_session.specs.declared.answer.Answer.{Answer}
 use Rattle.my_session.specs.declared.answer.Answer.TheVariants as answers
 use Rattle.my_session.specs.declared.call.Call.TheVariants.{NextRow}
 use Rattle.my_session.specs.declared.error.Error.{Error}
@@ -26,18 +26,20 @@ use Rattle.my_run.specs.declared.tape.Said.TheVariants as says
 use Rattle.my_run.specs.declared.transcript.Outcome.{Outcome}
 use Rattle.my_run.specs.declared.transcript.Outcome.TheVariants.{Failed}
 use Rattle.my_run.specs.declared.transcript.Use.{Use}
+use Rattle.my_run.specs.Causes.{PollEnds}
 use Rattle.my_run.specs.Did.{Did}
 use Rattle.my_run.specs.Drives.{Drives, RowsOf}
 use Rattle.my_run.specs.Gathering.{Shows, AsksNext, GoesNext, Goes, GatherDid, GatherSoFar}
 use Rattle.my_run.specs.Grows.{Calls, Begins, BeginsOn, CollectsAt, CollectsOn, Collects, Gathers, GathersOn, gathered, asked_by}
 use Rattle.my_run.specs.Handle.{Handle, Joined}
-use Rattle.my_run.specs.Keeps.{Plans, StandsBy, LinkSpent}
+use Rattle.my_run.specs.Keeps.{StandsBy, LinkSpent}
 use Rattle.my_run.specs.Kept.{Asked, Kept, made_of, asking, ended_by}
 use Rattle.my_run.specs.Poll.{Looks}
 use Rattle.my_run.specs.Rests.{Rests, IsAsked}
 use Rattle.my_run.specs.Slot.{kept_of}
-use Rattle.my_run.specs.Sums.{faults_for, ends_for, IsSilent}
+use Rattle.my_run.specs.Sums.{holds_for, IsSilent}
 use Rattle.my_run.proofs.Beginning.{begins, refuses, closed_did, closed_kept, is_idle}
+use Rattle.my_run.proofs.Playing.{plays_on, plays_end, holds_behind, there_plays}
 
 -- nothing was gathered yet
 pub none_gathered : {L : Type 0} (look : L → Looks) (login : Login) (n : ℕ) (a : Asked) (c : Conn L) (us : List Use) → us ≡ [] → IsAsked login c.session.seen (kept_of c) a → GatherSoFar look login n a c c us
@@ -45,34 +47,22 @@ none_gathered look login n a c us e w = record {
   now = a;
   asked = w;
   onto = λ vs o t g. subst (λ (xs : List Use). Gathers login n (xs ++ vs) a (kept_of c) o t) (sym e) g;
-  spent = λ plans all s. subst (λ (xs : List Use). LinkSpent plans n (look c.link) c.taken.items (xs ++ all)) (sym e) s;
-  silent = λ m _. subst (IsSilent m) (sym e) (record { faults = refl; ends = refl });
+  spent = λ plans all before s. subst (λ (xs : List Use). LinkSpent plans n (look c.link) c.taken.items (xs ++ all) before) (sym e) s;
+  no_hold = ap (holds_for n) e;
+  silent = λ m _. subst (IsSilent m) (sym e) (record { faults = refl; holds = refl; ends = refl });
 }
 
--- one use more, counted at the end
-faults_end : (n : ℕ) (us all : List Use) (u : Use) → u.number ≡ n → faults_for n (us ++ all) + u.faults ≡ faults_for n ((us ++ u ∷ []) ++ all)
-faults_end n [] all u e = grind (arith, nat_tests, e)
-faults_end n (v ∷ us) all u e = omega (arith, faults_end n us all u e)
-
-ends_end : (n : ℕ) (us all : List Use) (u : Use) → u.number ≡ n → ends_for n (us ++ all) + u.ends ≡ ends_for n ((us ++ u ∷ []) ++ all)
-ends_end n [] all u e = grind (arith, nat_tests, e)
-ends_end n (v ∷ us) all u e = omega (arith, ends_end n us all u e)
-
 silent_end : (m n : ℕ) (us : List Use) (u : Use) → u.number ≡ n → m ≢ n → IsSilent m us → IsSilent m (us ++ u ∷ [])
-silent_end m n [] u e ne q = record { faults = grind (arith, nat_tests, e, ne); ends = grind (arith, nat_tests, e, ne) }
+silent_end m n [] u e ne q = record { faults = grind (arith, nat_tests, e, ne); holds = grind (arith, nat_tests, e, ne); ends = grind (arith, nat_tests, e, ne) }
 silent_end m n (v ∷ us) u e ne q =
-    let r = silent_end m n us u e ne (record { faults = omega (arith, q.faults); ends = omega (arith, q.ends) }) in
-    record { faults = omega (arith, r.faults, q.faults); ends = omega (arith, r.ends, q.ends) }
+    let r = silent_end m n us u e ne (record { faults = omega (arith, q.faults); holds = omega (arith, q.holds); ends = omega (arith, q.ends) }) in
+    record { faults = omega (arith, r.faults, q.faults); holds = omega (arith, r.holds, q.holds); ends = omega (arith, r.ends, q.ends) }
 
--- a poll's part of the link's plan
-spent_end : (login : Login) (n : ℕ) (a : Asked) (t : Seen) (x y : Looks) (k end : Kept) (p : Polled) (us more : List Use) (plans : Plans) (all : List Use) → more ≡ us ++ p.used ∷ [] → Drives login n a t x y k end p → LinkSpent plans n x k.taken (us ++ all) → LinkSpent plans n y end.taken (more ++ all)
-spent_end login n a t x y k end p us more plans all e w s =
-    let v = w.spent (plans.reads n) (plans.writes n) (faults_for n (us ++ all)) s.waits (ends_for n (us ++ all)) s.spent in
-    subst (λ (xs : List Use). LinkSpent plans n y end.taken (xs ++ all)) (sym e) (record {
-      waits = s.waits + v.planned;
-      spent = subst (λ (i : ℕ). IsSpent (plans.reads n) y.items (plans.writes n) y.writes end.taken i (s.waits + v.planned) (ends_for n ((us ++ p.used ∷ []) ++ all))) (faults_end n us all p.used w.polled.of_call.number)
-          (subst (λ (i : ℕ). IsSpent (plans.reads n) y.items (plans.writes n) y.writes end.taken (faults_for n (us ++ all) + p.used.faults) (s.waits + v.planned) i) (ends_end n us all p.used w.polled.of_call.number) v.spent);
-    })
+-- a poll that was answered didn't hold
+answered_quiet : (login : Login) (a : Asked) (k end : Kept) (u : Use) (p : After) (answer : Answer) → p ≡ after.Answered answer → PollEnds login a k u p end → u.holds ≡ 0
+answered_quiet login a k end u after.Pending answer e w = cc
+answered_quiet login a k end u (after.Answered other) answer e w = w.3.holds
+answered_quiet login a k end u (after.Failed x) answer e w = w.3
 
 -- behind a row the next is asked for
 pub next_row : {L : Type 0} (e f : Conn L) (rows : Option (List RowParts)) (p : After) → GoesNext e f rows p → (row : RowParts) × (p ≡ after.Answered (answers.Row row)) × AsksNext e f (unwrap_or rows [] ++ row ∷ [])
@@ -84,9 +74,6 @@ next_row e f rows (after.Answered answers.NoSet) g = absurd g
 next_row e f rows (after.Failed x) g = absurd g
 
 module _ {L : Type 0} (look : L → Looks) (login : Login) (n : ℕ) (a : Asked) (c d e f : Conn L) (us more : List Use) (p : Polled) (rows : Option (List RowParts)) (so : GatherSoFar look login n a c d us) (w : Drives login n so.now e.session.seen (look d.link) (look e.link) (kept_of d) (kept_of e) p) (r : RowsOf so.now p.after rows) (is : more ≡ us ++ p.used ∷ []) where
-  spent_more : (plans : Plans) (all : List Use) → LinkSpent plans n (look c.link) c.taken.items all → LinkSpent plans n (look e.link) e.taken.items (more ++ all)
-  spent_more plans all s = spent_end login n so.now e.session.seen (look d.link) (look e.link) (kept_of d) (kept_of e) p us more plans all is w (so.spent plans all s)
-
   silent_more : (m : ℕ) → m ≢ n → IsSilent m more
   silent_more m ne = subst (IsSilent m) (sym is) (silent_end m n us p.used w.polled.of_call.number ne (so.silent m ne))
 
@@ -104,12 +91,14 @@ module _ {L : Type 0} (look : L → Looks) (login : Login) (n : ℕ) (a : Asked)
       let rows_are : rows ≡ so.now.rows = subst (λ (x : After). RowsOf so.now x rows) next.1 r in
       let all : unwrap_or rows [] ++ row ∷ [] ≡ gathered so.now ++ row ∷ [] = ap (λ (x : Option (List RowParts)). unwrap_or x [] ++ row ∷ []) rows_are in
       let kept : kept_of f ≡ asking (kept_of e) NextRow (Some (gathered so.now ++ row ∷ [])) = asks.kept ∙ ap (λ xs. asking (kept_of e) NextRow (Some xs)) all in
+      let quiet : p.used.holds ≡ 0 = answered_quiet login so.now w.polled.behind (kept_of e) p.used p.after (answers.Row row) next.1 w.polled.ends in
       let now : Asked = record { call = NextRow; sent_from = length (kept_of e).sent; rows = Some (gathered so.now ++ row ∷ []) } in
       record {
         now = now;
         asked = subst (λ (k : Kept). IsAsked login f.session.seen k now) (sym kept) (begins login e.session.seen f.session.seen (kept_of e) NextRow (Some (gathered so.now ++ row ∷ [])) asks.seen asks.stands w.rests);
         onto = λ vs o t h. onto_more vs o t (subst (λ (x : After). GathersOn (Gathers login n vs) so.now x (kept_of e) o vs t) (sym next.1) (subst (λ (k : Kept). Gathers login n vs now k o t) kept h));
-        spent = λ plans xs s. subst (λ l. LinkSpent plans n (look l) f.taken.items (more ++ xs)) (sym asks.link) (subst (λ (bytes : List ℕ). LinkSpent plans n (look e.link) bytes (more ++ xs)) (sym (ap (λ (k : Kept). k.taken) kept)) (spent_more plans xs s));
+        spent = λ plans xs before s. subst (λ l. LinkSpent plans n (look l) f.taken.items (more ++ xs) before) (sym asks.link) (subst (λ (bytes : List ℕ). LinkSpent plans n (look e.link) bytes (more ++ xs) before) (sym (ap (λ (k : Kept). k.taken) kept)) (plays_on login n so.now e.session.seen (look d.link) (look e.link) (kept_of d) (kept_of e) p us more plans xs before is w (so.spent plans xs before s) quiet));
+        no_hold = holds_behind n us more p.used is w.polled.of_call.number so.no_hold ∙ quiet;
         silent = silent_more;
       }
 
@@ -124,17 +113,13 @@ module _ {L : Type 0} (look : L → Looks) (login : Login) (n : ℕ) (a : Asked)
   pub gather_over : (o : Outcome) → f ≡ e → Shows rows p.after o → GatherDid look login n a c f o more
   gather_over o same s =
       let done : GatherDid look login n a c e o more = record {
-        gathers = subst (λ (xs : List Use). Gathers login n xs a (kept_of c) o (Joined true (kept_of e))) (append_nil_more more) (onto_more [] o (Joined true (kept_of e)) (shows_on p.after o r s));
+        gathers = subst (λ (xs : List Use). Gathers login n xs a (kept_of c) o (Joined true (kept_of e))) (append-nil more) (onto_more [] o (Joined true (kept_of e)) (shows_on p.after o r s));
         rests = w.rests;
         stepped = w.stepped;
-        spent = spent_more;
+        spent = λ plans all before s. plays_end login n so.now e.session.seen (look d.link) (look e.link) (kept_of d) (kept_of e) p us more plans all before is w (so.spent plans all before s) so.no_hold;
         silent = silent_more;
       } in
       subst (λ (x : Conn L). GatherDid look login n a c x o more) (sym same) done
-    where
-      append_nil_more : (xs : List Use) → xs ++ [] ≡ xs
-      append_nil_more [] = refl
-      append_nil_more (x ∷ xs) = ap (λ ys. x ∷ ys) (append_nil_more xs)
 
 -- a step begins to gather
 and_true : (b : Bool) → is_refused b (kind_of NextRow) ≡ false → b ≡ false
@@ -152,7 +137,7 @@ collect_begun {L} look login n c b d s t o us idle open_still seen is st kept li
     let closed : has_closed (made_of k.calls) ≡ false = sym (closed_kept login c.session.seen k w.rests.heard) ∙ sym (ap (λ (s : Seen). s.closed) seen) ∙ and_true s.closed open_still in
     record {
       stood = record { rests = g.rests; stepped = g.stepped };
-      played = λ plans all v. g.spent plans all (subst (λ l. LinkSpent plans n (look l) b.taken.items all) (sym link) (subst (λ (bytes : List ℕ). LinkSpent plans n (look c.link) bytes all) (sym (ap (λ (x : Kept). x.taken) kept)) v));
+      played = λ plans all before v. there_plays look login plans n us all before d (g.spent plans all before (subst (λ l. LinkSpent plans n (look l) b.taken.items all before) (sym link) (subst (λ (bytes : List ℕ). LinkSpent plans n (look c.link) bytes all before) (sym (ap (λ (x : Kept). x.taken) kept)) v)));
       silent = g.silent;
       does = subst (λ (q : Option Asked). CollectsOn q login n k o us (Joined true (kept_of d))) (sym pending) (subst (λ (x : Bool). Collects x login n k o us (Joined true (kept_of d))) (sym closed) (subst (λ (x : Kept). Gathers login n us a x o (Joined true (kept_of d))) kept g.gathers));
     }

@@ -29,7 +29,8 @@ use Rattle.my_session.specs.Passed.{IsItem, ArePassed}
 use Rattle.my_session.specs.Seen.{Seen}
 use Rattle.my_session.specs.Stands.{Stands, call_with, is_alive, owes}
 use Rattle.my_session.specs.Steps.{Steps, AllGo, goes_on, moved, after_step, with_owed, with_unread, with_end, with_failing, failing}
-use Rattle.my_session.proofs.Ending.{each_end}
+use Rattle.my_session.proofs.Completing.{each_whole_call}
+use Rattle.my_session.proofs.Ending.{each_end, first_goes}
 use Rattle.my_session.proofs.Fitting.{each_answer_fits}
 use Rattle.my_run.specs.declared.tape.DoneCall.{DoneCall}
 use Rattle.my_run.specs.declared.tape.Said.{Said}
@@ -183,6 +184,7 @@ fails_now login s t k a e w p v n st =
         login_is = u.3.login ∙ w.login_is;
         kept = passing_of k w.history (kind_in s.task) s.text u.0 w.stands.heard.pending_is u.1 w.kept;
         because = u.3.cause;
+        whole = each_whole_call u.3.here (passing w.history u.0) e u.3.cause;
       };
       heard = heard;
       step = v;
@@ -243,10 +245,6 @@ is_answered login s t k a answer w v n st =
 -- a quit of a closed session doesn't fail
 leaving_told : (s : Seen) → s.task ≡ Leaving → s.owed ≡ [] → (next s).does ≡ Tells ToldReady
 leaving_told s e o = ap (λ t. (next_by (fault_in t) s).does) e ∙ ap (λ bytes. (when_owed bytes s).does) o ∙ ap (λ t. (planned s (plan_of t s.context.spot s.untold)).does) e
-
-first_goes : (n : ℕ) (s : Seen) → AllGo (suc n) s → goes_on (next s).does ≡ true
-first_goes zero s g = g.0
-first_goes (suc n) s g = first_goes n s g.1
 
 leaving_now : (s t : Seen) (e : Error) → (next s).does ≡ Tells ToldReady → FaultIs (next s) s t e → e ≡ errors.NoMemory
 leaving_now s t (errors.Driver e) r d = let no : Tells ToldReady ≡ Tells (ToldError (errors.Driver e)) = sym r ∙ d.does in cc

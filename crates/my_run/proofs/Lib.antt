@@ -6,11 +6,14 @@ pub mod Spends
 pub mod Hearing
 pub mod Rounds
 pub mod Driving
+pub mod Playing
 pub mod Beginning
 pub mod Numbers
+pub mod Joining
 pub mod Connecting
 pub mod Runs
 pub mod Cancelling
 pub mod Taping
 pub mod Resuming
 pub mod Gathered
+pub mod Readying

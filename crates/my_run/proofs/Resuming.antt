@@ -1,5 +1,5 @@
 -- How what is open at a number is polled.
-use Rattle.std.proofs.Common.{◌≡◌, ℕ, List, [], ◌∷◌, ◌++◌, Option, Some, None, is_some, Bool, true, false, refl, sym, subst}
+use Rattle.std.proofs.Common.{◌≡◌, ℕ, List, [], ◌∷◌, Option, Some, None, is_some, Bool, true, false, refl, sym, subst}
 use Rattle.my_value.specs.RowParts.{RowParts}
 use Rattle.my_grammar.specs.declared.login.Login.{Login}
 use Rattle.my_session.specs.Calls.{kind_of, is_open, is_connect}
@@ -16,13 +16,14 @@ use Rattle.my_run.specs.Did.{Did, Resumed}
 use Rattle.my_run.specs.Gathering.{GatheredOn}
 use Rattle.my_run.specs.Grows.{GoesOn, GoesOnWith, PollsOn}
 use Rattle.my_run.specs.Handle.{Joined}
-use Rattle.my_run.specs.Keeps.{StandsBy, IsPlayed}
+use Rattle.my_run.specs.Keeps.{StandsBy, SlotPlays}
 use Rattle.my_run.specs.Kept.{Asked}
 use Rattle.my_run.specs.Poll.{Looks}
 use Rattle.my_run.specs.Rests.{IsAsked}
 use Rattle.my_run.specs.Slot.{handle_of, kept_of}
 use Rattle.my_run.proofs.Beginning.{is_asked, is_idle, silent_elsewhere}
 use Rattle.my_run.proofs.Cancelling.{same_did}
+use Rattle.my_run.proofs.Playing.{there_plays}
 
 -- what is open there
 pub open_asked : {L : Type 0} (login : Login) (c : Conn L) → is_open c.session.seen.task ≡ true → StandsBy login c → (a : Asked) × IsAsked login c.session.seen (kept_of c) a
@@ -37,7 +38,7 @@ not_resumed look login n c o us idle e f w = same_did look login n (GoesOn login
 pub connect_resumed : {L : Type 0} (look : L → Looks) (login : Login) (n : ℕ) (c : Conn L) (a : Asked) (slot : Slot L) (o : Outcome) (us : List Use) (u : Use) → is_connect (kind_of a.call) ≡ true → (kept_of c).pending ≡ Some a → us ≡ u ∷ [] → Joins look login n a (kept_of c) (look c.link) slot o u → Did look login n (GoesOn login n) o us (There c) slot
 connect_resumed look login n c a slot o us u kind asked e w = record {
   stood = w.stood;
-  played = λ plans all v. subst (λ (vs : List Use). IsPlayed look plans n (vs ++ all) slot) (sym e) (w.played plans all v);
+  played = λ plans all before v. subst (λ (vs : List Use). SlotPlays look login plans n vs all before slot) (sym e) (w.played plans all before v);
   silent = λ m ne. silent_elsewhere u us n m e w.number ne;
   does = subst (λ (p : Option Asked). GoesOnWith p login n (kept_of c) o us (handle_of slot)) (sym asked) (subst (λ (b : Bool). PollsOn b a.rows login n a (kept_of c) o us (handle_of slot)) (sym kind) (u, e, w.does));
 }
@@ -52,7 +53,7 @@ call_resumed {L} look login n c a slot o us kind rows asked w =
     let d = w.behind in
     let polled : Did look login n (GoesOn login n) o us (There c) (There d) = record {
       stood = record { rests = w.polled.rests; stepped = w.polled.stepped };
-      played = w.polled.spent;
+      played = λ plans all before v. there_plays look login plans n us all before d (w.polled.spent plans all before v);
       silent = w.polled.silent;
       does = subst (λ (p : Option Asked). GoesOnWith p login n (kept_of c) o us (Joined true (kept_of d))) (sym asked) (subst (λ (b : Bool). PollsOn b a.rows login n a (kept_of c) o us (Joined true (kept_of d))) (sym kind) (subst (λ (r : Option (List RowParts)). PollsOn false r login n a (kept_of c) o us (Joined true (kept_of d))) (sym (no_rows a.rows rows)) w.polled.once));
     } in
@@ -60,7 +61,7 @@ call_resumed {L} look login n c a slot o us kind rows asked w =
 
 -- a held dial is tried again
 pub dial_resumed : {L : Type 0} (look : L → Looks) (login : Login) (n : ℕ) (reads : Option (List ReadItem)) (writes : Option (List WriteItem)) (slot : Slot L) (o : Outcome) (us : List Use) → Dialed look login n reads writes slot o us → Did look login n (GoesOn login n) o us Held slot
-dial_resumed look login n reads writes slot o us w = record { stood = w.stood; played = λ plans all v. w.untold plans all v; silent = w.silent; does = w.does }
+dial_resumed look login n reads writes slot o us w = record { stood = w.stood; played = λ plans all before v. w.untold plans all before v; silent = w.silent; does = w.does }
 
 pub held_resumed : {L : Type 0} (look : L → Looks) (login : Login) (n : ℕ) (reads : Option (List ReadItem)) (writes : Option (List WriteItem)) (s slot : Slot L) (o : Outcome) (us : List Use) → s ≡ Held → Dialed look login n reads writes slot o us → Did look login n (GoesOn login n) o us s slot
 held_resumed {L} look login n reads writes s slot o us e w = subst (λ (x : Slot L). Did look login n (GoesOn login n) o us x slot) (sym e) (dial_resumed look login n reads writes slot o us w)
@@ -76,7 +77,7 @@ gathering_resumed {L} look login n c a slot o us kind rows asked w =
     let some = some_rows a.rows rows in
     let polled : Did look login n (GoesOn login n) o us (There c) (There d) = record {
       stood = record { rests = w.did.rests; stepped = w.did.stepped };
-      played = w.did.spent;
+      played = λ plans all before v. there_plays look login plans n us all before d (w.did.spent plans all before v);
       silent = w.did.silent;
       does = subst (λ (p : Option Asked). GoesOnWith p login n (kept_of c) o us (Joined true (kept_of d))) (sym asked) (subst (λ (b : Bool). PollsOn b a.rows login n a (kept_of c) o us (Joined true (kept_of d))) (sym kind) (subst (λ (r : Option (List RowParts)). PollsOn false r login n a (kept_of c) o us (Joined true (kept_of d))) (sym some.1) w.did.gathers));
     } in

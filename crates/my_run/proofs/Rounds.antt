@@ -1,18 +1,19 @@
 -- A poll, turn by turn.
-use Rattle.std.proofs.Common.{◌≡◌, inl, inr, ℕ, ◌+◌, ◌≤◌, List, ◌++◌, true, refl, sym, ap, ◌∙◌, subst, arith}
-use Rattle.std.proofs.lemmas.List.{append_assoc, length-append}
+use Rattle.std.proofs.Common.{◌≡◌, inl, inr, ℕ, ◌+◌, ◌-◌, ◌≤◌, List, [], ◌++◌, true, refl, sym, ap, ◌∙◌, subst, arith}
+use Rattle.std.proofs.lemmas.List.{append_assoc, append-nil, length-append}
 use Rattle.my_wire.specs.Outside.{Rose}
 use Rattle.my_grammar.specs.declared.login.Login.{Login}
 use Rattle.my_session.specs.Calls.{is_open}
 use Rattle.my_session.specs.Seen.{Seen}
 use Rattle.my_world.specs.Outside.{Counts}
+use Rattle.my_world.specs.Spent.{IsSpent}
 use Rattle.my_run.specs.declared.poll.Round.{Round}
 use Rattle.my_run.specs.declared.poll.Round.TheVariants.{On, Over}
 use Rattle.my_run.specs.declared.poll.Turn.{Turn}
 use Rattle.my_run.specs.declared.poll.Turn.TheVariants.{Sent, Took, Ended, Broke, Held, Full, Answered, Faulted}
 use Rattle.my_run.specs.declared.transcript.Use.{Use}
 use Rattle.my_run.specs.Kept.{Asked, Kept}
-use Rattle.my_run.specs.Poll.{Looks, CameIn, CameBy, WentOut, TurnIs, took_by, is_full, Polls, SoFar, SpendsOn, SpentSoFar, round_of}
+use Rattle.my_run.specs.Poll.{Looks, CameIn, CameBy, WentOut, Waits, Holds, quiet, TurnIs, took_by, is_full, Polls, SoFar, SpendsOn, SpentSoFar, round_of}
 use Rattle.my_run.specs.Rests.{IsAsked, HasFailed, TurnRests, PollRests}
 use Rattle.my_run.specs.Uses.{RoseBy, CountsTo}
 use Rattle.my_run.proofs.Spends.{sent_on, took_on, ended_on, held_by, failed_by, rested_by}
@@ -20,7 +21,7 @@ use Rattle.my_run.proofs.Spends.{sent_on, took_on, ended_on, held_by, failed_by,
 -- the poll is where it was, or is over
 abbrev pub IsRound : Seen → Looks → Looks → List ℕ → List ℕ → List ℕ → List ℕ → ℕ → Round → Type 0
 IsRound t x y sent sent' taken taken' n (On u) = (is_open t.task ≡ true) × SoFar x y sent sent' taken taken' n u × SpentSoFar x y taken taken' 0
-IsRound t x y sent sent' taken taken' n (Over p) = Polls t x y sent sent' taken taken' n p × SpendsOn x y taken taken' p.used
+IsRound t x y sent sent' taken taken' n (Over p) = Polls t x y sent sent' taken taken' n p × SpendsOn t x y taken taken' p.used
 
 abbrev pub RoundRests : Login → Seen → Kept → Asked → Round → Type 0
 RoundRests login s k a (On u) = IsAsked login s k a × (u.faults ≡ 0) × (u.ends ≡ 0)
@@ -71,6 +72,10 @@ module _ (x y z : Looks) (s : Seen) (sent sent' sent'' taken taken' taken'' : Li
     sent_on = went;
   }
 
+  waiting : Holds s y z → Waits s
+  waiting (inl r) = inr r.0
+  waiting (inr w) = inl w.0
+
   pub round_is : (turn : Turn) → TurnIs s y z sent' sent'' taken' taken'' turn → u.taken + took_by turn ≤ 67108864 → (is_full turn ≡ true → 67108864 ≤ u.taken) → IsRound s x z sent sent'' taken taken'' n (round_of turn u)
   round_is Sent t h full = (t.0, on_quiet u.taken t.1 (went_more sent sent' sent'' so.sent_on t.3) (came_same taken taken' taken'' u.taken so.came t.4) so.within, sent_on x y z taken taken' taken'' 0 spent t.2 t.4)
   round_is (Took m) t h full = (t.0, on_quiet (u.taken + m) t.1 (went_same sent sent' sent'' so.sent_on t.3) (came_more y z taken taken' taken'' u.taken m so.came t.2) h, took_on x y z taken taken' taken'' m 0 spent t.2)
@@ -87,7 +92,7 @@ module _ (x y z : Looks) (s : Seen) (sent sent' sent'' taken taken' taken'' : Li
       came = came_same taken taken' taken'' u.taken so.came t.4;
       sent_on = went_same sent sent' sent'' so.sent_on t.3;
     },
-    rested_by x z z taken taken'' taken'' 1 (record u { ends = 1 }) (ended_on x y z taken taken' taken'' 0 1 spent t.2 t.4) refl refl so.no_fault so.no_hold refl,
+    rested_by s x z z taken taken'' taken'' 1 (record u { ends = 1 }) (ended_on x y z taken taken' taken'' 0 1 spent t.2 t.4) refl refl so.no_fault so.no_hold refl,
   )
   round_is (Broke e) t h full = (
     record {
@@ -102,22 +107,22 @@ module _ (x y z : Looks) (s : Seen) (sent sent' sent'' taken taken' taken'' : Li
       came = came_same taken taken' taken'' u.taken so.came t.4;
       sent_on = went_same sent sent' sent'' so.sent_on t.3;
     },
-    failed_by x y z taken taken' taken'' 0 (record u { faults = 1 }) spent t.2 t.4 refl so.no_hold so.no_end,
+    failed_by s x y z taken taken' taken'' 0 (record u { faults = 1 }) spent t.2 t.4 refl so.no_hold so.no_end,
   )
   round_is Held t h full = (
     record {
       of_call = record { number = so.of_call.number; deaths = so.of_call.deaths; broken = so.of_call.broken; unlisted = so.of_call.unlisted; absent = so.of_call.absent; refused = so.of_call.refused; fed = so.of_call.fed };
-      cause = (t.0, so.no_fault, inl (omega arith));
+      cause = (waiting t.1, so.no_fault, inl (omega arith));
       counts = record {
-        faults = none_rose x.counts.faults y.counts.faults z.counts.faults u.faults (so.counts.faults.same so.no_fault) t.1.faults so.no_fault;
-        holds = one_rose x.counts.holds y.counts.holds z.counts.holds 1 (so.counts.holds.same so.no_hold) t.1.holds refl;
-        ends = none_rose x.counts.ends y.counts.ends z.counts.ends u.ends (so.counts.ends.same so.no_end) t.1.ends so.no_end;
+        faults = none_rose x.counts.faults y.counts.faults z.counts.faults u.faults (so.counts.faults.same so.no_fault) t.0.faults so.no_fault;
+        holds = one_rose x.counts.holds y.counts.holds z.counts.holds 1 (so.counts.holds.same so.no_hold) t.0.holds refl;
+        ends = none_rose x.counts.ends y.counts.ends z.counts.ends u.ends (so.counts.ends.same so.no_end) t.0.ends so.no_end;
       };
       within = so.within;
-      came = came_same taken taken' taken'' u.taken so.came t.4;
-      sent_on = went_same sent sent' sent'' so.sent_on t.3;
+      came = came_same taken taken' taken'' u.taken so.came t.3;
+      sent_on = went_same sent sent' sent'' so.sent_on t.2;
     },
-    held_by x y z taken taken' taken'' 0 (record u { holds = 1 }) spent t.2 t.4 so.no_fault refl so.no_end,
+    held_by s x y z taken taken' taken'' 0 (record u { holds = 1 }) spent t.1 t.3 so.no_fault refl so.no_end,
   )
   round_is Full t h full = (
     record {
@@ -128,7 +133,7 @@ module _ (x y z : Looks) (s : Seen) (sent sent' sent'' taken taken' taken'' : Li
       came = came_same taken taken' taken'' u.taken so.came t.3;
       sent_on = went_same sent sent' sent'' so.sent_on t.2;
     },
-    rested_by x y z taken taken' taken'' 0 u spent t.1 t.3 so.no_fault so.no_hold so.no_end,
+    rested_by s x y z taken taken' taken'' 0 u spent t.1 t.3 so.no_fault so.no_hold so.no_end,
   )
   round_is (Answered answer) t h full = (
     record {
@@ -139,7 +144,7 @@ module _ (x y z : Looks) (s : Seen) (sent sent' sent'' taken taken' taken'' : Li
       came = came_same taken taken' taken'' u.taken so.came t.3;
       sent_on = went_same sent sent' sent'' so.sent_on t.2;
     },
-    rested_by x y z taken taken' taken'' 0 u spent t.1 t.3 so.no_fault so.no_hold so.no_end,
+    rested_by s x y z taken taken' taken'' 0 u spent t.1 t.3 so.no_fault so.no_hold so.no_end,
   )
   round_is (Faulted e) t h full = (
     record {
@@ -150,8 +155,32 @@ module _ (x y z : Looks) (s : Seen) (sent sent' sent'' taken taken' taken'' : Li
       came = came_same taken taken' taken'' u.taken so.came t.3;
       sent_on = went_same sent sent' sent'' so.sent_on t.2;
     },
-    rested_by x y z taken taken' taken'' 0 u spent t.1 t.3 so.no_fault so.no_hold so.no_end,
+    rested_by s x y z taken taken' taken'' 0 u spent t.1 t.3 so.no_fault so.no_hold so.no_end,
   )
+
+-- a round by what a turn's clauses say of it
+pub round_behind : (x y z : Looks) (s : Seen) (sent sent' sent'' taken taken' taken'' : List ℕ) (n : ℕ) (u : Use) → SoFar x y sent sent' taken taken' n u → SpentSoFar x y taken taken' 0 → (turn : Turn) → TurnIs s y z sent' sent'' taken' taken'' turn → took_by turn ≤ 67108864 - u.taken → (is_full turn ≡ true → 67108864 - u.taken ≡ 0) → (r : Round) → r ≡ round_of turn u → IsRound s x z sent sent'' taken taken'' n r
+round_behind x y z s sent sent' sent'' taken taken' taken'' n u so spent turn t h full r e = subst (IsRound s x z sent sent'' taken taken'' n) (sym e) (round_is x y z s sent sent' sent'' taken taken' taken'' n u so spent turn t (omega (arith, h, so.within)) (λ f. omega (arith, full f, so.within)))
+
+-- a poll begins
+pub nothing_yet : (x : Looks) (sent taken : List ℕ) (n : ℕ) (u : Use) → u ≡ quiet n → SoFar x x sent sent taken taken n u
+nothing_yet x sent taken n u e = subst (SoFar x x sent sent taken taken n) (sym e) (record {
+  of_call = record { number = refl; deaths = refl; broken = refl; unlisted = refl; absent = refl; refused = refl; fed = refl };
+  no_fault = refl;
+  no_hold = refl;
+  no_end = refl;
+  counts = record {
+    faults = none_rose x.counts.faults x.counts.faults x.counts.faults 0 refl refl refl;
+    holds = none_rose x.counts.holds x.counts.holds x.counts.holds 0 refl refl refl;
+    ends = none_rose x.counts.ends x.counts.ends x.counts.ends 0 refl refl refl;
+  };
+  within = omega arith;
+  came = record { bytes = []; taken_is = sym (append-nil taken); count = refl };
+  sent_on = record { bytes = []; sent_is = sym (append-nil sent) };
+})
+
+pub nothing_spent : (x : Looks) (taken : List ℕ) → SpentSoFar x x taken taken 0
+nothing_spent x taken plan rules f w e s = let same : e + 0 ≡ e = omega arith in subst (IsSpent plan x.items rules x.writes taken f w) (sym same) s
 
 pub round_rests : (login : Login) (s : Seen) (k : Kept) (a : Asked) (u : Use) (turn : Turn) → u.faults ≡ 0 → u.ends ≡ 0 → TurnRests login s k a turn → RoundRests login s k a (round_of turn u)
 round_rests login s k a u Sent f e t = (t, f, e)

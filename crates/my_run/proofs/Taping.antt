@@ -1,23 +1,19 @@
 -- Tapes, one after another.
-use Rattle.std.proofs.Common.{◌≡◌, ℕ, ◌<◌, suc, List, [], ◌∷◌, ◌++◌, length, map, get_or, reverse, refl, sym, ap, ◌∙◌, arith}
+use Rattle.std.proofs.Common.{◌≡◌, ℕ, ◌<◌, suc, List, [], ◌∷◌, ◌++◌, length, map, get_or, reverse, sym, ap, ◌∙◌, arith}
 use Rattle.std.specs.List.{remove}
-use Rattle.std.proofs.lemmas.List.{append_assoc, reverse-append}
+use Rattle.std.proofs.lemmas.List.{append_assoc, map-append, reverse-append}
 use Rattle.my_run.specs.declared.slot.Slot.{Slot}
 use Rattle.my_run.specs.declared.tape.DoneCall.{DoneCall}
 use Rattle.my_run.specs.declared.transcript.TapeCall.{TapeCall}
 use Rattle.my_run.specs.Slot.{handle_of}
 use Rattle.my_run.specs.Tapes.{TapeView, tape_call, tape_at, tapes_in}
 
-map_end : {A B : Type 0} (f : A → B) (xs : List A) (x : A) → map f (xs ++ x ∷ []) ≡ map f xs ++ f x ∷ []
-map_end f [] x = refl
-map_end f (y ∷ xs) x = ap (λ zs. f y ∷ zs) (map_end f xs x)
-
 -- a call goes from the calls to the tape, which stands in reverse
 pub call_on : (calls rest : List DoneCall) (call : DoneCall) (tape more all : List TapeCall) (t : TapeCall) → calls ≡ rest ++ call ∷ [] → t ≡ tape_call call → more ≡ tape ++ t ∷ [] → map tape_call calls ++ reverse tape ≡ all → map tape_call rest ++ reverse more ≡ all
 call_on calls rest call tape more all t e f g i =
     ap (λ ts. map tape_call rest ++ reverse ts) g ∙ ap (λ ts. map tape_call rest ++ ts) (reverse-append tape (t ∷ []))
     ∙ ap (λ (x : TapeCall). map tape_call rest ++ (x ∷ reverse tape)) f ∙ sym (append_assoc (map tape_call rest) (tape_call call ∷ []) (reverse tape))
-    ∙ ap (λ ts. ts ++ reverse tape) (sym (ap (map tape_call) e ∙ map_end tape_call rest call)) ∙ i
+    ∙ ap (λ ts. ts ++ reverse tape) (sym (ap (map tape_call) e ∙ map-append tape_call rest (call ∷ []))) ∙ i
 
 first_out : {X : Type 0} (xs : List X) (s : X) → 0 < length xs → s ≡ get_or xs 0 s → xs ≡ s ∷ remove xs 0
 first_out [] s h e = absurd (omega (arith, h))

@@ -12,6 +12,7 @@ use Rattle.my_session.specs.Calls.{kind_of}
 use Rattle.my_session.specs.Fits.{may_be}
 use Rattle.my_session.specs.declared.answer.Answer.{Answer}
 use Rattle.my_session.specs.Causes.{Because, AnswerCause}
+use Rattle.my_session.specs.Complete.{FailsOutside}
 use Rattle.my_session.specs.History.{History, told}
 use Rattle.my_session.specs.Seen.{Seen}
 use Rattle.my_session.specs.Steps.{StepIs}
@@ -46,13 +47,15 @@ ErrorBy (errors.Io e) faults ends = IoBy e faults ends
 ErrorBy (errors.Server e) faults ends = faults ≡ 0
 ErrorBy errors.NoMemory faults ends = ⊥
 
--- The error has its cause in what the grammar finds in the bytes taken, over a history that is what was kept.
+-- The error has its cause in what the grammar finds in the bytes taken, over a history that is what was kept. Where these bytes, with those
+-- that may still come, are whole exchanges and bring no further ERR, the cause is none of them.
 pub record WhyFailed (login : Login) (k : Kept) (e : Error) : Type 0 where
   pub session : Seen
   pub history : History
   pub login_is : session.login ≡ login
   pub kept : IsOf k history
   pub because : Because session history e
+  pub whole : FailsOutside session history e because
 
 -- And so has word that nothing is left to be read.
 pub record WhyAnswered (login : Login) (k : Kept) (answer : Answer) : Type 0 where

@@ -1,5 +1,5 @@
 -- What dialing a connection and polling its handshake does.
-use Rattle.std.specs.Prelude.{◌≡◌, ◌≢◌, ℕ, List, ◌∷◌, ◌++◌, Option, None}
+use Rattle.std.specs.Prelude.{◌≡◌, ◌≢◌, ℕ, List, [], ◌∷◌, Option, None}
 use Rattle.my_wire.specs.Version.{version_of}
 use Rattle.my_grammar.specs.declared.login.Login.{Login}
 use Rattle.my_run.specs.declared.poll.After.{After}
@@ -11,7 +11,7 @@ use Rattle.my_run.specs.declared.transcript.Outcome.{Outcome}
 use Rattle.my_run.specs.declared.transcript.Outcome.TheVariants.{Pending, Connected, Failed}
 use Rattle.my_run.specs.declared.transcript.Use.{Use}
 use Rattle.my_run.specs.Grows.{Connects, Dials}
-use Rattle.my_run.specs.Keeps.{Plans, IsStood, LinkSpent, IsPlayed}
+use Rattle.my_run.specs.Keeps.{Plans, IsStood, LinkSpent, SlotPlays}
 use Rattle.my_run.specs.Kept.{Asked, Kept}
 use Rattle.my_run.specs.Poll.{Looks}
 use Rattle.my_run.specs.Slot.{handle_of}
@@ -28,7 +28,7 @@ Settles c n (after.Failed e) slot o = (slot ≡ Ended c) × (o ≡ Failed e)
 -- a poll of the handshake: what stands at the number behind it, and what was used of the link's plan
 pub record Joins {L : Type 0} (look : L → Looks) (login : Login) (n : ℕ) (a : Asked) (k : Kept) (x : Looks) (slot : Slot L) (o : Outcome) (used : Use) : Type 0 where
   pub stood : IsStood login slot
-  pub played : (plans : Plans) (all : List Use) → LinkSpent plans n x k.taken all → IsPlayed look plans n (used ∷ all) slot
+  pub played : (plans : Plans) (all : List Use) (before : ℕ) → LinkSpent plans n x k.taken all before → SlotPlays look login plans n (used ∷ []) all before slot
   pub number : used.number ≡ n
   pub does : Connects login n a k o used (handle_of slot)
 
@@ -36,7 +36,7 @@ pub record Joins {L : Type 0} (look : L → Looks) (login : Login) (n : ℕ) (a 
 -- of it yet, it is kept; where none was told, there is none to be kept.
 pub record Dialed {L : Type 0} (look : L → Looks) (login : Login) (n : ℕ) (reads : Option (List ReadItem)) (writes : Option (List WriteItem)) (slot : Slot L) (o : Outcome) (us : List Use) : Type 0 where
   pub stood : IsStood login slot
-  pub played : (plans : Plans) (all : List Use) → plans.reads n ≡ reads → plans.writes n ≡ writes → IsSilent n all → IsPlayed look plans n (us ++ all) slot
-  pub untold : (plans : Plans) (all : List Use) → plans.reads n ≡ None → IsPlayed look plans n (us ++ all) slot
+  pub played : (plans : Plans) (all : List Use) → plans.reads n ≡ reads → plans.writes n ≡ writes → IsSilent n all → SlotPlays look login plans n us all 0 slot
+  pub untold : (plans : Plans) (all : List Use) (before : ℕ) → plans.reads n ≡ None → SlotPlays look login plans n us all before slot
   pub silent : (m : ℕ) → m ≢ n → IsSilent m us
   pub does : Dials login n o us (handle_of slot)

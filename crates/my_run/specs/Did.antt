@@ -1,5 +1,5 @@
 -- What a step did to what stands at one number, and to all numbers.
-use Rattle.std.specs.Prelude.{◌≡◌, ◌≢◌, ◌≤◌, ℕ, List, ◌++◌, length, true, false}
+use Rattle.std.specs.Prelude.{◌≡◌, ◌≢◌, ◌≤◌, ℕ, List, length, true, false}
 use Rattle.my_grammar.specs.declared.login.Login.{Login}
 use Rattle.my_session.specs.Fits.{is_begun}
 use Rattle.my_session.specs.Seen.{Seen}
@@ -10,7 +10,7 @@ use Rattle.my_run.specs.declared.transcript.Outcome.{Outcome}
 use Rattle.my_run.specs.declared.transcript.Use.{Use}
 use Rattle.my_run.specs.Grows.{PolledOnce}
 use Rattle.my_run.specs.Handle.{Handle, Joined}
-use Rattle.my_run.specs.Keeps.{Plans, LinkSpent, IsStood, AreStood, IsPlayed, ArePlayed}
+use Rattle.my_run.specs.Keeps.{Plans, LinkSpent, LinkPlays, IsStood, AreStood, IsPlayed, ArePlayed, SlotPlays, AllPlay}
 use Rattle.my_run.specs.Kept.{Asked, Kept}
 use Rattle.my_run.specs.Poll.{Looks}
 use Rattle.my_run.specs.Rests.{Rests}
@@ -22,20 +22,20 @@ pub record OpenPolled (login : Login) (n : ℕ) (a : Asked) (t : Seen) (x y : Lo
   pub once : PolledOnce login n a k o us (Joined true end)
   pub rests : Rests login t end
   pub stepped : is_begun t.task ≡ false
-  pub spent : (plans : Plans) (all : List Use) → LinkSpent plans n x k.taken all → LinkSpent plans n y end.taken (us ++ all)
+  pub spent : (plans : Plans) (all : List Use) (before : ℕ) → LinkSpent plans n x k.taken all before → LinkPlays login plans n y end us all before
   pub silent : (m : ℕ) → m ≢ n → IsSilent m us
 
 -- at number n: what stands there is kept, the other numbers' uses are untouched, and the transcript's fact holds
 pub record Did {L : Type 0} (look : L → Looks) (login : Login) (n : ℕ) (R : Handle → Outcome → List Use → Handle → Type 0) (o : Outcome) (us : List Use) (old new : Slot L) : Type 0 where
   pub stood : IsStood login new
-  pub played : (plans : Plans) (all : List Use) → IsPlayed look plans n all old → IsPlayed look plans n (us ++ all) new
+  pub played : (plans : Plans) (all : List Use) (before : ℕ) → IsPlayed look plans n all before old → SlotPlays look login plans n us all before new
   pub silent : (m : ℕ) → m ≢ n → IsSilent m us
   pub does : R (handle_of old) o us (handle_of new)
 
 -- at all numbers, in a world that tells these plans
 pub record Stepped {L : Type 0} (look : L → Looks) (login : Login) (plans : Plans) (us : List Use) (old new : List (Slot L)) (Fact : Type 0) : Type 0 where
   pub stood : AreStood login new
-  pub played : (all : List Use) → ((m : ℕ) → length old ≤ m → IsSilent m all) → ArePlayed look plans all 0 old → ArePlayed look plans (us ++ all) 0 new
+  pub played : (all : List Use) (before : ℕ → ℕ) → ((m : ℕ) → length old ≤ m → IsSilent m all × (before m ≡ 0)) → ArePlayed look plans all before 0 old → AllPlay look login plans us all before new
   pub past : (m : ℕ) → length new ≤ m → IsSilent m us
   pub longer : length old ≤ length new
   pub grows : Fact

@@ -24,7 +24,7 @@ pub record Drives (login : Login) (n : ℕ) (a : Asked) (t : Seen) (x y : Looks)
   pub polled : IsPolled login n a k p.used p.after end
   pub rests : Rests login t end
   pub stepped : is_begun t.task ≡ false
-  pub spent : SpendsOn x y k.taken end.taken p.used
+  pub spent : SpendsOn t x y k.taken end.taken p.used
 
 -- the rows that the call had gathered are handed out where it ended
 abbrev pub RowsOf : Asked → After → Option (List RowParts) → Type 0

@@ -20,12 +20,12 @@ use Rattle.my_run.specs.declared.transcript.Outcome.TheVariants.{Done, Pending, 
 use Rattle.my_run.specs.declared.transcript.Use.{Use}
 use Rattle.my_run.specs.Grows.{Gathers, rows_shown}
 use Rattle.my_run.specs.Handle.{Handle, Joined}
-use Rattle.my_run.specs.Keeps.{Plans, LinkSpent}
+use Rattle.my_run.specs.Keeps.{Plans, LinkSpent, LinkPlays}
 use Rattle.my_run.specs.Kept.{Asked, asking}
 use Rattle.my_run.specs.Poll.{Looks}
 use Rattle.my_run.specs.Rests.{Rests, IsAsked}
 use Rattle.my_run.specs.Slot.{kept_of}
-use Rattle.my_run.specs.Sums.{IsSilent}
+use Rattle.my_run.specs.Sums.{holds_for, IsSilent}
 
 -- what a gathering that ends shows, of the rows that came before
 abbrev pub Shows : Option (List RowParts) → After → Outcome → Type 0
@@ -60,7 +60,7 @@ pub record GatherDid {L : Type 0} (look : L → Looks) (login : Login) (n : ℕ)
   pub gathers : Gathers login n us a (kept_of c) o (Joined true (kept_of d))
   pub rests : Rests login d.session.seen (kept_of d)
   pub stepped : is_begun d.session.seen.task ≡ false
-  pub spent : (plans : Plans) (all : List Use) → LinkSpent plans n (look c.link) c.taken.items all → LinkSpent plans n (look d.link) d.taken.items (us ++ all)
+  pub spent : (plans : Plans) (all : List Use) (before : ℕ) → LinkSpent plans n (look c.link) c.taken.items all before → LinkPlays login plans n (look d.link) (kept_of d) us all before
   pub silent : (m : ℕ) → m ≢ n → IsSilent m us
 
 -- so far in a gathering
@@ -68,7 +68,8 @@ pub record GatherSoFar {L : Type 0} (look : L → Looks) (login : Login) (n : �
   pub now : Asked
   pub asked : IsAsked login d.session.seen (kept_of d) now
   pub onto : (vs : List Use) (o : Outcome) (t : Handle) → Gathers login n vs now (kept_of d) o t → Gathers login n (us ++ vs) a (kept_of c) o t
-  pub spent : (plans : Plans) (all : List Use) → LinkSpent plans n (look c.link) c.taken.items all → LinkSpent plans n (look d.link) d.taken.items (us ++ all)
+  pub spent : (plans : Plans) (all : List Use) (before : ℕ) → LinkSpent plans n (look c.link) c.taken.items all before → LinkSpent plans n (look d.link) d.taken.items (us ++ all) before
+  pub no_hold : holds_for n us ≡ 0
   pub silent : (m : ℕ) → m ≢ n → IsSilent m us
 
 -- what going on with a gathering leaves of a connection that was taken out of its number

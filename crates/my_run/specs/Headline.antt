@@ -6,7 +6,7 @@ use Rattle.my_session.specs.Law.{Says}
 use Rattle.my_session.specs.Seen.{Seen}
 use Rattle.my_world.specs.declared.link.ReadItem.{ReadItem}
 use Rattle.my_world.specs.declared.link.WriteItem.{WriteItem}
-use Rattle.my_world.specs.Spent.{spelled, fails_in, write_fails_in, has_end}
+use Rattle.my_world.specs.Spent.{spelled, fails_in, write_fails_in, waits_in, write_waits_in, has_end}
 use Rattle.my_run.specs.declared.slot.Slot.{Slot}
 use Rattle.my_run.specs.declared.step.Step.{Step}
 use Rattle.my_run.specs.declared.transcript.Outcome.{Outcome}
@@ -14,12 +14,13 @@ use Rattle.my_run.specs.declared.transcript.StepAnswer.{StepAnswer}
 use Rattle.my_run.specs.declared.transcript.Tape.{Tape}
 use Rattle.my_run.specs.declared.transcript.Use.{Use}
 use Rattle.my_run.specs.Grows.{Line, AreGrown, handles_after}
-use Rattle.my_run.specs.Handle.{Handle, Absent, Dialing, Joined}
+use Rattle.my_run.specs.Handle.{Handle, Absent, Dialing, Joined, at_number}
+use Rattle.my_run.specs.Held.{HeldBy}
 use Rattle.my_run.specs.Kept.{Kept, IsOf}
 use Rattle.my_run.specs.Keeps.{Plans, AreStood, ArePlayed}
 use Rattle.my_run.specs.Poll.{Looks}
 use Rattle.my_run.specs.Slot.{handle_of}
-use Rattle.my_run.specs.Sums.{faults_for, ends_for, IsSilent}
+use Rattle.my_run.specs.Sums.{faults_for, holds_for, ends_for, IsSilent}
 use Rattle.my_run.specs.Tapes.{tape_view, tapes_in}
 
 -- an answer, without where it lies in memory
@@ -74,20 +75,37 @@ pub record Plays (plans : Plans) (n : ℕ) (taken : List ℕ) (all : List Use) :
   pub reads : PlaysReads (plans.reads n) taken (ends_for n all)
   pub faults : FewFaults (plans.reads n) (plans.writes n) (faults_for n all)
 
--- a connection at number n, over all uses of the run
-abbrev pub IsExplained : Login → Plans → ℕ → List Use → Handle → Type 0
-IsExplained login plans n all Absent = Unit {0}
-IsExplained login plans n all Dialing = plans.reads n ≡ None
-IsExplained login plans n all (Joined there k) = IsSaid login k × Plays plans n k.taken all
+-- So many of the holds of connection n were planned: in each line all of them were, or the last came where the call asked for bytes
+-- and nothing could be read.
+abbrev pub HoldsAre : Login → Option (List ReadItem) → ℕ → List Line → ℕ → Type 0
+HoldsAre login plan n [] planned = planned ≡ 0
+HoldsAre login plan n (l ∷ ls) planned = (before : ℕ) × HoldsAre login plan n ls before × HeldBy login plan (at_number l.handles n) (holds_for n l.uses) before planned
 
-abbrev pub AreExplained : Login → Plans → List Use → ℕ → List Handle → Type 0
-AreExplained login plans all n [] = Unit {0}
-AreExplained login plans all n (h ∷ hs) = IsExplained login plans n all h × AreExplained login plans all (suc n) hs
+-- so many are at most the plan's
+abbrev pub ArePlanned : Option (List ReadItem) → Option (List WriteItem) → ℕ → Type 0
+ArePlanned None rules planned = Unit {0}
+ArePlanned (Some plan) None planned = Unit {0}
+ArePlanned (Some plan) (Some rules) planned = planned ≤ waits_in plan + write_waits_in rules
+
+pub record FewHolds (login : Login) (plans : Plans) (n : ℕ) (lines : List Line) : Type 0 where
+  pub planned : ℕ
+  pub counted : HoldsAre login (plans.reads n) n lines planned
+  pub few : ArePlanned (plans.reads n) (plans.writes n) planned
+
+-- a connection at number n, behind these lines
+abbrev pub IsExplained : Login → Plans → ℕ → List Line → Handle → Type 0
+IsExplained login plans n lines Absent = Unit {0}
+IsExplained login plans n lines Dialing = plans.reads n ≡ None
+IsExplained login plans n lines (Joined there k) = IsSaid login k × Plays plans n k.taken (uses_of lines) × FewHolds login plans n lines
+
+abbrev pub AreExplained : Login → Plans → List Line → ℕ → List Handle → Type 0
+AreExplained login plans lines n [] = Unit {0}
+AreExplained login plans lines n (h ∷ hs) = IsExplained login plans n lines h × AreExplained login plans lines (suc n) hs
 
 -- so it holds behind each line
 abbrev pub EachExplained : Login → Plans → List Line → Type 0
 EachExplained login plans [] = Unit {0}
-EachExplained login plans (l ∷ ls) = AreExplained login plans (uses_of (l ∷ ls)) 0 l.handles × EachExplained login plans ls
+EachExplained login plans (l ∷ ls) = AreExplained login plans (l ∷ ls) 0 l.handles × EachExplained login plans ls
 
 -- What the steps came to, over a world with these plans.
 pub record Headline (login : Login) (plans : Plans) (steps : List Step) (answers : List StepAnswer) (tapes : List Tape) : Type 0 where
@@ -109,7 +127,9 @@ pub record SoFar {L : Type 0} (look : L → Looks) (login : Login) (plans : Plan
   pub answered : map answer_view answers ≡ answers_of lines
   pub handles_are : map handle_of slots ≡ handles_after lines
   pub stood : AreStood login slots
-  pub played : ArePlayed look plans (uses_of lines) 0 slots
-  pub silent : (m : ℕ) → length slots ≤ m → IsSilent m (uses_of lines)
+  pub planned : ℕ → ℕ
+  pub played : ArePlayed look plans (uses_of lines) planned 0 slots
+  pub held : (m : ℕ) → HoldsAre login (plans.reads m) m lines (planned m)
+  pub silent : (m : ℕ) → length slots ≤ m → IsSilent m (uses_of lines) × (planned m ≡ 0)
   pub grown : AreGrown login lines
   pub explained : EachExplained login plans lines

@@ -1,18 +1,21 @@
 -- What holds of all connections' numbers between the steps.
-use Rattle.std.specs.Prelude.{◌≡◌, ℕ, suc, List, [], ◌∷◌, Option, None, false}
+use Rattle.std.specs.Prelude.{◌≡◌, ◌≤◌, ℕ, suc, List, [], ◌∷◌, ◌++◌, length, map, Option, None, true, false}
 use Rattle.my_grammar.specs.declared.login.Login.{Login}
 use Rattle.my_session.specs.Fits.{is_begun}
 use Rattle.my_world.specs.declared.link.ReadItem.{ReadItem}
 use Rattle.my_world.specs.declared.link.WriteItem.{WriteItem}
 use Rattle.my_world.specs.Spent.{IsSpent}
+use Rattle.my_run.specs.Handle.{Joined, at_number}
+use Rattle.my_run.specs.Held.{HeldBy}
+use Rattle.my_run.specs.Kept.{Kept}
 use Rattle.my_run.specs.declared.slot.Conn.{Conn}
 use Rattle.my_run.specs.declared.slot.Slot.{Slot}
 use Rattle.my_run.specs.declared.slot.Slot.TheVariants.{Gone, Held, There, Ended}
 use Rattle.my_run.specs.declared.transcript.Use.{Use}
 use Rattle.my_run.specs.Poll.{Looks}
 use Rattle.my_run.specs.Rests.{Rests}
-use Rattle.my_run.specs.Slot.{kept_of}
-use Rattle.my_run.specs.Sums.{faults_for, ends_for}
+use Rattle.my_run.specs.Slot.{kept_of, handle_of}
+use Rattle.my_run.specs.Sums.{faults_for, holds_for, ends_for}
 
 -- a connection's session stands for what the connection kept, and its open call, if there is one, was stepped
 pub record StandsBy {L : Type 0} (login : Login) (c : Conn L) : Type 0 where
@@ -34,18 +37,37 @@ pub record Plans : Type 0 where
   pub reads : ℕ → Option (List ReadItem)
   pub writes : ℕ → Option (List WriteItem)
 
--- Where the world told its plan, the link has left of it what its uses and the bytes taken left; and then no dial holds.
-pub record LinkSpent (plans : Plans) (n : ℕ) (x : Looks) (taken : List ℕ) (all : List Use) : Type 0 where
-  pub waits : ℕ
-  pub spent : IsSpent (plans.reads n) x.items (plans.writes n) x.writes taken (faults_for n all) waits (ends_for n all)
+-- Where the world told its plan, the link has left of it what its uses, the bytes taken and so many planned holds left.
+abbrev pub LinkSpent : Plans → ℕ → Looks → List ℕ → List Use → ℕ → Type 0
+LinkSpent plans n x taken all planned = IsSpent (plans.reads n) x.items (plans.writes n) x.writes taken (faults_for n all) planned (ends_for n all)
 
-abbrev pub IsPlayed : {L : Type 0} → (L → Looks) → Plans → ℕ → List Use → Slot L → Type 0
-IsPlayed look plans n all Gone = Unit {0}
-IsPlayed look plans n all Held = plans.reads n ≡ None
-IsPlayed look plans n all (There c) = LinkSpent plans n (look c.link) c.taken.items all
-IsPlayed look plans n all (Ended c) = LinkSpent plans n (look c.link) c.taken.items all
+-- where the world told its plan, no dial holds
+abbrev pub IsPlayed : {L : Type 0} → (L → Looks) → Plans → ℕ → List Use → ℕ → Slot L → Type 0
+IsPlayed look plans n all planned Gone = Unit {0}
+IsPlayed look plans n all planned Held = plans.reads n ≡ None
+IsPlayed look plans n all planned (There c) = LinkSpent plans n (look c.link) c.taken.items all planned
+IsPlayed look plans n all planned (Ended c) = LinkSpent plans n (look c.link) c.taken.items all planned
 
--- so it is of all numbers from this one on, with all uses so far
-abbrev pub ArePlayed : {L : Type 0} → (L → Looks) → Plans → List Use → ℕ → List (Slot L) → Type 0
-ArePlayed look plans all n [] = Unit {0}
-ArePlayed look plans all n (s ∷ ss) = IsPlayed look plans n all s × ArePlayed look plans all (suc n) ss
+-- so it is of all numbers from this one on, with all uses so far, and so many planned holds at each
+abbrev pub ArePlayed : {L : Type 0} → (L → Looks) → Plans → List Use → (ℕ → ℕ) → ℕ → List (Slot L) → Type 0
+ArePlayed look plans all planned n [] = Unit {0}
+ArePlayed look plans all planned n (s ∷ ss) = IsPlayed look plans n all (planned n) s × ArePlayed look plans all planned (suc n) ss
+
+-- what a poll of a connection's call used of its link's plan, behind so many planned holds
+pub record LinkPlays (login : Login) (plans : Plans) (n : ℕ) (y : Looks) (end : Kept) (us all : List Use) (before : ℕ) : Type 0 where
+  pub planned : ℕ
+  pub spent : LinkSpent plans n y end.taken (us ++ all) planned
+  pub held : HeldBy login (plans.reads n) (Joined true end) (holds_for n us) before planned
+
+-- what a step used of it at its number
+pub record SlotPlays {L : Type 0} (look : L → Looks) (login : Login) (plans : Plans) (n : ℕ) (us all : List Use) (before : ℕ) (new : Slot L) : Type 0 where
+  pub planned : ℕ
+  pub played : IsPlayed look plans n (us ++ all) planned new
+  pub held : HeldBy login (plans.reads n) (handle_of new) (holds_for n us) before planned
+
+-- and at all numbers: at those behind the last one nothing was planned
+pub record AllPlay {L : Type 0} (look : L → Looks) (login : Login) (plans : Plans) (us all : List Use) (before : ℕ → ℕ) (new : List (Slot L)) : Type 0 where
+  pub planned : ℕ → ℕ
+  pub played : ArePlayed look plans (us ++ all) planned 0 new
+  pub held : (m : ℕ) → HeldBy login (plans.reads m) (at_number (map handle_of new) m) (holds_for m us) (before m) (planned m)
+  pub past : (m : ℕ) → length new ≤ m → planned m ≡ 0

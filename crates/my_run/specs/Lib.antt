@@ -17,11 +17,13 @@ pub mod Kept
 pub mod Causes
 pub mod Rests
 pub mod Handle
+pub mod Held
 pub mod Slot
 pub mod Drives
 pub mod Tapes
 pub mod Sums
 pub mod Keeps
+pub mod Ready
 pub mod Grows
 pub mod Did
 pub mod Connecting

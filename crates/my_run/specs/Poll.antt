@@ -65,8 +65,9 @@ pub record WriteHeld (x y : Looks) : Type 0 where
   pub items : y.items ≡ x.items
   pub writes : Told x.writes y.writes (λ ws vs. behind_write_hold ws ≡ Some vs)
 
-abbrev pub Holds : Looks → Looks → Type 0
-Holds x y = ReadHeld x y ⊎ WriteHeld x y
+-- a read holds where the call asks for bytes, and a write where it asks for a sending
+abbrev pub Holds : Seen → Looks → Looks → Type 0
+Holds t x y = (StepIs t Need × ReadHeld x y) ⊎ (StepIs t Send × WriteHeld x y)
 
 -- a read failed, or a write did
 pub record ReadFailed (x y : Looks) : Type 0 where
@@ -92,7 +93,7 @@ TurnIs t x y sent sent' taken taken' Sent = (is_open t.task ≡ true) × (y.coun
 TurnIs t x y sent sent' taken taken' (Took n) = (is_open t.task ≡ true) × (y.counts ≡ x.counts) × CameIn x y taken taken' n × (sent' ≡ sent)
 TurnIs t x y sent sent' taken taken' (Ended error) = (t.task ≡ Nothing) × EndRose x.counts y.counts × Ends x y × (sent' ≡ sent) × (taken' ≡ taken)
 TurnIs t x y sent sent' taken taken' (Broke error) = (t.task ≡ Nothing) × FaultRose x.counts y.counts × Fails x y × (sent' ≡ sent) × (taken' ≡ taken)
-TurnIs t x y sent sent' taken taken' Held = Waits t × HoldRose x.counts y.counts × Holds x y × (sent' ≡ sent) × (taken' ≡ taken)
+TurnIs t x y sent sent' taken taken' Held = HoldRose x.counts y.counts × Holds t x y × (sent' ≡ sent) × (taken' ≡ taken)
 TurnIs t x y sent sent' taken taken' Full = Waits t × (y ≡ x) × (sent' ≡ sent) × (taken' ≡ taken)
 TurnIs t x y sent sent' taken taken' (Answered answer) = (t.task ≡ Nothing) × (y ≡ x) × (sent' ≡ sent) × (taken' ≡ taken)
 TurnIs t x y sent sent' taken taken' (Faulted error) = (t.task ≡ Nothing) × (y ≡ x) × (sent' ≡ sent) × (taken' ≡ taken)
@@ -158,9 +159,14 @@ pub record SoFar (x y : Looks) (sent sent' taken taken' : List ℕ) (n : ℕ) (u
   pub came : CameBy taken taken' u.taken
   pub sent_on : WentOut sent sent'
 
+-- So much was used of a plan where a call was polled that then stands so: a hold that wasn't planned came where the call asked for bytes.
+pub record PollSpends (t : Seen) (plan left : Option (List ReadItem)) (rules rest : Option (List WriteItem)) (taken : List ℕ) (faults waits holds ends : ℕ) : Type 0 where
+  pub spends : Spends plan left rules rest taken faults waits holds ends
+  pub needs : spends.planned < holds → StepIs t Need
+
 -- what a poll used of the link's plan, whatever was used before
-abbrev pub SpendsOn : Looks → Looks → List ℕ → List ℕ → Use → Type 0
-SpendsOn x y taken taken' u = (plan : Option (List ReadItem)) (rules : Option (List WriteItem)) (f w e : ℕ) → IsSpent plan x.items rules x.writes taken f w e → Spends plan y.items rules y.writes taken' (f + u.faults) w u.holds (e + u.ends)
+abbrev pub SpendsOn : Seen → Looks → Looks → List ℕ → List ℕ → Use → Type 0
+SpendsOn t x y taken taken' u = (plan : Option (List ReadItem)) (rules : Option (List WriteItem)) (f w e : ℕ) → IsSpent plan x.items rules x.writes taken f w e → PollSpends t plan y.items rules y.writes taken' (f + u.faults) w u.holds (e + u.ends)
 
 -- so far in a poll, in which nothing failed, held or ended
 abbrev pub SpentSoFar : Looks → Looks → List ℕ → List ℕ → ℕ → Type 0

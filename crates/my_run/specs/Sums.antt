@@ -12,7 +12,13 @@ abbrev pub ends_for : ℕ → List Use → ℕ
 ends_for n [] = 0
 ends_for n (u ∷ us) = (if u.number == n then u.ends else 0) + ends_for n us
 
+-- how often they held
+abbrev pub holds_for : ℕ → List Use → ℕ
+holds_for n [] = 0
+holds_for n (u ∷ us) = (if u.number == n then u.holds else 0) + holds_for n us
+
 -- nothing was met at this number
 pub record IsSilent (n : ℕ) (us : List Use) : Type 0 where
   pub faults : faults_for n us ≡ 0
+  pub holds : holds_for n us ≡ 0
   pub ends : ends_for n us ≡ 0

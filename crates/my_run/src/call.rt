@@ -1,12 +1,13 @@
 //! A step that makes a call on what stands at a connection's number.
 ghost use Rattle.std.specs.Prelude.{◌≡◌, ◌∷◌, [], Some, None, length, map, option_map, IfOk, OnOk, true, false};
 ghost use Rattle.my_grammar.specs.declared.login.Login.{Login as LoginOf};
-ghost use Rattle.my_session.specs.Calls.{is_open};
+ghost use Rattle.my_session.specs.Calls.{is_connect, is_open, kind_of};
 ghost use Rattle.my_session.specs.Errors.{connection_closed};
 ghost use Rattle.my_run.specs.Did.{OpenPolled, Did as DidAt, Stepped};
 ghost use Rattle.my_run.specs.Grows.{At, Calls, answer_shown as answer_of, shown as shown_of};
 ghost use Rattle.my_run.specs.Keeps.{Plans, StandsBy, IsStood, AreStood};
 ghost use Rattle.my_run.specs.Kept.{Asked, asking, ended_by};
+ghost use Rattle.my_run.specs.Ready.{ConnReady, SlotReady, AreReady};
 ghost use Rattle.my_run.specs.Rests.{IsAsked};
 ghost use Rattle.my_run.specs.Slot.{asked_in, handle_of, kept_of};
 ghost use Rattle.my_run.specs.declared.slot.Slot.TheVariants.{There as ThereAt};
@@ -117,13 +118,12 @@ fn begin_call<L: Link>(
     number: u64,
     call: Call,
 ) -> Result<Did, NoMemory>
+    requires ready { ConnReady conn.old }
+    requires kind { is_connect (kind_of call) ≡ false }
     ensures { IfOk result (λ d. (login : LoginOf) → StandsBy login conn.old → DidAt (λ l. record { items = L.items l; writes = L.writes l; counts = L.counts l }) login number (Calls login number call) d.outcome d.uses.items (ThereAt conn.old) (ThereAt conn.new)) }
 {
     if conn.session.is_open() {
         return Ok(refused(alloc));
-    }
-    if !conn.session.may_begin(call.kind()) {
-        return Err(NoMemory);
     }
     let copy = copy_call(alloc, &call)?;
     ask(conn, copy, None);
@@ -139,6 +139,8 @@ fn begin_at<L: Link>(
     number: u64,
     call: Call,
 ) -> Result<Did, NoMemory>
+    requires ready { SlotReady slot.old }
+    requires kind { is_connect (kind_of call) ≡ false }
     ensures { IfOk result (λ d. (login : LoginOf) → IsStood login slot.old → DidAt (λ l. record { items = L.items l; writes = L.writes l; counts = L.counts l }) login number (Calls login number call) d.outcome d.uses.items slot.old slot.new) }
 {
     match slot {
@@ -147,13 +149,15 @@ fn begin_at<L: Link>(
     }
 }
 
-/// Begins a call on the connection of this number.
+/// Begins a call other than the handshake on the connection of this number.
 pub fn begin_in<L: Link>(
     alloc: Global,
     slots: &mut Vec<Slot<L>>,
     number: u64,
     call: Call,
 ) -> Result<Did, NoMemory>
+    requires ready { AreReady slots.old.items }
+    requires kind { is_connect (kind_of call) ≡ false }
     ensures count { length slots.new.items ≡ length slots.old.items }
     ensures steps { IfOk result (λ d. (login : LoginOf) (plans : Plans) → AreStood login slots.old.items → Stepped (λ l. record { items = L.items l; writes = L.writes l; counts = L.counts l }) login plans d.uses.items slots.old.items slots.new.items (At number (Calls login number call) (map handle_of slots.old.items) d.outcome d.uses.items (map handle_of slots.new.items))) }
 {

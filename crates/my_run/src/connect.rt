@@ -123,7 +123,7 @@ fn first_call<L: Link + Drop>(
             let uses = dial_uses(alloc, number, driven.polled.used)?;
             Ok(settle(conn, number, driven.polled.after, uses))
         }
-        Err(_) => Err(NoMemory),
+        Err(_) => unreachable!(),
     }
 }
 

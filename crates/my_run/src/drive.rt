@@ -4,6 +4,7 @@ ghost use Rattle.my_grammar.specs.declared.login.Login.{Login as LoginOf};
 ghost use Rattle.my_session.specs.Calls.{is_open};
 ghost use Rattle.my_run.specs.Drives.{Drives, RowsOf, kept_behind};
 ghost use Rattle.my_run.specs.Kept.{Asked, ended_by};
+ghost use Rattle.my_run.specs.Ready.{RestsBy};
 ghost use Rattle.my_run.specs.Rests.{IsAsked};
 ghost use Rattle.my_run.specs.Slot.{asked_in, kept_of};
 
@@ -66,6 +67,7 @@ fn keep<L>(alloc: Global, conn: &mut Conn<L>, after: &After) -> Result<Option<Ve
 /// Polls the open call once, and keeps what it came to.
 pub fn drive<L: Link>(alloc: Global, conn: &mut Conn<L>, number: u64) -> Result<Driven, NoMemory>
     requires { is_open conn.old.session.seen.task ≡ true }
+    ensures rests { IfOk result (λ d. RestsBy d.polled.after conn.new.session.seen) }
     ensures rows { IfOk result (λ d. (a : Asked) → asked_in conn.old.pending ≡ Some a → RowsOf a d.polled.after (option_map (λ v. v.items) d.rows)) }
     ensures drives { IfOk result (λ d. (login : LoginOf) (a : Asked) → IsAsked login conn.old.session.seen (kept_of conn.old) a → Drives login number a conn.new.session.seen (record { items = L.items conn.old.link; writes = L.writes conn.old.link; counts = L.counts conn.old.link }) (record { items = L.items conn.new.link; writes = L.writes conn.new.link; counts = L.counts conn.new.link }) (kept_of conn.old) (kept_of conn.new) d.polled) }
 {

@@ -1,8 +1,9 @@
 //! A step that gathers the rows of a set.
-ghost use Rattle.std.specs.Prelude.{◌≡◌, ◌++◌, ◌∷◌, [], None, Some, option_map, unwrap_or, true, length, map, IfOk, OnOk};
+ghost use Rattle.std.specs.Prelude.{◌≡◌, ◌++◌, ◌∷◌, [], None, Some, option_map, unwrap_or, true, false, length, map, IfOk, OnOk};
 ghost use Rattle.my_grammar.specs.declared.login.Login.{Login as LoginOf};
 ghost use Rattle.my_session.specs.Calls.{is_open};
 ghost use Rattle.my_session.specs.declared.call.Call.TheVariants.{NextRow as NextRowOf};
+ghost use Rattle.my_session.specs.declared.call.Task.TheVariants.{Nothing};
 ghost use Rattle.my_session.specs.History.{History, began};
 ghost use Rattle.my_session.specs.Stands.{Stands};
 ghost use Rattle.my_session.specs.Steps.{begun};
@@ -11,6 +12,7 @@ ghost use Rattle.my_run.specs.Gathering.{Goes, GatherDid};
 ghost use Rattle.my_run.specs.Grows.{At, CollectsAt};
 ghost use Rattle.my_run.specs.Keeps.{Plans, StandsBy, IsStood, AreStood};
 ghost use Rattle.my_run.specs.Kept.{Asked, asking};
+ghost use Rattle.my_run.specs.Ready.{IsReady, ConnReady, SlotReady, AreReady, AskedReady, RestsBy, StaysOpen};
 ghost use Rattle.my_run.specs.Rests.{IsAsked};
 ghost use Rattle.my_run.specs.Slot.{handle_of, kept_of};
 ghost use Rattle.my_run.specs.declared.slot.Slot.TheVariants.{There as ThereAt};
@@ -20,7 +22,7 @@ use crate::drive::drive;
 use crate::poll::After;
 use crate::slot::{Conn, Slot};
 use crate::transcript::Outcome;
-use my_session::{Answer, Call, CallKind};
+use my_session::{Answer, Call};
 use my_value::Row;
 use my_wire::NoMemory;
 use my_world::link::Link;
@@ -43,19 +45,19 @@ fn rows_so_far(alloc: Global, rows: Option<Vec<Row>>) -> Vec<Row>
 }
 
 // The next row is asked for.
-fn ask_next<L>(conn: &mut Conn<L>, rows: Vec<Row>) -> Result<(), NoMemory>
-    ensures kept { OnOk result (kept_of conn.new ≡ asking (kept_of conn.old) NextRowOf (Some rows.items)) }
-    ensures seen { OnOk result (conn.new.session.seen ≡ begun conn.old.session.seen NextRowOf) }
-    ensures stands { OnOk result ((h : History) → Stands conn.old.session.seen h → Stands conn.new.session.seen (began h NextRowOf)) }
-    ensures link { OnOk result (conn.new.link ≡ conn.old.link) }
+fn ask_next<L>(conn: &mut Conn<L>, rows: Vec<Row>)
+    requires idle { conn.old.session.seen.task ≡ Nothing }
+    requires ready { IsReady conn.old.session.seen }
+    requires open { conn.old.session.seen.closed ≡ false }
+    ensures kept { kept_of conn.new ≡ asking (kept_of conn.old) NextRowOf (Some rows.items) }
+    ensures seen { conn.new.session.seen ≡ begun conn.old.session.seen NextRowOf }
+    ensures stands { (h : History) → Stands conn.old.session.seen h → Stands conn.new.session.seen (began h NextRowOf) }
+    ensures link { conn.new.link ≡ conn.old.link }
 {
-    if conn.session.is_open() || !conn.session.may_begin(CallKind::NextRow) {
-        return Err(NoMemory);
-    }
     ask(conn, Call::NextRow, Some(rows));
     match conn.session.begin(Call::NextRow) {
-        Ok(()) => Ok(()),
-        Err(_) => Err(NoMemory),
+        Ok(()) => {}
+        Err(_) => unreachable!(),
     }
 }
 
@@ -66,6 +68,9 @@ fn add_row<L>(
     rows: Option<Vec<Row>>,
     row: Row,
 ) -> Result<(), NoMemory>
+    requires idle { conn.old.session.seen.task ≡ Nothing }
+    requires ready { IsReady conn.old.session.seen }
+    requires open { conn.old.session.seen.closed ≡ false }
     ensures kept { OnOk result (kept_of conn.new ≡ asking (kept_of conn.old) NextRowOf (Some (unwrap_or (option_map (λ rows. rows.items) rows) [] ++ row ∷ []))) }
     ensures seen { OnOk result (conn.new.session.seen ≡ begun conn.old.session.seen NextRowOf) }
     ensures stands { OnOk result ((h : History) → Stands conn.old.session.seen h → Stands conn.new.session.seen (began h NextRowOf)) }
@@ -73,7 +78,8 @@ fn add_row<L>(
 {
     let mut all = rows_so_far(alloc, rows);
     all.push(row)?;
-    ask_next(conn, all)
+    ask_next(conn, all);
+    Ok(())
 }
 
 fn go_on<L>(
@@ -82,6 +88,9 @@ fn go_on<L>(
     after: After,
     rows: Option<Vec<Row>>,
 ) -> Result<Gathering, NoMemory>
+    requires rests { RestsBy after conn.old.session.seen }
+    requires open { StaysOpen after conn.old.session.seen }
+    requires ready { IsReady conn.old.session.seen }
     ensures { IfOk result (λ g. Goes conn.old conn.new (option_map (λ rows. rows.items) rows) after g) }
 {
     match after {
@@ -103,7 +112,8 @@ fn go_on<L>(
 
 /// Polls the open call, and behind each row the next one, until something else comes.
 pub fn gather<L: Link>(alloc: Global, conn: &mut Conn<L>, number: u64) -> Result<Did, NoMemory>
-    requires { is_open conn.old.session.seen.task ≡ true }
+    requires is_on { is_open conn.old.session.seen.task ≡ true }
+    requires asked { AskedReady conn.old }
     ensures { IfOk result (λ d. (login : LoginOf) (a : Asked) → IsAsked login conn.old.session.seen (kept_of conn.old) a → GatherDid (λ l. record { items = L.items l; writes = L.writes l; counts = L.counts l }) login number a conn.old conn.new d.outcome d.uses.items) }
 {
     let mut uses = Vec::new(alloc);
@@ -119,13 +129,11 @@ pub fn gather<L: Link>(alloc: Global, conn: &mut Conn<L>, number: u64) -> Result
 }
 
 fn collect_call<L: Link>(alloc: Global, conn: &mut Conn<L>, number: u64) -> Result<Did, NoMemory>
+    requires { ConnReady conn.old }
     ensures { IfOk result (λ d. (login : LoginOf) → StandsBy login conn.old → DidAt (λ l. record { items = L.items l; writes = L.writes l; counts = L.counts l }) login number (CollectsAt login number) d.outcome d.uses.items (ThereAt conn.old) (ThereAt conn.new)) }
 {
     if conn.session.is_open() {
         return Ok(refused(alloc));
-    }
-    if !conn.session.may_begin(CallKind::NextRow) {
-        return Err(NoMemory);
     }
     ask(conn, Call::NextRow, Some(Vec::new(alloc)));
     match conn.session.begin(Call::NextRow) {
@@ -135,6 +143,7 @@ fn collect_call<L: Link>(alloc: Global, conn: &mut Conn<L>, number: u64) -> Resu
 }
 
 fn collect_at<L: Link>(alloc: Global, slot: &mut Slot<L>, number: u64) -> Result<Did, NoMemory>
+    requires { SlotReady slot.old }
     ensures { IfOk result (λ d. (login : LoginOf) → IsStood login slot.old → DidAt (λ l. record { items = L.items l; writes = L.writes l; counts = L.counts l }) login number (CollectsAt login number) d.outcome d.uses.items slot.old slot.new) }
 {
     match slot {
@@ -149,6 +158,7 @@ pub fn collect_in<L: Link>(
     slots: &mut Vec<Slot<L>>,
     number: u64,
 ) -> Result<Did, NoMemory>
+    requires { AreReady slots.old.items }
     ensures count { length slots.new.items ≡ length slots.old.items }
     ensures steps { IfOk result (λ d. (login : LoginOf) (plans : Plans) → AreStood login slots.old.items → Stepped (λ l. record { items = L.items l; writes = L.writes l; counts = L.counts l }) login plans d.uses.items slots.old.items slots.new.items (At number (CollectsAt login number) (map handle_of slots.old.items) d.outcome d.uses.items (map handle_of slots.new.items))) }
 {

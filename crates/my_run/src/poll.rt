@@ -5,7 +5,8 @@ ghost use Rattle.my_run.specs.Kept.{Asked, IsHeard};
 ghost use Rattle.my_run.specs.Rests.{AwaitsBytes, IsAsked, IsHeld, FailsNow, TurnRests, PollRests};
 ghost use Rattle.my_run.specs.Slot.{asked_in, kept_of};
 ghost use Rattle.my_session.specs.Calls.{is_open};
-ghost use Rattle.my_session.specs.Steps.{StepIs};
+ghost use Rattle.my_session.specs.Ends.{Fails};
+ghost use Rattle.my_session.specs.Steps.{StepIs, with_end};
 ghost use Rattle.my_session.specs.declared.call.Task.TheVariants.{Nothing};
 ghost use Rattle.my_run.specs.Poll.{TurnIs, took_by, is_full, quiet, Polls, SpendsOn, round_of};
 
@@ -73,7 +74,8 @@ fn fault(error: Error) -> Result<Error, NoMemory>
 
 // The link failed or ended. The session's next step says so, and closes it.
 fn fail_now<L: Link>(alloc: Global, conn: &mut Conn<L>) -> Result<Error, NoMemory>
-    requires { is_open conn.old.session.seen.task ≡ true }
+    requires is_on { is_open conn.old.session.seen.task ≡ true }
+    requires fails { Fails conn.old.session.seen }
     ensures task { OnOk result (conn.new.session.seen.task ≡ Nothing) }
     ensures found { IfOk result (λ e. e ≢ Error.NoMemory) }
     ensures link { OnOk result (conn.new.link ≡ conn.old.link) }
@@ -85,7 +87,7 @@ fn fail_now<L: Link>(alloc: Global, conn: &mut Conn<L>) -> Result<Error, NoMemor
 {
     match conn.session.step(alloc) {
         SessionStep::Fault(error) => fault(error),
-        _ => Err(NoMemory),
+        SessionStep::Send | SessionStep::Need | SessionStep::Done(_) => unreachable!(),
     }
 }
 
@@ -118,6 +120,7 @@ fn send<L: Link>(alloc: Global, conn: &mut Conn<L>) -> Result<Turn, NoMemory>
 fn receive<L: Link>(alloc: Global, conn: &mut Conn<L>, room: u64) -> Result<Turn, NoMemory>
     requires step { StepIs conn.old.session.seen SessionStep.Need }
     requires room { 0 < room }
+    requires ends { Fails (with_end conn.old.session.seen) }
     ensures turn { IfOk result (λ turn. TurnIs conn.new.session.seen (record { items = L.items conn.old.link; writes = L.writes conn.old.link; counts = L.counts conn.old.link }) (record { items = L.items conn.new.link; writes = L.writes conn.new.link; counts = L.counts conn.new.link }) conn.old.sent.items conn.new.sent.items conn.old.taken.items conn.new.taken.items turn) }
     ensures within { IfOk result (λ turn. took_by turn ≤ room) }
     ensures full { IfOk result (λ turn. is_full turn ≡ false) }
@@ -232,7 +235,7 @@ pub fn poll_conn<L: Link>(
 ) -> Result<Polled, NoMemory>
     requires { is_open conn.old.session.seen.task ≡ true }
     ensures polls { IfOk result (λ p. Polls conn.new.session.seen (record { items = L.items conn.old.link; writes = L.writes conn.old.link; counts = L.counts conn.old.link }) (record { items = L.items conn.new.link; writes = L.writes conn.new.link; counts = L.counts conn.new.link }) conn.old.sent.items conn.new.sent.items conn.old.taken.items conn.new.taken.items number p) }
-    ensures spends { IfOk result (λ p. SpendsOn (record { items = L.items conn.old.link; writes = L.writes conn.old.link; counts = L.counts conn.old.link }) (record { items = L.items conn.new.link; writes = L.writes conn.new.link; counts = L.counts conn.new.link }) conn.old.taken.items conn.new.taken.items p.used) }
+    ensures spends { IfOk result (λ p. SpendsOn conn.new.session.seen (record { items = L.items conn.old.link; writes = L.writes conn.old.link; counts = L.counts conn.old.link }) (record { items = L.items conn.new.link; writes = L.writes conn.new.link; counts = L.counts conn.new.link }) conn.old.taken.items conn.new.taken.items p.used) }
     ensures calls { OnOk result (conn.new.calls ≡ conn.old.calls) }
     ensures pending { OnOk result (conn.new.pending ≡ conn.old.pending) }
     ensures rests { IfOk result (λ p. (login : LoginOf) (a : Asked) → IsAsked login conn.old.session.seen (kept_of conn.old) a → PollRests login conn.new.session.seen (kept_of conn.new) a p.used p.after) }

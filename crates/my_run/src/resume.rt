@@ -9,6 +9,7 @@ ghost use Rattle.my_run.specs.Grows.{At, GoesOn};
 ghost use Rattle.my_run.specs.Keeps.{Plans, StandsBy, IsStood, AreStood};
 ghost use Rattle.my_run.specs.Kept.{Asked};
 ghost use Rattle.my_run.specs.Login.{login_of};
+ghost use Rattle.my_run.specs.Ready.{ConnReady, SlotReady, AreReady, AskedReady};
 ghost use Rattle.my_run.specs.Rests.{IsAsked};
 ghost use Rattle.my_run.specs.Slot.{asked_in, handle_of, kept_of};
 ghost use Rattle.my_run.specs.declared.slot.Slot.TheVariants.{There as ThereAt};
@@ -80,7 +81,8 @@ fn resume_gathering<L: Link + Drop>(
     mut conn: Conn<L>,
     number: u64,
 ) -> Result<Connected<L>, NoMemory>
-    requires { is_open conn.session.seen.task ≡ true }
+    requires is_on { is_open conn.session.seen.task ≡ true }
+    requires asked { AskedReady conn }
     ensures { IfOk result (λ c. (login : LoginOf) (a : Asked) → IsAsked login conn.session.seen (kept_of conn) a → GatheredOn (λ l. record { items = L.items l; writes = L.writes l; counts = L.counts l }) login number a conn c.slot c.did.outcome c.did.uses.items) }
 {
     let did = gather(alloc, &mut conn, number)?;
@@ -95,6 +97,7 @@ fn resume_there<L: Link + Drop>(
     conn: Conn<L>,
     number: u64,
 ) -> Result<Connected<L>, NoMemory>
+    requires { ConnReady conn }
     ensures { IfOk result (λ c. (login : LoginOf) → StandsBy login conn → DidAt (λ l. record { items = L.items l; writes = L.writes l; counts = L.counts l }) login number (GoesOn login number) c.did.outcome c.did.uses.items (ThereAt conn) c.slot) }
 {
     if !conn.session.is_open() {
@@ -119,6 +122,7 @@ fn resume_at<N: World>(
     slot: Slot<N::L>,
     number: u64,
 ) -> Result<Connected<N::L>, NoMemory>
+    requires { SlotReady slot }
     ensures reads { (m : ℕ) → m ≢ number → N.plan world.new m ≡ N.plan world.old m }
     ensures writes { (m : ℕ) → m ≢ number → N.write_plan world.new m ≡ N.write_plan world.old m }
     ensures did { IfOk result (λ c. IsStood (login_of opts.now) slot → DidAt (λ l. record { items = N.L.items l; writes = N.L.writes l; counts = N.L.counts l }) (login_of opts.now) number (GoesOn (login_of opts.now) number) c.did.outcome c.did.uses.items slot c.slot) }
@@ -145,6 +149,7 @@ pub fn resume_in<N: World>(
     slots: &mut Vec<Slot<N::L>>,
     number: u64,
 ) -> Result<Did, NoMemory>
+    requires { AreReady slots.old.items }
     ensures count { OnOk result (length slots.new.items ≡ length slots.old.items) }
     ensures reads { (m : ℕ) → length slots.old.items ≤ m → N.plan world.new m ≡ N.plan world.old m }
     ensures writes { (m : ℕ) → length slots.old.items ≤ m → N.write_plan world.new m ≡ N.write_plan world.old m }

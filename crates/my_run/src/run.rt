@@ -7,6 +7,7 @@ ghost use Rattle.my_run.specs.Grows.{StepGrows};
 ghost use Rattle.my_run.specs.Headline.{SoFar, Headline};
 ghost use Rattle.my_run.specs.Keeps.{Plans, AreStood};
 ghost use Rattle.my_run.specs.Login.{login_of};
+ghost use Rattle.my_run.specs.Ready.{AreReady};
 
 use crate::call::{Did, begin_in};
 use crate::cancel::cancel_in;
@@ -32,6 +33,7 @@ fn run_step<N: World>(
     slots: &mut Vec<Slot<N::L>>,
     step: &Step,
 ) -> Result<Did, NoMemory>
+    requires { AreReady slots.old.items }
     ensures longer { OnOk result (length slots.old.items ≤ length slots.new.items) }
     ensures reads { OnOk result ((m : ℕ) → length slots.new.items ≤ m → N.plan world.new m ≡ N.plan world.old m) }
     ensures writes { OnOk result ((m : ℕ) → length slots.new.items ≤ m → N.write_plan world.new m ≡ N.write_plan world.old m) }

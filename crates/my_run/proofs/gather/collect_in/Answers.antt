@@ -1,3 +1,4 @@
+use Rattle.my_run.proofs.Readying.{ready_here}
 use Rattle.std.proofs.Common.{◌<◌, ◌≤◌, length, rules, refl}
 use Rattle.my_run.proofs.Hearing.{ok_turn}
 use Rattle.my_run.proofs.Numbers.{stepped_past, stepped_at, stood_here}
@@ -13,3 +14,8 @@ pub returns-clause-steps : goal.returns-clause-steps
 returns-clause-steps g c =
     let within : c.args.number < length c.args.slots.now.items = search rules in
     ok_turn c.collect_at.result _ _ c.collect_at.ensures (λ d f login plans w. stepped_at (λ l. record { items = g.L.Link.items l; writes = g.L.Link.writes l; counts = g.L.Link.counts l }) login plans c.args.number (CollectsAt login c.args.number) d.outcome d.uses.items c.args.slots.now.items c.index_mut.result.now c.collect_at.new.slot within c.index_mut.ensures.value (f login (stood_here login c.args.slots.now.items c.args.number c.index_mut.result.now within c.index_mut.ensures.value w)) w)
+
+pub collect_at-requires : goal.collect_at-requires
+collect_at-requires g c =
+    let within : c.args.number < length c.args.slots.now.items = search rules in
+    ready_here c.args.slots.now.items c.args.number c.index_mut.result.now within c.index_mut.ensures.value c.requires

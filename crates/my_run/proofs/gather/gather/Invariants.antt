@@ -3,6 +3,7 @@ use Rattle.my_grammar.specs.declared.login.Login.{Login}
 use Rattle.my_session.specs.Calls.{is_open}
 use Rattle.my_run.specs.Gathering.{GatherSoFar}
 use Rattle.my_run.specs.Kept.{Asked}
+use Rattle.my_run.specs.Ready.{AskedReady}
 use Rattle.my_run.specs.Rests.{IsAsked}
 use Rattle.my_run.specs.Slot.{kept_of}
 use Rattle.my_run.proofs.gather.gather.Given as goal
@@ -10,5 +11,6 @@ use Rattle.my_run.proofs.gather.gather.Given as goal
 abbrev pub invariant-rows : goal.invariant-rows
 invariant-rows g l = record {
   is_on : is_open l.conn.session.seen.task ≡ true;
+  asked : AskedReady l.conn;
   so : (login : Login) → (a : Asked) → IsAsked login l.fn.conn.session.seen (kept_of l.fn.conn) a → GatherSoFar (λ l. record { items = g.L.Link.items l; writes = g.L.Link.writes l; counts = g.L.Link.counts l }) login l.number a l.fn.conn l.conn l.uses.items;
 }

@@ -1,21 +1,37 @@
-use Rattle.std.proofs.Common.{◌≡◌, ◌≤◌, ◌+◌, true, arith, sym, ◌∙◌, subst}
+use Rattle.std.proofs.Common.{refl, sym, ◌∙◌, subst}
 use Rattle.my_run.specs.declared.poll.Round.{Round}
 use Rattle.my_run.specs.declared.poll.Round.TheVariants.{On, Over}
-use Rattle.my_run.specs.Poll.{Looks, took_by, is_full}
+use Rattle.my_run.specs.Poll.{Looks}
 use Rattle.my_run.specs.Slot.{kept_of}
-use Rattle.my_run.proofs.Rounds.{IsRound, RoundRests, round_is, round_rests}
+use Rattle.my_run.proofs.Rounds.{RoundRests, round_behind, nothing_yet, nothing_spent, round_rests}
 use Rattle.my_run.proofs.poll.poll_conn.Goals as goal
+
+pub turns-init : goal.turns-init
+turns-init g c =
+    let x : Looks = record { items = g.L.Link.items c.args.conn.now.link; writes = g.L.Link.writes c.args.conn.now.link; counts = g.L.Link.counts c.args.conn.now.link } in
+    record {
+      is_on = c.requires;
+      so = nothing_yet x c.args.conn.now.sent.items c.args.conn.now.taken.items c.args.number c.quiet_use-used.result c.quiet_use-used.ensures;
+      spent = nothing_spent x c.args.conn.now.taken.items;
+      calls = refl;
+      pending = refl;
+      rests = λ login a w. w;
+    }
+
+pub returns-in-Over-clause-polls : goal.returns-in-Over-clause-polls
+returns-in-Over-clause-polls g c =
+    let x : Looks = record { items = g.L.Link.items c.args.conn.now.link; writes = g.L.Link.writes c.args.conn.now.link; counts = g.L.Link.counts c.args.conn.now.link } in
+    let y : Looks = record { items = g.L.Link.items c.turns.conn.link; writes = g.L.Link.writes c.turns.conn.link; counts = g.L.Link.counts c.turns.conn.link } in
+    let z : Looks = record { items = g.L.Link.items c.take_turn.new.conn.link; writes = g.L.Link.writes c.take_turn.new.conn.link; counts = g.L.Link.counts c.take_turn.new.conn.link } in
+    let here = round_behind x y z c.take_turn.new.conn.session.seen c.args.conn.now.sent.items c.turns.conn.sent.items c.take_turn.new.conn.sent.items c.args.conn.now.taken.items c.turns.conn.taken.items c.take_turn.new.conn.taken.items c.args.number c.turns.used c.turns.invariant.so c.turns.invariant.spent c.in_ok-turn.turn c.in_ok-turn.ensures.turn c.in_ok-turn.ensures.within c.in_ok-turn.ensures.full (Over c.in-Over.polled) (sym c.in-Over.is ∙ c.count_turn.ensures) in
+    here.0
 
 pub returns-in-Over-clause-spends : goal.returns-in-Over-clause-spends
 returns-in-Over-clause-spends g c =
     let x : Looks = record { items = g.L.Link.items c.args.conn.now.link; writes = g.L.Link.writes c.args.conn.now.link; counts = g.L.Link.counts c.args.conn.now.link } in
     let y : Looks = record { items = g.L.Link.items c.turns.conn.link; writes = g.L.Link.writes c.turns.conn.link; counts = g.L.Link.counts c.turns.conn.link } in
     let z : Looks = record { items = g.L.Link.items c.take_turn.new.conn.link; writes = g.L.Link.writes c.take_turn.new.conn.link; counts = g.L.Link.counts c.take_turn.new.conn.link } in
-    let within : c.turns.used.taken + took_by c.in_ok-turn.turn ≤ 67108864 = omega (arith, c.in_ok-turn.ensures.within, c.turns.invariant.so.within) in
-    let full : is_full c.in_ok-turn.turn ≡ true → 67108864 ≤ c.turns.used.taken = λ e. omega (arith, c.in_ok-turn.ensures.full e, c.turns.invariant.so.within) in
-    let here : IsRound c.take_turn.new.conn.session.seen x z c.args.conn.now.sent.items c.take_turn.new.conn.sent.items c.args.conn.now.taken.items c.take_turn.new.conn.taken.items c.args.number (Over c.in-Over.polled) =
-    subst (λ (r : Round). IsRound c.take_turn.new.conn.session.seen x z c.args.conn.now.sent.items c.take_turn.new.conn.sent.items c.args.conn.now.taken.items c.take_turn.new.conn.taken.items c.args.number r) (sym c.count_turn.ensures ∙ c.in-Over.is)
-    (round_is x y z c.take_turn.new.conn.session.seen c.args.conn.now.sent.items c.turns.conn.sent.items c.take_turn.new.conn.sent.items c.args.conn.now.taken.items c.turns.conn.taken.items c.take_turn.new.conn.taken.items c.args.number c.turns.used c.turns.invariant.so c.turns.invariant.spent c.in_ok-turn.turn c.in_ok-turn.ensures.turn within full) in
+    let here = round_behind x y z c.take_turn.new.conn.session.seen c.args.conn.now.sent.items c.turns.conn.sent.items c.take_turn.new.conn.sent.items c.args.conn.now.taken.items c.turns.conn.taken.items c.take_turn.new.conn.taken.items c.args.number c.turns.used c.turns.invariant.so c.turns.invariant.spent c.in_ok-turn.turn c.in_ok-turn.ensures.turn c.in_ok-turn.ensures.within c.in_ok-turn.ensures.full (Over c.in-Over.polled) (sym c.in-Over.is ∙ c.count_turn.ensures) in
     here.1
 
 pub returns-in-Over-clause-rests : goal.returns-in-Over-clause-rests
@@ -28,11 +44,7 @@ turns-preserved g c =
     let x : Looks = record { items = g.L.Link.items c.args.conn.now.link; writes = g.L.Link.writes c.args.conn.now.link; counts = g.L.Link.counts c.args.conn.now.link } in
     let y : Looks = record { items = g.L.Link.items c.turns.conn.link; writes = g.L.Link.writes c.turns.conn.link; counts = g.L.Link.counts c.turns.conn.link } in
     let z : Looks = record { items = g.L.Link.items c.take_turn.new.conn.link; writes = g.L.Link.writes c.take_turn.new.conn.link; counts = g.L.Link.counts c.take_turn.new.conn.link } in
-    let within : c.turns.used.taken + took_by c.in_ok-turn.turn ≤ 67108864 = omega (arith, c.in_ok-turn.ensures.within, c.turns.invariant.so.within) in
-    let full : is_full c.in_ok-turn.turn ≡ true → 67108864 ≤ c.turns.used.taken = λ e. omega (arith, c.in_ok-turn.ensures.full e, c.turns.invariant.so.within) in
-    let here : IsRound c.take_turn.new.conn.session.seen x z c.args.conn.now.sent.items c.take_turn.new.conn.sent.items c.args.conn.now.taken.items c.take_turn.new.conn.taken.items c.args.number (On c.in-On.more) =
-    subst (λ (r : Round). IsRound c.take_turn.new.conn.session.seen x z c.args.conn.now.sent.items c.take_turn.new.conn.sent.items c.args.conn.now.taken.items c.take_turn.new.conn.taken.items c.args.number r) (sym c.count_turn.ensures ∙ c.in-On.is)
-    (round_is x y z c.take_turn.new.conn.session.seen c.args.conn.now.sent.items c.turns.conn.sent.items c.take_turn.new.conn.sent.items c.args.conn.now.taken.items c.turns.conn.taken.items c.take_turn.new.conn.taken.items c.args.number c.turns.used c.turns.invariant.so c.turns.invariant.spent c.in_ok-turn.turn c.in_ok-turn.ensures.turn within full) in
+    let here = round_behind x y z c.take_turn.new.conn.session.seen c.args.conn.now.sent.items c.turns.conn.sent.items c.take_turn.new.conn.sent.items c.args.conn.now.taken.items c.turns.conn.taken.items c.take_turn.new.conn.taken.items c.args.number c.turns.used c.turns.invariant.so c.turns.invariant.spent c.in_ok-turn.turn c.in_ok-turn.ensures.turn c.in_ok-turn.ensures.within c.in_ok-turn.ensures.full (On c.in-On.more) (sym c.in-On.is ∙ c.count_turn.ensures) in
     record {
       is_on = here.0;
       so = here.1;

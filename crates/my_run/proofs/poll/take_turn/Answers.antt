@@ -1,3 +1,4 @@
+use Rattle.my_session.proofs.Ending.{ended_fails}
 use Rattle.my_run.specs.Slot.{kept_of}
 use Rattle.my_run.proofs.Hearing.{held_send, held_need, awaits, is_answered, faulted_same, ok_turn}
 use Rattle.my_run.proofs.poll.take_turn.Goals as goal
@@ -16,3 +17,6 @@ returns-in-Done-clause-rests g c = λ login a w. is_answered login c.args.conn.n
 
 pub returns-in_ok-fault-in-Fault-clause-rests : goal.returns-in_ok-fault-in-Fault-clause-rests
 returns-in_ok-fault-in-Fault-clause-rests g c = λ login a w. faulted_same login c.args.conn.now.session.seen c.step.new.self.seen (kept_of c.args.conn.now) a c.in-Fault.error c.in_ok-fault-in-Fault.field-0 c.in_ok-fault-in-Fault.ensures.value c.in_ok-fault-in-Fault.ensures.kept w c.requires c.in-Fault.ensures.steps c.in-Fault.ensures.leaves c.in-Fault.ensures.stands
+
+pub receive-requires-clause-ends : goal.receive-requires-clause-ends
+receive-requires-clause-ends g c = ended_fails c.args.conn.now.session.seen c.step.new.self.seen c.in-Need.ensures.steps

@@ -1,3 +1,4 @@
+use Rattle.my_run.proofs.Readying.{asked_again}
 use Rattle.std.proofs.Common.{◌≡◌, true, false, rules, sym, ◌∙◌}
 use Rattle.my_session.specs.Calls.{is_open}
 use Rattle.my_run.proofs.Hearing.{ok_turn}
@@ -35,3 +36,10 @@ returns g c =
     ok_turn c.resume_call.result _ _ c.resume_call.ensures (λ d f login w.
     let a = open_asked login c.args.conn opened w in
     call_resumed (λ l. record { items = g.L.Link.items l; writes = g.L.Link.writes l; counts = g.L.Link.counts l }) login c.args.number c.args.conn a.0 d.slot d.did.outcome d.did.uses.items (sym (c.is_connecting.ensures a.0 a.1.asked) ∙ connecting) (sym (c.is_gathering.ensures a.0 a.1.asked) ∙ gathering) a.1.asked (f login a.0 a.1))
+
+pub resume_gathering-requires-clause-asked : goal.resume_gathering-requires-clause-asked
+resume_gathering-requires-clause-asked g c =
+    let opened : is_open c.args.conn.session.seen.task ≡ true = search rules in
+    let connecting : c.is_connecting.result ≡ false = search rules in
+    let gathering : c.is_gathering.result ≡ true = search rules in
+    asked_again c.args.conn c.is_connecting.result c.is_gathering.result c.requires opened c.is_connecting.ensures connecting c.is_gathering.ensures gathering

@@ -1,10 +1,13 @@
-use Rattle.std.proofs.Common.{◌≡◌, ◌≤◌, ◌+◌, ◌++◌, ◌∷◌, [], List, length, get_or, take, rules, arith, ap, sym, ◌∙◌, subst}
+use Rattle.my_run.proofs.Joining.{grown_joined}
+use Rattle.my_run.specs.Keeps.{Plans}
+use Rattle.my_run.specs.Ready.{AllJoined}
+use Rattle.std.proofs.Common.{◌≡◌, ◌≤◌, ◌+◌, ◌++◌, ◌∷◌, [], List, length, get_or, take, rules, arith, ap, refl, sym, ◌∙◌, subst}
 use Rattle.std.proofs.lemmas.List.{take_all, take_more}
 use Rattle.my_run.specs.declared.step.Step.{Step}
 use Rattle.my_run.specs.declared.transcript.StepAnswer.{StepAnswer}
 use Rattle.my_run.specs.Headline.{SoFar}
 use Rattle.my_run.specs.Login.{login_of}
-use Rattle.my_run.proofs.Runs.{step_on, count_up}
+use Rattle.my_run.proofs.Runs.{none_yet, step_on, count_up}
 use Rattle.my_run.proofs.run.run_each.Goals as goal
 
 pub loop-i-preserved : goal.loop-i-preserved
@@ -28,3 +31,12 @@ returns g c =
     let past : length c.args.steps.now ≤ c.loop-i.i = search rules in
     let whole : take c.loop-i.i c.args.steps.now ≡ c.args.steps.now = take_all c.loop-i.i c.args.steps.now past in
     λ plans er ew. subst (λ (xs : List Step). SoFar (λ l. record { items = g.N.L.Link.items l; writes = g.N.L.Link.writes l; counts = g.N.L.Link.counts l }) (login_of c.args.opts.now) plans xs c.loop-i.slots.items c.loop-i.answers.items) whole (c.loop-i.invariant.so_far plans er ew)
+
+pub loop-i-init : goal.loop-i-init
+loop-i-init g c = record { so_far = λ plans er ew. none_yet (λ l. record { items = g.N.L.Link.items l; writes = g.N.L.Link.writes l; counts = g.N.L.Link.counts l }) (login_of c.args.opts.now) plans [] c.args.slots.now.items c.args.answers.now.items refl c.requires.no_slots c.requires.no_answers; reads = λ m h. refl; writes = λ m h. refl }
+
+pub run_step-requires : goal.run_step-requires
+run_step-requires g c =
+    let plans : Plans = record { reads = g.N.World.plan c.args.world.now; writes = g.N.World.write_plan c.args.world.now } in
+    let u = c.loop-i.invariant.so_far plans (λ n. refl) (λ n. refl) in
+    (login_of c.args.opts.now, u.stood, subst AllJoined (sym u.handles_are) (grown_joined (login_of c.args.opts.now) u.lines u.grown))
