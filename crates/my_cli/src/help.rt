@@ -1,8 +1,44 @@
 //! What the program says of itself.
+ghost use Rattle.std.specs.Prelude.{◌≡◌, map, string_bytes};
+ghost use Rattle.my_cli.specs.Page.{page_for};
 
-pub const VERSION: &str = "my_cli 0.1.0\n";
+/// What a lone word asks for.
+#[derive(Clone, Copy, PartialEq, Eq)]
+pub enum Page {
+    Help,
+    Version,
+}
 
-pub const HELP: &str = "\
+/// The page that the words ask for, or none where they are another command.
+pub fn asked_page(words: &[String]) -> Option<Page>
+    ensures { result ≡ page_for (map string_bytes words.now) }
+{
+    match words {
+        [word] => {
+            if word.as_str() == "--help" {
+                Some(Page::Help)
+            } else if word.as_str() == "--version" {
+                Some(Page::Version)
+            } else {
+                None
+            }
+        }
+        _ => None,
+    }
+}
+
+impl Page {
+    pub fn text(self) -> &'static str {
+        match self {
+            Page::Help => HELP,
+            Page::Version => VERSION,
+        }
+    }
+}
+
+const VERSION: &str = "my_cli 0.1.0\n";
+
+const HELP: &str = "\
 my_cli runs a script of steps over MySQL connections, and prints what each step came to.
 
   my_cli script WORD < SCRIPT

@@ -9,7 +9,7 @@ mod tests;
 #[cfg(test)]
 mod world_tests;
 
-use help::{HELP, VERSION};
+use help::asked_page;
 use my_run::output::write_all;
 use my_run::tool::run_tool;
 use my_wire::{StdSink, StdSource};
@@ -34,25 +34,13 @@ fn command_words<R: Env + AllocGlobal>(rt: &R) -> io::Result<Vec<String>> {
     Ok(words)
 }
 
-// The page that a lone word asks for.
-fn page(words: &[String]) -> Option<&'static str> {
-    match words {
-        [word] => match word.as_str() {
-            "--help" => Some(HELP),
-            "--version" => Some(VERSION),
-            _ => None,
-        },
-        _ => None,
-    }
-}
-
 fn main(rt: HostRuntime) -> ExitCode {
     let Ok(words) = command_words(&rt) else {
         return ExitCode::from(NO_COMMAND);
     };
     let mut out = StdSink::new(io::writer(&rt));
-    if let Some(text) = page(&words) {
-        return ExitCode::from(if write_all(&mut out, text.as_bytes()) {
+    if let Some(page) = asked_page(&words) {
+        return ExitCode::from(if write_all(&mut out, page.text().as_bytes()) {
             0
         } else {
             WRITE_FAILED
