@@ -30,7 +30,7 @@ use Rattle.my_run.specs.Grows.{Begins, BeginsOn, Calls, asked_by, shown}
 use Rattle.my_run.specs.Handle.{Joined}
 use Rattle.my_run.specs.Keeps.{StandsBy, LinkSpent}
 use Rattle.my_run.specs.Kept.{Asked, Kept, IsHeard, made_of, is_note, answers_in, call_in, asking, ended_by}
-use Rattle.my_run.specs.Poll.{Looks}
+use Rattle.my_world.specs.Looks.{Looks}
 use Rattle.my_run.specs.Rests.{Rests, IsAsked}
 use Rattle.my_run.specs.Sums.{IsSilent}
 use Rattle.my_run.proofs.Hearing.{answer_counts, ended_of}

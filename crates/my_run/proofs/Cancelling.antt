@@ -24,7 +24,7 @@ use Rattle.my_run.specs.Grows.{Calls, CollectsAt, CollectsOn, Cancels, CancelsWi
 use Rattle.my_run.specs.Handle.{Handle, Joined}
 use Rattle.my_run.specs.Keeps.{Plans, StandsBy, LinkSpent, IsStood, IsPlayed}
 use Rattle.my_run.specs.Kept.{Asked, Kept, ended_by}
-use Rattle.my_run.specs.Poll.{Looks}
+use Rattle.my_world.specs.Looks.{Looks}
 use Rattle.my_run.specs.Rests.{Rests}
 use Rattle.my_run.specs.Slot.{handle_of, kept_of}
 use Rattle.my_run.specs.Sums.{IsSilent}

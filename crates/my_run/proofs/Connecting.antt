@@ -31,7 +31,8 @@ use Rattle.my_run.specs.Handle.{Handle, Joined, at_number}
 use Rattle.my_run.specs.Held.{HeldBy}
 use Rattle.my_run.specs.Keeps.{Plans, StandsBy, LinkSpent, LinkPlays, IsStood, AreStood, IsPlayed, ArePlayed, SlotPlays}
 use Rattle.my_run.specs.Kept.{Asked, Kept, nothing_kept, asking}
-use Rattle.my_run.specs.Poll.{Looks, quiet}
+use Rattle.my_run.specs.Poll.{quiet}
+use Rattle.my_world.specs.Looks.{Looks}
 use Rattle.my_run.specs.Rests.{Rests, IsAsked}
 use Rattle.my_run.specs.Slot.{kept_of, handle_of}
 use Rattle.my_run.specs.Sums.{faults_for, holds_for, ends_for, IsSilent}

@@ -12,7 +12,8 @@ use Rattle.my_run.specs.declared.transcript.Use.{Use}
 use Rattle.my_run.specs.Causes.{PollEnds}
 use Rattle.my_run.specs.Drives.{Drives, kept_behind}
 use Rattle.my_run.specs.Kept.{Asked, Kept}
-use Rattle.my_run.specs.Poll.{Looks, Causes, Polls, SpendsOn}
+use Rattle.my_run.specs.Poll.{Causes, Polls, SpendsOn}
+use Rattle.my_world.specs.Looks.{Looks}
 use Rattle.my_run.specs.Rests.{Rests, PollRests}
 
 nothing_begun : (t : Task) → t ≡ Nothing → is_begun t ≡ false

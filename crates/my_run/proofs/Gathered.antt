@@ -34,7 +34,7 @@ use Rattle.my_run.specs.Grows.{Calls, Begins, BeginsOn, CollectsAt, CollectsOn, 
 use Rattle.my_run.specs.Handle.{Handle, Joined}
 use Rattle.my_run.specs.Keeps.{StandsBy, LinkSpent}
 use Rattle.my_run.specs.Kept.{Asked, Kept, made_of, asking, ended_by}
-use Rattle.my_run.specs.Poll.{Looks}
+use Rattle.my_world.specs.Looks.{Looks}
 use Rattle.my_run.specs.Rests.{Rests, IsAsked}
 use Rattle.my_run.specs.Slot.{kept_of}
 use Rattle.my_run.specs.Sums.{holds_for, IsSilent}

@@ -15,7 +15,7 @@ use Rattle.my_run.specs.Grows.{At}
 use Rattle.my_run.specs.Handle.{Handle, Absent, at_number, put_at}
 use Rattle.my_run.specs.Held.{HeldBy}
 use Rattle.my_run.specs.Keeps.{Plans, StandsBy, LinkSpent, IsStood, AreStood, IsPlayed, ArePlayed}
-use Rattle.my_run.specs.Poll.{Looks}
+use Rattle.my_world.specs.Looks.{Looks}
 use Rattle.my_run.specs.Slot.{handle_of}
 use Rattle.my_run.specs.Sums.{faults_for, holds_for, ends_for, IsSilent}
 

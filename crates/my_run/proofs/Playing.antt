@@ -18,7 +18,8 @@ use Rattle.my_run.specs.Handle.{Joined}
 use Rattle.my_run.specs.Held.{FindsNothingIn, HeldBy}
 use Rattle.my_run.specs.Keeps.{Plans, LinkSpent, LinkPlays, IsPlayed, SlotPlays}
 use Rattle.my_run.specs.Kept.{Asked, Kept, IsHeard}
-use Rattle.my_run.specs.Poll.{Looks, PollSpends}
+use Rattle.my_run.specs.Poll.{PollSpends}
+use Rattle.my_world.specs.Looks.{Looks}
 use Rattle.my_run.specs.Slot.{kept_of}
 use Rattle.my_run.specs.Sums.{faults_for, holds_for, ends_for}
 

@@ -21,7 +21,7 @@ use Rattle.my_run.specs.declared.slot.Slot.TheVariants.{There}
 use Rattle.my_run.specs.Drives.{Drives}
 use Rattle.my_run.specs.Gathering.{Goes}
 use Rattle.my_run.specs.Kept.{Asked, Kept, asking}
-use Rattle.my_run.specs.Poll.{Looks}
+use Rattle.my_world.specs.Looks.{Looks}
 use Rattle.my_run.specs.Ready.{IsReady, WasJoined, IsOpen, JoinedBy, IsJoined, StaysOpen, ConnReady, SlotReady, AreReady, AskedReady}
 use Rattle.my_run.specs.Rests.{Rests, IsAsked}
 use Rattle.my_run.specs.Slot.{kept_of, handle_of}

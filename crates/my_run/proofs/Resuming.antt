@@ -18,7 +18,7 @@ use Rattle.my_run.specs.Grows.{GoesOn, GoesOnWith, PollsOn}
 use Rattle.my_run.specs.Handle.{Joined}
 use Rattle.my_run.specs.Keeps.{StandsBy, SlotPlays}
 use Rattle.my_run.specs.Kept.{Asked}
-use Rattle.my_run.specs.Poll.{Looks}
+use Rattle.my_world.specs.Looks.{Looks}
 use Rattle.my_run.specs.Rests.{IsAsked}
 use Rattle.my_run.specs.Slot.{handle_of, kept_of}
 use Rattle.my_run.proofs.Beginning.{is_asked, is_idle, silent_elsewhere}

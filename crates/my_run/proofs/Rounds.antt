@@ -13,7 +13,8 @@ use Rattle.my_run.specs.declared.poll.Turn.{Turn}
 use Rattle.my_run.specs.declared.poll.Turn.TheVariants.{Sent, Took, Ended, Broke, Held, Full, Answered, Faulted}
 use Rattle.my_run.specs.declared.transcript.Use.{Use}
 use Rattle.my_run.specs.Kept.{Asked, Kept}
-use Rattle.my_run.specs.Poll.{Looks, CameIn, CameBy, WentOut, Waits, Holds, quiet, TurnIs, took_by, is_full, Polls, SoFar, SpendsOn, SpentSoFar, round_of}
+use Rattle.my_run.specs.Poll.{CameIn, CameBy, WentOut, Waits, Holds, quiet, TurnIs, took_by, is_full, Polls, SoFar, SpendsOn, SpentSoFar, round_of}
+use Rattle.my_world.specs.Looks.{Looks}
 use Rattle.my_run.specs.Rests.{IsAsked, HasFailed, TurnRests, PollRests}
 use Rattle.my_run.specs.Uses.{RoseBy, CountsTo}
 use Rattle.my_run.proofs.Spends.{sent_on, took_on, ended_on, held_by, failed_by, rested_by}

@@ -20,7 +20,7 @@ use Rattle.my_run.specs.Grows.{At, TellsFields, Line, StepGrows}
 use Rattle.my_run.specs.Handle.{Handle}
 use Rattle.my_run.specs.Headline.{AnswerView, answer_view, steps_of, uses_of, IsSaid, FewFaults, PlaysReads, Plays, HoldsAre, ArePlanned, FewHolds, IsExplained, AreExplained, Headline, SoFar}
 use Rattle.my_run.specs.Keeps.{Plans, StandsBy, LinkSpent, IsStood, AreStood, IsPlayed, ArePlayed}
-use Rattle.my_run.specs.Poll.{Looks}
+use Rattle.my_world.specs.Looks.{Looks}
 use Rattle.my_run.specs.Slot.{kept_of, handle_of}
 use Rattle.my_run.specs.Sums.{faults_for, ends_for, IsSilent}
 use Rattle.my_run.specs.Tapes.{tape_view, tapes_in}

@@ -6,7 +6,8 @@ use Rattle.my_world.specs.Spent.{IsSpent}
 use Rattle.my_world.proofs.Spending.{spent_sent, spent_took, spent_ended, spent_read_failed, spent_write_failed, spent_write_held, spent_same, no_hold, spends_read_held}
 use Rattle.my_session.specs.Seen.{Seen}
 use Rattle.my_run.specs.declared.transcript.Use.{Use}
-use Rattle.my_run.specs.Poll.{Looks, CameIn, TakesOut, Ends, Holds, Fails, PollSpends, SpendsOn, SpentSoFar}
+use Rattle.my_run.specs.Poll.{CameIn, TakesOut, Ends, Holds, Fails, PollSpends, SpendsOn, SpentSoFar}
+use Rattle.my_world.specs.Looks.{Looks}
 
 -- bytes went out
 pub sent_on : (x y z : Looks) (t u v : List ℕ) (ends : ℕ) → SpentSoFar x y t u ends → TakesOut y z → v ≡ u → SpentSoFar x z t v ends

@@ -13,7 +13,7 @@ use Rattle.my_run.specs.declared.transcript.Use.{Use}
 use Rattle.my_run.specs.Grows.{Connects, Dials}
 use Rattle.my_run.specs.Keeps.{Plans, IsStood, LinkSpent, SlotPlays}
 use Rattle.my_run.specs.Kept.{Asked, Kept}
-use Rattle.my_run.specs.Poll.{Looks}
+use Rattle.my_world.specs.Looks.{Looks}
 use Rattle.my_run.specs.Slot.{handle_of}
 use Rattle.my_run.specs.Sums.{IsSilent}
 use Rattle.my_world.specs.declared.link.ReadItem.{ReadItem}

@@ -12,7 +12,7 @@ use Rattle.my_run.specs.Grows.{PolledOnce}
 use Rattle.my_run.specs.Handle.{Handle, Joined}
 use Rattle.my_run.specs.Keeps.{Plans, LinkSpent, LinkPlays, IsStood, AreStood, IsPlayed, ArePlayed, SlotPlays, AllPlay}
 use Rattle.my_run.specs.Kept.{Asked, Kept}
-use Rattle.my_run.specs.Poll.{Looks}
+use Rattle.my_world.specs.Looks.{Looks}
 use Rattle.my_run.specs.Rests.{Rests}
 use Rattle.my_run.specs.Slot.{handle_of, kept_of}
 use Rattle.my_run.specs.Sums.{IsSilent}

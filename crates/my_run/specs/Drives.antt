@@ -10,7 +10,8 @@ use Rattle.my_run.specs.declared.poll.Polled.{Polled}
 use Rattle.my_run.specs.declared.tape.Said.TheVariants as says
 use Rattle.my_run.specs.Causes.{IsPolled}
 use Rattle.my_run.specs.Kept.{Asked, Kept, ended_by}
-use Rattle.my_run.specs.Poll.{Looks, SpendsOn}
+use Rattle.my_run.specs.Poll.{SpendsOn}
+use Rattle.my_world.specs.Looks.{Looks}
 use Rattle.my_run.specs.Rests.{Rests}
 
 -- what a poll came to is kept

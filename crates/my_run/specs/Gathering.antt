@@ -22,7 +22,7 @@ use Rattle.my_run.specs.Grows.{Gathers, rows_shown}
 use Rattle.my_run.specs.Handle.{Handle, Joined}
 use Rattle.my_run.specs.Keeps.{Plans, LinkSpent, LinkPlays}
 use Rattle.my_run.specs.Kept.{Asked, asking}
-use Rattle.my_run.specs.Poll.{Looks}
+use Rattle.my_world.specs.Looks.{Looks}
 use Rattle.my_run.specs.Rests.{Rests, IsAsked}
 use Rattle.my_run.specs.Slot.{kept_of}
 use Rattle.my_run.specs.Sums.{holds_for, IsSilent}

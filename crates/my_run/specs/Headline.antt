@@ -18,7 +18,7 @@ use Rattle.my_run.specs.Handle.{Handle, Absent, Dialing, Joined, at_number}
 use Rattle.my_run.specs.Held.{HeldBy}
 use Rattle.my_run.specs.Kept.{Kept, IsOf}
 use Rattle.my_run.specs.Keeps.{Plans, AreStood, ArePlayed}
-use Rattle.my_run.specs.Poll.{Looks}
+use Rattle.my_world.specs.Looks.{Looks}
 use Rattle.my_run.specs.Slot.{handle_of}
 use Rattle.my_run.specs.Sums.{faults_for, holds_for, ends_for, IsSilent}
 use Rattle.my_run.specs.Tapes.{tape_view, tapes_in}

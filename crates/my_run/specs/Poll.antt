@@ -17,14 +17,9 @@ use Rattle.my_run.specs.declared.poll.Round.{Round}
 use Rattle.my_run.specs.declared.poll.Round.TheVariants.{On, Over}
 use Rattle.my_run.specs.declared.poll.Turn.{Turn}
 use Rattle.my_run.specs.declared.poll.Turn.TheVariants.{Sent, Took, Ended, Broke, Held, Full, Answered, Faulted}
-use Rattle.my_world.specs.Outside.{Counts, FaultRose, HoldRose, EndRose}
+use Rattle.my_world.specs.Outside.{FaultRose, HoldRose, EndRose}
+use Rattle.my_world.specs.Looks.{Looks}
 use Rattle.my_world.specs.Link.{Told, Gave, behind_hold, behind_fault, behind_end, behind_write, taken_of, behind_taken, behind_write_hold, behind_write_fault}
-
--- what clauses see of a link
-pub record Looks : Type 0 where
-  pub items : Option (List ReadItem)
-  pub writes : Option (List WriteItem)
-  pub counts : Counts
 
 -- the call is still open, and asks for a sending or for bytes
 abbrev pub Waits : Seen → Type 0

@@ -90,7 +90,7 @@ pub fn ask<L>(conn: &mut Conn<L>, call: Call, rows: Option<Vec<Row>>)
 // Polls the open call.
 pub fn poll_open<L: Link>(alloc: Global, conn: &mut Conn<L>, number: u64) -> Result<Did, NoMemory>
     requires { is_open conn.old.session.seen.task ≡ true }
-    ensures { IfOk result (λ d. (login : LoginOf) (a : Asked) → IsAsked login conn.old.session.seen (kept_of conn.old) a → OpenPolled login number a conn.new.session.seen (record { items = L.items conn.old.link; writes = L.writes conn.old.link; counts = L.counts conn.old.link }) (record { items = L.items conn.new.link; writes = L.writes conn.new.link; counts = L.counts conn.new.link }) (kept_of conn.old) (kept_of conn.new) d.outcome d.uses.items) }
+    ensures { IfOk result (λ d. (login : LoginOf) (a : Asked) → IsAsked login conn.old.session.seen (kept_of conn.old) a → OpenPolled login number a conn.new.session.seen (L.looks conn.old.link) (L.looks conn.new.link) (kept_of conn.old) (kept_of conn.new) d.outcome d.uses.items) }
 {
     let driven = drive(alloc, conn, number)?;
     did_once(alloc, shown(driven.polled.after), driven.polled.used)
@@ -120,7 +120,7 @@ fn begin_call<L: Link>(
 ) -> Result<Did, NoMemory>
     requires ready { ConnReady conn.old }
     requires kind { is_connect (kind_of call) ≡ false }
-    ensures { IfOk result (λ d. (login : LoginOf) → StandsBy login conn.old → DidAt (λ l. record { items = L.items l; writes = L.writes l; counts = L.counts l }) login number (Calls login number call) d.outcome d.uses.items (ThereAt conn.old) (ThereAt conn.new)) }
+    ensures { IfOk result (λ d. (login : LoginOf) → StandsBy login conn.old → DidAt L.looks login number (Calls login number call) d.outcome d.uses.items (ThereAt conn.old) (ThereAt conn.new)) }
 {
     if conn.session.is_open() {
         return Ok(refused(alloc));
@@ -141,7 +141,7 @@ fn begin_at<L: Link>(
 ) -> Result<Did, NoMemory>
     requires ready { SlotReady slot.old }
     requires kind { is_connect (kind_of call) ≡ false }
-    ensures { IfOk result (λ d. (login : LoginOf) → IsStood login slot.old → DidAt (λ l. record { items = L.items l; writes = L.writes l; counts = L.counts l }) login number (Calls login number call) d.outcome d.uses.items slot.old slot.new) }
+    ensures { IfOk result (λ d. (login : LoginOf) → IsStood login slot.old → DidAt L.looks login number (Calls login number call) d.outcome d.uses.items slot.old slot.new) }
 {
     match slot {
         Slot::There(conn) => begin_call(alloc, conn, number, call),
@@ -159,7 +159,7 @@ pub fn begin_in<L: Link>(
     requires ready { AreReady slots.old.items }
     requires kind { is_connect (kind_of call) ≡ false }
     ensures count { length slots.new.items ≡ length slots.old.items }
-    ensures steps { IfOk result (λ d. (login : LoginOf) (plans : Plans) → AreStood login slots.old.items → Stepped (λ l. record { items = L.items l; writes = L.writes l; counts = L.counts l }) login plans d.uses.items slots.old.items slots.new.items (At number (Calls login number call) (map handle_of slots.old.items) d.outcome d.uses.items (map handle_of slots.new.items))) }
+    ensures steps { IfOk result (λ d. (login : LoginOf) (plans : Plans) → AreStood login slots.old.items → Stepped L.looks login plans d.uses.items slots.old.items slots.new.items (At number (Calls login number call) (map handle_of slots.old.items) d.outcome d.uses.items (map handle_of slots.new.items))) }
 {
     if number >= slots.len() as u64 {
         return Ok(refused(alloc));

@@ -79,7 +79,7 @@ fn cancel_there<L: Link + Drop>(
     mut conn: Conn<L>,
     number: u64,
 ) -> Result<Connected<L>, NoMemory>
-    ensures { IfOk result (λ c. (login : LoginOf) → StandsBy login conn → DidAt (λ l. record { items = L.items l; writes = L.writes l; counts = L.counts l }) login number (Cancels login) c.did.outcome c.did.uses.items (ThereAt conn) c.slot) }
+    ensures { IfOk result (λ c. (login : LoginOf) → StandsBy login conn → DidAt L.looks login number (Cancels login) c.did.outcome c.did.uses.items (ThereAt conn) c.slot) }
 {
     if !conn.session.is_open() {
         return Ok(Connected {
@@ -100,7 +100,7 @@ fn cancel_at<L: Link + Drop>(
     slot: Slot<L>,
     number: u64,
 ) -> Result<Connected<L>, NoMemory>
-    ensures { IfOk result (λ c. (login : LoginOf) → IsStood login slot → DidAt (λ l. record { items = L.items l; writes = L.writes l; counts = L.counts l }) login number (Cancels login) c.did.outcome c.did.uses.items slot c.slot) }
+    ensures { IfOk result (λ c. (login : LoginOf) → IsStood login slot → DidAt L.looks login number (Cancels login) c.did.outcome c.did.uses.items slot c.slot) }
 {
     match slot {
         Slot::There(conn) => cancel_there(alloc, conn, number),
@@ -126,7 +126,7 @@ pub fn cancel_in<L: Link + Drop>(
     number: u64,
 ) -> Result<Did, NoMemory>
     ensures count { OnOk result (length slots.new.items ≡ length slots.old.items) }
-    ensures steps { IfOk result (λ d. (login : LoginOf) (plans : Plans) → AreStood login slots.old.items → Stepped (λ l. record { items = L.items l; writes = L.writes l; counts = L.counts l }) login plans d.uses.items slots.old.items slots.new.items (At number (Cancels login) (map handle_of slots.old.items) d.outcome d.uses.items (map handle_of slots.new.items))) }
+    ensures steps { IfOk result (λ d. (login : LoginOf) (plans : Plans) → AreStood login slots.old.items → Stepped L.looks login plans d.uses.items slots.old.items slots.new.items (At number (Cancels login) (map handle_of slots.old.items) d.outcome d.uses.items (map handle_of slots.new.items))) }
 {
     if number >= slots.len() as u64 {
         return Ok(refused(alloc));

@@ -113,7 +113,7 @@ fn first_call<L: Link + Drop>(
     link: L,
     number: u64,
 ) -> Result<Connected<L>, NoMemory>
-    ensures { IfOk result (λ c. (used : Use) × (c.did.uses.items ≡ quiet number ∷ used ∷ []) × Joins (λ l. record { items = L.items l; writes = L.writes l; counts = L.counts l }) (login_of opts.now) number (asked_by nothing_kept ConnectCall) (asking nothing_kept ConnectCall None) (record { items = L.items link; writes = L.writes link; counts = L.counts link }) c.slot c.did.outcome used) }
+    ensures { IfOk result (λ c. (used : Use) × (c.did.uses.items ≡ quiet number ∷ used ∷ []) × Joins L.looks (login_of opts.now) number (asked_by nothing_kept ConnectCall) (asking nothing_kept ConnectCall None) (L.looks link) c.slot c.did.outcome used) }
 {
     let mut conn = new_conn(alloc, opts, link)?;
     ask(&mut conn, Call::Connect, None);
@@ -136,7 +136,7 @@ pub fn dial_at<N: World>(
 ) -> Result<Connected<N::L>, NoMemory>
     ensures reads { (m : ℕ) → m ≢ number → N.plan world.new m ≡ N.plan world.old m }
     ensures writes { (m : ℕ) → m ≢ number → N.write_plan world.new m ≡ N.write_plan world.old m }
-    ensures dialed { IfOk result (λ c. Dialed (λ l. record { items = N.L.items l; writes = N.L.writes l; counts = N.L.counts l }) (login_of opts.now) number (N.plan world.old number) (N.write_plan world.old number) c.slot c.did.outcome c.did.uses.items) }
+    ensures dialed { IfOk result (λ c. Dialed N.L.looks (login_of opts.now) number (N.plan world.old number) (N.write_plan world.old number) c.slot c.did.outcome c.did.uses.items) }
 {
     match world.dial(number) {
         DialStep::Link(link) => first_call(alloc, opts, link, number),
@@ -175,7 +175,7 @@ pub fn connect<N: World>(
     ensures reads { (m : ℕ) → m ≢ length slots.old.items → N.plan world.new m ≡ N.plan world.old m }
     ensures writes { (m : ℕ) → m ≢ length slots.old.items → N.write_plan world.new m ≡ N.write_plan world.old m }
     ensures count { OnOk result (length slots.new.items ≡ suc (length slots.old.items)) }
-    ensures steps { IfOk result (λ d. (plans : Plans) → plans.reads (length slots.old.items) ≡ N.plan world.old (length slots.old.items) → plans.writes (length slots.old.items) ≡ N.write_plan world.old (length slots.old.items) → AreStood (login_of opts.now) slots.old.items → Stepped (λ l. record { items = N.L.items l; writes = N.L.writes l; counts = N.L.counts l }) (login_of opts.now) plans d.uses.items slots.old.items slots.new.items (DialsNext (login_of opts.now) (map handle_of slots.old.items) d.outcome d.uses.items (map handle_of slots.new.items))) }
+    ensures steps { IfOk result (λ d. (plans : Plans) → plans.reads (length slots.old.items) ≡ N.plan world.old (length slots.old.items) → plans.writes (length slots.old.items) ≡ N.write_plan world.old (length slots.old.items) → AreStood (login_of opts.now) slots.old.items → Stepped N.L.looks (login_of opts.now) plans d.uses.items slots.old.items slots.new.items (DialsNext (login_of opts.now) (map handle_of slots.old.items) d.outcome d.uses.items (map handle_of slots.new.items))) }
 {
     let number = slots.len() as u64;
     let connected = dial_at(alloc, opts, world, number)?;

@@ -69,7 +69,7 @@ pub fn drive<L: Link>(alloc: Global, conn: &mut Conn<L>, number: u64) -> Result<
     requires { is_open conn.old.session.seen.task ≡ true }
     ensures rests { IfOk result (λ d. RestsBy d.polled.after conn.new.session.seen) }
     ensures rows { IfOk result (λ d. (a : Asked) → asked_in conn.old.pending ≡ Some a → RowsOf a d.polled.after (option_map (λ v. v.items) d.rows)) }
-    ensures drives { IfOk result (λ d. (login : LoginOf) (a : Asked) → IsAsked login conn.old.session.seen (kept_of conn.old) a → Drives login number a conn.new.session.seen (record { items = L.items conn.old.link; writes = L.writes conn.old.link; counts = L.counts conn.old.link }) (record { items = L.items conn.new.link; writes = L.writes conn.new.link; counts = L.counts conn.new.link }) (kept_of conn.old) (kept_of conn.new) d.polled) }
+    ensures drives { IfOk result (λ d. (login : LoginOf) (a : Asked) → IsAsked login conn.old.session.seen (kept_of conn.old) a → Drives login number a conn.new.session.seen (L.looks conn.old.link) (L.looks conn.new.link) (kept_of conn.old) (kept_of conn.new) d.polled) }
 {
     let polled = poll_conn(alloc, conn, number)?;
     let rows = keep(alloc, conn, &polled.after)?;

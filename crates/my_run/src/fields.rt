@@ -25,7 +25,7 @@ fn last_ok<L>(alloc: Global, conn: &Conn<L>) -> Result<Option<OkPacket>, NoMemor
 }
 
 fn tell<L: Link>(alloc: Global, conn: &Conn<L>, number: u64) -> Result<Did, NoMemory>
-    ensures { IfOk result (λ d. (login : LoginOf) → StandsBy login conn.now → DidAt (λ l. record { items = L.items l; writes = L.writes l; counts = L.counts l }) login number (TellsFields login) d.outcome d.uses.items (ThereAt conn.now) (ThereAt conn.now)) }
+    ensures { IfOk result (λ d. (login : LoginOf) → StandsBy login conn.now → DidAt L.looks login number (TellsFields login) d.outcome d.uses.items (ThereAt conn.now) (ThereAt conn.now)) }
 {
     if conn.session.is_open() {
         return Ok(refused(alloc));
@@ -38,7 +38,7 @@ fn tell<L: Link>(alloc: Global, conn: &Conn<L>, number: u64) -> Result<Did, NoMe
 }
 
 fn tell_at<L: Link>(alloc: Global, slot: &Slot<L>, number: u64) -> Result<Did, NoMemory>
-    ensures { IfOk result (λ d. (login : LoginOf) → IsStood login slot.now → DidAt (λ l. record { items = L.items l; writes = L.writes l; counts = L.counts l }) login number (TellsFields login) d.outcome d.uses.items slot.now slot.now) }
+    ensures { IfOk result (λ d. (login : LoginOf) → IsStood login slot.now → DidAt L.looks login number (TellsFields login) d.outcome d.uses.items slot.now slot.now) }
 {
     match slot {
         Slot::There(conn) => tell(alloc, conn, number),
@@ -48,7 +48,7 @@ fn tell_at<L: Link>(alloc: Global, slot: &Slot<L>, number: u64) -> Result<Did, N
 
 /// Tells the last OK of the connection of this number.
 pub fn fields_in<L: Link>(alloc: Global, slots: &[Slot<L>], number: u64) -> Result<Did, NoMemory>
-    ensures { IfOk result (λ d. (login : LoginOf) (plans : Plans) → AreStood login slots.now → Stepped (λ l. record { items = L.items l; writes = L.writes l; counts = L.counts l }) login plans d.uses.items slots.now slots.now (At number (TellsFields login) (map handle_of slots.now) d.outcome d.uses.items (map handle_of slots.now))) }
+    ensures { IfOk result (λ d. (login : LoginOf) (plans : Plans) → AreStood login slots.now → Stepped L.looks login plans d.uses.items slots.now slots.now (At number (TellsFields login) (map handle_of slots.now) d.outcome d.uses.items (map handle_of slots.now))) }
 {
     if number >= slots.len() as u64 {
         return Ok(refused(alloc));

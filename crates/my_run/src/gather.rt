@@ -114,7 +114,7 @@ fn go_on<L>(
 pub fn gather<L: Link>(alloc: Global, conn: &mut Conn<L>, number: u64) -> Result<Did, NoMemory>
     requires is_on { is_open conn.old.session.seen.task ≡ true }
     requires asked { AskedReady conn.old }
-    ensures { IfOk result (λ d. (login : LoginOf) (a : Asked) → IsAsked login conn.old.session.seen (kept_of conn.old) a → GatherDid (λ l. record { items = L.items l; writes = L.writes l; counts = L.counts l }) login number a conn.old conn.new d.outcome d.uses.items) }
+    ensures { IfOk result (λ d. (login : LoginOf) (a : Asked) → IsAsked login conn.old.session.seen (kept_of conn.old) a → GatherDid L.looks login number a conn.old conn.new d.outcome d.uses.items) }
 {
     let mut uses = Vec::new(alloc);
     'rows: for _ in 0..u64::MAX {
@@ -130,7 +130,7 @@ pub fn gather<L: Link>(alloc: Global, conn: &mut Conn<L>, number: u64) -> Result
 
 fn collect_call<L: Link>(alloc: Global, conn: &mut Conn<L>, number: u64) -> Result<Did, NoMemory>
     requires { ConnReady conn.old }
-    ensures { IfOk result (λ d. (login : LoginOf) → StandsBy login conn.old → DidAt (λ l. record { items = L.items l; writes = L.writes l; counts = L.counts l }) login number (CollectsAt login number) d.outcome d.uses.items (ThereAt conn.old) (ThereAt conn.new)) }
+    ensures { IfOk result (λ d. (login : LoginOf) → StandsBy login conn.old → DidAt L.looks login number (CollectsAt login number) d.outcome d.uses.items (ThereAt conn.old) (ThereAt conn.new)) }
 {
     if conn.session.is_open() {
         return Ok(refused(alloc));
@@ -144,7 +144,7 @@ fn collect_call<L: Link>(alloc: Global, conn: &mut Conn<L>, number: u64) -> Resu
 
 fn collect_at<L: Link>(alloc: Global, slot: &mut Slot<L>, number: u64) -> Result<Did, NoMemory>
     requires { SlotReady slot.old }
-    ensures { IfOk result (λ d. (login : LoginOf) → IsStood login slot.old → DidAt (λ l. record { items = L.items l; writes = L.writes l; counts = L.counts l }) login number (CollectsAt login number) d.outcome d.uses.items slot.old slot.new) }
+    ensures { IfOk result (λ d. (login : LoginOf) → IsStood login slot.old → DidAt L.looks login number (CollectsAt login number) d.outcome d.uses.items slot.old slot.new) }
 {
     match slot {
         Slot::There(conn) => collect_call(alloc, conn, number),
@@ -160,7 +160,7 @@ pub fn collect_in<L: Link>(
 ) -> Result<Did, NoMemory>
     requires { AreReady slots.old.items }
     ensures count { length slots.new.items ≡ length slots.old.items }
-    ensures steps { IfOk result (λ d. (login : LoginOf) (plans : Plans) → AreStood login slots.old.items → Stepped (λ l. record { items = L.items l; writes = L.writes l; counts = L.counts l }) login plans d.uses.items slots.old.items slots.new.items (At number (CollectsAt login number) (map handle_of slots.old.items) d.outcome d.uses.items (map handle_of slots.new.items))) }
+    ensures steps { IfOk result (λ d. (login : LoginOf) (plans : Plans) → AreStood login slots.old.items → Stepped L.looks login plans d.uses.items slots.old.items slots.new.items (At number (CollectsAt login number) (map handle_of slots.old.items) d.outcome d.uses.items (map handle_of slots.new.items))) }
 {
     if number >= slots.len() as u64 {
         return Ok(refused(alloc));

@@ -94,7 +94,7 @@ fn fail_now<L: Link>(alloc: Global, conn: &mut Conn<L>) -> Result<Error, NoMemor
 // Sends some of what is owed.
 fn send<L: Link>(alloc: Global, conn: &mut Conn<L>) -> Result<Turn, NoMemory>
     requires { StepIs conn.old.session.seen SessionStep.Send }
-    ensures turn { IfOk result (λ turn. TurnIs conn.new.session.seen (record { items = L.items conn.old.link; writes = L.writes conn.old.link; counts = L.counts conn.old.link }) (record { items = L.items conn.new.link; writes = L.writes conn.new.link; counts = L.counts conn.new.link }) conn.old.sent.items conn.new.sent.items conn.old.taken.items conn.new.taken.items turn) }
+    ensures turn { IfOk result (λ turn. TurnIs conn.new.session.seen (L.looks conn.old.link) (L.looks conn.new.link) conn.old.sent.items conn.new.sent.items conn.old.taken.items conn.new.taken.items turn) }
     ensures took { IfOk result (λ turn. took_by turn ≡ 0) }
     ensures full { IfOk result (λ turn. is_full turn ≡ false) }
     ensures calls { OnOk result (conn.new.calls ≡ conn.old.calls) }
@@ -121,7 +121,7 @@ fn receive<L: Link>(alloc: Global, conn: &mut Conn<L>, room: u64) -> Result<Turn
     requires step { StepIs conn.old.session.seen SessionStep.Need }
     requires room { 0 < room }
     requires ends { Fails (with_end conn.old.session.seen) }
-    ensures turn { IfOk result (λ turn. TurnIs conn.new.session.seen (record { items = L.items conn.old.link; writes = L.writes conn.old.link; counts = L.counts conn.old.link }) (record { items = L.items conn.new.link; writes = L.writes conn.new.link; counts = L.counts conn.new.link }) conn.old.sent.items conn.new.sent.items conn.old.taken.items conn.new.taken.items turn) }
+    ensures turn { IfOk result (λ turn. TurnIs conn.new.session.seen (L.looks conn.old.link) (L.looks conn.new.link) conn.old.sent.items conn.new.sent.items conn.old.taken.items conn.new.taken.items turn) }
     ensures within { IfOk result (λ turn. took_by turn ≤ room) }
     ensures full { IfOk result (λ turn. is_full turn ≡ false) }
     ensures calls { OnOk result (conn.new.calls ≡ conn.old.calls) }
@@ -151,7 +151,7 @@ fn receive<L: Link>(alloc: Global, conn: &mut Conn<L>, room: u64) -> Result<Turn
 // One turn: what the session asks for is done with the link.
 fn take_turn<L: Link>(alloc: Global, conn: &mut Conn<L>, room: u64) -> Result<Turn, NoMemory>
     requires { is_open conn.old.session.seen.task ≡ true }
-    ensures turn { IfOk result (λ turn. TurnIs conn.new.session.seen (record { items = L.items conn.old.link; writes = L.writes conn.old.link; counts = L.counts conn.old.link }) (record { items = L.items conn.new.link; writes = L.writes conn.new.link; counts = L.counts conn.new.link }) conn.old.sent.items conn.new.sent.items conn.old.taken.items conn.new.taken.items turn) }
+    ensures turn { IfOk result (λ turn. TurnIs conn.new.session.seen (L.looks conn.old.link) (L.looks conn.new.link) conn.old.sent.items conn.new.sent.items conn.old.taken.items conn.new.taken.items turn) }
     ensures within { IfOk result (λ turn. took_by turn ≤ room) }
     ensures full { IfOk result (λ turn. is_full turn ≡ true → room ≡ 0) }
     ensures calls { OnOk result (conn.new.calls ≡ conn.old.calls) }
@@ -234,8 +234,8 @@ pub fn poll_conn<L: Link>(
     number: u64,
 ) -> Result<Polled, NoMemory>
     requires { is_open conn.old.session.seen.task ≡ true }
-    ensures polls { IfOk result (λ p. Polls conn.new.session.seen (record { items = L.items conn.old.link; writes = L.writes conn.old.link; counts = L.counts conn.old.link }) (record { items = L.items conn.new.link; writes = L.writes conn.new.link; counts = L.counts conn.new.link }) conn.old.sent.items conn.new.sent.items conn.old.taken.items conn.new.taken.items number p) }
-    ensures spends { IfOk result (λ p. SpendsOn conn.new.session.seen (record { items = L.items conn.old.link; writes = L.writes conn.old.link; counts = L.counts conn.old.link }) (record { items = L.items conn.new.link; writes = L.writes conn.new.link; counts = L.counts conn.new.link }) conn.old.taken.items conn.new.taken.items p.used) }
+    ensures polls { IfOk result (λ p. Polls conn.new.session.seen (L.looks conn.old.link) (L.looks conn.new.link) conn.old.sent.items conn.new.sent.items conn.old.taken.items conn.new.taken.items number p) }
+    ensures spends { IfOk result (λ p. SpendsOn conn.new.session.seen (L.looks conn.old.link) (L.looks conn.new.link) conn.old.taken.items conn.new.taken.items p.used) }
     ensures calls { OnOk result (conn.new.calls ≡ conn.old.calls) }
     ensures pending { OnOk result (conn.new.pending ≡ conn.old.pending) }
     ensures rests { IfOk result (λ p. (login : LoginOf) (a : Asked) → IsAsked login conn.old.session.seen (kept_of conn.old) a → PollRests login conn.new.session.seen (kept_of conn.new) a p.used p.after) }

@@ -52,7 +52,7 @@ fn resume_connect<L: Link + Drop>(
     number: u64,
 ) -> Result<Connected<L>, NoMemory>
     requires { is_open conn.session.seen.task ≡ true }
-    ensures { IfOk result (λ c. (login : LoginOf) (a : Asked) → IsAsked login conn.session.seen (kept_of conn) a → (used : Use) × (c.did.uses.items ≡ used ∷ []) × Joins (λ l. record { items = L.items l; writes = L.writes l; counts = L.counts l }) login number a (kept_of conn) (record { items = L.items conn.link; writes = L.writes conn.link; counts = L.counts conn.link }) c.slot c.did.outcome used) }
+    ensures { IfOk result (λ c. (login : LoginOf) (a : Asked) → IsAsked login conn.session.seen (kept_of conn) a → (used : Use) × (c.did.uses.items ≡ used ∷ []) × Joins L.looks login number a (kept_of conn) (L.looks conn.link) c.slot c.did.outcome used) }
 {
     let driven = drive(alloc, &mut conn, number)?;
     let uses = one_use(alloc, driven.polled.used)?;
@@ -66,7 +66,7 @@ fn resume_call<L: Link + Drop>(
     number: u64,
 ) -> Result<Connected<L>, NoMemory>
     requires { is_open conn.session.seen.task ≡ true }
-    ensures { IfOk result (λ c. (login : LoginOf) (a : Asked) → IsAsked login conn.session.seen (kept_of conn) a → Resumed (λ l. record { items = L.items l; writes = L.writes l; counts = L.counts l }) login number a conn c.slot c.did.outcome c.did.uses.items) }
+    ensures { IfOk result (λ c. (login : LoginOf) (a : Asked) → IsAsked login conn.session.seen (kept_of conn) a → Resumed L.looks login number a conn c.slot c.did.outcome c.did.uses.items) }
 {
     let did = poll_open(alloc, &mut conn, number)?;
     Ok(Connected {
@@ -83,7 +83,7 @@ fn resume_gathering<L: Link + Drop>(
 ) -> Result<Connected<L>, NoMemory>
     requires is_on { is_open conn.session.seen.task ≡ true }
     requires asked { AskedReady conn }
-    ensures { IfOk result (λ c. (login : LoginOf) (a : Asked) → IsAsked login conn.session.seen (kept_of conn) a → GatheredOn (λ l. record { items = L.items l; writes = L.writes l; counts = L.counts l }) login number a conn c.slot c.did.outcome c.did.uses.items) }
+    ensures { IfOk result (λ c. (login : LoginOf) (a : Asked) → IsAsked login conn.session.seen (kept_of conn) a → GatheredOn L.looks login number a conn c.slot c.did.outcome c.did.uses.items) }
 {
     let did = gather(alloc, &mut conn, number)?;
     Ok(Connected {
@@ -98,7 +98,7 @@ fn resume_there<L: Link + Drop>(
     number: u64,
 ) -> Result<Connected<L>, NoMemory>
     requires { ConnReady conn }
-    ensures { IfOk result (λ c. (login : LoginOf) → StandsBy login conn → DidAt (λ l. record { items = L.items l; writes = L.writes l; counts = L.counts l }) login number (GoesOn login number) c.did.outcome c.did.uses.items (ThereAt conn) c.slot) }
+    ensures { IfOk result (λ c. (login : LoginOf) → StandsBy login conn → DidAt L.looks login number (GoesOn login number) c.did.outcome c.did.uses.items (ThereAt conn) c.slot) }
 {
     if !conn.session.is_open() {
         return Ok(Connected {
@@ -125,7 +125,7 @@ fn resume_at<N: World>(
     requires { SlotReady slot }
     ensures reads { (m : ℕ) → m ≢ number → N.plan world.new m ≡ N.plan world.old m }
     ensures writes { (m : ℕ) → m ≢ number → N.write_plan world.new m ≡ N.write_plan world.old m }
-    ensures did { IfOk result (λ c. IsStood (login_of opts.now) slot → DidAt (λ l. record { items = N.L.items l; writes = N.L.writes l; counts = N.L.counts l }) (login_of opts.now) number (GoesOn (login_of opts.now) number) c.did.outcome c.did.uses.items slot c.slot) }
+    ensures did { IfOk result (λ c. IsStood (login_of opts.now) slot → DidAt N.L.looks (login_of opts.now) number (GoesOn (login_of opts.now) number) c.did.outcome c.did.uses.items slot c.slot) }
 {
     match slot {
         Slot::There(conn) => resume_there(alloc, conn, number),
@@ -153,7 +153,7 @@ pub fn resume_in<N: World>(
     ensures count { OnOk result (length slots.new.items ≡ length slots.old.items) }
     ensures reads { (m : ℕ) → length slots.old.items ≤ m → N.plan world.new m ≡ N.plan world.old m }
     ensures writes { (m : ℕ) → length slots.old.items ≤ m → N.write_plan world.new m ≡ N.write_plan world.old m }
-    ensures steps { IfOk result (λ d. (plans : Plans) → AreStood (login_of opts.now) slots.old.items → Stepped (λ l. record { items = N.L.items l; writes = N.L.writes l; counts = N.L.counts l }) (login_of opts.now) plans d.uses.items slots.old.items slots.new.items (At number (GoesOn (login_of opts.now) number) (map handle_of slots.old.items) d.outcome d.uses.items (map handle_of slots.new.items))) }
+    ensures steps { IfOk result (λ d. (plans : Plans) → AreStood (login_of opts.now) slots.old.items → Stepped N.L.looks (login_of opts.now) plans d.uses.items slots.old.items slots.new.items (At number (GoesOn (login_of opts.now) number) (map handle_of slots.old.items) d.outcome d.uses.items (map handle_of slots.new.items))) }
 {
     if number >= slots.len() as u64 {
         return Ok(refused(alloc));

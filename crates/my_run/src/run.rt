@@ -37,7 +37,7 @@ fn run_step<N: World>(
     ensures longer { OnOk result (length slots.old.items ≤ length slots.new.items) }
     ensures reads { OnOk result ((m : ℕ) → length slots.new.items ≤ m → N.plan world.new m ≡ N.plan world.old m) }
     ensures writes { OnOk result ((m : ℕ) → length slots.new.items ≤ m → N.write_plan world.new m ≡ N.write_plan world.old m) }
-    ensures steps { IfOk result (λ d. (plans : Plans) → ((m : ℕ) → length slots.old.items ≤ m → plans.reads m ≡ N.plan world.old m) → ((m : ℕ) → length slots.old.items ≤ m → plans.writes m ≡ N.write_plan world.old m) → AreStood (login_of opts.now) slots.old.items → Stepped (λ l. record { items = N.L.items l; writes = N.L.writes l; counts = N.L.counts l }) (login_of opts.now) plans d.uses.items slots.old.items slots.new.items (StepGrows (login_of opts.now) (map handle_of slots.old.items) step.now d.outcome d.uses.items (map handle_of slots.new.items))) }
+    ensures steps { IfOk result (λ d. (plans : Plans) → ((m : ℕ) → length slots.old.items ≤ m → plans.reads m ≡ N.plan world.old m) → ((m : ℕ) → length slots.old.items ≤ m → plans.writes m ≡ N.write_plan world.old m) → AreStood (login_of opts.now) slots.old.items → Stepped N.L.looks (login_of opts.now) plans d.uses.items slots.old.items slots.new.items (StepGrows (login_of opts.now) (map handle_of slots.old.items) step.now d.outcome d.uses.items (map handle_of slots.new.items))) }
 {
     match step {
         Step::Conn => connect(alloc, opts, world, slots),
@@ -66,7 +66,7 @@ fn run_each<N: World>(
 ) -> Result<(), NoMemory>
     requires no_slots { slots.old.items ≡ [] }
     requires no_answers { answers.old.items ≡ [] }
-    ensures { OnOk result ((plans : Plans) → ((n : ℕ) → plans.reads n ≡ N.plan world.old n) → ((n : ℕ) → plans.writes n ≡ N.write_plan world.old n) → SoFar (λ l. record { items = N.L.items l; writes = N.L.writes l; counts = N.L.counts l }) (login_of opts.now) plans steps.now slots.new.items answers.new.items) }
+    ensures { OnOk result ((plans : Plans) → ((n : ℕ) → plans.reads n ≡ N.plan world.old n) → ((n : ℕ) → plans.writes n ≡ N.write_plan world.old n) → SoFar N.L.looks (login_of opts.now) plans steps.now slots.new.items answers.new.items) }
 {
     for (i, step) in steps.iter().enumerate() {
         let did = run_step(alloc, opts, world, slots, step)?;

@@ -1,4 +1,5 @@
 pub mod Outside
+pub mod Looks
 pub mod Link
 pub mod Memory
 pub mod World

@@ -1,9 +1,7 @@
 //! What a session is driven over.
 ghost use Rattle.std.specs.Prelude.{◌≡◌, ◌<◌, ℕ, List, Option, Bool, length};
-ghost use Rattle.my_world.specs.Outside.{Counts};
+ghost use Rattle.my_world.specs.Looks.{Looks};
 ghost use Rattle.my_world.specs.Link.{Reads, CountsRead, Writes, WritesOut, CountsWrite, TakesIn};
-ghost use Rattle.my_world.specs.declared.link.ReadItem.{ReadItem};
-ghost use Rattle.my_world.specs.declared.link.WriteItem.{WriteItem};
 
 use my_wire::Blob;
 
@@ -55,14 +53,8 @@ pub enum WriteStep {
 ///
 /// It counts how often it failed, held and ended. A count never falls; the answer comes only where it rose, or stands at the counter's last value.
 pub trait Link {
-    /// How often it gave each answer that is counted.
-    ghost counts: { Self → Counts };
-
-    /// What it has left to be read, if it tells.
-    ghost items: { Self → Option (List ReadItem) };
-
-    /// What it has left to do with writes, if it tells.
-    ghost writes: { Self → Option (List WriteItem) };
+    /// What it has left to be read and what to do with writes, if it tells, and how often it gave each answer that is counted.
+    ghost looks: { Self → Looks };
 
     /// The bytes that it was sent, if it tells.
     ghost got: { Self → Option (List ℕ) };
@@ -73,19 +65,19 @@ pub trait Link {
     /// Reads into a buffer that isn't empty.
     fn read(&mut self, buf: &mut [u8]) -> ReadStep
         requires { 0 < length buf.old }
-        ensures items { Reads (items self.old) buf.new (items self.new) result }
-        ensures writes { writes self.new ≡ writes self.old }
+        ensures items { Reads (looks self.old).items buf.new (looks self.new).items result }
+        ensures writes { (looks self.new).writes ≡ (looks self.old).writes }
         ensures got { got self.new ≡ got self.old }
-        ensures counts { CountsRead (counts self.old) (counts self.new) result }
+        ensures counts { CountsRead (looks self.old).counts (looks self.new).counts result }
         ensures socket { socket self.new ≡ socket self.old };
 
     /// Writes some of these bytes, which aren't none.
     fn write(&mut self, bytes: &[u8]) -> WriteStep
         requires { 0 < length bytes.now }
-        ensures items { Writes (items self.old) (items self.new) result }
-        ensures writes { WritesOut (writes self.old) (length bytes.now) (writes self.new) result }
+        ensures items { Writes (looks self.old).items (looks self.new).items result }
+        ensures writes { WritesOut (looks self.old).writes (length bytes.now) (looks self.new).writes result }
         ensures got { TakesIn (got self.old) bytes.now (got self.new) result }
-        ensures counts { CountsWrite (counts self.old) (counts self.new) result }
+        ensures counts { CountsWrite (looks self.old).counts (looks self.new).counts result }
         ensures socket { socket self.new ≡ socket self.old };
 
     /// Whether it is a local socket.

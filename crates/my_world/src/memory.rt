@@ -97,11 +97,7 @@ impl MemLink {
 impl Link for MemLink {
     ghost use Rattle.my_world.specs.MemLink.{unread, unwritten, counted, sent_to};
 
-    ghost counts = { counted };
-
-    ghost items = { λ m. Some (unread m) };
-
-    ghost writes = { λ m. Some (unwritten m) };
+    ghost looks = { λ m. record { items = Some (unread m); writes = Some (unwritten m); counts = counted m } };
 
     ghost got = { λ m. Some (sent_to m) };
 

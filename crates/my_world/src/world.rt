@@ -53,10 +53,10 @@ pub trait World {
 
     /// Dials the link of this number. A world that told its plan holds no dial.
     fn dial(&mut self, number: u64) -> DialStep<Self::L>
-        ensures items { IfLink result (λ l. Self.L.items l ≡ plan self.old number) }
-        ensures writes { IfLink result (λ l. Self.L.writes l ≡ write_plan self.old number) }
+        ensures items { IfLink result (λ l. (Self.L.looks l).items ≡ plan self.old number) }
+        ensures writes { IfLink result (λ l. (Self.L.looks l).writes ≡ write_plan self.old number) }
         ensures got { IfLink result (λ l. IsFresh (Self.L.got l)) }
-        ensures counts { IfLink result (λ l. Self.L.counts l ≡ no_counts) }
+        ensures counts { IfLink result (λ l. (Self.L.looks l).counts ≡ no_counts) }
         ensures others { (n : ℕ) → n ≢ number → plan self.new n ≡ plan self.old n }
         ensures other_writes { (n : ℕ) → n ≢ number → write_plan self.new n ≡ write_plan self.old n }
         ensures takes { takes_plan self.new ≡ takes_plan self.old }

@@ -5,10 +5,10 @@ use Rattle.my_run.proofs.Hearing.{ok_turn}
 use Rattle.my_run.proofs.connect.dial_at.Goals as goal
 
 pub returns-in-Link-clause-dialed : goal.returns-in-Link-clause-dialed
-returns-in-Link-clause-dialed g c = ok_turn c.first_call.result _ _ c.first_call.ensures (λ d f. linked (λ l. record { items = g.N.L.Link.items l; writes = g.N.L.Link.writes l; counts = g.N.L.Link.counts l }) (login_of c.args.opts.now) c.args.number c.in-Link.link (g.N.World.plan c.args.world.now c.args.number) (g.N.World.write_plan c.args.world.now c.args.number) d.slot d.did.outcome d.did.uses.items f.0 c.in-Link.ensures.items c.in-Link.ensures.writes f.1 f.2)
+returns-in-Link-clause-dialed g c = ok_turn c.first_call.result _ _ c.first_call.ensures (λ d f. linked g.N.L.Link.looks (login_of c.args.opts.now) c.args.number c.in-Link.link (g.N.World.plan c.args.world.now c.args.number) (g.N.World.write_plan c.args.world.now c.args.number) d.slot d.did.outcome d.did.uses.items f.0 c.in-Link.ensures.items c.in-Link.ensures.writes f.1 f.2)
 
 pub returns-in_ok-did-in-NotYet-clause-dialed : goal.returns-in_ok-did-in-NotYet-clause-dialed
-returns-in_ok-did-in-NotYet-clause-dialed g c = dial_held (λ l. record { items = g.N.L.Link.items l; writes = g.N.L.Link.writes l; counts = g.N.L.Link.counts l }) (login_of c.args.opts.now) c.args.number (g.N.World.plan c.args.world.now c.args.number) (g.N.World.write_plan c.args.world.now c.args.number) c.in_ok-did-in-NotYet.did.outcome c.in_ok-did-in-NotYet.did.uses.items (search rules) c.in_ok-did-in-NotYet.ensures.outcome (c.in_ok-did-in-NotYet.ensures.uses ∙ search rules)
+returns-in_ok-did-in-NotYet-clause-dialed g c = dial_held g.N.L.Link.looks (login_of c.args.opts.now) c.args.number (g.N.World.plan c.args.world.now c.args.number) (g.N.World.write_plan c.args.world.now c.args.number) c.in_ok-did-in-NotYet.did.outcome c.in_ok-did-in-NotYet.did.uses.items (search rules) c.in_ok-did-in-NotYet.ensures.outcome (c.in_ok-did-in-NotYet.ensures.uses ∙ search rules)
 
 pub returns-in_ok-did-in-Failed-clause-dialed : goal.returns-in_ok-did-in-Failed-clause-dialed
-returns-in_ok-did-in-Failed-clause-dialed g c = dial_failed (λ l. record { items = g.N.L.Link.items l; writes = g.N.L.Link.writes l; counts = g.N.L.Link.counts l }) (login_of c.args.opts.now) c.args.number (g.N.World.plan c.args.world.now c.args.number) (g.N.World.write_plan c.args.world.now c.args.number) c.in_ok-did-in-Failed.did.outcome c.in_ok-did-in-Failed.did.uses.items (c.in_ok-did-in-Failed.ensures.outcome ∙ search rules) (c.in_ok-did-in-Failed.ensures.uses ∙ search rules)
+returns-in_ok-did-in-Failed-clause-dialed g c = dial_failed g.N.L.Link.looks (login_of c.args.opts.now) c.args.number (g.N.World.plan c.args.world.now c.args.number) (g.N.World.write_plan c.args.world.now c.args.number) c.in_ok-did-in-Failed.did.outcome c.in_ok-did-in-Failed.did.uses.items (c.in_ok-did-in-Failed.ensures.outcome ∙ search rules) (c.in_ok-did-in-Failed.ensures.uses ∙ search rules)

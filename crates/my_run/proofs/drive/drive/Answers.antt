@@ -1,15 +1,15 @@
 use Rattle.std.proofs.Common.{◌≡◌, Some, ap, ◌∙◌}
-use Rattle.my_run.specs.Poll.{Looks}
+use Rattle.my_world.specs.Looks.{Looks}
 use Rattle.my_run.specs.Slot.{asked_in, kept_of}
 use Rattle.my_run.proofs.Driving.{drives, drives_on}
 use Rattle.my_run.proofs.drive.drive.Goals as goal
 
 pub returns-clause-drives : goal.returns-clause-drives
 returns-clause-drives g c =
-    let x : Looks = record { items = g.L.Link.items c.args.conn.now.link; writes = g.L.Link.writes c.args.conn.now.link; counts = g.L.Link.counts c.args.conn.now.link } in
-    let y : Looks = record { items = g.L.Link.items c.poll_conn.new.conn.link; writes = g.L.Link.writes c.poll_conn.new.conn.link; counts = g.L.Link.counts c.poll_conn.new.conn.link } in
-    let z : Looks = record { items = g.L.Link.items c.keep.new.conn.link; writes = g.L.Link.writes c.keep.new.conn.link; counts = g.L.Link.counts c.keep.new.conn.link } in
-    let same : z ≡ y = ap (λ l. record { items = g.L.Link.items l; writes = g.L.Link.writes l; counts = g.L.Link.counts l }) c.in_ok-rows.ensures.link in
+    let x : Looks = g.L.Link.looks c.args.conn.now.link in
+    let y : Looks = g.L.Link.looks c.poll_conn.new.conn.link in
+    let z : Looks = g.L.Link.looks c.keep.new.conn.link in
+    let same : z ≡ y = ap g.L.Link.looks c.in_ok-rows.ensures.link in
     λ login a w.
     let polled = c.in_ok-polled.ensures in
     let pending : asked_in c.poll_conn.new.conn.pending ≡ Some a = ap asked_in polled.pending ∙ w.asked in

@@ -5,7 +5,7 @@ use Rattle.my_run.proofs.Numbers.{both_did}
 use Rattle.my_run.proofs.fields.tell_at.Goals as goal
 
 pub returns-in-There : goal.returns-in-There
-returns-in-There g c = ok_turn c.tell.result _ _ c.tell.ensures (λ d f login w. both_did (λ l. record { items = g.L.Link.items l; writes = g.L.Link.writes l; counts = g.L.Link.counts l }) login c.args.number _ d.outcome d.uses.items c.args.slot.now c.in-There.conn c.in-There.is w (f login))
+returns-in-There g c = ok_turn c.tell.result _ _ c.tell.ensures (λ d f login w. both_did g.L.Link.looks login c.args.number _ d.outcome d.uses.items c.args.slot.now c.in-There.conn c.in-There.is w (f login))
 
 pub returns-in-Gone : goal.returns-in-Gone
-returns-in-Gone g c = λ login w. same_did (λ l. record { items = g.L.Link.items l; writes = g.L.Link.writes l; counts = g.L.Link.counts l }) login c.args.number (TellsFields login) c.refused.result.outcome c.refused.result.uses.items c.args.slot.now c.refused.ensures.uses w (tells_away login c.refused.result.outcome c.refused.result.uses.items c.args.slot.now (not_there c.args.slot.now c.in-Gone.is) c.refused.ensures.outcome c.refused.ensures.uses)
+returns-in-Gone g c = λ login w. same_did g.L.Link.looks login c.args.number (TellsFields login) c.refused.result.outcome c.refused.result.uses.items c.args.slot.now c.refused.ensures.uses w (tells_away login c.refused.result.outcome c.refused.result.uses.items c.args.slot.now (not_there c.args.slot.now c.in-Gone.is) c.refused.ensures.outcome c.refused.ensures.uses)

@@ -13,18 +13,18 @@ pub returns-in-Ok : goal.returns-in-Ok
 returns-in-Ok g c =
     let idle : is_open c.args.conn.now.session.seen.task ≡ false = search rules in
     ok_turn c.gather.result _ _ c.gather.ensures
-    (λ d f login w. collect_begun (λ l. record { items = g.L.Link.items l; writes = g.L.Link.writes l; counts = g.L.Link.counts l }) login c.args.number c.args.conn.now (record { session = c.begin.new.self; link = c.ask.new.conn.link; sent = c.ask.new.conn.sent; taken = c.ask.new.conn.taken; calls = c.ask.new.conn.calls; pending = c.ask.new.conn.pending }) c.gather.new.conn c.ask.new.conn.session.seen c.begin.new.self.seen d.outcome d.uses.items idle (not_refused _ c.in-Ok.ensures.closed.1) (ap (λ s. s.seen) c.ask.ensures.session) c.in-Ok.ensures.ok c.in-Ok.ensures.stands (search rules) c.ask.ensures.link w (λ a v. f login a v))
+    (λ d f login w. collect_begun g.L.Link.looks login c.args.number c.args.conn.now (record { session = c.begin.new.self; link = c.ask.new.conn.link; sent = c.ask.new.conn.sent; taken = c.ask.new.conn.taken; calls = c.ask.new.conn.calls; pending = c.ask.new.conn.pending }) c.gather.new.conn c.ask.new.conn.session.seen c.begin.new.self.seen d.outcome d.uses.items idle (not_refused _ c.in-Ok.ensures.closed.1) (ap (λ s. s.seen) c.ask.ensures.session) c.in-Ok.ensures.ok c.in-Ok.ensures.stands (search rules) c.ask.ensures.link w (λ a v. f login a v))
 
 pub returns-in-Err : goal.returns-in-Err
 returns-in-Err g c =
     let idle : is_open c.args.conn.now.session.seen.task ≡ false = search rules in
     did_kept c.refused_call.result _ _ _ _ c.refused_call.ensures.outcome c.refused_call.ensures.uses c.refused_call.ensures.kept
-    (λ d e f k login w. collect_closed (λ l. record { items = g.L.Link.items l; writes = g.L.Link.writes l; counts = g.L.Link.counts l }) login c.args.number c.args.conn.now c.ask.new.conn c.refused_call.new.conn c.ask.new.conn.session.seen c.begin.new.self.seen c.in-Err.error d.outcome d.uses.items idle (c.in-Err.ensures.closed.0 refl) (ap (λ s. s.seen) c.ask.ensures.session) c.in-Err.ensures.err c.in-Err.ensures.refused (search rules) c.ask.ensures.link c.in-Err.ensures.why k (ap (λ s. s.seen) c.refused_call.ensures.session) c.refused_call.ensures.link w e f)
+    (λ d e f k login w. collect_closed g.L.Link.looks login c.args.number c.args.conn.now c.ask.new.conn c.refused_call.new.conn c.ask.new.conn.session.seen c.begin.new.self.seen c.in-Err.error d.outcome d.uses.items idle (c.in-Err.ensures.closed.0 refl) (ap (λ s. s.seen) c.ask.ensures.session) c.in-Err.ensures.err c.in-Err.ensures.refused (search rules) c.ask.ensures.link c.in-Err.ensures.why k (ap (λ s. s.seen) c.refused_call.ensures.session) c.refused_call.ensures.link w e f)
 
 pub returns-then-is_open : goal.returns-then-is_open
 returns-then-is_open g c =
     let opened : is_open c.args.conn.now.session.seen.task ≡ true = search rules in
-    λ login w. collect_refused (λ l. record { items = g.L.Link.items l; writes = g.L.Link.writes l; counts = g.L.Link.counts l }) login c.args.number c.args.conn.now c.refused.result.outcome c.refused.result.uses.items opened c.refused.ensures.outcome c.refused.ensures.uses w
+    λ login w. collect_refused g.L.Link.looks login c.args.number c.args.conn.now c.refused.result.outcome c.refused.result.uses.items opened c.refused.ensures.outcome c.refused.ensures.uses w
 
 pub begin-requires-clause-order : goal.begin-requires-clause-order
 begin-requires-clause-order g c =

@@ -8,12 +8,12 @@ use Rattle.my_run.proofs.gather.collect_in.Goals as goal
 pub returns-then-number-len-clause-steps : goal.returns-then-number-len-clause-steps
 returns-then-number-len-clause-steps g c =
     let past : length c.args.slots.now.items ≤ c.args.number = search rules in
-    λ login plans w. stepped_past (λ l. record { items = g.L.Link.items l; writes = g.L.Link.writes l; counts = g.L.Link.counts l }) login plans c.args.number (CollectsAt login c.args.number) c.refused.result.outcome c.refused.result.uses.items c.args.slots.now.items c.refused.ensures.uses past (record { outcome = c.refused.ensures.outcome; uses = c.refused.ensures.uses; same = refl }) w
+    λ login plans w. stepped_past g.L.Link.looks login plans c.args.number (CollectsAt login c.args.number) c.refused.result.outcome c.refused.result.uses.items c.args.slots.now.items c.refused.ensures.uses past (record { outcome = c.refused.ensures.outcome; uses = c.refused.ensures.uses; same = refl }) w
 
 pub returns-clause-steps : goal.returns-clause-steps
 returns-clause-steps g c =
     let within : c.args.number < length c.args.slots.now.items = search rules in
-    ok_turn c.collect_at.result _ _ c.collect_at.ensures (λ d f login plans w. stepped_at (λ l. record { items = g.L.Link.items l; writes = g.L.Link.writes l; counts = g.L.Link.counts l }) login plans c.args.number (CollectsAt login c.args.number) d.outcome d.uses.items c.args.slots.now.items c.index_mut.result.now c.collect_at.new.slot within c.index_mut.ensures.value (f login (stood_here login c.args.slots.now.items c.args.number c.index_mut.result.now within c.index_mut.ensures.value w)) w)
+    ok_turn c.collect_at.result _ _ c.collect_at.ensures (λ d f login plans w. stepped_at g.L.Link.looks login plans c.args.number (CollectsAt login c.args.number) d.outcome d.uses.items c.args.slots.now.items c.index_mut.result.now c.collect_at.new.slot within c.index_mut.ensures.value (f login (stood_here login c.args.slots.now.items c.args.number c.index_mut.result.now within c.index_mut.ensures.value w)) w)
 
 pub collect_at-requires : goal.collect_at-requires
 collect_at-requires g c =

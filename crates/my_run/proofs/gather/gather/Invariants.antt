@@ -12,5 +12,5 @@ abbrev pub invariant-rows : goal.invariant-rows
 invariant-rows g l = record {
   is_on : is_open l.conn.session.seen.task ≡ true;
   asked : AskedReady l.conn;
-  so : (login : Login) → (a : Asked) → IsAsked login l.fn.conn.session.seen (kept_of l.fn.conn) a → GatherSoFar (λ l. record { items = g.L.Link.items l; writes = g.L.Link.writes l; counts = g.L.Link.counts l }) login l.number a l.fn.conn l.conn l.uses.items;
+  so : (login : Login) → (a : Asked) → IsAsked login l.fn.conn.session.seen (kept_of l.fn.conn) a → GatherSoFar g.L.Link.looks login l.number a l.fn.conn l.conn l.uses.items;
 }

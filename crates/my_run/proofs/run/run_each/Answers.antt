@@ -21,7 +21,7 @@ loop-i-preserved g c =
     record {
       so_far = λ plans er ew.
           let u = so.so_far plans er ew in
-          step_on (λ l. record { items = g.N.L.Link.items l; writes = g.N.L.Link.writes l; counts = g.N.L.Link.counts l }) (login_of c.args.opts.now) plans (take c.loop-i.i c.args.steps.now) _ c.loop-i.slots.items c.run_step.new.slots.items c.loop-i.answers.items c.push.new.self.items c.index-steps-i.result a u (did.steps plans (λ m h. er m ∙ sym (so.reads m h)) (λ m h. ew m ∙ sym (so.writes m h)) u.stood) (count_up c.loop-i.i c.args.steps.now c.loop-i-test.true) grown next;
+          step_on g.N.L.Link.looks (login_of c.args.opts.now) plans (take c.loop-i.i c.args.steps.now) _ c.loop-i.slots.items c.run_step.new.slots.items c.loop-i.answers.items c.push.new.self.items c.index-steps-i.result a u (did.steps plans (λ m h. er m ∙ sym (so.reads m h)) (λ m h. ew m ∙ sym (so.writes m h)) u.stood) (count_up c.loop-i.i c.args.steps.now c.loop-i-test.true) grown next;
       reads = λ m h. did.reads m h ∙ so.reads m (omega (arith, h, did.longer));
       writes = λ m h. did.writes m h ∙ so.writes m (omega (arith, h, did.longer));
     }
@@ -30,10 +30,10 @@ pub returns : goal.returns
 returns g c =
     let past : length c.args.steps.now ≤ c.loop-i.i = search rules in
     let whole : take c.loop-i.i c.args.steps.now ≡ c.args.steps.now = take_all c.loop-i.i c.args.steps.now past in
-    λ plans er ew. subst (λ (xs : List Step). SoFar (λ l. record { items = g.N.L.Link.items l; writes = g.N.L.Link.writes l; counts = g.N.L.Link.counts l }) (login_of c.args.opts.now) plans xs c.loop-i.slots.items c.loop-i.answers.items) whole (c.loop-i.invariant.so_far plans er ew)
+    λ plans er ew. subst (λ (xs : List Step). SoFar g.N.L.Link.looks (login_of c.args.opts.now) plans xs c.loop-i.slots.items c.loop-i.answers.items) whole (c.loop-i.invariant.so_far plans er ew)
 
 pub loop-i-init : goal.loop-i-init
-loop-i-init g c = record { so_far = λ plans er ew. none_yet (λ l. record { items = g.N.L.Link.items l; writes = g.N.L.Link.writes l; counts = g.N.L.Link.counts l }) (login_of c.args.opts.now) plans [] c.args.slots.now.items c.args.answers.now.items refl c.requires.no_slots c.requires.no_answers; reads = λ m h. refl; writes = λ m h. refl }
+loop-i-init g c = record { so_far = λ plans er ew. none_yet g.N.L.Link.looks (login_of c.args.opts.now) plans [] c.args.slots.now.items c.args.answers.now.items refl c.requires.no_slots c.requires.no_answers; reads = λ m h. refl; writes = λ m h. refl }
 
 pub run_step-requires : goal.run_step-requires
 run_step-requires g c =
