@@ -84,7 +84,7 @@ pub record CameBy (taken taken' : List ℕ) (n : ℕ) : Type 0 where
 
 -- by what the turn did: what became of the session, the link, and the bytes that were sent and taken
 abbrev pub TurnIs : Seen → Looks → Looks → List ℕ → List ℕ → List ℕ → List ℕ → Turn → Type 0
-TurnIs t x y sent sent' taken taken' Sent = (is_open t.task ≡ true) × (y.counts ≡ x.counts) × TakesOut x y × WentOut sent sent' × (taken' ≡ taken)
+TurnIs t x y sent sent' taken taken' Sent = (is_open t.task ≡ true) × (y.counts ≡ x.counts) × TakesOut x y × WentOut sent sent' × (taken' ≡ taken) × (length sent < length sent')
 TurnIs t x y sent sent' taken taken' (Took n) = (is_open t.task ≡ true) × (y.counts ≡ x.counts) × CameIn x y taken taken' n × (sent' ≡ sent)
 TurnIs t x y sent sent' taken taken' (Ended error) = (t.task ≡ Nothing) × EndRose x.counts y.counts × Ends x y × (sent' ≡ sent) × (taken' ≡ taken)
 TurnIs t x y sent sent' taken taken' (Broke error) = (t.task ≡ Nothing) × FaultRose x.counts y.counts × Fails x y × (sent' ≡ sent) × (taken' ≡ taken)

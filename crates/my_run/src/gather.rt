@@ -117,15 +117,16 @@ pub fn gather<L: Link>(alloc: Global, conn: &mut Conn<L>, number: u64) -> Result
     ensures { IfOk result (λ d. (login : LoginOf) (a : Asked) → IsAsked login conn.old.session.seen (kept_of conn.old) a → GatherDid L.looks login number a conn.old conn.new d.outcome d.uses.items) }
 {
     let mut uses = Vec::new(alloc);
-    'rows: for _ in 0..u64::MAX {
+    'rows: loop {
         let driven = drive(alloc, conn, number)?;
         uses.push(driven.polled.used)?;
+        // What each poll met is kept, and fits into memory.
+        prove!(uses.len() <= usize::MAX);
         match go_on(alloc, conn, driven.polled.after, driven.rows)? {
             Gathering::On => {}
             Gathering::Over(outcome) => return Ok(Did { outcome, uses }),
         }
     }
-    Err(NoMemory)
 }
 
 fn collect_call<L: Link>(alloc: Global, conn: &mut Conn<L>, number: u64) -> Result<Did, NoMemory>

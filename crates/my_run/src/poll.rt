@@ -241,12 +241,13 @@ pub fn poll_conn<L: Link>(
     ensures rests { IfOk result (λ p. (login : LoginOf) (a : Asked) → IsAsked login conn.old.session.seen (kept_of conn.old) a → PollRests login conn.new.session.seen (kept_of conn.new) a p.used p.after) }
 {
     let mut used = quiet_use(number);
-    'turns: for _ in 0..u64::MAX {
+    'turns: loop {
         let turn = take_turn(alloc, conn, MOST_TAKEN - used.taken)?;
+        // Each turn that goes on takes a byte of those that may be taken, or sends one, and what was sent fits into memory.
+        prove!(conn.sent.len() <= usize::MAX);
         match count_turn(turn, used) {
             Round::On(more) => used = more,
             Round::Over(polled) => return Ok(polled),
         }
     }
-    Err(NoMemory)
 }

@@ -1,4 +1,4 @@
-use Rattle.std.proofs.Common.{◌≡◌, true}
+use Rattle.std.proofs.Common.{◌≡◌, ◌-◌, ◌^◌, length, true}
 use Rattle.my_grammar.specs.declared.login.Login.{Login}
 use Rattle.my_session.specs.Calls.{is_open}
 use Rattle.my_run.specs.Gathering.{GatherSoFar}
@@ -14,3 +14,6 @@ invariant-rows g l = record {
   asked : AskedReady l.conn;
   so : (login : Login) → (a : Asked) → IsAsked login l.fn.conn.session.seen (kept_of l.fn.conn) a → GatherSoFar g.L.Link.looks login l.number a l.fn.conn l.conn l.uses.items;
 }
+
+abbrev pub decreases-rows : goal.decreases-rows
+decreases-rows g l = 2 ^ 64 - length l.uses.items

@@ -1,4 +1,4 @@
-use Rattle.std.proofs.Common.{◌≡◌, true}
+use Rattle.std.proofs.Common.{◌≡◌, ◌+◌, ◌-◌, ◌^◌, length, true}
 use Rattle.my_grammar.specs.declared.login.Login.{Login}
 use Rattle.my_session.specs.Calls.{is_open}
 use Rattle.my_run.specs.Kept.{Asked}
@@ -16,3 +16,6 @@ invariant-turns g l = record {
   pending : l.conn.pending ≡ l.fn.conn.pending;
   rests : (login : Login) → (a : Asked) → IsAsked login l.fn.conn.session.seen (kept_of l.fn.conn) a → IsAsked login l.conn.session.seen (kept_of l.conn) a;
 }
+
+abbrev pub decreases-turns : goal.decreases-turns
+decreases-turns g l = (2 ^ 64 - length l.conn.sent.items) + (67108864 - l.used.taken)
