@@ -29,7 +29,8 @@ use Rattle.my_run.specs.Rests.{Rests}
 use Rattle.my_run.specs.Slot.{handle_of, kept_of}
 use Rattle.my_run.specs.Sums.{IsSilent}
 use Rattle.my_run.proofs.Beginning.{is_asked, is_idle}
-use Rattle.my_run.proofs.Hearing.{answer_counts, ended_of, is_leaving}
+use Rattle.my_run.proofs.Hearing.{answer_counts, ended_of}
+use Rattle.my_run.proofs.Failing.{is_leaving}
 use Rattle.my_run.proofs.Playing.{slot_rests}
 
 -- where a step has no uses, nothing was met

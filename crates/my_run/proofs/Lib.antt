@@ -4,6 +4,8 @@ pub mod Outputs
 pub mod Texts
 pub mod Spends
 pub mod Hearing
+pub mod Stepping
+pub mod Failing
 pub mod Rounds
 pub mod Driving
 pub mod Playing

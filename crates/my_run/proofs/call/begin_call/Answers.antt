@@ -2,15 +2,15 @@ use Rattle.my_run.proofs.Readying.{call_at}
 use Rattle.std.proofs.Common.{◌≡◌, true, false, rules, ap, refl}
 use Rattle.my_session.specs.Calls.{is_open}
 use Rattle.my_run.proofs.Beginning.{not_refused, refused_did, begun_so, closed_so}
-use Rattle.my_run.proofs.Hearing.{ok_turn}
+use Rattle.std.proofs.lemmas.Result.{IfOk-weaker}
 use Rattle.my_run.proofs.Numbers.{did_kept}
 use Rattle.my_run.proofs.call.begin_call.Goals as goal
 
 pub returns-in-Ok : goal.returns-in-Ok
 returns-in-Ok g c =
     let idle : is_open c.args.conn.now.session.seen.task ≡ false = search rules in
-    ok_turn c.poll_open.result _ _ c.poll_open.ensures
-    (λ d f login w. begun_so g.L.Link.looks login c.args.number c.args.call c.in_ok-copy.copy c.args.conn.now c.ask.new.conn c.poll_open.new.conn c.ask.new.conn.session.seen c.begin.new.self.seen d.outcome d.uses.items c.in_ok-copy.ensures idle (not_refused _ c.in-Ok.ensures.closed.1) (ap (λ s. s.seen) c.ask.ensures.session) c.in-Ok.ensures.ok c.in-Ok.ensures.stands c.ask.ensures.kept c.ask.ensures.link w (λ a v. f login a v))
+    IfOk-weaker c.poll_open.result _ _
+    (λ d f login w. begun_so g.L.Link.looks login c.args.number c.args.call c.in_ok-copy.copy c.args.conn.now c.ask.new.conn c.poll_open.new.conn c.ask.new.conn.session.seen c.begin.new.self.seen d.outcome d.uses.items c.in_ok-copy.ensures idle (not_refused _ c.in-Ok.ensures.closed.1) (ap (λ s. s.seen) c.ask.ensures.session) c.in-Ok.ensures.ok c.in-Ok.ensures.stands c.ask.ensures.kept c.ask.ensures.link w (λ a v. f login a v)) c.poll_open.ensures
 
 pub returns-in-Err : goal.returns-in-Err
 returns-in-Err g c =

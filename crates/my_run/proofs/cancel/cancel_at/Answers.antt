@@ -2,12 +2,12 @@ use Rattle.std.proofs.Common.{refl}
 use Rattle.my_run.specs.declared.slot.Slot.TheVariants.{Gone, Ended}
 use Rattle.my_run.specs.Grows.{Cancels}
 use Rattle.my_run.proofs.Cancelling.{gone_did, back_did}
-use Rattle.my_run.proofs.Hearing.{ok_turn}
+use Rattle.std.proofs.lemmas.Result.{IfOk-weaker}
 use Rattle.my_run.proofs.Numbers.{put_did}
 use Rattle.my_run.proofs.cancel.cancel_at.Goals as goal
 
 pub returns-in-There : goal.returns-in-There
-returns-in-There g c = ok_turn c.cancel_there.result _ _ c.cancel_there.ensures (λ d f login w. put_did g.L.Link.looks login c.args.number _ d.did.outcome d.did.uses.items c.args.slot c.in-There.conn d.slot c.in-There.is w (f login))
+returns-in-There g c = IfOk-weaker c.cancel_there.result _ _ (λ d f login w. put_did g.L.Link.looks login c.args.number _ d.did.outcome d.did.uses.items c.args.slot c.in-There.conn d.slot c.in-There.is w (f login)) c.cancel_there.ensures
 
 pub returns-in-Held : goal.returns-in-Held
 returns-in-Held g c = λ login w. gone_did g.L.Link.looks login c.args.number c.done.result.outcome c.done.result.uses.items c.args.slot c.in-Held.is c.done.ensures.outcome c.done.ensures.uses

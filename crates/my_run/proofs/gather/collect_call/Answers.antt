@@ -5,15 +5,15 @@ use Rattle.std.proofs.Common.{◌≡◌, true, false, rules, ap, refl}
 use Rattle.my_session.specs.Calls.{is_open}
 use Rattle.my_run.proofs.Beginning.{not_refused}
 use Rattle.my_run.proofs.Gathered.{collect_begun, collect_closed}
-use Rattle.my_run.proofs.Hearing.{ok_turn}
+use Rattle.std.proofs.lemmas.Result.{IfOk-weaker}
 use Rattle.my_run.proofs.Numbers.{did_kept}
 use Rattle.my_run.proofs.gather.collect_call.Goals as goal
 
 pub returns-in-Ok : goal.returns-in-Ok
 returns-in-Ok g c =
     let idle : is_open c.args.conn.now.session.seen.task ≡ false = search rules in
-    ok_turn c.gather.result _ _ c.gather.ensures
-    (λ d f login w. collect_begun g.L.Link.looks login c.args.number c.args.conn.now (record { session = c.begin.new.self; link = c.ask.new.conn.link; sent = c.ask.new.conn.sent; taken = c.ask.new.conn.taken; calls = c.ask.new.conn.calls; pending = c.ask.new.conn.pending }) c.gather.new.conn c.ask.new.conn.session.seen c.begin.new.self.seen d.outcome d.uses.items idle (not_refused _ c.in-Ok.ensures.closed.1) (ap (λ s. s.seen) c.ask.ensures.session) c.in-Ok.ensures.ok c.in-Ok.ensures.stands (search rules) c.ask.ensures.link w (λ a v. f login a v))
+    IfOk-weaker c.gather.result _ _
+    (λ d f login w. collect_begun g.L.Link.looks login c.args.number c.args.conn.now (record { session = c.begin.new.self; link = c.ask.new.conn.link; sent = c.ask.new.conn.sent; taken = c.ask.new.conn.taken; calls = c.ask.new.conn.calls; pending = c.ask.new.conn.pending }) c.gather.new.conn c.ask.new.conn.session.seen c.begin.new.self.seen d.outcome d.uses.items idle (not_refused _ c.in-Ok.ensures.closed.1) (ap (λ s. s.seen) c.ask.ensures.session) c.in-Ok.ensures.ok c.in-Ok.ensures.stands (search rules) c.ask.ensures.link w (λ a v. f login a v)) c.gather.ensures
 
 pub returns-in-Err : goal.returns-in-Err
 returns-in-Err g c =

@@ -1,6 +1,6 @@
 use Rattle.my_run.proofs.Readying.{ready_here}
 use Rattle.std.proofs.Common.{◌<◌, ◌≤◌, length, rules, refl}
-use Rattle.my_run.proofs.Hearing.{ok_turn}
+use Rattle.std.proofs.lemmas.Result.{IfOk-weaker}
 use Rattle.my_run.proofs.Numbers.{stepped_past, stepped_at, stood_here}
 use Rattle.my_run.specs.Grows.{CollectsAt}
 use Rattle.my_run.proofs.gather.collect_in.Goals as goal
@@ -13,7 +13,7 @@ returns-then-number-len-clause-steps g c =
 pub returns-clause-steps : goal.returns-clause-steps
 returns-clause-steps g c =
     let within : c.args.number < length c.args.slots.now.items = search rules in
-    ok_turn c.collect_at.result _ _ c.collect_at.ensures (λ d f login plans w. stepped_at g.L.Link.looks login plans c.args.number (CollectsAt login c.args.number) d.outcome d.uses.items c.args.slots.now.items c.index_mut.result.now c.collect_at.new.slot within c.index_mut.ensures.value (f login (stood_here login c.args.slots.now.items c.args.number c.index_mut.result.now within c.index_mut.ensures.value w)) w)
+    IfOk-weaker c.collect_at.result _ _ (λ d f login plans w. stepped_at g.L.Link.looks login plans c.args.number (CollectsAt login c.args.number) d.outcome d.uses.items c.args.slots.now.items c.index_mut.result.now c.collect_at.new.slot within c.index_mut.ensures.value (f login (stood_here login c.args.slots.now.items c.args.number c.index_mut.result.now within c.index_mut.ensures.value w)) w) c.collect_at.ensures
 
 pub collect_at-requires : goal.collect_at-requires
 collect_at-requires g c =

@@ -1,6 +1,7 @@
 use Rattle.my_session.proofs.Ending.{only_fails}
 use Rattle.my_run.specs.Slot.{asked_in, kept_of}
-use Rattle.my_run.proofs.Hearing.{fails_ok, fails_now}
+use Rattle.my_run.proofs.Stepping.{fails_now}
+use Rattle.my_run.proofs.Failing.{fails_ok}
 use Rattle.my_run.proofs.poll.fail_now.Goals as goal
 
 pub returns-clause-rests : goal.returns-clause-rests

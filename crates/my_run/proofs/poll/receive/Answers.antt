@@ -4,7 +4,7 @@ use Rattle.my_session.specs.declared.call.LinkFault.TheVariants.{Link}
 use Rattle.my_session.proofs.Ending.{failing_fails}
 use Rattle.std.proofs.Common.{ap}
 use Rattle.my_run.specs.Slot.{asked_in, kept_of}
-use Rattle.my_run.proofs.Hearing.{broke_so, ended_so}
+use Rattle.my_run.proofs.Failing.{broke_so, ended_so}
 use Rattle.my_run.proofs.poll.receive.Goals as goal
 
 pub returns-in_ok-fail_now-in-End-clause-rests : goal.returns-in_ok-fail_now-in-End-clause-rests

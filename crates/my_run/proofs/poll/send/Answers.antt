@@ -2,7 +2,8 @@ use Rattle.my_session.specs.declared.call.LinkFault.TheVariants.{Link}
 use Rattle.my_session.proofs.Ending.{failing_fails}
 use Rattle.std.proofs.Common.{◌≡◌, ◌++◌, take, rules, ap}
 use Rattle.my_run.specs.Slot.{asked_in, kept_of}
-use Rattle.my_run.proofs.Hearing.{asked_gone, broke_so}
+use Rattle.my_run.proofs.Stepping.{asked_gone}
+use Rattle.my_run.proofs.Failing.{broke_so}
 use Rattle.my_run.proofs.poll.send.Goals as goal
 
 pub returns-in_ok-extend_from_slice-in-Took-clause-rests : goal.returns-in_ok-extend_from_slice-in-Took-clause-rests
