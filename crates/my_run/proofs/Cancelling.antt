@@ -2,7 +2,6 @@
 use Rattle.std.proofs.Common.{◌≡◌, ◌⊎◌, inl, inr, ℕ, List, [], ◌&&◌, not, Bool, true, false, cond, Option, Some, refl, sym, ap, ◌∙◌, subst}
 use Rattle.my_grammar.specs.declared.login.Login.{Login}
 use Rattle.my_wire.specs.declared.ok.OkPacket.{OkPacket}
-use Rattle.my_session.specs.declared.call.Call.{Call}
 use Rattle.my_session.specs.declared.call.Task.{Task}
 use Rattle.my_session.specs.declared.call.Task.TheVariants.{Nothing}
 use Rattle.my_session.specs.Calls.{kind_of, fault_in, is_open, is_connect}
@@ -20,7 +19,7 @@ use Rattle.my_run.specs.declared.transcript.Outcome.{Outcome}
 use Rattle.my_run.specs.declared.transcript.Outcome.TheVariants.{Done, Fields, NoSuchHandle}
 use Rattle.my_run.specs.declared.transcript.Use.{Use}
 use Rattle.my_run.specs.Did.{Did}
-use Rattle.my_run.specs.Grows.{Calls, CollectsAt, CollectsOn, Cancels, CancelsWith, TellsFields, TellsWith}
+use Rattle.my_run.specs.Grows.{OnConnection, CollectsAt, CollectsOn, Cancels, CancelsWith, TellsFields, TellsWith}
 use Rattle.my_run.specs.Handle.{Handle, Joined}
 use Rattle.my_run.specs.Keeps.{Plans, StandsBy, LinkSpent, IsStood, IsPlayed}
 use Rattle.my_run.specs.Kept.{Asked, Kept, ended_by}
@@ -159,23 +158,12 @@ not_there {L} s (inl e) = subst (λ (x : Slot L). NotThere x) (sym e) tt
 not_there {L} s (inr (inl e)) = subst (λ (x : Slot L). NotThere x) (sym e) tt
 not_there {L} s (inr (inr e)) = subst (λ (x : Slot L). NotThere x) (sym e.1) tt
 
-pub calls_away : {L : Type 0} (login : Login) (n : ℕ) (call : Call) (o : Outcome) (us : List Use) (s : Slot L) → NotThere s → o ≡ NoSuchHandle → us ≡ [] → Calls login n call (handle_of s) o us (handle_of s)
-calls_away login n call o us Gone w e f = record { outcome = e; uses = f; same = refl }
-calls_away login n call o us Held w e f = record { outcome = e; uses = f; same = refl }
-calls_away login n call o us (There c) w e f = absurd w
-calls_away login n call o us (Ended c) w e f = record { outcome = e; uses = f; same = refl }
-
-pub collects_away : {L : Type 0} (login : Login) (n : ℕ) (o : Outcome) (us : List Use) (s : Slot L) → NotThere s → o ≡ NoSuchHandle → us ≡ [] → CollectsAt login n (handle_of s) o us (handle_of s)
-collects_away login n o us Gone w e f = record { outcome = e; uses = f; same = refl }
-collects_away login n o us Held w e f = record { outcome = e; uses = f; same = refl }
-collects_away login n o us (There c) w e f = absurd w
-collects_away login n o us (Ended c) w e f = record { outcome = e; uses = f; same = refl }
-
-pub tells_away : {L : Type 0} (login : Login) (o : Outcome) (us : List Use) (s : Slot L) → NotThere s → o ≡ NoSuchHandle → us ≡ [] → TellsFields login (handle_of s) o us (handle_of s)
-tells_away login o us Gone w e f = record { outcome = e; uses = f; same = refl }
-tells_away login o us Held w e f = record { outcome = e; uses = f; same = refl }
-tells_away login o us (There c) w e f = absurd w
-tells_away login o us (Ended c) w e f = record { outcome = e; uses = f; same = refl }
+-- there a step that needs a connection is refused
+pub refused_away : {L : Type 0} (R : Kept → Outcome → List Use → Handle → Type 0) (o : Outcome) (us : List Use) (s : Slot L) → NotThere s → o ≡ NoSuchHandle → us ≡ [] → OnConnection R (handle_of s) o us (handle_of s)
+refused_away R o us Gone w e f = record { outcome = e; uses = f; same = refl }
+refused_away R o us Held w e f = record { outcome = e; uses = f; same = refl }
+refused_away R o us (There c) w e f = absurd w
+refused_away R o us (Ended c) w e f = record { outcome = e; uses = f; same = refl }
 
 -- the step finds an open call
 pub collect_refused : {L : Type 0} (look : L → Looks) (login : Login) (n : ℕ) (c : Conn L) (o : Outcome) (us : List Use) → is_open c.session.seen.task ≡ true → o ≡ NoSuchHandle → us ≡ [] → StandsBy login c → Did look login n (CollectsAt login n) o us (There c) (There c)

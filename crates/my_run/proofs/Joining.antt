@@ -27,7 +27,7 @@ use Rattle.my_run.specs.declared.tape.Said.TheVariants as says
 use Rattle.my_run.specs.declared.transcript.Outcome.{Outcome}
 use Rattle.my_run.specs.declared.transcript.Use.{Use}
 use Rattle.my_run.specs.Causes.{IsPolled, PollEnds}
-use Rattle.my_run.specs.Grows.{IsRefused, PolledOnce, IsClosed, Begins, BeginsOn, Calls, asked_by, ConnectShows, Connects, Dials, Holds, Fails, Links, Gathers, GathersOn, Collects, CollectsOn, CollectsAt, PollsOn, GoesOnWith, GoesOn, CancelsWith, Cancels, TellsWith, TellsFields, At, StepGrows, Line, AreGrown, handles_after}
+use Rattle.my_run.specs.Grows.{IsRefused, OnConnection, PolledOnce, IsClosed, Begins, BeginsOn, Calls, asked_by, ConnectShows, Connects, Dials, Holds, Fails, Links, Gathers, GathersOn, Collects, CollectsOn, CollectsAt, PollsOn, GoesOnWith, GoesOn, CancelsWith, Cancels, TellsWith, TellsFields, At, StepGrows, Line, AreGrown, handles_after}
 use Rattle.my_run.specs.Handle.{Handle, Absent, Dialing, Joined, at_number, put_at}
 use Rattle.my_run.specs.Kept.{Asked, Kept, IsHeard, nothing_kept, told_by, made_of, is_note, answers_in, asking, ended_by}
 use Rattle.my_run.specs.Ready.{IsReady, WereJoined, WasJoined, IsOpen, JoinedBy, IsJoined, AllJoined}
@@ -159,11 +159,15 @@ begins_on : (q : Option Asked) (login : Login) (n : ℕ) (call : Call) (k : Kept
 begins_on None login n call k o us t e w r = begins_joined _ login n call k o us t (subst (λ (q : Option Asked). JoinedBy q k) e w) r
 begins_on (Some a) login n call k o us t e w r = kept_joined (Joined true k) o us t w r
 
+-- a step that needs a connection keeps what holds of numbers, where it does so on a connection
+on_joined : (R : Kept → Outcome → List Use → Handle → Type 0) (o : Outcome) (us : List Use) (h t : Handle) → ((k : Kept) → JoinedBy k.pending k → R k o us t → IsJoined t) → IsJoined h → OnConnection R h o us t → IsJoined t
+on_joined R o us Absent t on w r = kept_joined Absent o us t w r
+on_joined R o us Dialing t on w r = kept_joined Dialing o us t w r
+on_joined R o us (Joined false k) t on w r = kept_joined (Joined false k) o us t w r
+on_joined R o us (Joined true k) t on w r = on k w r
+
 calls_joined : (login : Login) (n : ℕ) (call : Call) (o : Outcome) (us : List Use) (h t : Handle) → IsJoined h → Calls login n call h o us t → IsJoined t
-calls_joined login n call o us Absent t w r = kept_joined Absent o us t w r
-calls_joined login n call o us Dialing t w r = kept_joined Dialing o us t w r
-calls_joined login n call o us (Joined false k) t w r = kept_joined (Joined false k) o us t w r
-calls_joined login n call o us (Joined true k) t w r = begins_on k.pending login n call k o us t refl w r
+calls_joined login n call o us h t = on_joined (λ k. BeginsOn k.pending login n call k) o us h t (λ k. begins_on k.pending login n call k o us t refl)
 
 collects_by : (b : Bool) (login : Login) (n : ℕ) (k : Kept) (o : Outcome) (us : List Use) (t : Handle) → has_closed (made_of k.calls) ≡ b → WasJoined k → Collects b login n k o us t → IsJoined t
 collects_by true login n k o us t e w r = closed_joined k calls.NextRow o us t w r
@@ -174,10 +178,7 @@ collects_on None login n k o us t e w r = collects_by (has_closed (made_of k.cal
 collects_on (Some a) login n k o us t e w r = kept_joined (Joined true k) o us t w r
 
 collects_joined : (login : Login) (n : ℕ) (o : Outcome) (us : List Use) (h t : Handle) → IsJoined h → CollectsAt login n h o us t → IsJoined t
-collects_joined login n o us Absent t w r = kept_joined Absent o us t w r
-collects_joined login n o us Dialing t w r = kept_joined Dialing o us t w r
-collects_joined login n o us (Joined false k) t w r = kept_joined (Joined false k) o us t w r
-collects_joined login n o us (Joined true k) t w r = collects_on k.pending login n k o us t refl w r
+collects_joined login n o us h t = on_joined (λ k. CollectsOn k.pending login n k) o us h t (λ k. collects_on k.pending login n k o us t refl)
 
 polls_on : (b : Bool) (rows : Option (List RowParts)) (login : Login) (n : ℕ) (a : Asked) (k : Kept) (o : Outcome) (us : List Use) (t : Handle) → is_connect (kind_of a.call) ≡ b → a.rows ≡ rows → (is_connect (kind_of a.call) ≡ false → WasJoined k) → GathersOpen a k → PollsOn b rows login n a k o us t → IsJoined t
 polls_on true rows login n a k o us t e f w g r = connects_joined login n a k o r.0 t e g r.2
@@ -213,10 +214,7 @@ tells_with None login k o us t w r = subst IsJoined (sym r.left) w
 tells_with (Some a) login k o us t w r = kept_joined (Joined true k) o us t w r
 
 tells_joined : (login : Login) (o : Outcome) (us : List Use) (h t : Handle) → IsJoined h → TellsFields login h o us t → IsJoined t
-tells_joined login o us Absent t w r = kept_joined Absent o us t w r
-tells_joined login o us Dialing t w r = kept_joined Dialing o us t w r
-tells_joined login o us (Joined false k) t w r = kept_joined (Joined false k) o us t w r
-tells_joined login o us (Joined true k) t w r = tells_with k.pending login k o us t w r
+tells_joined login o us h t = on_joined (λ k. TellsWith k.pending login k) o us h t (λ k. tells_with k.pending login k o us t)
 
 -- and at all numbers
 pub at_joined : (hs : List Handle) (n : ℕ) → AllJoined hs → IsJoined (at_number hs n)

@@ -34,6 +34,13 @@ pub record IsRefused (h : Handle) (o : Outcome) (us : List Use) (t : Handle) : T
   pub uses : us ≡ []
   pub same : t ≡ h
 
+-- a step that needs a connection which steps may name: elsewhere it is refused
+abbrev pub OnConnection : (Kept → Outcome → List Use → Handle → Type 0) → Handle → Outcome → List Use → Handle → Type 0
+OnConnection R Absent o us t = IsRefused Absent o us t
+OnConnection R Dialing o us t = IsRefused Dialing o us t
+OnConnection R (Joined false k) o us t = IsRefused (Joined false k) o us t
+OnConnection R (Joined true k) o us t = R k o us t
+
 -- what a step of one call shows of its poll
 abbrev pub answer_shown : Answer → Outcome
 answer_shown answers.Ready = Done
@@ -75,10 +82,7 @@ BeginsOn (Some a) login n call k o us t = IsRefused (Joined true k) o us t
 
 -- a step that begins a call on connection n: refused where no connection is there or another call is open
 abbrev pub Calls : Login → ℕ → Call → Handle → Outcome → List Use → Handle → Type 0
-Calls login n call Absent o us t = IsRefused Absent o us t
-Calls login n call Dialing o us t = IsRefused Dialing o us t
-Calls login n call (Joined false k) o us t = IsRefused (Joined false k) o us t
-Calls login n call (Joined true k) o us t = BeginsOn k.pending login n call k o us t
+Calls login n call h o us t = OnConnection (λ k. BeginsOn k.pending login n call k) h o us t
 
 -- the answer tells the connection's number, and what the server told of itself
 pub record IsGreeted (login : Login) (n : ℕ) (k : Kept) (o : Outcome) : Type 0 where
@@ -147,10 +151,7 @@ CollectsOn None login n k o us t = Collects (has_closed (made_of k.calls)) login
 CollectsOn (Some a) login n k o us t = IsRefused (Joined true k) o us t
 
 abbrev pub CollectsAt : Login → ℕ → Handle → Outcome → List Use → Handle → Type 0
-CollectsAt login n Absent o us t = IsRefused Absent o us t
-CollectsAt login n Dialing o us t = IsRefused Dialing o us t
-CollectsAt login n (Joined false k) o us t = IsRefused (Joined false k) o us t
-CollectsAt login n (Joined true k) o us t = CollectsOn k.pending login n k o us t
+CollectsAt login n h o us t = OnConnection (λ k. CollectsOn k.pending login n k) h o us t
 
 -- a step that polls what is open: the handshake, a gathering, or another call
 abbrev pub PollsOn : Bool → Option (List RowParts) → Login → ℕ → Asked → Kept → Outcome → List Use → Handle → Type 0
@@ -206,10 +207,7 @@ TellsWith None login k o us t = IsTold login k o us t
 TellsWith (Some a) login k o us t = IsRefused (Joined true k) o us t
 
 abbrev pub TellsFields : Login → Handle → Outcome → List Use → Handle → Type 0
-TellsFields login Absent o us t = IsRefused Absent o us t
-TellsFields login Dialing o us t = IsRefused Dialing o us t
-TellsFields login (Joined false k) o us t = IsRefused (Joined false k) o us t
-TellsFields login (Joined true k) o us t = TellsWith k.pending login k o us t
+TellsFields login h o us t = OnConnection (λ k. TellsWith k.pending login k) h o us t
 
 -- the connection of the next number
 pub record DialsNext (login : Login) (hs : List Handle) (o : Outcome) (us : List Use) (ts : List Handle) : Type 0 where
