@@ -7,6 +7,8 @@ mod set_tests;
 #[cfg(test)]
 mod tests;
 #[cfg(test)]
+mod url_tests;
+#[cfg(test)]
 mod world_tests;
 
 use help::asked_page;

@@ -1,8 +1,9 @@
 -- The words of a command line.
-use Rattle.std.specs.Prelude.{ℕ, List, [], ◌∷◌, codes, Option, Some, None, option_map, if◌then◌else◌}
+use Rattle.std.specs.Prelude.{ℕ, ◌&&◌, List, [], ◌∷◌, codes, length, nat_lt, Option, Some, None, is_some, option_map, Result, Ok, Err, if◌then◌else◌}
 use Rattle.std.specs.Str.{bytes_eq}
 use Rattle.my_wire.specs.Numbers.{◌>>=◌}
 use Rattle.my_opts.specs.Opts.{OptsView, default_opts, packet_limit, waiting_limit}
+use Rattle.my_opts.specs.Url.{options_of}
 use Rattle.my_run.specs.declared.words.Plain.{Plain}
 use Rattle.my_run.specs.Cut.{first_of, rest_of}
 use Rattle.my_run.specs.Number.{number_of}
@@ -32,13 +33,9 @@ plain_parts text = do
   wait ← number_of wait_digits
   Some (record { user = first_of 44 text; pass = first_of 44 behind_user; packet = packet; wait = wait })
 
-abbrev pub parts_behind : Option (List ℕ) → Option PlainWords
-parts_behind None = None
-parts_behind (Some text) = plain_parts text
-
--- `plain,USER,PASS,PACKET,WAIT`
-abbrev pub plain_of : List ℕ → Option PlainWords
-plain_of word = if bytes_eq (first_of 44 word) (codes "plain") then parts_behind (rest_of 44 word) else None
+-- what stands behind `plain,`, where a word begins so
+abbrev pub behind_plain : List ℕ → Option (List ℕ)
+behind_plain word = if bytes_eq (first_of 44 word) (codes "plain") then rest_of 44 word else None
 
 -- an empty text is none
 abbrev pub some_text : List ℕ → Option (List ℕ)
@@ -49,6 +46,28 @@ some_text (b ∷ bytes) = Some (b ∷ bytes)
 abbrev pub plain_opts : PlainWords → OptsView
 plain_opts p = record default_opts { user = some_text p.user; pass = some_text p.pass; max_allowed_packet = Some (packet_limit p.packet); wait_timeout = Some (waiting_limit p.wait) }
 
+-- the options that were told, if any were
+abbrev pub told_opts : {E : Type 0} → Result OptsView E → Option OptsView
+told_opts (Ok opts) = Some opts
+told_opts (Err e) = None
+
+-- the options of a URL by the option table, which refuses some; a URL has at most 1,048,576 bytes
+abbrev pub url_opts : List ℕ → Option OptsView
+url_opts word = if nat_lt 1048576 (length word) then None else told_opts (options_of word)
+
+-- A connection never asks the server for its settings, so options are refused that leave one of them to the server.
+abbrev pub with_settings : OptsView → Option OptsView
+with_settings opts = if is_some opts.max_allowed_packet && is_some opts.wait_timeout then Some opts else None
+
+-- the options of a URL that leaves no setting to the server
+abbrev pub settled_url_opts : List ℕ → Option OptsView
+settled_url_opts word = url_opts word >>= with_settings
+
+-- `plain,USER,PASS,PACKET,WAIT`, by what stands behind the first comma, or a URL
+abbrev pub opts_by : Option (List ℕ) → List ℕ → Option OptsView
+opts_by (Some text) word = option_map plain_opts (plain_parts text)
+opts_by None word = settled_url_opts word
+
 -- the options of the second word, or none where it is refused
 abbrev pub word_opts : List ℕ → Option OptsView
-word_opts word = option_map plain_opts (plain_of word)
+word_opts word = opts_by (behind_plain word) word

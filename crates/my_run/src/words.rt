@@ -1,12 +1,15 @@
 //! Reads the words of a command line.
 ghost use Rattle.std.specs.Prelude.{◌≡◌, ◌<◌, IfOk, map, option_map, string_bytes};
 ghost use Rattle.my_run.specs.Cut.{first_of, rest_of};
-ghost use Rattle.my_run.specs.Words.{script_word_of, plain_of, plain_view, plain_parts, plain_opts, word_opts, some_text};
+ghost use Rattle.my_run.specs.Words.{script_word_of, behind_plain, plain_view, plain_parts, plain_opts, settled_url_opts, with_settings, word_opts, some_text};
 
 use crate::reading::number::number;
-use my_opts::{Opts, OptsBuilder};
+use my_opts::{Opts, OptsBuilder, UrlFault};
 use my_wire::NoMemory;
 use std::alloc::Global;
+
+/// The most bytes of a URL.
+const LONGEST_URL: usize = 1048576;
 
 // What stands before the first mark, and what stands behind it, if there is one.
 #[derive(Clone, Copy)]
@@ -59,17 +62,15 @@ fn plain_behind(text: &str) -> Option<Plain<'_>>
     })
 }
 
-fn plain_parts_of(word: &str) -> Option<Plain<'_>>
-    ensures { option_map plain_view result ≡ plain_of word.now }
+// What stands behind `plain,`, where a word begins so.
+fn plain_text(word: &str) -> Option<&str>
+    ensures { option_map (λ t. t.now) result ≡ behind_plain word.now }
 {
     let head = cut_text(',', word);
     if head.first != "plain" {
         return None;
     }
-    match head.rest {
-        None => None,
-        Some(rest) => plain_behind(rest),
-    }
+    head.rest
 }
 
 // An empty text is none.
@@ -95,13 +96,45 @@ fn opts_of(alloc: Global, plain: Plain<'_>) -> Result<Opts, NoMemory>
     Ok(Opts::from(builder))
 }
 
+fn plain_word(alloc: Global, text: &str) -> Result<Option<Opts>, NoMemory>
+    ensures { IfOk result (λ o. o ≡ option_map plain_opts (plain_parts text.now)) }
+{
+    match plain_behind(text) {
+        None => Ok(None),
+        Some(plain) => Ok(Some(opts_of(alloc, plain)?)),
+    }
+}
+
+// The options, unless they leave a setting to the server: a connection doesn't ask for it.
+fn require_settings(opts: Opts) -> Option<Opts>
+    ensures { result ≡ with_settings opts }
+{
+    if opts.max_allowed_packet().is_some() && opts.wait_timeout().is_some() {
+        return Some(opts);
+    }
+    None
+}
+
+fn url_word(alloc: Global, word: &str) -> Result<Option<Opts>, NoMemory>
+    ensures { IfOk result (λ o. o ≡ settled_url_opts word.now) }
+{
+    if word.len() > LONGEST_URL {
+        return Ok(None);
+    }
+    match Opts::from_url(alloc, word) {
+        Ok(opts) => Ok(require_settings(opts)),
+        Err(UrlFault::Url(_)) => Ok(None),
+        Err(UrlFault::NoMemory) => Err(NoMemory),
+    }
+}
+
 /// The options that a word stands for, or none where it is refused.
 pub fn read_word(alloc: Global, word: &str) -> Result<Option<Opts>, NoMemory>
     ensures { IfOk result (λ o. o ≡ word_opts word.now) }
 {
-    match plain_parts_of(word) {
-        None => Ok(None),
-        Some(plain) => Ok(Some(opts_of(alloc, plain)?)),
+    match plain_text(word) {
+        Some(text) => plain_word(alloc, text),
+        None => url_word(alloc, word),
     }
 }
 
