@@ -2,9 +2,9 @@
 use Rattle.std.proofs.Common.{◌≡◌, inl, inr, ℕ, Bool, true, false, ◌&&◌, List, [], ◌∷◌, eqb, ltb, leb, Some, None, refl, subst, arith}
 use Rattle.std.proofs.lemmas.Bool.Decides.{nat_tests}
 use Rattle.my_wire.specs.declared.column_count.ColumnCount.{ColumnCount}
-use Rattle.my_wire.specs.Numbers.{len_at}
+use Rattle.my_frame.specs.Numbers.{len_at}
 use Rattle.my_wire.specs.ColumnCount.{IsSkipped, IsColumnCount, skipped_at, column_count_at}
-use Rattle.my_wire.proofs.NumberLaws.{bind_then, chosen, passed, len_found, len_again}
+use Rattle.my_frame.proofs.NumberLaws.{bind_then, chosen, passed, len_found, len_again}
 
 skipped_found : (cached : Bool) (left : List ℕ) (skipped : Bool) → skipped_at cached left ≡ Some skipped → IsSkipped cached left skipped
 skipped_found cached [] skipped e = inl (refl, cc)

@@ -4,9 +4,9 @@ use Rattle.std.proofs.lemmas.Bool.Decides.{nat_tests}
 use Rattle.my_wire.specs.declared.column.Column.{Column}
 use Rattle.my_wire.specs.declared.column.Names.{Names}
 use Rattle.my_wire.specs.declared.column.Form.{Form}
-use Rattle.my_wire.specs.Numbers.{IsLen, number_at, len_at, text_at}
+use Rattle.my_frame.specs.Numbers.{IsLen, number_at, len_at, text_at}
 use Rattle.my_wire.specs.Column.{IsNames, IsForm, IsColumn, column_of, names_at, form_at, column_at}
-use Rattle.my_wire.proofs.NumberLaws.{bind_then, passed, same_pair, number_found, number_again, len_found, len_again, text_found, text_again}
+use Rattle.my_frame.proofs.NumberLaws.{bind_then, passed, same_pair, number_found, number_again, len_found, len_again, text_found, text_again}
 
 names_found : (bytes : List ℕ) (names : Names) (rest : List ℕ) → names_at bytes ≡ Some (names, rest) → IsNames bytes names rest
 unfolding names_at

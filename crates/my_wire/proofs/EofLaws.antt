@@ -2,9 +2,9 @@
 use Rattle.std.proofs.Common.{◌≡◌, ℕ, List, length, leb, true, Some, refl, subst, arith}
 use Rattle.std.proofs.lemmas.Bool.Decides.{nat_tests}
 use Rattle.my_wire.specs.declared.eof.EofPacket.{EofPacket}
-use Rattle.my_wire.specs.Numbers.{head_at, number_at}
+use Rattle.my_frame.specs.Numbers.{head_at, number_at}
 use Rattle.my_wire.specs.EofPacket.{IsEof, eof_at}
-use Rattle.my_wire.proofs.NumberLaws.{bind_then, passed, head_found, head_again, number_found, number_again}
+use Rattle.my_frame.proofs.NumberLaws.{bind_then, passed, head_found, head_again, number_found, number_again}
 
 pub eof_found : (payload : List ℕ) (eof : EofPacket) → eof_at payload ≡ Some eof → IsEof payload eof
 eof_found payload eof e =

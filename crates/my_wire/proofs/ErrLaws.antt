@@ -3,9 +3,9 @@ use Rattle.std.proofs.Common.{◌≡◌, ◌≢◌, ◌⊎◌, inl, inr, ℕ, Bo
 use Rattle.std.proofs.lemmas.Bool.Decides.{nat_tests}
 use Rattle.std.specs.Str.Lossy.{utf8_lossy}
 use Rattle.my_wire.specs.declared.err.ErrPacket.{ErrPacket}
-use Rattle.my_wire.specs.Numbers.{bytes_at, head_at, number_at}
+use Rattle.my_frame.specs.Numbers.{bytes_at, head_at, number_at}
 use Rattle.my_wire.specs.ErrPacket.{TellsState, TellsNone, IsErr, told_at, err_at}
-use Rattle.my_wire.proofs.NumberLaws.{bind_then, chosen, same_pair, head_found, head_again, bytes_found, bytes_again, number_found, number_again}
+use Rattle.my_frame.proofs.NumberLaws.{bind_then, chosen, same_pair, head_found, head_again, bytes_found, bytes_again, number_found, number_again}
 
 told_found : (before : Bool) (left state message : List ℕ) → told_at before left ≡ Some (state, message) → TellsState before left state message ⊎ TellsNone before left state message
 told_found before [] state message e =

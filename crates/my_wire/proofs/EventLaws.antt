@@ -3,9 +3,9 @@ use Rattle.std.proofs.Common.{◌≡◌, ℕ, List, length, true, eqb, Some, ref
 use Rattle.std.proofs.lemmas.Bool.Decides.{nat_tests}
 use Rattle.my_wire.specs.declared.event.Event.{Event}
 use Rattle.my_wire.specs.declared.event.EventHeader.{EventHeader}
-use Rattle.my_wire.specs.Numbers.{IsNumber, head_at, number_at}
+use Rattle.my_frame.specs.Numbers.{IsNumber, head_at, number_at}
 use Rattle.my_wire.specs.Event.{IsEvent, event_from, header_at, event_at}
-use Rattle.my_wire.proofs.NumberLaws.{bind_then, passed, same_pair, head_found, head_again, number_found, number_again}
+use Rattle.my_frame.proofs.NumberLaws.{bind_then, passed, same_pair, head_found, head_again, number_found, number_again}
 
 -- The bytes begin with this header.
 record IsHeader (bytes : List ℕ) (header : EventHeader) (body : List ℕ) : Type 0 where

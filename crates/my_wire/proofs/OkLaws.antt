@@ -2,9 +2,9 @@
 use Rattle.std.proofs.Common.{◌≡◌, ℕ, inl, inr, List, length, true, ltb, Option, Some, None, refl, sym, ap, subst, arith}
 use Rattle.std.proofs.lemmas.Bool.Decides.{nat_tests}
 use Rattle.my_wire.specs.declared.ok.OkPacket.{OkPacket}
-use Rattle.my_wire.specs.Numbers.{head_at, len_at, number_at, text_at}
+use Rattle.my_frame.specs.Numbers.{head_at, len_at, number_at, text_at}
 use Rattle.my_wire.specs.OkPacket.{IsInfo, IsFields, IsOk, IsEndOk, info_at, info_of, fields_at, ok_at, end_ok_at}
-use Rattle.my_wire.proofs.NumberLaws.{bind_then, passed_on, head_found, head_again, number_found, number_again, len_found, len_again, text_found, text_again}
+use Rattle.my_frame.proofs.NumberLaws.{bind_then, passed_on, head_found, head_again, number_found, number_again, len_found, len_again, text_found, text_again}
 
 info_found : (left : List ℕ) (o : Option (List ℕ × List ℕ)) → text_at left ≡ o → IsInfo left (info_at o left)
 info_found left None e = inr (λ text rest w. let a = text_again left text rest w in absurd cc, refl)

@@ -1,9 +1,9 @@
 -- The replies to a text that is kept, and to a query that reads a file, as relations and as what is read.
 use Rattle.std.proofs.Common.{◌≡◌, ℕ, List, Some, refl, subst}
 use Rattle.my_wire.specs.declared.replies.PrepareOk.{PrepareOk}
-use Rattle.my_wire.specs.Numbers.{bytes_at, head_at, number_at}
+use Rattle.my_frame.specs.Numbers.{bytes_at, head_at, number_at}
 use Rattle.my_wire.specs.Replies.{IsPrepareOk, prepare_ok_at}
-use Rattle.my_wire.proofs.NumberLaws.{bind_then, head_found, head_again, bytes_found, bytes_again, number_found, number_again}
+use Rattle.my_frame.proofs.NumberLaws.{bind_then, head_found, head_again, bytes_found, bytes_again, number_found, number_again}
 
 pub prepare_ok_found : (payload : List ℕ) (prepared : PrepareOk) → prepare_ok_at payload ≡ Some prepared → IsPrepareOk payload prepared
 unfolding prepare_ok_at

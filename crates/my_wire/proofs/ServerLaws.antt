@@ -5,21 +5,21 @@ use Rattle.std.proofs.lemmas.Str.{utf8_lossy-IsUtf8}
 use Rattle.std.proofs.lemmas.Bool.Decides.{nat_tests}
 use Rattle.std.specs.Prelude.{bit_and}
 use Rattle.std.specs.List.{before_first}
-use Rattle.my_wire.specs.declared.greeting.Greeting.{Greeting}
+use Rattle.my_handshake.specs.declared.greeting.Greeting.{Greeting}
 use Rattle.my_wire.specs.declared.ok.OkPacket.{OkPacket}
 use Rattle.my_wire.specs.declared.err.ErrPacket.{ErrPacket}
 use Rattle.my_wire.specs.declared.column.Column.{Column}
-use Rattle.my_wire.specs.Numbers.{head_at, text_at, len_at, ◌>>=◌}
-use Rattle.my_wire.specs.Writing.{le_bytes, len_bytes, text_bytes, text0_bytes}
+use Rattle.my_frame.specs.Numbers.{head_at, text_at, len_at, ◌>>=◌}
+use Rattle.my_frame.specs.Writing.{le_bytes, len_bytes, text_bytes, text0_bytes}
 use Rattle.my_wire.specs.OkPacket.{info_at, info_of, fields_at, ok_at, end_ok_at}
 use Rattle.my_wire.specs.ErrPacket.{err_at}
 use Rattle.my_wire.specs.ColumnCount.{column_count_at}
 use Rattle.my_wire.specs.Column.{names_at, form_at, column_at}
-use Rattle.my_wire.specs.Greeting.{first_at, settings_at, second_at, greeting_at}
+use Rattle.my_handshake.specs.Greeting.{first_at, settings_at, second_at, greeting_at}
 use Rattle.my_wire.specs.Server.{fitted, settings_bytes, greeting_bytes, info_bytes, ok_bytes, err_bytes, form_bytes, column_bytes}
 use Rattle.my_wire.specs.Sent.{IsSentGreeting, IsSentOk, IsSentErr, IsSentColumn}
-use Rattle.my_wire.proofs.NumberLaws.{bytes_again, before_found, before_again}
-use Rattle.my_wire.proofs.WritingLaws.{length-le_bytes, number_read_back, len_read_back, text_read_back, text0_read_back}
+use Rattle.my_frame.proofs.NumberLaws.{bytes_again, before_found, before_again}
+use Rattle.my_frame.proofs.WritingLaws.{length-le_bytes, number_read_back, len_read_back, text_read_back, text0_read_back}
 
 info_read_back : (info : List ℕ) → length info < 2 ^ 64 → info_of (info_bytes info) ≡ info
 info_read_back [] h = refl

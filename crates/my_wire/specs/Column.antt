@@ -1,7 +1,7 @@
 -- The packet that describes one column of a set of rows.
 -- MySQL internals, "Text Resultset": Column Definition (ColumnDefinition41).
 use Rattle.std.specs.Prelude.{◌≡◌, ℕ, ◌&&◌, List, length, Option, Some, None, ◌==◌, if◌then◌else◌}
-use Rattle.my_wire.specs.Numbers.{IsNumber, IsLen, IsText, number_at, len_at, text_at, ◌>>=◌}
+use Rattle.my_frame.specs.Numbers.{IsNumber, IsLen, IsText, number_at, len_at, text_at, ◌>>=◌}
 use Rattle.my_wire.specs.declared.column.Column.{Column}
 use Rattle.my_wire.specs.declared.column.Names.{Names}
 use Rattle.my_wire.specs.declared.column.Form.{Form}

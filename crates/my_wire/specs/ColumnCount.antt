@@ -1,7 +1,7 @@
 -- The packet that begins a set of rows.
 -- MySQL internals, "Text Resultset": column_count; MariaDB, "Result Set Packets": Column count packet, whose second byte tells whether metadata follows (MARIADB_CLIENT_CACHE_METADATA).
 use Rattle.std.specs.Prelude.{◌≡◌, ℕ, ◌<◌, ◌≤◌, ◌⊎◌, Bool, true, false, ◌&&◌, List, [], ◌∷◌, Option, Some, None, ◌==◌, nat_le, nat_lt, if◌then◌else◌}
-use Rattle.my_wire.specs.Numbers.{IsLen, len_at, ◌>>=◌}
+use Rattle.my_frame.specs.Numbers.{IsLen, len_at, ◌>>=◌}
 use Rattle.my_wire.specs.declared.column_count.ColumnCount.{ColumnCount}
 
 -- What is behind the count tells whether the columns are skipped; nothing tells that they follow.

@@ -1,7 +1,7 @@
 -- The packet that ends columns or rows where no OK packet does.
 -- MySQL internals, "Generic Response Packets": EOF_Packet, with PROTOCOL_41, recognised by its length.
 use Rattle.std.specs.Prelude.{◌≡◌, ℕ, ◌≤◌, List, ◌∷◌, length, Option, Some, None, nat_le, if◌then◌else◌}
-use Rattle.my_wire.specs.Numbers.{IsNumber, head_at, number_at, ◌>>=◌}
+use Rattle.my_frame.specs.Numbers.{IsNumber, head_at, number_at, ◌>>=◌}
 use Rattle.my_wire.specs.declared.eof.EofPacket.{EofPacket}
 
 -- The payload ends columns or rows; at most two more bytes follow, which say nothing.

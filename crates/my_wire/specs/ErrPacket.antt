@@ -2,7 +2,7 @@
 -- MySQL internals, "Generic Response Packets": ERR_Packet, with PROTOCOL_41 once the client has answered the greeting.
 use Rattle.std.specs.Prelude.{◌≡◌, ◌≢◌, ℕ, ◌⊎◌, Bool, true, false, ◌&&◌, List, [], ◌∷◌, Option, Some, codes, ◌==◌, not, if◌then◌else◌}
 use Rattle.std.specs.Str.Lossy.{utf8_lossy}
-use Rattle.my_wire.specs.Numbers.{IsBytes, IsNumber, bytes_at, head_at, number_at, ◌>>=◌}
+use Rattle.my_frame.specs.Numbers.{IsBytes, IsNumber, bytes_at, head_at, number_at, ◌>>=◌}
 use Rattle.my_wire.specs.declared.err.ErrPacket.{ErrPacket}
 
 -- A state is told behind a `#`, once the client has answered.

@@ -1,7 +1,7 @@
 -- The packet that holds one event of a binary log.
 -- MySQL internals, "Replication Protocol": Binlog Event header (version 4), TABLE_MAP_EVENT.
 use Rattle.std.specs.Prelude.{◌≡◌, ℕ, List, ◌∷◌, length, Option, Some, None, ◌==◌, if◌then◌else◌}
-use Rattle.my_wire.specs.Numbers.{IsNumber, head_at, number_at, ◌>>=◌}
+use Rattle.my_frame.specs.Numbers.{IsNumber, head_at, number_at, ◌>>=◌}
 use Rattle.my_wire.specs.declared.event.Event.{Event}
 use Rattle.my_wire.specs.declared.event.EventHeader.{EventHeader}
 

@@ -1,7 +1,7 @@
 -- The packet that says that a command succeeded, or that a set of rows ended.
 -- MySQL internals, "Generic Response Packets": OK_Packet, with PROTOCOL_41, without SESSION_TRACK.
 use Rattle.std.specs.Prelude.{◌≡◌, ℕ, ◌<◌, ◌⊎◌, List, ◌∷◌, length, Option, Some, None, nat_lt, if◌then◌else◌}
-use Rattle.my_wire.specs.Numbers.{IsNumber, IsLen, IsText, head_at, number_at, len_at, text_at, ◌>>=◌}
+use Rattle.my_frame.specs.Numbers.{IsNumber, IsLen, IsText, head_at, number_at, len_at, text_at, ◌>>=◌}
 use Rattle.my_wire.specs.declared.ok.OkPacket.{OkPacket}
 
 -- What is left is a text behind its length, of which more may follow; else all of it is the info.

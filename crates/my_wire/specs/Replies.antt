@@ -1,7 +1,7 @@
 -- The replies to a text that is to be kept, and to a query that reads a file of the client.
 -- MySQL internals, "Prepared Statements": COM_STMT_PREPARE_OK; "Text Resultset": LOCAL INFILE Request.
 use Rattle.std.specs.Prelude.{◌≡◌, ℕ, List, ◌∷◌, Option, Some}
-use Rattle.my_wire.specs.Numbers.{IsBytes, IsNumber, bytes_at, head_at, number_at, ◌>>=◌}
+use Rattle.my_frame.specs.Numbers.{IsBytes, IsNumber, bytes_at, head_at, number_at, ◌>>=◌}
 use Rattle.my_wire.specs.declared.replies.PrepareOk.{PrepareOk}
 use Rattle.my_wire.specs.declared.replies.InfileRequest.{InfileRequest}
 

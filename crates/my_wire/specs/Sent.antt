@@ -3,8 +3,8 @@
 use Rattle.std.specs.Prelude.{◌≡◌, ℕ, ◌<◌, ◌^◌, List, length, ◌==◌}
 use Rattle.std.specs.List.{before_first}
 use Rattle.std.specs.Str.{IsUtf8}
-use Rattle.my_wire.specs.Greeting.{OffersNeeded}
-use Rattle.my_wire.specs.declared.greeting.Greeting.{Greeting}
+use Rattle.my_handshake.specs.Greeting.{OffersNeeded}
+use Rattle.my_handshake.specs.declared.greeting.Greeting.{Greeting}
 use Rattle.my_wire.specs.declared.ok.OkPacket.{OkPacket}
 use Rattle.my_wire.specs.declared.err.ErrPacket.{ErrPacket}
 use Rattle.my_wire.specs.declared.column.Column.{Column}

@@ -2,8 +2,8 @@
 -- MySQL internals, "Connection Phase Packets": Protocol::HandshakeV10; "Generic Response Packets"; "Text Resultset".
 use Rattle.std.specs.Prelude.{ℕ, ◌/◌, ◌%◌, List, [], ◌++◌, length, take, drop, replicate, codes, Option, Some, None, ◌==◌, if◌then◌else◌}
 use Rattle.std.specs.List.{flat_map}
-use Rattle.my_wire.specs.Writing.{le_bytes, len_bytes, text_bytes, text0_bytes}
-use Rattle.my_wire.specs.declared.greeting.Greeting.{Greeting}
+use Rattle.my_frame.specs.Writing.{le_bytes, len_bytes, text_bytes, text0_bytes}
+use Rattle.my_handshake.specs.declared.greeting.Greeting.{Greeting}
 use Rattle.my_wire.specs.declared.ok.OkPacket.{OkPacket}
 use Rattle.my_wire.specs.declared.err.ErrPacket.{ErrPacket}
 use Rattle.my_wire.specs.declared.column.Column.{Column}

@@ -2,13 +2,12 @@
 
 ghost use Rattle.std.specs.Prelude.{◌≡◌, ◌↔◌, List, ℕ, Some};
 ghost use Rattle.std.specs.Option.{option_map};
-ghost use Rattle.my_wire.specs.Reading.{Gives, GivesAs, ReadsExactly};
-ghost use Rattle.my_wire.specs.Numbers.{text_at};
+ghost use Rattle.my_frame.specs.Reading.{Gives, GivesAs, ReadsExactly};
+ghost use Rattle.my_frame.specs.Numbers.{text_at};
 ghost use Rattle.my_wire.specs.Column.{IsColumn, column_at, form_at, names_at};
 
-use crate::blob::Blob;
-use crate::numbers::{take_len, take_text, take_u8, take_u16, take_u32};
-use crate::read_error::ReadError;
+use my_frame::numbers::{take_len, take_text, take_u8, take_u16, take_u32};
+use my_frame::{Blob, ReadError};
 use std::alloc::Global;
 
 /// One column of a set of rows.

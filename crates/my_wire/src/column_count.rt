@@ -2,11 +2,11 @@
 
 ghost use Rattle.std.specs.Prelude.{◌≡◌, ◌↔◌, Bool, List, ℕ, Some};
 ghost use Rattle.std.specs.Option.{ok_or};
-ghost use Rattle.my_wire.specs.Reading.{ReadsExactly};
+ghost use Rattle.my_frame.specs.Reading.{ReadsExactly};
 ghost use Rattle.my_wire.specs.ColumnCount.{IsColumnCount, column_count_at, skipped_at};
 
-use crate::numbers::take_len;
-use crate::read_error::ReadError;
+use my_frame::ReadError;
+use my_frame::numbers::take_len;
 
 /// How many columns the rows have.
 #[derive(Clone, Copy, Debug, PartialEq, Eq)]

@@ -2,11 +2,11 @@
 
 ghost use Rattle.std.specs.Prelude.{◌≡◌, ◌↔◌, List, ℕ, Some};
 ghost use Rattle.std.specs.Option.{ok_or};
-ghost use Rattle.my_wire.specs.Reading.{ReadsExactly};
+ghost use Rattle.my_frame.specs.Reading.{ReadsExactly};
 ghost use Rattle.my_wire.specs.EofPacket.{IsEof, eof_at};
 
-use crate::numbers::{take_head, take_u16};
-use crate::read_error::ReadError;
+use my_frame::ReadError;
+use my_frame::numbers::{take_head, take_u16};
 
 /// The end of columns or rows.
 #[derive(Clone, Copy, Debug, PartialEq, Eq)]

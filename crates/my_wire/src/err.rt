@@ -1,12 +1,11 @@
 //! The packet that says that a command failed.
 
 ghost use Rattle.std.specs.Prelude.{◌≡◌, ◌↔◌, Bool, List, ℕ, Some};
-ghost use Rattle.my_wire.specs.Reading.{Gives, GivesAs, ReadsExactly};
+ghost use Rattle.my_frame.specs.Reading.{Gives, GivesAs, ReadsExactly};
 ghost use Rattle.my_wire.specs.ErrPacket.{IsErr, err_at, told_at};
 
-use crate::numbers::{take_bytes, take_head, take_u16};
-use crate::read_error::ReadError;
-use crate::text::Text;
+use my_frame::numbers::{take_bytes, take_head, take_u16};
+use my_frame::{ReadError, Text};
 use std::alloc::Global;
 
 /// What a server says of a command that failed.

@@ -2,12 +2,11 @@
 
 ghost use Rattle.std.specs.Prelude.{◌≡◌, ◌↔◌, List, ℕ, Some};
 ghost use Rattle.std.specs.Option.{option_map};
-ghost use Rattle.my_wire.specs.Reading.{Gives, ReadsExactly};
+ghost use Rattle.my_frame.specs.Reading.{Gives, ReadsExactly};
 ghost use Rattle.my_wire.specs.Event.{IsEvent, event_at, header_at};
 
-use crate::blob::Blob;
-use crate::numbers::{take_head, take_u8, take_u16, take_u32, take_u48};
-use crate::read_error::ReadError;
+use my_frame::numbers::{take_head, take_u8, take_u16, take_u32, take_u48};
+use my_frame::{Blob, ReadError};
 use std::alloc::Global;
 
 /// An event of a binary log.

@@ -1,15 +1,14 @@
 //! What a payload is, looked at without taking memory: each call says what the reader of that packet would give of it.
 
-ghost use Rattle.std.specs.Prelude.{◌≡◌, ℕ, List, is_some};
+ghost use Rattle.std.specs.Prelude.{◌≡◌, is_some};
 ghost use Rattle.std.specs.Option.{option_map};
 ghost use Rattle.my_wire.specs.OkPacket.{end_ok_at, fields_at, ok_at};
 ghost use Rattle.my_wire.specs.ErrPacket.{err_at, told_at};
 ghost use Rattle.my_wire.specs.Column.{column_at, names_at};
-ghost use Rattle.my_wire.specs.Greeting.{greeting_at};
 
 use crate::column::form_of;
-use crate::greeting::{NEEDED_CAPABILITIES, first_of, second_of, settings_of};
-use crate::numbers::{take_head, take_len, take_text, take_u16};
+use my_frame::numbers::{take_head, take_len, take_text, take_u16};
+pub use my_handshake::greeting_offer;
 
 // The status behind an OK's head.
 #[tactic(auto, unfolding(crate::specs::OkPacket::fields_at))]
@@ -87,17 +86,4 @@ pub fn is_column(payload: &[u8]) -> bool
         Some(rest) => form_of(rest).is_some(),
         None => false,
     }
-}
-
-/// The capability bits that a server offers and the name of the way to log in, if it is a greeting.
-pub fn greeting_offer(payload: &[u8]) -> Option<(u32, &[u8])>
-    ensures { option_map (λ x. (x.0, x.1.now)) result ≡ option_map {U = ℕ × List ℕ} (λ g. (g.capabilities, g.plugin)) (greeting_at payload.now) }
-{
-    let (_begun, rest) = first_of(payload)?;
-    let (settings, rest) = settings_of(rest)?;
-    let (_second, plugin) = second_of(settings.nonce_length, rest)?;
-    if settings.capabilities & NEEDED_CAPABILITIES != NEEDED_CAPABILITIES {
-        return None;
-    }
-    Some((settings.capabilities, plugin))
 }

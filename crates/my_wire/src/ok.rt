@@ -1,12 +1,11 @@
 //! The packet that says that a command succeeded, or that a set of rows ended.
 
 ghost use Rattle.std.specs.Prelude.{◌≡◌, ◌↔◌, List, ℕ, Some};
-ghost use Rattle.my_wire.specs.Reading.{Gives, ReadsExactly};
+ghost use Rattle.my_frame.specs.Reading.{Gives, ReadsExactly};
 ghost use Rattle.my_wire.specs.OkPacket.{IsEndOk, IsOk, end_ok_at, fields_at, info_of, ok_at};
 
-use crate::blob::Blob;
-use crate::numbers::{take_head, take_len, take_text, take_u16};
-use crate::read_error::ReadError;
+use my_frame::numbers::{take_head, take_len, take_text, take_u16};
+use my_frame::{Blob, ReadError};
 use std::alloc::Global;
 
 /// What a server says of a command that succeeded, or of a set of rows that ended.

@@ -2,12 +2,11 @@
 
 ghost use Rattle.std.specs.Prelude.{◌≡◌, ◌↔◌, List, ℕ, Some};
 ghost use Rattle.std.specs.Option.{ok_or};
-ghost use Rattle.my_wire.specs.Reading.{Gives, ReadsExactly};
+ghost use Rattle.my_frame.specs.Reading.{Gives, ReadsExactly};
 ghost use Rattle.my_wire.specs.Replies.{IsInfile, IsPrepareOk, infile_at, prepare_ok_at};
 
-use crate::blob::Blob;
-use crate::numbers::{take_bytes, take_head, take_u16, take_u32};
-use crate::read_error::ReadError;
+use my_frame::numbers::{take_bytes, take_head, take_u16, take_u32};
+use my_frame::{Blob, ReadError};
 use std::alloc::Global;
 
 /// A text is kept as a statement.

@@ -4,16 +4,16 @@ ghost use Rattle.std.specs.Prelude.{◌≡◌, ◌<◌, ◌≤◌, ℕ, Bool, So
 ghost use Rattle.my_wire.specs.ColumnCount.{column_count_at};
 ghost use Rattle.my_wire.specs.Column.{column_at};
 ghost use Rattle.my_wire.specs.ErrPacket.{err_at};
-ghost use Rattle.my_wire.specs.Greeting.{greeting_at};
+ghost use Rattle.my_handshake.specs.Greeting.{greeting_at};
 ghost use Rattle.my_wire.specs.OkPacket.{end_ok_at, ok_at};
 ghost use Rattle.my_wire.specs.Server.{server_bytes};
 ghost use Rattle.my_wire.specs.Sent.{IsSentColumn, IsSentErr, IsSentGreeting, IsSentOk};
 
 use crate::column::Column;
 use crate::err::ErrPacket;
-use crate::greeting::Greeting;
 use crate::ok::OkPacket;
 use crate::server::ServerPacket;
+use my_handshake::Greeting;
 
 /// Each packet of a server is read back by its reader, where its numbers fit their bytes and its
 /// texts can be told. The cells of a row are read back by the reader of rows.

@@ -4,13 +4,12 @@ ghost use Rattle.std.specs.Prelude.{◌≡◌, ◌++◌, IfOk, OnOk, length};
 ghost use Rattle.std.specs.List.{flat_map};
 ghost use Rattle.my_wire.specs.Server.{cell_bytes, column_bytes, err_bytes, fitted, form_bytes, greeting_bytes, info_bytes, names_bytes, ok_bytes, server_bytes, settings_bytes};
 
-use crate::blob::Blob;
 use crate::column::Column;
 use crate::err::ErrPacket;
-use crate::greeting::Greeting;
-use crate::no_memory::NoMemory;
 use crate::ok::OkPacket;
-use crate::writing::{put_len, put_text, put_text0, put_u8, put_u16, put_u32};
+use my_frame::writing::{put_len, put_text, put_text0, put_u8, put_u16, put_u32};
+use my_frame::{Blob, NoMemory};
+use my_handshake::Greeting;
 use std::alloc::{AllocError, Global};
 
 /// A packet of the server.

@@ -57,11 +57,15 @@ fn packet_of(alloc: Global, case: Case, payload: &[u8]) -> Result<ServerPacket, 
     }
 }
 
+fn written(alloc: Global, case: Case, payload: &[u8]) -> Result<Vec<u8>, ReadError> {
+    let packet = packet_of(alloc, case, payload)?;
+    write_server(alloc, &packet).map_err(|_| ReadError::NoMemory)
+}
+
 #[test]
 fn ample_answers_are_written_as_they_were_read(rt: HostRuntime) -> Result<(), Fail> {
-    let alloc = rt.alloc();
     for (case, want) in ANSWERS {
-        let payload = write_server(alloc, &packet_of(alloc, *case, want)?)?;
+        let payload = written(rt.alloc(), *case, want)?;
         assert!(rt; payload.as_slice() == *want, "{payload:?}");
     }
     Ok(())

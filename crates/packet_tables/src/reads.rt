@@ -1,6 +1,6 @@
 use crate::line::{Kind, line_of};
 use crate::told::{ENDS, GREETINGS, OTHERS, SETS, Told};
-use my_wire::ReadError;
+use my_wire::{ReadError, read_eof};
 use std::alloc::Global;
 use std::process::Abort;
 use std::test::Fail;
@@ -42,4 +42,12 @@ fn ample_payloads_read_as_the_protocol_says(rt: HostRuntime) -> Result<(), Fail>
     are_read(&rt, alloc, ENDS)?;
     are_read(&rt, alloc, SETS)?;
     are_read(&rt, alloc, OTHERS)
+}
+
+#[test]
+fn ample_first(rt: HostRuntime) -> Result<(), Fail> {
+    let eof = read_eof(&[0xfe, 1, 0, 2, 0])?;
+    assert_eq!(rt; eof.warnings, 1);
+    assert_eq!(rt; eof.status, 2);
+    Ok(())
 }

@@ -1,5 +1,5 @@
 use Rattle.my_wire.specs.Column.{IsColumn, column_at}
-use Rattle.my_wire.proofs.ReadingLaws.{one_record}
+use Rattle.my_frame.proofs.ReadingLaws.{one_record}
 use Rattle.my_wire.proofs.ColumnLaws.{column_found, column_again}
 use Rattle.my_wire.proofs.column.column_is_read.Goals as goal
 

@@ -1,5 +1,5 @@
 use Rattle.my_wire.specs.Column.{IsColumn, column_at}
-use Rattle.my_wire.proofs.ReadingLaws.{reads_exactly}
+use Rattle.my_frame.proofs.ReadingLaws.{reads_exactly}
 use Rattle.my_wire.proofs.ColumnLaws.{column_found, column_again}
 use Rattle.my_wire.proofs.column.read_column.Goals as goal
 

@@ -1,5 +1,5 @@
 use Rattle.my_wire.specs.ColumnCount.{IsColumnCount, column_count_at}
-use Rattle.my_wire.proofs.ReadingLaws.{reads_plainly}
+use Rattle.my_frame.proofs.ReadingLaws.{reads_plainly}
 use Rattle.my_wire.proofs.ColumnCountLaws.{column_count_found, column_count_again}
 use Rattle.my_wire.proofs.column_count.read_column_count.Goals as goal
 

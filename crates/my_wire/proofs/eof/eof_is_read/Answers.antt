@@ -1,5 +1,5 @@
 use Rattle.my_wire.specs.EofPacket.{IsEof, eof_at}
-use Rattle.my_wire.proofs.ReadingLaws.{one_record}
+use Rattle.my_frame.proofs.ReadingLaws.{one_record}
 use Rattle.my_wire.proofs.EofLaws.{eof_found, eof_again}
 use Rattle.my_wire.proofs.eof.eof_is_read.Goals as goal
 

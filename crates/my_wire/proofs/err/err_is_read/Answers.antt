@@ -1,5 +1,5 @@
 use Rattle.my_wire.specs.ErrPacket.{IsErr, err_at}
-use Rattle.my_wire.proofs.ReadingLaws.{one_record}
+use Rattle.my_frame.proofs.ReadingLaws.{one_record}
 use Rattle.my_wire.proofs.ErrLaws.{err_found, err_again}
 use Rattle.my_wire.proofs.err.err_is_read.Goals as goal
 

@@ -1,5 +1,5 @@
 use Rattle.my_wire.specs.ErrPacket.{IsErr, err_at}
-use Rattle.my_wire.proofs.ReadingLaws.{reads_exactly}
+use Rattle.my_frame.proofs.ReadingLaws.{reads_exactly}
 use Rattle.my_wire.proofs.ErrLaws.{err_found, err_again}
 use Rattle.my_wire.proofs.err.read_err.Goals as goal
 

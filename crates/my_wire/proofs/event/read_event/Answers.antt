@@ -1,5 +1,5 @@
 use Rattle.my_wire.specs.Event.{IsEvent, event_at}
-use Rattle.my_wire.proofs.ReadingLaws.{reads_exactly}
+use Rattle.my_frame.proofs.ReadingLaws.{reads_exactly}
 use Rattle.my_wire.proofs.EventLaws.{event_found, event_again}
 use Rattle.my_wire.proofs.event.read_event.Goals as goal
 

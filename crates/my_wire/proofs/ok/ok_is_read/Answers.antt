@@ -1,5 +1,5 @@
 use Rattle.my_wire.specs.OkPacket.{IsOk, IsEndOk, ok_at, end_ok_at}
-use Rattle.my_wire.proofs.ReadingLaws.{one_record}
+use Rattle.my_frame.proofs.ReadingLaws.{one_record}
 use Rattle.my_wire.proofs.OkLaws.{ok_found, ok_again, end_ok_found, end_ok_again}
 use Rattle.my_wire.proofs.ok.ok_is_read.Goals as goal
 

@@ -1,5 +1,5 @@
 use Rattle.my_wire.specs.OkPacket.{IsEndOk, end_ok_at}
-use Rattle.my_wire.proofs.ReadingLaws.{reads_exactly}
+use Rattle.my_frame.proofs.ReadingLaws.{reads_exactly}
 use Rattle.my_wire.proofs.OkLaws.{end_ok_found, end_ok_again}
 use Rattle.my_wire.proofs.ok.read_end_ok.Goals as goal
 

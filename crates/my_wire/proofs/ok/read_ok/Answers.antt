@@ -1,5 +1,5 @@
 use Rattle.my_wire.specs.OkPacket.{IsOk, ok_at}
-use Rattle.my_wire.proofs.ReadingLaws.{reads_exactly}
+use Rattle.my_frame.proofs.ReadingLaws.{reads_exactly}
 use Rattle.my_wire.proofs.OkLaws.{ok_found, ok_again}
 use Rattle.my_wire.proofs.ok.read_ok.Goals as goal
 

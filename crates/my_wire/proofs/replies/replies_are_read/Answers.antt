@@ -1,5 +1,5 @@
 use Rattle.my_wire.specs.Replies.{IsPrepareOk, prepare_ok_at}
-use Rattle.my_wire.proofs.ReadingLaws.{one_record}
+use Rattle.my_frame.proofs.ReadingLaws.{one_record}
 use Rattle.my_wire.proofs.ReplyLaws.{prepare_ok_found, prepare_ok_again}
 use Rattle.my_wire.proofs.replies.replies_are_read.Goals as goal
 

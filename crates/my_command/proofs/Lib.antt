@@ -1,0 +1,2 @@
+mod ReplicaLaws
+mod StatementLaws

@@ -1,0 +1,4 @@
+-- How a client's packets are written.
+pub mod Packet
+pub mod Replica
+pub mod Statement

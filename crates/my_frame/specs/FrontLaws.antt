@@ -1,0 +1,27 @@
+-- What the function of specs/Front.antt means for the chunks of payloads and for faults.
+use Rattle.std.specs.Prelude.{◌≡◌, ℕ, ◌^◌, ◌<◌, ◌≤◌, List, ◌++◌, length, slice_index}
+use Rattle.my_frame.specs.Chunks.{chunks, number_behind}
+use Rattle.my_frame.specs.Faults.{Faulty, HasNoPayload, HasNoFault}
+use Rattle.my_frame.specs.Front.{Front, Waiting, Broken, Whole}
+
+-- The list holds bytes.
+pub record AreBytes (bytes : List ℕ) : Type 0 where
+  pub below : (k : ℕ) → slice_index bytes k < 2 ^ 8
+
+-- The chunks of the payload stand in front of the rest, and it has at most limit bytes.
+pub record IsWhole (n limit : ℕ) (bytes payload rest : List ℕ) (next : ℕ) : Type 0 where
+  pub spelled : bytes ≡ chunks payload n ++ rest
+  pub within : length payload ≤ limit
+  pub next_is : next ≡ number_behind payload n
+
+-- what it means that this stands in front of the bytes
+abbrev pub FrontMeans : ℕ → ℕ → List ℕ → Front → Type 0
+FrontMeans n limit bytes Waiting = HasNoPayload bytes n × HasNoFault bytes n limit
+FrontMeans n limit bytes (Broken fault) = Faulty bytes n 0 limit fault
+FrontMeans n limit bytes (Whole payload rest next) = IsWhole n limit bytes payload rest next
+
+-- what stands in front once more bytes came
+abbrev pub FrontGrows : List ℕ → Front → Front → Type 0
+FrontGrows more Waiting later = Unit {0}
+FrontGrows more (Broken fault) later = later ≡ Broken fault
+FrontGrows more (Whole payload rest next) later = later ≡ Whole payload (rest ++ more) next

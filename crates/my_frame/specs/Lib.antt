@@ -1,0 +1,13 @@
+pub mod Chunks
+pub mod Codec
+pub mod Faults
+pub mod Framed
+pub mod Front
+pub mod FrontLaws
+pub mod Numbers
+pub mod Numeral
+pub mod Outside
+pub mod Reading
+pub mod Sinks
+pub mod Sources
+pub mod Writing

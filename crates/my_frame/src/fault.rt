@@ -1,0 +1,42 @@
+//! Why a payload could not be read or written.
+
+ghost use Rattle.std.specs.Prelude.{◌≡◌};
+ghost use Rattle.my_frame.specs.declared.fault.CodecError.TheVariants.{Fault, NoMemory};
+
+use std::alloc::AllocError;
+use thiserror::Error;
+
+/// What is wrong with a stream of chunks, or with a payload that is to be sent: a chunk came with the number `found` where
+/// `expected` is the next one, or a payload has at least `length` bytes, which is more than `limit`.
+#[derive(Clone, Copy, Debug, PartialEq, Eq, Error)]
+pub enum CodecFault {
+    #[error("packet out of order: expected number {expected}, found {found}")]
+    OutOfOrder { expected: u8, found: u8 },
+    #[error("packet too large: {length} bytes, the limit is {limit}")]
+    TooLarge { length: u64, limit: u64 },
+}
+
+/// What a codec answers where it can't read or write a payload.
+#[derive(Debug, Drop, Error)]
+pub enum CodecError {
+    #[error(transparent)]
+    Fault(CodecFault),
+    #[error("out of memory")]
+    NoMemory,
+}
+
+impl From<AllocError> for CodecError {
+    ghost from_gives = { λ _ e. e ≡ NoMemory };
+
+    fn from(_e: AllocError) -> CodecError {
+        CodecError::NoMemory
+    }
+}
+
+impl From<CodecFault> for CodecError {
+    ghost from_gives = { λ fault e. e ≡ Fault fault };
+
+    fn from(fault: CodecFault) -> CodecError {
+        CodecError::Fault(fault)
+    }
+}

@@ -1,0 +1,25 @@
+//! Why a packet could not be read.
+
+ghost use Rattle.std.specs.Prelude.{◌≡◌};
+ghost use Rattle.my_frame.specs.declared.read_error.ReadError.TheVariants.{NoMemory};
+
+use std::alloc::AllocError;
+use thiserror::Error;
+
+/// What a reader of packets answers where it gives no record: the payload is no record of the kind that is read, or an
+/// allocation failed.
+#[derive(Clone, Copy, Debug, PartialEq, Eq, Error)]
+pub enum ReadError {
+    #[error("malformed packet")]
+    Malformed,
+    #[error("out of memory")]
+    NoMemory,
+}
+
+impl From<AllocError> for ReadError {
+    ghost from_gives = { λ _ e. e ≡ NoMemory };
+
+    fn from(_e: AllocError) -> ReadError {
+        ReadError::NoMemory
+    }
+}

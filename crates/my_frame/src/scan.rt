@@ -1,0 +1,55 @@
+//! Where the chunks of a payload stand, found without taking memory.
+
+ghost use Rattle.std.specs.Prelude.{◌≡◌, length};
+ghost use Rattle.my_frame.specs.Front.{front_at, span_of};
+
+use crate::fault::CodecFault;
+use crate::header::read_header;
+
+/// How many bytes a full chunk carries. A chunk with fewer is the last of its payload.
+pub const FULL_LENGTH: usize = 0xFF_FFFF;
+
+/// The chunks of one payload: how many bytes they take with their headers, and the number behind theirs.
+#[derive(Clone, Copy, Debug, PartialEq, Eq)]
+pub struct Span {
+    pub len: usize,
+    pub next: u8,
+}
+
+/// Looks for a whole payload at the front of the bytes, whose chunks are numbered from `number` on and which has at most `limit`
+/// bytes. `Ok(None)` means that neither it nor a fault stands there yet.
+pub fn scan_front(bytes: &[u8], number: u8, limit: u64) -> Result<Option<Span>, CodecFault>
+    ensures { result ≡ span_of bytes.now (front_at number limit bytes.now) }
+{
+    let mut rest = bytes;
+    let mut expected = number;
+    let mut before: u64 = 0;
+    'chunks: while rest.len() >= 4 {
+        let header = read_header(rest);
+        if header.number != expected {
+            return Err(CodecFault::OutOfOrder {
+                expected,
+                found: header.number,
+            });
+        }
+        let length = before + header.len as u64;
+        if length > limit {
+            return Err(CodecFault::TooLarge { length, limit });
+        }
+        let (_, body) = rest.split_at(4);
+        if body.len() < header.len {
+            return Ok(None);
+        }
+        let (_, after) = body.split_at(header.len);
+        expected = expected.wrapping_add(1);
+        if header.len < FULL_LENGTH {
+            return Ok(Some(Span {
+                len: bytes.len() - after.len(),
+                next: expected,
+            }));
+        }
+        rest = after;
+        before = length;
+    }
+    Ok(None)
+}

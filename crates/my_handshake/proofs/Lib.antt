@@ -1,0 +1,3 @@
+mod AttributeLaws
+pub mod GreetingLaws
+mod SwitchLaws

@@ -1,0 +1,5 @@
+pub mod Attributes
+pub mod Greeting
+pub mod Login
+pub mod SwitchRequest
+pub mod Version

@@ -1,0 +1,34 @@
+-- How the packets are written by which a client logs in.
+-- MySQL internals, "Connection Phase Packets": HandshakeResponse41; "Utility Commands": COM_CHANGE_USER; MariaDB, "Connecting": Handshake Response Packet, whose last four filler bytes are the client's further capabilities.
+use Rattle.std.specs.Prelude.{ℕ, List, [], ◌++◌, bit_and, replicate, Option, Some, None, ◌==◌, if◌then◌else◌}
+use Rattle.my_frame.specs.Writing.{le_bytes, short_bytes, text0_bytes}
+use Rattle.my_handshake.specs.Attributes.{attributes_bytes}
+use Rattle.my_handshake.specs.declared.attributes.Attribute.{Attribute}
+use Rattle.my_handshake.specs.declared.login.HandshakeResponse.{HandshakeResponse}
+use Rattle.my_handshake.specs.declared.login.ChangeUser.{ChangeUser}
+
+-- the numbers of a response, with 19 zero bytes
+abbrev pub settings_bytes : HandshakeResponse → List ℕ
+settings_bytes r = le_bytes 4 r.capabilities ++ le_bytes 4 r.max_packet ++ le_bytes 1 r.charset ++ replicate 19 0 ++ le_bytes 4 r.extended
+
+-- who logs in, and the answer to the nonce
+abbrev pub names_bytes : List ℕ → List ℕ → List ℕ
+names_bytes user scramble = text0_bytes user ++ short_bytes scramble
+
+-- the database where CONNECT_WITH_DB is kept, the plugin, and the attributes where CONNECT_ATTRS is kept
+abbrev pub kept_bytes : HandshakeResponse → List ℕ
+kept_bytes r =
+    (if bit_and r.capabilities 0x8 == 0 then [] else text0_bytes r.database) ++ text0_bytes r.plugin ++ (if bit_and r.capabilities 0x100000 == 0 then [] else attributes_bytes r.attributes)
+
+-- The answer to the server's greeting.
+abbrev pub response_bytes : HandshakeResponse → List ℕ
+response_bytes r = settings_bytes r ++ names_bytes r.user r.scramble ++ kept_bytes r
+
+abbrev pub maybe_attributes : Option (List Attribute) → List ℕ
+maybe_attributes None = []
+maybe_attributes (Some pairs) = attributes_bytes pairs
+
+-- A new login on a connection that stands.
+abbrev pub change_user_bytes : ChangeUser → List ℕ
+change_user_bytes c =
+    le_bytes 1 0x11 ++ names_bytes c.user c.scramble ++ text0_bytes c.database ++ le_bytes 2 c.charset ++ text0_bytes c.plugin ++ maybe_attributes c.attributes

@@ -1,0 +1,139 @@
+//! The packet by which a server greets.
+
+ghost use Rattle.std.specs.Prelude.{◌≡◌, ◌↔◌, ◌++◌, IfOk, List, ℕ, Some};
+ghost use Rattle.std.specs.Option.{option_map};
+ghost use Rattle.my_frame.specs.Reading.{Gives, ReadsExactly};
+ghost use Rattle.my_handshake.specs.Greeting.{IsGreeting, first_at, greeting_at, second_at, settings_at};
+
+use my_frame::numbers::{
+    before_zero, take_bytes, take_head, take_text0, take_u8, take_u16, take_u32,
+};
+use my_frame::{Blob, ReadError};
+use std::alloc::{AllocError, Global};
+
+/// PROTOCOL_41, SECURE_CONNECTION and PLUGIN_AUTH, without which a server isn't spoken to.
+pub const NEEDED_CAPABILITIES: u32 = 0x0008_8200;
+
+/// What a server says first.
+#[derive(Debug, Drop, PartialEq, Eq)]
+pub struct Greeting {
+    /// The server's version as text.
+    pub version: Blob,
+    /// The connection's number.
+    pub id: u32,
+    /// 20 random bytes.
+    pub nonce: Blob,
+    /// The bits of what the server can do.
+    pub capabilities: u32,
+    /// The server's status bits.
+    pub status: u16,
+    /// The name of the way to log in.
+    pub plugin: Blob,
+    /// MariaDB's further capability bits.
+    pub extended: u32,
+}
+
+// What stands between the two parts of the nonce.
+#[derive(Clone, Copy)]
+struct Settings {
+    capabilities: u32,
+    status: u16,
+    nonce_length: u8,
+    extended: u32,
+}
+
+// Version, number and the nonce's first part.
+fn first_of(payload: &[u8]) -> Option<((&[u8], u32, &[u8]), &[u8])>
+    ensures { option_map (λ x. ((x.0.0.now, x.0.1, x.0.2.now), x.1.now)) result ≡ first_at payload.now }
+{
+    let rest = take_head(payload, 10)?;
+    let (version, rest) = take_text0(rest)?;
+    let (id, rest) = take_u32(rest)?;
+    let (first, rest) = take_bytes(rest, 8)?;
+    let rest = take_head(rest, 0)?;
+    Some(((version, id, first), rest))
+}
+
+#[tactic(auto, unfolding(crate::specs::Greeting::settings_at))]
+fn settings_of(bytes: &[u8]) -> Option<(Settings, &[u8])>
+    ensures { option_map (λ x. (x.0, x.1.now)) result ≡ settings_at bytes.now }
+{
+    let (low, rest) = take_u16(bytes)?;
+    let (_charset, rest) = take_u8(rest)?;
+    let (status, rest) = take_u16(rest)?;
+    let (high, rest) = take_u16(rest)?;
+    let (nonce_length, rest) = take_u8(rest)?;
+    let (_reserved, rest) = take_bytes(rest, 6)?;
+    let (extended, rest) = take_u32(rest)?;
+    let settings = Settings {
+        capabilities: u32::from(low) + 65_536 * u32::from(high),
+        status,
+        nonce_length,
+        extended,
+    };
+    Some((settings, rest))
+}
+
+// The nonce's second part, of which 12 bytes count, and the plugin's name.
+fn second_of(nonce_length: u8, bytes: &[u8]) -> Option<(&[u8], &[u8])>
+    ensures { option_map (λ x. (x.0.now, x.1.now)) result ≡ second_at nonce_length bytes.now }
+{
+    let count = usize::from(nonce_length.saturating_sub(8)).max(13);
+    let (second, rest) = take_bytes(bytes, count)?;
+    Some((&second[..12], before_zero(rest)))
+}
+
+fn joined(alloc: Global, first: &[u8], second: &[u8]) -> Result<Blob, AllocError>
+    ensures { IfOk result (λ b. b ≡ first.now ++ second.now) }
+{
+    let mut bytes = Vec::from_slice(alloc, first)?;
+    bytes.extend_from_slice(second)?;
+    Ok(Blob::from(bytes))
+}
+
+fn greeting_of(alloc: Global, payload: &[u8]) -> Result<Greeting, ReadError>
+    ensures { Gives result (greeting_at payload.now) }
+{
+    let ((version, id, first), rest) = first_of(payload).ok_or(ReadError::Malformed)?;
+    let (settings, rest) = settings_of(rest).ok_or(ReadError::Malformed)?;
+    let (second, plugin) = second_of(settings.nonce_length, rest).ok_or(ReadError::Malformed)?;
+    if settings.capabilities & NEEDED_CAPABILITIES != NEEDED_CAPABILITIES {
+        return Err(ReadError::Malformed);
+    }
+    Ok(Greeting {
+        version: Blob::from_slice(alloc, version)?,
+        id,
+        nonce: joined(alloc, first, second)?,
+        capabilities: settings.capabilities,
+        status: settings.status,
+        plugin: Blob::from_slice(alloc, plugin)?,
+        extended: settings.extended,
+    })
+}
+
+/// Reads a server's greeting. One without `NEEDED_CAPABILITIES` is malformed.
+pub fn read_greeting(alloc: Global, payload: &[u8]) -> Result<Greeting, ReadError>
+    ensures gives { Gives result (greeting_at payload.now) }
+    ensures exact { ReadsExactly (IsGreeting payload.now) result }
+{
+    greeting_of(alloc, payload)
+}
+
+/// The capability bits that a server offers and the name of the way to log in, if it is a greeting.
+pub fn greeting_offer(payload: &[u8]) -> Option<(u32, &[u8])>
+    ensures { option_map (λ x. (x.0, x.1.now)) result ≡ option_map {U = ℕ × List ℕ} (λ g. (g.capabilities, g.plugin)) (greeting_at payload.now) }
+{
+    let (_begun, rest) = first_of(payload)?;
+    let (settings, rest) = settings_of(rest)?;
+    let (_second, plugin) = second_of(settings.nonce_length, rest)?;
+    if settings.capabilities & NEEDED_CAPABILITIES != NEEDED_CAPABILITIES {
+        return None;
+    }
+    Some((settings.capabilities, plugin))
+}
+
+/// A payload is at most one such record, which is what reading gives.
+pub fn greeting_is_read()
+    ensures greeting { (payload : List ℕ) (x : Greeting) → (greeting_at payload ≡ Some x) ↔ IsGreeting payload x }
+    ensures one_greeting { (payload : List ℕ) (x y : Greeting) → IsGreeting payload x → IsGreeting payload y → x ≡ y }
+{}

@@ -1,0 +1,89 @@
+//! The packets of logging in that ask for more.
+
+ghost use Rattle.std.specs.Prelude.{◌≡◌, ◌↔◌, List, ℕ, Some};
+ghost use Rattle.std.specs.Option.{ok_or, option_map};
+ghost use Rattle.my_frame.specs.Reading.{Gives, ReadsExactly};
+ghost use Rattle.my_handshake.specs.SwitchRequest.{IsMoreData, IsSwitch, asked_at, more_data_at, switch_at, without_last_zero};
+
+use my_frame::numbers::{take_head, take_text0, take_u8};
+use my_frame::{Blob, ReadError};
+use std::alloc::Global;
+
+/// The server wants another way to log in.
+#[derive(Debug, Drop, PartialEq, Eq)]
+pub struct SwitchRequest {
+    /// Its name.
+    pub plugin: Blob,
+    /// The random bytes to answer, none where the server told none.
+    pub nonce: Blob,
+}
+
+/// The way to log in tells something.
+#[derive(Clone, Copy, Debug, PartialEq, Eq)]
+pub struct MoreData {
+    /// Its first byte.
+    pub kind: u8,
+}
+
+fn without_last_zero(left: &[u8]) -> &[u8]
+    ensures { result.now ≡ without_last_zero left.now }
+{
+    match left {
+        [front @ .., 0] => front,
+        _ => left,
+    }
+}
+
+// The name and the nonce; the bare head asks for the oldest way.
+fn asked_of(rest: &[u8]) -> Option<(&[u8], &[u8])>
+    ensures { option_map (λ x. (x.0.now, x.1.now)) result ≡ asked_at rest.now }
+{
+    if rest.is_empty() {
+        return Some((b"mysql_old_password", rest));
+    }
+    let (plugin, left) = take_text0(rest)?;
+    Some((plugin, without_last_zero(left)))
+}
+
+fn switch_of(alloc: Global, payload: &[u8]) -> Result<SwitchRequest, ReadError>
+    ensures { Gives result (switch_at payload.now) }
+{
+    let rest = take_head(payload, 0xFE).ok_or(ReadError::Malformed)?;
+    let (plugin, nonce) = asked_of(rest).ok_or(ReadError::Malformed)?;
+    Ok(SwitchRequest {
+        plugin: Blob::from_slice(alloc, plugin)?,
+        nonce: Blob::from_slice(alloc, nonce)?,
+    })
+}
+
+/// Reads that the server wants another way to log in. The bare head asks for `mysql_old_password`.
+pub fn read_switch(alloc: Global, payload: &[u8]) -> Result<SwitchRequest, ReadError>
+    ensures gives { Gives result (switch_at payload.now) }
+    ensures exact { ReadsExactly (IsSwitch payload.now) result }
+{
+    switch_of(alloc, payload)
+}
+
+fn more_data_of(payload: &[u8]) -> Option<MoreData>
+    ensures { result ≡ more_data_at payload.now }
+{
+    let rest = take_head(payload, 0x01)?;
+    let (kind, _) = take_u8(rest)?;
+    Some(MoreData { kind })
+}
+
+/// Reads that the way to log in tells something. What follows its first byte is ignored.
+pub fn read_more_data(payload: &[u8]) -> Result<MoreData, ReadError>
+    ensures gives { result ≡ ok_or (more_data_at payload.now) ReadError.Malformed }
+    ensures exact { ReadsExactly (IsMoreData payload.now) result }
+{
+    more_data_of(payload).ok_or(ReadError::Malformed)
+}
+
+/// A payload is at most one such record, which is what reading gives.
+pub fn switch_is_read()
+    ensures switch { (payload : List ℕ) (x : SwitchRequest) → (switch_at payload ≡ Some x) ↔ IsSwitch payload x }
+    ensures one_switch { (payload : List ℕ) (x y : SwitchRequest) → IsSwitch payload x → IsSwitch payload y → x ≡ y }
+    ensures more_data { (payload : List ℕ) (x : MoreData) → (more_data_at payload ≡ Some x) ↔ IsMoreData payload x }
+    ensures one_more_data { (payload : List ℕ) (x y : MoreData) → IsMoreData payload x → IsMoreData payload y → x ≡ y }
+{}

@@ -1,5 +1,0 @@
-use Rattle.my_wire.proofs.AttributeLaws.{put_keeps_order}
-use Rattle.my_wire.proofs.attributes.attributes_stay_in_order.Goals as goal
-
-pub returns : goal.returns
-returns c = put_keeps_order

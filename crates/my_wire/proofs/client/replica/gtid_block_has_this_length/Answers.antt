@@ -1,5 +1,0 @@
-use Rattle.my_wire.proofs.ReplicaLaws.{block_long}
-use Rattle.my_wire.proofs.client.replica.gtid_block_has_this_length.Goals as goal
-
-pub returns : goal.returns
-returns c = block_long

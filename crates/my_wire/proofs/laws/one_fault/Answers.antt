@@ -1,5 +1,0 @@
-use Rattle.my_wire.proofs.Fronts.{one_fault as blamed_once}
-use Rattle.my_wire.proofs.laws.one_fault.Goals as goal
-
-pub returns : goal.returns
-returns c = blamed_once

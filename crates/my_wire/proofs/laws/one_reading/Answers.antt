@@ -1,5 +1,0 @@
-use Rattle.my_wire.proofs.Fronts.{one_reading as read_once}
-use Rattle.my_wire.proofs.laws.one_reading.Goals as goal
-
-pub returns : goal.returns
-returns c = read_once
