@@ -13,7 +13,8 @@ use Rattle.my_opts.specs.Opts.{OptsView}
 use Rattle.my_opts.specs.Pool.{Bounds}
 use Rattle.my_opts.specs.Query.{table, row_among, text_pair, put_number, put_truth, set_or_refused, after_row, after_pair, after_pairs, and_then}
 use Rattle.my_opts.specs.Url.{begun, gathered, bounds_told, finished}
-use Rattle.my_opts.specs.Values.{truth, whole_number}
+use Rattle.my_frame.specs.Numeral.{whole_number}
+use Rattle.my_opts.specs.Values.{truth}
 use Rattle.my_opts.specs.Built.{set_number, set_truth, set_where_read, set_row, set_pairs, GivesWhatIsBuilt}
 
 -- the options that what is gathered stands for

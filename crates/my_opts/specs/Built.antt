@@ -13,7 +13,8 @@ use Rattle.my_opts.specs.Opts.{OptsView, default_opts, packet_limit, waiting_lim
 use Rattle.my_opts.specs.Pool.{PoolView, Bounds, interval_of}
 use Rattle.my_opts.specs.Query.{table, row_among, text_pair}
 use Rattle.my_opts.specs.Url.{decoded, unless_empty, first_segment, url_of, options_of}
-use Rattle.my_opts.specs.Values.{truth, whole_number}
+use Rattle.my_frame.specs.Numeral.{whole_number}
+use Rattle.my_opts.specs.Values.{truth}
 
 -- the builder with this pool
 abbrev pub set_pool : PoolView → OptsView → OptsView

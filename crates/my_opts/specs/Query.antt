@@ -13,7 +13,8 @@ use Rattle.my_opts.specs.declared.query.Row.TheVariants.{Truth, Whole32, Whole64
 use Rattle.my_opts.specs.declared.query.Gathered.{Gathered}
 use Rattle.my_opts.specs.Opts.{packet_limit, waiting_limit}
 use Rattle.my_opts.specs.Pool.{interval_of}
-use Rattle.my_opts.specs.Values.{truth, whole_number, is_compression}
+use Rattle.my_frame.specs.Numeral.{whole_number}
+use Rattle.my_opts.specs.Values.{truth, is_compression}
 
 -- each name with how its value reads and which option it sets
 abbrev pub table : List (List ℕ × Row)

@@ -10,7 +10,7 @@ use crate::millis::Millis;
 use crate::opts::{DEFAULT_PORT, DEFAULT_STMT_CACHE_SIZE, Opts};
 use crate::pool::PoolOpts;
 use crate::text::text_of;
-use my_wire::{NoMemory, Text};
+use my_frame::{NoMemory, Text};
 use std::alloc::Global;
 use std::collections::BTreeMap;
 use std::marker::Model;

@@ -4,7 +4,7 @@ ghost use Rattle.std.specs.Prelude.{◌≡◌, ◌+◌, sum};
 ghost use Rattle.my_opts.specs.Capabilities.{client_bits, database_bit, found_rows_bit};
 
 use bitflags::Flags;
-use my_wire::CapabilityFlags;
+use my_flags::CapabilityFlags;
 
 /// What a client can do that names a database or not, and asks for found rows or not.
 pub(crate) fn client_capabilities(database: bool, found_rows: bool) -> CapabilityFlags

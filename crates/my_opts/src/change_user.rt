@@ -5,7 +5,7 @@ ghost use Rattle.my_opts.specs.ChangeUser.{no_change, changed_opts, IsUnchangedB
 
 use crate::opts::Opts;
 use crate::text::{copied, shown, text_of};
-use my_wire::{NoMemory, Text};
+use my_frame::{NoMemory, Text};
 use std::alloc::Global;
 use std::marker::Model;
 

@@ -2,7 +2,7 @@
 
 ghost use Rattle.std.specs.Prelude.{◌≡◌, IfOk};
 
-use my_wire::{NoMemory, Text};
+use my_frame::{NoMemory, Text};
 use std::alloc::{AllocError, Global};
 use std::fmt;
 

@@ -12,7 +12,7 @@ use crate::error::{UrlError, UrlFault};
 use crate::opts::Opts;
 use crate::pool::{PoolConstraints, PoolOpts};
 use crate::query::{Gathered, feature_required};
-use my_wire::{NoMemory, Text};
+use my_frame::{NoMemory, Text};
 use percent_encoding::percent_decode;
 use std::alloc::Global;
 use url::{ParseError, Url};

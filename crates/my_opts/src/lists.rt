@@ -3,7 +3,7 @@
 ghost use Rattle.std.specs.Prelude.{◌≡◌, [], ◌∷◌, map, IfOk, IfErr, string_bytes, option_map, option_copied, unwrap_or};
 ghost use Rattle.my_opts.specs.Lists.{pair_bytes, with_attribute};
 
-use my_wire::NoMemory;
+use my_frame::NoMemory;
 use std::alloc::Global;
 use std::collections::BTreeMap;
 use std::marker::Model;

@@ -3,14 +3,15 @@
 ghost use Rattle.std.specs.Prelude.{◌≡◌, Some, Ok};
 ghost use Rattle.my_opts.specs.Faults.{Tells, IsFault};
 ghost use Rattle.my_opts.specs.Query.{table, row_among, put_number, put_truth, put_socket, set_or_refused, compression_error, after_row, after_pair};
-ghost use Rattle.my_opts.specs.Values.{truth, whole_number};
+ghost use Rattle.my_frame.specs.Numeral.{whole_number};
+ghost use Rattle.my_opts.specs.Values.{truth};
 
 use crate::builder::OptsBuilder;
 use crate::error::{UrlError, UrlFault};
 use crate::millis::Millis;
 use crate::pool::{PoolConstraints, PoolOpts};
 use crate::values::{is_compression, truth_of, whole32, whole64};
-use my_wire::Text;
+use my_frame::Text;
 use std::alloc::Global;
 
 /// An option whose value is a truth value.

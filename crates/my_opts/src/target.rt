@@ -1,7 +1,7 @@
 //! Where a connection is made.
 
 use crate::lists::Listed;
-use my_wire::Text;
+use my_frame::Text;
 use std::net::IpAddr;
 
 /// Where a connection is made.

@@ -2,7 +2,7 @@
 
 ghost use Rattle.std.specs.Prelude.{◌≡◌, IfOk, string_bytes, option_map, option_copied};
 
-use my_wire::{NoMemory, Text};
+use my_frame::{NoMemory, Text};
 use std::alloc::Global;
 
 /// The text, where there is one.

@@ -1,7 +1,8 @@
 //! How the value of an option reads in a URL's query.
 
 ghost use Rattle.std.specs.Prelude.{◌≡◌};
-ghost use Rattle.my_opts.specs.Values.{truth, whole_number, is_compression};
+ghost use Rattle.my_frame.specs.Numeral.{whole_number};
+ghost use Rattle.my_opts.specs.Values.{truth, is_compression};
 
 /// A truth value: `true` or `false`.
 pub(crate) fn truth_of(text: &str) -> Option<bool>

@@ -10,8 +10,8 @@ ghost use Rattle.my_pool_core.specs.Sound.{IsRising};
 ghost use Rattle.my_pool_core.specs.Live.{IsQueue};
 
 use crate::request::{LAST, Request, Standing};
+use my_frame::NoMemory;
 use my_wait_heap::{Ledger, Uncounted, WaitHeap};
-use my_wire::NoMemory;
 use std::alloc::Global;
 use std::marker::Model;
 

@@ -1,8 +1,8 @@
 -- The cells of a binary row, as a relation and as what is read.
 use Rattle.std.proofs.Common.{◌≡◌, ℕ, ◌+◌, inl, inr, List, [], ◌∷◌, ◌++◌, length, Bool, true, false, eqb, Option, Some, None, refl, sym, ap, subst, ◌∙◌, arith}
 use Rattle.std.proofs.lemmas.Bool.Decides.{nat_tests}
-use Rattle.my_wire.specs.Numbers.{IsNumber, number_at, bytes_at}
-use Rattle.my_wire.proofs.NumberLaws.{bind_then, chosen, same_pair, bytes_found, bytes_again, number_found, number_again, text_again}
+use Rattle.my_frame.specs.Numbers.{IsNumber, number_at, bytes_at}
+use Rattle.my_frame.proofs.NumberLaws.{bind_then, chosen, same_pair, bytes_found, bytes_again, number_found, number_again, text_again}
 use Rattle.my_wire.specs.declared.column.Column.{Column}
 use Rattle.std.specs.Int.{w8, w16, w32}
 use Rattle.my_value.specs.declared.value.Value.{Value}

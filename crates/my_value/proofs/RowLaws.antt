@@ -1,6 +1,6 @@
 -- One more cell of a row.
 use Rattle.std.proofs.Common.{◌≡◌, ℕ, suc, ◌+◌, ◌-◌, ◌<◌, List, [], ◌∷◌, ◌++◌, Option, Some, None, refl, sym, ap, ◌∙◌, arith, append_assoc}
-use Rattle.my_wire.specs.Numbers.{◌>>=◌}
+use Rattle.my_frame.specs.Numbers.{◌>>=◌}
 use Rattle.my_value.specs.declared.value.Value.{Value}
 use Rattle.my_value.specs.TextRow.{text_cell_at, text_cells_at, behind}
 

@@ -1,8 +1,8 @@
 -- The cells of a text row, as a relation and as what is read.
 use Rattle.std.proofs.Common.{◌≡◌, ℕ, zero, suc, inl, inr, List, [], ◌∷◌, length, true, false, cond, eqb, Some, None, refl, sym, ap, subst, ◌∙◌, arith}
 use Rattle.std.proofs.lemmas.Bool.Decides.{nat_tests}
-use Rattle.my_wire.specs.Numbers.{IsText, text_at}
-use Rattle.my_wire.proofs.NumberLaws.{bind_then, chosen, same_pair, text_found, text_again}
+use Rattle.my_frame.specs.Numbers.{IsText, text_at}
+use Rattle.my_frame.proofs.NumberLaws.{bind_then, chosen, same_pair, text_found, text_again}
 use Rattle.my_value.specs.declared.value.Value.{Value}
 use Rattle.my_value.specs.declared.value.Value.TheVariants.{NULL, Bytes, Int, UInt, FloatBits, DoubleBits, Date, Time}
 use Rattle.my_value.specs.TextRow.{IsTextCell, AreTextCells, IsTextRow, text_cell_at, text_cells_at, text_row_at, text_value_at, whole}

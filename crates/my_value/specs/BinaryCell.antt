@@ -2,7 +2,7 @@
 -- MySQL internals, "Binary Protocol Value": the encodings by column type.
 use Rattle.std.specs.Prelude.{◌≡◌, ℕ, ◌+◌, Bool, ◌||◌, ◌&&◌, pos, List, [], ◌∷◌, ◌++◌, length, slice_index, Option, Some, None, ◌==◌, nat_le, if◌then◌else◌}
 use Rattle.std.specs.Int.{Width, w8, w16, w32, w64, cast_signed}
-use Rattle.my_wire.specs.Numbers.{IsNumber, IsText, le_value, number_at, bytes_at, ◌>>=◌}
+use Rattle.my_frame.specs.Numbers.{IsNumber, IsText, le_value, number_at, bytes_at, ◌>>=◌}
 use Rattle.my_value.specs.TextRow.{text_value_at}
 use Rattle.my_value.specs.declared.value.Value.{Value}
 use Rattle.my_value.specs.declared.value.Value.TheVariants as values

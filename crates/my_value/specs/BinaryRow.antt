@@ -2,7 +2,7 @@
 -- MySQL internals, "Binary Protocol Resultset Row" and "NULL-Bitmap".
 use Rattle.std.specs.Prelude.{◌≡◌, ℕ, ◌+◌, ◌/◌, ◌%◌, Bool, true, false, List, [], ◌∷◌, ◌++◌, length, slice_index, Option, Some, None, ◌==◌, if◌then◌else◌}
 use Rattle.std.specs.Int.{bit_at}
-use Rattle.my_wire.specs.Numbers.{bytes_at, ◌>>=◌}
+use Rattle.my_frame.specs.Numbers.{bytes_at, ◌>>=◌}
 use Rattle.my_wire.specs.declared.column.Column.{Column}
 use Rattle.my_value.specs.declared.value.Value.{Value}
 use Rattle.my_value.specs.declared.value.Value.TheVariants.{NULL}

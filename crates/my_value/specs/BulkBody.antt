@@ -2,7 +2,7 @@
 -- MariaDB, "COM_STMT_BULK_EXECUTE".
 use Rattle.std.specs.Prelude.{ℕ, ◌+◌, Bool, true, false, ◌&&◌, ◌||◌, List, [], ◌∷◌, ◌++◌, ◌==◌, if◌then◌else◌}
 use Rattle.std.specs.List.{flat_map}
-use Rattle.my_wire.specs.Writing.{le_bytes}
+use Rattle.my_frame.specs.Writing.{le_bytes}
 use Rattle.my_value.specs.declared.value.Value.{Value}
 use Rattle.my_value.specs.declared.value.Value.TheVariants.{NULL, Bytes, Int, UInt, FloatBits, DoubleBits, Date, Time}
 use Rattle.my_value.specs.declared.sending.ParamType.{ParamType}

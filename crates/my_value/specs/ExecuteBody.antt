@@ -2,7 +2,7 @@
 -- MySQL internals, "COM_STMT_EXECUTE" and "COM_STMT_SEND_LONG_DATA".
 use Rattle.std.specs.Prelude.{ℕ, zero, suc, ◌+◌, ◌*◌, ◌/◌, Bool, true, false, List, [], ◌∷◌, ◌++◌, length, drop, slice_get, Option, Some, None, nat_lt}
 use Rattle.std.specs.List.{flat_map}
-use Rattle.my_wire.specs.Writing.{le_bytes}
+use Rattle.my_frame.specs.Writing.{le_bytes}
 use Rattle.my_value.specs.declared.value.Value.{Value}
 use Rattle.my_value.specs.declared.value.Value.TheVariants.{NULL, Bytes, Int, UInt, FloatBits, DoubleBits, Date, Time}
 use Rattle.my_value.specs.Sending.{type_of, type_bytes, value_bytes, values_len}

@@ -1,7 +1,7 @@
 -- A row of the text protocol.
 -- MySQL internals, "Text Resultset": Text Resultset Row, ProtocolText::ResultsetRow.
 use Rattle.std.specs.Prelude.{◌≡◌, ℕ, zero, suc, List, [], ◌∷◌, length, Option, Some, None, ◌==◌, if◌then◌else◌}
-use Rattle.my_wire.specs.Numbers.{IsText, text_at, ◌>>=◌}
+use Rattle.my_frame.specs.Numbers.{IsText, text_at, ◌>>=◌}
 use Rattle.my_value.specs.declared.value.Value.{Value}
 use Rattle.my_value.specs.declared.value.Value.TheVariants.{NULL, Bytes}
 

@@ -2,7 +2,7 @@
 
 ghost use Rattle.std.specs.Prelude.{◌≡◌, ◌↔◌, ◌<◌, ◌^◌, ℕ, IfOk, MatchResult, List, Option, Some, is_some, length};
 ghost use Rattle.std.specs.Option.{option_map};
-ghost use Rattle.my_wire.specs.Reading.{GivesAs};
+ghost use Rattle.my_frame.specs.Reading.{GivesAs};
 ghost use Rattle.my_wire.specs.declared.column.Column.{Column};
 ghost use Rattle.my_value.specs.RowParts.{columns_of};
 ghost use Rattle.my_value.specs.declared.value.Value.{Value};

@@ -1,7 +1,7 @@
 //! Values as they are sent as parameters.
 
 ghost use Rattle.std.specs.Prelude.{◌≡◌, ◌+◌, ◌-◌, ◌<◌, ◌≤◌, ◌^◌, ◌++◌, [], ◌∷◌, List, OnOk, length, min};
-ghost use Rattle.my_wire.specs.Writing.{len_bytes};
+ghost use Rattle.my_frame.specs.Writing.{len_bytes};
 ghost use Rattle.my_value.specs.Sending.{date_len, date_parts, sized_bytes, time_len, time_parts, type_bytes, type_of, value_bytes, values_len};
 
 use crate::value::Value;
@@ -83,7 +83,7 @@ fn time_len(negative: bool, days: u32, hours: u8, minutes: u8, seconds: u8, micr
     0
 }
 
-#[tactic(auto, unfolding(my_wire::specs::Writing::le_bytes))]
+#[tactic(auto, unfolding(my_frame::specs::Writing::le_bytes))]
 fn date_parts(
     year: u16,
     month: u8,
@@ -110,7 +110,7 @@ fn date_parts(
     ]
 }
 
-#[tactic(auto, unfolding(my_wire::specs::Writing::le_bytes))]
+#[tactic(auto, unfolding(my_frame::specs::Writing::le_bytes))]
 fn time_parts(
     negative: bool,
     days: u32,
@@ -164,7 +164,7 @@ pub fn put_value(out: &mut Vec<u8>, value: &Value) -> Result<(), NoMemory>
 }
 
 // How many bytes a length-encoded number takes.
-#[tactic(auto, unfolding(my_wire::specs::Writing::le_bytes, my_wire::specs::Writing::len_bytes))]
+#[tactic(auto, unfolding(my_frame::specs::Writing::le_bytes, my_frame::specs::Writing::len_bytes))]
 fn len_len(number: u64) -> u64
     ensures len { result ≡ length (len_bytes number) }
     ensures within { result ≤ 9 }
@@ -181,7 +181,7 @@ fn len_len(number: u64) -> u64
 }
 
 // How many bytes a value takes.
-#[tactic(auto, unfolding(my_wire::specs::Writing::le_bytes, my_wire::specs::Writing::len_bytes, my_wire::specs::Writing::text_bytes))]
+#[tactic(auto, unfolding(my_frame::specs::Writing::le_bytes, my_frame::specs::Writing::len_bytes, my_frame::specs::Writing::text_bytes))]
 fn value_len(value: &Value) -> u64
     ensures { result ≡ length (value_bytes value.now) }
 {

@@ -4,7 +4,7 @@ ghost use Rattle.std.specs.Prelude.{◌≡◌, ◌↔◌, ℕ, IfOk, MatchResult
 ghost use Rattle.std.specs.Option.{option_map};
 ghost use Rattle.my_value.specs.RowParts.{columns_of};
 ghost use Rattle.my_value.specs.declared.value.Value.{Value};
-ghost use Rattle.my_wire.specs.Reading.{GivesAs};
+ghost use Rattle.my_frame.specs.Reading.{GivesAs};
 ghost use Rattle.my_value.specs.Cell.{value_of};
 ghost use Rattle.my_value.specs.TextRow.{IsTextRow, behind, text_cell_at, text_cells_at, text_row_at};
 

@@ -6,7 +6,7 @@ ghost use Rattle.my_wait_heap.specs.Ages.{age_of, how_many, IsLeast};
 use crate::entry::Entry;
 use crate::ledger::Ledger;
 use crate::tree::Tree;
-use my_wire::NoMemory;
+use my_frame::NoMemory;
 use std::alloc::Global;
 use std::marker::Model;
 

@@ -6,7 +6,7 @@ ghost use Rattle.my_wait_heap.specs.Tree.{entry, age_at, slot_at, IsTree, IsSwap
 
 use crate::entry::Entry;
 use crate::ledger::Ledger;
-use my_wire::NoMemory;
+use my_frame::NoMemory;
 
 /// A tree of entries in a list: behind the one at index `i` stand those at `2 * i + 1` and `2 * i + 2`.
 #[derive(Debug, Drop)]

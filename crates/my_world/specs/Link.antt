@@ -8,7 +8,7 @@ use Rattle.my_world.specs.declared.link.ReadStep.{ReadStep}
 use Rattle.my_world.specs.declared.link.ReadStep.TheVariants as reads
 use Rattle.my_world.specs.declared.link.WriteStep.{WriteStep}
 use Rattle.my_world.specs.declared.link.WriteStep.TheVariants as writes
-use Rattle.my_wire.specs.Outside.{Comes}
+use Rattle.my_frame.specs.Outside.{Comes}
 use Rattle.my_world.specs.Outside.{Counts, FaultRose, HoldRose, EndRose}
 
 -- where a link tells its items, what becomes of them

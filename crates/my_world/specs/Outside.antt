@@ -1,6 +1,6 @@
 -- Counts of what a link answers.
 use Rattle.std.specs.Prelude.{◌≡◌, ℕ}
-use Rattle.my_wire.specs.Outside.{Rose}
+use Rattle.my_frame.specs.Outside.{Rose}
 
 -- how often a link failed, held and ended
 pub record Counts : Type 0 where

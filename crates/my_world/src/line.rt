@@ -1,6 +1,6 @@
 //! What a world is told.
 
-use my_wire::Blob;
+use my_frame::Blob;
 
 /// A line of a world's plan. Each names the number of its link, which is the number of the link's connection.
 #[derive(Drop)]

@@ -3,7 +3,7 @@ ghost use Rattle.std.specs.Prelude.{◌≡◌, ◌<◌, ℕ, List, Option, Bool,
 ghost use Rattle.my_world.specs.Looks.{Looks};
 ghost use Rattle.my_world.specs.Link.{Reads, CountsRead, Writes, WritesOut, CountsWrite, TakesIn};
 
-use my_wire::Blob;
+use my_frame::Blob;
 
 /// What a link has to be read, one after another.
 #[derive(Drop)]

@@ -1,6 +1,6 @@
 //! Where links come from.
 ghost use Rattle.std.specs.Prelude.{◌≡◌, ◌≢◌, ℕ, List, Option, None, Bool, true, OnOk, OnErr};
-ghost use Rattle.my_wire.specs.Outside.{Rose};
+ghost use Rattle.my_frame.specs.Outside.{Rose};
 ghost use Rattle.my_world.specs.Outside.{no_counts};
 ghost use Rattle.my_world.specs.World.{IfLink, OnFailed, OnHeld, IsFresh};
 ghost use Rattle.my_world.specs.Plan.{planned_on, written_on};
@@ -9,7 +9,7 @@ ghost use Rattle.my_world.specs.declared.link.WriteItem.{WriteItem};
 
 use crate::line::WorldLine;
 use crate::link::Link;
-use my_wire::NoMemory;
+use my_frame::NoMemory;
 
 /// What a dial answers.
 #[derive(Drop)]

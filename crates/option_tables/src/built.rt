@@ -1,8 +1,8 @@
 //! Options that are built by calls, with what is told of them and where they lead.
 
 use crate::line::line_of_owned;
+use my_frame::NoMemory;
 use my_opts::{Millis, Opts, OptsBuilder, PoolConstraints, PoolOpts, Target};
-use my_wire::NoMemory;
 use std::alloc::{AllocError, Global};
 use std::collections::BTreeMap;
 use std::net::{IpAddr, Ipv4Addr, Ipv6Addr};

@@ -1,8 +1,8 @@
 //! URLs with the options that they give, or with the refusal.
 
 use crate::line::{line_of_owned, refusal};
+use my_frame::NoMemory;
 use my_opts::{Opts, UrlError, UrlFault};
-use my_wire::NoMemory;
 use std::alloc::Global;
 use std::process::Abort;
 use std::test::Fail;

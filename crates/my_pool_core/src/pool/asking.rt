@@ -11,8 +11,8 @@ use crate::connection::{Connection, Place, move_to, retire, take_out};
 use crate::event::PollAnswer;
 use crate::limits::one_more;
 use crate::request::{LAST, Standing};
+use my_frame::NoMemory;
 use my_wait_heap::{Ledger, Uncounted};
-use my_wire::NoMemory;
 
 impl Core {
     /// Whether ages or numbers stand at their last one.

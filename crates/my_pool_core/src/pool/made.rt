@@ -6,8 +6,8 @@ ghost use Rattle.my_pool_core.specs.Made.{limits_of};
 
 use super::Core;
 use crate::limits::Limits;
+use my_frame::NoMemory;
 use my_opts::PoolOpts;
-use my_wire::NoMemory;
 use std::alloc::Global;
 
 impl Core {

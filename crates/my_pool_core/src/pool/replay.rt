@@ -6,7 +6,7 @@ ghost use Rattle.my_pool_core.specs.Steps.{may, step, answer};
 use super::Core;
 use crate::connection::{is_cleaning, is_finishing, is_leased};
 use crate::event::{Answer, PoolEvent};
-use my_wire::NoMemory;
+use my_frame::NoMemory;
 
 impl Core {
     /// Whether an event may happen: what the method of that event asks for.

@@ -11,7 +11,7 @@ use crate::memory::MemLink;
 use crate::memory::planned::{Addition, Planned};
 use crate::memory::writes::Writes;
 use crate::world::{DialStep, World};
-use my_wire::{Blob, NoMemory};
+use my_frame::{Blob, NoMemory};
 use std::alloc::{AllocError, Global};
 
 /// A world in memory: each link has what the lines of its number say, one after another, by itself for reads and for writes. No dial fails.

@@ -1,5 +1,5 @@
 use Rattle.std.proofs.Common.{◌∙◌}
-use Rattle.my_opts.proofs.NumberLemmas.{whole-parsed}
+use Rattle.my_frame.proofs.Numerals.{whole-parsed}
 use Rattle.my_opts.proofs.values.whole32.Goals as goal
 
 pub returns : goal.returns
