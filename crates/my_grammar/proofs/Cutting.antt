@@ -1,8 +1,8 @@
 -- What was read of an exchange is what the grammar finds in its bytes.
 use Rattle.std.proofs.Common.{◌≡◌, ℕ, suc, zero, ◌≤◌, ◌<◌, List, [], ◌++◌, length, Bool, true, false, cond, refl, sym, ap, ◌∙◌, arith, append_assoc}
-use Rattle.my_wire.specs.Chunks.{chunks, number_behind}
-use Rattle.my_wire.specs.Front.{Front, Waiting, Broken, Whole}
-use Rattle.my_wire.proofs.Fronts.{found}
+use Rattle.my_frame.specs.Chunks.{chunks, number_behind}
+use Rattle.my_frame.specs.Front.{Front, Waiting, Broken, Whole}
+use Rattle.my_frame.proofs.Fronts.{found}
 use Rattle.my_grammar.specs.declared.spot.Kind.{Kind}
 use Rattle.my_grammar.specs.Contexts.{is_bad}
 use Rattle.my_grammar.specs.Kinds.{kind_there}
@@ -76,7 +76,7 @@ stopped t bytes Waiting go s = refl
 stopped t bytes (Broken fault) go s = refl
 stopped t bytes (Whole p rest next) go s = ap (λ (b : Bool). cond b (let r : Read = record { talk = t; rest = bytes } in r) (go (grow (kind_of t p) t p) rest)) s
 
-stopped_within : (f : ℕ) (t : Talk) (bytes : List ℕ) → StopsAt t (front_of t bytes) → read_within f t bytes ≡ record { talk = t; rest = bytes }
+pub stopped_within : (f : ℕ) (t : Talk) (bytes : List ℕ) → StopsAt t (front_of t bytes) → read_within f t bytes ≡ record { talk = t; rest = bytes }
 unfolding read_within
 stopped_within zero t bytes s = refl
 stopped_within (suc f) t bytes s = stopped t bytes (front_of t bytes) (read_within f) s

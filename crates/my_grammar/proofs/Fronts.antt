@@ -2,9 +2,9 @@
 use Rattle.std.proofs.Common.{◌≡◌, ℕ, suc, zero, ◌+◌, ◌≤◌, ◌<◌, List, length, take, drop, Bool, true, false, cond, ltb, eqb, refl, subst, arith, length-append, length-take-le}
 use Rattle.std.proofs.lemmas.Bool.Decides.{nat_tests}
 use Rattle.std.proofs.lemmas.List.{length-drop}
-use Rattle.my_wire.specs.declared.fault.CodecFault.TheVariants.{OutOfOrder, TooLarge}
-use Rattle.my_wire.specs.Chunks.{full_length, next_number}
-use Rattle.my_wire.specs.Front.{Front, Waiting, Broken, Whole, front_at, front_from, front_within, behind_part, body_front, header_front, header_length, header_number}
+use Rattle.my_frame.specs.declared.fault.CodecFault.TheVariants.{OutOfOrder, TooLarge}
+use Rattle.my_frame.specs.Chunks.{full_length, next_number}
+use Rattle.my_frame.specs.Front.{Front, Waiting, Broken, Whole, front_at, front_from, front_within, behind_part, body_front, header_front, header_length, header_number}
 
 -- A payload in front, where earlier chunks of it carried before bytes.
 pub record Takes (before limit : ℕ) (bytes p rest : List ℕ) : Type 0 where

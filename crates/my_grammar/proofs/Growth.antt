@@ -96,4 +96,4 @@ grows (Silent terms c) k p e b short f = absurd (none k e b)
 
 -- an exchange of another kind has no login, and any stands for it
 abbrev pub any_login : Login
-any_login = record { user = None; password = None; database = None; max_packet = 0; attributes = []; capabilities = 0 }
+any_login = record { user = None; password = None; database = None; max_packet = 0; attributes = []; capabilities = 0; packet_limit = None; wait_timeout = None; init = []; setup = [] }

@@ -1,11 +1,11 @@
 -- What was found in front of bytes.
 use Rattle.std.proofs.Common.{◌≡◌, ℕ, ◌+◌, ◌-◌, List, length, drop, Option, Some, None, MatchOption, Ok, refl, sym, ap, ◌∙◌, subst, arith, length-append}
 use Rattle.std.proofs.lemmas.List.{drop_at}
-use Rattle.my_wire.specs.declared.front.FramedPayload.{FramedPayload}
-use Rattle.my_wire.specs.Chunks.{chunks}
-use Rattle.my_wire.specs.Front.{Front, Waiting, Broken, Whole, front_at}
-use Rattle.my_wire.specs.FrontLaws.{FrontMeans, IsWhole}
-use Rattle.my_wire.specs.Framed.{IsFramed}
+use Rattle.my_frame.specs.declared.front.FramedPayload.{FramedPayload}
+use Rattle.my_frame.specs.Chunks.{chunks}
+use Rattle.my_frame.specs.Front.{Front, Waiting, Broken, Whole, front_at}
+use Rattle.my_frame.specs.FrontLaws.{FrontMeans, IsWhole}
+use Rattle.my_frame.specs.Framed.{IsFramed}
 use Rattle.my_grammar.specs.Reading.{InFront, NoneInFront}
 use Rattle.my_grammar.proofs.Fronts.{takes_whole}
 

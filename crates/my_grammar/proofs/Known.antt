@@ -4,12 +4,12 @@ use Rattle.std.proofs.lemmas.Bool.Decides.{nat_tests}
 use Rattle.my_wire.specs.OkPacket.{ok_at, end_ok_at}
 use Rattle.my_wire.specs.ErrPacket.{err_at}
 use Rattle.my_wire.specs.EofPacket.{eof_at}
-use Rattle.my_wire.specs.Numbers.{len_at}
-use Rattle.my_wire.specs.Greeting.{greeting_at}
+use Rattle.my_frame.specs.Numbers.{len_at}
+use Rattle.my_handshake.specs.Greeting.{greeting_at}
 use Rattle.my_wire.specs.declared.column_count.ColumnCount.{ColumnCount}
 use Rattle.my_wire.specs.ColumnCount.{column_count_at, skipped_at}
 use Rattle.my_wire.specs.Column.{column_at}
-use Rattle.my_wire.proofs.NumberLaws.{bind_then, passed}
+use Rattle.my_frame.proofs.NumberLaws.{bind_then, passed}
 use Rattle.my_value.specs.TextRow.{text_row_at}
 use Rattle.my_grammar.specs.declared.spot.Spot.{Spot}
 use Rattle.my_grammar.specs.declared.spot.Spot.TheVariants as spots

@@ -1,10 +1,10 @@
 -- What is read from bytes stands there.
 use Rattle.std.proofs.Common.{◌≡◌, ℕ, suc, zero, ◌+◌, ◌^◌, ◌≤◌, ◌<◌, List, [], ◌∷◌, ◌++◌, map, length, Bool, true, false, cond, get_or, refl, sym, ap, ◌∙◌, subst, arith, append_assoc}
 use Rattle.std.proofs.Math.Seq.{get_or-append_right}
-use Rattle.my_wire.specs.Chunks.{chunks}
-use Rattle.my_wire.specs.Front.{Front, Waiting, Broken, Whole}
-use Rattle.my_wire.specs.FrontLaws.{AreBytes}
-use Rattle.my_wire.proofs.Meanings.{whole_stands}
+use Rattle.my_frame.specs.Chunks.{chunks}
+use Rattle.my_frame.specs.Front.{Front, Waiting, Broken, Whole}
+use Rattle.my_frame.specs.FrontLaws.{AreBytes}
+use Rattle.my_frame.proofs.Meanings.{whole_stands}
 use Rattle.my_grammar.specs.declared.spot.Spot.{Spot}
 use Rattle.my_grammar.specs.declared.spot.Spot.TheVariants as spots
 use Rattle.my_grammar.specs.declared.spot.Kind.{Kind}

@@ -1,8 +1,8 @@
 -- The exchanges that a server's bytes hold, however they came. MySQL client/server protocol, "MySQL Packets" and "Command Phase": the
 -- chunks of the exchanges stand one behind the other, and each exchange numbers them from 0.
 use Rattle.std.specs.Prelude.{ℕ, zero, suc, ◌+◌, List, [], ◌∷◌, length, Bool, true, false, if◌then◌else◌}
-use Rattle.my_wire.specs.declared.fault.CodecFault.{CodecFault}
-use Rattle.my_wire.specs.Front.{Front, Waiting, Broken, Whole, front_at}
+use Rattle.my_frame.specs.declared.fault.CodecFault.{CodecFault}
+use Rattle.my_frame.specs.Front.{Front, Waiting, Broken, Whole, front_at}
 use Rattle.my_grammar.specs.declared.spot.Spot.{Spot}
 use Rattle.my_grammar.specs.declared.spot.Spot.TheVariants as spots
 use Rattle.my_grammar.specs.declared.spot.Kind.{Kind}

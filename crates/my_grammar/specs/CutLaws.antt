@@ -1,7 +1,7 @@
 -- What it means that exchanges are read from bytes.
 use Rattle.std.specs.Prelude.{◌≡◌, ℕ, List, [], ◌∷◌, ◌++◌, map, true}
 use Rattle.std.specs.List.{AllByRecursion}
-use Rattle.my_wire.specs.Front.{Front, Waiting, Broken, Whole}
+use Rattle.my_frame.specs.Front.{Front, Waiting, Broken, Whole}
 use Rattle.my_grammar.specs.Contexts.{is_bad}
 use Rattle.my_grammar.specs.Sets.{Packet}
 use Rattle.my_grammar.specs.Talk.{Talk, Fits, turns, server_bytes, packets_of, origin}

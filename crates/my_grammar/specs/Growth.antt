@@ -1,6 +1,6 @@
 -- One payload more in an exchange.
-use Rattle.std.specs.Prelude.{◌≡◌, ℕ, List, [], ◌∷◌, ◌++◌}
-use Rattle.my_wire.specs.Chunks.{chunks, number_behind}
+use Rattle.std.specs.Prelude.{◌≡◌, ℕ, List, [], ◌∷◌, ◌++◌, Bool, true, false}
+use Rattle.my_frame.specs.Chunks.{chunks, number_behind}
 use Rattle.my_grammar.specs.declared.login.Login.{Login}
 use Rattle.my_grammar.specs.declared.spot.Kind.{Kind}
 use Rattle.my_grammar.specs.declared.spot.Kind.TheVariants as kinds
@@ -36,6 +36,11 @@ replies login kinds.ColumnsDone p = []
 replies login kinds.Row p = []
 replies login (kinds.End status) p = []
 replies login kinds.Bad p = []
+
+-- the client says nothing behind another payload than a greeting
+abbrev pub not_greets : Kind → Bool
+not_greets (kinds.Greets capabilities) = false
+not_greets k = true
 
 -- the number behind a payload that has the number n, and behind what the client says to it
 abbrev pub number_next : Login → Kind → List ℕ → ℕ → ℕ

@@ -8,8 +8,8 @@ use Rattle.my_wire.specs.declared.eof.EofPacket.{EofPacket}
 use Rattle.my_wire.specs.OkPacket.{ok_at, end_ok_at}
 use Rattle.my_wire.specs.ErrPacket.{err_at}
 use Rattle.my_wire.specs.EofPacket.{eof_at}
-use Rattle.my_wire.specs.declared.greeting.Greeting.{Greeting}
-use Rattle.my_wire.specs.Greeting.{greeting_at}
+use Rattle.my_handshake.specs.declared.greeting.Greeting.{Greeting}
+use Rattle.my_handshake.specs.Greeting.{greeting_at}
 use Rattle.my_wire.specs.declared.column_count.ColumnCount.{ColumnCount}
 use Rattle.my_wire.specs.ColumnCount.{column_count_at}
 use Rattle.my_wire.specs.declared.column.Column.{Column as ColumnPacket}

@@ -1,6 +1,6 @@
 -- What the program that cuts bytes finds, beside the exchanges that the definitions say.
 use Rattle.std.specs.Prelude.{◌≡◌, ℕ, List, [], ◌∷◌, reverse}
-use Rattle.my_wire.specs.Front.{Front, Waiting, Broken, Whole}
+use Rattle.my_frame.specs.Front.{Front, Waiting, Broken, Whole}
 use Rattle.my_grammar.specs.declared.login.Login.{Login}
 use Rattle.my_grammar.specs.declared.progress.Opening.{Opening}
 use Rattle.my_grammar.specs.declared.progress.Opening.TheVariants as openings

@@ -1,8 +1,8 @@
 -- One move of the program that cuts bytes.
 use Rattle.std.specs.Prelude.{◌≡◌, ℕ, ◌<◌, ◌≤◌, List, [], ◌∷◌, ◌++◌, length, drop, true, false}
-use Rattle.my_wire.specs.declared.front.FramedPayload.{FramedPayload}
-use Rattle.my_wire.specs.Chunks.{number_behind}
-use Rattle.my_wire.specs.Front.{Front, Waiting, Broken, Whole, front_at}
+use Rattle.my_frame.specs.declared.front.FramedPayload.{FramedPayload}
+use Rattle.my_frame.specs.Chunks.{number_behind}
+use Rattle.my_frame.specs.Front.{Front, Waiting, Broken, Whole, front_at}
 use Rattle.my_grammar.specs.declared.spot.Context.{Context}
 use Rattle.my_grammar.specs.Kinds.{kind_there}
 use Rattle.my_grammar.specs.declared.login.Login.{Login}

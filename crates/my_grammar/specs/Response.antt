@@ -1,11 +1,11 @@
 -- The answer to a server's greeting. MySQL client/server protocol, "Connection Phase Packets": Protocol::HandshakeResponse41.
 use Rattle.std.specs.Prelude.{ℕ, ◌==◌, ◌&&◌, ◌||◌, bit_and, nat_le, nat_lt, List, [], Option, Some, None, codes, unwrap_or, if◌then◌else◌}
-use Rattle.my_wire.specs.declared.greeting.Greeting.{Greeting}
-use Rattle.my_wire.specs.declared.version.ServerVersion.{ServerVersion}
-use Rattle.my_wire.specs.declared.client.login.HandshakeResponse.{HandshakeResponse}
-use Rattle.my_wire.specs.Greeting.{greeting_at}
-use Rattle.my_wire.specs.Version.{version_of}
-use Rattle.my_wire.specs.Client.Login.{response_bytes}
+use Rattle.my_handshake.specs.declared.greeting.Greeting.{Greeting}
+use Rattle.my_handshake.specs.declared.version.ServerVersion.{ServerVersion}
+use Rattle.my_handshake.specs.declared.login.HandshakeResponse.{HandshakeResponse}
+use Rattle.my_handshake.specs.Greeting.{greeting_at}
+use Rattle.my_handshake.specs.Version.{version_of}
+use Rattle.my_handshake.specs.Login.{response_bytes}
 use Rattle.my_grammar.specs.declared.login.Login.{Login}
 use Rattle.my_grammar.specs.Scramble.{native_answer}
 

@@ -4,7 +4,7 @@ ghost use Rattle.std.specs.Prelude.{◌≡◌, true, false};
 ghost use Rattle.my_grammar.specs.Kinds.{cells_kind, column_kind, columns_end_kind, count_kind, end_kind, failed_kind, good_kind, greeting_kind, greets_kind, head_kind, is_caching, kind_there, offer_kind, or_else, row_kind, single_kind};
 ghost use Rattle.my_wire.specs.ColumnCount.{column_count_at};
 ghost use Rattle.my_wire.specs.ErrPacket.{err_at};
-ghost use Rattle.my_wire.specs.Greeting.{greeting_at};
+ghost use Rattle.my_handshake.specs.Greeting.{greeting_at};
 ghost use Rattle.my_wire.specs.OkPacket.{ok_at};
 ghost use Rattle.my_value.specs.TextRow.{text_row_at};
 

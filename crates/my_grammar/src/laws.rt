@@ -1,7 +1,7 @@
 //! Laws of exchanges and of the bytes that hold them. Each function's clause is the law; it does nothing.
 
 ghost use Rattle.std.specs.Prelude.{◌≡◌, ◌≤◌, ℕ, List, ◌∷◌, ◌++◌, length, map, true, false};
-ghost use Rattle.my_wire.specs.FrontLaws.{AreBytes};
+ghost use Rattle.my_frame.specs.FrontLaws.{AreBytes};
 ghost use Rattle.my_grammar.specs.declared.login.Login.{Login as AnyLogin};
 ghost use Rattle.my_grammar.specs.declared.spot.Kind.{Kind as AnyKind};
 ghost use Rattle.my_grammar.specs.Contexts.{is_bad};

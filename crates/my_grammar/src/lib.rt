@@ -11,6 +11,7 @@ mod progress;
 mod queue;
 mod scramble;
 mod spot;
+mod texts;
 
 pub use kinds::kind_at;
 pub use login::{Login, login_response};
@@ -20,3 +21,4 @@ pub use progress::{DEFAULT_LIMIT, Opening, Progress};
 pub use queue::Queue;
 pub use scramble::native_answer;
 pub use spot::{Context, Kind, Spot, Terms};
+pub use texts::Texts;

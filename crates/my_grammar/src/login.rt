@@ -1,17 +1,18 @@
 //! What a client says of itself when a connection is made.
 
 ghost use Rattle.std.specs.Prelude.{◌≡◌, ◌≤◌, [], IfOk, length, unwrap_or};
-ghost use Rattle.my_wire.specs.Client.Login.{response_bytes};
+ghost use Rattle.my_handshake.specs.Login.{response_bytes};
 ghost use Rattle.my_grammar.specs.Response.{charset_of, response, response_to};
 
 use crate::scramble::native_answer;
+use crate::texts::Texts;
 use my_wire::{
     Attributes, Blob, ClientPacket, Greeting, HandshakeResponse, NoMemory, ReadError,
     ServerVersion, read_greeting, server_version, write_client,
 };
 use std::alloc::{AllocError, Global};
 
-/// What of the options goes into the answer to a server's greeting.
+/// What of the options a client needs to log in and to set its connection up.
 #[derive(Debug, Drop)]
 pub struct Login {
     pub user: Option<Blob>,
@@ -23,6 +24,14 @@ pub struct Login {
     pub attributes: Attributes,
     /// The bits of what the client can do.
     pub capabilities: u32,
+    /// The longest payload behind the login, in bytes. Where none is set, the server is asked.
+    pub packet_limit: Option<u64>,
+    /// After so many seconds without a command the server ends the connection. Where none is set, the server is asked.
+    pub wait_timeout: Option<u64>,
+    /// Queries that set a connection up when it is made, from the last to the first.
+    pub init: Texts,
+    /// Queries that set a connection up when it is made and whenever it is reset, behind the others, from the last to the first.
+    pub setup: Texts,
 }
 
 // The number of the character set: utf8mb4 where the server knows it.

@@ -1,7 +1,7 @@
 //! The exchanges that bytes hold, found by a plain program.
 
 ghost use Rattle.std.specs.Prelude.{◌≡◌, [], ◌∷◌, ◌++◌, IfOk, OnOk, map};
-ghost use Rattle.my_wire.specs.Front.{front_at};
+ghost use Rattle.my_frame.specs.Front.{front_at};
 ghost use Rattle.my_grammar.specs.Cut.{cut, is_idle, read_from};
 ghost use Rattle.my_grammar.specs.Progress.{front_rest, IsFound, IsReadTo, talk_of};
 

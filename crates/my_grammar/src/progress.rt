@@ -1,12 +1,12 @@
 //! One exchange as it is read, payload by payload.
 
 ghost use Rattle.std.specs.Prelude.{◌≡◌, [], ◌++◌, OnOk, IfOk, MatchOption};
-ghost use Rattle.my_wire.specs.Chunks.{chunks, number_behind};
+ghost use Rattle.my_frame.specs.Chunks.{chunks, number_behind};
 ghost use Rattle.my_grammar.specs.Growth.{number_next, said};
 ghost use Rattle.my_grammar.specs.Progress.{IsAt, talk_of};
 ghost use Rattle.my_grammar.specs.Reading.{HeardNone, HeardOne, Hears, InFront, NoneInFront};
 ghost use Rattle.my_grammar.specs.Contexts.{is_bad};
-ghost use Rattle.my_wire.specs.Front.{front_at};
+ghost use Rattle.my_frame.specs.Front.{front_at};
 
 use crate::kinds::kind_at;
 use crate::login::{Login, login_response};

@@ -1,7 +1,7 @@
 //! Bytes that come in at the end and go out at the front.
 
 ghost use Rattle.std.specs.Prelude.{◌≡◌, ◌≤◌, ◌==◌, [], ◌++◌, length, drop, OnOk, OnErr, IfOk};
-ghost use Rattle.my_wire.specs.Chunks.{chunks, number_behind};
+ghost use Rattle.my_frame.specs.Chunks.{chunks, number_behind};
 
 use bytes::BytesMut;
 use my_wire::{NoMemory, append_payload};

@@ -12,13 +12,13 @@ use Rattle.my_grammar.proofs.Known.{is_greeting_kind, is_single_kind, is_head_ki
 use Rattle.my_session.specs.declared.call.CallKind.{CallKind}
 use Rattle.my_session.specs.declared.call.CallKind.TheVariants.{Connect, Query, NextRow, DropResult, Ping, Quit}
 use Rattle.my_session.specs.declared.call.Task.{Task}
-use Rattle.my_session.specs.declared.call.Task.TheVariants.{Nothing, Begun, Cleaning, Own, Reading, Dropping, Leaving, Failing}
+use Rattle.my_session.specs.declared.call.Task.TheVariants.{Nothing, Begun, Cleaning, Own, Arranging, Reading, Dropping, Leaving, Failing}
 use Rattle.my_session.specs.declared.tables.Reaction.{Reaction}
 use Rattle.my_session.specs.declared.tables.Reaction.TheVariants as reactions
 use Rattle.my_session.specs.Entries.{sets_of}
 use Rattle.my_session.specs.Machine.{is_greeting}
 use Rattle.my_session.specs.Stands.{is_first, is_shaking}
-use Rattle.my_session.specs.Tables.{react, react_connect, react_query, react_ping, react_own, is_breaking}
+use Rattle.my_session.specs.Tables.{react, react_whole, react_connect, react_query, react_ping, react_own, is_breaking}
 use Rattle.my_session.proofs.Spots.{is_known}
 use Rattle.my_session.proofs.Firsts.{is_queried}
 
@@ -70,19 +70,23 @@ own_fits DropResult k = tt
 own_fits Ping k = ping_fits k
 own_fits Quit k = tt
 
+whole_fits : (t : Task) (k : Kind) → FitsKind (react_whole t k) k
+whole_fits t (kinds.Greets n) = tt
+whole_fits t (kinds.Good status) = tt
+whole_fits t kinds.Failed = refl
+whole_fits t (kinds.Count n) = tt
+whole_fits t kinds.Column = tt
+whole_fits t kinds.ColumnsDone = tt
+whole_fits t kinds.Row = tt
+whole_fits t (kinds.End status) = tt
+whole_fits t kinds.Bad = tt
+
 pub react_fits : (t : Task) (k : Kind) → FitsKind (react t k) k
 react_fits Nothing k = tt
 react_fits (Begun c) k = tt
-react_fits (Cleaning c) (kinds.Greets n) = tt
-react_fits (Cleaning c) (kinds.Good status) = tt
-react_fits (Cleaning c) kinds.Failed = refl
-react_fits (Cleaning c) (kinds.Count n) = tt
-react_fits (Cleaning c) kinds.Column = tt
-react_fits (Cleaning c) kinds.ColumnsDone = tt
-react_fits (Cleaning c) kinds.Row = tt
-react_fits (Cleaning c) (kinds.End status) = tt
-react_fits (Cleaning c) kinds.Bad = tt
+react_fits (Cleaning c) k = whole_fits (Cleaning c) k
 react_fits (Own c) k = own_fits c k
+react_fits (Arranging n) k = whole_fits (Arranging n) k
 react_fits Reading (kinds.Greets n) = tt
 react_fits Reading (kinds.Good status) = tt
 react_fits Reading kinds.Failed = refl
@@ -124,16 +128,16 @@ greets_first spots.Rows n e = cc
 no_greets : (spot : Spot) (n : ℕ) {A : Type 0} → is_greeting spot ≡ false → is_known spot (kinds.Greets n) ≡ true → A
 no_greets spot n past e = let no : true ≡ false = sym (greets_first spot n e) ∙ past in cc
 
-cleaning_breaks : (c : CallKind) (spot : Spot) → is_greeting spot ≡ false → (k : Kind) → is_known spot k ≡ true → is_breaking (react (Cleaning c) k) ≡ true → is_bad k ≡ true
-cleaning_breaks c spot past (kinds.Greets n) e b = no_greets spot n past e
-cleaning_breaks c spot past (kinds.Good status) e b = cc
-cleaning_breaks c spot past kinds.Failed e b = cc
-cleaning_breaks c spot past (kinds.Count n) e b = cc
-cleaning_breaks c spot past kinds.Column e b = cc
-cleaning_breaks c spot past kinds.ColumnsDone e b = cc
-cleaning_breaks c spot past kinds.Row e b = cc
-cleaning_breaks c spot past (kinds.End status) e b = cc
-cleaning_breaks c spot past kinds.Bad e b = refl
+whole_breaks : (t : Task) (spot : Spot) → is_greeting spot ≡ false → (k : Kind) → is_known spot k ≡ true → is_breaking (react_whole t k) ≡ true → is_bad k ≡ true
+whole_breaks t spot past (kinds.Greets n) e b = no_greets spot n past e
+whole_breaks t spot past (kinds.Good status) e b = cc
+whole_breaks t spot past kinds.Failed e b = cc
+whole_breaks t spot past (kinds.Count n) e b = cc
+whole_breaks t spot past kinds.Column e b = cc
+whole_breaks t spot past kinds.ColumnsDone e b = cc
+whole_breaks t spot past kinds.Row e b = cc
+whole_breaks t spot past (kinds.End status) e b = cc
+whole_breaks t spot past kinds.Bad e b = refl
 
 reading_breaks : (spot : Spot) → is_greeting spot ≡ false → (k : Kind) → is_known spot k ≡ true → is_breaking (react Reading k) ≡ true → is_bad k ≡ true
 reading_breaks spot past (kinds.Greets n) e b = no_greets spot n past e
@@ -226,7 +230,10 @@ close_breaks (kinds.End status) e b = cc
 close_breaks kinds.Bad e b = refl
 
 pub cleaning_awaits : (c : CallKind) (spot : Spot) → is_idle spot ≡ false → is_greeting spot ≡ false → Awaits (Cleaning c) spot
-cleaning_awaits c spot waits past = record { waits = waits; breaks = cleaning_breaks c spot past }
+cleaning_awaits c spot waits past = record { waits = waits; breaks = whole_breaks (Cleaning c) spot past }
+
+pub arranging_awaits : (n : ℕ) (spot : Spot) → is_idle spot ≡ false → is_greeting spot ≡ false → Awaits (Arranging n) spot
+arranging_awaits n spot waits past = record { waits = waits; breaks = whole_breaks (Arranging n) spot past }
 
 pub reading_awaits : (spot : Spot) → is_idle spot ≡ false → is_greeting spot ≡ false → Awaits Reading spot
 reading_awaits spot waits past = record { waits = waits; breaks = reading_breaks spot past }

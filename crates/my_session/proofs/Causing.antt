@@ -1,16 +1,17 @@
 -- Each error that the machine's next move tells has its cause.
-use Rattle.std.proofs.Common.{◌≡◌, ℕ, ◌<◌, List, [], ◌∷◌, ◌++◌, length, ltb, Bool, true, false, cond, Option, Some, None, inl, inr, refl, sym, ap, ◌∙◌, subst, arith}
+use Rattle.std.proofs.Common.{◌≡◌, ℕ, suc, ◌<◌, List, [], ◌∷◌, ◌++◌, length, ltb, Bool, true, false, cond, Option, Some, None, inl, inr, refl, sym, ap, ◌∙◌, subst, arith}
 use Rattle.std.proofs.lemmas.Bool.Decides.{nat_tests}
 use Rattle.my_wire.specs.declared.err.ErrPacket.{ErrPacket}
-use Rattle.my_wire.specs.declared.fault.CodecFault.TheVariants.{TooLarge}
+use Rattle.my_frame.specs.declared.fault.CodecFault.TheVariants.{TooLarge}
 use Rattle.my_wire.specs.ErrPacket.{err_at}
-use Rattle.my_wire.specs.Front.{Front, Waiting, Broken, Whole, front_at}
+use Rattle.my_frame.specs.Front.{Front, Waiting, Broken, Whole, front_at}
 use Rattle.my_value.specs.RowParts.{RowParts}
 use Rattle.my_grammar.specs.declared.spot.Context.{Context}
 use Rattle.my_grammar.specs.declared.spot.Kind.{Kind}
 use Rattle.my_grammar.specs.declared.spot.Kind.TheVariants as kinds
 use Rattle.my_grammar.specs.declared.spot.Spot.{Spot}
 use Rattle.my_grammar.specs.declared.spot.Spot.TheVariants as spots
+use Rattle.my_grammar.specs.declared.spot.Terms.{Terms}
 use Rattle.my_grammar.specs.Contexts.{deprecates_eof, is_bad}
 use Rattle.my_grammar.specs.Cut.{Cut, Behind, front_of, kind_of, rest_in_front, is_idle}
 use Rattle.my_grammar.specs.CutLaws.{StopsAt}
@@ -23,7 +24,7 @@ use Rattle.my_session.specs.declared.call.CallKind.TheVariants.{Connect, Query, 
 use Rattle.my_session.specs.declared.call.LinkFault.{LinkFault}
 use Rattle.my_session.specs.declared.call.LinkFault.TheVariants as faults
 use Rattle.my_session.specs.declared.call.Task.{Task}
-use Rattle.my_session.specs.declared.call.Task.TheVariants.{Nothing, Begun, Cleaning, Own, Reading, Dropping, Leaving, Failing}
+use Rattle.my_session.specs.declared.call.Task.TheVariants.{Nothing, Begun, Cleaning, Own, Arranging, Reading, Dropping, Leaving, Failing}
 use Rattle.my_session.specs.declared.error.Error.{Error}
 use Rattle.my_session.specs.declared.error.Error.TheVariants as errors
 use Rattle.my_session.specs.declared.facts.Facts.{Facts}
@@ -36,25 +37,25 @@ use Rattle.my_session.specs.declared.answer.Answer.TheVariants as answers
 use Rattle.my_session.specs.declared.answer.Tick.TheVariants as ticks
 use Rattle.my_session.specs.Calls.{call_of, kind_in, fault_in, is_open, asks}
 use Rattle.my_session.specs.Causes.{Stops, Cause, Because, NothingLeft, AnswerCause, EachFault, place_in}
-use Rattle.my_session.specs.Commands.{opening, command_in}
-use Rattle.my_session.specs.Entries.{Entry, facts_of, kept_by}
+use Rattle.my_session.specs.Commands.{opening, command_of, connecting, command_in}
+use Rattle.my_session.specs.Entries.{Entry, facts_of, terms_by, connecting_in}
 use Rattle.my_session.specs.Errors.{invalid_data, unexpected_eof, link_error}
 use Rattle.my_session.specs.History.{History, Told, ToldReady, ToldRow, ToldEnd, ToldNone, ToldError, Dropped}
 use Rattle.my_session.specs.Law.{in_order, talks}
 use Rattle.my_session.specs.Machine as machine
-use Rattle.my_session.specs.Machine.{Move, Doing, Goes, Sends, Needs, Tells, Did, FaultIs, advanced, reply_to, above, unless_above, refused, gave, passed, reacted, read_by, reading, asked, planned, when_owed, next_by, next, is_greeting}
+use Rattle.my_session.specs.Machine.{Move, Doing, Goes, Sends, Needs, Tells, Did, FaultIs, advanced, reply_to, above, unless_above, refused, gave, passed, reacted, read_by, reading, next_terms, asked, arranged, planned, when_owed, next_by, next, is_greeting}
 use Rattle.my_session.specs.Rows.{row_at}
 use Rattle.my_session.specs.Seen.{Seen}
 use Rattle.my_session.specs.Stands.{Stands, Heard, call_with, is_reading}
 use Rattle.my_session.specs.Tables.{plan_of, clean_plan, own_plan, query_plan, read_plan, drop_plan, react, is_breaking}
 use Rattle.my_session.proofs.Payloads.{failed_reads, told_columns, row_reads}
 use Rattle.my_session.proofs.Places.{place_is}
-use Rattle.my_session.proofs.Awaits.{Awaits, FitsKind, react_fits, is_heading, heading_spot, cleaning_awaits, reading_awaits, dropping_awaits, connect_awaits, ping_awaits, head_awaits, column_awaits, close_awaits}
+use Rattle.my_session.proofs.Awaits.{Awaits, FitsKind, react_fits, is_heading, heading_spot, cleaning_awaits, arranging_awaits, reading_awaits, dropping_awaits, connect_awaits, ping_awaits, head_awaits, column_awaits, close_awaits}
 use Rattle.my_session.proofs.LawOf.{each_history}
 use Rattle.my_session.proofs.Spots.{is_known, known, row_spot}
 use Rattle.my_session.proofs.Stopping.{talks_found, rest_found, stopped, over_found, failed_found}
 use Rattle.my_session.proofs.Firsts.{query_talk}
-use Rattle.my_session.proofs.Wired.{limit_is}
+use Rattle.my_session.proofs.Wired.{limit_is, terms_now}
 
 module _ (s : Seen) (h : History) (st : Stands s h) (op : is_open s.task ≡ true) where
   abbrev talk : Talk
@@ -87,7 +88,7 @@ module _ (s : Seen) (h : History) (st : Stands s h) (op : is_open s.task ≡ tru
   Explained m = TellsBy m.does
 
   place : s.facts.place ≡ place_in entries
-  place = ap (λ (f : Facts). f.place) st.wire.facts_are ∙ place_is entries
+  place = ap (λ (f : Facts). f.place) st.wire.facts_are ∙ place_is s.login entries
 
   front_here : front_of talk s.unread ≡ front_at s.number s.context.terms.limit s.unread
   front_here =
@@ -152,7 +153,7 @@ module _ (s : Seen) (h : History) (st : Stands s h) (op : is_open s.task ≡ tru
         let rows : s.context.spot ≡ spots.Rows = row_spot s.context.spot (known s.context.spot (deprecates_eof s.context.terms.kept) s.context.columns p kinds.Row k) in
         let there : (context_of talk).spot ≡ spots.Rows = ap (λ (c : Context). c.spot) (sym st.wire.context_is) ∙ rows in
         let same : s.context.columns ≡ length s.facts.columns =
-        ap (λ (c : Context). c.columns) st.wire.context_is ∙ told_columns talk (facts_of st.older) st.wire.fits there ∙ ap (λ (f : Facts). length f.columns) (sym st.wire.facts_are) in
+        ap (λ (c : Context). c.columns) st.wire.context_is ∙ told_columns talk (facts_of s.login st.older) st.wire.fits there ∙ ap (λ (f : Facts). length f.columns) (sym st.wire.facts_are) in
         row_reads s.facts.columns (deprecates_eof s.context.terms.kept) s.context.columns p same (ap (λ (x : Spot). kind_there (record { spot = x; columns = s.context.columns; terms = s.context.terms }) p) (sym rows) ∙ k)
 
     gave_told : (n : Seen) (x : Option RowParts) → kind_there s.context p ≡ kinds.Row → row_at s.facts.columns p ≡ x → Explained (gave s n x)
@@ -214,19 +215,26 @@ module _ (s : Seen) (h : History) (st : Stands s h) (op : is_open s.task ≡ tru
   front_told a (Broken fault) at = inl (stops (Broken fault) at tt a.waits)
   front_told a (Whole p rest next) at = kind_told a.waits p rest next at a.breaks (kind_there s.context p) refl (is_breaking (react s.task (kind_there s.context p))) refl
 
-  -- the call's command may be too long
-  command_told : (c : CallKind) (t : Talk) → Some c ≡ kind_in s.task → opening s.login s.context.terms.kept (call_of c s.text) ≡ Some t → (b : Bool) → ltb s.login.max_packet (length (command_in t)) ≡ b → Explained (cond b (machine.too_large s s.login.max_packet (length (command_in t))) (record { seen = machine.queued s (Own c) t; does = Goes }))
-  command_told c t own opens false e = tt
-  command_told c t own opens true e = inr (inl (record {
-    call = call_of c s.text;
-    pending = st.heard.pending_is ∙ ap (λ k. call_with k s.text) (sym own);
-    talk = t;
-    opens = ap (λ (x : Context). opening s.login x.terms.kept (call_of c s.text)) (sym st.wire.context_is) ∙ opens;
-    above = grind (arith, nat_tests);
-    fault_is = refl;
-  }))
+  -- what holds in the next exchange is what the exchanges say
+  terms_here : terms_by s.login entries ≡ next_terms s
+  terms_here = terms_now s.login st.newest st.older s.context s.facts st.wire.context_is st.wire.facts_are
 
-  opens_some : (c : CallKind) → asks c ≡ true → opening s.login s.context.terms.kept (call_of c s.text) ≡ None → ⊥
+  -- the call's next command may be too long
+  command_told : (c : CallKind) (u : Task) (t : Talk) → Some c ≡ kind_in s.task → opening s.login (next_terms s) (call_of c s.text) (connecting_in entries) ≡ Some t → (b : Bool) → ltb s.facts.settings.limit (length (command_in t)) ≡ b → Explained (cond b (machine.too_large s s.facts.settings.limit (length (command_in t))) (record { seen = machine.queued s u t; does = Sends }))
+  command_told c u t own opens false e = tt
+  command_told c u t own opens true e =
+      let limit : s.facts.settings.limit ≡ (terms_by s.login entries).limit = ap (λ (x : Terms). x.limit) (sym terms_here) in
+      let long : s.facts.settings.limit < length (command_in t) = grind (arith, nat_tests) in
+      inr (inl (record {
+        call = call_of c s.text;
+        pending = st.heard.pending_is ∙ ap (λ k. call_with k s.text) (sym own);
+        talk = t;
+        opens = ap (λ (x : Terms). opening s.login x (call_of c s.text) (connecting_in entries)) terms_here ∙ opens;
+        above = subst (λ l. l < length (command_in t)) limit long;
+        fault_is = ap (λ l. TooLarge (length (command_in t)) l) limit;
+      }))
+
+  opens_some : (c : CallKind) → asks c ≡ true → command_of (next_terms s) (call_of c s.text) ≡ None → ⊥
   opens_some Connect e none = cc
   opens_some Query e none = cc
   opens_some NextRow e none = cc
@@ -234,14 +242,28 @@ module _ (s : Seen) (h : History) (st : Stands s h) (op : is_open s.task ≡ tru
   opens_some Ping e none = cc
   opens_some Quit e none = cc
 
-  asked_told : (c : CallKind) → asks c ≡ true → Some c ≡ kind_in s.task → (o : Option Talk) → opening s.login s.context.terms.kept (call_of c s.text) ≡ o → Explained (asked s c o)
+  -- the own command of a call is the exchange that it begins
+  opens_own : (c : CallKind) → asks c ≡ true → opening s.login (next_terms s) (call_of c s.text) (connecting_in entries) ≡ command_of (next_terms s) (call_of c s.text)
+  opens_own Connect e = cc
+  opens_own Query e = refl
+  opens_own NextRow e = cc
+  opens_own DropResult e = cc
+  opens_own Ping e = refl
+  opens_own Quit e = refl
+
+  asked_told : (c : CallKind) → asks c ≡ true → Some c ≡ kind_in s.task → (o : Option Talk) → command_of (next_terms s) (call_of c s.text) ≡ o → Explained (asked s c o)
   asked_told c asking own None opens = absurd (opens_some c asking opens)
-  asked_told c asking own (Some t) opens = command_told c t own opens (ltb s.login.max_packet (length (command_in t))) refl
+  asked_told c asking own (Some t) opens = command_told c (Own c) t own (opens_own c asking ∙ opens) (ltb s.facts.settings.limit (length (command_in t))) refl
+
+  arranged_told : (n : ℕ) → connecting_in entries ≡ suc n → Some Connect ≡ kind_in s.task → (o : Option Talk) → connecting s.login (next_terms s) (suc n) ≡ o → Explained (arranged s n o)
+  arranged_told n count own None opens = tt
+  arranged_told n count own (Some t) opens = command_told Connect (Arranging (suc n)) t own (ap (connecting s.login (next_terms s)) count ∙ opens) (ltb s.facts.settings.limit (length (command_in t))) refl
 
   -- plans that fit the task
   abbrev Suits : Plan → Type 0
   Suits plans.Reads = Awaits s.task s.context.spot
   Suits (plans.Asks c) = (asks c ≡ true) × (Some c ≡ kind_in s.task)
+  Suits (plans.Arranges n) = (connecting_in entries ≡ suc n) × (Some Connect ≡ kind_in s.task)
   Suits plans.NoMore = (is_idle s.context.spot ≡ true) × (s.untold ≡ false)
   Suits p = Unit {0}
 
@@ -250,6 +272,7 @@ module _ (s : Seen) (h : History) (st : Stands s h) (op : is_open s.task ≡ tru
   plan_told (plans.Starts u) a = tt
   plan_told plans.Hears a = tt
   plan_told (plans.Asks c) own = asked_told c own.0 own.1 _ refl
+  plan_told (plans.Arranges n) own = arranged_told n own.0 own.1 _ refl
   plan_told plans.Readies a = tt
   plan_told plans.Quits a = tt
   plan_told plans.Passes a = tt
@@ -263,17 +286,17 @@ module _ (s : Seen) (h : History) (st : Stands s h) (op : is_open s.task ≡ tru
   awaits_as : (t : Task) → s.task ≡ t → Awaits t s.context.spot → Awaits s.task s.context.spot
   awaits_as t e a = subst (λ (u : Task). Awaits u s.context.spot) (sym e) a
 
-  clean_suits : (c : CallKind) → asks c ≡ true → s.task ≡ Cleaning c → (spot : Spot) → s.context.spot ≡ spot → is_greeting spot ≡ false → (untold : Bool) → Suits (clean_plan c spot untold)
-  clean_suits c asking e spots.Idle at past true = tt
-  clean_suits c asking e spots.Idle at past false = (asking, sym (ap kind_in e))
-  clean_suits c asking e spots.Greeting at past untold = cc
-  clean_suits c asking e spots.Authentication at past untold = awaits_as (Cleaning c) e (cleaning_awaits c s.context.spot (ap is_idle at) (ap is_greeting at))
-  clean_suits c asking e spots.Single at past untold = awaits_as (Cleaning c) e (cleaning_awaits c s.context.spot (ap is_idle at) (ap is_greeting at))
-  clean_suits c asking e spots.Head at past untold = awaits_as (Cleaning c) e (cleaning_awaits c s.context.spot (ap is_idle at) (ap is_greeting at))
-  clean_suits c asking e spots.Further at past untold = awaits_as (Cleaning c) e (cleaning_awaits c s.context.spot (ap is_idle at) (ap is_greeting at))
-  clean_suits c asking e (spots.Columns left) at past untold = awaits_as (Cleaning c) e (cleaning_awaits c s.context.spot (ap is_idle at) (ap is_greeting at))
-  clean_suits c asking e spots.ColumnsEnd at past untold = awaits_as (Cleaning c) e (cleaning_awaits c s.context.spot (ap is_idle at) (ap is_greeting at))
-  clean_suits c asking e spots.Rows at past untold = awaits_as (Cleaning c) e (cleaning_awaits c s.context.spot (ap is_idle at) (ap is_greeting at))
+  clean_suits : (t : Task) → s.task ≡ t → ((spot : Spot) → is_idle spot ≡ false → is_greeting spot ≡ false → Awaits t spot) → (p : Plan) → Suits p → (spot : Spot) → s.context.spot ≡ spot → is_greeting spot ≡ false → (untold : Bool) → Suits (clean_plan p spot untold)
+  clean_suits t e waits p suit spots.Idle at past true = tt
+  clean_suits t e waits p suit spots.Idle at past false = suit
+  clean_suits t e waits p suit spots.Greeting at past untold = cc
+  clean_suits t e waits p suit spots.Authentication at past untold = awaits_as t e (waits s.context.spot (ap is_idle at) (ap is_greeting at))
+  clean_suits t e waits p suit spots.Single at past untold = awaits_as t e (waits s.context.spot (ap is_idle at) (ap is_greeting at))
+  clean_suits t e waits p suit spots.Head at past untold = awaits_as t e (waits s.context.spot (ap is_idle at) (ap is_greeting at))
+  clean_suits t e waits p suit spots.Further at past untold = awaits_as t e (waits s.context.spot (ap is_idle at) (ap is_greeting at))
+  clean_suits t e waits p suit (spots.Columns left) at past untold = awaits_as t e (waits s.context.spot (ap is_idle at) (ap is_greeting at))
+  clean_suits t e waits p suit spots.ColumnsEnd at past untold = awaits_as t e (waits s.context.spot (ap is_idle at) (ap is_greeting at))
+  clean_suits t e waits p suit spots.Rows at past untold = awaits_as t e (waits s.context.spot (ap is_idle at) (ap is_greeting at))
 
   query_suits : s.task ≡ Own Query → (spot : Spot) → s.context.spot ≡ spot → is_heading spot ≡ true → Suits (query_plan spot)
   query_suits e spots.Idle at heads = cc
@@ -289,7 +312,7 @@ module _ (s : Seen) (h : History) (st : Stands s h) (op : is_open s.task ≡ tru
   own_suits : (c : CallKind) → s.task ≡ Own c → HeardAs (Own c) → Suits (own_plan c s.context.spot)
   own_suits Connect e hd = awaits_as (Own Connect) e (connect_awaits s.context.spot hd.at.1)
   own_suits Query e hd =
-      let queried = query_talk s.login (kept_by s.login st.older) s.text talk (subst (λ (c : Call). opening s.login (kept_by s.login st.older) c ≡ Some (origin talk)) hd.tie.0 st.wire.table.0) in
+      let queried = query_talk s.login (terms_by s.login st.older) (connecting_in st.older) s.text talk (subst (λ (c : Call). opening s.login (terms_by s.login st.older) c (connecting_in st.older) ≡ Some (origin talk)) hd.tie.0 st.wire.table.0) in
       query_suits e s.context.spot refl (ap (λ (c : Context). is_heading c.spot) st.wire.context_is ∙ heading_spot talk queried hd.at.2)
   own_suits NextRow e hd = absurd hd.at
   own_suits DropResult e hd = absurd hd.at
@@ -321,8 +344,9 @@ module _ (s : Seen) (h : History) (st : Stands s h) (op : is_open s.task ≡ tru
   suits : (t : Task) → s.task ≡ t → fault_in t ≡ None → HeardAs t → (untold : Bool) → s.untold ≡ untold → Suits (plan_of t s.context.spot untold)
   suits Nothing e sound hd untold told = let no : false ≡ true = sym (ap is_open e) ∙ op in cc
   suits (Begun c) e sound hd untold told = tt
-  suits (Cleaning c) e sound hd untold told = clean_suits c hd.at.0 e s.context.spot refl hd.at.2 untold
+  suits (Cleaning c) e sound hd untold told = clean_suits (Cleaning c) e (cleaning_awaits c) (plans.Asks c) (hd.at.0, sym (ap kind_in e)) s.context.spot refl hd.at.2 untold
   suits (Own c) e sound hd untold told = own_suits c e hd
+  suits (Arranging n) e sound hd untold told = clean_suits (Arranging n) e (arranging_awaits n) (plans.Arranges n) (hd.at.1, sym (ap kind_in e)) s.context.spot refl hd.at.2 untold
   suits Reading e sound hd true told = tt
   suits Reading e sound hd false told = read_suits e told s.context.spot refl hd.at.1
   suits Dropping e sound hd true told = tt

@@ -2,7 +2,7 @@
 use Rattle.std.proofs.Common.{◌≡◌, inl, inr, ℕ, ◌+◌, List, [], ◌∷◌, ◌++◌, length, Option, Some, sym, ap, ◌∙◌, subst, arith}
 use Rattle.std.proofs.lemmas.List.{length-append}
 use Rattle.my_wire.specs.declared.err.ErrPacket.{ErrPacket}
-use Rattle.my_wire.specs.declared.fault.CodecFault.{CodecFault}
+use Rattle.my_frame.specs.declared.fault.CodecFault.{CodecFault}
 use Rattle.my_wire.specs.ErrPacket.{err_at}
 use Rattle.my_grammar.specs.declared.spot.Kind.TheVariants.{Failed}
 use Rattle.my_grammar.specs.Cut.{Rest, Behind, Unfit, Blamed, Cut, cut, kind_of}

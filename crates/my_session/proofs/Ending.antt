@@ -1,8 +1,8 @@
 -- Where bytes are awaited, the link's end is an end that came too early.
-use Rattle.std.proofs.Common.{◌≡◌, ◌⊎◌, ℕ, suc, zero, List, [], ◌∷◌, length, nat_lt, Bool, true, false, cond, Option, Some, None, inl, inr, refl, sym, ap, ◌∙◌, subst}
+use Rattle.std.proofs.Common.{◌≡◌, ◌⊎◌, ℕ, suc, zero, List, [], ◌∷◌, length, Bool, true, false, cond, Option, Some, None, inl, inr, refl, sym, ap, ◌∙◌, subst}
 use Rattle.my_wire.specs.declared.err.ErrPacket.{ErrPacket}
 use Rattle.my_wire.specs.ErrPacket.{err_at}
-use Rattle.my_wire.specs.Front.{Front, Waiting, Broken, Whole, front_at}
+use Rattle.my_frame.specs.Front.{Front, Waiting, Broken, Whole, front_at}
 use Rattle.my_value.specs.RowParts.{RowParts}
 use Rattle.my_grammar.specs.declared.spot.Kind.{Kind}
 use Rattle.my_grammar.specs.Kinds.{kind_there}
@@ -23,11 +23,11 @@ use Rattle.my_session.specs.declared.tables.Plan.TheVariants as plans
 use Rattle.my_session.specs.declared.tables.Reaction.{Reaction}
 use Rattle.my_session.specs.declared.tables.Reaction.TheVariants as reactions
 use Rattle.my_session.specs.Calls.{fault_in, call_of, is_open}
-use Rattle.my_session.specs.Commands.{opening, command_in}
+use Rattle.my_session.specs.Commands.{command_of, connecting, command_in}
 use Rattle.my_session.specs.Errors.{invalid_data, link_error, unexpected_eof}
 use Rattle.my_session.specs.Ends.{EachEnd, IsFault, Fails}
 use Rattle.my_session.specs.History.{ToldReady, ToldRow, ToldEnd, ToldNone, ToldError, Dropped}
-use Rattle.my_session.specs.Machine.{Doing, Goes, Passes, Sends, Needs, Tells, Move, Did, Does, FaultIs, failed_by, reply_to, above, unless_above, refused, gave, passed, reacted, read_by, reading, asked, planned, when_owed, next_by, next, advanced}
+use Rattle.my_session.specs.Machine.{Doing, Goes, Passes, Sends, Needs, Tells, Move, Did, Does, FaultIs, failed_by, reply_to, above, unless_above, refused, gave, passed, reacted, read_by, reading, next_terms, queued, too_large, asked, arranged, planned, when_owed, next_by, next, advanced}
 use Rattle.my_session.specs.Rows.{row_at}
 use Rattle.my_session.specs.Seen.{Seen}
 use Rattle.my_session.specs.Steps.{goes_on, moved, AllGo, Steps, last_tick, with_end, failing, with_failing}
@@ -76,15 +76,20 @@ unfolding needs
 kind_needs s p rest next k true = refl
 kind_needs s p rest next k false = unless_needs s (above s.context.terms.limit (reply_to s.login k p)) _ (reacted_needs s (advanced s k p rest next) p (react s.task k))
 
-asked_if : (s : Seen) (talk : Talk) (b : Bool) (m : Move) (e : Error) → needs m.does ≡ false → needs (cond {A = Move} b (failed_by s e) m).does ≡ false
+begins_needs : (s : Seen) (t : Task) (talk : Talk) (b : Bool) → needs (cond {A = Move} b (too_large s s.facts.settings.limit (length (command_in talk))) (record { seen = queued s t talk; does = Sends })).does ≡ false
 unfolding needs
-asked_if s talk true m e f = refl
-asked_if s talk false m e f = f
+begins_needs s t talk true = refl
+begins_needs s t talk false = refl
 
 asked_needs : (s : Seen) (c : CallKind) (x : Option Talk) → needs (asked s c x).does ≡ false
 unfolding needs
 asked_needs s c None = refl
-asked_needs s c (Some talk) = asked_if s talk (nat_lt s.login.max_packet (length (command_in talk))) _ _ refl
+asked_needs s c (Some talk) = begins_needs s (tasks.Own c) talk _
+
+arranged_needs : (s : Seen) (n : ℕ) (x : Option Talk) → needs (arranged s n x).does ≡ false
+unfolding needs
+arranged_needs s n None = refl
+arranged_needs s n (Some talk) = begins_needs s (tasks.Arranging (suc n)) talk _
 
 -- what a session that asks for bytes does once the link's end was told
 record IsAtEnd (s : Seen) : Type 0 where
@@ -113,7 +118,8 @@ unfolding needs
 planned_rests s plans.Reads e = reading_rests s (front_at s.number s.context.terms.limit s.unread) e
 planned_rests s (plans.Starts t) e = cc
 planned_rests s plans.Hears e = cc
-planned_rests s (plans.Asks c) e = absurd (no_need _ (asked_needs s c (opening s.login s.context.terms.kept (call_of c s.text))) e)
+planned_rests s (plans.Asks c) e = absurd (no_need _ (asked_needs s c (command_of (next_terms s) (call_of c s.text))) e)
+planned_rests s (plans.Arranges n) e = absurd (no_need _ (arranged_needs s n (connecting s.login (next_terms s) (suc n))) e)
 planned_rests s plans.Readies e = cc
 planned_rests s plans.Quits e = cc
 planned_rests s plans.Passes e = cc
@@ -203,6 +209,7 @@ failing_tells s fault tasks.Nothing o = cc
 failing_tells s fault (tasks.Begun c) o = refl
 failing_tells s fault (tasks.Cleaning c) o = refl
 failing_tells s fault (tasks.Own c) o = refl
+failing_tells s fault (tasks.Arranging n) o = refl
 failing_tells s fault tasks.Reading o = refl
 failing_tells s fault tasks.Dropping o = refl
 failing_tells s fault tasks.Leaving o = refl

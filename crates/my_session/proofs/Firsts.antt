@@ -122,15 +122,15 @@ is_queried (Replied terms c last kind) = false
 is_queried (Silent terms c) = false
 
 -- a query's exchange is one of sets
-pub query_talk : (login : Login) (kept : ℕ) (text : List ℕ) (t : Talk) → opening login kept (calls.Query text) ≡ Some (origin t) → is_queried t ≡ true
-query_talk login kept text (Start l) e = cc
-query_talk login kept text (Unwelcome l q) e = cc
-query_talk login kept text (Greeted l q c) e = cc
-query_talk login kept text (Settled l q c last kind) e = cc
-query_talk login kept text (Asked terms c) e = cc
-query_talk login kept text (Replied terms c last kind) e = cc
-query_talk login kept text (Queried terms c x) e = refl
-query_talk login kept text (Silent terms c) e = cc
+pub query_talk : (login : Login) (terms : Terms) (n : ℕ) (text : List ℕ) (t : Talk) → opening login terms (calls.Query text) n ≡ Some (origin t) → is_queried t ≡ true
+query_talk login terms_is n text (Start l) e = cc
+query_talk login terms_is n text (Unwelcome l q) e = cc
+query_talk login terms_is n text (Greeted l q c) e = cc
+query_talk login terms_is n text (Settled l q c last kind) e = cc
+query_talk login terms_is n text (Asked terms c) e = cc
+query_talk login terms_is n text (Replied terms c last kind) e = cc
+query_talk login terms_is n text (Queried terms c x) e = refl
+query_talk login terms_is n text (Silent terms c) e = cc
 
 pub first_on : (k : Kind) (t : Talk) (p : List ℕ) → is_queried t ≡ true → is_first (sets_of t) ≡ true → is_known (context_of t).spot k ≡ true → is_part k ≡ true → is_first (sets_of (grow k t p)) ≡ true
 first_on k (Start l) p q e i part = cc

@@ -2,7 +2,7 @@
 use Rattle.std.proofs.Common.{◌≡◌, ◌||◌, Bool, true, false, Option, Some, None, refl, ◌∙◌}
 use Rattle.my_session.specs.declared.call.CallKind.{CallKind}
 use Rattle.my_session.specs.declared.call.Task.{Task}
-use Rattle.my_session.specs.declared.call.Task.TheVariants.{Nothing, Begun, Cleaning, Own, Reading, Dropping, Leaving, Failing}
+use Rattle.my_session.specs.declared.call.Task.TheVariants.{Nothing, Begun, Cleaning, Own, Arranging, Reading, Dropping, Leaving, Failing}
 use Rattle.my_session.specs.declared.error.Error.{Error}
 use Rattle.my_session.specs.Calls.{kind_in, fault_in, asks, is_connect}
 use Rattle.my_session.specs.Fits.{may_be_told, OwnError, is_begun}
@@ -16,6 +16,7 @@ is_proper Nothing = true
 is_proper (Begun c) = true
 is_proper (Cleaning c) = asks c
 is_proper (Own c) = asks c || is_connect c
+is_proper (Arranging n) = true
 is_proper Reading = true
 is_proper Dropping = true
 is_proper Leaving = true

@@ -1,6 +1,6 @@
 -- What a task plans fits its call.
-use Rattle.std.proofs.Common.{◌≡◌, length, nat_lt, ◌||◌, Bool, true, false, cond, Option, Some, None, refl, subst}
-use Rattle.my_wire.specs.Front.{front_at}
+use Rattle.std.proofs.Common.{◌≡◌, ℕ, suc, length, Bool, true, false, cond, Option, Some, None, refl, subst}
+use Rattle.my_frame.specs.Front.{front_at}
 use Rattle.my_grammar.specs.declared.spot.Spot.{Spot}
 use Rattle.my_grammar.specs.declared.spot.Spot.TheVariants as spots
 use Rattle.my_grammar.specs.Talk.{Talk, Queried, Asked, Silent}
@@ -8,33 +8,34 @@ use Rattle.my_grammar.specs.Sets.{NoSets}
 use Rattle.my_session.specs.declared.call.CallKind.{CallKind}
 use Rattle.my_session.specs.declared.call.CallKind.TheVariants.{Connect, Query, NextRow, DropResult, Ping, Quit}
 use Rattle.my_session.specs.declared.call.Task.{Task}
-use Rattle.my_session.specs.declared.call.Task.TheVariants.{Nothing, Begun, Cleaning, Own, Reading, Dropping, Leaving, Failing}
+use Rattle.my_session.specs.declared.call.Task.TheVariants.{Nothing, Begun, Cleaning, Own, Arranging, Reading, Dropping, Leaving, Failing}
 use Rattle.my_session.specs.declared.tables.Plan.{Plan}
 use Rattle.my_session.specs.declared.tables.Plan.TheVariants as plans
-use Rattle.my_session.specs.Calls.{kind_in, fault_in, asks, is_connect, call_of}
-use Rattle.my_session.specs.Commands.{opening, command_in, command_terms, query_command, ping_command, quit_command}
+use Rattle.my_session.specs.Calls.{kind_in, fault_in, asks, call_of}
+use Rattle.my_session.specs.Commands.{command_of, command_in, query_command, ping_command, quit_command}
 use Rattle.my_session.specs.Fits.{may_be_told, is_begun}
 use Rattle.my_session.specs.History.{ToldReady, ToldEnd, ToldNone}
-use Rattle.my_session.specs.Machine.{Goes, Move, asked, queued, too_large, planned}
+use Rattle.my_session.specs.Machine.{Sends, Move, next_terms, asked, arranged, queued, too_large, planned}
 use Rattle.my_session.specs.Seen.{Seen}
 use Rattle.my_session.specs.Tables.{plan_of, clean_plan, own_plan, query_plan, read_plan, drop_plan, first_task}
 use Rattle.my_session.proofs.FitMoves.{is_proper, GoesOn, going, on_here, on_task, on_fell, MoveFits, failed_fits}
 use Rattle.my_session.proofs.FitReacts.{reading_fits}
 
-queued_fits : (s : Seen) (c : CallKind) (talk : Talk) (b : Bool) → (asks c || is_connect c) ≡ true → MoveFits (Some c) s (cond {A = Move} b (too_large s s.login.max_packet (length (command_in talk))) (record { seen = queued s (Own c) talk; does = Goes }))
-queued_fits s c talk true a = failed_fits s _ (Some c) (λ _. tt)
-queued_fits s c talk false a = record { fits = going (Some c) (Own c) a refl refl refl; is_on = record { login = refl; ended = refl; alive = λ e. e }; own = λ _. tt }
+begins_if : (s : Seen) (c : Option CallKind) (u : Task) (talk : Talk) (b : Bool) → is_begun u ≡ false → fault_in u ≡ None → MoveFits c s (cond {A = Move} b (too_large s s.facts.settings.limit (length (command_in talk))) (record { seen = queued s u talk; does = Sends }))
+begins_if s c u talk true n e = failed_fits s _ c (λ _. tt)
+begins_if s c u talk false n e = record { fits = (n, e); is_on = record { login = refl; ended = refl; alive = λ e. e }; own = λ _. tt }
 
-talk_fits : (s : Seen) (c : CallKind) (talk : Talk) → (asks c || is_connect c) ≡ true → MoveFits (Some c) s (asked s c (Some talk))
-talk_fits s c talk a = queued_fits s c talk (nat_lt s.login.max_packet (length (command_in talk))) a
-
-asked_fits : (s : Seen) (c : CallKind) → asks c ≡ true → MoveFits (Some c) s (asked s c (opening s.login s.context.terms.kept (call_of c s.text)))
+asked_fits : (s : Seen) (c : CallKind) → asks c ≡ true → MoveFits (Some c) s (asked s c (command_of (next_terms s) (call_of c s.text)))
 asked_fits s Connect a = cc
-asked_fits s Query a = talk_fits s Query (Queried (command_terms s.login s.context.terms.kept) (query_command s.text) NoSets) refl
+asked_fits s Query a = begins_if s (Some Query) (Own Query) (Queried (next_terms s) (query_command s.text) NoSets) _ refl refl
 asked_fits s NextRow a = cc
 asked_fits s DropResult a = cc
-asked_fits s Ping a = talk_fits s Ping (Asked (command_terms s.login s.context.terms.kept) ping_command) refl
-asked_fits s Quit a = talk_fits s Quit (Silent (command_terms s.login s.context.terms.kept) quit_command) refl
+asked_fits s Ping a = begins_if s (Some Ping) (Own Ping) (Asked (next_terms s) ping_command) _ refl refl
+asked_fits s Quit a = begins_if s (Some Quit) (Own Quit) (Silent (next_terms s) quit_command) _ refl refl
+
+arranged_fits : (s : Seen) (c : Option CallKind) (n : ℕ) (o : Option Talk) → may_be_told c ToldReady ≡ true → MoveFits c s (arranged s n o)
+arranged_fits s c n None f = record { fits = f; is_on = on_task s s Nothing s.untold (on_here s); own = λ _. tt }
+arranged_fits s c n (Some talk) f = begins_if s c (Arranging (suc n)) talk _ refl refl
 
 -- what a task may plan
 abbrev PlanFits : Task → Option CallKind → Plan → Type 0
@@ -42,6 +43,7 @@ PlanFits t c plans.Reads = is_begun t ≡ false
 PlanFits t c (plans.Starts u) = GoesOn c u
 PlanFits t c plans.Hears = is_begun t ≡ false
 PlanFits t c (plans.Asks d) = (asks d ≡ true) × (Some d ≡ c)
+PlanFits t c (plans.Arranges n) = may_be_told c ToldReady ≡ true
 PlanFits t c plans.Readies = may_be_told c ToldReady ≡ true
 PlanFits t c plans.Quits = may_be_told c ToldReady ≡ true
 PlanFits t c plans.Passes = is_begun t ≡ false
@@ -53,7 +55,8 @@ pub planned_fits : (s : Seen) (p : Plan) → is_proper s.task ≡ true → fault
 planned_fits s plans.Reads a e f = reading_fits s (front_at s.number s.context.terms.limit s.unread) a f e
 planned_fits s (plans.Starts t) a e f = record { fits = f; is_on = on_task s s t s.untold (on_here s); own = λ _. tt }
 planned_fits s plans.Hears a e f = record { fits = going (kind_in s.task) s.task a refl f e; is_on = on_task s s s.task false (on_here s); own = λ _. tt }
-planned_fits s (plans.Asks c) a e f = subst (λ (k : Option CallKind). MoveFits k s (asked s c (opening s.login s.context.terms.kept (call_of c s.text)))) f.1 (asked_fits s c f.0)
+planned_fits s (plans.Asks c) a e f = subst (λ (k : Option CallKind). MoveFits k s (asked s c (command_of (next_terms s) (call_of c s.text)))) f.1 (asked_fits s c f.0)
+planned_fits s (plans.Arranges n) a e f = arranged_fits s (kind_in s.task) n _ f
 planned_fits s plans.Readies a e f = record { fits = f; is_on = on_task s s Nothing s.untold (on_here s); own = λ _. tt }
 planned_fits s plans.Quits a e f = record { fits = f; is_on = on_fell s s (on_here s); own = λ _. tt }
 planned_fits s plans.Passes a e f = record { fits = going (kind_in s.task) s.task a refl f e; is_on = on_task s s s.task false (on_here s); own = λ _. tt }
@@ -69,17 +72,17 @@ first_plan t DropResult = going (Some DropResult) Dropping refl refl refl refl
 first_plan t Ping = going (Some Ping) (Cleaning Ping) refl refl refl refl
 first_plan t Quit = going (Some Quit) (Cleaning Quit) refl refl refl refl
 
-clean_plan_fits : (c : CallKind) (spot : Spot) (untold : Bool) → asks c ≡ true → PlanFits (Cleaning c) (Some c) (clean_plan c spot untold)
-clean_plan_fits c spots.Idle true a = refl
-clean_plan_fits c spots.Idle false a = (a, refl)
-clean_plan_fits c spots.Greeting untold a = refl
-clean_plan_fits c spots.Authentication untold a = refl
-clean_plan_fits c spots.Single untold a = refl
-clean_plan_fits c spots.Head untold a = refl
-clean_plan_fits c spots.Further untold a = refl
-clean_plan_fits c (spots.Columns left) untold a = refl
-clean_plan_fits c spots.ColumnsEnd untold a = refl
-clean_plan_fits c spots.Rows untold a = refl
+clean_plan_fits : (t : Task) (c : Option CallKind) (p : Plan) → is_begun t ≡ false → PlanFits t c p → (spot : Spot) (untold : Bool) → PlanFits t c (clean_plan p spot untold)
+clean_plan_fits t c p n f spots.Idle true = n
+clean_plan_fits t c p n f spots.Idle false = f
+clean_plan_fits t c p n f spots.Greeting untold = n
+clean_plan_fits t c p n f spots.Authentication untold = n
+clean_plan_fits t c p n f spots.Single untold = n
+clean_plan_fits t c p n f spots.Head untold = n
+clean_plan_fits t c p n f spots.Further untold = n
+clean_plan_fits t c p n f (spots.Columns left) untold = n
+clean_plan_fits t c p n f spots.ColumnsEnd untold = n
+clean_plan_fits t c p n f spots.Rows untold = n
 
 query_plan_fits : (spot : Spot) → PlanFits (Own Query) (Some Query) (query_plan spot)
 query_plan_fits spots.Idle = refl
@@ -125,8 +128,9 @@ drop_plan_fits spots.Rows = refl
 pub plan_fits : (t : Task) (spot : Spot) (untold : Bool) → is_proper t ≡ true → fault_in t ≡ None → PlanFits t (kind_in t) (plan_of t spot untold)
 plan_fits Nothing spot untold a e = refl
 plan_fits (Begun c) spot untold a e = first_plan (Begun c) c
-plan_fits (Cleaning c) spot untold a e = clean_plan_fits c spot untold a
+plan_fits (Cleaning c) spot untold a e = clean_plan_fits (Cleaning c) (Some c) (plans.Asks c) refl (a, refl) spot untold
 plan_fits (Own c) spot untold a e = own_plan_fits c spot
+plan_fits (Arranging n) spot untold a e = clean_plan_fits (Arranging n) (Some Connect) (plans.Arranges n) refl refl spot untold
 plan_fits Reading spot true a e = refl
 plan_fits Reading spot false a e = read_plan_fits spot
 plan_fits Dropping spot true a e = refl

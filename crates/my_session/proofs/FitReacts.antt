@@ -2,7 +2,7 @@
 use Rattle.std.proofs.Common.{◌≡◌, ℕ, List, Bool, true, false, cond, Option, Some, None, refl, ap, ◌∙◌}
 use Rattle.my_wire.specs.declared.err.ErrPacket.{ErrPacket}
 use Rattle.my_wire.specs.ErrPacket.{err_at}
-use Rattle.my_wire.specs.Front.{Front, Waiting, Broken, Whole}
+use Rattle.my_frame.specs.Front.{Front, Waiting, Broken, Whole}
 use Rattle.my_value.specs.RowParts.{RowParts}
 use Rattle.my_grammar.specs.declared.spot.Kind.{Kind}
 use Rattle.my_grammar.specs.declared.spot.Kind.TheVariants as kinds
@@ -10,17 +10,17 @@ use Rattle.my_grammar.specs.Kinds.{kind_there}
 use Rattle.my_session.specs.declared.call.CallKind.{CallKind}
 use Rattle.my_session.specs.declared.call.CallKind.TheVariants.{Connect, Query, NextRow, DropResult, Ping, Quit}
 use Rattle.my_session.specs.declared.call.Task.{Task}
-use Rattle.my_session.specs.declared.call.Task.TheVariants.{Nothing, Begun, Cleaning, Own, Reading, Dropping, Leaving, Failing}
+use Rattle.my_session.specs.declared.call.Task.TheVariants.{Nothing, Begun, Cleaning, Own, Arranging, Reading, Dropping, Leaving, Failing}
 use Rattle.my_session.specs.declared.tables.Reaction.{Reaction}
 use Rattle.my_session.specs.declared.tables.Reaction.TheVariants as reactions
-use Rattle.my_session.specs.Calls.{kind_in, fault_in, asks}
+use Rattle.my_session.specs.Calls.{kind_in, fault_in}
 use Rattle.my_session.specs.Errors.{invalid_data, unexpected_eof}
 use Rattle.my_session.specs.Fits.{may_be_told, is_begun}
 use Rattle.my_session.specs.History.{ToldReady, ToldRow, ToldEnd}
 use Rattle.my_session.specs.Machine.{Needs, Move, fell, advanced, with_task, failed_by, reply_to, above, unless_above, refused, gave, passed, reacted, read_by, reading}
 use Rattle.my_session.specs.Rows.{row_at}
 use Rattle.my_session.specs.Seen.{Seen}
-use Rattle.my_session.specs.Tables.{react, is_breaking, is_connecting}
+use Rattle.my_session.specs.Tables.{react, react_whole, is_breaking, is_connecting}
 use Rattle.my_session.proofs.FitMoves.{is_proper, GoesOn, going, IsOn, on_here, on_task, on_fell, MoveFits, any_error, failed_fits}
 
 -- what a reaction may be to a payload
@@ -34,20 +34,20 @@ ReactionFits t c reactions.PassesEnd = (is_begun t ≡ false) × (fault_in t ≡
 ReactionFits t c reactions.Refuses = Unit {0}
 ReactionFits t c reactions.Breaks = Unit {0}
 
-cleaning_react : (c : CallKind) (k : Kind) → asks c ≡ true → ReactionFits (Cleaning c) (Some c) (react (Cleaning c) k)
-cleaning_react c (kinds.Greets n) a = tt
-cleaning_react c (kinds.Good status) a = going (Some c) (Cleaning c) a refl refl refl
-cleaning_react c kinds.Failed a = tt
-cleaning_react c (kinds.Count n) a = going (Some c) (Cleaning c) a refl refl refl
-cleaning_react c kinds.Column a = going (Some c) (Cleaning c) a refl refl refl
-cleaning_react c kinds.ColumnsDone a = going (Some c) (Cleaning c) a refl refl refl
-cleaning_react c kinds.Row a = going (Some c) (Cleaning c) a refl refl refl
-cleaning_react c (kinds.End status) a = going (Some c) (Cleaning c) a refl refl refl
-cleaning_react c kinds.Bad a = tt
+whole_react : (t : Task) (k : Kind) → is_proper t ≡ true → is_begun t ≡ false → fault_in t ≡ None → ReactionFits t (kind_in t) (react_whole t k)
+whole_react t (kinds.Greets n) a b f = tt
+whole_react t (kinds.Good status) a b f = going (kind_in t) t a refl b f
+whole_react t kinds.Failed a b f = tt
+whole_react t (kinds.Count n) a b f = going (kind_in t) t a refl b f
+whole_react t kinds.Column a b f = going (kind_in t) t a refl b f
+whole_react t kinds.ColumnsDone a b f = going (kind_in t) t a refl b f
+whole_react t kinds.Row a b f = going (kind_in t) t a refl b f
+whole_react t (kinds.End status) a b f = going (kind_in t) t a refl b f
+whole_react t kinds.Bad a b f = tt
 
 connect_react : (k : Kind) → ReactionFits (Own Connect) (Some Connect) (react (Own Connect) k)
 connect_react (kinds.Greets n) = going (Some Connect) (Own Connect) refl refl refl refl
-connect_react (kinds.Good status) = refl
+connect_react (kinds.Good status) = going (Some Connect) (Arranging 0) refl refl refl refl
 connect_react kinds.Failed = tt
 connect_react (kinds.Count n) = tt
 connect_react kinds.Column = tt
@@ -111,8 +111,9 @@ own_react Quit k = tt
 react_fits : (t : Task) (k : Kind) → is_proper t ≡ true → ReactionFits t (kind_in t) (react t k)
 react_fits Nothing k a = tt
 react_fits (Begun c) k a = tt
-react_fits (Cleaning c) k a = cleaning_react c k a
+react_fits (Cleaning c) k a = whole_react (Cleaning c) k a refl refl
 react_fits (Own c) k a = own_react c k
+react_fits (Arranging n) k a = whole_react (Arranging n) k a refl refl
 react_fits Reading k a = reading_react k
 react_fits Dropping k a = dropping_react k
 react_fits Leaving k a = tt

@@ -9,7 +9,7 @@ use Rattle.my_session.specs.declared.call.CallKind.{CallKind}
 use Rattle.my_session.specs.declared.call.CallKind.TheVariants.{Connect, Query, NextRow, DropResult, Ping, Quit}
 use Rattle.my_session.specs.declared.call.LinkFault.{LinkFault}
 use Rattle.my_session.specs.declared.call.Task.{Task}
-use Rattle.my_session.specs.declared.call.Task.TheVariants.{Nothing, Begun, Cleaning, Own, Reading, Dropping, Leaving, Failing}
+use Rattle.my_session.specs.declared.call.Task.TheVariants.{Nothing, Begun, Cleaning, Own, Arranging, Reading, Dropping, Leaving, Failing}
 use Rattle.my_session.specs.declared.error.Error.{Error}
 use Rattle.my_session.specs.declared.error.Error.TheVariants as errors
 use Rattle.my_session.specs.Calls.{kind_in, fault_in, asks, is_connect}
@@ -130,33 +130,35 @@ last_fits old here new (steps.Done a) u d =
     fits_on old here new (steps.Done a) u (did_on here new (ticks.Done a) m.is_on d) fits tt tt
 last_fits old here new (steps.Fault e) u d = let m = next_fits here u.proper u.quiet in fits_on old here new (steps.Fault e) u (fault_on here new e m.is_on d) tt (subst (λ (f : Option LinkFault). FaultFits f old.ended e) u.fault (subst (λ (b : Bool). FaultFits (fault_in here.task) b e) u.is_on.ended (fault_error here new e d m.own))) tt
 
-own_proper : (c : CallKind) (spot : Spot) (connected : Bool) (newest : Entry) → OwnAt c spot connected newest → (asks c || is_connect c) ≡ true
-own_proper Connect spot connected newest w = refl
-own_proper Query spot connected newest w = refl
-own_proper NextRow spot connected newest w = absurd w
-own_proper DropResult spot connected newest w = absurd w
-own_proper Ping spot connected newest w = refl
-own_proper Quit spot connected newest w = refl
+own_proper : (c : CallKind) (spot : Spot) (connected : Bool) (count : ℕ) (newest : Entry) → OwnAt c spot connected count newest → (asks c || is_connect c) ≡ true
+own_proper Connect spot connected count newest w = refl
+own_proper Query spot connected count newest w = refl
+own_proper NextRow spot connected count newest w = absurd w
+own_proper DropResult spot connected count newest w = absurd w
+own_proper Ping spot connected count newest w = refl
+own_proper Quit spot connected count newest w = refl
 
-task_proper : (t : Task) (spot : Spot) (closed connected : Bool) (newest : Entry) → TaskIs t spot closed connected newest → is_proper t ≡ true
-task_proper Nothing spot closed connected newest w = refl
-task_proper (Begun c) spot closed connected newest w = refl
-task_proper (Cleaning c) spot closed connected newest w = w.0
-task_proper (Own c) spot closed connected newest w = own_proper c spot connected newest w
-task_proper Reading spot closed connected newest w = refl
-task_proper Dropping spot closed connected newest w = refl
-task_proper Leaving spot closed connected newest w = refl
-task_proper (Failing c fault) spot closed connected newest w = refl
+task_proper : (t : Task) (spot : Spot) (closed connected : Bool) (count : ℕ) (newest : Entry) → TaskIs t spot closed connected count newest → is_proper t ≡ true
+task_proper Nothing spot closed connected count newest w = refl
+task_proper (Begun c) spot closed connected count newest w = refl
+task_proper (Cleaning c) spot closed connected count newest w = w.0
+task_proper (Own c) spot closed connected count newest w = own_proper c spot connected count newest w
+task_proper (Arranging n) spot closed connected count newest w = refl
+task_proper Reading spot closed connected count newest w = refl
+task_proper Dropping spot closed connected count newest w = refl
+task_proper Leaving spot closed connected count newest w = refl
+task_proper (Failing c fault) spot closed connected count newest w = refl
 
 begun_owes : (t : Task) → is_begun t ≡ true → owes t ≡ false
 begun_owes Nothing e = cc
 begun_owes (Begun c) e = refl
 begun_owes (Cleaning c) e = cc
 begun_owes (Own c) e = cc
+begun_owes (Arranging n) e = cc
 begun_owes Reading e = cc
 begun_owes Dropping e = cc
 begun_owes Leaving e = cc
 begun_owes (Failing c fault) e = cc
 
 pub each_answer_fits : EachAnswerFits
-each_answer_fits old new h step st w = last_fits old (moved w.count old) new step (same_moved w.count old (task_proper _ _ _ _ _ st.heard.at) (λ e. st.settled (begun_owes old.task e)) w.go) w.last
+each_answer_fits old new h step st w = last_fits old (moved w.count old) new step (same_moved w.count old (task_proper _ _ _ _ _ _ st.heard.at) (λ e. st.settled (begun_owes old.task e)) w.go) w.last

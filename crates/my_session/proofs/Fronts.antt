@@ -1,11 +1,11 @@
 -- The payload that was read from the front is the one that stands there.
 use Rattle.std.proofs.Common.{◌≡◌, ℕ, ◌-◌, List, ◌++◌, length, drop, Some, Ok, sym, ap, ◌∙◌, arith, length-append}
 use Rattle.std.proofs.lemmas.List.{drop_at}
-use Rattle.my_wire.specs.declared.front.FramedPayload.{FramedPayload}
-use Rattle.my_wire.specs.Chunks.{chunks}
-use Rattle.my_wire.specs.Framed.{IsFramed}
-use Rattle.my_wire.specs.Front.{Front, Waiting, Broken, Whole}
-use Rattle.my_wire.specs.FrontLaws.{FrontMeans, IsWhole}
+use Rattle.my_frame.specs.declared.front.FramedPayload.{FramedPayload}
+use Rattle.my_frame.specs.Chunks.{chunks}
+use Rattle.my_frame.specs.Framed.{IsFramed}
+use Rattle.my_frame.specs.Front.{Front, Waiting, Broken, Whole}
+use Rattle.my_frame.specs.FrontLaws.{FrontMeans, IsWhole}
 
 -- what stands behind a payload's chunks is found behind their length
 drop_chunks : (bytes front rest : List ℕ) → bytes ≡ front ++ rest → drop (length bytes - length rest) bytes ≡ rest

@@ -1,6 +1,8 @@
 -- Moves that go on come to an end, and each move leaves what it says.
-use Rattle.std.proofs.Common.{◌≡◌, ◌≢◌, ℕ, ◌+◌, ◌<◌, ◌≤◌, List, [], ◌∷◌, length, Bool, true, false, cond, Option, Some, None, refl, sym, ap, ◌∙◌, subst, arith}
-use Rattle.my_wire.specs.Front.{Front, Waiting, Broken, Whole, front_at}
+use Rattle.std.proofs.Common.{◌≡◌, ◌≢◌, ℕ, zero, suc, ◌+◌, ◌/◌, ◌<◌, ◌≤◌, List, [], ◌∷◌, ◌++◌, length, Bool, true, false, cond, Option, Some, None, refl, sym, ap, ◌∙◌, subst, arith}
+use Rattle.std.specs.List.{slice_get}
+use Rattle.my_frame.specs.Chunks.{full_length, numbered, split_full, parts_of, chunks}
+use Rattle.my_frame.specs.Front.{Front, Waiting, Broken, Whole, front_at}
 use Rattle.my_wire.specs.declared.err.ErrPacket.{ErrPacket}
 use Rattle.my_value.specs.RowParts.{RowParts}
 use Rattle.my_grammar.specs.declared.spot.Spot.{Spot}
@@ -8,13 +10,14 @@ use Rattle.my_grammar.specs.declared.spot.Spot.TheVariants as spots
 use Rattle.my_grammar.specs.declared.spot.Kind.{Kind}
 use Rattle.my_grammar.specs.declared.spot.Kind.TheVariants as kinds
 use Rattle.my_grammar.specs.Kinds.{kind_there}
-use Rattle.my_grammar.specs.Talk.{Talk}
+use Rattle.my_grammar.specs.Sets.{NoSets}
+use Rattle.my_grammar.specs.Talk.{Talk, Asked, Queried, Silent, turns, client_bytes}
 use Rattle.my_grammar.proofs.Fronts.{takes_whole}
 use Rattle.my_session.specs.declared.call.CallKind.{CallKind}
 use Rattle.my_session.specs.declared.call.CallKind.TheVariants.{Connect, Query, NextRow, DropResult, Ping, Quit}
 use Rattle.my_session.specs.declared.call.LinkFault.{LinkFault}
 use Rattle.my_session.specs.declared.call.Task.{Task}
-use Rattle.my_session.specs.declared.call.Task.TheVariants.{Nothing, Begun, Cleaning, Own, Reading, Dropping, Leaving, Failing}
+use Rattle.my_session.specs.declared.call.Task.TheVariants.{Nothing, Begun, Cleaning, Own, Arranging, Reading, Dropping, Leaving, Failing}
 use Rattle.my_session.specs.declared.error.Error.{Error}
 use Rattle.my_session.specs.declared.error.Error.TheVariants as errors
 use Rattle.my_session.specs.declared.tables.Plan.{Plan}
@@ -23,15 +26,15 @@ use Rattle.my_session.specs.declared.tables.Reaction.{Reaction}
 use Rattle.my_session.specs.declared.tables.Reaction.TheVariants as reactions
 use Rattle.my_session.specs.declared.answer.Tick.{Tick}
 use Rattle.my_session.specs.declared.answer.Tick.TheVariants as ticks
-use Rattle.my_session.specs.Calls.{is_open, fault_in}
-use Rattle.my_session.specs.Commands.{command_in}
+use Rattle.my_session.specs.Calls.{is_open, fault_in, call_of}
+use Rattle.my_session.specs.Commands.{command_of, query_of, arranging_texts, command_in, query_command, ping_command, quit_command}
 use Rattle.my_session.specs.Errors.{invalid_data, unexpected_eof}
 use Rattle.my_session.specs.Machine as machine
-use Rattle.my_session.specs.Machine.{Move, Doing, Goes, Sends, Needs, Tells, Did, Does, FaultIs, fell, with_task, advanced, reply_to, above, unless_above, refused, gave, passed, reacted, read_by, read_kind, reading, asked, planned, when_owed, next_by, next, doing}
+use Rattle.my_session.specs.Machine.{Move, Doing, Goes, Sends, Needs, Tells, Did, Does, FaultIs, fell, with_task, advanced, reply_to, above, unless_above, refused, gave, passed, reacted, read_by, read_kind, reading, next_terms, asked, arranged, planned, when_owed, next_by, next, doing}
 use Rattle.my_session.specs.Rows.{row_at}
 use Rattle.my_session.specs.Seen.{Seen}
 use Rattle.my_session.specs.Steps.{rank, left_to_do, TickIs}
-use Rattle.my_session.specs.Tables.{plan_of, react, react_connect, react_query, react_ping, react_own, is_breaking, is_connecting, first_task, clean_plan, own_plan, query_plan, read_plan, drop_plan}
+use Rattle.my_session.specs.Tables.{plan_of, react, react_whole, react_connect, react_query, react_ping, react_own, is_breaking, is_connecting, first_task, clean_plan, own_plan, query_plan, read_plan, drop_plan}
 
 -- what a move leaves
 abbrev pub MoveIs : Seen → Seen → Doing → Type 0
@@ -48,7 +51,7 @@ GoesOn r = Unit {0}
 
 connect_goes : (k : Kind) → GoesOn (react_connect k)
 connect_goes (kinds.Greets n) = (refl, omega arith)
-connect_goes (kinds.Good status) = tt
+connect_goes (kinds.Good status) = (refl, omega arith)
 connect_goes kinds.Failed = tt
 connect_goes (kinds.Count n) = tt
 connect_goes kinds.Column = tt
@@ -87,19 +90,23 @@ own_goes DropResult k = tt
 own_goes Ping k = ping_goes k
 own_goes Quit k = tt
 
+whole_goes : (t : Task) → is_open t ≡ true → rank t false ≤ 1 → (k : Kind) → GoesOn (react_whole t k)
+whole_goes t op low (kinds.Greets n) = tt
+whole_goes t op low (kinds.Good status) = (op, low)
+whole_goes t op low kinds.Failed = tt
+whole_goes t op low (kinds.Count n) = (op, low)
+whole_goes t op low kinds.Column = (op, low)
+whole_goes t op low kinds.ColumnsDone = (op, low)
+whole_goes t op low kinds.Row = (op, low)
+whole_goes t op low (kinds.End status) = (op, low)
+whole_goes t op low kinds.Bad = tt
+
 react_goes : (t : Task) (k : Kind) → GoesOn (react t k)
 react_goes Nothing k = tt
 react_goes (Begun c) k = tt
-react_goes (Cleaning c) (kinds.Greets n) = tt
-react_goes (Cleaning c) (kinds.Good status) = (refl, omega arith)
-react_goes (Cleaning c) kinds.Failed = tt
-react_goes (Cleaning c) (kinds.Count n) = (refl, omega arith)
-react_goes (Cleaning c) kinds.Column = (refl, omega arith)
-react_goes (Cleaning c) kinds.ColumnsDone = (refl, omega arith)
-react_goes (Cleaning c) kinds.Row = (refl, omega arith)
-react_goes (Cleaning c) (kinds.End status) = (refl, omega arith)
-react_goes (Cleaning c) kinds.Bad = tt
+react_goes (Cleaning c) k = whole_goes (Cleaning c) refl (omega arith) k
 react_goes (Own c) k = own_goes c k
+react_goes (Arranging n) k = whole_goes (Arranging n) refl (omega arith) k
 react_goes Reading (kinds.Greets n) = tt
 react_goes Reading (kinds.Good status) = tt
 react_goes Reading kinds.Failed = tt
@@ -126,6 +133,7 @@ rank_false Nothing untold = omega arith
 rank_false (Begun c) untold = omega arith
 rank_false (Cleaning c) untold = omega arith
 rank_false (Own c) untold = omega arith
+rank_false (Arranging n) untold = omega arith
 rank_false Reading untold = omega arith
 rank_false Dropping untold = omega arith
 rank_false Leaving untold = omega arith
@@ -197,23 +205,40 @@ front_is s (Whole p rest next) op none at = kind_is s p rest next (kind_there s.
 abbrev FitsTask : Task → Bool → Plan → Type 0
 FitsTask t untold (plans.Starts u) = (is_open u ≡ true) × (rank u untold < rank t untold)
 FitsTask t untold plans.Hears = rank t false < rank t untold
-FitsTask t untold (plans.Asks c) = 0 < rank t untold
 FitsTask t untold plans.Passes = rank t false < rank t untold
 FitsTask t untold p = Unit {0}
 
-asked_by : (s : Seen) (c : CallKind) (talk : Talk) (long : Bool) → 0 < rank s.task s.untold → MoveIs s (cond long (machine.too_large s s.login.max_packet (length (command_in talk))) (record { seen = machine.queued s (Own c) talk; does = Goes })).seen (cond long (machine.too_large s s.login.max_packet (length (command_in talk))) (record { seen = machine.queued s (Own c) talk; does = Goes })).does
-asked_by s c talk true f = refl
-asked_by s c talk false f = (refl, omega arith)
+-- a payload's chunks are some bytes
+some_parts : (count : ℕ) (p : List ℕ) (n : ℕ) → numbered (split_full count p) n ≢ []
+some_parts zero p n e = cc
+some_parts (suc count) p n e = cc
 
-asked_is : (s : Seen) (c : CallKind) (talk : Option Talk) → 0 < rank s.task s.untold → MoveIs s (asked s c talk).seen (asked s c talk).does
-asked_is s c None f = refl
-asked_is s c (Some talk) f = asked_by s c talk _ f
+some_bytes : (p : List ℕ) (n : ℕ) → chunks p n ≢ []
+unfolding chunks parts_of
+some_bytes p n e = some_parts (length p / full_length) p n e
+
+begins_if : (s : Seen) (u : Task) (talk : Talk) (long : Bool) → s.owed ≡ [] → is_open u ≡ true → client_bytes (turns talk) ≢ [] → MoveIs s (cond long (machine.too_large s s.facts.settings.limit (length (command_in talk))) (record { seen = machine.queued s u talk; does = Sends })).seen (cond long (machine.too_large s s.facts.settings.limit (length (command_in talk))) (record { seen = machine.queued s u talk; does = Sends })).does
+begins_if s u talk true none op some = refl
+begins_if s u talk false none op some = (op, λ e. some (sym (ap (λ bs. bs ++ client_bytes (turns talk)) none) ∙ e))
+
+asked_is : (s : Seen) (c : CallKind) (text : List ℕ) → s.owed ≡ [] → MoveIs s (asked s c (command_of (next_terms s) (call_of c text))).seen (asked s c (command_of (next_terms s) (call_of c text))).does
+asked_is s Connect text none = refl
+asked_is s Query text none = begins_if s (Own Query) (Queried (next_terms s) (query_command text) NoSets) _ none refl (some_bytes (query_command text) 0)
+asked_is s NextRow text none = refl
+asked_is s DropResult text none = refl
+asked_is s Ping text none = begins_if s (Own Ping) (Asked (next_terms s) ping_command) _ none refl (some_bytes ping_command 0)
+asked_is s Quit text none = begins_if s (Own Quit) (Silent (next_terms s) quit_command) _ none refl (some_bytes quit_command 0)
+
+arranged_is : (s : Seen) (n : ℕ) (text : Option (List ℕ)) → s.owed ≡ [] → MoveIs s (arranged s n (query_of (next_terms s) text)).seen (arranged s n (query_of (next_terms s) text)).does
+arranged_is s n None none = refl
+arranged_is s n (Some text) none = begins_if s (Arranging (suc n)) (Queried (next_terms s) (query_command text) NoSets) _ none refl (some_bytes (query_command text) 0)
 
 plan_is : (s : Seen) (plan : Plan) → is_open s.task ≡ true → s.owed ≡ [] → FitsTask s.task s.untold plan → MoveIs s (planned s plan).seen (planned s plan).does
 plan_is s plans.Reads op none f = front_is s _ op none refl
 plan_is s (plans.Starts u) op none f = let less = f.1 in (f.0, omega arith)
 plan_is s plans.Hears op none f = (op, omega arith)
-plan_is s (plans.Asks c) op none f = asked_is s c _ f
+plan_is s (plans.Asks c) op none f = asked_is s c s.text none
+plan_is s (plans.Arranges n) op none f = arranged_is s n (slice_get (arranging_texts s.login) n) none
 plan_is s plans.Readies op none f = refl
 plan_is s plans.Quits op none f = refl
 plan_is s plans.Passes op none f = (op, omega arith)
@@ -221,17 +246,17 @@ plan_is s plans.Dropped op none f = refl
 plan_is s plans.Ends op none f = refl
 plan_is s plans.NoMore op none f = refl
 
-cleaning_fits : (c : CallKind) (spot : Spot) (untold : Bool) → FitsTask (Cleaning c) untold (clean_plan c spot untold)
-cleaning_fits c spots.Idle true = omega arith
-cleaning_fits c spots.Idle false = omega arith
-cleaning_fits c spots.Greeting untold = tt
-cleaning_fits c spots.Authentication untold = tt
-cleaning_fits c spots.Single untold = tt
-cleaning_fits c spots.Head untold = tt
-cleaning_fits c spots.Further untold = tt
-cleaning_fits c (spots.Columns left) untold = tt
-cleaning_fits c spots.ColumnsEnd untold = tt
-cleaning_fits c spots.Rows untold = tt
+cleaning_fits : (t : Task) (p : Plan) → rank t false < rank t true → FitsTask t false p → (spot : Spot) (untold : Bool) → FitsTask t untold (clean_plan p spot untold)
+cleaning_fits t p less f spots.Idle true = less
+cleaning_fits t p less f spots.Idle false = f
+cleaning_fits t p less f spots.Greeting untold = tt
+cleaning_fits t p less f spots.Authentication untold = tt
+cleaning_fits t p less f spots.Single untold = tt
+cleaning_fits t p less f spots.Head untold = tt
+cleaning_fits t p less f spots.Further untold = tt
+cleaning_fits t p less f (spots.Columns left) untold = tt
+cleaning_fits t p less f spots.ColumnsEnd untold = tt
+cleaning_fits t p less f spots.Rows untold = tt
 
 rank_cleaning : (c : CallKind) (untold : Bool) → rank (Cleaning c) untold < 3
 rank_cleaning c true = omega arith
@@ -293,8 +318,9 @@ drop_fits spots.Rows = tt
 plan_fits : (t : Task) (spot : Spot) (untold : Bool) → FitsTask t untold (plan_of t spot untold)
 plan_fits Nothing spot untold = tt
 plan_fits (Begun c) spot untold = first_fits c untold
-plan_fits (Cleaning c) spot untold = cleaning_fits c spot untold
+plan_fits (Cleaning c) spot untold = cleaning_fits (Cleaning c) (plans.Asks c) (omega arith) tt spot untold
 plan_fits (Own c) spot untold = own_fits c spot untold
+plan_fits (Arranging n) spot untold = cleaning_fits (Arranging n) (plans.Arranges n) (omega arith) tt spot untold
 plan_fits Reading spot true = tt
 plan_fits Reading spot false = read_fits spot
 plan_fits Dropping spot true = omega arith

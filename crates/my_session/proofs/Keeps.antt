@@ -1,8 +1,8 @@
 -- Each move keeps what a session stands for.
-use Rattle.std.proofs.Common.{◌≡◌, ℕ, List, [], ◌∷◌, Bool, true, false, cond, Option, Some, None, refl, sym, ap, ◌∙◌, subst}
+use Rattle.std.proofs.Common.{◌≡◌, ℕ, List, [], ◌∷◌, Bool, true, false, cond, Option, Some, None, inl, refl, sym, ap, ◌∙◌, subst}
 use Rattle.my_wire.specs.declared.err.ErrPacket.{ErrPacket}
 use Rattle.my_wire.specs.ErrPacket.{err_at}
-use Rattle.my_wire.specs.FrontLaws.{IsWhole}
+use Rattle.my_frame.specs.FrontLaws.{IsWhole}
 use Rattle.my_value.specs.RowParts.{RowParts}
 use Rattle.my_grammar.specs.declared.spot.Context.{Context}
 use Rattle.my_grammar.specs.declared.spot.Kind.{Kind}
@@ -10,28 +10,27 @@ use Rattle.my_grammar.specs.declared.spot.Kind.TheVariants as kinds
 use Rattle.my_grammar.specs.declared.spot.Spot.{Spot}
 use Rattle.my_grammar.specs.declared.spot.Spot.TheVariants as spots
 use Rattle.my_grammar.specs.Contexts.{deprecates_eof, is_bad, spot_after}
-use Rattle.my_grammar.specs.Growth.{grow}
+use Rattle.my_grammar.specs.Growth.{grow, not_greets}
 use Rattle.my_grammar.specs.Kinds.{kind_there}
-use Rattle.my_grammar.proofs.SetGrowth.{not_greets}
 use Rattle.my_session.specs.declared.call.Call.TheVariants as calls
 use Rattle.my_session.specs.declared.call.CallKind.{CallKind}
 use Rattle.my_session.specs.declared.call.CallKind.TheVariants.{Connect, Query, NextRow, DropResult, Ping, Quit}
 use Rattle.my_session.specs.declared.call.Task.{Task}
-use Rattle.my_session.specs.declared.call.Task.TheVariants.{Nothing, Begun, Cleaning, Own, Reading, Dropping, Leaving, Failing}
+use Rattle.my_session.specs.declared.call.Task.TheVariants.{Nothing, Begun, Cleaning, Own, Arranging, Reading, Dropping, Leaving, Failing}
 use Rattle.my_session.specs.declared.error.Error.TheVariants as errors
 use Rattle.my_session.specs.Calls.{kind_of, call_of, kind_in, is_open, is_connect}
-use Rattle.my_session.specs.Entries.{calls_in, givens, may_lack, has_connected, IsTied}
+use Rattle.my_session.specs.Entries.{calls_in, connecting_in, givens, may_lack, has_connected, IsTied}
 use Rattle.my_session.specs.Errors.{invalid_data, server_error}
 use Rattle.my_session.specs.History.{History, Made, Told, ToldRow, ToldEnd, ToldError, answered, noted}
 use Rattle.my_session.specs.Machine.{Move, fell, advanced, with_task, failed_by, refused, gave, passed, reacted, after_doing, is_greeting}
 use Rattle.my_session.specs.Rows.{row_at}
 use Rattle.my_session.specs.Seen.{Seen}
 use Rattle.my_session.specs.ServerErrors.{error_onto, errors_in}
-use Rattle.my_session.specs.Stands.{Stands, Heard, begun_of, is_reading, is_shaking}
+use Rattle.my_session.specs.Stands.{Stands, Heard, TaskIs, TieIs, begun_of, is_reading, is_shaking, keeps}
 use Rattle.my_session.specs.Steps.{is_settled}
-use Rattle.my_session.specs.Tables.{react, react_cleaning, react_connect, react_query, react_ping, react_own, react_reading, react_dropping, is_breaking, is_connecting}
+use Rattle.my_session.specs.Tables.{react, react_whole, react_connect, react_query, react_ping, react_own, react_reading, react_dropping, is_breaking, is_connecting}
 use Rattle.my_session.proofs.Blames.{is_failed, failed_blames}
-use Rattle.my_session.proofs.Reacts.{fell_stands, goes, refuses, refuses_connect, welcomes, pongs, readies, first_parts, shows, heads, row_gives, end_gives, good_gives, knows, tied_on, tied_now}
+use Rattle.my_session.proofs.Reacts.{fell_stands, goes, refuses, refuses_connect, newest_by, answers, pongs, readies, first_parts, shows, heads, row_gives, end_gives, good_gives, knows, tied_on, tied_now}
 use Rattle.my_session.proofs.Spots.{row_spot, end_spot, good_spot, not_greeting, settled_more, greets_on, settled_not_greeting, reading_after}
 use Rattle.my_session.proofs.Ties.{answered_stands, noted_stands, closed_tie, all_begun, none_waits, quiet_more, asks_not}
 use Rattle.my_session.proofs.Views.{is_part}
@@ -46,6 +45,7 @@ is_reader Nothing = false
 is_reader (Begun c) = false
 is_reader (Cleaning c) = false
 is_reader (Own c) = false
+is_reader (Arranging n) = false
 is_reader Reading = true
 is_reader Dropping = true
 is_reader Leaving = false
@@ -61,13 +61,6 @@ module _ (s : Seen) (h : History) (st : Stands s h) (open_still : s.closed ≡ f
   invalid : Keeps (failed_by s (invalid_data s.facts.place)) h
   invalid = fell_stands s h (invalid_data s.facts.place) (λ c. refl) op st
 
-  cleaning_goes : (c : CallKind) (k : Kind) → HeardAs (Cleaning c) → kind_there s.context p ≡ k → is_bad k ≡ false → is_failed k ≡ false → not_greets k ≡ true → Stands (with_task (after k) (Cleaning c) false) h
-  cleaning_goes c k hd e good calm quiet =
-      let spot = spot_after (deprecates_eof s.context.terms.kept) s.context.spot k in
-      let behind : is_greeting spot ≡ false = not_greeting s.context.spot (deprecates_eof s.context.terms.kept) k in
-      goes s h st open_still nothing p rest next whole (Cleaning c) k e good calm refl hd (hd.at.0, hd.at.1, behind)
-      (none_waits spot h.calls st.newest.call st.older behind (all_begun s.context.spot h.calls st.newest.call st.older hd.at.2 hd.tie)) (λ _. quiet)
-
   -- the ERR in front is one more of those that the server told
   blames : (x : ErrPacket) → kind_there s.context p ≡ kinds.Failed → err_at (is_greeting s.context.spot) p ≡ Some x → server_error x ∷ errors_in st.newest.talk ≡ errors_in (grow kinds.Failed st.newest.talk p)
   blames x e is =
@@ -81,11 +74,11 @@ module _ (s : Seen) (h : History) (st : Stands s h) (open_still : s.closed ≡ f
       subst (λ (b : Bool). Stands (cond b (fell (after kinds.Failed)) (with_task (after kinds.Failed) Nothing false)) (answered h (ToldError (errors.Server (server_error x))))) (sym off)
       (refuses s h st open_still nothing p rest next whole t c (server_error x) e (blames x e is) call not made hd (tie (ToldError (errors.Server (server_error x))) refl))
 
-  refuse_connect : (x : Option ErrPacket) → err_at (is_greeting s.context.spot) p ≡ x → HeardAs (Own Connect) → kind_there s.context p ≡ kinds.Failed → is_connecting s.task ≡ true → Keeps (refused s (after kinds.Failed) x) h
-  refuse_connect None is hd e on = invalid
-  refuse_connect (Some x) is hd e on =
+  refuse_connect : (t : Task) (x : Option ErrPacket) → err_at (is_greeting s.context.spot) p ≡ x → HeardAs t → kind_there s.context p ≡ kinds.Failed → kind_in t ≡ Some Connect → is_connecting s.task ≡ true → ((y : Told) → may_lack y Connect ≡ true → IsTied (record { call = calls.Connect; what = y } ∷ h.calls) (begun_of (spot_after (deprecates_eof s.context.terms.kept) s.context.spot kinds.Failed) st.newest.call st.older)) → Keeps (refused s (after kinds.Failed) x) h
+  refuse_connect t None is hd e call on tie = invalid
+  refuse_connect t (Some x) is hd e call on tie =
       subst (λ (b : Bool). Stands (cond b (fell (after kinds.Failed)) (with_task (after kinds.Failed) Nothing false)) (answered h (ToldError (errors.Server (server_error x))))) (sym on)
-      (refuses_connect s h st open_still nothing p rest next whole (server_error x) e (blames x e is) hd)
+      (refuses_connect s h st open_still nothing p rest next whole t (server_error x) e (blames x e is) call hd (tie (ToldError (errors.Server (server_error x))) refl))
 
   -- the tie of a call that reads behind other exchanges
   tied_behind : (k : Kind) (c : CallKind) → is_greeting s.context.spot ≡ false → IsTied h.calls (begun_of s.context.spot st.newest.call st.older) → (y : Told) → may_lack y (kind_of (call_of c s.text)) ≡ true → IsTied (record { call = call_of c s.text; what = y } ∷ h.calls) (begun_of (spot_after (deprecates_eof s.context.terms.kept) s.context.spot k) st.newest.call st.older)
@@ -93,26 +86,45 @@ module _ (s : Seen) (h : History) (st : Stands s h) (open_still : s.closed ≡ f
       none_waits (spot_after (deprecates_eof s.context.terms.kept) s.context.spot k) (record { call = call_of c s.text; what = y } ∷ h.calls) st.newest.call st.older (not_greeting s.context.spot (deprecates_eof s.context.terms.kept) k)
       (quiet_more (record { call = call_of c s.text; what = y }) h.calls (st.newest.call ∷ calls_in st.older) lack (all_begun s.context.spot h.calls st.newest.call st.older past t))
 
-  tied_own : (k : Kind) (c : CallKind) → HeardAs (Own c) → (y : Told) → may_lack y (kind_of (call_of c s.text)) ≡ true → IsTied (record { call = call_of c s.text; what = y } ∷ h.calls) (begun_of (spot_after (deprecates_eof s.context.terms.kept) s.context.spot k) st.newest.call st.older)
-  tied_own k c hd y lack = closed_tie (Own c) c s.text (spot_after (deprecates_eof s.context.terms.kept) s.context.spot k) h.calls st.newest.call st.older (record { call = call_of c s.text; what = y }) refl refl lack hd.tie
+  tied_own : (k : Kind) (t : Task) (c : CallKind) → kind_in t ≡ Some c → TieIs t s.text (spot_after (deprecates_eof s.context.terms.kept) s.context.spot k) h.calls st.newest.call st.older → (y : Told) → may_lack y (kind_of (call_of c s.text)) ≡ true → IsTied (record { call = call_of c s.text; what = y } ∷ h.calls) (begun_of (spot_after (deprecates_eof s.context.terms.kept) s.context.spot k) st.newest.call st.older)
+  tied_own k t c call tie y lack = closed_tie t c s.text (spot_after (deprecates_eof s.context.terms.kept) s.context.spot k) h.calls st.newest.call st.older (record { call = call_of c s.text; what = y }) call refl lack tie
 
-  cleaning_keeps : (c : CallKind) (k : Kind) → HeardAs (Cleaning c) → is_connecting s.task ≡ false → kind_there s.context p ≡ k → is_breaking (react_cleaning c k) ≡ false → Keeps (reacted s (after k) p (react_cleaning c k)) h
-  cleaning_keeps c (kinds.Greets n) hd off e b = cc
-  cleaning_keeps c (kinds.Good status) hd off e b = cleaning_goes c (kinds.Good status) hd e refl refl refl
-  cleaning_keeps c kinds.Failed hd off e b = refuse (Cleaning c) c (err_at (is_greeting s.context.spot) p) refl hd e refl off (asks_not c s.text hd.at.0) hd.at.1 (tied_behind kinds.Failed c hd.at.2 hd.tie)
-  cleaning_keeps c (kinds.Count n) hd off e b = cleaning_goes c (kinds.Count n) hd e refl refl refl
-  cleaning_keeps c kinds.Column hd off e b = cleaning_goes c kinds.Column hd e refl refl refl
-  cleaning_keeps c kinds.ColumnsDone hd off e b = cleaning_goes c kinds.ColumnsDone hd e refl refl refl
-  cleaning_keeps c kinds.Row hd off e b = cleaning_goes c kinds.Row hd e refl refl refl
-  cleaning_keeps c (kinds.End status) hd off e b = cleaning_goes c (kinds.End status) hd e refl refl refl
-  cleaning_keeps c kinds.Bad hd off e b = cc
+  -- a response that is read whole
+  module _ (t : Task) (lost : keeps t ≡ false) (hd : HeardAs t) (at : (k : Kind) → kind_there s.context p ≡ k → is_bad k ≡ false → not_greets k ≡ true → TaskIs t (spot_after (deprecates_eof s.context.terms.kept) s.context.spot k) s.closed (has_connected h.calls) (connecting_in (st.newest ∷ st.older)) (newest_by s h st open_still nothing p rest next whole k st.newest.given)) (tie : (k : Kind) → TieIs t s.text (spot_after (deprecates_eof s.context.terms.kept) s.context.spot k) h.calls st.newest.call st.older) (fails : kind_there s.context p ≡ kinds.Failed → Keeps (refused s (after kinds.Failed) (err_at (is_greeting s.context.spot) p)) h) where
+    whole_goes : (k : Kind) → kind_there s.context p ≡ k → is_bad k ≡ false → is_failed k ≡ false → not_greets k ≡ true → Stands (with_task (after k) t false) h
+    whole_goes k e good calm quiet = goes s h st open_still nothing p rest next whole t t k e good calm lost refl hd (at k e good quiet) (tie k) (λ _. quiet) (λ _. quiet)
+
+    whole_keeps : (k : Kind) → kind_there s.context p ≡ k → is_breaking (react_whole t k) ≡ false → Keeps (reacted s (after k) p (react_whole t k)) h
+    whole_keeps (kinds.Greets n) e b = cc
+    whole_keeps (kinds.Good status) e b = whole_goes (kinds.Good status) e refl refl refl
+    whole_keeps kinds.Failed e b = fails e
+    whole_keeps (kinds.Count n) e b = whole_goes (kinds.Count n) e refl refl refl
+    whole_keeps kinds.Column e b = whole_goes kinds.Column e refl refl refl
+    whole_keeps kinds.ColumnsDone e b = whole_goes kinds.ColumnsDone e refl refl refl
+    whole_keeps kinds.Row e b = whole_goes kinds.Row e refl refl refl
+    whole_keeps (kinds.End status) e b = whole_goes (kinds.End status) e refl refl refl
+    whole_keeps kinds.Bad e b = cc
+
+  cleaning_keeps : (c : CallKind) (k : Kind) → HeardAs (Cleaning c) → is_connecting s.task ≡ false → kind_there s.context p ≡ k → is_breaking (react_whole (Cleaning c) k) ≡ false → Keeps (reacted s (after k) p (react_whole (Cleaning c) k)) h
+  cleaning_keeps c k hd off e b =
+      let behind = λ (x : Kind). not_greeting s.context.spot (deprecates_eof s.context.terms.kept) x in
+      whole_keeps (Cleaning c) refl hd (λ x _ _ _. (hd.at.0, hd.at.1, behind x))
+      (λ x. none_waits (spot_after (deprecates_eof s.context.terms.kept) s.context.spot x) h.calls st.newest.call st.older (behind x) (all_begun s.context.spot h.calls st.newest.call st.older hd.at.2 hd.tie))
+      (λ f. refuse (Cleaning c) c (err_at (is_greeting s.context.spot) p) refl hd f refl off (asks_not c s.text hd.at.0) hd.at.1 (tied_behind kinds.Failed c hd.at.2 hd.tie)) k e b
+
+  arranging_keeps : (n : ℕ) (k : Kind) → HeardAs (Arranging n) → is_connecting s.task ≡ true → kind_there s.context p ≡ k → is_breaking (react_whole (Arranging n) k) ≡ false → Keeps (reacted s (after k) p (react_whole (Arranging n) k)) h
+  arranging_keeps n k hd on e b =
+      whole_keeps (Arranging n) refl hd (λ x is good quiet. (hd.at.0, hd.at.1, not_greeting s.context.spot (deprecates_eof s.context.terms.kept) x, λ _. answers s h st open_still nothing p rest next whole x is good quiet)) (λ x. hd.tie)
+      (λ f. refuse_connect (Arranging n) (err_at (is_greeting s.context.spot) p) refl hd f refl on (tied_own kinds.Failed (Arranging n) Connect refl hd.tie)) k e b
 
   connect_keeps : (k : Kind) → HeardAs (Own Connect) → is_connecting s.task ≡ true → kind_there s.context p ≡ k → is_breaking (react_connect k) ≡ false → Keeps (reacted s (after k) p (react_connect k)) h
   connect_keeps (kinds.Greets n) hd on e b =
       let spot : spot_after (deprecates_eof s.context.terms.kept) s.context.spot (kinds.Greets n) ≡ spots.Authentication = greets_on s.context.spot (deprecates_eof s.context.terms.kept) n (knows s h st open_still nothing p rest next whole (kinds.Greets n) e) in
-      goes s h st open_still nothing p rest next whole (Own Connect) (kinds.Greets n) e refl refl refl hd (hd.at.0, ap is_shaking spot) hd.tie (λ no. cc)
-  connect_keeps (kinds.Good status) hd on e b = welcomes s h st open_still nothing p rest next whole status e hd
-  connect_keeps kinds.Failed hd on e b = refuse_connect (err_at (is_greeting s.context.spot) p) refl hd e on
+      goes s h st open_still nothing p rest next whole (Own Connect) (Own Connect) (kinds.Greets n) e refl refl refl refl hd (hd.at.0, ap is_shaking spot, hd.at.2) hd.tie (λ made. let no : true ≡ false = sym made ∙ hd.at.0 in cc) (λ no. cc)
+  connect_keeps (kinds.Good status) hd on e b =
+      goes s h st open_still nothing p rest next whole (Own Connect) (Arranging 0) (kinds.Good status) e refl refl refl refl hd
+      (hd.at.0, hd.at.2, not_greeting s.context.spot (deprecates_eof s.context.terms.kept) (kinds.Good status), λ _. answers s h st open_still nothing p rest next whole (kinds.Good status) e refl refl) (sym hd.tie.0, inl hd.tie.1) (λ _. refl) (λ no. cc)
+  connect_keeps kinds.Failed hd on e b = refuse_connect (Own Connect) (err_at (is_greeting s.context.spot) p) refl hd e refl on (tied_own kinds.Failed (Own Connect) Connect refl hd.tie)
   connect_keeps (kinds.Count n) hd on e b = cc
   connect_keeps kinds.Column hd on e b = cc
   connect_keeps kinds.ColumnsDone hd on e b = cc
@@ -123,7 +135,7 @@ module _ (s : Seen) (h : History) (st : Stands s h) (open_still : s.closed ≡ f
   query_keeps : (k : Kind) → HeardAs (Own Query) → is_connecting s.task ≡ false → kind_there s.context p ≡ k → is_breaking (react_query k) ≡ false → Keeps (reacted s (after k) p (react_query k)) h
   query_keeps (kinds.Greets n) hd off e b = cc
   query_keeps (kinds.Good status) hd off e b = readies s h st open_still nothing p rest next whole status e hd
-  query_keeps kinds.Failed hd off e b = refuse (Own Query) Query (err_at (is_greeting s.context.spot) p) refl hd e refl off refl hd.at.0 (tied_own kinds.Failed Query hd)
+  query_keeps kinds.Failed hd off e b = refuse (Own Query) Query (err_at (is_greeting s.context.spot) p) refl hd e refl off refl hd.at.0 (tied_own kinds.Failed (Own Query) Query refl hd.tie)
   query_keeps (kinds.Count n) hd off e b = first_parts s h st open_still nothing p rest next whole (kinds.Count n) e refl refl refl hd
   query_keeps kinds.Column hd off e b = first_parts s h st open_still nothing p rest next whole kinds.Column e refl refl refl hd
   query_keeps kinds.ColumnsDone hd off e b = first_parts s h st open_still nothing p rest next whole kinds.ColumnsDone e refl refl refl hd
@@ -134,7 +146,7 @@ module _ (s : Seen) (h : History) (st : Stands s h) (open_still : s.closed ≡ f
   ping_keeps : (k : Kind) → HeardAs (Own Ping) → is_connecting s.task ≡ false → kind_there s.context p ≡ k → is_breaking (react_ping k) ≡ false → Keeps (reacted s (after k) p (react_ping k)) h
   ping_keeps (kinds.Greets n) hd off e b = cc
   ping_keeps (kinds.Good status) hd off e b = pongs s h st open_still nothing p rest next whole status e hd
-  ping_keeps kinds.Failed hd off e b = refuse (Own Ping) Ping (err_at (is_greeting s.context.spot) p) refl hd e refl off refl hd.at.0 (tied_own kinds.Failed Ping hd)
+  ping_keeps kinds.Failed hd off e b = refuse (Own Ping) Ping (err_at (is_greeting s.context.spot) p) refl hd e refl off refl hd.at.0 (tied_own kinds.Failed (Own Ping) Ping refl hd.tie)
   ping_keeps (kinds.Count n) hd off e b = cc
   ping_keeps kinds.Column hd off e b = cc
   ping_keeps kinds.ColumnsDone hd off e b = cc
@@ -232,6 +244,7 @@ module _ (s : Seen) (h : History) (st : Stands s h) (open_still : s.closed ≡ f
   react_keeps (Begun c) task hd told k e b = cc
   react_keeps (Cleaning c) task hd told k e b = cleaning_keeps c k hd (ap is_connecting task) e b
   react_keeps (Own c) task hd told k e b = own_keeps c k task hd e b
+  react_keeps (Arranging n) task hd told k e b = arranging_keeps n k hd (ap is_connecting task) e b
   react_keeps Reading task hd told k e b = reading_keeps (told refl) task hd k e b
   react_keeps Dropping task hd told k e b = dropping_keeps (told refl) task hd k e b
   react_keeps Leaving task hd told k e b = cc

@@ -1,6 +1,6 @@
 -- The law.
-use Rattle.std.proofs.Common.{◌≡◌, ℕ, suc, zero, List, [], ◌∷◌, ◌++◌, length, Bool, true, false, cond, Option, Some, None, inl, inr, refl, sym, ap, ◌∙◌, subst}
-use Rattle.my_wire.specs.Front.{Front, Waiting, Broken, Whole}
+use Rattle.std.proofs.Common.{◌≡◌, ◌⊎◌, ℕ, suc, zero, List, [], ◌∷◌, ◌++◌, length, Bool, true, false, cond, Option, Some, None, inl, inr, refl, sym, ap, ◌∙◌, subst}
+use Rattle.my_frame.specs.Front.{Front, Waiting, Broken, Whole}
 use Rattle.my_grammar.specs.declared.spot.Kind.{Kind}
 use Rattle.my_grammar.specs.declared.spot.Spot.{Spot}
 use Rattle.my_grammar.specs.Contexts.{is_bad}
@@ -9,10 +9,11 @@ use Rattle.my_grammar.specs.Talk.{Talk}
 use Rattle.my_grammar.specs.Cut.{Read, front_of, kind_of, read_front, read_within, read_from, cut}
 use Rattle.my_session.specs.declared.error.ServerError.{ServerError}
 use Rattle.my_session.specs.declared.call.Call.{Call}
+use Rattle.my_session.specs.declared.call.Call.TheVariants as calls
 use Rattle.my_session.specs.declared.call.Task.{Task}
-use Rattle.my_session.specs.declared.call.Task.TheVariants.{Nothing, Begun, Cleaning, Own, Reading, Dropping, Leaving, Failing}
-use Rattle.my_session.specs.Calls.{call_of, kind_in}
-use Rattle.my_session.specs.Entries.{Entry, AllGiven, IsGiven, calls_in, IsTied}
+use Rattle.my_session.specs.declared.call.Task.TheVariants.{Nothing, Begun, Cleaning, Own, Arranging, Reading, Dropping, Leaving, Failing}
+use Rattle.my_session.specs.Calls.{kind_of as call_kind, call_of, kind_in, is_connect}
+use Rattle.my_session.specs.Entries.{Entry, AllGiven, IsGiven, calls_in, OwnsFirst, IsTied}
 use Rattle.my_session.specs.Groups.{Group}
 use Rattle.my_session.specs.History.{Made}
 use Rattle.my_session.specs.Law.{in_order, talks, origins, shares, errors_along, at_most_one, AreGiven, AreOf, EachHistory}
@@ -52,22 +53,27 @@ pub given_in_order : (es : List Entry) → AllGiven es → AreGiven (in_order (s
 given_in_order [] a = tt
 given_in_order (e ∷ es) a = push (in_order (shares es)) (in_order (talks es)) e.given e.talk (given_in_order es a.1) a.0
 
--- whose the exchanges are
-own_open : (b : Bool) (call : Call) (made : List Made) (older : List Call) → IsTied made older → AreOf (Some call) made (cond b older (call ∷ older))
-own_open true call made older t = inr t
-own_open false call made older t = inl (refl, t)
+-- whose the exchanges are: the login is none before the greeting
+own_older : (c : Call) (made : List Made) (older : List Call) → IsTied made older ⊎ ((is_connect (call_kind c) ≡ true) × OwnsFirst c older (IsTied made)) → AreOf (Some c) made older
+own_older c made older (inl t) = inr t
+own_older c made older (inr o) = inl o.1
+
+own_open : (b : Bool) (c call : Call) (made : List Made) (older : List Call) → OwnsFirst c (call ∷ older) (IsTied made) → AreOf (Some c) made (cond b older (call ∷ older))
+own_open true c call made older o = own_older c made older o.1
+own_open false c call made older o = inl o
 
 pub calls_are : (t : Task) (text : List ℕ) (spot : Spot) (made : List Made) (call : Call) (older : List Entry) → TieIs t text spot made call older → AreOf (call_with (kind_in t) text) made (begun_of spot call older)
 calls_are Nothing text spot made call older w = inr w
 calls_are (Begun c) text spot made call older w = inr w
 calls_are (Cleaning c) text spot made call older w = inr w
-calls_are (Own c) text spot made call older w = subst (λ (x : Call). AreOf (Some x) made (begun_of spot call older)) w.0 (own_open (is_greeting spot) call made (calls_in older) w.1)
+calls_are (Own c) text spot made call older w = own_open (is_greeting spot) (call_of c text) call made (calls_in older) (sym w.0, inl w.1)
+calls_are (Arranging n) text spot made call older w = own_open (is_greeting spot) calls.Connect call made (calls_in older) w
 calls_are Reading text spot made call older w = inr w
 calls_are Dropping text spot made call older w = inr w
 calls_are Leaving text spot made call older w = inr w
 calls_are (Failing c fault) text spot made call older w =
     elim w as (λ _. AreOf (Some (call_of c text)) made (begun_of spot call older)) [
-      | inl v ↦ subst (λ (x : Call). AreOf (Some x) made (begun_of spot call older)) v.0 (own_open (is_greeting spot) call made (calls_in older) v.1)
+      | inl v ↦ own_open (is_greeting spot) (call_of c text) call made (calls_in older) v
       | inr v ↦ inr v
     ]
 
@@ -77,6 +83,7 @@ rests_owe Nothing text e = refl
 rests_owe (Begun c) text e = cc
 rests_owe (Cleaning c) text e = cc
 rests_owe (Own c) text e = cc
+rests_owe (Arranging n) text e = cc
 rests_owe Reading text e = cc
 rests_owe Dropping text e = cc
 rests_owe Leaving text e = cc
@@ -96,6 +103,7 @@ each_history s h st =
       older = es;
       table = st.wire.table;
       calls = subst (λ (c : Option Call). AreOf c h.calls (begun_of s.context.spot e.call es)) (sym st.heard.pending_is) (calls_are s.task s.text s.context.spot h.calls e.call es st.heard.tie);
+      arranged = st.arranged;
       taken = st.wire.taken_is;
       done = st.wire.done;
       fits = st.wire.fits;
@@ -104,6 +112,7 @@ each_history s h st =
       sent = st.wire.sent_is;
       all = st.wire.all_is;
       whole = λ none alive. sym (st.wire.owed_is alive) ∙ st.settled (rests_owe s.task s.text (sym st.heard.pending_is ∙ none));
+      answered = st.wire.answered;
       given_is = st.heard.given_is;
       read = read;
       fronts = given_fronts _ _ read;

@@ -1,3 +1,5 @@
+pub mod Arranged
+pub mod Asking
 pub mod Awaits
 pub mod Blames
 pub mod Causing

@@ -1,6 +1,6 @@
 -- Moves that go on are of one call, and DropResult alone passes over anything.
-use Rattle.std.proofs.Common.{◌≡◌, ℕ, List, [], ◌∷◌, length, Bool, true, false, cond, Option, Some, None, refl, sym, ap, ◌∙◌, subst}
-use Rattle.my_wire.specs.Front.{Front, Waiting, Broken, Whole}
+use Rattle.std.proofs.Common.{◌≡◌, ℕ, suc, List, [], ◌∷◌, length, Bool, true, false, cond, Option, Some, None, refl, sym, ap, ◌∙◌, subst}
+use Rattle.my_frame.specs.Front.{Front, Waiting, Broken, Whole}
 use Rattle.my_value.specs.RowParts.{RowParts}
 use Rattle.my_wire.specs.declared.err.ErrPacket.{ErrPacket}
 use Rattle.my_grammar.specs.declared.spot.Spot.{Spot}
@@ -13,7 +13,7 @@ use Rattle.my_session.specs.declared.call.CallKind.{CallKind}
 use Rattle.my_session.specs.declared.call.CallKind.TheVariants.{Connect, Query, NextRow, DropResult, Ping, Quit}
 use Rattle.my_session.specs.declared.call.LinkFault.{LinkFault}
 use Rattle.my_session.specs.declared.call.Task.{Task}
-use Rattle.my_session.specs.declared.call.Task.TheVariants.{Nothing, Begun, Cleaning, Own, Reading, Dropping, Leaving, Failing}
+use Rattle.my_session.specs.declared.call.Task.TheVariants.{Nothing, Begun, Cleaning, Own, Arranging, Reading, Dropping, Leaving, Failing}
 use Rattle.my_session.specs.declared.tables.Plan.{Plan}
 use Rattle.my_session.specs.declared.tables.Plan.TheVariants as plans
 use Rattle.my_session.specs.declared.tables.Reaction.{Reaction}
@@ -26,12 +26,12 @@ use Rattle.my_session.specs.Calls.{kind_in, fault_in}
 use Rattle.my_session.specs.Commands.{command_in}
 use Rattle.my_session.specs.Errors.{invalid_data, unexpected_eof}
 use Rattle.my_session.specs.Machine as machine
-use Rattle.my_session.specs.Machine.{Move, Doing, Goes, Sends, Needs, Tells, Did, Does, FaultIs, advanced, reply_to, above, unless_above, refused, gave, passed, reacted, read_by, reading, asked, planned, when_owed, next_by, next, doing}
+use Rattle.my_session.specs.Machine.{Move, Doing, Goes, Sends, Needs, Tells, Did, Does, FaultIs, advanced, reply_to, above, unless_above, refused, gave, passed, reacted, read_by, reading, asked, arranged, planned, when_owed, next_by, next, doing}
 use Rattle.my_session.specs.Passed.{IsItem}
 use Rattle.my_session.specs.Rows.{row_at}
 use Rattle.my_session.specs.Seen.{Seen}
 use Rattle.my_session.specs.Steps.{goes_on}
-use Rattle.my_session.specs.Tables.{plan_of, react, react_connect, react_query, react_ping, react_own, is_breaking, is_connecting, first_task, clean_plan, own_plan, query_plan, read_plan, drop_plan}
+use Rattle.my_session.specs.Tables.{plan_of, react, react_whole, react_connect, react_query, react_ping, react_own, is_breaking, is_connecting, first_task, clean_plan, own_plan, query_plan, read_plan, drop_plan}
 
 -- A move that goes on stays with the call, which wasn't told to fail, and passes over a row or an end only for DropResult.
 abbrev pub MovesOn : Option CallKind → Seen → Doing → Type 0
@@ -50,7 +50,7 @@ StaysIn kind r = Unit {0}
 
 connect_stays : (k : Kind) → StaysIn (Some Connect) (react_connect k)
 connect_stays (kinds.Greets n) = (refl, refl)
-connect_stays (kinds.Good status) = tt
+connect_stays (kinds.Good status) = (refl, refl)
 connect_stays kinds.Failed = tt
 connect_stays (kinds.Count n) = tt
 connect_stays kinds.Column = tt
@@ -89,19 +89,23 @@ own_stays DropResult k = tt
 own_stays Ping k = ping_stays k
 own_stays Quit k = tt
 
+whole_stays : (t : Task) → fault_in t ≡ None → (k : Kind) → StaysIn (kind_in t) (react_whole t k)
+whole_stays t sound (kinds.Greets n) = tt
+whole_stays t sound (kinds.Good status) = (refl, sound)
+whole_stays t sound kinds.Failed = tt
+whole_stays t sound (kinds.Count n) = (refl, sound)
+whole_stays t sound kinds.Column = (refl, sound)
+whole_stays t sound kinds.ColumnsDone = (refl, sound)
+whole_stays t sound kinds.Row = (refl, sound)
+whole_stays t sound (kinds.End status) = (refl, sound)
+whole_stays t sound kinds.Bad = tt
+
 react_stays : (t : Task) (k : Kind) → StaysIn (kind_in t) (react t k)
 react_stays Nothing k = tt
 react_stays (Begun c) k = tt
-react_stays (Cleaning c) (kinds.Greets n) = tt
-react_stays (Cleaning c) (kinds.Good status) = (refl, refl)
-react_stays (Cleaning c) kinds.Failed = tt
-react_stays (Cleaning c) (kinds.Count n) = (refl, refl)
-react_stays (Cleaning c) kinds.Column = (refl, refl)
-react_stays (Cleaning c) kinds.ColumnsDone = (refl, refl)
-react_stays (Cleaning c) kinds.Row = (refl, refl)
-react_stays (Cleaning c) (kinds.End status) = (refl, refl)
-react_stays (Cleaning c) kinds.Bad = tt
+react_stays (Cleaning c) k = whole_stays (Cleaning c) refl k
 react_stays (Own c) k = own_stays c k
+react_stays (Arranging n) k = whole_stays (Arranging n) refl k
 react_stays Reading (kinds.Greets n) = tt
 react_stays Reading (kinds.Good status) = tt
 react_stays Reading kinds.Failed = tt
@@ -126,7 +130,6 @@ react_stays (Failing c fault) k = tt
 -- plans of one call
 abbrev Suits : Option CallKind → Plan → Type 0
 Suits kind (plans.Starts u) = (kind_in u ≡ kind) × (fault_in u ≡ None)
-Suits kind (plans.Asks c) = Some c ≡ kind
 Suits kind plans.Passes = kind ≡ Some DropResult
 Suits kind p = Unit {0}
 
@@ -138,17 +141,17 @@ first_suits DropResult = (refl, refl)
 first_suits Ping = (refl, refl)
 first_suits Quit = (refl, refl)
 
-cleaning_suits : (c : CallKind) (spot : Spot) (untold : Bool) → Suits (Some c) (clean_plan c spot untold)
-cleaning_suits c spots.Idle true = tt
-cleaning_suits c spots.Idle false = refl
-cleaning_suits c spots.Greeting untold = tt
-cleaning_suits c spots.Authentication untold = tt
-cleaning_suits c spots.Single untold = tt
-cleaning_suits c spots.Head untold = tt
-cleaning_suits c spots.Further untold = tt
-cleaning_suits c (spots.Columns left) untold = tt
-cleaning_suits c spots.ColumnsEnd untold = tt
-cleaning_suits c spots.Rows untold = tt
+cleaning_suits : (kind : Option CallKind) (p : Plan) → Suits kind p → (spot : Spot) (untold : Bool) → Suits kind (clean_plan p spot untold)
+cleaning_suits kind p suit spots.Idle true = tt
+cleaning_suits kind p suit spots.Idle false = suit
+cleaning_suits kind p suit spots.Greeting untold = tt
+cleaning_suits kind p suit spots.Authentication untold = tt
+cleaning_suits kind p suit spots.Single untold = tt
+cleaning_suits kind p suit spots.Head untold = tt
+cleaning_suits kind p suit spots.Further untold = tt
+cleaning_suits kind p suit (spots.Columns left) untold = tt
+cleaning_suits kind p suit spots.ColumnsEnd untold = tt
+cleaning_suits kind p suit spots.Rows untold = tt
 
 query_suits : (spot : Spot) → Suits (Some Query) (query_plan spot)
 query_suits spots.Idle = tt
@@ -194,8 +197,9 @@ drop_suits spots.Rows = tt
 plan_suits : (t : Task) (spot : Spot) (untold : Bool) → Suits (kind_in t) (plan_of t spot untold)
 plan_suits Nothing spot untold = tt
 plan_suits (Begun c) spot untold = first_suits c
-plan_suits (Cleaning c) spot untold = cleaning_suits c spot untold
+plan_suits (Cleaning c) spot untold = cleaning_suits (Some c) (plans.Asks c) tt spot untold
 plan_suits (Own c) spot untold = own_suits c spot
+plan_suits (Arranging n) spot untold = cleaning_suits (Some Connect) (plans.Arranges n) tt spot untold
 plan_suits Reading spot true = tt
 plan_suits Reading spot false = read_suits spot
 plan_suits Dropping spot true = refl
@@ -258,19 +262,24 @@ module _ (s : Seen) (sound : fault_in s.task ≡ None) where
   front_stays (Broken fault) = (tt, refl)
   front_stays (Whole p rest next) = kind_stays p rest next (kind_there s.context p) (is_breaking (react s.task (kind_there s.context p)))
 
-  asked_by : (c : CallKind) (talk : Talk) (long : Bool) → Some c ≡ kind_in s.task → Stays (cond long (machine.too_large s s.login.max_packet (length (command_in talk))) (record { seen = machine.queued s (Own c) talk; does = Goes }))
-  asked_by c talk true own = (tt, refl)
-  asked_by c talk false own = ((own, refl), refl)
+  begins_if : (u : Task) (talk : Talk) (long : Bool) → Stays (cond long (machine.too_large s s.facts.settings.limit (length (command_in talk))) (record { seen = machine.queued s u talk; does = Sends }))
+  begins_if u talk true = (tt, refl)
+  begins_if u talk false = (tt, refl)
 
-  asked_stays : (c : CallKind) (talk : Option Talk) → Some c ≡ kind_in s.task → Stays (asked s c talk)
-  asked_stays c None own = (tt, refl)
-  asked_stays c (Some talk) own = asked_by c talk _ own
+  asked_stays : (c : CallKind) (talk : Option Talk) → Stays (asked s c talk)
+  asked_stays c None = (tt, refl)
+  asked_stays c (Some talk) = begins_if (Own c) talk _
+
+  arranged_stays : (n : ℕ) (talk : Option Talk) → Stays (arranged s n talk)
+  arranged_stays n None = (tt, refl)
+  arranged_stays n (Some talk) = begins_if (Arranging (suc n)) talk _
 
   plan_stays : (plan : Plan) → Suits (kind_in s.task) plan → Stays (planned s plan)
   plan_stays plans.Reads i = front_stays _
   plan_stays (plans.Starts u) i = (i, refl)
   plan_stays plans.Hears i = ((refl, sound), refl)
-  plan_stays (plans.Asks c) i = asked_stays c _ i
+  plan_stays (plans.Asks c) i = asked_stays c _
+  plan_stays (plans.Arranges n) i = arranged_stays n _
   plan_stays plans.Readies i = (tt, refl)
   plan_stays plans.Quits i = (tt, refl)
   plan_stays plans.Passes i = ((refl, sound, i, tt), refl)

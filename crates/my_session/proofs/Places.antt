@@ -1,10 +1,11 @@
 -- How many payloads were read, as errors tell it.
 use Rattle.std.proofs.Common.{◌≡◌, ℕ, ◌+◌, ◌-◌, ◌^◌, min, List, [], ◌∷◌, ◌++◌, length, leb, Bool, true, false, cond, Option, Some, None, refl, sym, ap, ◌∙◌, arith}
-use Rattle.my_wire.specs.declared.greeting.Greeting.{Greeting}
+use Rattle.my_handshake.specs.declared.greeting.Greeting.{Greeting}
 use Rattle.my_wire.specs.declared.column.Column.{Column}
-use Rattle.my_wire.specs.Greeting.{greeting_at}
+use Rattle.my_handshake.specs.Greeting.{greeting_at}
 use Rattle.my_wire.specs.Column.{column_at}
 use Rattle.my_grammar.specs.declared.packet.Packet.{Packet}
+use Rattle.my_grammar.specs.declared.login.Login.{Login}
 use Rattle.my_grammar.specs.declared.spot.Kind.{Kind}
 use Rattle.my_grammar.specs.declared.spot.Kind.TheVariants as kinds
 use Rattle.my_grammar.specs.Cut.{place_of}
@@ -51,6 +52,6 @@ behind_all : (ts : List Talk) (t : Talk) → place_of (ts ++ t ∷ []) ≡ lengt
 behind_all [] t = refl
 behind_all (u ∷ ts) t = let more = behind_all ts t in omega arith
 
-pub place_is : (es : List Entry) → (facts_of es).place ≡ place_in es
-place_is [] = refl
-place_is (e ∷ es) = place_by (packets_of e.talk) (facts_of es) (place_of (in_order (talks es))) (place_is es) ∙ ap (λ k. min k (2 ^ 64 - 1)) (sym (behind_all (in_order (talks es)) e.talk))
+pub place_is : (login : Login) (es : List Entry) → (facts_of login es).place ≡ place_in es
+place_is login [] = refl
+place_is login (e ∷ es) = place_by (packets_of e.talk) (facts_of login es) (place_of (in_order (talks es))) (place_is login es) ∙ ap (λ k. min k (2 ^ 64 - 1)) (sym (behind_all (in_order (talks es)) e.talk))

@@ -12,9 +12,9 @@ use Rattle.my_session.specs.declared.call.CallKind.TheVariants.{Connect, Query, 
 use Rattle.my_session.specs.declared.call.LinkFault.{LinkFault}
 use Rattle.my_session.specs.declared.call.LinkFault.TheVariants.{NoMemory}
 use Rattle.my_session.specs.declared.call.Task.{Task}
-use Rattle.my_session.specs.declared.call.Task.TheVariants.{Nothing, Begun, Cleaning, Own, Reading, Dropping, Leaving, Failing}
+use Rattle.my_session.specs.declared.call.Task.TheVariants.{Nothing, Begun, Cleaning, Own, Arranging, Reading, Dropping, Leaving, Failing}
 use Rattle.my_session.specs.Calls.{kind_of, text_of, call_of, kind_in, is_open, is_quit}
-use Rattle.my_session.specs.Entries.{Entry, has_connected, IsTied}
+use Rattle.my_session.specs.Entries.{Entry, has_connected, connecting_in, calls_in, OwnsFirst, IsTied}
 use Rattle.my_session.specs.Errors.{connection_closed}
 use Rattle.my_session.specs.History.{History, Made, ToldError, Dropped, beginning, began, answered, took, gone, ending, losing, is_idle, has_closed}
 use Rattle.my_session.specs.Machine.{fell, with_task, dropped, is_greeting}
@@ -24,15 +24,16 @@ use Rattle.my_session.specs.Steps.{is_settled, AtBegun, is_refused, fresh, begun
 use Rattle.my_session.specs.Tables.{closes_when_cancelled, awaits_head}
 use Rattle.my_session.proofs.Reacts.{falls}
 use Rattle.my_session.proofs.Spots.{settled_reads, settled_not_greeting}
-use Rattle.my_session.proofs.Ties.{answered_stands, kind_there_is, closed_tie, quiet_more}
+use Rattle.my_session.proofs.Ties.{answered_stands, kind_there_is, closed_tie, quiet_more, arranged_more}
 use Rattle.my_session.proofs.Wired.{wire_took, wire_gone, wire_fell}
 
 pub fresh_stands : (login : Login) → Stands (fresh login) beginning
 fresh_stands login = record {
   newest = record { call = calls.Connect; talk = Start login; given = None };
   older = [];
-  wire = record { taken_is = refl; gone = []; cut = []; sent_is = refl; all_is = refl; owed_is = λ _. refl; dropped = λ no. cc; number_is = refl; context_is = refl; login_is = refl; fits = record { kinds = tt; within = tt }; done = tt; facts_are = refl; table = (refl, tt) };
-  heard = record { pending_is = refl; closed_is = refl; alive = λ no. cc; given_is = refl; errors = refl; each = (tt, tt); lone = λ no. cc; fresh = λ _ _ no. cc; at = λ _. refl; first = λ _. refl; tie = tt };
+  wire = record { taken_is = refl; gone = []; cut = []; sent_is = refl; all_is = refl; owed_is = λ _. refl; dropped = λ no. cc; answered = λ _. refl; number_is = refl; context_is = refl; login_is = refl; fits = record { kinds = tt; within = tt }; done = tt; facts_are = refl; table = (refl, tt) };
+  heard = record { pending_is = refl; closed_is = refl; alive = λ no. cc; given_is = refl; errors = refl; each = (tt, tt); lone = λ no. cc; fresh = λ _ _ no. cc; at = λ _. refl; first = λ _. (refl, refl); tie = tt };
+  arranged = λ no. cc;
   ended_is = refl;
   settled = λ _. refl;
 }
@@ -43,6 +44,7 @@ took_stands s h bytes st = record {
   older = st.older;
   wire = wire_took s.login h.taken h.sent st.newest.call st.newest.talk st.older s.context s.number s.unread s.owed s.closed s.facts bytes st.wire;
   heard = st.heard;
+  arranged = st.arranged;
   ended_is = st.ended_is;
   settled = st.settled;
 }
@@ -56,12 +58,13 @@ gone_stands s h n st = record {
   older = st.older;
   wire = wire_gone s.login h.taken h.sent st.newest.call st.newest.talk st.older s.context s.number s.unread s.owed s.closed s.facts n st.wire;
   heard = st.heard;
+  arranged = st.arranged;
   ended_is = st.ended_is;
   settled = λ o. nothing_dropped n s.owed (st.settled o);
 }
 
 pub ended_stands : (s : Seen) (h : History) → Stands s h → Stands (with_end s) (ending h)
-ended_stands s h st = record { newest = st.newest; older = st.older; wire = st.wire; heard = st.heard; ended_is = refl; settled = st.settled }
+ended_stands s h st = record { newest = st.newest; older = st.older; wire = st.wire; heard = st.heard; arranged = st.arranged; ended_is = refl; settled = st.settled }
 
 -- a call that begins is the one that is open
 call_is : (call : Call) (text : List ℕ) → call ≡ call_of (kind_of call) (text_of call text)
@@ -101,8 +104,8 @@ module _ (s : Seen) (h : History) (st : Stands s h) (task : s.task ≡ Nothing) 
   tied : IsTied h.calls (begun_of s.context.spot st.newest.call st.older)
   tied = subst (λ (t : Task). TieIs t s.text s.context.spot h.calls st.newest.call st.older) task st.heard.tie
 
-  rests : TaskIs Nothing s.context.spot s.closed (has_connected h.calls) st.newest
-  rests = subst (λ (t : Task). TaskIs t s.context.spot s.closed (has_connected h.calls) st.newest) task st.heard.at
+  rests : TaskIs Nothing s.context.spot s.closed (has_connected h.calls) (connecting_in (st.newest ∷ st.older)) st.newest
+  rests = subst (λ (t : Task). TaskIs t s.context.spot s.closed (has_connected h.calls) (connecting_in (st.newest ∷ st.older)) st.newest) task st.heard.at
 
   abbrev begun_as : Call → Bool → Seen
   begun_as call closed = record { context = s.context; task = cond closed Leaving (Begun (kind_of call)); text = text_of call s.text; untold = s.untold; closed = s.closed; ended = s.ended; number = s.number; unread = s.unread; owed = s.owed; facts = s.facts; login = s.login }
@@ -125,6 +128,7 @@ module _ (s : Seen) (h : History) (st : Stands s h) (task : s.task ≡ Nothing) 
       first = st.heard.first;
       tie = tied;
     };
+    arranged = st.arranged;
     ended_is = st.ended_is;
     settled = λ _. st.settled (ap owes task);
   }
@@ -145,6 +149,7 @@ module _ (s : Seen) (h : History) (st : Stands s h) (task : s.task ≡ Nothing) 
       first = st.heard.first;
       tie = tied;
     };
+    arranged = st.arranged;
     ended_is = st.ended_is;
     settled = λ _. st.settled (ap owes task);
   }
@@ -171,6 +176,7 @@ module _ (s : Seen) (h : History) (st : Stands s h) (task : s.task ≡ Nothing) 
       first = st.heard.first;
       tie = subst (λ (t : Task). TieIs t s.text s.context.spot (record { call = call; what = ToldError connection_closed } ∷ h.calls) st.newest.call st.older) (sym task) (quiet_more (record { call = call; what = ToldError connection_closed }) h.calls (begun_of s.context.spot st.newest.call st.older) refl tied);
     };
+    arranged = arranged_more s.login (record { call = call; what = ToldError connection_closed }) h.calls st.newest st.older refl st.arranged;
     ended_is = st.ended_is;
     settled = st.settled;
   }
@@ -185,6 +191,7 @@ fails_as Nothing c fault e = cc
 fails_as (Begun d) c fault e = let same : d ≡ c = cc in ap (λ (x : CallKind). Failing x fault) same
 fails_as (Cleaning d) c fault e = let same : d ≡ c = cc in ap (λ (x : CallKind). Failing x fault) same
 fails_as (Own d) c fault e = let same : d ≡ c = cc in ap (λ (x : CallKind). Failing x fault) same
+fails_as (Arranging n) c fault e = let same : Connect ≡ c = cc in ap (λ (x : CallKind). Failing x fault) same
 fails_as Reading c fault e = let same : NextRow ≡ c = cc in ap (λ (x : CallKind). Failing x fault) same
 fails_as Dropping c fault e = let same : DropResult ≡ c = cc in ap (λ (x : CallKind). Failing x fault) same
 fails_as Leaving c fault e = let same : Quit ≡ c = cc in ap (λ (x : CallKind). Failing x fault) same
@@ -194,7 +201,8 @@ fail_tie : (t : Task) (c : CallKind) (fault : LinkFault) (text : List ℕ) (spot
 fail_tie Nothing c fault text spot made call older e t = cc
 fail_tie (Begun d) c fault text spot made call older e t = inr t
 fail_tie (Cleaning d) c fault text spot made call older e t = inr t
-fail_tie (Own d) c fault text spot made call older e t = let same : d ≡ c = cc in inl (t.0 ∙ ap (λ (x : CallKind). call_of x text) same, t.1)
+fail_tie (Own d) c fault text spot made call older e t = let same : d ≡ c = cc in inl (sym (t.0 ∙ ap (λ (x : CallKind). call_of x text) same), inl t.1)
+fail_tie (Arranging n) c fault text spot made call older e t = let same : Connect ≡ c = cc in inl (subst (λ (x : CallKind). OwnsFirst (call_of x text) (call ∷ calls_in older) (IsTied made)) same t)
 fail_tie Reading c fault text spot made call older e t = inr t
 fail_tie Dropping c fault text spot made call older e t = inr t
 fail_tie Leaving c fault text spot made call older e t = inr t
@@ -221,6 +229,7 @@ failing_stands s h fault op st =
         first = st.heard.first;
         tie = fail_tie s.task c.0 fault s.text s.context.spot h.calls st.newest.call st.older c.1 st.heard.tie;
       };
+      arranged = st.arranged;
       ended_is = st.ended_is;
       settled = λ no. cc;
     })
@@ -250,15 +259,17 @@ lost_idle s h task st =
         first = st.heard.first;
         tie = tied s h st task;
       };
+      arranged = st.arranged;
       ended_is = st.ended_is;
       settled = λ _. refl;
     })
 
-no_task : (t : Task) → is_open t ≡ false → t ≡ Nothing
+pub no_task : (t : Task) → is_open t ≡ false → t ≡ Nothing
 no_task Nothing e = refl
 no_task (Begun c) e = cc
 no_task (Cleaning c) e = cc
 no_task (Own c) e = cc
+no_task (Arranging n) e = cc
 no_task Reading e = cc
 no_task Dropping e = cc
 no_task Leaving e = cc
@@ -294,31 +305,34 @@ begun_rests DropResult spot connected at = rest_as spot connected at.0 at.1
 begun_rests Ping spot connected at = rest_as spot connected at.0 at.1
 begun_rests Quit spot connected at = rest_as spot connected at.0 at.1
 
-task_rests : (t : Task) (spot : Spot) (closed connected : Bool) (newest : Entry) → closes_when_cancelled t spot ≡ false → TaskIs t spot closed connected newest → closed ≡ false → cond connected (is_settled spot) (is_greeting spot) ≡ true
-task_rests Nothing spot closed connected newest off at e = at e
-task_rests (Begun c) spot closed connected newest off at e = begun_rests c spot connected at
-task_rests (Cleaning c) spot closed connected newest off at e = cc
-task_rests (Own c) spot closed connected newest off at e = cc
-task_rests Reading spot closed connected newest off at e = rest_as spot connected at.0 (settled_by spot at.1 off)
-task_rests Dropping spot closed connected newest off at e = rest_as spot connected at.0 (settled_by spot at.1 off)
-task_rests Leaving spot closed connected newest off at e = let no : true ≡ false = sym at ∙ e in cc
-task_rests (Failing c fault) spot closed connected newest off at e = cc
+task_rests : (t : Task) (spot : Spot) (closed connected : Bool) (count : ℕ) (newest : Entry) → closes_when_cancelled t spot ≡ false → TaskIs t spot closed connected count newest → closed ≡ false → cond connected (is_settled spot) (is_greeting spot) ≡ true
+task_rests Nothing spot closed connected count newest off at e = at e
+task_rests (Begun c) spot closed connected count newest off at e = begun_rests c spot connected at
+task_rests (Cleaning c) spot closed connected count newest off at e = cc
+task_rests (Own c) spot closed connected count newest off at e = cc
+task_rests (Arranging n) spot closed connected count newest off at e = cc
+task_rests Reading spot closed connected count newest off at e = rest_as spot connected at.0 (settled_by spot at.1 off)
+task_rests Dropping spot closed connected count newest off at e = rest_as spot connected at.0 (settled_by spot at.1 off)
+task_rests Leaving spot closed connected count newest off at e = let no : true ≡ false = sym at ∙ e in cc
+task_rests (Failing c fault) spot closed connected count newest off at e = cc
 
-task_keeps : (t : Task) (spot : Spot) (closed connected : Bool) (newest : Entry) → closes_when_cancelled t spot ≡ false → TaskIs t spot closed connected newest → closed ≡ false → is_open t ≡ true → keeps t ≡ true
-task_keeps Nothing spot closed connected newest off at e op = cc
-task_keeps (Begun c) spot closed connected newest off at e op = refl
-task_keeps (Cleaning c) spot closed connected newest off at e op = cc
-task_keeps (Own c) spot closed connected newest off at e op = cc
-task_keeps Reading spot closed connected newest off at e op = refl
-task_keeps Dropping spot closed connected newest off at e op = refl
-task_keeps Leaving spot closed connected newest off at e op = let no : true ≡ false = sym at ∙ e in cc
-task_keeps (Failing c fault) spot closed connected newest off at e op = cc
+task_keeps : (t : Task) (spot : Spot) (closed connected : Bool) (count : ℕ) (newest : Entry) → closes_when_cancelled t spot ≡ false → TaskIs t spot closed connected count newest → closed ≡ false → is_open t ≡ true → keeps t ≡ true
+task_keeps Nothing spot closed connected count newest off at e op = cc
+task_keeps (Begun c) spot closed connected count newest off at e op = refl
+task_keeps (Cleaning c) spot closed connected count newest off at e op = cc
+task_keeps (Own c) spot closed connected count newest off at e op = cc
+task_keeps (Arranging n) spot closed connected count newest off at e op = cc
+task_keeps Reading spot closed connected count newest off at e op = refl
+task_keeps Dropping spot closed connected count newest off at e op = refl
+task_keeps Leaving spot closed connected count newest off at e op = let no : true ≡ false = sym at ∙ e in cc
+task_keeps (Failing c fault) spot closed connected count newest off at e op = cc
 
 task_owes : (t : Task) (spot : Spot) → closes_when_cancelled t spot ≡ false → owes t ≡ false
 task_owes Nothing spot off = refl
 task_owes (Begun c) spot off = refl
 task_owes (Cleaning c) spot off = refl
 task_owes (Own c) spot off = cc
+task_owes (Arranging n) spot off = cc
 task_owes Reading spot off = refl
 task_owes Dropping spot off = refl
 task_owes Leaving spot off = refl
@@ -341,11 +355,12 @@ cancel_by s h false e op st =
         errors = hd.errors;
         each = hd.each;
         lone = hd.lone;
-        fresh = λ x _ left. hd.fresh x (task_keeps s.task s.context.spot s.closed (has_connected h.calls) st.newest e hd.at x op) left;
-        at = task_rests s.task s.context.spot s.closed (has_connected h.calls) st.newest e hd.at;
+        fresh = λ x _ left. hd.fresh x (task_keeps s.task s.context.spot s.closed (has_connected h.calls) (connecting_in (st.newest ∷ st.older)) st.newest e hd.at x op) left;
+        at = task_rests s.task s.context.spot s.closed (has_connected h.calls) (connecting_in (st.newest ∷ st.older)) st.newest e hd.at;
         first = hd.first;
         tie = closed_tie s.task c.0 s.text s.context.spot h.calls st.newest.call st.older (record { call = call_of c.0 s.text; what = Dropped false }) c.1 refl refl hd.tie;
       };
+      arranged = arranged_more s.login (record { call = call_of c.0 s.text; what = Dropped false }) h.calls st.newest st.older refl st.arranged;
       ended_is = st.ended_is;
       settled = λ _. st.settled (task_owes s.task s.context.spot e);
     })

@@ -1,8 +1,8 @@
 -- What is done where no payload is read keeps what a session stands for, and so does each move.
-use Rattle.std.proofs.Common.{◌≡◌, ℕ, List, [], ◌∷◌, ◌++◌, length, ◌||◌, Bool, true, false, cond, Option, Some, None, ◌⊎◌, inl, inr, refl, sym, ap, ◌∙◌, subst}
-use Rattle.my_wire.specs.Front.{Front, Waiting, Broken, Whole, front_at}
-use Rattle.my_wire.specs.FrontLaws.{AreBytes, IsWhole}
-use Rattle.my_wire.proofs.Meanings.{whole_stands}
+use Rattle.std.proofs.Common.{◌≡◌, ℕ, List, [], ◌∷◌, ◌||◌, Bool, true, false, cond, Option, Some, None, ◌⊎◌, inl, inr, refl, sym, ap, ◌∙◌, subst}
+use Rattle.my_frame.specs.Front.{Front, Waiting, Broken, Whole, front_at}
+use Rattle.my_frame.specs.FrontLaws.{AreBytes, IsWhole}
+use Rattle.my_frame.proofs.Meanings.{whole_stands}
 use Rattle.my_grammar.specs.declared.spot.Kind.{Kind}
 use Rattle.my_grammar.specs.declared.spot.Spot.{Spot}
 use Rattle.my_grammar.specs.declared.spot.Spot.TheVariants as spots
@@ -11,35 +11,35 @@ use Rattle.my_grammar.specs.Sets.{context_in, Sets, NoSets, Lone, Failed, Headin
 use Rattle.my_grammar.specs.declared.spot.Context.{Context}
 use Rattle.my_grammar.specs.declared.spot.Terms.{Terms}
 use Rattle.my_grammar.specs.Contexts.{has_more}
-use Rattle.my_grammar.specs.Talk.{Talk, Start, Unwelcome, Greeted, Settled, Asked, Replied, Queried, Silent, turns, context_of, packets_of, server_bytes, Fits, origin, login_in}
+use Rattle.my_grammar.specs.Talk.{Talk, Start, Unwelcome, Greeted, Settled, Asked, Replied, Queried, Silent, context_of}
 use Rattle.my_session.specs.declared.call.Call.TheVariants as calls
 use Rattle.my_session.specs.declared.call.CallKind.{CallKind}
 use Rattle.my_session.specs.declared.call.CallKind.TheVariants.{Connect, Query, NextRow, DropResult, Ping, Quit}
 use Rattle.my_session.specs.declared.call.LinkFault.{LinkFault}
 use Rattle.my_session.specs.declared.call.LinkFault.TheVariants as faults
 use Rattle.my_session.specs.declared.call.Task.{Task}
-use Rattle.my_session.specs.declared.call.Task.TheVariants.{Nothing, Begun, Cleaning, Own, Reading, Dropping, Leaving, Failing}
+use Rattle.my_session.specs.declared.call.Task.TheVariants.{Nothing, Begun, Cleaning, Own, Arranging, Reading, Dropping, Leaving, Failing}
 use Rattle.my_session.specs.declared.error.Error.{Error}
+use Rattle.my_session.specs.declared.tables.Plan.{Plan}
 use Rattle.my_session.specs.declared.tables.Plan.TheVariants as plans
-use Rattle.my_session.specs.Calls.{kind_of, call_of, kind_in, fault_in, is_open, asks}
-use Rattle.my_session.specs.Commands.{opening, command_in, command_terms, query_command, ping_command, quit_command}
-use Rattle.my_session.specs.Entries.{givens, onto, sets_of, may_lack, connects, has_connected, IsTied}
+use Rattle.my_session.specs.Calls.{kind_of, call_of, kind_in, fault_in, is_open}
+use Rattle.my_session.specs.Entries.{givens, onto, sets_of, may_lack, connects, has_connected, connecting_in, IsTied}
 use Rattle.my_session.specs.Errors.{invalid_data, unexpected_eof, codec_error, link_error}
 use Rattle.my_session.specs.Groups.{groups, with_stop, stop_given, given, given_after}
 use Rattle.my_session.specs.History.{History, Made, Told, ToldReady, ToldEnd, ToldNone, answered, noted, closes, closes_by, has_closed}
-use Rattle.my_session.specs.Machine.{Move, Needs, Goes, advanced, with_task, failed_by, reply_to, above, unless_above, reacted, read_by, reading, queued, too_large, planned, when_owed, next_by, next, is_greeting}
+use Rattle.my_session.specs.Machine.{Move, Needs, advanced, with_task, failed_by, reply_to, above, unless_above, reacted, read_by, reading, planned, when_owed, next_by, next, is_greeting}
 use Rattle.my_session.specs.Seen.{Seen}
-use Rattle.my_session.specs.ServerErrors.{errors_in, errors_of, errors_told, with_told}
+use Rattle.my_session.specs.ServerErrors.{errors_told, with_told}
 use Rattle.my_session.specs.Stands.{Stands, Heard, TaskIs, TieIs, call_with, begun_of, is_left, is_shaking, is_lone, keeps, known_part, is_alive, owes}
 use Rattle.my_session.specs.Steps.{is_settled}
 use Rattle.my_session.specs.Tables.{react, is_breaking, plan_of, clean_plan, own_plan, query_plan, read_plan, drop_plan, first_task}
+use Rattle.my_session.proofs.Asking.{asks_keep, arranges_keep}
 use Rattle.my_session.proofs.Keeps.{Keeps, is_reader, react_keeps}
 use Rattle.my_session.proofs.Reacts.{falls, fell_stands}
 use Rattle.my_session.proofs.Spots.{settled_reads, settled_not_greeting}
-use Rattle.my_session.proofs.Ties.{answered_stands, noted_stands, own_behind, all_begun, at_greeting, quiet_more}
+use Rattle.my_session.proofs.Ties.{answered_stands, noted_stands, own_behind, at_greeting, quiet_more, arranged_more, first_count}
 use Rattle.my_session.proofs.Firsts.{given_first, first_groups}
 use Rattle.my_session.proofs.Views.{given_all}
-use Rattle.my_session.proofs.Wired.{wire_queued}
 
 -- the end of a lone OK is all that wasn't given
 lone_groups : (x : Sets) → is_lone x ≡ true → with_stop (groups (known_part true x)) ≡ groups x
@@ -113,7 +113,7 @@ module _ (s : Seen) (h : History) (st : Stands s h) (open_still : s.closed ≡ f
   not_reader t task off on = let stop : true ≡ false = sym on ∙ ap is_reader task ∙ off in cc
 
   -- the first task of a call
-  starts : (c : CallKind) (u : Task) → HeardAs (Begun c) → kind_in u ≡ Some c → owes u ≡ owes u → TaskIs u s.context.spot s.closed (has_connected h.calls) st.newest → TieIs u s.text s.context.spot h.calls st.newest.call st.older → Keeps (planned s (plans.Starts u)) h
+  starts : (c : CallKind) (u : Task) → HeardAs (Begun c) → kind_in u ≡ Some c → owes u ≡ owes u → TaskIs u s.context.spot s.closed (has_connected h.calls) (connecting_in (st.newest ∷ st.older)) st.newest → TieIs u s.text s.context.spot h.calls st.newest.call st.older → Keeps (planned s (plans.Starts u)) h
   starts c u hd same _ at tie = record {
     newest = st.newest;
     older = st.older;
@@ -131,12 +131,13 @@ module _ (s : Seen) (h : History) (st : Stands s h) (open_still : s.closed ≡ f
       first = hd.first;
       tie = tie;
     };
+    arranged = st.arranged;
     ended_is = st.ended_is;
     settled = λ _. nothing;
   }
 
   first_keeps : (c : CallKind) → HeardAs (Begun c) → Keeps (planned s (plans.Starts (first_task c))) h
-  first_keeps Connect hd = starts Connect (Own Connect) hd refl refl (hd.at.0, ap is_shaking hd.at.1) (hd.first (ap is_greeting hd.at.1), at_greeting s.context.spot h.calls st.newest.call st.older (ap is_greeting hd.at.1) hd.tie)
+  first_keeps Connect hd = starts Connect (Own Connect) hd refl refl (hd.at.0, ap is_shaking hd.at.1, first_count st.newest st.older (hd.first (ap is_greeting hd.at.1)).0 (hd.first (ap is_greeting hd.at.1)).1) ((hd.first (ap is_greeting hd.at.1)).0, at_greeting s.context.spot h.calls st.newest.call st.older (ap is_greeting hd.at.1) hd.tie)
   first_keeps Query hd = starts Query (Cleaning Query) hd refl refl (refl, hd.at.0, settled_not_greeting s.context.spot (settled_reads s.context.spot hd.at.1)) hd.tie
   first_keeps NextRow hd = starts NextRow Reading hd refl refl (hd.at.0, settled_reads s.context.spot hd.at.1) hd.tie
   first_keeps DropResult hd = starts DropResult Dropping hd refl refl (hd.at.0, settled_reads s.context.spot hd.at.1) hd.tie
@@ -144,8 +145,8 @@ module _ (s : Seen) (h : History) (st : Stands s h) (open_still : s.closed ≡ f
   first_keeps Quit hd = starts Quit (Cleaning Quit) hd refl refl (refl, hd.at.0, settled_not_greeting s.context.spot (settled_reads s.context.spot hd.at.1)) hd.tie
 
   -- an end that wasn't told is dropped
-  hears : (c : CallKind) → s.task ≡ Cleaning c → Keeps (planned s plans.Hears) h
-  hears c task = record {
+  hears : (t : Task) → s.task ≡ t → keeps t ≡ false → Keeps (planned s plans.Hears) h
+  hears t task lost = record {
     newest = st.newest;
     older = st.older;
     wire = st.wire;
@@ -157,61 +158,27 @@ module _ (s : Seen) (h : History) (st : Stands s h) (open_still : s.closed ≡ f
       errors = st.heard.errors;
       each = st.heard.each;
       lone = λ no. cc;
-      fresh = λ _ kept _. let stop : true ≡ false = sym kept ∙ ap keeps task in cc;
+      fresh = λ _ kept _. let stop : true ≡ false = sym kept ∙ ap keeps task ∙ lost in cc;
       at = st.heard.at;
       first = st.heard.first;
       tie = st.heard.tie;
     };
+    arranged = st.arranged;
     ended_is = st.ended_is;
     settled = λ _. nothing;
   }
 
-  -- a command's exchange begins
-  commands : (c : CallKind) (talk : Talk) → HeardAs (Cleaning c) → s.untold ≡ false → s.context.spot ≡ spots.Idle → opening s.login s.context.terms.kept (call_of c s.text) ≡ Some talk → origin talk ≡ talk → Fits talk → server_bytes (turns talk) ≡ [] → packets_of talk ≡ [] → errors_in talk ≡ [] → login_in s.login talk ≡ s.login → is_greeting (context_of talk).spot ≡ false → TaskIs (Own c) (context_of talk).spot s.closed (has_connected h.calls) (record { call = call_of c s.text; talk = talk; given = None }) → Stands (queued s (Own c) talk) h
-  commands c talk hd told idle opens orig fits none packets calm log past at = record {
-    newest = record { call = call_of c s.text; talk = talk; given = None };
-    older = st.newest ∷ st.older;
-    wire = wire_queued s.context s.number s.unread s.owed s.closed s.facts s.login h.taken h.sent st.newest st.older (call_of c s.text) talk open_still idle nothing opens orig fits none packets log st.wire;
-    heard = record {
-      pending_is = hd.pending_is;
-      closed_is = hd.closed_is;
-      alive = λ _. open_still;
-      given_is = hd.given_is;
-      errors = hd.errors ∙ ap (λ es. es ++ errors_of (st.newest ∷ st.older)) (sym calm);
-      each = (tt, hd.each);
-      lone = λ yes. let stop : true ≡ false = sym yes ∙ told in cc;
-      fresh = λ _ no _. cc;
-      at = at;
-      first = λ greets. let stop : true ≡ false = sym greets ∙ past in cc;
-      tie = (refl, all_begun s.context.spot h.calls st.newest.call st.older hd.at.2 hd.tie);
-    };
-    ended_is = st.ended_is;
-    settled = λ no. cc;
-  }
-
-  unless_long : (c : CallKind) (talk : Talk) (long : Bool) → Stands (queued s (Own c) talk) h → Keeps (cond long (too_large s s.login.max_packet (length (command_in talk))) (record { seen = queued s (Own c) talk; does = Goes })) h
-  unless_long c talk true w = fails (codec_error _) (λ c. refl)
-  unless_long c talk false w = w
-
-  asks_keep : (c : CallKind) → HeardAs (Cleaning c) → s.untold ≡ false → s.context.spot ≡ spots.Idle → Keeps (planned s (plans.Asks c)) h
-  asks_keep Connect hd told idle = let no : asks Connect ≡ true = hd.at.0 in cc
-  asks_keep Query hd told idle = unless_long Query (Queried (command_terms s.login s.context.terms.kept) (query_command s.text) NoSets) _ (commands Query (Queried (command_terms s.login s.context.terms.kept) (query_command s.text) NoSets) hd told idle refl refl (record { kinds = tt; within = tt }) refl refl refl refl refl (hd.at.1, refl, refl))
-  asks_keep NextRow hd told idle = let no : asks NextRow ≡ true = hd.at.0 in cc
-  asks_keep DropResult hd told idle = let no : asks DropResult ≡ true = hd.at.0 in cc
-  asks_keep Ping hd told idle = unless_long Ping (Asked (command_terms s.login s.context.terms.kept) ping_command) _ (commands Ping (Asked (command_terms s.login s.context.terms.kept) ping_command) hd told idle refl refl (record { kinds = tt; within = tt }) refl refl refl refl refl (hd.at.1, refl))
-  asks_keep Quit hd told idle = unless_long Quit (Silent (command_terms s.login s.context.terms.kept) quit_command) _ (commands Quit (Silent (command_terms s.login s.context.terms.kept) quit_command) hd told idle refl refl (record { kinds = tt; within = tt }) refl refl refl refl refl hd.at.1)
-
-  cleans : AreBytes s.unread → (c : CallKind) → s.task ≡ Cleaning c → HeardAs (Cleaning c) → (spot : Spot) → s.context.spot ≡ spot → (untold : Bool) → s.untold ≡ untold → Keeps (planned s (clean_plan c spot untold)) h
-  cleans bytes c task hd spots.Idle idle true e = hears c task
-  cleans bytes c task hd spots.Idle idle false e = asks_keep c hd e idle
-  cleans bytes c task hd spots.Greeting at untold e = reads bytes (not_reader (Cleaning c) task refl)
-  cleans bytes c task hd spots.Authentication at untold e = reads bytes (not_reader (Cleaning c) task refl)
-  cleans bytes c task hd spots.Single at untold e = reads bytes (not_reader (Cleaning c) task refl)
-  cleans bytes c task hd spots.Head at untold e = reads bytes (not_reader (Cleaning c) task refl)
-  cleans bytes c task hd spots.Further at untold e = reads bytes (not_reader (Cleaning c) task refl)
-  cleans bytes c task hd (spots.Columns left) at untold e = reads bytes (not_reader (Cleaning c) task refl)
-  cleans bytes c task hd spots.ColumnsEnd at untold e = reads bytes (not_reader (Cleaning c) task refl)
-  cleans bytes c task hd spots.Rows at untold e = reads bytes (not_reader (Cleaning c) task refl)
+  cleans : AreBytes s.unread → (t : Task) → s.task ≡ t → is_reader t ≡ false → keeps t ≡ false → (p : Plan) → (s.untold ≡ false → s.context.spot ≡ spots.Idle → Keeps (planned s p) h) → (spot : Spot) → s.context.spot ≡ spot → (untold : Bool) → s.untold ≡ untold → Keeps (planned s (clean_plan p spot untold)) h
+  cleans bytes t task off lost p go spots.Idle idle true e = hears t task lost
+  cleans bytes t task off lost p go spots.Idle idle false e = go e idle
+  cleans bytes t task off lost p go spots.Greeting at untold e = reads bytes (not_reader t task off)
+  cleans bytes t task off lost p go spots.Authentication at untold e = reads bytes (not_reader t task off)
+  cleans bytes t task off lost p go spots.Single at untold e = reads bytes (not_reader t task off)
+  cleans bytes t task off lost p go spots.Head at untold e = reads bytes (not_reader t task off)
+  cleans bytes t task off lost p go spots.Further at untold e = reads bytes (not_reader t task off)
+  cleans bytes t task off lost p go (spots.Columns left) at untold e = reads bytes (not_reader t task off)
+  cleans bytes t task off lost p go spots.ColumnsEnd at untold e = reads bytes (not_reader t task off)
+  cleans bytes t task off lost p go spots.Rows at untold e = reads bytes (not_reader t task off)
 
   rest_at : has_connected h.calls ≡ true → is_settled s.context.spot ≡ true → s.closed ≡ false → cond (has_connected h.calls) (is_settled s.context.spot) (is_greeting s.context.spot) ≡ true
   rest_at made e _ = subst (λ b. cond b (is_settled s.context.spot) (is_greeting s.context.spot) ≡ true) (sym made) e
@@ -235,6 +202,7 @@ module _ (s : Seen) (h : History) (st : Stands s h) (open_still : s.closed ≡ f
       first = hd.first;
       tie = own_behind s.context.spot h.calls (record { call = call_of Query s.text; what = ToldReady }) st.newest.call st.older (ap is_greeting rows) (sym hd.tie.0) hd.tie.1;
     };
+    arranged = arranged_more s.login (record { call = call_of Query s.text; what = ToldReady }) h.calls st.newest st.older refl st.arranged;
     ended_is = st.ended_is;
     settled = λ _. nothing;
   })
@@ -277,12 +245,13 @@ module _ (s : Seen) (h : History) (st : Stands s h) (open_still : s.closed ≡ f
       first = hd.first;
       tie = quiet_more (record { call = call_of c s.text; what = w }) h.calls (begun_of s.context.spot st.newest.call st.older) lack tie;
     };
+    arranged = arranged_more s.login (record { call = call_of c s.text; what = w }) h.calls st.newest st.older quiet_one st.arranged;
     ended_is = st.ended_is;
     settled = λ _. nothing;
   })
 
   -- the end of a lone OK is told, or passed over
-  end_shown : (t u : Task) (c : CallKind) → HeardAs t → s.untold ≡ true → kind_in t ≡ Some c → keeps t ≡ true → closes ToldEnd (kind_of (call_of c s.text)) ≡ false → owes u ≡ owes u → has_connected h.calls ≡ true → IsTied h.calls (begun_of s.context.spot st.newest.call st.older) → TaskIs u s.context.spot s.closed (has_connected h.calls) (record { call = st.newest.call; talk = st.newest.talk; given = Some (groups (sets_of st.newest.talk)) }) → ((m : List Made) → IsTied m (begun_of s.context.spot st.newest.call st.older) → TieIs u s.text s.context.spot m st.newest.call st.older) → Stands (with_task s u false) (record { sent = h.sent; taken = h.taken; calls = record { call = call_of c s.text; what = ToldEnd } ∷ h.calls; pending = call_with (kind_in u) s.text; ended = h.ended; lost = h.lost })
+  end_shown : (t u : Task) (c : CallKind) → HeardAs t → s.untold ≡ true → kind_in t ≡ Some c → keeps t ≡ true → closes ToldEnd (kind_of (call_of c s.text)) ≡ false → owes u ≡ owes u → has_connected h.calls ≡ true → IsTied h.calls (begun_of s.context.spot st.newest.call st.older) → TaskIs u s.context.spot s.closed (has_connected h.calls) (connecting_in (st.newest ∷ st.older)) (record { call = st.newest.call; talk = st.newest.talk; given = Some (groups (sets_of st.newest.talk)) }) → ((m : List Made) → IsTied m (begun_of s.context.spot st.newest.call st.older) → TieIs u s.text s.context.spot m st.newest.call st.older) → Stands (with_task s u false) (record { sent = h.sent; taken = h.taken; calls = record { call = call_of c s.text; what = ToldEnd } ∷ h.calls; pending = call_with (kind_in u) s.text; ended = h.ended; lost = h.lost })
   end_shown t u c hd untold call kept still _ made tie at tied =
       let x = sets_of st.newest.talk in
       let now : st.newest.given ≡ Some (groups (known_part true x)) = subst (λ b. b || is_left s.context.spot ≡ true → st.newest.given ≡ Some (groups (known_part b x))) untold (hd.fresh open_still kept) refl in
@@ -303,6 +272,7 @@ module _ (s : Seen) (h : History) (st : Stands s h) (open_still : s.closed ≡ f
           first = hd.first;
           tie = tied (record { call = call_of c s.text; what = ToldEnd } ∷ h.calls) (quiet_more (record { call = call_of c s.text; what = ToldEnd }) h.calls (begun_of s.context.spot st.newest.call st.older) refl tie);
         };
+        arranged = arranged_more s.login (record { call = call_of c s.text; what = ToldEnd }) h.calls st.newest st.older refl st.arranged;
         ended_is = st.ended_is;
         settled = λ _. nothing;
       }
@@ -346,8 +316,9 @@ module _ (s : Seen) (h : History) (st : Stands s h) (open_still : s.closed ≡ f
   plan_keeps : AreBytes s.unread → fault_in s.task ≡ None → (t : Task) → s.task ≡ t → HeardAs t → Keeps (planned s (plan_of t s.context.spot s.untold)) h
   plan_keeps bytes sound Nothing task hd = let no : false ≡ true = sym (ap is_open task) ∙ op in cc
   plan_keeps bytes sound (Begun c) task hd = first_keeps c hd
-  plan_keeps bytes sound (Cleaning c) task hd = cleans bytes c task hd s.context.spot refl s.untold refl
+  plan_keeps bytes sound (Cleaning c) task hd = cleans bytes (Cleaning c) task refl refl (plans.Asks c) (asks_keep s h st open_still nothing op c hd) s.context.spot refl s.untold refl
   plan_keeps bytes sound (Own c) task hd = owns bytes c task hd
+  plan_keeps bytes sound (Arranging n) task hd = cleans bytes (Arranging n) task refl refl (plans.Arranges n) (arranges_keep s h st open_still nothing op n hd) s.context.spot refl s.untold refl
   plan_keeps bytes sound Reading task hd = reading_plan bytes task hd s.untold refl
   plan_keeps bytes sound Dropping task hd = dropping_plan bytes task hd s.untold refl
   plan_keeps bytes sound Leaving task hd = falls s h ToldReady Quit (ap kind_in task) refl refl refl refl st
@@ -369,6 +340,7 @@ module _ (s : Seen) (h : History) (st : Stands s h) (bytes : AreBytes s.unread) 
   alive_or (Begun c) task sound = inl (st.heard.alive (ap is_alive task))
   alive_or (Cleaning c) task sound = inl (st.heard.alive (ap is_alive task))
   alive_or (Own c) task sound = inl (st.heard.alive (ap is_alive task))
+  alive_or (Arranging n) task sound = inl (st.heard.alive (ap is_alive task))
   alive_or Reading task sound = inl (st.heard.alive (ap is_alive task))
   alive_or Dropping task sound = inl (st.heard.alive (ap is_alive task))
   alive_or Leaving task sound = inr task

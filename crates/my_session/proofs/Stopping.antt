@@ -1,16 +1,16 @@
 -- Where the grammar's reading of the bytes taken stops.
 use Rattle.std.proofs.Common.{◌≡◌, ℕ, suc, zero, ◌<◌, List, [], ◌∷◌, ◌++◌, length, Bool, true, false, cond, refl, sym, ap, ◌∙◌, subst, arith}
 use Rattle.std.proofs.lemmas.List.{append_assoc}
-use Rattle.my_wire.specs.Front.{Front, Waiting, Broken, Whole}
+use Rattle.my_frame.specs.Front.{Front, Whole}
 use Rattle.my_grammar.specs.declared.spot.Kind.{Kind}
 use Rattle.my_grammar.specs.declared.spot.Kind.TheVariants.{Failed}
-use Rattle.my_grammar.specs.Contexts.{is_bad}
 use Rattle.my_grammar.specs.Cut.{Read, Rest, Behind, Cut, front_of, kind_of, read_payload, read_front, read_within, read_from, rest_in_front, is_idle, is_over, rest_of, onto, cut_behind, cut}
 use Rattle.my_grammar.specs.CutLaws.{StopsAt}
 use Rattle.my_grammar.specs.Growth.{grow}
 use Rattle.my_grammar.specs.Sets.{Sets, NoSets, Lone, Heading, Headed, Begun, Ended, with_error, spot_in}
 use Rattle.my_grammar.specs.Sets as sets
 use Rattle.my_grammar.specs.Talk.{Talk, Start, Unwelcome, Greeted, Settled, Asked, Replied, Queried, Silent, Fits, turns, number_of, server_bytes, limit_of, origin}
+use Rattle.my_grammar.proofs.Cutting.{stopped_within, stops_reads_none}
 use Rattle.my_grammar.proofs.Fronts.{takes_whole}
 use Rattle.my_grammar.proofs.Sound.{exchange_is_cut, over_is_cut}
 use Rattle.my_grammar.proofs.Staying.{over_stops}
@@ -68,29 +68,10 @@ nothing_behind r false = refl
 pub last_talk : (r : Read) → (cut_behind r (cut [])).talks ≡ r.talk ∷ []
 last_talk r = nothing_behind r (is_over r.talk)
 
--- nothing is read where nothing may be read
-stop_if : (b : Bool) (t : Talk) (bytes : List ℕ) (r : Read) → b ≡ true → cond {A = Read} b (record { talk = t; rest = bytes }) r ≡ record { talk = t; rest = bytes }
-stop_if true t bytes r e = refl
-stop_if false t bytes r e = cc
-
-stop_front : (t : Talk) (bytes : List ℕ) (f : Front) (go : Talk → List ℕ → Read) → StopsAt t f → read_front t bytes f go ≡ record { talk = t; rest = bytes }
-stop_front t bytes Waiting go e = refl
-stop_front t bytes (Broken fault) go e = refl
-stop_front t bytes (Whole p rest next) go e = stop_if (is_bad (kind_of t p)) t bytes _ e
-
-pub stop_within : (most : ℕ) (t : Talk) (bytes : List ℕ) → StopsAt t (front_of t bytes) → read_within most t bytes ≡ record { talk = t; rest = bytes }
-unfolding read_within
-stop_within zero t bytes e = refl
-stop_within (suc most) t bytes e = stop_front t bytes (front_of t bytes) (read_within most) e
-
-pub stop_read : (t : Talk) (bytes : List ℕ) → StopsAt t (front_of t bytes) → read_from t bytes ≡ record { talk = t; rest = bytes }
-unfolding read_from
-stop_read t bytes e = stop_within (length bytes) t bytes e
-
 -- what is found of an exchange at whose front nothing may be read
 pub stopped : (t : Talk) (bytes : List ℕ) (f : Front) → front_of t bytes ≡ f → StopsAt t f → is_over t ≡ false → cut_behind (read_from t bytes) (cut []) ≡ record { talks = t ∷ []; rest = rest_in_front bytes f }
 stopped t bytes f at e open_still =
-    let here : read_from t bytes ≡ record { talk = t; rest = bytes } = stop_read t bytes (subst (λ (x : Front). StopsAt t x) (sym at) e) in
+    let here : read_from t bytes ≡ record { talk = t; rest = bytes } = stops_reads_none t bytes (subst (λ (x : Front). StopsAt t x) (sym at) e) in
     ap (λ (r : Read). cut_behind r (cut [])) here
     ∙ ap (λ (b : Bool). cond {A = Cut} b (record { talks = t ∷ []; rest = Behind bytes }) (record { talks = t ∷ []; rest = cond {A = Rest} b (Behind bytes) (rest_in_front bytes (front_of t bytes)) })) open_still
     ∙ ap (λ (x : Front). let c : Cut = record { talks = t ∷ []; rest = rest_in_front bytes x } in c) at
@@ -119,7 +100,7 @@ failed_over (Silent terms c) p = refl
 -- nothing is found behind an exchange that is over
 pub over_found : (t : Talk) (bytes : List ℕ) → is_over t ≡ true → cut_behind (read_from t bytes) (cut []) ≡ record { talks = t ∷ []; rest = Behind bytes }
 over_found t bytes over =
-    ap (λ (r : Read). cut_behind r (cut [])) (stop_read t bytes (over_stops t (front_of t bytes) over))
+    ap (λ (r : Read). cut_behind r (cut [])) (stops_reads_none t bytes (over_stops t (front_of t bytes) over))
     ∙ ap (λ (b : Bool). cond {A = Cut} b (record { talks = t ∷ []; rest = Behind bytes }) (record { talks = t ∷ []; rest = cond {A = Rest} b (Behind bytes) (rest_in_front bytes (front_of t bytes)) })) over
 
 fail_within : (most : ℕ) (t : Talk) (bytes p rest : List ℕ) (next : ℕ) → 0 < most → front_of t bytes ≡ Whole p rest next → kind_of t p ≡ Failed → read_within most t bytes ≡ record { talk = grow Failed t p; rest = rest }
@@ -128,7 +109,7 @@ fail_within zero t bytes p rest next some at e = absurd (omega arith)
 fail_within (suc most) t bytes p rest next some at e =
     ap (λ (f : Front). read_front t bytes f (read_within most)) at
     ∙ ap (λ (k : Kind). read_payload t bytes p rest k (read_within most)) e
-    ∙ stop_within most (grow Failed t p) rest (over_stops (grow Failed t p) (front_of (grow Failed t p) rest) (failed_over t p))
+    ∙ stopped_within most (grow Failed t p) rest (over_stops (grow Failed t p) (front_of (grow Failed t p) rest) (failed_over t p))
 
 fail_read : (t : Talk) (bytes p rest : List ℕ) (next : ℕ) → front_of t bytes ≡ Whole p rest next → kind_of t p ≡ Failed → read_from t bytes ≡ record { talk = grow Failed t p; rest = rest }
 unfolding read_from

@@ -1,6 +1,6 @@
 -- What the code did keeps what the session stands for.
 use Rattle.std.proofs.Common.{◌≡◌, true, refl, sym, subst}
-use Rattle.my_wire.specs.FrontLaws.{AreBytes}
+use Rattle.my_frame.specs.FrontLaws.{AreBytes}
 use Rattle.my_session.specs.declared.error.Error.{Error}
 use Rattle.my_session.specs.declared.error.Error.TheVariants as errors
 use Rattle.my_session.specs.declared.answer.Tick.{Tick}

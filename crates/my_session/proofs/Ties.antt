@@ -1,17 +1,19 @@
 -- A call's answer beside the exchanges that belong to calls.
-use Rattle.std.proofs.Common.{◌≡◌, ℕ, List, ◌∷◌, Bool, true, false, cond, Option, Some, None, inl, inr, refl, sym, ap, ◌∙◌, subst}
+use Rattle.std.proofs.Common.{◌≡◌, ◌⊎◌, ℕ, suc, List, [], ◌∷◌, ◌||◌, Bool, true, false, cond, Option, Some, None, inl, inr, refl, sym, ap, ◌∙◌, subst}
+use Rattle.my_grammar.specs.declared.login.Login.{Login}
 use Rattle.my_grammar.specs.declared.spot.Spot.{Spot}
 use Rattle.my_session.specs.declared.call.Call.{Call}
+use Rattle.my_session.specs.declared.call.Call.TheVariants as calls
 use Rattle.my_session.specs.declared.call.CallKind.{CallKind}
 use Rattle.my_session.specs.declared.call.CallKind.TheVariants.{Connect, Query, NextRow, DropResult, Ping, Quit}
 use Rattle.my_session.specs.declared.call.Task.{Task}
 use Rattle.my_session.specs.declared.call.Task.TheVariants as tasks
 use Rattle.my_session.specs.Calls.{kind_of, call_of, kind_in, is_open, is_connect, asks}
-use Rattle.my_session.specs.Entries.{Entry, calls_in, IsTied, may_lack}
-use Rattle.my_session.specs.History.{History, Made, Told, answered, noted, with_answer}
+use Rattle.my_session.specs.Entries.{Entry, calls_in, connecting_in, connects, has_connected, OwnsFirst, IsTied, may_lack}
+use Rattle.my_session.specs.History.{History, Made, Told, ToldReady, ToldRow, ToldEnd, ToldNone, ToldError, Dropped, answered, noted, with_answer, closes}
 use Rattle.my_session.specs.Machine.{is_greeting}
 use Rattle.my_session.specs.Seen.{Seen}
-use Rattle.my_session.specs.Stands.{Stands, TieIs, begun_of}
+use Rattle.my_session.specs.Stands.{Stands, TieIs, IsArranged, begun_of}
 
 -- the open call's answer joins the history
 pub answered_stands : (s : Seen) (h : History) (c : Call) (t : Told) → h.pending ≡ Some c → Stands s (record { sent = h.sent; taken = h.taken; calls = record { call = c; what = t } ∷ h.calls; pending = None; ended = h.ended; lost = h.lost }) → Stands s (answered h t)
@@ -26,6 +28,7 @@ kind_there_is tasks.Nothing e = cc
 kind_there_is (tasks.Begun c) e = (c, refl)
 kind_there_is (tasks.Cleaning c) e = (c, refl)
 kind_there_is (tasks.Own c) e = (c, refl)
+kind_there_is (tasks.Arranging n) e = (Connect, refl)
 kind_there_is tasks.Reading e = (NextRow, refl)
 kind_there_is tasks.Dropping e = (DropResult, refl)
 kind_there_is tasks.Leaving e = (Quit, refl)
@@ -39,10 +42,18 @@ asks_not DropResult text e = cc
 asks_not Ping text e = refl
 asks_not Quit text e = refl
 
--- an exchange of one's own, or none before the greeting
-own_tie : (greeting : Bool) (made : List Made) (m : Made) (call : Call) (older : List Call) → may_lack m.what (kind_of m.call) ≡ true → m.call ≡ call → IsTied made older → IsTied (m ∷ made) (cond greeting older (call ∷ older))
-own_tie true made m call older lack same t = inl (lack, t)
-own_tie false made m call older lack same t = inr (same, t)
+-- behind the first of the exchanges that a call owns
+owns_behind : (made : List Made) (m : Made) (older : List Call) → may_lack m.what (kind_of m.call) ≡ true → IsTied made older ⊎ ((is_connect (kind_of m.call) ≡ true) × OwnsFirst m.call older (IsTied made)) → IsTied (m ∷ made) older
+owns_behind made m older lack (inl t) = inl (lack, t)
+owns_behind made m older lack (inr o) = inr o.1
+
+-- exchanges of one's own; the login is none before the greeting
+owns_tie : (greeting : Bool) (made : List Made) (m : Made) (call : Call) (older : List Call) → may_lack m.what (kind_of m.call) ≡ true → OwnsFirst m.call (call ∷ older) (IsTied made) → IsTied (m ∷ made) (cond greeting older (call ∷ older))
+owns_tie true made m call older lack o = owns_behind made m older lack o.1
+owns_tie false made m call older lack o = inr o
+
+owns_as : (c d : Call) (cs : List Call) (made : List Made) → d ≡ c → OwnsFirst c cs (IsTied made) → OwnsFirst d cs (IsTied made)
+owns_as c d cs made same o = subst (λ (x : Call). OwnsFirst x cs (IsTied made)) (sym same) o
 
 -- the answer of a call that may lack an exchange
 pub closed_tie : (t : Task) (c : CallKind) (text : List ℕ) (spot : Spot) (made : List Made) (call : Call) (older : List Entry) (m : Made) → kind_in t ≡ Some c → m.call ≡ call_of c text → may_lack m.what (kind_of m.call) ≡ true → TieIs t text spot made call older → IsTied (m ∷ made) (begun_of spot call older)
@@ -51,14 +62,17 @@ closed_tie (tasks.Begun d) c text spot made call older m k e lack t = inl (lack,
 closed_tie (tasks.Cleaning d) c text spot made call older m k e lack t = inl (lack, t)
 closed_tie (tasks.Own d) c text spot made call older m k e lack t =
     let same : d ≡ c = cc in
-    own_tie (is_greeting spot) made m call (calls_in older) lack (e ∙ ap (λ (x : CallKind). call_of x text) (sym same) ∙ sym t.0) t.1
+    owns_tie (is_greeting spot) made m call (calls_in older) lack (e ∙ ap (λ (x : CallKind). call_of x text) (sym same) ∙ sym t.0, inl t.1)
+closed_tie (tasks.Arranging n) c text spot made call older m k e lack t =
+    let same : Connect ≡ c = cc in
+    owns_tie (is_greeting spot) made m call (calls_in older) lack (owns_as calls.Connect m.call (call ∷ calls_in older) made (e ∙ ap (λ (x : CallKind). call_of x text) (sym same)) t)
 closed_tie tasks.Reading c text spot made call older m k e lack t = inl (lack, t)
 closed_tie tasks.Dropping c text spot made call older m k e lack t = inl (lack, t)
 closed_tie tasks.Leaving c text spot made call older m k e lack t = inl (lack, t)
 closed_tie (tasks.Failing d fault) c text spot made call older m k e lack t =
     let same : d ≡ c = cc in
     elim t as (λ _. IsTied (m ∷ made) (begun_of spot call older)) [
-      | inl w ↦ own_tie (is_greeting spot) made m call (calls_in older) lack (e ∙ ap (λ (x : CallKind). call_of x text) (sym same) ∙ sym w.0) w.1
+      | inl w ↦ owns_tie (is_greeting spot) made m call (calls_in older) lack (owns_as (call_of d text) m.call (call ∷ calls_in older) made (e ∙ ap (λ (x : CallKind). call_of x text) (sym same)) w)
       | inr w ↦ inl (lack, w)
     ]
 
@@ -74,7 +88,37 @@ at_greeting spot made call older e t = subst (λ b. IsTied made (cond b (calls_i
 
 -- the answer of a call with its own exchange, behind the greeting
 pub own_behind : (spot : Spot) (made : List Made) (m : Made) (call : Call) (older : List Entry) → is_greeting spot ≡ false → m.call ≡ call → IsTied made (calls_in older) → IsTied (m ∷ made) (begun_of spot call older)
-own_behind spot made m call older e same t = none_waits spot (m ∷ made) call older e (inr (same, t))
+own_behind spot made m call older e same t = none_waits spot (m ∷ made) call older e (inr (same, inl t))
+
+-- the answer of connecting, whose exchanges are all its own
+pub owns_all : (spot : Spot) (made : List Made) (m : Made) (call : Call) (older : List Entry) → is_greeting spot ≡ false → m.call ≡ calls.Connect → OwnsFirst calls.Connect (call ∷ calls_in older) (IsTied made) → IsTied (m ∷ made) (begun_of spot call older)
+owns_all spot made m call older e same o = none_waits spot (m ∷ made) call older e (inr (owns_as calls.Connect m.call (call ∷ calls_in older) made same o))
 
 pub quiet_more : (m : Made) (made : List Made) (cs : List Call) → may_lack m.what (kind_of m.call) ≡ true → IsTied made cs → IsTied (m ∷ made) cs
 quiet_more m made cs lack t = inl (lack, t)
+
+-- an answer that doesn't say that the connection was made
+pub arranged_more : (login : Login) (m : Made) (made : List Made) (e : Entry) (es : List Entry) → connects m.what (kind_of m.call) ≡ false → IsArranged login made e es → IsArranged login (m ∷ made) e es
+arranged_more login m made e es not a = λ made_now. a (subst (λ b. b || has_connected made ≡ true) not made_now)
+
+closes_unmade : (t : Told) (c : CallKind) → closes t c ≡ true → connects t c ≡ false
+closes_unmade ToldReady Connect e = cc
+closes_unmade ToldReady Query e = refl
+closes_unmade ToldReady NextRow e = refl
+closes_unmade ToldReady DropResult e = refl
+closes_unmade ToldReady Ping e = refl
+closes_unmade ToldReady Quit e = refl
+closes_unmade (ToldRow row) c e = refl
+closes_unmade ToldEnd c e = refl
+closes_unmade ToldNone c e = refl
+closes_unmade (ToldError x) c e = refl
+closes_unmade (Dropped closing) c e = refl
+
+-- nor does what closes the session
+pub arranged_fell : (login : Login) (m : Made) (made : List Made) (e : Entry) (es : List Entry) → closes m.what (kind_of m.call) ≡ true → IsArranged login made e es → IsArranged login (m ∷ made) e es
+arranged_fell login m made e es fatal a = arranged_more login m made e es (closes_unmade m.what (kind_of m.call) fatal) a
+
+-- the login alone
+pub first_count : (e : Entry) (es : List Entry) → e.call ≡ calls.Connect → es ≡ [] → connecting_in (e ∷ es) ≡ 1
+first_count e es call none =
+    ap (λ (c : Call). cond (is_connect (kind_of c)) (suc (connecting_in es)) (connecting_in es)) call ∙ ap (λ (xs : List Entry). suc (connecting_in xs)) none

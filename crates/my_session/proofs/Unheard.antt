@@ -3,7 +3,7 @@ use Rattle.std.proofs.Common.{◌≡◌, ℕ, suc, zero, List, [], ◌∷◌, �
 use Rattle.std.proofs.lemmas.List.{append_assoc, append-nil}
 use Rattle.my_wire.specs.declared.err.ErrPacket.{ErrPacket}
 use Rattle.my_wire.specs.ErrPacket.{err_at}
-use Rattle.my_wire.specs.Front.{Front, Waiting, Broken, Whole}
+use Rattle.my_frame.specs.Front.{Front, Waiting, Broken, Whole}
 use Rattle.my_grammar.specs.declared.spot.Kind.{Kind}
 use Rattle.my_grammar.specs.declared.spot.Kind.TheVariants as kinds
 use Rattle.my_grammar.specs.Cut.{Read, front_of, kind_of, read_payload, read_front, read_within, read_from}
@@ -16,7 +16,8 @@ use Rattle.my_session.specs.Law.{in_order, talks, at_most_one, errors_along}
 use Rattle.my_session.specs.Machine.{is_greeting}
 use Rattle.my_session.specs.ServerErrors.{error_onto, errors_in, errors_of}
 use Rattle.my_session.proofs.Blames.{is_failed, calm_blames, failed_blames}
-use Rattle.my_session.proofs.Stopping.{stop_within, failed_over}
+use Rattle.my_grammar.proofs.Cutting.{stopped_within}
+use Rattle.my_session.proofs.Stopping.{failed_over}
 use Rattle.my_grammar.proofs.Staying.{over_stops}
 
 -- of what is read on at most one error is new
@@ -47,7 +48,7 @@ later_within (suc most) t bytes = by_front (λ u bs. later_within most u bs) (fr
     by_kind go p rest (kinds.Good status) e = calm go p rest (kinds.Good status) refl
     by_kind go p rest kinds.Failed e =
         let u = grow kinds.Failed t p in
-        let last : read_within most u rest ≡ record { talk = u; rest = rest } = stop_within most u rest (over_stops u (front_of u rest) (failed_over t p)) in
+        let last : read_within most u rest ≡ record { talk = u; rest = rest } = stopped_within most u rest (over_stops u (front_of u rest) (failed_over t p)) in
         subst (λ (r : Read). Adds t r.talk) (sym last) (one_new t u (err_at (is_greeting (context_of t).spot) p) (failed_blames t p e))
     by_kind go p rest (kinds.Count n) e = calm go p rest (kinds.Count n) refl
     by_kind go p rest kinds.Column e = calm go p rest kinds.Column refl

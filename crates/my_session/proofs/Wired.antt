@@ -2,22 +2,23 @@
 use Rattle.std.proofs.Common.{◌≡◌, ℕ, ◌≤◌, List, [], ◌∷◌, ◌++◌, length, take, drop, Bool, true, false, Some, refl, sym, ap, ◌∙◌, subst}
 use Rattle.std.proofs.lemmas.List.{append_assoc, append-nil, take-append-drop}
 use Rattle.std.proofs.Math.Seq.{drop-nil, take-nil}
-use Rattle.my_wire.specs.Chunks.{chunks, number_behind}
-use Rattle.my_wire.specs.FrontLaws.{IsWhole}
+use Rattle.my_frame.specs.Chunks.{chunks, number_behind}
+use Rattle.my_frame.specs.FrontLaws.{IsWhole}
 use Rattle.my_grammar.specs.declared.login.Login.{Login}
 use Rattle.my_grammar.specs.declared.spot.Context.{Context}
 use Rattle.my_grammar.specs.declared.spot.Kind.{Kind}
 use Rattle.my_grammar.specs.declared.spot.Kind.TheVariants.{Greets, Good, Failed, Count, Column, ColumnsDone, Row, End, Bad}
 use Rattle.my_grammar.specs.declared.spot.Spot.TheVariants as spots
+use Rattle.my_grammar.specs.declared.spot.Terms.{Terms}
 use Rattle.my_grammar.specs.Contexts.{context_after, is_bad}
-use Rattle.my_grammar.specs.Growth.{grow, replies, Grows, Reads, number_next, said}
+use Rattle.my_grammar.specs.Growth.{grow, replies, not_greets, Grows, Reads, number_next, said}
 use Rattle.my_grammar.specs.Kinds.{kind_there}
 use Rattle.my_grammar.specs.Talk.{Talk, Start, Unwelcome, Greeted, Settled, Asked, Replied, Queried, Silent, Server, turns, number_of, server_bytes, client_bytes, context_of, packets_of, Fits, origin, login_in, limit_of}
 use Rattle.my_grammar.proofs.Growth.{grows, reads}
 use Rattle.my_session.specs.declared.call.Call.{Call}
 use Rattle.my_session.specs.declared.facts.Facts.{Facts}
 use Rattle.my_session.specs.Commands.{opening}
-use Rattle.my_session.specs.Entries.{Entry, taken_by, sent_by, facts_of}
+use Rattle.my_session.specs.Entries.{Entry, taken_by, sent_by, facts_of, terms_by, connecting_in, ends_answered}
 use Rattle.my_session.specs.Facts.{facts_after, facts_by}
 use Rattle.my_session.specs.Machine.{reply_to, reply_bytes, reply_number}
 use Rattle.my_session.specs.Stands.{Wire}
@@ -45,6 +46,18 @@ number_is login Row p n = refl
 number_is login (End status) p n = refl
 number_is login Bad p n = refl
 
+-- behind another payload than a greeting the client says nothing
+pub silent : (login : Login) (k : Kind) (p : List ℕ) (n : ℕ) → not_greets k ≡ true → reply_bytes (reply_to login k p) n ≡ []
+silent login (Greets c) p n e = cc
+silent login (Good status) p n e = refl
+silent login Failed p n e = refl
+silent login (Count c) p n e = refl
+silent login Column p n e = refl
+silent login ColumnsDone p n e = refl
+silent login Row p n e = refl
+silent login (End status) p n e = refl
+silent login Bad p n e = refl
+
 pub limit_is : (t : Talk) → (context_of t).terms.limit ≡ limit_of t
 limit_is (Start login) = refl
 limit_is (Unwelcome login p) = refl
@@ -66,6 +79,7 @@ module _ (login : Login) (taken sent : List ℕ) (call : Call) (talk : Talk) (ol
     all_is = w.all_is;
     owed_is = w.owed_is;
     dropped = w.dropped;
+    answered = w.answered;
     number_is = w.number_is;
     context_is = w.context_is;
     login_is = w.login_is;
@@ -85,6 +99,7 @@ module _ (login : Login) (taken sent : List ℕ) (call : Call) (talk : Talk) (ol
     all_is = w.all_is;
     owed_is = λ no. cc;
     dropped = λ _. ap (drop n) (w.dropped refl) ∙ drop-nil {A = ℕ} n;
+    answered = w.answered;
     number_is = w.number_is;
     context_is = w.context_is;
     login_is = w.login_is;
@@ -103,6 +118,7 @@ module _ (login : Login) (taken sent : List ℕ) (call : Call) (talk : Talk) (ol
     all_is = append_assoc w.gone (take n owed) (drop n owed) ∙ ap (λ bs. w.gone ++ bs) (take-append-drop n owed ∙ w.owed_is refl) ∙ w.all_is;
     owed_is = λ _. refl;
     dropped = λ no. cc;
+    answered = λ a. ap (drop n) (w.owed_is refl ∙ w.answered a) ∙ drop-nil {A = ℕ} n;
     number_is = w.number_is;
     context_is = w.context_is;
     login_is = w.login_is;
@@ -127,6 +143,7 @@ module _ (login : Login) (taken sent : List ℕ) (call : Call) (talk : Talk) (ol
     all_is = w.all_is;
     owed_is = λ no. cc;
     dropped = λ _. refl;
+    answered = w.answered;
     number_is = w.number_is;
     context_is = w.context_is;
     login_is = w.login_is;
@@ -136,12 +153,17 @@ module _ (login : Login) (taken sent : List ℕ) (call : Call) (talk : Talk) (ol
     table = w.table;
   }
 
-  -- a payload is read
-  pub wire_read : (context : Context) (number : ℕ) (unread owed : List ℕ) (closed : Bool) (facts : Facts) (k : Kind) (p rest : List ℕ) (next : ℕ) → closed ≡ false → kind_there context p ≡ k → is_bad k ≡ false → IsWhole number context.terms.limit unread p rest next → Wire context number unread owed closed facts login taken sent call talk older → Wire (context_after context k) (reply_number (reply_to login k p) next) rest (owed ++ reply_bytes (reply_to login k p) next) closed (facts_after k p facts) login taken sent call (grow k talk p) older
-  wire_read context number unread owed closed facts k p rest next alive kind good whole w =
-      let n = number_of (turns talk) in
+  -- a payload within the limit that may stand there is one more of the exchange
+  pub talk_grows : (context : Context) (number : ℕ) (unread owed : List ℕ) (closed : Bool) (facts : Facts) (k : Kind) (p rest : List ℕ) (next : ℕ) → kind_there context p ≡ k → is_bad k ≡ false → IsWhole number context.terms.limit unread p rest next → Wire context number unread owed closed facts login taken sent call talk older → Grows talk k p
+  talk_grows context number unread owed closed facts k p rest next kind good whole w =
       let within : length p ≤ limit_of talk = subst (λ m. length p ≤ m) (ap (λ (c : Context). c.terms.limit) w.context_is ∙ limit_is talk) whole.within in
-      let g : Grows talk k p = grows talk k p (subst (λ (c : Context). kind_there c p ≡ k) w.context_is kind) good within w.fits in
+      grows talk k p (subst (λ (c : Context). kind_there c p ≡ k) w.context_is kind) good within w.fits
+
+  -- a payload is read
+  pub wire_read : (context : Context) (number : ℕ) (unread owed : List ℕ) (closed : Bool) (facts : Facts) (k : Kind) (p rest : List ℕ) (next : ℕ) → closed ≡ false → owed ≡ [] → kind_there context p ≡ k → is_bad k ≡ false → IsWhole number context.terms.limit unread p rest next → Wire context number unread owed closed facts login taken sent call talk older → Wire (context_after context k) (reply_number (reply_to login k p) next) rest (owed ++ reply_bytes (reply_to login k p) next) closed (facts_after k p facts) login taken sent call (grow k talk p) older
+  wire_read context number unread owed closed facts k p rest next alive nothing kind good whole w =
+      let n = number_of (turns talk) in
+      let g : Grows talk k p = talk_grows context number unread owed closed facts k p rest next kind good whole w in
       let r : Reads login k p (turns talk) = reads login k p (turns talk) in
       let behind : number_behind p n ≡ next = ap (number_behind p) (sym w.number_is) ∙ sym whole.next_is in
       let turned = g.turns_are login ∙ ap (λ l. replies l k p ++ Server p ∷ turns talk) w.login_is in
@@ -158,17 +180,24 @@ module _ (login : Login) (taken sent : List ℕ) (call : Call) (talk : Talk) (ol
         all_is = sym (append_assoc w.gone w.cut (reply_bytes (reply_to login k p) next)) ∙ ap (λ bs. bs ++ reply_bytes (reply_to login k p) next) w.all_is ∙ sym client;
         owed_is = λ e. ap (λ bs. bs ++ reply_bytes (reply_to login k p) next) (w.owed_is e);
         dropped = λ no. let stop : true ≡ false = sym no ∙ alive in cc;
+        answered = λ a. ap (λ bs. bs ++ reply_bytes (reply_to login k p) next) (sym (w.owed_is alive) ∙ nothing) ∙ silent login k p next (sym (ap ends_answered g.packets_are) ∙ a);
         number_is = ap (reply_number (reply_to login k p)) (sym behind) ∙ sym (number_is login k p n) ∙ sym r.number ∙ sym (ap number_of turned);
         context_is = ap (λ c. context_after c k) w.context_is ∙ sym g.context;
         login_is = g.login_is login ∙ w.login_is;
         fits = g.fits;
         done = w.done;
-        facts_are = ap (facts_after k p) w.facts_are ∙ sym (ap (λ ps. facts_by ps (facts_of older)) g.packets_are);
+        facts_are = ap (facts_after k p) w.facts_are ∙ sym (ap (λ ps. facts_by ps (facts_of login older)) g.packets_are);
         table = (w.table.0 ∙ ap Some (sym g.origin_is), w.table.1);
       }
 
+-- what holds between client and server is what the session says
+pub terms_now : (login : Login) (e : Entry) (older : List Entry) (context : Context) (facts : Facts) → context ≡ context_of e.talk → facts ≡ facts_by (packets_of e.talk) (facts_of login older) → terms_by login (e ∷ older) ≡ record { kept = context.terms.kept; limit = facts.settings.limit }
+terms_now login e older context facts c f =
+    ap (λ (x : Context). let t : Terms = record { kept = x.terms.kept; limit = (facts_by (packets_of e.talk) (facts_of login older)).settings.limit } in t) (sym c)
+    ∙ ap (λ (x : Facts). let t : Terms = record { kept = context.terms.kept; limit = x.settings.limit } in t) (sym f)
+
 -- an exchange begins, by the table
-pub wire_queued : (context : Context) (number : ℕ) (unread owed : List ℕ) (closed : Bool) (facts : Facts) (login : Login) (taken sent : List ℕ) (e : Entry) (older : List Entry) (new : Call) (talk : Talk) → closed ≡ false → context.spot ≡ spots.Idle → owed ≡ [] → opening login context.terms.kept new ≡ Some talk → origin talk ≡ talk → Fits talk → server_bytes (turns talk) ≡ [] → packets_of talk ≡ [] → login_in login talk ≡ login → Wire context number unread owed closed facts login taken sent e.call e.talk older → Wire (context_of talk) (number_of (turns talk)) unread (owed ++ client_bytes (turns talk)) closed facts login taken sent new talk (e ∷ older)
+pub wire_queued : (context : Context) (number : ℕ) (unread owed : List ℕ) (closed : Bool) (facts : Facts) (login : Login) (taken sent : List ℕ) (e : Entry) (older : List Entry) (new : Call) (talk : Talk) → closed ≡ false → context.spot ≡ spots.Idle → owed ≡ [] → opening login (record { kept = context.terms.kept; limit = facts.settings.limit }) new (connecting_in (e ∷ older)) ≡ Some talk → origin talk ≡ talk → Fits talk → server_bytes (turns talk) ≡ [] → packets_of talk ≡ [] → login_in login talk ≡ login → Wire context number unread owed closed facts login taken sent e.call e.talk older → Wire (context_of talk) (number_of (turns talk)) unread (owed ++ client_bytes (turns talk)) closed facts login taken sent new talk (e ∷ older)
 wire_queued context number unread owed closed facts login taken sent e older new talk alive idle nothing opens orig fits none packets log w =
     let spent : w.cut ≡ [] = sym (w.owed_is alive) ∙ nothing in
     record {
@@ -179,11 +208,12 @@ wire_queued context number unread owed closed facts login taken sent e older new
       all_is = refl;
       owed_is = λ _. ap (λ bs. bs ++ client_bytes (turns talk)) nothing;
       dropped = λ no. let stop : true ≡ false = sym no ∙ alive in cc;
+      answered = λ a. let no : false ≡ true = sym (ap ends_answered packets) ∙ a in cc;
       number_is = refl;
       context_is = refl;
       login_is = log;
       fits = fits;
       done = (sym (ap (λ (c : Context). c.spot) w.context_is) ∙ idle, w.fits, w.done);
-      facts_are = w.facts_are ∙ sym (ap (λ ps. facts_by ps (facts_of (e ∷ older))) packets);
-      table = (ap (λ (c : Context). opening login c.terms.kept new) (sym w.context_is) ∙ opens ∙ ap Some (sym orig), w.table);
+      facts_are = w.facts_are ∙ sym (ap (λ ps. facts_by ps (facts_of login (e ∷ older))) packets);
+      table = (ap (λ (t : Terms). opening login t new (connecting_in (e ∷ older))) (terms_now login e older context facts w.context_is w.facts_are) ∙ opens ∙ ap Some (sym orig), w.table);
     }

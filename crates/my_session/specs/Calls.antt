@@ -6,7 +6,7 @@ use Rattle.my_session.specs.declared.call.CallKind.{CallKind}
 use Rattle.my_session.specs.declared.call.CallKind.TheVariants.{Connect, Query, NextRow, DropResult, Ping, Quit}
 use Rattle.my_session.specs.declared.call.LinkFault.{LinkFault}
 use Rattle.my_session.specs.declared.call.Task.{Task}
-use Rattle.my_session.specs.declared.call.Task.TheVariants.{Nothing, Begun, Cleaning, Own, Reading, Dropping, Leaving, Failing}
+use Rattle.my_session.specs.declared.call.Task.TheVariants.{Nothing, Begun, Cleaning, Own, Arranging, Reading, Dropping, Leaving, Failing}
 
 abbrev pub kind_of : Call → CallKind
 kind_of calls.Connect = Connect
@@ -40,6 +40,7 @@ kind_in Nothing = None
 kind_in (Begun c) = Some c
 kind_in (Cleaning c) = Some c
 kind_in (Own c) = Some c
+kind_in (Arranging n) = Some Connect
 kind_in Reading = Some NextRow
 kind_in Dropping = Some DropResult
 kind_in Leaving = Some Quit
@@ -50,6 +51,7 @@ is_open Nothing = false
 is_open (Begun c) = true
 is_open (Cleaning c) = true
 is_open (Own c) = true
+is_open (Arranging n) = true
 is_open Reading = true
 is_open Dropping = true
 is_open Leaving = true
@@ -86,6 +88,7 @@ fault_in Nothing = None
 fault_in (Begun c) = None
 fault_in (Cleaning c) = None
 fault_in (Own c) = None
+fault_in (Arranging n) = None
 fault_in Reading = None
 fault_in Dropping = None
 fault_in Leaving = None

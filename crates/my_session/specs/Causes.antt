@@ -1,11 +1,11 @@
 -- Why a call was told an error, in the words of what the grammar finds in the bytes taken.
 -- MySQL client/server protocol, "MySQL Packets" (numbers and lengths of chunks) and "ERR_Packet".
 use Rattle.std.specs.Prelude.{◌≡◌, ℕ, ◌-◌, ◌^◌, ◌<◌, min, List, [], ◌∷◌, ◌++◌, ◌⊎◌, length, Some, true, false}
-use Rattle.my_wire.specs.declared.fault.CodecFault.{CodecFault}
-use Rattle.my_wire.specs.declared.fault.CodecFault.TheVariants.{TooLarge}
+use Rattle.my_frame.specs.declared.fault.CodecFault.{CodecFault}
+use Rattle.my_frame.specs.declared.fault.CodecFault.TheVariants.{TooLarge}
 use Rattle.my_wire.specs.declared.err.ErrPacket.{ErrPacket}
 use Rattle.my_wire.specs.ErrPacket.{err_at}
-use Rattle.my_wire.specs.Front.{Whole}
+use Rattle.my_frame.specs.Front.{Whole}
 use Rattle.my_grammar.specs.declared.spot.Kind.TheVariants.{Greets, Failed}
 use Rattle.my_grammar.specs.Cut.{Cut, Rest, Behind, Unfinished, Unfit, Blamed, cut, place_of, front_of, kind_of}
 use Rattle.my_grammar.specs.Growth.{grow}
@@ -28,7 +28,7 @@ use Rattle.my_session.specs.declared.answer.SessionStep.{SessionStep}
 use Rattle.my_session.specs.declared.answer.SessionStep.TheVariants as steps
 use Rattle.my_session.specs.Calls.{fault_in, is_open}
 use Rattle.my_session.specs.Commands.{opening, command_in}
-use Rattle.my_session.specs.Entries.{Entry, kept_by}
+use Rattle.my_session.specs.Entries.{Entry, terms_by, connecting_in}
 use Rattle.my_session.specs.Errors.{server_error}
 use Rattle.my_session.specs.History.{History, ToldError}
 use Rattle.my_session.specs.Law.{Says, in_order, talks, origins}
@@ -55,14 +55,14 @@ pub record IsUnfit (es : List Entry) (taken unread : List ℕ) : Type 0 where
   pub payload : List ℕ
   pub stops : Stops es taken (Unfit payload unread)
 
--- The command of the open call is longer than the options allow.
+-- The next command of the open call is longer than the settings allow.
 pub record IsLongCommand (s : Seen) (h : History) (es : List Entry) (fault : CodecFault) : Type 0 where
   pub call : Call
   pub pending : h.pending ≡ Some call
   pub talk : Talk
-  pub opens : opening s.login (kept_by s.login es) call ≡ Some talk
-  pub above : s.login.max_packet < length (command_in talk)
-  pub fault_is : fault ≡ TooLarge (length (command_in talk)) s.login.max_packet
+  pub opens : opening s.login (terms_by s.login es) call (connecting_in es) ≡ Some talk
+  pub above : (terms_by s.login es).limit < length (command_in talk)
+  pub fault_is : fault ≡ TooLarge (length (command_in talk)) (terms_by s.login es).limit
 
 -- The greeting stands in front, and the client's response to it is longer than a payload may be.
 pub record IsLongResponse (s : Seen) (talk : Talk) (fault : CodecFault) : Type 0 where

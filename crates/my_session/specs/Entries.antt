@@ -1,18 +1,21 @@
 -- The exchanges of a session, the newest first, and the command table.
-use Rattle.std.specs.Prelude.{◌≡◌, ℕ, List, [], ◌∷◌, ◌++◌, Option, Some, None, Bool, true, false, not, ◌||◌, ◌⊎◌}
+use Rattle.std.specs.Prelude.{◌≡◌, ℕ, suc, List, [], ◌∷◌, ◌++◌, Option, Some, None, Bool, true, false, not, ◌||◌, ◌⊎◌, if◌then◌else◌}
 use Rattle.my_grammar.specs.declared.login.Login.{Login}
+use Rattle.my_grammar.specs.declared.packet.Packet.{Packet}
 use Rattle.my_grammar.specs.declared.spot.Spot.TheVariants.{Idle}
+use Rattle.my_grammar.specs.declared.spot.Terms.{Terms}
 use Rattle.my_grammar.specs.Contexts.{deprecates_eof}
 use Rattle.my_grammar.specs.FitSets.{FitSets}
+use Rattle.my_grammar.specs.Growth.{not_greets}
 use Rattle.my_grammar.specs.Sets.{Sets, NoSets}
 use Rattle.my_grammar.specs.Talk.{Talk, Start, Unwelcome, Greeted, Settled, Asked, Replied, Queried, Silent, turns, server_bytes, client_bytes, context_of, packets_of, Fits, origin}
 use Rattle.my_session.specs.declared.call.Call.{Call}
 use Rattle.my_session.specs.declared.call.CallKind.{CallKind}
 use Rattle.my_session.specs.declared.call.CallKind.TheVariants as callkinds
 use Rattle.my_session.specs.declared.facts.Facts.{Facts}
-use Rattle.my_session.specs.Calls.{kind_of}
+use Rattle.my_session.specs.Calls.{kind_of, is_connect}
 use Rattle.my_session.specs.Commands.{opening}
-use Rattle.my_session.specs.Facts.{no_facts, facts_by}
+use Rattle.my_session.specs.Facts.{first_facts, facts_by}
 use Rattle.my_session.specs.Groups.{Group, groups, IsEarlier}
 use Rattle.my_session.specs.History.{Made, Told, ToldReady, ToldRow, ToldEnd, ToldNone, ToldError, Dropped}
 
@@ -32,24 +35,41 @@ sent_by [] = []
 sent_by (e ∷ es) = sent_by es ++ client_bytes (turns e.talk)
 
 -- what the server told in them
-abbrev pub facts_of : List Entry → Facts
-facts_of [] = no_facts
-facts_of (e ∷ es) = facts_by (packets_of e.talk) (facts_of es)
+abbrev pub facts_of : Login → List Entry → Facts
+facts_of login [] = first_facts login
+facts_of login (e ∷ es) = facts_by (packets_of e.talk) (facts_of login es)
 
 -- the capabilities that both sides keep
 abbrev pub kept_by : Login → List Entry → ℕ
 kept_by login [] = login.capabilities
 kept_by login (e ∷ es) = (context_of e.talk).terms.kept
 
--- each exchange is the one that the table has for its call
+-- what holds between client and server behind them: the capabilities of both, and the longest payload by the settings
+abbrev pub terms_by : Login → List Entry → Terms
+terms_by login es = record { kept = kept_by login es; limit = (facts_of login es).settings.limit }
+
+-- how many of them are of connecting
+abbrev pub connecting_in : List Entry → ℕ
+connecting_in [] = 0
+connecting_in (e ∷ es) = if is_connect (kind_of e.call) then suc (connecting_in es) else connecting_in es
+
+-- each exchange is the one that the table has for its call, and for its place among those of connecting
 abbrev pub Follow : Login → List Entry → Type 0
 Follow login [] = Unit {0}
-Follow login (e ∷ es) = (opening login (kept_by login es) e.call ≡ Some (origin e.talk)) × Follow login es
+Follow login (e ∷ es) = (opening login (terms_by login es) e.call (connecting_in es) ≡ Some (origin e.talk)) × Follow login es
 
 -- each is one that the protocol has, and is over
 abbrev pub AllDone : List Entry → Type 0
 AllDone [] = Unit {0}
 AllDone (e ∷ es) = ((context_of e.talk).spot ≡ Idle) × Fits e.talk × AllDone es
+
+-- the newest payload answers what the client said last
+abbrev pub ends_answered : List Packet → Bool
+ends_answered [] = false
+ends_answered (packet ∷ packets) = not_greets packet.kind
+
+abbrev pub is_answered : Talk → Bool
+is_answered t = ends_answered (packets_of t)
 
 abbrev pub sets_of : Talk → Sets
 sets_of (Start login) = NoSets
@@ -110,16 +130,16 @@ abbrev pub calls_in : List Entry → List Call
 calls_in [] = []
 calls_in (e ∷ es) = e.call ∷ calls_in es
 
--- the call's own exchange is the first of these
-abbrev pub OwnsFirst : Made → List Call → (List Call → Type 0) → Type 0
-OwnsFirst m [] rest = ⊥
-OwnsFirst m (c ∷ cs) rest = (m.call ≡ c) × rest cs
+-- the first of these exchanges is the call's own; connecting may have more than one
+abbrev pub OwnsFirst : Call → List Call → (List Call → Type 0) → Type 0
+OwnsFirst call [] rest = ⊥
+OwnsFirst call (c ∷ cs) rest = (call ≡ c) × (rest cs ⊎ ((is_connect (kind_of call) ≡ true) × OwnsFirst call cs rest))
 
--- The exchanges are those of the calls, in their order, at most one each; a command that was accepted has one.
+-- The exchanges are those of the calls, in their order, at most one each but for connecting; a command that was accepted has one.
 abbrev pub IsTied : List Made → List Call → Type 0
 IsTied [] [] = Unit {0}
 IsTied [] (c ∷ cs) = ⊥
-IsTied (m ∷ ms) cs = ((may_lack m.what (kind_of m.call) ≡ true) × IsTied ms cs) ⊎ OwnsFirst m cs (IsTied ms)
+IsTied (m ∷ ms) cs = ((may_lack m.what (kind_of m.call) ≡ true) × IsTied ms cs) ⊎ OwnsFirst m.call cs (IsTied ms)
 
 -- whether the connection was made
 abbrev pub connects : Told → CallKind → Bool

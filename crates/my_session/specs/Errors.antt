@@ -1,7 +1,7 @@
 -- Errors of calls: which end a connection, and what they say.
 use Rattle.std.specs.Prelude.{ℕ, Bool, true, false}
 use Rattle.std.specs.Str.Lossy.{utf8_lossy}
-use Rattle.my_wire.specs.declared.fault.CodecFault.{CodecFault}
+use Rattle.my_frame.specs.declared.fault.CodecFault.{CodecFault}
 use Rattle.my_wire.specs.declared.err.ErrPacket.{ErrPacket}
 use Rattle.my_session.specs.declared.call.LinkFault.{LinkFault}
 use Rattle.my_session.specs.declared.call.LinkFault.TheVariants as faults

@@ -2,55 +2,63 @@
 -- MySQL internals, "Protocol::Handshake" (version and connection id), "OK_Packet", "ERR_Packet" and "Text Resultset".
 use Rattle.std.specs.Prelude.{ℕ, ◌+◌, ◌-◌, ◌^◌, min, List, [], ◌∷◌, ◌++◌, nat_le, Option, Some, None, if◌then◌else◌}
 use Rattle.my_wire.specs.declared.ok.OkPacket.{OkPacket}
-use Rattle.my_wire.specs.declared.greeting.Greeting.{Greeting}
+use Rattle.my_handshake.specs.declared.greeting.Greeting.{Greeting}
 use Rattle.my_wire.specs.declared.column.Column.{Column}
 use Rattle.my_wire.specs.OkPacket.{ok_at, end_ok_at}
-use Rattle.my_wire.specs.Greeting.{greeting_at}
+use Rattle.my_handshake.specs.Greeting.{greeting_at}
 use Rattle.my_wire.specs.Column.{column_at}
 use Rattle.my_grammar.specs.declared.spot.Kind.{Kind}
 use Rattle.my_grammar.specs.declared.spot.Kind.TheVariants.{Greets, Good, Failed, Count, Column as ColumnKind, ColumnsDone, Row, End, Bad}
+use Rattle.my_grammar.specs.declared.login.Login.{Login}
 use Rattle.my_grammar.specs.declared.packet.Packet.{Packet}
 use Rattle.my_session.specs.declared.facts.Facts.{Facts}
+use Rattle.my_session.specs.declared.settings.Settings.{Settings}
+use Rattle.my_session.specs.Rows.{row_at}
+use Rattle.my_session.specs.Settings.{first_settings, good_settings, end_settings, row_settings}
 
 -- before the server said anything
-abbrev pub no_facts : Facts
-no_facts = record { version = []; connection = 0; status = 0; ok = None; left = 0; gathered = []; columns = []; place = 0 }
+abbrev pub first_facts : Login → Facts
+first_facts login = record { version = []; connection = 0; status = 0; ok = None; left = 0; gathered = []; columns = []; settings = first_settings login; place = 0 }
 
 -- one payload more; the count stays at its last value
 abbrev pub counted : Facts → Facts
-counted f = record { version = f.version; connection = f.connection; status = f.status; ok = f.ok; left = f.left; gathered = f.gathered; columns = f.columns; place = min (f.place + 1) (2 ^ 64 - 1) }
+counted f = record { version = f.version; connection = f.connection; status = f.status; ok = f.ok; left = f.left; gathered = f.gathered; columns = f.columns; settings = f.settings; place = min (f.place + 1) (2 ^ 64 - 1) }
 
 -- a greeting tells the server's version and the connection's number
 abbrev pub with_greeting : Option Greeting → Facts → Facts
 with_greeting None f = f
-with_greeting (Some g) f = record { version = g.version; connection = g.id; status = f.status; ok = f.ok; left = f.left; gathered = f.gathered; columns = f.columns; place = f.place }
+with_greeting (Some g) f = record { version = g.version; connection = g.id; status = f.status; ok = f.ok; left = f.left; gathered = f.gathered; columns = f.columns; settings = f.settings; place = f.place }
 
 -- an OK tells the status, and stays the last one; so does the OK that ends a set
 abbrev pub with_ok : Option OkPacket → ℕ → Facts → Facts
-with_ok ok status f = record { version = f.version; connection = f.connection; status = status; ok = ok; left = f.left; gathered = f.gathered; columns = f.columns; place = f.place }
+with_ok ok status f = record { version = f.version; connection = f.connection; status = status; ok = ok; left = f.left; gathered = f.gathered; columns = f.columns; settings = f.settings; place = f.place }
 
 -- a head begins, of so many columns
 abbrev pub with_count : ℕ → Facts → Facts
-with_count n f = record { version = f.version; connection = f.connection; status = f.status; ok = f.ok; left = n; gathered = []; columns = f.columns; place = f.place }
+with_count n f = record { version = f.version; connection = f.connection; status = f.status; ok = f.ok; left = n; gathered = []; columns = f.columns; settings = f.settings; place = f.place }
 
 -- a column joins those of its head, or makes the head whole
 abbrev pub with_column : Option Column → Facts → Facts
 with_column None f = f
 with_column (Some c) f =
     if nat_le f.left 1
-    then record { version = f.version; connection = f.connection; status = f.status; ok = f.ok; left = 0; gathered = []; columns = f.gathered ++ c ∷ []; place = f.place }
-    else record { version = f.version; connection = f.connection; status = f.status; ok = f.ok; left = f.left - 1; gathered = f.gathered ++ c ∷ []; columns = f.columns; place = f.place }
+    then record { version = f.version; connection = f.connection; status = f.status; ok = f.ok; left = 0; gathered = []; columns = f.gathered ++ c ∷ []; settings = f.settings; place = f.place }
+    else record { version = f.version; connection = f.connection; status = f.status; ok = f.ok; left = f.left - 1; gathered = f.gathered ++ c ∷ []; columns = f.columns; settings = f.settings; place = f.place }
+
+-- what is known of the settings
+abbrev pub with_settings : Settings → Facts → Facts
+with_settings settings f = record { version = f.version; connection = f.connection; status = f.status; ok = f.ok; left = f.left; gathered = f.gathered; columns = f.columns; settings = settings; place = f.place }
 
 -- what a payload of this kind tells; an ERR empties the status and leaves no last OK
 abbrev pub told_after : Kind → List ℕ → Facts → Facts
 told_after (Greets capabilities) p f = with_greeting (greeting_at p) f
-told_after (Good status) p f = with_ok (ok_at p) status f
+told_after (Good status) p f = with_settings (good_settings f.settings.stage f.settings) (with_ok (ok_at p) status f)
 told_after Failed p f = with_ok None 0 f
 told_after (Count n) p f = with_count n f
 told_after ColumnKind p f = with_column (column_at p) f
 told_after ColumnsDone p f = f
-told_after Row p f = f
-told_after (End status) p f = with_ok (end_ok_at p) status f
+told_after Row p f = with_settings (row_settings (row_at f.columns p) f.settings) f
+told_after (End status) p f = with_settings (end_settings f.settings.stage f.settings) (with_ok (end_ok_at p) status f)
 told_after Bad p f = f
 
 abbrev pub facts_after : Kind → List ℕ → Facts → Facts

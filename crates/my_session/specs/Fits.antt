@@ -5,7 +5,7 @@ use Rattle.my_session.specs.declared.answer.SessionStep.TheVariants.{Send, Need,
 use Rattle.my_session.specs.declared.call.CallKind.{CallKind}
 use Rattle.my_session.specs.declared.call.CallKind.TheVariants.{Connect, Query, NextRow, DropResult, Ping, Quit}
 use Rattle.my_session.specs.declared.call.Task.{Task}
-use Rattle.my_session.specs.declared.call.Task.TheVariants.{Nothing, Begun, Cleaning, Own, Reading, Dropping, Leaving, Failing}
+use Rattle.my_session.specs.declared.call.Task.TheVariants.{Nothing, Begun, Cleaning, Own, Arranging, Reading, Dropping, Leaving, Failing}
 use Rattle.my_session.specs.declared.call.LinkFault.{LinkFault}
 use Rattle.my_session.specs.declared.error.Error.{Error}
 use Rattle.my_session.specs.declared.error.Error.TheVariants as errors
@@ -54,6 +54,7 @@ is_begun Nothing = false
 is_begun (Begun c) = true
 is_begun (Cleaning c) = false
 is_begun (Own c) = false
+is_begun (Arranging n) = false
 is_begun Reading = false
 is_begun Dropping = false
 is_begun Leaving = false

@@ -1,16 +1,16 @@
 -- What holds of each history that a session stands for.
-use Rattle.std.specs.Prelude.{◌≡◌, ℕ, List, [], ◌∷◌, ◌++◌, ◌⊎◌, Option, Some, None, false}
+use Rattle.std.specs.Prelude.{◌≡◌, ℕ, List, [], ◌∷◌, ◌++◌, ◌⊎◌, Option, Some, None, true, false}
 use Rattle.my_grammar.specs.Talk.{Talk, Fits, turns, client_bytes, origin}
 use Rattle.my_grammar.specs.Cut.{cut}
 use Rattle.my_session.specs.declared.call.Call.{Call}
 use Rattle.my_session.specs.declared.error.ServerError.{ServerError}
-use Rattle.my_session.specs.Entries.{Entry, Follow, AllDone, taken_by, sent_by, facts_of, givens, IsGiven, IsTied}
+use Rattle.my_session.specs.Entries.{Entry, Follow, OwnsFirst, is_answered, AllDone, taken_by, sent_by, facts_of, givens, IsGiven, IsTied}
 use Rattle.my_session.specs.Groups.{Group, given}
 use Rattle.my_session.specs.History.{History, Made, is_closed}
 use Rattle.my_session.specs.Prefix.{AreFronts}
 use Rattle.my_session.specs.Seen.{Seen}
 use Rattle.my_session.specs.ServerErrors.{errors_in, errors_told}
-use Rattle.my_session.specs.Stands.{Stands, begun_of}
+use Rattle.my_session.specs.Stands.{Stands, IsArranged, begun_of}
 
 -- what stands newest first, oldest first
 abbrev pub in_order : {A : Type 0} → List A → List A
@@ -49,10 +49,9 @@ at_most_one (Some e) = e ∷ []
 -- the newest exchange is the open call's
 abbrev pub OwnsOpen : Option Call → List Made → List Call → Type 0
 OwnsOpen None made cs = ⊥
-OwnsOpen (Some c) made [] = ⊥
-OwnsOpen (Some c) made (d ∷ ds) = (c ≡ d) × IsTied made ds
+OwnsOpen (Some c) made cs = OwnsFirst c cs (IsTied made)
 
--- The exchanges belong to the calls, in order, each to one of its own; an accepted command has one.
+-- The exchanges belong to the calls, in order, each to one of its own, and those of connecting to one; an accepted command has one.
 abbrev pub AreOf : Option Call → List Made → List Call → Type 0
 AreOf pending made cs = OwnsOpen pending made cs ⊎ IsTied made cs
 
@@ -62,16 +61,19 @@ pub record Says (s : Seen) (h : History) : Type 0 where
   pub older : List Entry
   pub table : Follow s.login (newest ∷ older)
   pub calls : AreOf h.pending h.calls (begun_of s.context.spot newest.call older)
+  -- a connection that was made was set up by all queries that it needs, and each was answered
+  pub arranged : IsArranged s.login h.calls newest older
   -- what was taken is the server's part of them, each as the protocol has it and all but the newest over, and bytes that weren't read
   pub taken : h.taken ≡ taken_by (newest ∷ older) ++ s.unread
   pub done : AllDone older
   pub fits : Fits newest.talk
-  -- what was sent is what the client says in them, the newest perhaps cut; at rest it is whole
+  -- what was sent is what the client says in them, the newest perhaps cut; at rest it is whole, and where the server answered
   pub gone : List ℕ
   pub rest : List ℕ
   pub sent : h.sent ≡ sent_by older ++ gone
   pub all : gone ++ rest ≡ client_bytes (turns newest.talk)
   pub whole : h.pending ≡ None → s.closed ≡ false → rest ≡ []
+  pub answered : is_answered newest.talk ≡ true → rest ≡ []
   -- what callers were given is what stood at some moment in the exchanges that the grammar finds in the bytes taken
   pub given_is : given h.calls ≡ givens (newest ∷ older)
   pub read : AreGiven (in_order (shares (newest ∷ older))) (cut (in_order (origins (newest ∷ older))) h.taken).talks
@@ -81,7 +83,7 @@ pub record Says (s : Seen) (h : History) : Type 0 where
   pub unheard : Option ServerError
   pub errors : errors_along (cut (in_order (origins (newest ∷ older))) h.taken).talks ≡ in_order (errors_told h.calls) ++ at_most_one unheard
   -- what is known of the server is what it told in them
-  pub facts : s.facts ≡ facts_of (newest ∷ older)
+  pub facts : s.facts ≡ facts_of s.login (newest ∷ older)
   -- closed exactly by a fatal error, a call that was cancelled while its answer was awaited, a quit, or bytes that were lost
   pub closed_is : s.closed ≡ is_closed h
 

@@ -17,6 +17,7 @@ pub mod Rows
 pub mod Seen
 pub mod ServerErrors
 pub mod Session
+pub mod Settings
 pub mod Stands
 pub mod Steps
 pub mod Tables

@@ -1,16 +1,17 @@
 -- The machine: one move of an open call, as a function.
-use Rattle.std.specs.Prelude.{◌≡◌, ℕ, ◌≤◌, ◌⊎◌, nat_lt, List, [], ◌∷◌, ◌++◌, length, drop, Option, Some, None, Bool, true, false, Result, Ok, Err, if◌then◌else◌}
-use Rattle.my_wire.specs.declared.fault.CodecFault.TheVariants.{TooLarge}
+use Rattle.std.specs.Prelude.{◌≡◌, ℕ, suc, ◌≤◌, ◌⊎◌, nat_lt, List, [], ◌∷◌, ◌++◌, length, drop, Option, Some, None, Bool, true, false, Result, Ok, Err, if◌then◌else◌}
+use Rattle.my_frame.specs.declared.fault.CodecFault.TheVariants.{TooLarge}
 use Rattle.my_wire.specs.declared.err.ErrPacket.{ErrPacket}
-use Rattle.my_wire.specs.declared.read_error.ReadError.{ReadError}
-use Rattle.my_wire.specs.declared.read_error.ReadError.TheVariants as reads
-use Rattle.my_wire.specs.Chunks.{chunks, number_behind}
-use Rattle.my_wire.specs.Front.{Front, Waiting, Broken, Whole, front_at}
+use Rattle.my_frame.specs.declared.read_error.ReadError.{ReadError}
+use Rattle.my_frame.specs.declared.read_error.ReadError.TheVariants as reads
+use Rattle.my_frame.specs.Chunks.{chunks, number_behind}
+use Rattle.my_frame.specs.Front.{Front, Waiting, Broken, Whole, front_at}
 use Rattle.my_wire.specs.ErrPacket.{err_at}
 use Rattle.my_value.specs.RowParts.{RowParts}
 use Rattle.my_grammar.specs.declared.login.Login.{Login}
 use Rattle.my_grammar.specs.declared.spot.Spot.{Spot}
 use Rattle.my_grammar.specs.declared.spot.Spot.TheVariants as spots
+use Rattle.my_grammar.specs.declared.spot.Terms.{Terms}
 use Rattle.my_grammar.specs.declared.spot.Kind.{Kind}
 use Rattle.my_grammar.specs.declared.spot.Kind.TheVariants.{Greets, Good, Failed, Count, Column, ColumnsDone, Row, End, Bad}
 use Rattle.my_grammar.specs.Contexts.{context_after}
@@ -31,7 +32,7 @@ use Rattle.my_session.specs.declared.arrival.Arrival.{Arrival}
 use Rattle.my_session.specs.declared.answer.Tick.{Tick}
 use Rattle.my_session.specs.declared.answer.Tick.TheVariants as ticks
 use Rattle.my_session.specs.Calls.{call_of, fault_in}
-use Rattle.my_session.specs.Commands.{opening, command_in, command_terms}
+use Rattle.my_session.specs.Commands.{command_of, connecting, command_in}
 use Rattle.my_session.specs.Errors.{codec_error, invalid_data, unexpected_eof, link_error, server_error}
 use Rattle.my_session.specs.Facts.{facts_after}
 use Rattle.my_session.specs.History.{History, Told, ToldReady, ToldRow, ToldEnd, ToldNone, ToldError, told, answered, noted}
@@ -160,15 +161,19 @@ reading s Waiting = if s.ended then failed_by s (unexpected_eof s.facts.place) e
 reading s (Broken fault) = failed_by s (codec_error fault)
 reading s (Whole p rest next) = read_kind s p rest next (kind_there s.context p)
 
+-- what holds in the next command's exchange: the capabilities of both, and the longest payload by the settings
+abbrev pub next_terms : Seen → Terms
+next_terms s = record { kept = s.context.terms.kept; limit = s.facts.settings.limit }
+
 -- the exchange of a command: what is awaited first, and the bytes that are owed
-abbrev pub commanded : Seen → CallKind → Spot → List ℕ → Move
-commanded s c spot command =
-    if nat_lt s.login.max_packet (length command)
-    then too_large s s.login.max_packet (length command)
+abbrev pub commanded : Seen → Task → Spot → List ℕ → Move
+commanded s t spot command =
+    if nat_lt s.facts.settings.limit (length command)
+    then too_large s s.facts.settings.limit (length command)
     else record {
       seen = record {
-        context = record { spot = spot; columns = 0; terms = command_terms s.login s.context.terms.kept };
-        task = tasks.Own c;
+        context = record { spot = spot; columns = 0; terms = next_terms s };
+        task = t;
         text = s.text;
         untold = s.untold;
         closed = s.closed;
@@ -179,22 +184,32 @@ commanded s c spot command =
         facts = s.facts;
         login = s.login;
       };
-      does = Goes;
+      does = Sends;
     }
 
--- the own command of a call is owed, unless it is above the limit
+-- a command's exchange begins, unless it is above the limit
+abbrev pub begins : Seen → Task → Talk → Move
+begins s t talk =
+    if nat_lt s.facts.settings.limit (length (command_in talk))
+    then too_large s s.facts.settings.limit (length (command_in talk))
+    else record { seen = queued s t talk; does = Sends }
+
+-- the own command of a call
 abbrev pub asked : Seen → CallKind → Option Talk → Move
 asked s c None = record { seen = with_task s tasks.Nothing s.untold; does = Tells ToldNone }
-asked s c (Some talk) =
-    if nat_lt s.login.max_packet (length (command_in talk))
-    then too_large s s.login.max_packet (length (command_in talk))
-    else record { seen = queued s (tasks.Own c) talk; does = Goes }
+asked s c (Some talk) = begins s (tasks.Own c) talk
+
+-- the next query that sets the connection up, behind so many; where none is left, the connection is made
+abbrev pub arranged : Seen → ℕ → Option Talk → Move
+arranged s n None = record { seen = with_task s tasks.Nothing s.untold; does = Tells ToldReady }
+arranged s n (Some talk) = begins s (tasks.Arranging (suc n)) talk
 
 abbrev pub planned : Seen → Plan → Move
 planned s plans.Reads = reading s (front_at s.number s.context.terms.limit s.unread)
 planned s (plans.Starts t) = record { seen = with_task s t s.untold; does = Goes }
 planned s plans.Hears = record { seen = with_task s s.task false; does = Goes }
-planned s (plans.Asks c) = asked s c (opening s.login s.context.terms.kept (call_of c s.text))
+planned s (plans.Asks c) = asked s c (command_of (next_terms s) (call_of c s.text))
+planned s (plans.Arranges n) = arranged s n (connecting s.login (next_terms s) (suc n))
 planned s plans.Readies = record { seen = with_task s tasks.Nothing s.untold; does = Tells ToldReady }
 planned s plans.Quits = record { seen = fell s; does = Tells ToldReady }
 planned s plans.Passes = record { seen = with_task s s.task false; does = Passes ToldEnd }

@@ -1,9 +1,10 @@
 -- For which histories a session stands.
-use Rattle.std.specs.Prelude.{◌≡◌, ℕ, List, [], ◌∷◌, ◌++◌, ◌||◌, ◌&&◌, ◌⊎◌, Option, Some, None, Bool, true, false, if◌then◌else◌}
+use Rattle.std.specs.Prelude.{◌≡◌, ℕ, suc, length, List, [], ◌∷◌, ◌++◌, ◌||◌, ◌&&◌, ◌⊎◌, Option, Some, None, Bool, true, false, if◌then◌else◌}
 use Rattle.my_grammar.specs.declared.login.Login.{Login}
 use Rattle.my_grammar.specs.declared.spot.Context.{Context}
 use Rattle.my_grammar.specs.declared.spot.Spot.{Spot}
 use Rattle.my_grammar.specs.declared.spot.Spot.TheVariants as spots
+use Rattle.my_grammar.specs.Cut.{is_idle}
 use Rattle.my_grammar.specs.Sets.{Sets, NoSets, Lone, Failed, Heading, Headed, Begun, Ended, Broken}
 use Rattle.my_grammar.specs.Talk.{Talk, turns, number_of, server_bytes, client_bytes, context_of, packets_of, Fits, login_in}
 use Rattle.my_session.specs.declared.call.Call.{Call}
@@ -13,8 +14,9 @@ use Rattle.my_session.specs.declared.call.CallKind.TheVariants.{Connect, Query, 
 use Rattle.my_session.specs.declared.call.Task.{Task}
 use Rattle.my_session.specs.declared.call.Task.TheVariants as tasks
 use Rattle.my_session.specs.declared.facts.Facts.{Facts}
-use Rattle.my_session.specs.Calls.{call_of, kind_in, asks}
-use Rattle.my_session.specs.Entries.{Entry, taken_by, sent_by, facts_of, Follow, AllDone, AllGiven, givens, sets_of, calls_in, IsTied, has_connected}
+use Rattle.my_session.specs.Calls.{kind_of, call_of, kind_in, asks, is_connect}
+use Rattle.my_session.specs.Commands.{arranging_texts}
+use Rattle.my_session.specs.Entries.{Entry, taken_by, sent_by, facts_of, Follow, connecting_in, OwnsFirst, is_answered, AllDone, AllGiven, givens, sets_of, calls_in, IsTied, has_connected}
 use Rattle.my_session.specs.Facts.{facts_by}
 use Rattle.my_session.specs.Groups.{groups, given}
 use Rattle.my_session.specs.History.{History, Made, has_closed}
@@ -33,12 +35,13 @@ pub record Wire (context : Context) (number : ℕ) (unread owed : List ℕ) (clo
   pub all_is : gone ++ cut ≡ client_bytes (turns talk)
   pub owed_is : closed ≡ false → owed ≡ cut
   pub dropped : closed ≡ true → owed ≡ []
+  pub answered : is_answered talk ≡ true → cut ≡ []
   pub number_is : number ≡ number_of (turns talk)
   pub context_is : context ≡ context_of talk
   pub login_is : login_in login talk ≡ login
   pub fits : Fits talk
   pub done : AllDone older
-  pub facts_are : facts ≡ facts_by (packets_of talk) (facts_of older)
+  pub facts_are : facts ≡ facts_by (packets_of talk) (facts_of login older)
   pub table : Follow login (record { call = call; talk = talk; given = None } ∷ older)
 
 -- there is something that a read would answer
@@ -70,6 +73,7 @@ keeps tasks.Nothing = true
 keeps (tasks.Begun c) = true
 keeps (tasks.Cleaning c) = false
 keeps (tasks.Own c) = false
+keeps (tasks.Arranging n) = false
 keeps tasks.Reading = true
 keeps tasks.Dropping = true
 keeps tasks.Leaving = false
@@ -81,6 +85,7 @@ is_alive tasks.Nothing = false
 is_alive (tasks.Begun c) = true
 is_alive (tasks.Cleaning c) = true
 is_alive (tasks.Own c) = true
+is_alive (tasks.Arranging n) = true
 is_alive tasks.Reading = true
 is_alive tasks.Dropping = true
 is_alive tasks.Leaving = false
@@ -92,6 +97,7 @@ owes tasks.Nothing = false
 owes (tasks.Begun c) = false
 owes (tasks.Cleaning c) = false
 owes (tasks.Own c) = true
+owes (tasks.Arranging n) = true
 owes tasks.Reading = false
 owes tasks.Dropping = false
 owes tasks.Leaving = false
@@ -144,45 +150,47 @@ is_first (Begun older head rows) = is_none older && is_empty rows
 is_first (Ended older head rows last status) = false
 is_first (Broken older head rows last) = false
 
--- where a call's own exchange stands
-abbrev pub OwnAt : CallKind → Spot → Bool → Entry → Type 0
-OwnAt Connect spot connected newest = (connected ≡ false) × (is_shaking spot ≡ true)
-OwnAt Query spot connected newest = (connected ≡ true) × (newest.given ≡ None) × (is_first (sets_of newest.talk) ≡ true)
-OwnAt NextRow spot connected newest = ⊥
-OwnAt DropResult spot connected newest = ⊥
-OwnAt Ping spot connected newest = (connected ≡ true) × (spot ≡ spots.Single)
-OwnAt Quit spot connected newest = connected ≡ true
+-- where a call's own exchange stands; the login is the first exchange of connecting
+abbrev pub OwnAt : CallKind → Spot → Bool → ℕ → Entry → Type 0
+OwnAt Connect spot connected count newest = (connected ≡ false) × (is_shaking spot ≡ true) × (count ≡ 1)
+OwnAt Query spot connected count newest = (connected ≡ true) × (newest.given ≡ None) × (is_first (sets_of newest.talk) ≡ true)
+OwnAt NextRow spot connected count newest = ⊥
+OwnAt DropResult spot connected count newest = ⊥
+OwnAt Ping spot connected count newest = (connected ≡ true) × (spot ≡ spots.Single)
+OwnAt Quit spot connected count newest = connected ≡ true
 
 -- Connect begins before the greeting, and each other call once the connection was made
 abbrev pub BegunAt : CallKind → Spot → Bool → Type 0
 BegunAt Connect spot connected = (connected ≡ false) × (spot ≡ spots.Greeting)
 BegunAt c spot connected = (connected ≡ true) × (is_settled spot ≡ true)
 
--- where a task stands
-abbrev pub TaskIs : Task → Spot → Bool → Bool → Entry → Type 0
-TaskIs tasks.Nothing spot closed connected newest = closed ≡ false → (if connected then is_settled spot else is_greeting spot) ≡ true
-TaskIs (tasks.Begun c) spot closed connected newest = BegunAt c spot connected
-TaskIs (tasks.Cleaning c) spot closed connected newest = (asks c ≡ true) × (connected ≡ true) × (is_greeting spot ≡ false)
-TaskIs (tasks.Own c) spot closed connected newest = OwnAt c spot connected newest
-TaskIs tasks.Reading spot closed connected newest = (connected ≡ true) × (is_reading spot ≡ true)
-TaskIs tasks.Dropping spot closed connected newest = (connected ≡ true) × (is_reading spot ≡ true)
-TaskIs tasks.Leaving spot closed connected newest = closed ≡ true
-TaskIs (tasks.Failing c fault) spot closed connected newest = Unit {0}
+-- where a task stands, while so many exchanges of connecting began
+abbrev pub TaskIs : Task → Spot → Bool → Bool → ℕ → Entry → Type 0
+TaskIs tasks.Nothing spot closed connected count newest = closed ≡ false → (if connected then is_settled spot else is_greeting spot) ≡ true
+TaskIs (tasks.Begun c) spot closed connected count newest = BegunAt c spot connected
+TaskIs (tasks.Cleaning c) spot closed connected count newest = (asks c ≡ true) × (connected ≡ true) × (is_greeting spot ≡ false)
+TaskIs (tasks.Own c) spot closed connected count newest = OwnAt c spot connected count newest
+TaskIs (tasks.Arranging n) spot closed connected count newest = (connected ≡ false) × (count ≡ suc n) × (is_greeting spot ≡ false) × (is_idle spot ≡ true → is_answered newest.talk ≡ true)
+TaskIs tasks.Reading spot closed connected count newest = (connected ≡ true) × (is_reading spot ≡ true)
+TaskIs tasks.Dropping spot closed connected count newest = (connected ≡ true) × (is_reading spot ≡ true)
+TaskIs tasks.Leaving spot closed connected count newest = closed ≡ true
+TaskIs (tasks.Failing c fault) spot closed connected count newest = Unit {0}
 
 -- the calls of the exchanges that began: before the greeting the newest didn't
 abbrev pub begun_of : Spot → Call → List Entry → List Call
 begun_of spot call older = if is_greeting spot then calls_in older else call ∷ calls_in older
 
--- the newest exchange is the open call's own, or an earlier call's
+-- the newest exchange is the open call's own, or an earlier call's; while it connects, all are its own that began since
 abbrev pub TieIs : Task → List ℕ → Spot → List Made → Call → List Entry → Type 0
 TieIs tasks.Nothing text spot made call older = IsTied made (begun_of spot call older)
 TieIs (tasks.Begun c) text spot made call older = IsTied made (begun_of spot call older)
 TieIs (tasks.Cleaning c) text spot made call older = IsTied made (begun_of spot call older)
 TieIs (tasks.Own c) text spot made call older = (call ≡ call_of c text) × IsTied made (calls_in older)
+TieIs (tasks.Arranging n) text spot made call older = OwnsFirst calls.Connect (call ∷ calls_in older) (IsTied made)
 TieIs tasks.Reading text spot made call older = IsTied made (begun_of spot call older)
 TieIs tasks.Dropping text spot made call older = IsTied made (begun_of spot call older)
 TieIs tasks.Leaving text spot made call older = IsTied made (begun_of spot call older)
-TieIs (tasks.Failing c fault) text spot made call older = ((call ≡ call_of c text) × IsTied made (calls_in older)) ⊎ IsTied made (begun_of spot call older)
+TieIs (tasks.Failing c fault) text spot made call older = OwnsFirst (call_of c text) (call ∷ calls_in older) (IsTied made) ⊎ IsTied made (begun_of spot call older)
 
 -- the open call, with the text that it carries
 abbrev pub call_with : Option CallKind → List ℕ → Option Call
@@ -199,15 +207,21 @@ pub record Heard (task : Task) (text : List ℕ) (spot : Spot) (untold closed lo
   pub each : AllGiven (newest ∷ older)
   pub lone : untold ≡ true → is_lone (sets_of newest.talk) ≡ true
   pub fresh : closed ≡ false → keeps task ≡ true → untold || is_left spot ≡ true → newest.given ≡ Some (groups (known_part untold (sets_of newest.talk)))
-  pub at : TaskIs task spot closed (has_connected made) newest
-  pub first : is_greeting spot ≡ true → newest.call ≡ calls.Connect
+  pub at : TaskIs task spot closed (has_connected made) (connecting_in (newest ∷ older)) newest
+  pub first : is_greeting spot ≡ true → (newest.call ≡ calls.Connect) × (older ≡ [])
   pub tie : TieIs task text spot made newest.call older
+
+-- a connection that was made was set up whole: of the login and of each query there is an exchange, and the last of them was answered
+abbrev pub IsArranged : Login → List Made → Entry → List Entry → Type 0
+IsArranged login made newest older = has_connected made ≡ true
+    → (connecting_in (newest ∷ older) ≡ suc (length (arranging_texts login))) × (is_connect (kind_of newest.call) ≡ true → is_answered newest.talk ≡ true)
 
 pub record Stands (s : Seen) (h : History) : Type 0 where
   pub newest : Entry
   pub older : List Entry
   pub wire : Wire s.context s.number s.unread s.owed s.closed s.facts s.login h.taken h.sent newest.call newest.talk older
   pub heard : Heard s.task s.text s.context.spot s.untold s.closed h.lost h.calls h.pending newest older
+  pub arranged : IsArranged s.login h.calls newest older
   pub ended_is : s.ended ≡ h.ended
   -- a call that has no exchange of its own owes nothing
   pub settled : owes s.task ≡ false → s.owed ≡ []

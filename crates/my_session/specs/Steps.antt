@@ -1,6 +1,6 @@
 -- What the calls of a session leave of it.
 use Rattle.std.specs.Prelude.{◌≡◌, ◌≢◌, ℕ, zero, suc, ◌+◌, ◌*◌, ◌<◌, List, [], length, Bool, true, false, not, ◌&&◌, if◌then◌else◌}
-use Rattle.my_wire.specs.Front.{Waiting, front_at}
+use Rattle.my_frame.specs.Front.{Waiting, front_at}
 use Rattle.my_grammar.specs.declared.login.Login.{Login}
 use Rattle.my_grammar.specs.declared.spot.Spot.{Spot}
 use Rattle.my_grammar.specs.declared.spot.Spot.TheVariants as spots
@@ -15,9 +15,9 @@ use Rattle.my_session.specs.declared.call.CallKind.TheVariants.{Connect, Query, 
 use Rattle.my_session.specs.declared.call.LinkFault.{LinkFault}
 use Rattle.my_session.specs.declared.call.LinkFault.TheVariants.{NoMemory}
 use Rattle.my_session.specs.declared.call.Task.{Task}
-use Rattle.my_session.specs.declared.call.Task.TheVariants.{Nothing, Begun, Cleaning, Own, Reading, Dropping, Leaving, Failing}
+use Rattle.my_session.specs.declared.call.Task.TheVariants.{Nothing, Begun, Cleaning, Own, Arranging, Reading, Dropping, Leaving, Failing}
 use Rattle.my_session.specs.Calls.{kind_of, text_of, is_open, is_quit}
-use Rattle.my_session.specs.Facts.{no_facts}
+use Rattle.my_session.specs.Facts.{first_facts}
 use Rattle.my_session.specs.History.{History, ToldError, told, answered}
 use Rattle.my_session.specs.Machine.{Doing, Goes, Passes, Sends, Needs, Tells, Does, fell, next, doing, after_doing}
 use Rattle.my_session.specs.Seen.{Seen}
@@ -53,7 +53,7 @@ is_begun_at Quit spot = is_settled spot
 
 -- before the greeting
 abbrev pub fresh : Login → Seen
-fresh login = record { context = context_of (Start login); task = Nothing; text = []; untold = false; closed = false; ended = false; number = 0; unread = []; owed = []; facts = no_facts; login = login }
+fresh login = record { context = context_of (Start login); task = Nothing; text = []; untold = false; closed = false; ended = false; number = 0; unread = []; owed = []; facts = first_facts login; login = login }
 
 -- a closed session refuses each call but a quit
 abbrev pub is_refused : Bool → CallKind → Bool
@@ -79,6 +79,7 @@ failing Nothing fault = Nothing
 failing (Begun c) fault = Failing c fault
 failing (Cleaning c) fault = Failing c fault
 failing (Own c) fault = Failing c fault
+failing (Arranging n) fault = Failing Connect fault
 failing Reading fault = Failing NextRow fault
 failing Dropping fault = Failing DropResult fault
 failing Leaving fault = Failing Quit fault
@@ -98,6 +99,8 @@ rank (Begun c) untold = 3
 rank (Cleaning c) true = 2
 rank (Cleaning c) false = 1
 rank (Own c) untold = 0
+rank (Arranging n) true = 1
+rank (Arranging n) false = 0
 rank Reading untold = 0
 rank Dropping true = 1
 rank Dropping false = 0

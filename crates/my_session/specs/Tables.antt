@@ -8,7 +8,7 @@ use Rattle.my_grammar.specs.declared.spot.Kind.TheVariants as kinds
 use Rattle.my_session.specs.declared.call.CallKind.{CallKind}
 use Rattle.my_session.specs.declared.call.CallKind.TheVariants.{Connect, Query, NextRow, DropResult, Ping, Quit}
 use Rattle.my_session.specs.declared.call.Task.{Task}
-use Rattle.my_session.specs.declared.call.Task.TheVariants.{Nothing, Begun, Cleaning, Own, Reading, Dropping, Leaving, Failing}
+use Rattle.my_session.specs.declared.call.Task.TheVariants.{Nothing, Begun, Cleaning, Own, Arranging, Reading, Dropping, Leaving, Failing}
 use Rattle.my_session.specs.declared.tables.Plan.{Plan}
 use Rattle.my_session.specs.declared.tables.Plan.TheVariants as plans
 use Rattle.my_session.specs.declared.tables.Reaction.{Reaction}
@@ -23,10 +23,10 @@ first_task DropResult = Dropping
 first_task Ping = Cleaning Ping
 first_task Quit = Cleaning Quit
 
--- the rest of the earlier response is read, an end that wasn't told is dropped, and then the own command is owed
-abbrev pub clean_plan : CallKind → Spot → Bool → Plan
-clean_plan c spots.Idle untold = if untold then plans.Hears else plans.Asks c
-clean_plan c s untold = plans.Reads
+-- the rest of the earlier response is read, an end that wasn't told is dropped, and then comes what is planned behind it
+abbrev pub clean_plan : Plan → Spot → Bool → Plan
+clean_plan p spots.Idle untold = if untold then plans.Hears else p
+clean_plan p s untold = plans.Reads
 
 abbrev pub read_plan : Spot → Plan
 read_plan spots.Idle = plans.NoMore
@@ -53,27 +53,30 @@ own_plan Quit s = plans.Quits
 abbrev pub plan_of : Task → Spot → Bool → Plan
 plan_of Nothing s untold = plans.NoMore
 plan_of (Begun c) s untold = plans.Starts (first_task c)
-plan_of (Cleaning c) s untold = clean_plan c s untold
+plan_of (Cleaning c) s untold = clean_plan (plans.Asks c) s untold
 plan_of (Own c) s untold = own_plan c s
+plan_of (Arranging n) s untold = clean_plan (plans.Arranges n) s untold
 plan_of Reading s untold = if untold then plans.Ends else read_plan s
 plan_of Dropping s untold = if untold then plans.Passes else drop_plan s
 plan_of Leaving s untold = plans.Quits
 plan_of (Failing c fault) s untold = plans.NoMore
 
-abbrev pub react_cleaning : CallKind → Kind → Reaction
-react_cleaning c (kinds.Greets n) = reactions.Breaks
-react_cleaning c (kinds.Good status) = reactions.Goes (Cleaning c)
-react_cleaning c kinds.Failed = reactions.Refuses
-react_cleaning c (kinds.Count n) = reactions.Goes (Cleaning c)
-react_cleaning c kinds.Column = reactions.Goes (Cleaning c)
-react_cleaning c kinds.ColumnsDone = reactions.Goes (Cleaning c)
-react_cleaning c kinds.Row = reactions.Goes (Cleaning c)
-react_cleaning c (kinds.End status) = reactions.Goes (Cleaning c)
-react_cleaning c kinds.Bad = reactions.Breaks
+-- a response that is read whole, while nobody is given its rows
+abbrev pub react_whole : Task → Kind → Reaction
+react_whole t (kinds.Greets n) = reactions.Breaks
+react_whole t (kinds.Good status) = reactions.Goes t
+react_whole t kinds.Failed = reactions.Refuses
+react_whole t (kinds.Count n) = reactions.Goes t
+react_whole t kinds.Column = reactions.Goes t
+react_whole t kinds.ColumnsDone = reactions.Goes t
+react_whole t kinds.Row = reactions.Goes t
+react_whole t (kinds.End status) = reactions.Goes t
+react_whole t kinds.Bad = reactions.Breaks
 
+-- behind the login the connection is set up
 abbrev pub react_connect : Kind → Reaction
 react_connect (kinds.Greets n) = reactions.Goes (Own Connect)
-react_connect (kinds.Good status) = reactions.Readies false
+react_connect (kinds.Good status) = reactions.Goes (Arranging 0)
 react_connect kinds.Failed = reactions.Refuses
 react_connect k = reactions.Breaks
 
@@ -123,8 +126,9 @@ react_dropping kinds.Bad = reactions.Breaks
 abbrev pub react : Task → Kind → Reaction
 react Nothing k = reactions.Breaks
 react (Begun c) k = reactions.Breaks
-react (Cleaning c) k = react_cleaning c k
+react (Cleaning c) k = react_whole (Cleaning c) k
 react (Own c) k = react_own c k
+react (Arranging n) k = react_whole (Arranging n) k
 react Reading k = react_reading k
 react Dropping k = react_dropping k
 react Leaving k = reactions.Breaks
@@ -147,6 +151,7 @@ is_connecting (Begun c) = false
 is_connecting (Cleaning c) = false
 is_connecting (Own Connect) = true
 is_connecting (Own c) = false
+is_connecting (Arranging n) = true
 is_connecting Reading = false
 is_connecting Dropping = false
 is_connecting Leaving = false
@@ -164,6 +169,7 @@ closes_when_cancelled Nothing s = false
 closes_when_cancelled (Begun c) s = false
 closes_when_cancelled (Cleaning c) s = true
 closes_when_cancelled (Own c) s = true
+closes_when_cancelled (Arranging n) s = true
 closes_when_cancelled Reading s = awaits_head s
 closes_when_cancelled Dropping s = awaits_head s
 closes_when_cancelled Leaving s = false

@@ -7,7 +7,7 @@ use my_wire::Blob;
 /// A call, with what it carries.
 #[derive(Debug, Drop)]
 pub enum Call {
-    /// The handshake, with which a session begins.
+    /// The handshake, with which a session begins, and the queries that set the connection up.
     Connect,
     /// A query of this text.
     Query(Blob),
@@ -51,6 +51,8 @@ pub enum Task {
     Cleaning(CallKind),
     /// The call's own exchange.
     Own(CallKind),
+    /// The connection is set up: so many queries of the client's own were sent. Their answers are read whole.
+    Arranging(usize),
     /// The next row is awaited.
     Reading,
     /// What is left is passed over.

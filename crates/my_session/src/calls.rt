@@ -3,7 +3,7 @@
 ghost use Rattle.std.specs.Prelude.{◌≡◌, ◌≤◌, ◌++◌, ◌↔◌, length, drop, take as front, true, false, OnOk, OnErr, IfOk, IfErr, IsErr};
 ghost use Rattle.my_session.specs.Steps.{is_refused, failing};
 ghost use Rattle.my_session.specs.Calls.{kind_of};
-ghost use Rattle.my_wire.specs.FrontLaws.{AreBytes};
+ghost use Rattle.my_frame.specs.FrontLaws.{AreBytes};
 
 use crate::answer::Tick;
 use crate::call::{Call, CallKind, LinkFault, Task};
@@ -31,6 +31,7 @@ fn failing(task: Task, fault: LinkFault) -> Task
         Task::Begun(call) | Task::Cleaning(call) | Task::Own(call) | Task::Failing(call, _) => {
             Task::Failing(call, fault)
         }
+        Task::Arranging(_) => Task::Failing(CallKind::Connect, fault),
         Task::Reading => Task::Failing(CallKind::NextRow, fault),
         Task::Dropping => Task::Failing(CallKind::DropResult, fault),
         Task::Leaving => Task::Failing(CallKind::Quit, fault),
@@ -57,7 +58,7 @@ impl Machine {
     fn fresh(alloc: Global, login: Login) -> Result<Machine, NoMemory>
         ensures { IfOk result (λ m. seen m ≡ fresh login) }
     {
-        let facts = Facts::new(alloc)?;
+        let facts = Facts::new(alloc, &login)?;
         Ok(Machine {
             context: start_context(&login),
             task: Task::Nothing,

@@ -1,12 +1,14 @@
 //! What the server's payloads tell a client.
 
 ghost use Rattle.std.specs.Prelude.{◌≡◌, OnOk, OnErr, IfOk};
-ghost use Rattle.my_wire.specs.Greeting.{greeting_at};
+ghost use Rattle.my_handshake.specs.Greeting.{greeting_at};
 ghost use Rattle.my_wire.specs.OkPacket.{ok_at, end_ok_at};
 ghost use Rattle.my_wire.specs.Column.{column_at};
 
 use crate::columns::{Gathered, SetColumns};
-use my_grammar::Kind;
+use crate::settings::Settings;
+use my_grammar::{Kind, Login};
+use my_value::{Row, read_text_row};
 use my_wire::{
     Blob, Column, Greeting, NoMemory, OkPacket, ReadError, read_column, read_end_ok, read_greeting,
     read_ok,
@@ -30,6 +32,8 @@ pub struct Facts {
     pub gathered: Gathered,
     /// The columns of the newest set whose head is whole.
     pub columns: SetColumns,
+    /// How long a payload may be, and how long the connection may rest.
+    pub settings: Settings,
     /// How many whole payloads were taken.
     pub place: u64,
 }
@@ -79,11 +83,13 @@ fn column_in(alloc: Global, payload: &[u8]) -> Result<Option<Column>, NoMemory>
 }
 
 impl Facts {
-    ghost use Rattle.my_session.specs.Facts.{no_facts, facts_after, counted, with_greeting, with_ok, with_count, with_column};
+    ghost use Rattle.my_session.specs.Facts.{first_facts, facts_after, counted, with_greeting, with_ok, with_count, with_column, with_settings};
+    ghost use Rattle.my_session.specs.Rows.{row_at};
+    ghost use Rattle.my_session.specs.Settings.{end_settings, good_settings, row_settings};
 
     /// Before the server said anything.
-    pub fn new(alloc: Global) -> Result<Facts, NoMemory>
-        ensures { IfOk result (λ f. f ≡ no_facts) }
+    pub fn new(alloc: Global, login: &Login) -> Result<Facts, NoMemory>
+        ensures { IfOk result (λ f. f ≡ first_facts login.now) }
     {
         let columns = SetColumns::new(alloc)?;
         Ok(Facts {
@@ -94,6 +100,7 @@ impl Facts {
             left: 0,
             gathered: Gathered::new(alloc),
             columns,
+            settings: Settings::new(login),
             place: 0,
         })
     }
@@ -144,6 +151,30 @@ impl Facts {
         }
     }
 
+    // The row, where it is one.
+    fn row_in(&self, alloc: Global, payload: &[u8]) -> Result<Option<Row>, NoMemory>
+        ensures { IfOk result (λ o. o ≡ row_at self.now.columns payload.now) }
+    {
+        match read_text_row(alloc, payload, self.columns.shared()) {
+            Ok(row) => Ok(Some(row)),
+            Err(ReadError::Malformed) => Ok(None),
+            Err(ReadError::NoMemory) => Err(NoMemory),
+        }
+    }
+
+    // A row that tells the settings.
+    fn learn_row(&mut self, alloc: Global, payload: &[u8]) -> Result<(), NoMemory>
+        ensures ok { OnOk result (self.new ≡ with_settings (row_settings (row_at self.old.columns payload.now) self.old.settings) self.old) }
+        ensures err { OnErr result (self.new ≡ self.old) }
+    {
+        if self.settings.awaits_row() {
+            if let Some(row) = self.row_in(alloc, payload)? {
+                self.settings = self.settings.after_row(&row);
+            }
+        }
+        Ok(())
+    }
+
     /// What a payload of this kind tells. Want of memory changes nothing.
     pub fn learn(&mut self, alloc: Global, kind: Kind, payload: &[u8]) -> Result<(), NoMemory>
         ensures ok { OnOk result (self.new ≡ facts_after kind payload.now self.old) }
@@ -157,10 +188,12 @@ impl Facts {
             Kind::Good(status) => {
                 let ok = ok_in(alloc, payload)?;
                 self.learn_ok(ok, status);
+                self.settings = self.settings.after_ok();
             }
             Kind::End(status) => {
                 let ok = end_ok_in(alloc, payload)?;
                 self.learn_ok(ok, status);
+                self.settings = self.settings.after_end();
             }
             Kind::Failed => self.learn_ok(None, 0),
             Kind::Count(columns) => {
@@ -171,7 +204,8 @@ impl Facts {
                 let column = column_in(alloc, payload)?;
                 self.learn_column(alloc, column)?;
             }
-            Kind::ColumnsDone | Kind::Row | Kind::Bad => {}
+            Kind::Row => self.learn_row(alloc, payload)?,
+            Kind::ColumnsDone | Kind::Bad => {}
         }
         self.count();
         Ok(())

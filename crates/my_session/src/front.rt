@@ -28,7 +28,7 @@ fn length_above(limit: u64, reply: &Option<Blob>) -> Option<u64>
 impl Machine {
     ghost use Rattle.my_session.specs.Session.{seen};
     ghost use Rattle.my_session.specs.Machine.{Does, read_by, read_kind, reading, IsArrival, behind};
-    ghost use Rattle.my_wire.specs.Front.{front_at, Waiting};
+    ghost use Rattle.my_frame.specs.Front.{front_at, Waiting};
     ghost use Rattle.my_grammar.specs.Kinds.{kind_there};
 
     // The payload with what it is, and what the client says behind it.

@@ -2,6 +2,7 @@
 #![tactic(auto)]
 
 mod answer;
+mod arranging;
 mod arrival;
 mod call;
 mod calls;
@@ -14,6 +15,7 @@ mod machine;
 mod moves;
 mod read;
 mod session;
+mod settings;
 mod step;
 mod tables;
 
@@ -26,4 +28,5 @@ pub use facts::Facts;
 pub use law::{each_answer_fits, each_end, each_fault, each_history};
 pub use machine::Machine;
 pub use session::Session;
+pub use settings::{Settings, Stage};
 pub use tables::{Plan, Reaction};

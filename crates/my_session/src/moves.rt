@@ -6,16 +6,14 @@ ghost use Rattle.my_session.specs.Calls.{fault_in};
 ghost use Rattle.my_grammar.specs.Talk.{Start, context_of};
 
 use crate::answer::{Answer, Tick};
+use crate::arranging::arranging_text;
 use crate::call::{CallKind, LinkFault, Task};
 use crate::error::{DriverError, Error, IoKind};
 use crate::machine::Machine;
 use crate::tables::{Plan, plan_for};
-use my_grammar::{Context, Login, Spot, Terms};
+use my_grammar::{Context, DEFAULT_LIMIT, Login, Spot, Terms};
 use my_wire::{CodecFault, NoMemory};
 use std::alloc::Global;
-
-/// The payload limit until the options' own holds, in bytes.
-const DEFAULT_LIMIT: u64 = 4_194_304;
 
 const COM_QUIT: u8 = 1;
 
@@ -42,6 +40,7 @@ fn fault_in(task: Task) -> Option<LinkFault>
         | Task::Begun(_)
         | Task::Cleaning(_)
         | Task::Own(_)
+        | Task::Arranging(_)
         | Task::Reading
         | Task::Dropping
         | Task::Leaving => None,
@@ -64,16 +63,17 @@ pub fn start_context(login: &Login) -> Context
 
 impl Machine {
     ghost use Rattle.my_session.specs.Session.{seen};
-    ghost use Rattle.my_session.specs.Machine.{Does, next, asked, commanded, planned, failed_by, when_owed};
-    ghost use Rattle.my_session.specs.Commands.{opening};
+    ghost use Rattle.my_session.specs.Machine.{Does, next, asked, arranged, commanded, next_terms, planned, failed_by, when_owed};
+    ghost use Rattle.my_session.specs.Commands.{command_of, connecting};
+    ghost use Rattle.std.specs.Prelude.{suc};
     ghost use Rattle.my_session.specs.Calls.{call_of};
     ghost use Rattle.my_session.specs.Errors.{link_error};
 
     // A command's exchange begins.
-    fn queue(&mut self, call: CallKind, spot: Spot, command: &[u8]) -> Tick
-        ensures { Does (commanded (seen self.old) call spot command.now) (seen self.old) (seen self.new) result }
+    fn queue(&mut self, task: Task, spot: Spot, command: &[u8]) -> Tick
+        ensures { Does (commanded (seen self.old) task spot command.now) (seen self.old) (seen self.new) result }
     {
-        let limit = self.login.max_packet as u64;
+        let limit = self.facts.settings.limit;
         let length = command.len() as u64;
         if length > limit {
             return self.codec_fault(CodecFault::TooLarge { length, limit });
@@ -89,37 +89,46 @@ impl Machine {
                         limit,
                     },
                 };
-                self.task = Task::Own(call);
-                Tick::Goes
+                self.task = task;
+                Tick::Sends
             }
             Err(NoMemory) => self.fault(Error::NoMemory),
         }
     }
 
     fn ask_query(&mut self, alloc: Global) -> Tick
-        ensures { Does (commanded (seen self.old) CallKind.Query Spot.Head (query_command (seen self.old).text)) (seen self.old) (seen self.new) result }
+        ensures { Does (commanded (seen self.old) (Task.Own CallKind.Query) Spot.Head (query_command (seen self.old).text)) (seen self.old) (seen self.new) result }
     {
         match query_command(alloc, self.text.as_slice()) {
-            Ok(command) => self.queue(CallKind::Query, Spot::Head, &command),
+            Ok(command) => self.queue(Task::Own(CallKind::Query), Spot::Head, &command),
             Err(NoMemory) => self.fault(Error::NoMemory),
         }
     }
 
     // The call's own command is owed.
     fn ask(&mut self, alloc: Global, call: CallKind) -> Tick
-        ensures { Does (asked (seen self.old) call (opening (seen self.old).login (seen self.old).context.terms.kept (call_of call (seen self.old).text))) (seen self.old) (seen self.new) result }
+        ensures { Does (asked (seen self.old) call (command_of (next_terms (seen self.old)) (call_of call (seen self.old).text))) (seen self.old) (seen self.new) result }
     {
         match call {
             CallKind::Query => self.ask_query(alloc),
-            CallKind::Ping => self.queue(call, Spot::Single, &[COM_PING]),
-            CallKind::Quit => self.queue(call, Spot::Idle, &[COM_QUIT]),
-            CallKind::Connect => {
-                self.context = start_context(&self.login);
-                self.number = 0;
-                self.task = Task::Own(call);
-                Tick::Goes
+            CallKind::Ping => self.queue(Task::Own(call), Spot::Single, &[COM_PING]),
+            CallKind::Quit => self.queue(Task::Own(call), Spot::Idle, &[COM_QUIT]),
+            CallKind::Connect | CallKind::NextRow | CallKind::DropResult => {
+                self.answer(Answer::NoSet)
             }
-            CallKind::NextRow | CallKind::DropResult => self.answer(Answer::NoSet),
+        }
+    }
+
+    // The next query that sets the connection up is owed; where none is left, the connection is made.
+    fn arrange(&mut self, alloc: Global, sent: usize) -> Tick
+        ensures { Does (arranged (seen self.old) sent (connecting (seen self.old).login (next_terms (seen self.old)) (suc sent))) (seen self.old) (seen self.new) result }
+    {
+        let Some(text) = arranging_text(&self.login, sent) else {
+            return self.answer(Answer::Ready);
+        };
+        match query_command(alloc, text) {
+            Ok(command) => self.queue(Task::Arranging(sent + 1), Spot::Head, &command),
+            Err(NoMemory) => self.fault(Error::NoMemory),
         }
     }
 
@@ -140,6 +149,7 @@ impl Machine {
         match plan {
             Plan::Reads => self.read(alloc),
             Plan::Asks(call) => self.ask(alloc, call),
+            Plan::Arranges(sent) => self.arrange(alloc, sent),
             Plan::Starts(task) => {
                 self.task = task;
                 Tick::Goes

@@ -180,6 +180,20 @@ impl Session {
         self.machine.facts.version.as_slice()
     }
 
+    /// The longest payload of a command and its answer, in bytes.
+    pub fn limit(&self) -> u64
+        ensures { result ≡ self.now.seen.facts.settings.limit }
+    {
+        self.machine.facts.settings.limit
+    }
+
+    /// After so many seconds without a command the server ends the connection.
+    pub fn wait_timeout(&self) -> u64
+        ensures { result ≡ self.now.seen.facts.settings.wait_timeout }
+    {
+        self.machine.facts.settings.wait_timeout
+    }
+
     /// The last OK, or the OK that ended a set; none behind an ERR.
     pub fn last_ok(&self) -> Option<&OkPacket>
         ensures { option_copied result ≡ self.now.seen.facts.ok }

@@ -1,7 +1,7 @@
 //! What a task does next, and what it makes of a payload.
 
 ghost use Rattle.std.specs.Prelude.{◌≡◌, true, false};
-ghost use Rattle.my_session.specs.Tables.{plan_of, react, first_task, clean_plan, own_plan, is_breaking, is_connecting, closes_when_cancelled};
+ghost use Rattle.my_session.specs.Tables.{plan_of, react, react_whole, first_task, clean_plan, own_plan, is_breaking, is_connecting, closes_when_cancelled};
 
 use crate::call::{CallKind, Task};
 use my_grammar::{Kind, Spot};
@@ -17,6 +17,8 @@ pub enum Plan {
     Hears,
     /// The call's own command is owed.
     Asks(CallKind),
+    /// The next query that sets the connection up is owed, behind so many; where none is left, the connection is made.
+    Arranges(usize),
     /// The call is answered: its command was accepted.
     Readies,
     /// The session is closed.
@@ -63,17 +65,12 @@ fn first_task(call: CallKind) -> Task
     }
 }
 
-fn clean_plan(call: CallKind, spot: Spot, untold: bool) -> Plan
-    ensures { result ≡ clean_plan call spot untold }
+// What is left of a response is read, and then comes what is planned behind it.
+fn clean_plan(behind: Plan, spot: Spot, untold: bool) -> Plan
+    ensures { result ≡ clean_plan behind spot untold }
 {
     match spot {
-        Spot::Idle => {
-            if untold {
-                Plan::Hears
-            } else {
-                Plan::Asks(call)
-            }
-        }
+        Spot::Idle => { if untold { Plan::Hears } else { behind } }
         _ => Plan::Reads,
     }
 }
@@ -130,16 +127,18 @@ pub fn plan_for(task: Task, spot: Spot, untold: bool) -> Plan
     match task {
         Task::Nothing | Task::Failing(_, _) => Plan::NoMore,
         Task::Begun(call) => Plan::Starts(first_task(call)),
-        Task::Cleaning(call) => clean_plan(call, spot, untold),
+        Task::Cleaning(call) => clean_plan(Plan::Asks(call), spot, untold),
         Task::Own(call) => own_plan(call, spot),
+        Task::Arranging(sent) => clean_plan(Plan::Arranges(sent), spot, untold),
         Task::Reading => read_plan(spot, untold),
         Task::Dropping => drop_plan(spot, untold),
         Task::Leaving => Plan::Quits,
     }
 }
 
-fn react_cleaning(call: CallKind, kind: Kind) -> Reaction
-    ensures { result ≡ react (Task.Cleaning call) kind }
+// A response that is read whole, while nobody is given its rows.
+fn react_whole(task: Task, kind: Kind) -> Reaction
+    ensures { result ≡ react_whole task kind }
 {
     match kind {
         Kind::Good(_)
@@ -147,7 +146,7 @@ fn react_cleaning(call: CallKind, kind: Kind) -> Reaction
         | Kind::Column
         | Kind::ColumnsDone
         | Kind::Row
-        | Kind::End(_) => Reaction::Goes(Task::Cleaning(call)),
+        | Kind::End(_) => Reaction::Goes(task),
         Kind::Failed => Reaction::Refuses,
         Kind::Greets(_) | Kind::Bad => Reaction::Breaks,
     }
@@ -158,7 +157,7 @@ fn react_connect(kind: Kind) -> Reaction
 {
     match kind {
         Kind::Greets(_) => Reaction::Goes(Task::Own(CallKind::Connect)),
-        Kind::Good(_) => Reaction::Readies(false),
+        Kind::Good(_) => Reaction::Goes(Task::Arranging(0)),
         Kind::Failed => Reaction::Refuses,
         _ => Reaction::Breaks,
     }
@@ -228,7 +227,7 @@ pub fn react_to(task: Task, kind: Kind) -> Reaction
 {
     match task {
         Task::Nothing | Task::Begun(_) | Task::Leaving | Task::Failing(_, _) => Reaction::Breaks,
-        Task::Cleaning(call) => react_cleaning(call, kind),
+        Task::Cleaning(_) | Task::Arranging(_) => react_whole(task, kind),
         Task::Own(call) => react_own(call, kind),
         Task::Reading => react_reading(kind),
         Task::Dropping => react_dropping(kind),
@@ -256,7 +255,7 @@ pub fn is_connecting(task: Task) -> bool
     ensures { result ≡ is_connecting task }
 {
     match task {
-        Task::Own(CallKind::Connect) => true,
+        Task::Own(CallKind::Connect) | Task::Arranging(_) => true,
         _ => false,
     }
 }
@@ -276,7 +275,7 @@ pub fn closes_when_cancelled(task: Task, spot: Spot) -> bool
 {
     match task {
         Task::Nothing | Task::Begun(_) | Task::Leaving => false,
-        Task::Cleaning(_) | Task::Own(_) | Task::Failing(_, _) => true,
+        Task::Cleaning(_) | Task::Own(_) | Task::Arranging(_) | Task::Failing(_, _) => true,
         Task::Reading | Task::Dropping => awaits_head(spot),
     }
 }

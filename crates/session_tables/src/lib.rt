@@ -3,7 +3,11 @@
 #![tactic(auto)]
 
 #[cfg(test)]
+mod connects;
+#[cfg(test)]
 mod hex;
+#[cfg(test)]
+mod play;
 #[cfg(test)]
 mod streams;
 #[cfg(test)]

@@ -2,7 +2,7 @@
 
 use crate::hex::bytes_of;
 use my_grammar::{
-    CutRest, Found, Kind, Login, Opening, Packet, Queue, Terms, cut_bytes, native_answer,
+    CutRest, Found, Kind, Login, Opening, Packet, Queue, Terms, Texts, cut_bytes, native_answer,
 };
 use my_wire::{Attributes, Blob, CodecFault, NoMemory};
 use std::alloc::{AllocError, Global};
@@ -35,6 +35,10 @@ fn root(alloc: Global) -> Result<Login, AllocError> {
         max_packet: 4_194_304,
         attributes: Attributes::new(alloc),
         capabilities: KEPT,
+        packet_limit: None,
+        wait_timeout: None,
+        init: Texts::new(alloc),
+        setup: Texts::new(alloc),
     })
 }
 

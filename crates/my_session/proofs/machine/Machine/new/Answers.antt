@@ -1,5 +1,5 @@
 use Rattle.std.proofs.Common.{◌≡◌, Result, Ok, Err, IfOk, sym, subst}
-use Rattle.my_wire.specs.declared.no_memory.NoMemory.{NoMemory}
+use Rattle.my_frame.specs.declared.no_memory.NoMemory.{NoMemory}
 use Rattle.my_grammar.specs.declared.login.Login.{Login}
 use Rattle.my_session.specs.declared.machine.Machine.{Machine}
 use Rattle.my_session.specs.History.{beginning}

@@ -1,8 +1,8 @@
 use Rattle.std.proofs.Common.{ℕ, List, sym, subst, Option, Ok, Some}
-use Rattle.my_wire.specs.declared.front.FramedPayload.{FramedPayload}
-use Rattle.my_wire.specs.Framed.{IsFramed}
-use Rattle.my_wire.specs.Front.{Front, front_at}
-use Rattle.my_wire.specs.FrontLaws.{FrontMeans}
+use Rattle.my_frame.specs.declared.front.FramedPayload.{FramedPayload}
+use Rattle.my_frame.specs.Framed.{IsFramed}
+use Rattle.my_frame.specs.Front.{Front, front_at}
+use Rattle.my_frame.specs.FrontLaws.{FrontMeans}
 use Rattle.my_session.specs.Machine.{Does, reading}
 use Rattle.my_session.specs.Session.{seen}
 use Rattle.my_session.proofs.Fronts.{framed_whole}

@@ -1,5 +1,5 @@
 use Rattle.std.proofs.Common.{ℕ, List, subst}
-use Rattle.my_wire.specs.FrontLaws.{AreBytes}
+use Rattle.my_frame.specs.FrontLaws.{AreBytes}
 use Rattle.my_session.specs.Session.{seen}
 use Rattle.my_session.proofs.Going.{tick_is}
 use Rattle.my_session.proofs.Ticks.{tick_stands}

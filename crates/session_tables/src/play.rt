@@ -1,0 +1,189 @@
+//! One call of a session after the other, with bytes that are known.
+
+ghost use Rattle.std.specs.Prelude.{◌≡◌, true, OnOk};
+ghost use Rattle.my_session.specs.Calls.{is_open};
+
+use crate::hex::bytes_of;
+use my_session::{
+    Answer, Call, DriverError, Error, IoError, IoFault, IoKind, LinkFault, Session, SessionStep,
+};
+use my_value::{Row, Value};
+use my_wire::{Blob, CodecFault, NoMemory};
+use std::alloc::{AllocError, Global};
+use std::fmt::Write;
+
+/// The greeting, and the OK behind the client's response.
+pub const LOGIN: &str =
+    "4a000000 0a 382e302e333600 07000000 6162636465666768 00 8ba2 2d 0200 1f01 15 \
+    00000000000000000000 696a6b6c6d6e6f707172737400 \
+    6d7973716c5f6e61746976655f70617373776f726400 07000002 00000002000000";
+
+/// The response to that greeting.
+pub const RESPONSE: &str =
+    "3c00000181a20f01000040002d0000000000000000000000000000000000000000000000\
+    726f6f7400006d7973716c5f6e61746976655f70617373776f726400 ";
+
+/// What happens where bytes are awaited that don't come: the call is cancelled or told to fail, or the link ends.
+#[derive(Clone, Copy)]
+pub enum Then {
+    Cancels,
+    Fails,
+    Ends,
+}
+
+// A query of so many bytes.
+fn long_query(alloc: Global, length: usize) -> Result<Call, AllocError> {
+    let mut text = Vec::new(alloc);
+    for _ in 0..length {
+        text.push(b'x')?;
+    }
+    Ok(Call::Query(Blob::from(text)))
+}
+
+fn call_of(alloc: Global, text: &str) -> Result<Call, AllocError> {
+    match text {
+        "long" => long_query(alloc, 1_024),
+        "connect" => Ok(Call::Connect),
+        "next" => Ok(Call::NextRow),
+        "drop" => Ok(Call::DropResult),
+        "ping" => Ok(Call::Ping),
+        "quit" => Ok(Call::Quit),
+        _ => Ok(Call::Query(Blob::from_slice(alloc, text.as_bytes())?)),
+    }
+}
+
+fn show_bytes(text: &mut String, bytes: &[u8]) -> Result<(), AllocError> {
+    for &byte in bytes {
+        write!(text, "{byte:02x}")?;
+    }
+    text.push(' ')
+}
+
+fn show_row(text: &mut String, row: &Row) -> Result<(), AllocError> {
+    text.push_str("row")?;
+    for index in 0..row.len() {
+        if let Some(Value::Bytes(cell)) = row.as_ref(index) {
+            for &byte in cell.as_slice() {
+                write!(text, " {byte:02x}")?;
+            }
+        }
+    }
+    Ok(())
+}
+
+fn show_answer(text: &mut String, answer: &Answer) -> Result<(), AllocError> {
+    match answer {
+        Answer::Ready => text.push_str("ok"),
+        Answer::Row(row) => show_row(text, row),
+        Answer::SetEnd => text.push_str("end"),
+        Answer::NoSet => text.push_str("none"),
+    }
+}
+
+fn show_fault(text: &mut String, fault: IoFault) -> Result<(), AllocError> {
+    match fault.kind {
+        IoKind::Link => write!(text, "link {}", fault.place),
+        IoKind::Dial => text.push_str("dial"),
+        IoKind::UnexpectedEof => write!(text, "end {}", fault.place),
+        IoKind::InvalidData => write!(text, "unfit {}", fault.place),
+    }
+}
+
+fn show_error(text: &mut String, error: &Error) -> Result<(), AllocError> {
+    text.push_str("error ")?;
+    match error {
+        Error::Driver(DriverError::ConnectionClosed) => text.push_str("closed"),
+        Error::Driver(_) => text.push_str("driver"),
+        Error::Io(IoError::Io(fault)) => show_fault(text, *fault),
+        Error::Io(IoError::Codec(CodecFault::OutOfOrder { expected, found })) => {
+            write!(text, "number {expected} {found}")
+        }
+        Error::Io(IoError::Codec(CodecFault::TooLarge { length, limit })) => {
+            write!(text, "length {length} {limit}")
+        }
+        Error::Server(error) => write!(
+            text,
+            "{} {} {}",
+            error.code,
+            error.state.as_str(),
+            error.message.as_str()
+        ),
+        Error::NoMemory => text.push_str("memory"),
+    }
+}
+
+// All bytes came in that do: whether the call goes on.
+fn end_link(session: &mut Session, then: Then) -> bool
+    requires { is_open session.old.seen.task ≡ true }
+    ensures { result ≡ true → is_open session.new.seen.task ≡ true }
+{
+    match then {
+        Then::Cancels => {
+            session.cancel();
+            false
+        }
+        Then::Fails => {
+            session.fail(LinkFault::Link);
+            true
+        }
+        Then::Ends => {
+            session.end();
+            true
+        }
+    }
+}
+
+// Steps the open call until it is answered or waits in vain.
+fn go_on(
+    alloc: Global,
+    session: &mut Session,
+    bytes: &[u8],
+    then: Then,
+    text: &mut String,
+) -> Result<(), NoMemory>
+    requires { is_open session.old.seen.task ≡ true }
+{
+    let mut given = false;
+    'steps: for _ in 0..100 {
+        match session.step(alloc) {
+            SessionStep::Send => {
+                show_bytes(text, session.owed())?;
+                let count = session.owed().len();
+                session.sent(count);
+            }
+            SessionStep::Need => {
+                if !given {
+                    session.take(bytes)?;
+                    given = true;
+                } else if !end_link(session, then) {
+                    text.push_str("waits")?;
+                    return Ok(());
+                }
+            }
+            SessionStep::Done(answer) => return Ok(show_answer(text, &answer)?),
+            SessionStep::Fault(error) => return Ok(show_error(text, &error)?),
+        }
+    }
+    Ok(())
+}
+
+/// Begins a call and steps it; what was sent, and the answer.
+pub fn turn(
+    alloc: Global,
+    session: &mut Session,
+    call: &str,
+    bytes: &str,
+    then: Then,
+) -> Result<String, NoMemory> {
+    let mut text = String::new(alloc);
+    let bytes = bytes_of(alloc, bytes)?;
+    let call = call_of(alloc, call)?;
+    if session.is_open() || !session.may_begin(call.kind()) {
+        return Ok(text);
+    }
+    match session.begin(call) {
+        Ok(()) => go_on(alloc, session, &bytes, then, &mut text)?,
+        Err(error) => show_error(&mut text, &error)?,
+    }
+    Ok(text)
+}
