@@ -12,9 +12,9 @@ mod url_tests;
 mod world_tests;
 
 use help::asked_page;
+use my_frame::{StdSink, StdSource};
 use my_run::output::write_all;
 use my_run::tool::run_tool;
-use my_wire::{StdSink, StdSource};
 use my_world::memory::world::MemWorld;
 use std::alloc::AllocError;
 use std::process::ExitCode;

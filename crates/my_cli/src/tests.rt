@@ -2,8 +2,8 @@
 
 ghost use Rattle.std.specs.Prelude.{None};
 
+use my_frame::{MemSink, MemSource, NoMemory, Source, SourceStep};
 use my_run::tool::run_tool;
-use my_wire::{MemSink, MemSource, NoMemory, Source, SourceStep};
 use my_world::memory::world::MemWorld;
 use std::alloc::Global;
 use std::test::Fail;
@@ -88,7 +88,7 @@ fn statuses_of_words_and_lines(rt: HostRuntime) -> Result<(), Fail> {
         (&["script"], "", 2),
         (&["live", WORD], "", 2),
         (&["script", WORD, "more"], "", 2),
-        (&["script", "mysql://root@localhost"], "", 6),
+        (&["script", "mysql://root@localhost"], "", 0),
         (&["script", "plain,root,,4194304"], "", 6),
         (&["script", "plain,root,,4194304,28800,1"], "", 6),
         (

@@ -48,8 +48,43 @@ fn logins_by_url(rt: HostRuntime) -> Result<(), Fail> {
     Ok(())
 }
 
-// Words that are no URL, that the option table refuses, or that leave a setting to the server.
-const REFUSED: [&str; 11] = [
+// The server's answer about a packet of 1,000 bytes, which is taken as 1,024, and 28,800 seconds; then a payload of 1,025 bytes begins.
+const SETTINGS: &str = "packet 0 1 02
+packet 0 2 036465660000000170000c3f0001000000088100000000
+packet 0 3 036465660000000177000c3f0001000000088100000000
+packet 0 4 0431303030053238383030
+packet 0 5 fe000002000000
+turn 0
+bytes 0 01040001
+conn
+query 0 DO 1
+";
+
+// The response to the greeting, `SELECT @@max_allowed_packet,@@wait_timeout` and `DO 1`.
+const ASKED: &str =
+    "3c00000181a20f01000040002d0000000000000000000000000000000000000000000000726f6f7400006d7973716c5f6e61746976655f70617373776f7264002b0000000353454c4543542040406d61785f616c6c6f7765645f7061636b65742c4040776169745f74696d656f75740500000003444f2031\n";
+
+// A URL that leaves both settings open: the server is asked for them, and its limit holds from then on.
+#[test]
+fn settings_by_the_server(rt: HostRuntime) -> Result<(), Fail> {
+    let alloc = rt.alloc();
+    let script = format!(in alloc; "{GREETING}{SETTINGS}")?;
+    let ended = run_text(
+        alloc,
+        &["script", "mysql://root@localhost"],
+        script.as_str(),
+        4096,
+    )?;
+    let expected = format!(in alloc;
+        "1 conn 0 id=7 version=8.0.36\n2 error Io Codec TooLarge 1025 1024\nsent 0 {ASKED}"
+    )?;
+    assert_eq!(rt; ended.status, 0);
+    assert!(rt; ended.text.as_slice().starts_with(expected.as_bytes()));
+    Ok(())
+}
+
+// Words that are no URL, or that the option table refuses.
+const REFUSED: [&str; 9] = [
     "",
     "plain",
     "42",
@@ -59,8 +94,6 @@ const REFUSED: [&str; 11] = [
     "mysql://root@localhost?max_allowed_packet=4194304&wait_timeout=x",
     "mysql://root@localhost?max_allowed_packet=4194304&wait_timeout=28800&pool_max=5",
     "mysql://root@localhost?max_allowed_packet=4194304&wait_timeout=28800&require_ssl=true",
-    "mysql://root@localhost?max_allowed_packet=4194304",
-    "mysql://root@localhost?wait_timeout=28800",
 ];
 
 #[test]

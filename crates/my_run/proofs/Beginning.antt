@@ -7,7 +7,7 @@ use Rattle.my_session.specs.declared.call.Call.{Call}
 use Rattle.my_session.specs.declared.call.CallKind.{CallKind}
 use Rattle.my_session.specs.declared.call.CallKind.TheVariants.{Connect, Query, NextRow, DropResult, Ping, Quit}
 use Rattle.my_session.specs.declared.call.Task.{Task}
-use Rattle.my_session.specs.declared.call.Task.TheVariants.{Nothing, Begun, Cleaning, Own, Reading, Dropping, Leaving, Failing}
+use Rattle.my_session.specs.declared.call.Task.TheVariants.{Nothing, Begun, Cleaning, Own, Arranging, Reading, Dropping, Leaving, Failing}
 use Rattle.my_session.specs.declared.error.Error.{Error}
 use Rattle.my_session.specs.Calls.{kind_of, kind_in, call_of, fault_in, is_open}
 use Rattle.my_session.specs.Errors.{connection_closed}
@@ -73,6 +73,7 @@ open_call Nothing text p None o e f = cc
 open_call (Begun c) text p None o e f = let no : Some (call_of c text) ≡ None = sym e ∙ f in cc
 open_call (Cleaning c) text p None o e f = let no : Some (call_of c text) ≡ None = sym e ∙ f in cc
 open_call (Own c) text p None o e f = let no : Some (call_of c text) ≡ None = sym e ∙ f in cc
+open_call (Arranging n) text p None o e f = let no : Some (call_of Connect text) ≡ None = sym e ∙ f in cc
 open_call Reading text p None o e f = let no : Some (call_of NextRow text) ≡ None = sym e ∙ f in cc
 open_call Dropping text p None o e f = let no : Some (call_of DropResult text) ≡ None = sym e ∙ f in cc
 open_call Leaving text p None o e f = let no : Some (call_of Quit text) ≡ None = sym e ∙ f in cc
@@ -87,6 +88,7 @@ no_call Nothing text p (Some a) o e f = let no : None ≡ Some a.call = sym e �
 no_call (Begun c) text p (Some a) o e f = cc
 no_call (Cleaning c) text p (Some a) o e f = cc
 no_call (Own c) text p (Some a) o e f = cc
+no_call (Arranging n) text p (Some a) o e f = cc
 no_call Reading text p (Some a) o e f = cc
 no_call Dropping text p (Some a) o e f = cc
 no_call Leaving text p (Some a) o e f = cc

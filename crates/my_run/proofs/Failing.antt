@@ -5,7 +5,7 @@ use Rattle.my_session.specs.declared.answer.SessionStep.TheVariants as steps
 use Rattle.my_session.specs.declared.call.LinkFault.{LinkFault}
 use Rattle.my_session.specs.declared.call.LinkFault.TheVariants as faults
 use Rattle.my_session.specs.declared.call.Task.{Task}
-use Rattle.my_session.specs.declared.call.Task.TheVariants.{Nothing, Begun, Cleaning, Own, Reading, Dropping, Leaving, Failing}
+use Rattle.my_session.specs.declared.call.Task.TheVariants.{Nothing, Begun, Cleaning, Own, Arranging, Reading, Dropping, Leaving, Failing}
 use Rattle.my_session.specs.declared.answer.Tick.TheVariants as ticks
 use Rattle.my_session.specs.declared.error.IoError.{IoError}
 use Rattle.my_session.specs.declared.error.IoError.TheVariants as ios
@@ -50,6 +50,7 @@ is_leaving Nothing closed c o f a = cc
 is_leaving (Begun k) closed c o f a = let no : true ≡ false = sym c ∙ a refl in cc
 is_leaving (Cleaning k) closed c o f a = let no : true ≡ false = sym c ∙ a refl in cc
 is_leaving (Own k) closed c o f a = let no : true ≡ false = sym c ∙ a refl in cc
+is_leaving (Arranging n) closed c o f a = let no : true ≡ false = sym c ∙ a refl in cc
 is_leaving Reading closed c o f a = let no : true ≡ false = sym c ∙ a refl in cc
 is_leaving Dropping closed c o f a = let no : true ≡ false = sym c ∙ a refl in cc
 is_leaving Leaving closed c o f a = refl
@@ -95,6 +96,7 @@ told_to_fail Nothing fault o = cc
 told_to_fail (Begun c) fault o = refl
 told_to_fail (Cleaning c) fault o = refl
 told_to_fail (Own c) fault o = refl
+told_to_fail (Arranging n) fault o = refl
 told_to_fail Reading fault o = refl
 told_to_fail Dropping fault o = refl
 told_to_fail Leaving fault o = refl

@@ -11,7 +11,7 @@ use Rattle.my_session.specs.declared.call.CallKind.TheVariants.{Connect, Query, 
 use Rattle.my_session.specs.declared.call.Task.{Task}
 use Rattle.my_session.specs.declared.call.Task.TheVariants.{Nothing}
 use Rattle.my_session.specs.Calls.{kind_of, is_connect, is_open}
-use Rattle.my_session.specs.Entries.{connects, has_connected}
+use Rattle.my_session.specs.Entries.{connects, connecting_in, has_connected}
 use Rattle.my_session.specs.Fits.{may_be}
 use Rattle.my_session.specs.History.{Made, Told, ToldReady, ToldRow, ToldEnd, ToldNone, ToldError, Dropped, told, closes, has_closed}
 use Rattle.my_session.specs.Seen.{Seen}
@@ -281,7 +281,8 @@ is_ready login s k heard was idle still =
     let none : k.pending ≡ None = is_idle login s k (ap is_open idle) heard in
     let kept : has_connected (made_of k.calls) ≡ true = was none (sym (closed_kept login s k heard) ∙ still) in
     let made : has_connected heard.history.calls ≡ true = connected_answers heard.history.calls ∙ ap has_connected heard.kept.calls_are ∙ kept in
-    let at : TaskIs Nothing s.context.spot s.closed (has_connected heard.history.calls) heard.stands.newest = subst (λ (t : Task). TaskIs t s.context.spot s.closed (has_connected heard.history.calls) heard.stands.newest) idle heard.stands.heard.at in
+    let count = connecting_in (heard.stands.newest ∷ heard.stands.older) in
+    let at : TaskIs Nothing s.context.spot s.closed (has_connected heard.history.calls) count heard.stands.newest = subst (λ (t : Task). TaskIs t s.context.spot s.closed (has_connected heard.history.calls) count heard.stands.newest) idle heard.stands.heard.at in
     settled_by (has_connected heard.history.calls) (is_settled s.context.spot) _ made (at still)
 
 -- a call other than the handshake begins where the session rests

@@ -1,7 +1,7 @@
 -- What went out so far.
 use Rattle.std.proofs.Common.{◌≡◌, ◌+◌, ℕ, zero, suc, List, [], ◌∷◌, ◌++◌, take, drop, Option, Some, None, refl, sym, ap, ◌∙◌, subst, arith}
 use Rattle.std.proofs.lemmas.List.{take-append-drop, append_assoc}
-use Rattle.my_wire.specs.Outside.{Comes, Rose}
+use Rattle.my_frame.specs.Outside.{Comes, Rose}
 use Rattle.my_run.specs.Output.{WrotePart}
 
 comes_on : (a b c : Option (List ℕ)) (xs ys : List ℕ) → Comes a xs b → Comes b ys c → Comes a (xs ++ ys) c

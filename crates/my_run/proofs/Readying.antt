@@ -4,13 +4,12 @@ use Rattle.my_grammar.specs.declared.login.Login.{Login}
 use Rattle.my_session.specs.declared.answer.Answer.TheVariants as answers
 use Rattle.my_session.specs.declared.call.Call.{Call}
 use Rattle.my_session.specs.declared.call.Call.TheVariants.{NextRow}
-use Rattle.my_session.specs.declared.call.Task.{Task}
-use Rattle.my_session.specs.declared.call.Task.TheVariants.{Nothing, Begun, Cleaning, Own, Reading, Dropping, Leaving, Failing}
 use Rattle.my_session.specs.Calls.{kind_of, is_connect, is_open}
 use Rattle.my_session.specs.History.{History, began}
 use Rattle.my_session.specs.Seen.{Seen}
 use Rattle.my_session.specs.Stands.{Stands}
 use Rattle.my_session.specs.Steps.{begun, is_refused, is_settled, AtBegun}
+use Rattle.my_session.proofs.Plain.{no_task}
 use Rattle.my_run.specs.declared.gather.Gathering.TheVariants.{On}
 use Rattle.my_run.specs.declared.poll.After.{After}
 use Rattle.my_run.specs.declared.poll.After.TheVariants as after
@@ -43,20 +42,9 @@ ready_there {L} s c e r = subst (λ (x : Slot L). SlotReady x) e r
 pub conn_ready : {L : Type 0} (c : Conn L) → ConnReady c → IsReady c.session.seen
 conn_ready c r = is_ready r.0 c.session.seen (kept_of c) r.1.rests.heard (λ none. subst (λ (q : Option Asked). JoinedBy q (kept_of c)) none r.2)
 
--- no call is open
-pub nothing_open : (t : Task) → is_open t ≡ false → t ≡ Nothing
-nothing_open Nothing e = refl
-nothing_open (Begun c) e = cc
-nothing_open (Cleaning c) e = cc
-nothing_open (Own c) e = cc
-nothing_open Reading e = cc
-nothing_open Dropping e = cc
-nothing_open Leaving e = cc
-nothing_open (Failing c fault) e = cc
-
 -- a call begins there
 pub call_at : {L : Type 0} (c : Conn L) (s : Seen) (call : Call) → ConnReady c → is_open c.session.seen.task ≡ false → s ≡ c.session.seen → is_connect (kind_of call) ≡ false → s.closed ≡ false → AtBegun (kind_of call) s.context.spot
-call_at c s call r idle same kind still = at_begun (kind_of call) s.context.spot kind (ap (λ (t : Seen). is_settled t.context.spot) same ∙ conn_ready c r (nothing_open c.session.seen.task idle) (sym (ap (λ (t : Seen). t.closed) same) ∙ still))
+call_at c s call r idle same kind still = at_begun (kind_of call) s.context.spot kind (ap (λ (t : Seen). is_settled t.context.spot) same ∙ conn_ready c r (no_task c.session.seen.task idle) (sym (ap (λ (t : Seen). t.closed) same) ∙ still))
 
 -- a gathering begins, goes on behind a poll, or is taken up again
 still_open : (b : Bool) → is_refused b (kind_of NextRow) ≡ false → b ≡ false

@@ -1,7 +1,7 @@
 -- A poll, turn by turn.
 use Rattle.std.proofs.Common.{◌≡◌, inl, inr, ℕ, ◌+◌, ◌-◌, ◌≤◌, List, [], ◌++◌, true, refl, sym, ap, ◌∙◌, subst, arith}
 use Rattle.std.proofs.lemmas.List.{append_assoc, append-nil, length-append}
-use Rattle.my_wire.specs.Outside.{Rose}
+use Rattle.my_frame.specs.Outside.{Rose}
 use Rattle.my_grammar.specs.declared.login.Login.{Login}
 use Rattle.my_session.specs.Calls.{is_open}
 use Rattle.my_session.specs.Seen.{Seen}

@@ -1,6 +1,6 @@
 -- What dialing a connection and polling its handshake does.
 use Rattle.std.specs.Prelude.{◌≡◌, ◌≢◌, ℕ, List, [], ◌∷◌, Option, None}
-use Rattle.my_wire.specs.Version.{version_of}
+use Rattle.my_handshake.specs.Version.{version_of}
 use Rattle.my_grammar.specs.declared.login.Login.{Login}
 use Rattle.my_run.specs.declared.poll.After.{After}
 use Rattle.my_run.specs.declared.poll.After.TheVariants as after

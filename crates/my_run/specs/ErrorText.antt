@@ -1,8 +1,8 @@
 -- Errors as text.
 use Rattle.std.specs.Prelude.{ℕ, List, ◌∷◌, ◌++◌, codes}
 use Rattle.std.specs.Fmt.{decimal}
-use Rattle.my_wire.specs.declared.fault.CodecFault.{CodecFault}
-use Rattle.my_wire.specs.declared.fault.CodecFault.TheVariants.{OutOfOrder, TooLarge}
+use Rattle.my_frame.specs.declared.fault.CodecFault.{CodecFault}
+use Rattle.my_frame.specs.declared.fault.CodecFault.TheVariants.{OutOfOrder, TooLarge}
 use Rattle.my_session.specs.declared.error.DriverError.{DriverError}
 use Rattle.my_session.specs.declared.error.DriverError.TheVariants as drivers
 use Rattle.my_session.specs.declared.error.IoKind.{IoKind}

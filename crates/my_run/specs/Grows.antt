@@ -1,6 +1,6 @@
 -- How a transcript grows by a step.
 use Rattle.std.specs.Prelude.{◌≡◌, ℕ, ◌+◌, List, [], ◌∷◌, ◌++◌, length, Option, Some, None, Bool, true, false, not, unwrap_or}
-use Rattle.my_wire.specs.Version.{version_of}
+use Rattle.my_handshake.specs.Version.{version_of}
 use Rattle.my_value.specs.RowParts.{RowParts}
 use Rattle.my_grammar.specs.declared.login.Login.{Login}
 use Rattle.my_session.specs.declared.answer.Answer.{Answer}

@@ -1,6 +1,6 @@
 -- What a line of a script says: its first word, then its arguments, one space apart.
 use Rattle.std.specs.Prelude.{ℕ, ◌==◌, nat_le, List, [], ◌∷◌, length, Option, Some, None, if◌then◌else◌}
-use Rattle.my_wire.specs.Numbers.{◌>>=◌}
+use Rattle.my_frame.specs.Numbers.{◌>>=◌}
 use Rattle.my_run.specs.declared.step.Step.TheVariants as steps
 use Rattle.my_world.specs.declared.line.WorldLine.TheVariants as lines
 use Rattle.my_run.specs.declared.reading.line.Item.{Item}

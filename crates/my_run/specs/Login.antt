@@ -5,4 +5,15 @@ use Rattle.my_opts.specs.Opts.{OptsView}
 use Rattle.my_opts.specs.Capabilities.{capabilities_of}
 
 abbrev pub login_of : OptsView → Login
-login_of o = record { user = o.user; password = o.pass; database = o.db_name; max_packet = unwrap_or o.max_allowed_packet 4194304; attributes = []; capabilities = capabilities_of o }
+login_of o = record {
+  user = o.user;
+  password = o.pass;
+  database = o.db_name;
+  max_packet = unwrap_or o.max_allowed_packet 4194304;
+  attributes = [];
+  capabilities = capabilities_of o;
+  packet_limit = o.max_allowed_packet;
+  wait_timeout = o.wait_timeout;
+  init = o.init;
+  setup = o.setup;
+}

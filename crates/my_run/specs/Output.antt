@@ -1,6 +1,6 @@
 -- What was written to a sink.
 use Rattle.std.specs.Prelude.{◌≡◌, ℕ, List, ◌++◌, Option, Bool, true, false}
-use Rattle.my_wire.specs.Outside.{Rose, Comes}
+use Rattle.my_frame.specs.Outside.{Rose, Comes}
 
 -- all bytes went out
 pub record WroteAll (before : Option (List ℕ)) (bytes : List ℕ) (now : Option (List ℕ)) (c d : ℕ) : Type 0 where

@@ -2,7 +2,7 @@
 use Rattle.std.specs.Prelude.{ℕ, List, [], ◌∷◌, ◌++◌, codes}
 use Rattle.std.specs.Fmt.{decimal}
 use Rattle.hex.specs.Hex.{encode_lower}
-use Rattle.my_wire.specs.declared.version.ServerVersion.{ServerVersion}
+use Rattle.my_handshake.specs.declared.version.ServerVersion.{ServerVersion}
 use Rattle.my_run.specs.declared.transcript.Outcome.{Outcome}
 use Rattle.my_run.specs.declared.transcript.Outcome.TheVariants.{Done, Pending, SetEnd, NoSet, Row, Rows, Fields, Connected, Failed, NoSuchHandle, Unread}
 use Rattle.my_run.specs.declared.transcript.StepAnswer.{StepAnswer}

@@ -1,7 +1,7 @@
 -- The words of a command line.
-use Rattle.std.specs.Prelude.{ℕ, ◌&&◌, List, [], ◌∷◌, codes, length, nat_lt, Option, Some, None, is_some, option_map, Result, Ok, Err, if◌then◌else◌}
+use Rattle.std.specs.Prelude.{ℕ, List, [], ◌∷◌, codes, length, nat_lt, Option, Some, None, option_map, Result, Ok, Err, if◌then◌else◌}
 use Rattle.std.specs.Str.{bytes_eq}
-use Rattle.my_wire.specs.Numbers.{◌>>=◌}
+use Rattle.my_frame.specs.Numbers.{◌>>=◌}
 use Rattle.my_opts.specs.Opts.{OptsView, default_opts, packet_limit, waiting_limit}
 use Rattle.my_opts.specs.Url.{options_of}
 use Rattle.my_run.specs.declared.words.Plain.{Plain}
@@ -55,18 +55,10 @@ told_opts (Err e) = None
 abbrev pub url_opts : List ℕ → Option OptsView
 url_opts word = if nat_lt 1048576 (length word) then None else told_opts (options_of word)
 
--- A connection never asks the server for its settings, so options are refused that leave one of them to the server.
-abbrev pub with_settings : OptsView → Option OptsView
-with_settings opts = if is_some opts.max_allowed_packet && is_some opts.wait_timeout then Some opts else None
-
--- the options of a URL that leaves no setting to the server
-abbrev pub settled_url_opts : List ℕ → Option OptsView
-settled_url_opts word = url_opts word >>= with_settings
-
 -- `plain,USER,PASS,PACKET,WAIT`, by what stands behind the first comma, or a URL
 abbrev pub opts_by : Option (List ℕ) → List ℕ → Option OptsView
 opts_by (Some text) word = option_map plain_opts (plain_parts text)
-opts_by None word = settled_url_opts word
+opts_by None word = url_opts word
 
 -- the options of the second word, or none where it is refused
 abbrev pub word_opts : List ℕ → Option OptsView

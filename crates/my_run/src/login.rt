@@ -1,8 +1,8 @@
 //! What a client with some options says of itself.
-ghost use Rattle.std.specs.Prelude.{◌≡◌, IfOk, option_map, string_bytes};
+ghost use Rattle.std.specs.Prelude.{◌≡◌, IfOk, map, option_map, string_bytes};
 ghost use Rattle.my_run.specs.Login.{login_of};
 
-use my_grammar::Login;
+use my_grammar::{Login, Texts};
 use my_opts::Opts;
 use my_wire::{Attributes, Blob, NoMemory};
 use std::alloc::Global;
@@ -17,6 +17,16 @@ fn blob(alloc: Global, text: Option<&str>) -> Result<Option<Blob>, NoMemory>
         None => Ok(None),
         Some(text) => Ok(Some(Blob::from_slice(alloc, text.as_bytes())?)),
     }
+}
+
+fn copied(alloc: Global, queries: &[String]) -> Result<Texts, NoMemory>
+    ensures { IfOk result (λ t. t ≡ map string_bytes queries.now) }
+{
+    let mut texts = Texts::new(alloc);
+    for query in queries {
+        texts.push(Blob::from_slice(alloc, query.as_bytes())?)?;
+    }
+    Ok(texts)
 }
 
 /// The login of a client with these options.
@@ -38,5 +48,9 @@ pub fn login_for(alloc: Global, opts: &Opts) -> Result<Login, NoMemory>
         max_packet,
         attributes: Attributes::new(alloc),
         capabilities: capabilities.0,
+        packet_limit: opts.max_allowed_packet(),
+        wait_timeout: opts.wait_timeout(),
+        init: copied(alloc, opts.init())?,
+        setup: copied(alloc, opts.setup())?,
     })
 }

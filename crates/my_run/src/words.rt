@@ -1,7 +1,7 @@
 //! Reads the words of a command line.
 ghost use Rattle.std.specs.Prelude.{◌≡◌, ◌<◌, IfOk, map, option_map, string_bytes};
 ghost use Rattle.my_run.specs.Cut.{first_of, rest_of};
-ghost use Rattle.my_run.specs.Words.{script_word_of, behind_plain, plain_view, plain_parts, plain_opts, settled_url_opts, with_settings, word_opts, some_text};
+ghost use Rattle.my_run.specs.Words.{script_word_of, behind_plain, plain_view, plain_parts, plain_opts, url_opts, word_opts, some_text};
 
 use crate::reading::number::number;
 use my_opts::{Opts, OptsBuilder, UrlFault};
@@ -105,24 +105,14 @@ fn plain_word(alloc: Global, text: &str) -> Result<Option<Opts>, NoMemory>
     }
 }
 
-// The options, unless they leave a setting to the server: a connection doesn't ask for it.
-fn require_settings(opts: Opts) -> Option<Opts>
-    ensures { result ≡ with_settings opts }
-{
-    if opts.max_allowed_packet().is_some() && opts.wait_timeout().is_some() {
-        return Some(opts);
-    }
-    None
-}
-
 fn url_word(alloc: Global, word: &str) -> Result<Option<Opts>, NoMemory>
-    ensures { IfOk result (λ o. o ≡ settled_url_opts word.now) }
+    ensures { IfOk result (λ o. o ≡ url_opts word.now) }
 {
     if word.len() > LONGEST_URL {
         return Ok(None);
     }
     match Opts::from_url(alloc, word) {
-        Ok(opts) => Ok(require_settings(opts)),
+        Ok(opts) => Ok(Some(opts)),
         Err(UrlFault::Url(_)) => Ok(None),
         Err(UrlFault::NoMemory) => Err(NoMemory),
     }

@@ -1,5 +1,5 @@
 use Rattle.std.proofs.Common.{◌≡◌, ◌-◌, vec_len}
-use Rattle.my_wire.specs.Outside.{Leaves}
+use Rattle.my_frame.specs.Outside.{Leaves}
 use Rattle.my_run.proofs.input.read_all.Given as goal
 
 abbrev pub decreases-more : goal.decreases-more

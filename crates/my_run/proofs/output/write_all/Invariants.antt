@@ -1,5 +1,5 @@
 use Rattle.std.proofs.Common.{◌≡◌, ◌≤◌, ◌-◌, take, length}
-use Rattle.my_wire.specs.Outside.{Comes}
+use Rattle.my_frame.specs.Outside.{Comes}
 use Rattle.my_run.proofs.output.write_all.Given as goal
 
 abbrev pub decreases-rest : goal.decreases-rest
