@@ -21,6 +21,7 @@ pub mod Plain
 pub mod Plans
 pub mod Prefixes
 pub mod Reacts
+pub mod Settling
 pub mod Spots
 pub mod Stepping
 pub mod Stopping

@@ -1,7 +1,7 @@
 pub mod Calls
 pub mod Causes
-pub mod Complete
 pub mod Commands
+pub mod Complete
 pub mod Ends
 pub mod Entries
 pub mod Errors
@@ -18,6 +18,7 @@ pub mod Seen
 pub mod ServerErrors
 pub mod Session
 pub mod Settings
+pub mod SettingsLaw
 pub mod Stands
 pub mod Steps
 pub mod Tables

@@ -5,6 +5,7 @@ ghost use Rattle.my_session.specs.Complete.{EachWholeCall};
 ghost use Rattle.my_session.specs.Ends.{EachEnd};
 ghost use Rattle.my_session.specs.Fits.{EachAnswerFits};
 ghost use Rattle.my_session.specs.Law.{EachHistory};
+ghost use Rattle.my_session.specs.SettingsLaw.{EachSetting};
 
 /// Of each session and each history for which it stands: the exchanges are those that the command table has for the history's calls;
 /// the bytes sent are the client's in them, only the newest perhaps cut; the bytes taken are cut by the grammar into the server's, and
@@ -35,4 +36,10 @@ pub fn each_fault()
 /// an error is want of memory, a command or response above the limit, or what the link told.
 pub fn each_whole_call()
     ensures { EachWholeCall }
+{}
+
+/// Where the options set both settings, these hold once the login is settled. Else the last row of the first set that the server
+/// answers tells what holds from that set's end on, and nothing that comes later changes it.
+pub fn each_setting()
+    ensures { EachSetting }
 {}

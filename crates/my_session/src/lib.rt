@@ -25,7 +25,9 @@ pub use call::{Call, CallKind, LinkFault, Task};
 pub use columns::{Gathered, SetColumns};
 pub use error::{DriverError, Error, IoError, IoFault, IoKind, ServerError};
 pub use facts::Facts;
-pub use law::{each_answer_fits, each_end, each_fault, each_history};
+pub use law::{
+    each_answer_fits, each_end, each_fault, each_history, each_setting, each_whole_call,
+};
 pub use machine::Machine;
 pub use session::Session;
 pub use settings::{Settings, Stage};

@@ -1,0 +1,5 @@
+use Rattle.my_session.proofs.Settling as law
+use Rattle.my_session.proofs.law.each_setting.Goals as goal
+
+pub returns : goal.returns
+returns c = law.each_setting
