@@ -28,11 +28,11 @@ fn goes_and_comes(
     let mut wire = BytesMut::new(alloc);
     codec.encode(payload.as_slice(), &mut wire)?;
     assert!(rt; wire.as_slice().starts_with(first));
-    let behind = wire
+    let following = wire
         .as_slice()
         .get(last_at..)
         .ok_or("the stream is too short")?;
-    assert!(rt; behind.starts_with(last));
+    assert!(rt; following.starts_with(last));
     assert_eq!(rt; wire.len(), len + 4 * (1 + usize::from(last_at > 0)));
     codec.reset_seq_id();
     let back = decoded(alloc, &mut codec, &mut wire)?;
@@ -70,7 +70,7 @@ fn ample_payloads_as_long_as_a_full_chunk(rt: HostRuntime) -> Result<(), Fail> {
     )
 }
 
-// The first payload, the fault behind it, and how many bytes stay.
+// The first payload, the fault after it, and how many bytes stay.
 type Refused = (Vec<u8>, Option<CodecFault>, usize);
 
 fn refused(alloc: Global, stream: &[u8]) -> Result<Refused, CodecError> {
@@ -95,7 +95,7 @@ const TOO_LARGE: CodecFault = CodecFault::TooLarge {
     limit: 1024,
 };
 
-// What stands behind a first chunk is refused so, and stays.
+// What follows a first chunk is refused so, and stays.
 const REFUSALS: &[(&[u8], CodecFault, usize)] = &[
     (b"\x01\0\0\0a\0\x08\0\x01", TOO_LARGE, 4),
     (b"\x01\0\0\0a\x01\0\0\x05b", OUT_OF_ORDER, 5),
@@ -150,7 +150,7 @@ fn ample_bytes_that_come_one_by_one(rt: HostRuntime) -> Result<(), Fail> {
 }
 
 #[test]
-fn ample_payloads_behind_others(rt: HostRuntime) -> Result<(), Fail> {
+fn ample_payloads_after_others(rt: HostRuntime) -> Result<(), Fail> {
     let mut wire = BytesMut::copy_from_slice(rt.alloc(), b"\x01\0\0\xffa")?;
     assert_eq!(rt; append_payload(&mut wire, b"bc", 0)?, 1);
     assert_eq!(rt; append_payload(&mut wire, b"", 255)?, 0);

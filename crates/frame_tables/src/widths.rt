@@ -2,7 +2,7 @@ use my_frame::numbers::take_len;
 use my_frame::writing::put_len;
 use std::test::Fail;
 
-// Bytes, the number at their front, and how many bytes are behind it.
+// Bytes, the number at their front, and how many bytes are after it.
 const LENS: &[(&[u8], Option<(u64, usize)>)] = &[
     (b"", None),
     (b"\0", Some((0, 0))),

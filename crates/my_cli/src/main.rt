@@ -27,7 +27,7 @@ const WRITE_FAILED: u8 = 5;
 /// The status of words that are no command.
 const NO_COMMAND: u8 = 2;
 
-// The words behind the program's name.
+// The words after the program's name.
 fn command_words<R: Env + AllocGlobal>(rt: &R) -> io::Result<Vec<String>> {
     let mut words = Vec::new(rt.alloc());
     for word in env::args(rt)?.skip(1) {

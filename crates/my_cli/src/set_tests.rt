@@ -7,7 +7,7 @@ use std::test::Fail;
 const LOGIN: &str =
     "3c00000181a20f01000040002d0000000000000000000000000000000000000000000000726f6f7400006d7973716c5f6e61746976655f70617373776f726400";
 
-// The lines behind the login, the steps behind the connecting, their answers, and what was sent behind the login.
+// The lines after the login, the steps after the connecting, their answers, and what was sent after the login.
 #[derive(Clone, Copy)]
 struct Talk {
     lines: &'static str,
@@ -20,7 +20,7 @@ struct Talk {
 const TWO_SETS: &str =
     "packet 0 1 02\npacket 0 2 036465660000000131000c3f0001000000088100000000\npacket 0 3 036465660000000132000c3f0001000000088100000000\npacket 0 4 01310132\npacket 0 5 01330134\npacket 0 6 fe00000a000000\npacket 0 7 02\npacket 0 8 036465660000000135000c3f0001000000088100000000\npacket 0 9 036465660000000136000c3f0001000000088100000000\npacket 0 10 01350136\npacket 0 11 fe000002000000\nturn 0\n";
 
-// An OK with more behind it, an ERR, and the OK of the next command.
+// An OK with more after it, an ERR, and the OK of the next command.
 const OK_THEN_ERR: &str =
     "packet 0 1 0000000a000000\npacket 0 2 ff2804233432303030424c41424c41\nturn 0\npacket 0 1 00000002000000\nturn 0\n";
 

@@ -138,7 +138,7 @@ fn a_full_sink(rt: HostRuntime) -> Result<(), Fail> {
 // The head of a result with one column.
 const HEAD: &str = "packet 0 1 01\npacket 0 2 036465660000000131000c3f0001000000088100000000\n";
 
-// A response behind the login, the steps behind the query, and the answers from the query on.
+// A response after the login, the steps after the query, and the answers from the query on.
 #[derive(Clone, Copy)]
 struct Case {
     word: &'static str,

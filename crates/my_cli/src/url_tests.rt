@@ -11,7 +11,7 @@ struct Login {
     sent: &'static str,
 }
 
-// With the password `pass word` the answer's 20 bytes are SHA1(p) xor SHA1(nonce, SHA1(SHA1(p))). The database's name stands behind them, and
+// With the password `pass word` the answer's 20 bytes are SHA1(p) xor SHA1(nonce, SHA1(SHA1(p))). The database's name follows them, and
 // the flag 0x8 tells so; the flag 0x2 asks for found rows.
 fn logins() -> [Login; 3] {
     [

@@ -41,7 +41,7 @@ fn a_link_that_takes_pieces_holds_or_fails(rt: HostRuntime) -> Result<(), Fail> 
     Ok(())
 }
 
-// Behind each byte that drips a read holds, so that the step takes one byte.
+// After each byte that drips a read holds, so that the step takes one byte.
 #[test]
 fn a_greeting_that_drips(rt: HostRuntime) -> Result<(), Fail> {
     let script = format!(in rt.alloc(); "drip 0 0 {GREETS}\nconn\nnext 0\n")?;

@@ -2,7 +2,7 @@
 use Rattle.std.proofs.Common.{◌≡◌, ℕ, suc, ◌/◌, ◌^◌, ◌<◌, List, [], ◌∷◌, ◌++◌, length, take, drop, ◌⊎◌, inl, inr, sym, ap, ◌∙◌, arith, append_assoc, length-append}
 use Rattle.std.proofs.lemmas.List.{append-nil, take_at, drop_at, take-append-drop, length-take-le}
 use Rattle.std.proofs.lemmas.Bool.{cases_lt}
-use Rattle.my_frame.specs.Chunks.{full_length, next_number, header, chunk, numbered, number_after, split_full, parts_of, chunks, number_behind}
+use Rattle.my_frame.specs.Chunks.{full_length, next_number, header, chunk, numbered, number_after, split_full, parts_of, chunks, number_after_payload}
 use Rattle.my_frame.specs.Front.{header_length}
 
 -- a header tells its length
@@ -32,13 +32,13 @@ pub chunks-full : (part p : List ℕ) (n : ℕ) → length part ≡ full_length 
 unfolding chunks
 chunks-full part p n full = ap (λ parts. numbered parts n) (parts_of-full part p full)
 
-pub number_behind-short : (p : List ℕ) (n : ℕ) → length p < full_length → number_behind p n ≡ next_number n
-unfolding number_behind
-number_behind-short p n short = ap (λ parts. number_after parts n) (parts_of-short p short)
+pub number_after_payload-short : (p : List ℕ) (n : ℕ) → length p < full_length → number_after_payload p n ≡ next_number n
+unfolding number_after_payload
+number_after_payload-short p n short = ap (λ parts. number_after parts n) (parts_of-short p short)
 
-pub number_behind-full : (part p : List ℕ) (n : ℕ) → length part ≡ full_length → number_behind (part ++ p) n ≡ number_behind p (next_number n)
-unfolding number_behind
-number_behind-full part p n full = ap (λ parts. number_after parts n) (parts_of-full part p full)
+pub number_after_payload-full : (part p : List ℕ) (n : ℕ) → length part ≡ full_length → number_after_payload (part ++ p) n ≡ number_after_payload p (next_number n)
+unfolding number_after_payload
+number_after_payload-full part p n full = ap (λ parts. number_after parts n) (parts_of-full part p full)
 
 -- The payload begins with a full part.
 pub record BeginsFull (p : List ℕ) : Type 0 where
@@ -54,11 +54,11 @@ short_or_full p =
       | inr long ↦ inr (record { part = take full_length p; rest = drop full_length p; whole = sym (take-append-drop full_length p); full = length-take-le full_length p long })
     ]
 
--- a short payload's chunk, and what stands behind it
+-- a short payload's chunk, and what follows it
 pub short_spelled : (p more : List ℕ) (n : ℕ) → length p < full_length → chunks p n ++ more ≡ header (length p) n ++ (p ++ more)
 short_spelled p more n short = ap (λ x. x ++ more) (chunks-short p n short)
 
--- the first chunk of a payload that begins full, and what stands behind it
+-- the first chunk of a payload that begins full, and what follows it
 pub full_spelled : (p more : List ℕ) (n : ℕ) → (w : BeginsFull p) → chunks p n ++ more ≡ header (length w.part) n ++ (w.part ++ (chunks w.rest (next_number n) ++ more))
 full_spelled p more n w =
     ap (λ x. chunks x n ++ more) w.whole

@@ -5,7 +5,7 @@ use Rattle.my_frame.specs.declared.fault.CodecFault.{CodecFault}
 use Rattle.my_frame.specs.declared.fault.CodecError.{CodecError}
 use Rattle.my_frame.specs.declared.fault.CodecError.TheVariants.{Fault, NoMemory}
 use Rattle.my_frame.specs.declared.front.FramedPayload.{FramedPayload}
-use Rattle.my_frame.specs.Chunks.{chunks, number_behind}
+use Rattle.my_frame.specs.Chunks.{chunks, number_after_payload}
 use Rattle.my_frame.specs.Faults.{Faulty}
 use Rattle.my_frame.specs.Front.{Front, Waiting, Broken, Whole, front_at}
 use Rattle.my_frame.specs.FrontLaws.{FrontMeans}
@@ -37,7 +37,7 @@ module _ (n limit : ℕ) (bytes : List ℕ) where
   )
 
   module _ (p more : List ℕ) (within : length p ≤ limit) (spelled : bytes ≡ chunks p n ++ more) where
-    whole_answer : (r : Result (Option FramedPayload) CodecError) → IsFramed bytes (front_at n limit bytes) r → IsFramed bytes (Whole p more (number_behind p n)) r
+    whole_answer : (r : Result (Option FramedPayload) CodecError) → IsFramed bytes (front_at n limit bytes) r → IsFramed bytes (Whole p more (number_after_payload p n)) r
     whole_answer r framed = subst (λ (f : Front). IsFramed bytes f r) (ap (λ x. front_at n limit x) spelled ∙ found p more n limit within) framed
 
     pub error_is_memory : (e : CodecError) → IsFramed bytes (front_at n limit bytes) (Err e) → e ≡ NoMemory
@@ -45,7 +45,7 @@ module _ (n limit : ℕ) (bytes : List ℕ) where
 
     pub some_is_payload : (x : FramedPayload) → IsFramed bytes (front_at n limit bytes) (Ok (Some x)) → (x.payload ≡ p) × (drop x.span.len bytes ≡ more)
     some_is_payload x framed =
-        let is : Some x ≡ Some (record { payload = p; span = record { len = length bytes - length more; next = number_behind p n } }) = whole_answer (Ok (Some x)) framed in
-        let same : x ≡ record { payload = p; span = record { len = length bytes - length more; next = number_behind p n } } = cc in
+        let is : Some x ≡ Some (record { payload = p; span = record { len = length bytes - length more; next = number_after_payload p n } }) = whole_answer (Ok (Some x)) framed in
+        let same : x ≡ record { payload = p; span = record { len = length bytes - length more; next = number_after_payload p n } } = cc in
         let total : length bytes ≡ length (chunks p n) + length more = ap length spelled ∙ length-append (chunks p n) more in
         (ap (λ (y : FramedPayload). y.payload) same, ap (λ (y : FramedPayload). drop y.span.len bytes) same ∙ ap (λ x. drop (length bytes - length more) x) spelled ∙ drop_at (chunks p n) more (length bytes - length more) (omega arith))

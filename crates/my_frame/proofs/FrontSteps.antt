@@ -3,7 +3,7 @@ use Rattle.std.proofs.Common.{◌≡◌, ◌≢◌, ℕ, zero, suc, ◌+◌, ◌
 use Rattle.std.proofs.lemmas.Bool.{cases_lt, lt-ltb, le-ltb, eq-eqb, ne_eqb}
 use Rattle.my_frame.specs.declared.fault.CodecFault.TheVariants.{OutOfOrder, TooLarge}
 use Rattle.my_frame.specs.Chunks.{full_length, next_number}
-use Rattle.my_frame.specs.Front.{Front, Waiting, Broken, Whole, header_length, header_number, behind_part, header_front, front_within, front_from}
+use Rattle.my_frame.specs.Front.{Front, Waiting, Broken, Whole, header_length, header_number, after_part, header_front, front_within, front_from}
 
 within-short : (most n before limit : ℕ) (bytes : List ℕ) → length bytes < 4 → front_within most n before limit bytes ≡ Waiting
 unfolding front_within
@@ -14,8 +14,8 @@ within-head : (most n before limit : ℕ) (bytes : List ℕ) → 4 ≤ length by
 unfolding front_within
 within-head most n before limit bytes long = rw (le-ltb (length bytes) 4 long) refl
 
-behind_header : (bytes : List ℕ) (most : ℕ) → 4 ≤ length bytes → length bytes ≤ suc most → length (drop (header_length bytes) (drop 4 bytes)) ≤ most
-behind_header bytes most long enough = omega (arith, length-drop (header_length bytes) (drop 4 bytes), length-drop 4 bytes)
+after_header : (bytes : List ℕ) (most : ℕ) → 4 ≤ length bytes → length bytes ≤ suc most → length (drop (header_length bytes) (drop 4 bytes)) ≤ most
+after_header bytes most long enough = omega (arith, length-drop (header_length bytes) (drop 4 bytes), length-drop 4 bytes)
 
 -- however many headers may be read, if they are enough
 within-enough : (most more n before limit : ℕ) (bytes : List ℕ) → length bytes ≤ most → length bytes ≤ more → front_within most n before limit bytes ≡ front_within more n before limit bytes
@@ -27,7 +27,7 @@ within-enough (suc most) (suc more) n before limit bytes enough also =
       | inr long ↦
           within-head most n before limit bytes long
           ∙ ap (λ (later : Front). header_front n before limit (header_length bytes) (header_number bytes) (drop 4 bytes) later)
-          (within-enough most more (next_number n) (before + header_length bytes) limit (drop (header_length bytes) (drop 4 bytes)) (behind_header bytes most long enough) (behind_header bytes more long also))
+          (within-enough most more (next_number n) (before + header_length bytes) limit (drop (header_length bytes) (drop 4 bytes)) (after_header bytes most long enough) (after_header bytes more long also))
           ∙ sym (within-head more n before limit bytes long)
     ]
 
@@ -61,5 +61,5 @@ module _ (n before limit : ℕ) (bytes : List ℕ) (long : 4 ≤ length bytes) w
         pub front-last : header_length bytes < full_length → front_from n before limit bytes ≡ Whole (take (header_length bytes) (drop 4 bytes)) (drop (header_length bytes) (drop 4 bytes)) (next_number n)
         front-last last = front-head n before limit bytes long ∙ rw (eq-eqb (header_number bytes) n same, le-ltb limit (before + header_length bytes) within, le-ltb (length (drop 4 bytes)) (header_length bytes) there, lt-ltb (header_length bytes) full_length last) refl
 
-        pub front-full : full_length ≤ header_length bytes → front_from n before limit bytes ≡ behind_part (take (header_length bytes) (drop 4 bytes)) (front_from (next_number n) (before + header_length bytes) limit (drop (header_length bytes) (drop 4 bytes)))
+        pub front-full : full_length ≤ header_length bytes → front_from n before limit bytes ≡ after_part (take (header_length bytes) (drop 4 bytes)) (front_from (next_number n) (before + header_length bytes) limit (drop (header_length bytes) (drop 4 bytes)))
         front-full full = front-head n before limit bytes long ∙ rw (eq-eqb (header_number bytes) n same, le-ltb limit (before + header_length bytes) within, le-ltb (length (drop 4 bytes)) (header_length bytes) there, le-ltb (header_length bytes) full_length full) refl

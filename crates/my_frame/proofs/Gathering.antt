@@ -1,4 +1,4 @@
--- What gathering a payload knows behind some full chunks: the payload in front, if there is one, is what was gathered and then the
+-- What gathering a payload knows after some full chunks: the payload in front, if there is one, is what was gathered and then the
 -- payload in front of the rest.
 use Rattle.std.proofs.Common.{◌≡◌, ℕ, ◌+◌, ◌<◌, ◌≤◌, List, [], ◌++◌, length, take, drop, inl, inr, sym, ap, ◌∙◌, arith, append_assoc}
 use Rattle.my_frame.specs.Chunks.{full_length, next_number}

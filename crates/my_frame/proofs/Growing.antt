@@ -5,7 +5,7 @@ use Rattle.std.proofs.lemmas.Bool.{cases_lt, cases_eq}
 use Rattle.std.proofs.lemmas.List.{take-append-le, drop-append-le}
 use Rattle.my_frame.specs.declared.fault.CodecFault.TheVariants.{OutOfOrder, TooLarge}
 use Rattle.my_frame.specs.Chunks.{full_length, next_number}
-use Rattle.my_frame.specs.Front.{Front, Waiting, Broken, Whole, header_length, header_number, behind_part, front_from, front_at}
+use Rattle.my_frame.specs.Front.{Front, Waiting, Broken, Whole, header_length, header_number, after_part, front_from, front_at}
 use Rattle.my_frame.specs.FrontLaws.{FrontGrows}
 use Rattle.my_frame.proofs.FrontSteps.{front-short, front-misnumbered, front-too_large, front-partial, front-last, front-full}
 
@@ -16,10 +16,10 @@ header_length-append : (bytes more : List ℕ) → 4 ≤ length bytes → header
 header_length-append bytes more long =
     rw (get_or-append bytes more 0 0 (omega arith), get_or-append bytes more 0 1 (omega arith), get_or-append bytes more 0 2 (omega arith)) refl
 
-part_grows : (part more : List ℕ) (f later : Front) → FrontGrows more f later → FrontGrows more (behind_part part f) (behind_part part later)
+part_grows : (part more : List ℕ) (f later : Front) → FrontGrows more f later → FrontGrows more (after_part part f) (after_part part later)
 part_grows part more Waiting later g = tt
-part_grows part more (Broken fault) later g = ap (λ x. behind_part part x) g
-part_grows part more (Whole payload rest next) later g = ap (λ x. behind_part part x) g
+part_grows part more (Broken fault) later g = ap (λ x. after_part part x) g
+part_grows part more (Whole payload rest next) later g = ap (λ x. after_part part x) g
 
 at : (more : List ℕ) (f f' later later' : Front) → f ≡ f' → later ≡ later' → FrontGrows more f' later' → FrontGrows more f later
 at more f f' later later' a b g = let P : Front → Type 0 = λ x. FrontGrows more x later in subst P (sym a) (subst (λ x. FrontGrows more f' x) (sym b) g)
@@ -70,12 +70,12 @@ grows_below (suc bound) n before limit bytes more less =
                               | inr full ↦
                                   let later = front_from (next_number n) (before + len) limit (drop len body) in
                                   let later' = front_from (next_number n) (before + len) limit (drop len body ++ more) in
-                                  at more (front_from n before limit bytes) (behind_part (take len body) later) (front_from n before limit all) (behind_part (take len body) later')
+                                  at more (front_from n before limit bytes) (after_part (take len body) later) (front_from n before limit all) (after_part (take len body) later')
                                   (front-full n before limit bytes long same within there full)
                                   (front-full n before limit all long' same' (omega arith) (omega arith) (omega arith)
-                                  ∙ ap (λ x. behind_part x (front_from (next_number n) (before + header_length all) limit (drop (header_length all) (drop 4 all)))) take_is
-                                  ∙ ap (λ x. behind_part (take len body) (front_from (next_number n) (before + header_length all) limit x)) drop_is
-                                  ∙ ap (λ k. behind_part (take len body) (front_from (next_number n) (before + k) limit (drop len body ++ more))) len_is)
+                                  ∙ ap (λ x. after_part x (front_from (next_number n) (before + header_length all) limit (drop (header_length all) (drop 4 all)))) take_is
+                                  ∙ ap (λ x. after_part (take len body) (front_from (next_number n) (before + header_length all) limit x)) drop_is
+                                  ∙ ap (λ k. after_part (take len body) (front_from (next_number n) (before + k) limit (drop len body ++ more))) len_is)
                                   (part_grows (take len body) more later later' (grows_below bound (next_number n) (before + len) limit (drop len body) more (omega (arith, length-drop len body, length-drop 4 bytes))))
                             ]
                       ]

@@ -5,11 +5,11 @@ use Rattle.std.proofs.lemmas.List.{take-append-drop, length-take-le}
 use Rattle.std.specs.List.{concat}
 use Rattle.my_frame.specs.declared.fault.CodecFault.{CodecFault}
 use Rattle.my_frame.specs.declared.fault.CodecFault.TheVariants.{OutOfOrder, TooLarge}
-use Rattle.my_frame.specs.Chunks.{full_length, next_number, header, chunk, numbered, number_after, chunks, number_behind}
+use Rattle.my_frame.specs.Chunks.{full_length, next_number, header, chunk, numbered, number_after, chunks, number_after_payload}
 use Rattle.my_frame.specs.Faults.{IsBlamed, Faulty}
-use Rattle.my_frame.specs.Front.{Front, Waiting, Broken, Whole, header_length, header_number, behind_part, front_from, front_at}
+use Rattle.my_frame.specs.Front.{Front, Waiting, Broken, Whole, header_length, header_number, after_part, front_from, front_at}
 use Rattle.my_frame.specs.FrontLaws.{AreBytes, IsWhole, FrontMeans}
-use Rattle.my_frame.proofs.ChunkLaws.{chunks-short, chunks-full, number_behind-short, number_behind-full}
+use Rattle.my_frame.proofs.ChunkLaws.{chunks-short, chunks-full, number_after_payload-short, number_after_payload-full}
 use Rattle.my_frame.proofs.FrontSteps.{front-short, front-misnumbered, front-too_large, front-partial, front-last, front-full}
 use Rattle.my_frame.proofs.WholeHeads.{whole_head}
 use Rattle.my_frame.proofs.Fronts.{no_payload, no_fault}
@@ -33,15 +33,15 @@ header_there (a ∷ b ∷ c ∷ m ∷ body) are long =
 header_fits : (bytes : List ℕ) → AreBytes bytes → header_length bytes < 2 ^ 24
 header_fits bytes are = let low = are.below 0 in let middle = are.below 1 in let high = are.below 2 in omega arith
 
-are_behind : (k : ℕ) (bytes : List ℕ) → AreBytes bytes → AreBytes (drop k bytes)
-are_behind zero bytes are = are
-are_behind (suc k) [] are = are
-are_behind (suc k) (b ∷ bytes) are = are_behind k bytes (record { below = λ i. are.below (suc i) })
+are_after : (k : ℕ) (bytes : List ℕ) → AreBytes bytes → AreBytes (drop k bytes)
+are_after zero bytes are = are
+are_after (suc k) [] are = are
+are_after (suc k) (b ∷ bytes) are = are_after k bytes (record { below = λ i. are.below (suc i) })
 
 pub record StandsWhole (n before limit : ℕ) (bytes p rest : List ℕ) (next : ℕ) : Type 0 where
   pub spelled : bytes ≡ chunks p n ++ rest
   pub within : before + length p ≤ limit
-  pub next_is : next ≡ number_behind p n
+  pub next_is : next ≡ number_after_payload p n
 
 whole_below : (bound : ℕ) (n before limit : ℕ) (bytes p rest : List ℕ) (next : ℕ) → length bytes < bound → AreBytes bytes → front_from n before limit bytes ≡ Whole p rest next → StandsWhole n before limit bytes p rest next
 whole_below zero n before limit bytes p rest next less are e = absurd (omega arith)
@@ -65,11 +65,11 @@ whole_below (suc bound) n before limit bytes p rest next less are e =
           record {
             spelled = is_chunk ∙ ap (λ x. chunk x n ++ drop len body) (sym last.payload_is) ∙ ap (λ x. chunk p n ++ x) (sym last.rest_is) ∙ ap (λ x. x ++ rest) (sym (chunks-short p n short));
             within = omega (arith, ap length last.payload_is);
-            next_is = last.next_is ∙ sym (number_behind-short p n short);
+            next_is = last.next_is ∙ sym (number_after_payload-short p n short);
           }
       | inr goes ↦
           let full : length part ≡ full_length = omega (arith, goes.full) in
-          let w = whole_below bound (next_number n) (before + len) limit (drop len body) goes.left rest next (omega (arith, h.long, length-drop len body, length-drop 4 bytes)) (are_behind len body (are_behind 4 bytes are)) goes.found in
+          let w = whole_below bound (next_number n) (before + len) limit (drop len body) goes.left rest next (omega (arith, h.long, length-drop len body, length-drop 4 bytes)) (are_after len body (are_after 4 bytes are)) goes.found in
           let left_within = w.within in
           let total : length p ≡ length part + length goes.left = ap length goes.payload_is ∙ length-append part goes.left in
           record {
@@ -77,7 +77,7 @@ whole_below (suc bound) n before limit bytes p rest next less are e =
                 is_chunk ∙ ap (λ x. chunk part n ++ x) w.spelled ∙ sym (append_assoc (chunk part n) (chunks goes.left (next_number n)) rest)
                 ∙ ap (λ x. x ++ rest) (sym (chunks-full part goes.left n full)) ∙ ap (λ x. chunks x n ++ rest) (sym goes.payload_is);
             within = omega arith;
-            next_is = w.next_is ∙ sym (number_behind-full part goes.left n full) ∙ ap (λ x. number_behind x n) (sym goes.payload_is);
+            next_is = w.next_is ∙ sym (number_after_payload-full part goes.left n full) ∙ ap (λ x. number_after_payload x n) (sym goes.payload_is);
           }
     ]
 
@@ -87,10 +87,10 @@ whole_stands n limit bytes p rest next are e =
     let within = w.within in
     record { spelled = w.spelled; within = omega arith; next_is = w.next_is }
 
-behind_part-broken : (part : List ℕ) (fault : CodecFault) (f : Front) → behind_part part f ≡ Broken fault → f ≡ Broken fault
-behind_part-broken part fault Waiting e = absurd cc
-behind_part-broken part fault (Broken other) e = e
-behind_part-broken part fault (Whole left rest next) e = absurd cc
+after_part-broken : (part : List ℕ) (fault : CodecFault) (f : Front) → after_part part f ≡ Broken fault → f ≡ Broken fault
+after_part-broken part fault Waiting e = absurd cc
+after_part-broken part fault (Broken other) e = e
+after_part-broken part fault (Whole left rest next) e = absurd cc
 
 -- a faulty header in front
 faulty_here : (n before limit : ℕ) (bytes : List ℕ) (fault : CodecFault) → AreBytes bytes → 4 ≤ length bytes → before ≤ limit → IsBlamed n before limit (header_length bytes) (header_number bytes) fault → Faulty bytes n before limit fault
@@ -106,9 +106,9 @@ faulty_here n before limit bytes fault are long within blamed = record {
   blamed = subst (λ x. IsBlamed n x limit (header_length bytes) (header_number bytes) fault) (sym (add-zero before)) blamed;
 }
 
--- a fault behind one more full chunk
-faulty_behind : (part rest : List ℕ) (n before limit : ℕ) (fault : CodecFault) → length part ≡ full_length → Faulty rest (next_number n) (before + full_length) limit fault → Faulty (chunk part n ++ rest) n before limit fault
-faulty_behind part rest n before limit fault full w =
+-- a fault after one more full chunk
+faulty_after : (part rest : List ℕ) (n before limit : ℕ) (fault : CodecFault) → length part ≡ full_length → Faulty rest (next_number n) (before + full_length) limit fault → Faulty (chunk part n ++ rest) n before limit fault
+faulty_after part rest n before limit fault full w =
     let total = length-append part (concat w.parts) in
     let sum : before + full_length + length (concat w.parts) ≡ before + length (part ++ concat w.parts) = omega arith in
     let tail = header w.len w.number ++ w.more in
@@ -153,15 +153,15 @@ broken_below (suc bound) n before limit bytes fault less fits are e =
                               | inl last ↦ let f = front-last n before limit bytes long same within there last in absurd cc
                               | inr full ↦
                                   let f = front-full n before limit bytes long same within there full in
-                                  let later = behind_part-broken (take len body) fault (front_from (next_number n) (before + len) limit (drop len body)) (sym f ∙ e) in
+                                  let later = after_part-broken (take len body) fault (front_from (next_number n) (before + len) limit (drop len body)) (sym f ∙ e) in
                                   let small = header_fits bytes are in
                                   let is_full : len ≡ full_length = omega arith in
                                   let part_length : length (take len body) ≡ len = length-take-le len body there in
-                                  let w = broken_below bound (next_number n) (before + len) limit (drop len body) fault (omega (arith, length-drop len body, length-drop 4 bytes)) within (are_behind len body (are_behind 4 bytes are)) later in
+                                  let w = broken_below bound (next_number n) (before + len) limit (drop len body) fault (omega (arith, length-drop len body, length-drop 4 bytes)) within (are_after len body (are_after 4 bytes are)) later in
                                   let spelled : bytes ≡ chunk (take len body) n ++ drop len body =
                                   header_there bytes are long ∙ ap (λ k. header len k ++ body) same ∙ ap (λ k. header k n ++ body) (sym part_length) ∙ ap (λ x. header (length (take len body)) n ++ x) (sym (take-append-drop len body)) in
                                   subst (λ x. Faulty x n before limit fault) (sym spelled)
-                                  (faulty_behind (take len body) (drop len body) n before limit fault (part_length ∙ is_full) (subst (λ k. Faulty (drop len body) (next_number n) (before + k) limit fault) is_full w))
+                                  (faulty_after (take len body) (drop len body) n before limit fault (part_length ∙ is_full) (subst (λ k. Faulty (drop len body) (next_number n) (before + k) limit fault) is_full w))
                             ]
                       ]
                 ]

@@ -1,28 +1,28 @@
--- What a scan knows behind some full chunks: what stands in front of all bytes is these chunks' parts, and then what stands in front of
+-- What a scan knows after some full chunks: what stands in front of all bytes is these chunks' parts, and then what stands in front of
 -- the rest.
 use Rattle.std.proofs.Common.{◌≡◌, ◌≢◌, ℕ, ◌+◌, ◌-◌, ◌<◌, ◌≤◌, List, [], ◌++◌, length, take, drop, refl, sym, ap, ◌∙◌, arith, append_assoc, length-drop, Ok, Err, Some, None}
 use Rattle.my_frame.specs.declared.fault.CodecFault.TheVariants.{OutOfOrder, TooLarge}
 use Rattle.my_frame.specs.Chunks.{full_length, next_number}
-use Rattle.my_frame.specs.Front.{Front, Waiting, Broken, Whole, header_length, header_number, behind_part, front_from, front_at, span_of}
+use Rattle.my_frame.specs.Front.{Front, Waiting, Broken, Whole, header_length, header_number, after_part, front_from, front_at, span_of}
 use Rattle.my_frame.proofs.FrontSteps.{front-short, front-misnumbered, front-too_large, front-partial, front-last, front-full}
 
 pub record Scanned (bytes rest : List ℕ) (n expected before limit : ℕ) : Type 0 where
   pub size : before + length rest ≤ length bytes
   pub parts : List ℕ
-  pub found : front_at n limit bytes ≡ behind_part parts (front_from expected before limit rest)
+  pub found : front_at n limit bytes ≡ after_part parts (front_from expected before limit rest)
 
-behind_part-none : (f : Front) → behind_part [] f ≡ f
-behind_part-none Waiting = refl
-behind_part-none (Broken fault) = refl
-behind_part-none (Whole payload rest next) = refl
+after_part-none : (f : Front) → after_part [] f ≡ f
+after_part-none Waiting = refl
+after_part-none (Broken fault) = refl
+after_part-none (Whole payload rest next) = refl
 
-behind_part-append : (a b : List ℕ) (f : Front) → behind_part a (behind_part b f) ≡ behind_part (a ++ b) f
-behind_part-append a b Waiting = refl
-behind_part-append a b (Broken fault) = refl
-behind_part-append a b (Whole payload rest next) = ap (λ p. Whole p rest next) (sym (append_assoc a b payload))
+after_part-append : (a b : List ℕ) (f : Front) → after_part a (after_part b f) ≡ after_part (a ++ b) f
+after_part-append a b Waiting = refl
+after_part-append a b (Broken fault) = refl
+after_part-append a b (Whole payload rest next) = ap (λ p. Whole p rest next) (sym (append_assoc a b payload))
 
 pub scanned_none : (bytes : List ℕ) (n limit : ℕ) → Scanned bytes bytes n n 0 limit
-scanned_none bytes n limit = record { size = omega arith; parts = []; found = sym (behind_part-none (front_from n 0 limit bytes)) }
+scanned_none bytes n limit = record { size = omega arith; parts = []; found = sym (after_part-none (front_from n 0 limit bytes)) }
 
 pub scanned-short : {bytes rest : List ℕ} {n expected before limit : ℕ} → Scanned bytes rest n expected before limit → length rest < 4 → Ok None ≡ span_of bytes (front_at n limit bytes)
 scanned-short {bytes} {rest} {n} {expected} {before} {limit} s short = rw (s.found, front-short expected before limit rest short) refl
@@ -64,7 +64,7 @@ module _ {bytes rest : List ℕ} {n expected before limit len number : ℕ} (s :
               parts = s.parts ++ take len (drop 4 rest);
               found =
                   s.found
-                  ∙ ap (λ (f : Front). behind_part s.parts f) (front-full expected before limit rest h.long (sym h.number_is ∙ same) (omega arith) (omega arith) (omega arith))
-                  ∙ behind_part-append s.parts (take (header_length rest) (drop 4 rest)) (front_from (next_number expected) (before + header_length rest) limit (drop (header_length rest) (drop 4 rest)))
-                  ∙ ap (λ k. behind_part (s.parts ++ take k (drop 4 rest)) (front_from (next_number expected) (before + k) limit (drop k (drop 4 rest)))) (sym h.len_is);
+                  ∙ ap (λ (f : Front). after_part s.parts f) (front-full expected before limit rest h.long (sym h.number_is ∙ same) (omega arith) (omega arith) (omega arith))
+                  ∙ after_part-append s.parts (take (header_length rest) (drop 4 rest)) (front_from (next_number expected) (before + header_length rest) limit (drop (header_length rest) (drop 4 rest)))
+                  ∙ ap (λ k. after_part (s.parts ++ take k (drop 4 rest)) (front_from (next_number expected) (before + k) limit (drop k (drop 4 rest)))) (sym h.len_is);
             }

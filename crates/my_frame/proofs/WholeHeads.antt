@@ -2,7 +2,7 @@
 use Rattle.std.proofs.Common.{◌≡◌, ℕ, zero, suc, ◌+◌, ◌-◌, ◌<◌, ◌≤◌, List, ◌++◌, length, take, drop, ◌⊎◌, inl, inr, sym, ap, ◌∙◌, arith, length-drop}
 use Rattle.std.proofs.lemmas.Bool.{cases_lt, cases_eq}
 use Rattle.my_frame.specs.Chunks.{full_length, next_number}
-use Rattle.my_frame.specs.Front.{Front, Waiting, Broken, Whole, header_length, header_number, behind_part, front_from, front_at}
+use Rattle.my_frame.specs.Front.{Front, Waiting, Broken, Whole, header_length, header_number, after_part, front_from, front_at}
 use Rattle.my_frame.proofs.FrontSteps.{front-short, front-misnumbered, front-too_large, front-partial, front-last, front-full}
 
 -- The payload's last chunk: it carries the payload.
@@ -12,7 +12,7 @@ pub record IsLast (n len : ℕ) (body p rest : List ℕ) (next : ℕ) : Type 0 w
   pub rest_is : rest ≡ drop len body
   pub next_is : next ≡ next_number n
 
--- A full chunk of the payload: behind it stands what is left of the payload.
+-- A full chunk of the payload: after it stands what is left of the payload.
 pub record GoesOn (n before limit len : ℕ) (body p rest : List ℕ) (next : ℕ) : Type 0 where
   pub full : full_length ≤ len
   pub left : List ℕ
@@ -26,10 +26,10 @@ pub record WholeHead (n before limit : ℕ) (bytes p rest : List ℕ) (next : �
   pub there : header_length bytes ≤ length (drop 4 bytes)
   pub cases : IsLast n (header_length bytes) (drop 4 bytes) p rest next ⊎ GoesOn n before limit (header_length bytes) (drop 4 bytes) p rest next
 
-behind_part-whole : (part p rest : List ℕ) (next : ℕ) (f : Front) → behind_part part f ≡ Whole p rest next → (left : List ℕ) × (p ≡ part ++ left) × (f ≡ Whole left rest next)
-behind_part-whole part p rest next Waiting e = absurd cc
-behind_part-whole part p rest next (Broken fault) e = absurd cc
-behind_part-whole part p rest next (Whole left r m) e =
+after_part-whole : (part p rest : List ℕ) (next : ℕ) (f : Front) → after_part part f ≡ Whole p rest next → (left : List ℕ) × (p ≡ part ++ left) × (f ≡ Whole left rest next)
+after_part-whole part p rest next Waiting e = absurd cc
+after_part-whole part p rest next (Broken fault) e = absurd cc
+after_part-whole part p rest next (Whole left r m) e =
     let same_rest : r ≡ rest = cc in
     let same_next : m ≡ next = cc in
     let same_payload : part ++ left ≡ p = cc in
@@ -58,7 +58,7 @@ whole_head n before limit bytes p rest next e =
                                   record { long = long; same = same; within = within; there = there; cases = inl (record { short = last; payload_is = cc; rest_is = cc; next_is = cc }) }
                               | inr full ↦
                                   let f = front-full n before limit bytes long same within there full in
-                                  let w = behind_part-whole (take len body) p rest next (front_from (next_number n) (before + len) limit (drop len body)) (sym f ∙ e) in
+                                  let w = after_part-whole (take len body) p rest next (front_from (next_number n) (before + len) limit (drop len body)) (sym f ∙ e) in
                                   record { long = long; same = same; within = within; there = there; cases = inr (record { full = full; left = w.0; payload_is = w.1; found = w.2 }) }
                             ]
                       ]
@@ -78,6 +78,6 @@ shorter_below (suc bound) n before limit bytes p rest next less e =
       | inr goes ↦ omega (arith, shorter_below bound (next_number n) (before + len) limit (drop len (drop 4 bytes)) goes.left rest next (omega arith) goes.found)
     ]
 
--- behind a payload stand fewer bytes
+-- after a payload stand fewer bytes
 pub rest_is_shorter : (n limit : ℕ) (bytes p rest : List ℕ) (next : ℕ) → front_at n limit bytes ≡ Whole p rest next → length rest + 4 ≤ length bytes
 rest_is_shorter n limit bytes p rest next e = shorter_below (suc (length bytes)) n 0 limit bytes p rest next (omega arith) e

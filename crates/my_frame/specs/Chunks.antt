@@ -7,7 +7,7 @@ use Rattle.std.specs.Prelude.{ℕ, zero, suc, ◌+◌, ◌/◌, ◌%◌, List, [
 abbrev pub full_length : ℕ
 full_length = 0xFFFFFF
 
--- the number of the chunk behind that with the number n
+-- the number of the chunk after that with the number n
 abbrev pub next_number : ℕ → ℕ
 next_number n = (n + 1) % 256
 
@@ -24,7 +24,7 @@ abbrev pub numbered : List (List ℕ) → ℕ → List ℕ
 numbered [] n = []
 numbered (part ∷ parts) n = chunk part n ++ numbered parts (next_number n)
 
--- the number behind those of these parts
+-- the number after those of these parts
 abbrev pub number_after : List (List ℕ) → ℕ → ℕ
 number_after [] n = n
 number_after (part ∷ parts) n = number_after parts (next_number n)
@@ -42,6 +42,6 @@ parts_of p = split_full (length p / full_length) p
 unfoldable pub chunks : List ℕ → ℕ → List ℕ
 chunks p n = numbered (parts_of p) n
 
--- the number behind that of the payload's last chunk, where its first has the number n
-unfoldable pub number_behind : List ℕ → ℕ → ℕ
-number_behind p n = number_after (parts_of p) n
+-- the number after that of the payload's last chunk, where its first has the number n
+unfoldable pub number_after_payload : List ℕ → ℕ → ℕ
+number_after_payload p n = number_after (parts_of p) n

@@ -1,6 +1,6 @@
 -- What a codec knows, and what reading a payload does to it and to the buffer.
 use Rattle.std.specs.Prelude.{◌≡◌, ℕ, ◌≤◌, List, ◌++◌, length}
-use Rattle.my_frame.specs.Chunks.{chunks, number_behind}
+use Rattle.my_frame.specs.Chunks.{chunks, number_after_payload}
 
 -- the number of the next chunk, and how many bytes a payload may have
 pub record Codec : Type 0 where
@@ -11,5 +11,5 @@ pub record Codec : Type 0 where
 pub record Takes (old new : Codec) (payload before after : List ℕ) : Type 0 where
   pub spelled : before ≡ chunks payload old.number ++ after
   pub within : length payload ≤ old.limit
-  pub number : new.number ≡ number_behind payload old.number
+  pub number : new.number ≡ number_after_payload payload old.number
   pub limit : new.limit ≡ old.limit

@@ -12,7 +12,7 @@ abbrev pub IsBlamed : ℕ → ℕ → ℕ → ℕ → ℕ → CodecFault → Typ
 IsBlamed expected before limit len number (OutOfOrder e f) = (number ≢ expected) × (e ≡ expected) × (f ≡ number)
 IsBlamed expected before limit len number (TooLarge l m) = (number ≡ expected) × (limit < before + len) × (l ≡ before + len) × (m ≡ limit)
 
--- Behind full chunks with the right numbers and within the limit stands a header with this fault: the first faulty one.
+-- After full chunks with the right numbers and within the limit stands a header with this fault: the first faulty one.
 -- Earlier chunks of the payload, in front of these bytes, carried before bytes.
 pub record Faulty (bytes : List ℕ) (n before limit : ℕ) (fault : CodecFault) : Type 0 where
   pub parts : List (List ℕ)

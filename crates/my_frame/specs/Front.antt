@@ -6,7 +6,7 @@ use Rattle.my_frame.specs.declared.fault.CodecFault.TheVariants.{OutOfOrder, Too
 use Rattle.my_frame.specs.declared.scan.Span.{Span}
 use Rattle.my_frame.specs.Chunks.{full_length, next_number}
 
--- not yet a whole payload; a fault; or a payload, the bytes behind its chunks and the number behind theirs
+-- not yet a whole payload; a fault; or a payload, the bytes after its chunks and the number after theirs
 pub data Front : Type 0 where
   Waiting : Front
   Broken : (fault : CodecFault) → Front
@@ -20,19 +20,19 @@ abbrev pub header_number : List ℕ → ℕ
 header_number bytes = slice_index bytes 3
 
 -- a payload that begins with this part, as far as the rest tells it
-abbrev pub behind_part : List ℕ → Front → Front
-behind_part part Waiting = Waiting
-behind_part part (Broken fault) = Broken fault
-behind_part part (Whole payload rest next) = Whole (part ++ payload) rest next
+abbrev pub after_part : List ℕ → Front → Front
+after_part part Waiting = Waiting
+after_part part (Broken fault) = Broken fault
+after_part part (Whole payload rest next) = Whole (part ++ payload) rest next
 
--- what a header with the right number and a length within the limit begins, where the body stands behind it
+-- what a header with the right number and a length within the limit begins, where the body follows it
 abbrev pub body_front : ℕ → ℕ → List ℕ → Front → Front
 body_front n len body later =
     if nat_lt (length body) len
     then Waiting
     else (if nat_lt len full_length
     then Whole (take len body) (drop len body) (next_number n)
-    else behind_part (take len body) later)
+    else after_part (take len body) later)
 
 -- what a header begins: its number is tested before its length
 abbrev pub header_front : ℕ → ℕ → ℕ → ℕ → ℕ → List ℕ → Front → Front

@@ -1,6 +1,6 @@
 -- What the function of specs/Front.antt means for the chunks of payloads and for faults.
 use Rattle.std.specs.Prelude.{◌≡◌, ℕ, ◌^◌, ◌<◌, ◌≤◌, List, ◌++◌, length, slice_index}
-use Rattle.my_frame.specs.Chunks.{chunks, number_behind}
+use Rattle.my_frame.specs.Chunks.{chunks, number_after_payload}
 use Rattle.my_frame.specs.Faults.{Faulty, HasNoPayload, HasNoFault}
 use Rattle.my_frame.specs.Front.{Front, Waiting, Broken, Whole}
 
@@ -12,7 +12,7 @@ pub record AreBytes (bytes : List ℕ) : Type 0 where
 pub record IsWhole (n limit : ℕ) (bytes payload rest : List ℕ) (next : ℕ) : Type 0 where
   pub spelled : bytes ≡ chunks payload n ++ rest
   pub within : length payload ≤ limit
-  pub next_is : next ≡ number_behind payload n
+  pub next_is : next ≡ number_after_payload payload n
 
 -- what it means that this stands in front of the bytes
 abbrev pub FrontMeans : ℕ → ℕ → List ℕ → Front → Type 0

@@ -1,4 +1,4 @@
--- Numbers and texts in a packet: as relations between a value, the bytes that begin with it and the bytes behind it, and as functions that read.
+-- Numbers and texts in a packet: as relations between a value, the bytes that begin with it and the bytes after it, and as functions that read.
 -- MySQL internals, "Protocol Data Types": Integer Types (FixedLengthInteger, LengthEncodedInteger) and String Types (FixedLengthString, NulTerminatedString, LengthEncodedString).
 use Rattle.std.specs.Prelude.{◌≡◌, ◌≢◌, ℕ, ◌+◌, ◌*◌, ◌<◌, ◌⊎◌, List, [], ◌∷◌, ◌++◌, length, take, drop, All, Option, Some, None, position, nat_lt, ◌==◌, if◌then◌else◌}
 
@@ -24,7 +24,7 @@ IsLen [] n rest = ⊥
 IsLen (head ∷ bytes) n rest =
     ((head < 0xFB) × (n ≡ head) × (bytes ≡ rest)) ⊎ (((head ≡ 0xFC) × IsNumber 2 bytes n rest) ⊎ (((head ≡ 0xFD) × IsNumber 3 bytes n rest) ⊎ ((head ≡ 0xFE) × IsNumber 8 bytes n rest)))
 
--- The bytes begin with a text behind its length.
+-- The bytes begin with a text after its length.
 pub record IsText (bytes text rest : List ℕ) : Type 0 where
   pub len_is : IsLen bytes (length text) (text ++ rest)
 
@@ -39,12 +39,12 @@ pub record IsBeforeZero (bytes part : List ℕ) : Type 0 where
   pub ends : (bytes ≡ part) ⊎ ((rest : List ℕ) × (bytes ≡ part ++ 0 ∷ rest))
 
 infixl 10 ◌>>=◌
--- the second read, behind the first
+-- the second read, after the first
 abbrev pub ◌>>=◌ : {A B : Type 0} → Option A → (A → Option B) → Option B
 None >>= f = None
 (Some x) >>= f = f x
 
--- what is read, and the bytes behind it
+-- what is read, and the bytes after it
 abbrev pub bytes_at : ℕ → List ℕ → Option (List ℕ × List ℕ)
 bytes_at count bytes = if nat_lt (length bytes) count then None else Some (take count bytes, drop count bytes)
 
@@ -61,7 +61,7 @@ text_at bytes = do
   len ← len_at bytes
   bytes_at len.0 len.1
 
--- the parts before and behind a place
+-- the parts before and after a place
 abbrev pub cut_at : List ℕ → Option ℕ → Option (List ℕ × List ℕ)
 cut_at bytes None = None
 cut_at bytes (Some k) = Some (take k bytes, drop (k + 1) bytes)
@@ -69,7 +69,7 @@ cut_at bytes (Some k) = Some (take k bytes, drop (k + 1) bytes)
 abbrev pub text0_at : List ℕ → Option (List ℕ × List ℕ)
 text0_at bytes = cut_at bytes (position (λ b. b == 0) bytes)
 
--- the bytes behind this head
+-- the bytes after this head
 abbrev pub head_at : ℕ → List ℕ → Option (List ℕ)
 head_at head [] = None
 head_at head (first ∷ rest) = if first == head then Some rest else None

@@ -13,7 +13,7 @@ unfoldable pub len_bytes : ℕ → List ℕ
 len_bytes n =
     if nat_lt n 0xFB then n ∷ [] else (if nat_lt n 0x10000 then 0xFC ∷ le_bytes 2 n else (if nat_lt n 0x1000000 then 0xFD ∷ le_bytes 3 n else 0xFE ∷ le_bytes 8 n))
 
--- a text behind its length
+-- a text after its length
 unfoldable pub text_bytes : List ℕ → List ℕ
 text_bytes text = len_bytes (length text) ++ text
 
@@ -21,6 +21,6 @@ text_bytes text = len_bytes (length text) ++ text
 unfoldable pub text0_bytes : List ℕ → List ℕ
 text0_bytes text = before_first (λ b. b == 0) text ++ 0 ∷ []
 
--- a text behind one byte with its length
+-- a text after one byte with its length
 unfoldable pub short_bytes : List ℕ → List ℕ
 short_bytes text = length text ∷ text

@@ -1,17 +1,17 @@
-//! Payloads that are to be sent, behind others.
+//! Payloads that are to be sent, after others.
 
 ghost use Rattle.std.specs.Prelude.{◌≡◌, ◌++◌, OnErr, IfOk};
-ghost use Rattle.my_frame.specs.Chunks.{chunks, number_behind};
+ghost use Rattle.my_frame.specs.Chunks.{chunks, number_after_payload};
 
 use crate::no_memory::NoMemory;
 use crate::put::put_chunks;
 use crate::scan::FULL_LENGTH;
 use bytes::BytesMut;
 
-/// Adds the payload's chunks, numbered from `number` on, and answers the number behind theirs.
+/// Adds the payload's chunks, numbered from `number` on, and answers the number after theirs.
 pub fn append_payload(dst: &mut BytesMut, payload: &[u8], number: u8) -> Result<u8, NoMemory>
     ensures ok { IfOk result (λ next. (dst.new.items ≡ dst.old.items ++ chunks payload.now number)
-        × (next ≡ number_behind payload.now number)) }
+        × (next ≡ number_after_payload payload.now number)) }
     ensures err { OnErr result (dst.new.items ≡ dst.old.items) }
 {
     let room = payload.len() + 4 * (payload.len() / FULL_LENGTH + 1);

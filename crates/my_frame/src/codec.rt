@@ -1,7 +1,7 @@
 //! Payloads as numbered chunks, over a buffer.
 
 ghost use Rattle.std.specs.Prelude.{◌≡◌, ◌<◌, ◌≤◌, ◌+◌, ◌↔◌, ℕ, List, ◌++◌, length, OnOk, OnErr, IfOk, IfSome, IfNone, IsSomeAnd, MatchResult, IsErrOf};
-ghost use Rattle.my_frame.specs.Chunks.{chunks, number_behind};
+ghost use Rattle.my_frame.specs.Chunks.{chunks, number_after_payload};
 ghost use Rattle.my_frame.specs.Faults.{Faulty, HasNoPayload, HasNoFault};
 ghost use Rattle.my_frame.specs.declared.fault.CodecFault.{CodecFault as AnyFault};
 
@@ -105,7 +105,7 @@ impl PacketCodec {
     /// Adds the payload's chunks to `dst`.
     pub fn encode(&mut self, payload: &[u8], dst: &mut BytesMut) -> Result<(), CodecError>
         ensures ok { OnOk result ((dst.new.items ≡ dst.old.items ++ chunks payload.now self.old.number)
-            × (self.new ≡ record self.old { number = number_behind payload.now self.old.number })) }
+            × (self.new ≡ record self.old { number = number_after_payload payload.now self.old.number })) }
         ensures fault { (f : AnyFault) → IsErrOf result (CodecError.Fault f)
             ↔ ((self.old.limit < length payload.now)
             × (f ≡ CodecFault.TooLarge (length payload.now) self.old.limit)) }

@@ -41,7 +41,7 @@ fn gather(alloc: Global, bytes: &[u8]) -> Result<Vec<u8>, AllocError>
 }
 
 /// Copies the payload at the front of the bytes, whose chunks are numbered from `number` on and which has at most `limit` bytes.
-/// `Ok(None)` means that neither it nor a fault stands there yet. Behind its span the next payload may stand.
+/// `Ok(None)` means that neither it nor a fault stands there yet. After its span the next payload may stand.
 pub fn payload_in_front(
     alloc: Global,
     bytes: &[u8],

@@ -2,7 +2,7 @@
 
 ghost use Rattle.std.specs.Prelude.{◌≡◌, ◌+◌, ◌≤◌, ℕ, List, ◌++◌, length};
 ghost use Rattle.my_frame.specs.declared.fault.CodecFault.{CodecFault as AnyFault};
-ghost use Rattle.my_frame.specs.Chunks.{chunks, number_behind};
+ghost use Rattle.my_frame.specs.Chunks.{chunks, number_after_payload};
 ghost use Rattle.my_frame.specs.Faults.{Faulty};
 ghost use Rattle.my_frame.specs.Front.{front_at, Broken, Whole};
 ghost use Rattle.my_frame.specs.FrontLaws.{AreBytes, FrontMeans, FrontGrows};
@@ -15,10 +15,10 @@ pub fn one_reading()
 /// Every payload within the limit is read back from its chunks, whatever follows them.
 pub fn payload_is_found()
     ensures { (p more : List ℕ) (n limit : ℕ) → length p ≤ limit
-        → front_at n limit (chunks p n ++ more) ≡ Whole p more (number_behind p n) }
+        → front_at n limit (chunks p n ++ more) ≡ Whole p more (number_after_payload p n) }
 {}
 
-/// A faulty header is found behind however many good chunks.
+/// A faulty header is found after however many good chunks.
 pub fn fault_is_found()
     ensures { (bytes : List ℕ) (n limit : ℕ) (f : AnyFault) → Faulty bytes n 0 limit f
         → front_at n limit bytes ≡ Broken f }

@@ -1,4 +1,4 @@
-//! Numbers and texts at the front of bytes: each call gives what stands there and the bytes behind it,
+//! Numbers and texts at the front of bytes: each call gives what stands there and the bytes after it,
 //! or `None` where nothing of that form stands there. Numbers have their lowest byte first.
 
 ghost use Rattle.std.specs.Prelude.{◌≡◌, ◌==◌, ◌<◌, ◌↔◌, ◌∷◌, ℕ, List, IfSome, Option, Some, length, position};
@@ -91,7 +91,7 @@ pub fn take_u64(bytes: &[u8]) -> Option<(u64, &[u8])>
     Some((value, rest))
 }
 
-/// A length-encoded number: one byte below 0xFB, or two, three or eight bytes behind 0xFC, 0xFD or 0xFE.
+/// A length-encoded number: one byte below 0xFB, or two, three or eight bytes after 0xFC, 0xFD or 0xFE.
 pub fn take_len(bytes: &[u8]) -> Option<(u64, &[u8])>
     ensures { option_map (λ x. (x.0, x.1.now)) result ≡ len_at bytes.now }
 {
@@ -108,7 +108,7 @@ pub fn take_len(bytes: &[u8]) -> Option<(u64, &[u8])>
     }
 }
 
-/// A text behind its length-encoded length.
+/// A text after its length-encoded length.
 pub fn take_text(bytes: &[u8]) -> Option<(&[u8], &[u8])>
     ensures { option_map (λ x. (x.0.now, x.1.now)) result ≡ text_at bytes.now }
 {
@@ -134,7 +134,7 @@ pub fn take_text0(bytes: &[u8]) -> Option<(&[u8], &[u8])>
     Some((&bytes[..end], &bytes[end + 1..]))
 }
 
-/// The bytes behind this head.
+/// The bytes after this head.
 pub fn take_head(bytes: &[u8], head: u8) -> Option<&[u8]>
     ensures { option_map (λ x. x.now) result ≡ head_at head bytes.now }
 {

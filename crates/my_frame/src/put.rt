@@ -1,7 +1,7 @@
 // Writing a payload's chunks into a buffer that has room for them.
 
 ghost use Rattle.std.specs.Prelude.{◌≡◌, ◌≤◌, ◌+◌, ◌*◌, ◌/◌, ◌++◌, length};
-ghost use Rattle.my_frame.specs.Chunks.{full_length, chunk, chunks, number_behind};
+ghost use Rattle.my_frame.specs.Chunks.{full_length, chunk, chunks, number_after_payload};
 
 use crate::scan::FULL_LENGTH;
 use bytes::BytesMut;
@@ -24,11 +24,11 @@ fn put_chunk(dst: &mut BytesMut, part: &[u8], number: u8)
     dst.extend_reserved(part);
 }
 
-// Adds the payload's chunks, numbered from `number` on, and returns the number behind theirs.
+// Adds the payload's chunks, numbered from `number` on, and returns the number after theirs.
 pub fn put_chunks(dst: &mut BytesMut, payload: &[u8], number: u8) -> u8
     requires { length payload.now + 4 * (length payload.now / full_length + 1) ≤ dst.old.spare }
     ensures items { dst.new.items ≡ dst.old.items ++ chunks payload.now number }
-    ensures number { result ≡ number_behind payload.now number }
+    ensures number { result ≡ number_after_payload payload.now number }
 {
     let mut rest = payload;
     let mut next = number;

@@ -9,7 +9,7 @@ use crate::header::read_header;
 /// How many bytes a full chunk carries. A chunk with fewer is the last of its payload.
 pub const FULL_LENGTH: usize = 0xFF_FFFF;
 
-/// The chunks of one payload: how many bytes they take with their headers, and the number behind theirs.
+/// The chunks of one payload: how many bytes they take with their headers, and the number after theirs.
 #[derive(Clone, Copy, Debug, PartialEq, Eq)]
 pub struct Span {
     pub len: usize,

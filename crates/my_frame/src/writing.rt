@@ -64,7 +64,7 @@ pub fn put_len(out: &mut Vec<u8>, number: u64) -> Result<(), AllocError>
     Ok(())
 }
 
-/// A text behind its length-encoded length.
+/// A text after its length-encoded length.
 #[tactic(auto, unfolding(crate::specs::Writing::text_bytes))]
 pub fn put_text(out: &mut Vec<u8>, text: &[u8]) -> Result<(), AllocError>
     ensures { OnOk result (out.new.items ≡ out.old.items ++ text_bytes text.now) }
@@ -83,7 +83,7 @@ pub fn put_text0(out: &mut Vec<u8>, text: &[u8]) -> Result<(), AllocError>
     Ok(())
 }
 
-/// A text behind one byte with its length.
+/// A text after one byte with its length.
 #[tactic(auto, unfolding(crate::specs::Writing::short_bytes))]
 pub fn put_short(out: &mut Vec<u8>, text: &[u8]) -> Result<(), AllocError>
     requires { length text.now < 256 }

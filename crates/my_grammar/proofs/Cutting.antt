@@ -1,6 +1,6 @@
 -- What was read of an exchange is what the grammar finds in its bytes.
 use Rattle.std.proofs.Common.{◌≡◌, ℕ, suc, zero, ◌≤◌, ◌<◌, List, [], ◌++◌, length, Bool, true, false, cond, refl, sym, ap, ◌∙◌, arith, append_assoc}
-use Rattle.my_frame.specs.Chunks.{chunks, number_behind}
+use Rattle.my_frame.specs.Chunks.{chunks, number_after_payload}
 use Rattle.my_frame.specs.Front.{Front, Waiting, Broken, Whole}
 use Rattle.my_frame.proofs.Fronts.{found}
 use Rattle.my_grammar.specs.declared.spot.Kind.{Kind}
@@ -67,7 +67,7 @@ goes_on t k p e good short fits r =
     record {
       reaches = λ rest.
           let bytes : server_bytes (turns (grow k t p)) ++ rest ≡ server_bytes (turns t) ++ (chunks p n ++ rest) = ap (λ bs. bs ++ rest) (ap server_bytes (gr.turns_are any_login) ∙ (reads (login_in any_login t) k p (turns t)).server) ∙ append_assoc (server_bytes (turns t)) (chunks p n) rest in
-          ap (λ (u : Talk). read_from u (server_bytes (turns (grow k t p)) ++ rest)) gr.origin_is ∙ ap (λ (bs : List ℕ). read_from (origin t) bs) bytes ∙ r.reaches (chunks p n ++ rest) ∙ reads_one t (chunks p n ++ rest) p rest (number_behind p n) k (found p rest n (limit_of t) short) e good;
+          ap (λ (u : Talk). read_from u (server_bytes (turns (grow k t p)) ++ rest)) gr.origin_is ∙ ap (λ (bs : List ℕ). read_from (origin t) bs) bytes ∙ r.reaches (chunks p n ++ rest) ∙ reads_one t (chunks p n ++ rest) p rest (number_after_payload p n) k (found p rest n (limit_of t) short) e good;
     }
 
 -- where nothing may be read, reading gives what there is

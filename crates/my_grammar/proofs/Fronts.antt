@@ -4,7 +4,7 @@ use Rattle.std.proofs.lemmas.Bool.Decides.{nat_tests}
 use Rattle.std.proofs.lemmas.List.{length-drop}
 use Rattle.my_frame.specs.declared.fault.CodecFault.TheVariants.{OutOfOrder, TooLarge}
 use Rattle.my_frame.specs.Chunks.{full_length, next_number}
-use Rattle.my_frame.specs.Front.{Front, Waiting, Broken, Whole, front_at, front_from, front_within, behind_part, body_front, header_front, header_length, header_number}
+use Rattle.my_frame.specs.Front.{Front, Waiting, Broken, Whole, front_at, front_from, front_within, after_part, body_front, header_front, header_length, header_number}
 
 -- A payload in front, where earlier chunks of it carried before bytes.
 pub record Takes (before limit : ℕ) (bytes p rest : List ℕ) : Type 0 where
@@ -17,10 +17,10 @@ FrontTakes before limit bytes Waiting = Unit {0}
 FrontTakes before limit bytes (Broken fault) = Unit {0}
 FrontTakes before limit bytes (Whole p rest next) = Takes before limit bytes p rest
 
-behind : (before limit len : ℕ) (bytes body : List ℕ) (later : Front) → length body < length bytes → len ≤ length body → FrontTakes (before + len) limit (drop len body) later → FrontTakes before limit bytes (behind_part (take len body) later)
-behind before limit len bytes body Waiting more long w = tt
-behind before limit len bytes body (Broken fault) more long w = tt
-behind before limit len bytes body (Whole p rest next) more long w =
+following : (before limit len : ℕ) (bytes body : List ℕ) (later : Front) → length body < length bytes → len ≤ length body → FrontTakes (before + len) limit (drop len body) later → FrontTakes before limit bytes (after_part (take len body) later)
+following before limit len bytes body Waiting more long w = tt
+following before limit len bytes body (Broken fault) more long w = tt
+following before limit len bytes body (Whole p rest next) more long w =
     let a = w.shorter in
     let b = w.within in
     let c = length-drop len body in
@@ -31,25 +31,25 @@ behind before limit len bytes body (Whole p rest next) more long w =
 in_body : (n before limit len : ℕ) (bytes body : List ℕ) (later : Front) → length body < length bytes → before + len ≤ limit → FrontTakes (before + len) limit (drop len body) later → FrontTakes before limit bytes (body_front n len body later)
 in_body n before limit len bytes body later more fits w = by_length (ltb (length body) len) refl
   where
-    by_full : len ≤ length body → (t : Bool) → FrontTakes before limit bytes (cond t (Whole (take len body) (drop len body) (next_number n)) (behind_part (take len body) later))
+    by_full : len ≤ length body → (t : Bool) → FrontTakes before limit bytes (cond t (Whole (take len body) (drop len body) (next_number n)) (after_part (take len body) later))
     by_full long true =
         let c = length-drop len body in
         let e = length-take-le len body long in
         record { shorter = omega arith; within = omega arith }
-    by_full long false = behind before limit len bytes body later more long w
+    by_full long false = following before limit len bytes body later more long w
 
-    by_length : (t : Bool) → ltb (length body) len ≡ t → FrontTakes before limit bytes (cond t Waiting (cond (ltb len full_length) (Whole (take len body) (drop len body) (next_number n)) (behind_part (take len body) later)))
+    by_length : (t : Bool) → ltb (length body) len ≡ t → FrontTakes before limit bytes (cond t Waiting (cond (ltb len full_length) (Whole (take len body) (drop len body) (next_number n)) (after_part (take len body) later)))
     by_length true e = tt
     by_length false e = by_full (grind (arith, nat_tests)) (ltb len full_length)
 
 in_header : (n before limit len number : ℕ) (bytes body : List ℕ) (later : Front) → length body < length bytes → FrontTakes (before + len) limit (drop len body) later → FrontTakes before limit bytes (header_front n before limit len number body later)
-in_header n before limit len number bytes behind_head later more w = by_number (eqb number n)
+in_header n before limit len number bytes after_head later more w = by_number (eqb number n)
   where
-    by_limit : (t : Bool) → ltb limit (before + len) ≡ t → FrontTakes before limit bytes (cond t (Broken (TooLarge (before + len) limit)) (body_front n len behind_head later))
+    by_limit : (t : Bool) → ltb limit (before + len) ≡ t → FrontTakes before limit bytes (cond t (Broken (TooLarge (before + len) limit)) (body_front n len after_head later))
     by_limit true e = tt
-    by_limit false e = in_body n before limit len bytes behind_head later more (grind (arith, nat_tests)) w
+    by_limit false e = in_body n before limit len bytes after_head later more (grind (arith, nat_tests)) w
 
-    by_number : (t : Bool) → FrontTakes before limit bytes (cond t (cond (ltb limit (before + len)) (Broken (TooLarge (before + len) limit)) (body_front n len behind_head later)) (Broken (OutOfOrder n number)))
+    by_number : (t : Bool) → FrontTakes before limit bytes (cond t (cond (ltb limit (before + len)) (Broken (TooLarge (before + len) limit)) (body_front n len after_head later)) (Broken (OutOfOrder n number)))
     by_number true = by_limit (ltb limit (before + len)) refl
     by_number false = tt
 

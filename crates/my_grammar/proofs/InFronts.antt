@@ -9,7 +9,7 @@ use Rattle.my_frame.specs.Framed.{IsFramed}
 use Rattle.my_grammar.specs.Reading.{InFront, NoneInFront}
 use Rattle.my_grammar.proofs.Fronts.{takes_whole}
 
--- the span of a whole payload leads behind it
+-- the span of a whole payload leads after it
 framed_stands : (n limit : ℕ) (bytes p rest : List ℕ) (next : ℕ) → front_at n limit bytes ≡ Whole p rest next → IsWhole n limit bytes p rest next → InFront n limit bytes (record { payload = p; span = record { len = length bytes - length rest; next = next } })
 framed_stands n limit bytes p rest next e w =
     let taken = takes_whole n limit bytes p rest next e in

@@ -1,21 +1,21 @@
 -- Which kinds a payload can have where the reading stands.
 use Rattle.std.proofs.Common.{◌≡◌, ℕ, List, Bool, true, false, cond, leb, ltb, ◌&&◌, Option, Some, None, ◌⊎◌, inl, inr, refl, sym, subst, arith}
 use Rattle.std.proofs.lemmas.Bool.Decides.{nat_tests}
-use Rattle.my_wire.specs.OkPacket.{ok_at, end_ok_at}
-use Rattle.my_wire.specs.ErrPacket.{err_at}
-use Rattle.my_wire.specs.EofPacket.{eof_at}
+use Rattle.my_reply.specs.OkPacket.{ok_at, end_ok_at}
+use Rattle.my_reply.specs.ErrPacket.{err_at}
+use Rattle.my_reply.specs.EofPacket.{eof_at}
 use Rattle.my_frame.specs.Numbers.{len_at}
 use Rattle.my_handshake.specs.Greeting.{greeting_at}
-use Rattle.my_wire.specs.declared.column_count.ColumnCount.{ColumnCount}
-use Rattle.my_wire.specs.ColumnCount.{column_count_at, skipped_at}
-use Rattle.my_wire.specs.Column.{column_at}
+use Rattle.my_reply.specs.declared.column_count.ColumnCount.{ColumnCount}
+use Rattle.my_reply.specs.ColumnCount.{column_count_at, skipped_at}
+use Rattle.my_reply.specs.Column.{column_at}
 use Rattle.my_frame.proofs.NumberLaws.{bind_then, passed}
 use Rattle.my_value.specs.TextRow.{text_row_at}
 use Rattle.my_grammar.specs.declared.spot.Spot.{Spot}
 use Rattle.my_grammar.specs.declared.spot.Spot.TheVariants as spots
 use Rattle.my_grammar.specs.declared.spot.Kind.{Kind}
 use Rattle.my_grammar.specs.declared.spot.Kind.TheVariants.{Greets, Good, Failed, Count, Column, ColumnsDone, Row, End, Bad}
-use Rattle.my_grammar.specs.Contexts.{deprecates_eof, has_more, more, behind_head, spot_after}
+use Rattle.my_grammar.specs.Contexts.{deprecates_eof, has_more, more, after_head, spot_after}
 use Rattle.my_grammar.specs.Kinds.{or_else, is_caching, good_kind, failed_kind, count_kind, greets_kind, described_kind, done_kind, ended_kind, eof_kind, cells_kind, greeting_kind, single_kind, head_kind, column_kind, columns_end_kind, end_kind, row_kind, kind_by}
 use Rattle.my_grammar.specs.FitSets.{is_head}
 
@@ -138,22 +138,22 @@ head_kind_is (spots.Columns left) d n p h = cc
 head_kind_is spots.ColumnsEnd d n p h = cc
 head_kind_is spots.Rows d n p h = cc
 
-pub behind_head_is : (s : Spot) (d : Bool) (k : Kind) → is_head s ≡ true → behind_head k ≡ spot_after d s k
-behind_head_is spots.Idle d k h = cc
-behind_head_is spots.Greeting d k h = cc
-behind_head_is spots.Authentication d k h = cc
-behind_head_is spots.Single d k h = cc
-behind_head_is spots.Head d k h = refl
-behind_head_is spots.Further d k h = refl
-behind_head_is (spots.Columns left) d k h = cc
-behind_head_is spots.ColumnsEnd d k h = cc
-behind_head_is spots.Rows d k h = cc
+pub after_head_is : (s : Spot) (d : Bool) (k : Kind) → is_head s ≡ true → after_head k ≡ spot_after d s k
+after_head_is spots.Idle d k h = cc
+after_head_is spots.Greeting d k h = cc
+after_head_is spots.Authentication d k h = cc
+after_head_is spots.Single d k h = cc
+after_head_is spots.Head d k h = refl
+after_head_is spots.Further d k h = refl
+after_head_is (spots.Columns left) d k h = cc
+after_head_is spots.ColumnsEnd d k h = cc
+after_head_is spots.Rows d k h = cc
 
 more_if : (t : Bool) → (cond t spots.Further spots.Idle ≡ spots.Further) ⊎ (cond t spots.Further spots.Idle ≡ spots.Idle)
 more_if true = inl refl
 more_if false = inr refl
 
--- behind an OK or an end
+-- after an OK or an end
 pub more_cases : (status : ℕ) → (more status ≡ spots.Further) ⊎ (more status ≡ spots.Idle)
 more_cases status = more_if (has_more status)
 

@@ -15,7 +15,7 @@ use Rattle.my_grammar.specs.Kinds.{kind_there}
 use Rattle.my_grammar.specs.Talk.{Talk, Start, Unwelcome, Greeted, Settled, Asked, Replied, Queried, Silent, Fits, Server, turns, number_of, client_bytes, packets_of, context_of, limit_of, login_in}
 use Rattle.my_grammar.specs.declared.spot.Context.{Context}
 use Rattle.my_grammar.specs.Growth.{grow, replies, number_next, said, Grows, Reads}
-use Rattle.my_grammar.specs.Cut.{Read, Behind, Cut, front_of, kind_of, read_from, is_idle, is_over, onto, cut, rest_of, rest_in_front}
+use Rattle.my_grammar.specs.Cut.{Read, Trailing, Cut, front_of, kind_of, read_from, is_idle, is_over, onto, cut, rest_of, rest_in_front}
 use Rattle.my_grammar.specs.CutLaws.{StopsAt}
 use Rattle.my_grammar.specs.Reading.{Hears, HeardOne, HeardNone, StopsHere}
 use Rattle.my_grammar.specs.Progress.{IsAt, IsReadTo, AreAt, IsFound, talk_of, rest_kind, front_rest}
@@ -176,15 +176,15 @@ cut_at_last login openings bytes ps opening left rest after p found w r over ite
     let last : Cut = record { talks = read.talk ∷ []; rest = rest_of read } in
     let reached : cut (map (talk_of login) openings) bytes ≡ onto_all w.done last = w.reached ∙ ap (λ (b : Bool). onto_all w.done (cond b (onto read.talk (go read.rest)) last)) is in
     let front : front_at p.number p.context.terms.limit after ≡ front_of read.talk read.rest = front_is read.talk p after r.at ∙ ap (λ bs. front_of read.talk bs) r.rest_is in
-    let rest_is : rest_kind (rest_of read) ≡ rest_kind (rest_in_front read.rest (front_of read.talk read.rest)) = ap (λ (b : Bool). rest_kind (cond b (Behind read.rest) (rest_in_front read.rest (front_of read.talk read.rest)))) is in
+    let rest_is : rest_kind (rest_of read) ≡ rest_kind (rest_in_front read.rest (front_of read.talk read.rest)) = ap (λ (b : Bool). rest_kind (cond b (Trailing read.rest) (rest_in_front read.rest (front_of read.talk read.rest)))) is in
     found_onto w.done ps last (cut (map (talk_of login) openings) bytes) found reached (subst (λ qs. AreAt (w.done ++ read.talk ∷ []) qs) (sym items) (at_more w.done ps read.talk p w.at r.at)) (stands ∙ ap front_rest front ∙ front_rest_is read.talk read.rest (front_of read.talk read.rest) ∙ sym rest_is)
 
 -- no exchange more
-pub cut_all : (login : Login) (openings : List Opening) (bytes : List ℕ) (rest : List ℕ) (found : Found) → CutSoFar login openings bytes found.exchanges.items [] rest → found.rest ≡ rests.Behind → IsFound (cut (map (talk_of login) openings) bytes) found
-cut_all login openings bytes rest found w behind =
-    found_onto w.done found.exchanges.items (record { talks = []; rest = Behind rest }) (cut (map (talk_of login) openings) bytes) found w.reached (subst (λ us. AreAt us found.exchanges.items) (sym (append-nil w.done)) w.at) behind
+pub cut_all : (login : Login) (openings : List Opening) (bytes : List ℕ) (rest : List ℕ) (found : Found) → CutSoFar login openings bytes found.exchanges.items [] rest → found.rest ≡ rests.Trailing → IsFound (cut (map (talk_of login) openings) bytes) found
+cut_all login openings bytes rest found w following =
+    found_onto w.done found.exchanges.items (record { talks = []; rest = Trailing rest }) (cut (map (talk_of login) openings) bytes) found w.reached (subst (λ us. AreAt us found.exchanges.items) (sym (append-nil w.done)) w.at) following
 
--- the opening at an index, and those behind it
+-- the opening at an index, and those after it
 pub next_opening : (os : List Opening) (i : ℕ) (o : Opening) → i < length os → o ≡ get_or os i o → drop i os ≡ o ∷ drop (i + 1) os
 next_opening os i o within is = drop-cons os i o within ∙ ap (λ x. x ∷ drop (suc i) os) (sym is) ∙ ap (λ k. o ∷ drop k os) (sym (add-one i))
 

@@ -85,7 +85,7 @@ not_empty older count number h =
     let bad : leb 1 0 ≡ true = subst (λ n. leb 1 n ≡ true) zero known in
     cc
 
--- behind the last column: with an EOF to come, or without
+-- after the last column: with an EOF to come, or without
 last_reached : (terms : Terms) (c : List ℕ) (older : Sets) (count : List ℕ) (number : ℕ) (columns : List (List ℕ)) → Stands terms c older → IsHeading older (head_of count number columns None) 0 → AllByRecursion (λ packet. length packet.payload ≤ terms.limit) (packets_in (Headed older (head_of count number columns None))) → Reaches (Queried terms c (cond (deprecates_eof terms.kept) (Begun older (head_of count number columns None) []) (Headed older (head_of count number columns None))))
 last_reached terms c older count number [] w h within = absurd (not_empty older count number h)
 last_reached terms c older count number (p ∷ columns) w h within =
@@ -103,7 +103,7 @@ unclosed : (d : Bool) → IsClose d None → d ≡ true
 unclosed true h = refl
 unclosed false h = absurd h
 
--- An EOF behind the columns: the server doesn't deprecate it.
+-- An EOF after the columns: the server doesn't deprecate it.
 record Closes (d : Bool) (q : List ℕ) : Type 0 where
   plain : d ≡ false
   eof : columns_end_kind q ≡ ColumnsDone
@@ -135,21 +135,21 @@ begun_stands terms c older count number columns close (r ∷ rows) w b within =
       reached = goes_on (Queried terms c (Begun older (head_of count number columns close) rows)) Row r b.filled.0 refl within.0 (queried_fits before) before.reached;
     }
 
--- what is within the limit behind newer payloads
-behind_each : (limit : ℕ) (k : Kind) (ps : List (List ℕ)) (others : List Packet) → AllByRecursion (λ packet. length packet.payload ≤ limit) (each k ps others) → AllByRecursion (λ packet. length packet.payload ≤ limit) others
-behind_each limit k [] others all = all
-behind_each limit k (p ∷ ps) others all = behind_each limit k ps others all.1
+-- what is within the limit after newer payloads
+after_each : (limit : ℕ) (k : Kind) (ps : List (List ℕ)) (others : List Packet) → AllByRecursion (λ packet. length packet.payload ≤ limit) (each k ps others) → AllByRecursion (λ packet. length packet.payload ≤ limit) others
+after_each limit k [] others all = all
+after_each limit k (p ∷ ps) others all = after_each limit k ps others all.1
 
-behind_close : (limit : ℕ) (close : Option (List ℕ)) (others : List Packet) → AllByRecursion (λ packet. length packet.payload ≤ limit) (at_most_one ColumnsDone close others) → AllByRecursion (λ packet. length packet.payload ≤ limit) others
-behind_close limit None others all = all
-behind_close limit (Some p) others all = all.1
+after_close : (limit : ℕ) (close : Option (List ℕ)) (others : List Packet) → AllByRecursion (λ packet. length packet.payload ≤ limit) (at_most_one ColumnsDone close others) → AllByRecursion (λ packet. length packet.payload ≤ limit) others
+after_close limit None others all = all
+after_close limit (Some p) others all = all.1
 
-behind_head : (limit : ℕ) (head : SetHead) (older : Sets) → AllByRecursion (λ packet. length packet.payload ≤ limit) (head_packets head (packets_in older)) → AllByRecursion (λ packet. length packet.payload ≤ limit) (packets_in older)
-behind_head limit head older all =
-    (behind_each limit Column head.columns _ (behind_close limit head.close _ all)).1
+after_head : (limit : ℕ) (head : SetHead) (older : Sets) → AllByRecursion (λ packet. length packet.payload ≤ limit) (head_packets head (packets_in older)) → AllByRecursion (λ packet. length packet.payload ≤ limit) (packets_in older)
+after_head limit head older all =
+    (after_each limit Column head.columns _ (after_close limit head.close _ all)).1
 
-behind_rows : (limit : ℕ) (head : SetHead) (older : Sets) (rows : List (List ℕ)) → AllByRecursion (λ packet. length packet.payload ≤ limit) (packets_in (Begun older head rows)) → AllByRecursion (λ packet. length packet.payload ≤ limit) (packets_in older)
-behind_rows limit head older rows all = behind_head limit head older (behind_each limit Row rows _ all)
+after_rows : (limit : ℕ) (head : SetHead) (older : Sets) (rows : List (List ℕ)) → AllByRecursion (λ packet. length packet.payload ≤ limit) (packets_in (Begun older head rows)) → AllByRecursion (λ packet. length packet.payload ≤ limit) (packets_in older)
+after_rows limit head older rows all = after_head limit head older (after_each limit Row rows _ all)
 
 -- with the close as it is known
 in_heading : (limit : ℕ) (older : Sets) (head : SetHead) → head.close ≡ None → AllByRecursion (λ packet. length packet.payload ≤ limit) (head_packets head (packets_in older)) → AllByRecursion (λ packet. length packet.payload ≤ limit) (head_packets (head_of head.count head.number head.columns None) (packets_in older))
@@ -161,21 +161,21 @@ sets_stand terms c (Lone older p status) f all = lone_stands terms c older p sta
 sets_stand terms c (FailedSet older p) f all = failed_stands terms c older p (sets_stand terms c older f.2 all.1) f.0 f.1 all.0
 sets_stand terms c (Heading older head left) f all =
     let h = f.0 in
-    let w = sets_stand terms c older f.3 (behind_head terms.limit head older all) in
+    let w = sets_stand terms c older f.3 (after_head terms.limit head older all) in
     let x = heading_stands terms c older head.count head.number head.columns left w (record { place = h.place; count = h.count; columns = h.columns; all = h.all }) f.1 (in_heading terms.limit older head f.2 all) in
     subst (λ (close : Option (List ℕ)). Stands terms c (Heading older (head_of head.count head.number head.columns close) left)) (sym f.2) x
 sets_stand terms c (Headed older head) f all =
     let h = f.0 in
-    let w = sets_stand terms c older f.3 (behind_head terms.limit head older all) in
+    let w = sets_stand terms c older f.3 (after_head terms.limit head older all) in
     let x = headed_stands terms c older head.count head.number head.columns w (record { place = h.place; count = h.count; columns = h.columns; all = h.all }) f.1 (in_heading terms.limit older head f.2 all) in
     subst (λ (close : Option (List ℕ)). Stands terms c (Headed older (head_of head.count head.number head.columns close))) (sym f.2) x
 sets_stand terms c (Begun older head rows) f all =
-    begun_stands terms c older head.count head.number head.columns head.close rows (sets_stand terms c older f.1 (behind_rows terms.limit head older rows all)) f.0 all
+    begun_stands terms c older head.count head.number head.columns head.close rows (sets_stand terms c older f.1 (after_rows terms.limit head older rows all)) f.0 all
 sets_stand terms c (Ended older head rows last status) f all =
-    let w = begun_stands terms c older head.count head.number head.columns head.close rows (sets_stand terms c older f.2 (behind_rows terms.limit head older rows all.1)) f.0 all.1 in
+    let w = begun_stands terms c older head.count head.number head.columns head.close rows (sets_stand terms c older f.2 (after_rows terms.limit head older rows all.1)) f.0 all.1 in
     record { fits = f; within = all; reached = goes_on (Queried terms c (Begun older head rows)) (End status) last f.1 refl all.0 (queried_fits w) w.reached }
 sets_stand terms c (Broken older head rows last) f all =
-    let w = begun_stands terms c older head.count head.number head.columns head.close rows (sets_stand terms c older f.2 (behind_rows terms.limit head older rows all.1)) f.0 all.1 in
+    let w = begun_stands terms c older head.count head.number head.columns head.close rows (sets_stand terms c older f.2 (after_rows terms.limit head older rows all.1)) f.0 all.1 in
     record { fits = f; within = all; reached = goes_on (Queried terms c (Begun older head rows)) Failed last f.1 refl all.0 (queried_fits w) w.reached }
 
 start_fits : (login : Login) → Fits (Start login)

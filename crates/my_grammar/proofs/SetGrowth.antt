@@ -11,7 +11,7 @@ use Rattle.my_grammar.specs.Growth.{replies, not_greets}
 use Rattle.my_grammar.specs.Kinds.{head_kind, column_kind, columns_end_kind, row_kind, kind_by}
 use Rattle.my_grammar.specs.Sets.{SetHead, Sets, NoSets, Lone, Failed as FailedSet, Heading, Headed, Begun, Ended, Broken, Packet, each, at_most_one, head_packets, packets_in, spot_in, columns_in, with_column_of, with_error, grow_sets}
 use Rattle.my_grammar.specs.FitSets.{is_head, IsClose, IsHeading, FitSets}
-use Rattle.my_grammar.proofs.Known.{is_head_kind, is_column_kind, is_close_kind, is_row_kind, known_head, known_column, known_close, known_row, is_then, head_kind_is, behind_head_is, more_cases, idle_bad}
+use Rattle.my_grammar.proofs.Known.{is_head_kind, is_column_kind, is_close_kind, is_row_kind, known_head, known_column, known_close, known_row, is_then, head_kind_is, after_head_is, more_cases, idle_bad}
 
 -- The sets y are the sets x with this payload.
 pub record Grown (d : Bool) (x y : Sets) (s : Spot) (n : ℕ) (k : Kind) (p : List ℕ) : Type 0 where
@@ -40,12 +40,12 @@ one n t = grind (arith, nat_tests)
 
 at_head : (d : Bool) (x : Sets) (k : Kind) (p : List ℕ) → is_head (spot_in x) ≡ true → head_kind p ≡ k → is_head_kind k ≡ true → is_bad k ≡ false → FitSets d x → GrowsSets d x k p
 at_head d x (Greets c) p h e i b f = cc
-at_head d x (Good status) p h e i b f = record { grown = record { other = refl; spot = behind_head_is (spot_in x) d (Good status) h; columns = refl; packets_are = refl; fits = (h, e, f) } }
+at_head d x (Good status) p h e i b f = record { grown = record { other = refl; spot = after_head_is (spot_in x) d (Good status) h; columns = refl; packets_are = refl; fits = (h, e, f) } }
 at_head d x Failed p h e i b f =
     let is = error_is x p h in
-    record { grown = record { other = refl; spot = ap spot_in is ∙ behind_head_is (spot_in x) d Failed h; columns = ap columns_in is; packets_are = ap packets_in is; fits = subst (λ y. FitSets d y) (sym is) (h, e, f) } }
+    record { grown = record { other = refl; spot = ap spot_in is ∙ after_head_is (spot_in x) d Failed h; columns = ap columns_in is; packets_are = ap packets_in is; fits = subst (λ y. FitSets d y) (sym is) (h, e, f) } }
 at_head d x (Count n) p h e i b f =
-    record { grown = record { other = refl; spot = behind_head_is (spot_in x) d (Count n) h; columns = refl; packets_are = refl; fits = (record { place = h; count = e; columns = tt; all = add-zero n }, one n i, refl, f) } }
+    record { grown = record { other = refl; spot = after_head_is (spot_in x) d (Count n) h; columns = refl; packets_are = refl; fits = (record { place = h; count = e; columns = tt; all = add-zero n }, one n i, refl, f) } }
 at_head d x Column p h e i b f = cc
 at_head d x ColumnsDone p h e i b f = cc
 at_head d x Row p h e i b f = cc
@@ -58,7 +58,7 @@ heading_more older head left now p w e is =
     let all = w.all in
     record { place = w.place; count = w.count; columns = (e, w.columns); all = omega arith }
 
--- no EOF stands behind it yet
+-- no EOF follows it yet
 column_in_front : (head : SetHead) (p : List ℕ) (others : List Packet) → head.close ≡ None → head_packets (with_column_of head p) others ≡ record { kind = Column; payload = p } ∷ head_packets head others
 column_in_front head p others none =
     let P : Option (List ℕ) → Type 0 = λ c. at_most_one ColumnsDone c (record { kind = Column; payload = p } ∷ each Column head.columns (record { kind = Count head.number; payload = head.count } ∷ others)) ≡ record { kind = Column; payload = p } ∷ at_most_one ColumnsDone c (each Column head.columns (record { kind = Count head.number; payload = head.count } ∷ others)) in
@@ -120,7 +120,7 @@ at_row d older head rows Row p e i b f =
 at_row d older head rows (End status) p e i b f = record { grown = record { other = refl; spot = refl; columns = refl; packets_are = refl; fits = (f.0, e, f.1) } }
 at_row d older head rows Bad p e i b f = cc
 
--- behind a set that another may follow
+-- after a set that another may follow
 at_more : (d : Bool) (x : Sets) (status : ℕ) (k : Kind) (p : List ℕ) → spot_in x ≡ more status → kind_by (spot_in x) d (columns_in x) p ≡ k → is_bad k ≡ false → FitSets d x → GrowsSets d x k p
 at_more d x status k p is e b f =
     elim (more_cases status) [

@@ -13,15 +13,15 @@ use Rattle.my_grammar.specs.Contexts.{is_bad, deprecates_eof}
 use Rattle.my_grammar.specs.Kinds.{kind_by}
 use Rattle.my_grammar.specs.Talk.{Talk, Start, Unwelcome, Greeted, Settled, Asked, Replied, Queried, Silent, Fits, turns, number_of, server_bytes, packets_of, context_of, limit_of, origin, login_in}
 use Rattle.my_grammar.specs.Growth.{grow, Grows}
-use Rattle.my_grammar.specs.Cut.{Read, Behind, Cut, front_of, kind_of, read_payload, read_front, read_within, read_from, rest_in_front, is_idle, is_over, rest_of, onto, cut_behind, cut}
+use Rattle.my_grammar.specs.Cut.{Read, Trailing, Cut, front_of, kind_of, read_payload, read_front, read_within, read_from, rest_in_front, is_idle, is_over, rest_of, onto, cut_after, cut}
 use Rattle.my_grammar.specs.CutLaws.{StopsAt, IsRead, bytes_of, AreOver, IsCut}
 use Rattle.my_grammar.proofs.Fronts.{takes_whole}
 use Rattle.my_grammar.proofs.Growth.{grows, reads, any_login}
 use Rattle.my_grammar.proofs.Reaching.{reaches}
 
--- bytes behind others are bytes
-bytes_behind : (a b bytes : List ℕ) → bytes ≡ a ++ b → AreBytes bytes → AreBytes b
-bytes_behind a b bytes e w = record {
+-- bytes after others are bytes
+bytes_after : (a b bytes : List ℕ) → bytes ≡ a ++ b → AreBytes bytes → AreBytes b
+bytes_after a b bytes e w = record {
   below = λ k.
       let below : get_or bytes (length a + k) 0 < 2 ^ 8 = w.below (length a + k) in
       let le : length a ≤ length a + k = omega arith in
@@ -33,7 +33,7 @@ bytes_behind a b bytes e w = record {
 none_read : (t : Talk) (bytes : List ℕ) → Fits t → StopsAt t (front_of t bytes) → IsRead t bytes (record { talk = t; rest = bytes })
 none_read t bytes fits stops = record { fits = fits; origin_is = refl; spelled = refl; newer = []; packets_are = refl; stops = stops }
 
--- a payload was read, and then what was read behind it
+-- a payload was read, and then what was read after it
 one_read : (t : Talk) (bytes p rest : List ℕ) (next : ℕ) (k : Kind) (r : Read) → AreBytes bytes → front_of t bytes ≡ Whole p rest next → Grows t k p → IsRead (grow k t p) rest r → IsRead t bytes r
 one_read t bytes p rest next k r are e gr w =
     let n = number_of (turns t) in
@@ -64,7 +64,7 @@ is_read (suc f) t bytes few are fits = by_front (λ u rest a b c. is_read f u re
         let taken = takes_whole (number_of (turns t)) (limit_of t) bytes p rest next e in
         let stands = whole_stands (number_of (turns t)) (limit_of t) bytes p rest next are e in
         let gr = grows t (kind_of t p) p refl b stands.within fits in
-        one_read t bytes p rest next (kind_of t p) (read_within f (grow (kind_of t p) t p) rest) are e gr (go (grow (kind_of t p) t p) rest (omega (arith, taken.shorter)) (bytes_behind _ rest bytes stands.spelled are) gr.fits)
+        one_read t bytes p rest next (kind_of t p) (read_within f (grow (kind_of t p) t p) rest) are e gr (go (grow (kind_of t p) t p) rest (omega (arith, taken.shorter)) (bytes_after _ rest bytes stands.spelled are) gr.fits)
 
     by_front : ((u : Talk) (rest : List ℕ) → length rest ≤ f → AreBytes rest → Fits u → IsRead u rest (read_within f u rest)) → (x : Front) → front_of t bytes ≡ x → IsRead t bytes (read_front t bytes x (read_within f))
     by_front go Waiting e = none_read t bytes fits (subst (λ x. StopsAt t x) (sym e) tt)
@@ -109,20 +109,20 @@ bytes_of-front bytes Waiting = refl
 bytes_of-front bytes (Broken fault) = refl
 bytes_of-front bytes (Whole p rest next) = refl
 
-bytes_of-rest : (bytes : List ℕ) (x : Front) (over : Bool) → bytes_of (cond over (Behind bytes) (rest_in_front bytes x)) ≡ bytes
+bytes_of-rest : (bytes : List ℕ) (x : Front) (over : Bool) → bytes_of (cond over (Trailing bytes) (rest_in_front bytes x)) ≡ bytes
 bytes_of-rest bytes x true = refl
 bytes_of-rest bytes x false = bytes_of-front bytes x
 
 -- one exchange more in front
-cut_more : (t : Talk) (ts : List Talk) (bytes : List ℕ) (r : Read) → AreBytes bytes → IsRead (origin t) bytes r → (AreBytes r.rest → IsCut ts r.rest (cut (map origin ts) r.rest)) → IsCut (t ∷ ts) bytes (cut_behind r (cut (map origin ts)))
-cut_more t ts bytes r are w behind = by_over (is_over r.talk) refl
+cut_more : (t : Talk) (ts : List Talk) (bytes : List ℕ) (r : Read) → AreBytes bytes → IsRead (origin t) bytes r → (AreBytes r.rest → IsCut ts r.rest (cut (map origin ts) r.rest)) → IsCut (t ∷ ts) bytes (cut_after r (cut (map origin ts)))
+cut_more t ts bytes r are w following = by_over (is_over r.talk) refl
   where
     spelled : server_bytes (turns r.talk) ++ r.rest ≡ bytes
     spelled = w.spelled ∙ ap (λ bs. bs ++ bytes) (begins t).bytes
 
     by_over : (b : Bool) → is_over r.talk ≡ b → IsCut (t ∷ ts) bytes (cond b (onto r.talk (cut (map origin ts) r.rest)) (let c : Cut = record { talks = r.talk ∷ []; rest = rest_of r } in c))
     by_over true e =
-        let c = behind (bytes_behind _ r.rest bytes (sym spelled) are) in
+        let c = following (bytes_after _ r.rest bytes (sym spelled) are) in
         record {
           fit = (w.fits, c.fit);
           later = c.later;
@@ -142,9 +142,9 @@ pub cut_is_sound : (ts : List Talk) (bytes : List ℕ) → AreBytes bytes → Is
 cut_is_sound [] bytes are = record { fit = tt; later = []; began = refl; over = tt; spelled = refl }
 cut_is_sound (t ∷ ts) bytes are = cut_more t ts bytes (read_from (origin t) bytes) are (sound (origin t) bytes are (origin_fits t)) (λ rest. cut_is_sound ts _ rest)
 
--- an exchange's bytes, and others behind
-pub exchange_is_cut : (t : Talk) (ts : List Talk) (rest : List ℕ) → Fits t → cut (origin t ∷ ts) (server_bytes (turns t) ++ rest) ≡ cut_behind (read_from t rest) (cut ts)
-exchange_is_cut t ts rest fits = ap (λ (r : Read). cut_behind r (cut ts)) ((reaches t fits).reaches rest)
+-- an exchange's bytes, and others after
+pub exchange_is_cut : (t : Talk) (ts : List Talk) (rest : List ℕ) → Fits t → cut (origin t ∷ ts) (server_bytes (turns t) ++ rest) ≡ cut_after (read_from t rest) (cut ts)
+exchange_is_cut t ts rest fits = ap (λ (r : Read). cut_after r (cut ts)) ((reaches t fits).reaches rest)
 
 idle_kind : (s : Spot) (d : Bool) (n : ℕ) (p : List ℕ) → is_idle s ≡ true → kind_by s d n p ≡ Bad
 idle_kind spots.Idle d n p e = refl
@@ -167,11 +167,11 @@ unfolding read_within
 over_within zero t bytes e = refl
 over_within (suc f) t bytes e = stops_over t bytes (front_of t bytes) (read_within f) e
 
--- nothing is read behind an exchange that is over
+-- nothing is read after an exchange that is over
 pub over_reads_none : (t : Talk) (bytes : List ℕ) → is_over t ≡ true → read_from t bytes ≡ record { talk = t; rest = bytes }
 unfolding read_from
 over_reads_none t bytes e = over_within (length bytes) t bytes e
 
 pub over_is_cut : (t : Talk) (ts : List Talk) (rest : List ℕ) → Fits t → is_over t ≡ true → cut (origin t ∷ ts) (server_bytes (turns t) ++ rest) ≡ onto t (cut ts rest)
 over_is_cut t ts rest fits over =
-    exchange_is_cut t ts rest fits ∙ ap (λ (r : Read). cut_behind r (cut ts)) (over_reads_none t rest over) ∙ ap (λ (b : Bool). cond b (onto t (cut ts rest)) (let c : Cut = record { talks = t ∷ []; rest = rest_of (record { talk = t; rest = rest }) } in c)) over
+    exchange_is_cut t ts rest fits ∙ ap (λ (r : Read). cut_after r (cut ts)) (over_reads_none t rest over) ∙ ap (λ (b : Bool). cond b (onto t (cut ts rest)) (let c : Cut = record { talks = t ∷ []; rest = rest_of (record { talk = t; rest = rest }) } in c)) over

@@ -9,7 +9,7 @@ use Rattle.my_grammar.specs.Contexts.{is_bad, deprecates_eof}
 use Rattle.my_grammar.specs.Kinds.{kind_by}
 use Rattle.my_grammar.specs.Talk.{Talk, turns, number_of, context_of, limit_of}
 use Rattle.my_grammar.specs.Growth.{grow}
-use Rattle.my_grammar.specs.Cut.{Read, Rest, Behind, Unfinished, Unfit, Blamed, Cut, front_of, kind_of, read_front, read_within, read_from, rest_in_front, is_idle, is_over, onto, cut_behind, cut}
+use Rattle.my_grammar.specs.Cut.{Read, Rest, Trailing, Unfinished, Unfit, Blamed, Cut, front_of, kind_of, read_front, read_within, read_from, rest_in_front, is_idle, is_over, onto, cut_after, cut}
 use Rattle.my_grammar.specs.CutLaws.{StopsAt, RestStays, RestGoesOn}
 use Rattle.my_grammar.proofs.Fronts.{takes_whole}
 use Rattle.my_grammar.proofs.Cutting.{reads_one, stops_reads_none}
@@ -57,7 +57,7 @@ ends_from : (t : Talk) (bytes : List ℕ) → StopsAt (read_from t bytes).talk (
 unfolding read_from
 ends_from t bytes = ends_within (length bytes) t bytes (omega arith)
 
--- behind an exchange that is over nothing may be read
+-- after an exchange that is over nothing may be read
 idle_bad : (s : Spot) (deprecates : Bool) (columns : ℕ) (p : List ℕ) → is_idle s ≡ true → is_bad (kind_by s deprecates columns p) ≡ true
 idle_bad spots.Idle deprecates columns p e = refl
 idle_bad spots.Greeting deprecates columns p e = cc
@@ -79,25 +79,25 @@ over_more : (t : Talk) (bytes more : List ℕ) → is_over (read_from t bytes).t
 over_more t bytes more e = more_from t bytes more ∙ stops_reads_none (read_from t bytes).talk ((read_from t bytes).rest ++ more) (over_stops (read_from t bytes).talk _ e)
 
 abbrev cut_over : (b : Bool) → Read → (List ℕ → Cut) → Cut
-cut_over b r go = cond b (onto r.talk (go r.rest)) (record { talks = r.talk ∷ []; rest = cond b (Behind r.rest) (rest_in_front r.rest (front_of r.talk r.rest)) })
+cut_over b r go = cond b (onto r.talk (go r.rest)) (record { talks = r.talk ∷ []; rest = cond b (Trailing r.rest) (rest_in_front r.rest (front_of r.talk r.rest)) })
 
 onto_stays : (more : List ℕ) (t : Talk) (ts : List Talk) (x : Rest) (d : Cut) → RestStays more ts x d → RestStays more (t ∷ ts) x (onto t d)
-onto_stays more t ts (Behind bytes) d w = ap (onto t) w
+onto_stays more t ts (Trailing bytes) d w = ap (onto t) w
 onto_stays more t ts (Unfinished bytes) d w = tt
 onto_stays more t ts (Unfit p bytes) d w = ap (onto t) w
 onto_stays more t ts (Blamed fault bytes) d w = ap (onto t) w
 
 -- an exchange that isn't over
-front_stays : (more : List ℕ) (go : List ℕ → Cut) (r : Read) (q : Read) (x : Front) → front_of r.talk r.rest ≡ x → is_over r.talk ≡ false → StopsAt r.talk x → q ≡ read_from r.talk (r.rest ++ more) → RestStays more (r.talk ∷ []) (rest_in_front r.rest x) (cut_behind q go)
+front_stays : (more : List ℕ) (go : List ℕ → Cut) (r : Read) (q : Read) (x : Front) → front_of r.talk r.rest ≡ x → is_over r.talk ≡ false → StopsAt r.talk x → q ≡ read_from r.talk (r.rest ++ more) → RestStays more (r.talk ∷ []) (rest_in_front r.rest x) (cut_after q go)
 front_stays more go r q Waiting e o s is = tt
 front_stays more go r q (Broken fault) e o s is =
     let later : front_of r.talk (r.rest ++ more) ≡ Broken fault = subst (λ (x : Front). FrontGrows more x (front_of r.talk (r.rest ++ more))) e (front_grows (number_of (turns r.talk)) (limit_of r.talk) r.rest more) in
     let same : q ≡ record { talk = r.talk; rest = r.rest ++ more } = is ∙ stops_reads_none r.talk (r.rest ++ more) (subst (StopsAt r.talk) (sym later) tt) in
-    ap (λ (r : Read). cut_behind r go) same ∙ ap (λ (b : Bool). cut_over b (record { talk = r.talk; rest = r.rest ++ more }) go) o ∙ ap (λ (x : Front). record { talks = r.talk ∷ []; rest = rest_in_front (r.rest ++ more) x }) later
+    ap (λ (r : Read). cut_after r go) same ∙ ap (λ (b : Bool). cut_over b (record { talk = r.talk; rest = r.rest ++ more }) go) o ∙ ap (λ (x : Front). record { talks = r.talk ∷ []; rest = rest_in_front (r.rest ++ more) x }) later
 front_stays more go r q (Whole p rest next) e o s is =
     let later : front_of r.talk (r.rest ++ more) ≡ Whole p (rest ++ more) next = subst (λ (x : Front). FrontGrows more x (front_of r.talk (r.rest ++ more))) e (front_grows (number_of (turns r.talk)) (limit_of r.talk) r.rest more) in
     let same : q ≡ record { talk = r.talk; rest = r.rest ++ more } = is ∙ stops_reads_none r.talk (r.rest ++ more) (subst (StopsAt r.talk) (sym later) s) in
-    ap (λ (r : Read). cut_behind r go) same ∙ ap (λ (b : Bool). cut_over b (record { talk = r.talk; rest = r.rest ++ more }) go) o ∙ ap (λ (x : Front). record { talks = r.talk ∷ []; rest = rest_in_front (r.rest ++ more) x }) later
+    ap (λ (r : Read). cut_after r go) same ∙ ap (λ (b : Bool). cut_over b (record { talk = r.talk; rest = r.rest ++ more }) go) o ∙ ap (λ (x : Front). record { talks = r.talk ∷ []; rest = rest_in_front (r.rest ++ more) x }) later
 
 pub cut_stays : (ts : List Talk) (bytes more : List ℕ) → RestStays more (cut ts bytes).talks (cut ts bytes).rest (cut ts (bytes ++ more))
 cut_stays [] bytes more = refl
@@ -107,16 +107,16 @@ cut_stays (t ∷ ts) bytes more = by_over (λ rest. cut_stays ts rest more) (is_
     by_over go true e =
         let r = read_from t bytes in
         let here : cut (t ∷ ts) bytes ≡ onto r.talk (cut ts r.rest) = ap (λ (b : Bool). cut_over b r (cut ts)) e in
-        let later : cut (t ∷ ts) (bytes ++ more) ≡ onto r.talk (cut ts (r.rest ++ more)) = ap (λ (r : Read). cut_behind r (cut ts)) (over_more t bytes more e) ∙ ap (λ (b : Bool). cut_over b (record { talk = r.talk; rest = r.rest ++ more }) (cut ts)) e in
+        let later : cut (t ∷ ts) (bytes ++ more) ≡ onto r.talk (cut ts (r.rest ++ more)) = ap (λ (r : Read). cut_after r (cut ts)) (over_more t bytes more e) ∙ ap (λ (b : Bool). cut_over b (record { talk = r.talk; rest = r.rest ++ more }) (cut ts)) e in
         subst (λ (c : Cut). RestStays more c.talks c.rest (cut (t ∷ ts) (bytes ++ more))) (sym here) (subst (RestStays more (r.talk ∷ (cut ts r.rest).talks) (cut ts r.rest).rest) (sym later) (onto_stays more r.talk (cut ts r.rest).talks (cut ts r.rest).rest (cut ts (r.rest ++ more)) (go r.rest)))
     by_over go false e =
         let r = read_from t bytes in
         let here : cut (t ∷ ts) bytes ≡ record { talks = r.talk ∷ []; rest = rest_in_front r.rest (front_of r.talk r.rest) } = ap (λ (b : Bool). cut_over b r (cut ts)) e in
         subst (λ (c : Cut). RestStays more c.talks c.rest (cut (t ∷ ts) (bytes ++ more))) (sym here) (front_stays more (cut ts) r (read_from t (bytes ++ more)) (front_of r.talk r.rest) refl e (ends_from t bytes) (more_from t bytes more))
 
--- more exchanges behind
+-- more exchanges after
 onto_goes_on : (us : List Talk) (t : Talk) (ts : List Talk) (x : Rest) (d : Cut) → RestGoesOn us ts x d → RestGoesOn us (t ∷ ts) x (onto t d)
-onto_goes_on us t ts (Behind bytes) d w = ap (onto t) w
+onto_goes_on us t ts (Trailing bytes) d w = ap (onto t) w
 onto_goes_on us t ts (Unfinished bytes) d w = ap (onto t) w
 onto_goes_on us t ts (Unfit p bytes) d w = ap (onto t) w
 onto_goes_on us t ts (Blamed fault bytes) d w = ap (onto t) w

@@ -1,4 +1,4 @@
--- Where the reading of an exchange stands behind a payload of a kind. MySQL client/server protocol, "Connection Phase" and
+-- Where the reading of an exchange follows a payload of a kind. MySQL client/server protocol, "Connection Phase" and
 -- "COM_QUERY Response": a greeting, an answer to it and an OK or ERR make a connection; a response is a chain of sets; a set is a lone
 -- OK or ERR, or a count, so many columns, an EOF unless the server deprecates it, rows and an end; an OK or an end whose status has
 -- SERVER_MORE_RESULTS_EXISTS is followed by another set.
@@ -17,46 +17,46 @@ deprecates_eof kept = bit_and kept 0x1000000 == 0x1000000
 abbrev pub has_more : ℕ → Bool
 has_more status = bit_and status 8 == 8
 
--- behind an OK or an end with this status
+-- after an OK or an end with this status
 abbrev pub more : ℕ → Spot
 more status = if has_more status then Further else Idle
 
--- behind the last column
-abbrev pub behind_columns : Bool → Spot
-behind_columns deprecates = if deprecates then Rows else ColumnsEnd
+-- after the last column
+abbrev pub after_columns : Bool → Spot
+after_columns deprecates = if deprecates then Rows else ColumnsEnd
 
--- behind a column, where so many were awaited
-abbrev pub behind_column : Bool → ℕ → Spot
-behind_column deprecates left = if nat_le left 1 then behind_columns deprecates else Columns (left - 1)
+-- after a column, where so many were awaited
+abbrev pub after_column : Bool → ℕ → Spot
+after_column deprecates left = if nat_le left 1 then after_columns deprecates else Columns (left - 1)
 
--- behind what stands in the place of a greeting
-abbrev pub behind_greeting : Kind → Spot
-behind_greeting (Greets capabilities) = Authentication
-behind_greeting k = Idle
+-- after what stands in the place of a greeting
+abbrev pub after_greeting : Kind → Spot
+after_greeting (Greets capabilities) = Authentication
+after_greeting k = Idle
 
--- behind what stands in the place of a set's head
-abbrev pub behind_head : Kind → Spot
-behind_head (Good status) = more status
-behind_head (Count columns) = Columns columns
-behind_head k = Idle
+-- after what stands in the place of a set's head
+abbrev pub after_head : Kind → Spot
+after_head (Good status) = more status
+after_head (Count columns) = Columns columns
+after_head k = Idle
 
--- behind what stands in the place of a row
-abbrev pub behind_row : Kind → Spot
-behind_row Row = Rows
-behind_row (End status) = more status
-behind_row k = Idle
+-- after what stands in the place of a row
+abbrev pub after_row : Kind → Spot
+after_row Row = Rows
+after_row (End status) = more status
+after_row k = Idle
 
--- what is awaited behind a payload of this kind
+-- what is awaited after a payload of this kind
 abbrev pub spot_after : Bool → Spot → Kind → Spot
 spot_after deprecates Idle k = Idle
-spot_after deprecates Greeting k = behind_greeting k
+spot_after deprecates Greeting k = after_greeting k
 spot_after deprecates Authentication k = Idle
 spot_after deprecates Single k = Idle
-spot_after deprecates Head k = behind_head k
-spot_after deprecates Further k = behind_head k
-spot_after deprecates (Columns left) k = behind_column deprecates left
+spot_after deprecates Head k = after_head k
+spot_after deprecates Further k = after_head k
+spot_after deprecates (Columns left) k = after_column deprecates left
 spot_after deprecates ColumnsEnd k = Rows
-spot_after deprecates Rows k = behind_row k
+spot_after deprecates Rows k = after_row k
 
 -- the columns of the set that is being read
 abbrev pub columns_after : ℕ → Kind → ℕ
@@ -75,7 +75,7 @@ abbrev pub kept_after : ℕ → Kind → ℕ
 kept_after kept (Greets capabilities) = bit_and kept capabilities
 kept_after kept k = kept
 
--- the context behind a payload of this kind
+-- the context after a payload of this kind
 abbrev pub context_after : Context → Kind → Context
 context_after c k = record {
   spot = spot_after (deprecates_eof c.terms.kept) c.spot k;

@@ -1,5 +1,5 @@
 -- The exchanges that a server's bytes hold, however they came. MySQL client/server protocol, "MySQL Packets" and "Command Phase": the
--- chunks of the exchanges stand one behind the other, and each exchange numbers them from 0.
+-- chunks of the exchanges stand one after the other, and each exchange numbers them from 0.
 use Rattle.std.specs.Prelude.{ℕ, zero, suc, ◌+◌, List, [], ◌∷◌, length, Bool, true, false, if◌then◌else◌}
 use Rattle.my_frame.specs.declared.fault.CodecFault.{CodecFault}
 use Rattle.my_frame.specs.Front.{Front, Waiting, Broken, Whole, front_at}
@@ -11,7 +11,7 @@ use Rattle.my_grammar.specs.Kinds.{kind_there}
 use Rattle.my_grammar.specs.Talk.{Talk, turns, number_of, context_of, limit_of, packets_of}
 use Rattle.my_grammar.specs.Growth.{grow}
 
--- an exchange as far as the bytes hold it, and the bytes behind
+-- an exchange as far as the bytes hold it, and the bytes after
 pub record Read : Type 0 where
   pub talk : Talk
   pub rest : List ℕ
@@ -24,7 +24,7 @@ front_of t bytes = front_at (number_of (turns t)) (limit_of t) bytes
 abbrev pub kind_of : Talk → List ℕ → Kind
 kind_of t p = kind_there (context_of t) p
 
--- a payload that may stand there is read, and the reading goes on behind it
+-- a payload that may stand there is read, and the reading goes on after it
 abbrev pub read_payload : Talk → List ℕ → List ℕ → List ℕ → Kind → (Talk → List ℕ → Read) → Read
 read_payload t bytes p rest k go = if is_bad k then record { talk = t; rest = bytes } else go (grow k t p) rest
 
@@ -42,10 +42,10 @@ read_within (suc most) t bytes = read_front t bytes (front_of t bytes) (read_wit
 unfoldable pub read_from : Talk → List ℕ → Read
 read_from t bytes = read_within (length bytes) t bytes
 
--- What the reading stopped at: the bytes behind the whole of the last exchange; bytes that hold no whole payload yet; a payload that
+-- What the reading stopped at: the bytes after the whole of the last exchange; bytes that hold no whole payload yet; a payload that
 -- may not stand there, with the bytes from it on; a header with a wrong number or a length above the limit.
 pub data Rest : Type 0 where
-  Behind : (bytes : List ℕ) → Rest
+  Trailing : (bytes : List ℕ) → Rest
   Unfinished : (bytes : List ℕ) → Rest
   Unfit : (payload bytes : List ℕ) → Rest
   Blamed : (fault : CodecFault) (bytes : List ℕ) → Rest
@@ -64,7 +64,7 @@ abbrev pub is_over : Talk → Bool
 is_over t = is_idle (context_of t).spot
 
 abbrev pub rest_of : Read → Rest
-rest_of r = if is_over r.talk then Behind r.rest else rest_in_front r.rest (front_of r.talk r.rest)
+rest_of r = if is_over r.talk then Trailing r.rest else rest_in_front r.rest (front_of r.talk r.rest)
 
 -- the exchanges in order, the last perhaps begun, and what the reading stopped at
 pub record Cut : Type 0 where
@@ -74,14 +74,14 @@ pub record Cut : Type 0 where
 abbrev pub onto : Talk → Cut → Cut
 onto t c = record { talks = t ∷ c.talks; rest = c.rest }
 
--- nothing is read behind an exchange that isn't over
-abbrev pub cut_behind : Read → (List ℕ → Cut) → Cut
-cut_behind r go = if is_over r.talk then onto r.talk (go r.rest) else record { talks = r.talk ∷ []; rest = rest_of r }
+-- nothing is read after an exchange that isn't over
+abbrev pub cut_after : Read → (List ℕ → Cut) → Cut
+cut_after r go = if is_over r.talk then onto r.talk (go r.rest) else record { talks = r.talk ∷ []; rest = rest_of r }
 
 -- the exchanges that began so, in order, as far as the bytes hold them
 abbrev pub cut : List Talk → List ℕ → Cut
-cut [] bytes = record { talks = []; rest = Behind bytes }
-cut (t ∷ ts) bytes = cut_behind (read_from t bytes) (cut ts)
+cut [] bytes = record { talks = []; rest = Trailing bytes }
+cut (t ∷ ts) bytes = cut_after (read_from t bytes) (cut ts)
 
 -- the number of whole payloads that were read before the rest
 abbrev pub place_of : List Talk → ℕ

@@ -5,7 +5,7 @@ use Rattle.my_frame.specs.Front.{Front, Waiting, Broken, Whole}
 use Rattle.my_grammar.specs.Contexts.{is_bad}
 use Rattle.my_grammar.specs.Sets.{Packet}
 use Rattle.my_grammar.specs.Talk.{Talk, Fits, turns, server_bytes, packets_of, origin}
-use Rattle.my_grammar.specs.Cut.{Read, Rest, Behind, Unfinished, Unfit, Blamed, Cut, cut, front_of, kind_of, is_over}
+use Rattle.my_grammar.specs.Cut.{Read, Rest, Trailing, Unfinished, Unfit, Blamed, Cut, cut, front_of, kind_of, is_over}
 
 -- no payload that may stand there stands in front
 abbrev pub StopsAt : Talk → Front → Type 0
@@ -25,12 +25,12 @@ pub record IsRead (t : Talk) (bytes : List ℕ) (r : Read) : Type 0 where
 
 -- the bytes from where the reading stopped
 abbrev pub bytes_of : Rest → List ℕ
-bytes_of (Behind bytes) = bytes
+bytes_of (Trailing bytes) = bytes
 bytes_of (Unfinished bytes) = bytes
 bytes_of (Unfit payload bytes) = bytes
 bytes_of (Blamed fault bytes) = bytes
 
--- the server's bytes of exchanges in order, and others behind
+-- the server's bytes of exchanges in order, and others after
 abbrev pub spell : List Talk → List ℕ → List ℕ
 spell [] others = others
 spell (t ∷ ts) others = server_bytes (turns t) ++ spell ts others
@@ -52,14 +52,14 @@ pub record IsCut (ts : List Talk) (bytes : List ℕ) (c : Cut) : Type 0 where
 
 -- A cut stays when more bytes come, but where it stopped at a payload that isn't whole.
 abbrev pub RestStays : List ℕ → List Talk → Rest → Cut → Type 0
-RestStays more talks (Behind bytes) later = later ≡ record { talks = talks; rest = Behind (bytes ++ more) }
+RestStays more talks (Trailing bytes) later = later ≡ record { talks = talks; rest = Trailing (bytes ++ more) }
 RestStays more talks (Unfinished bytes) later = Unit {0}
 RestStays more talks (Unfit payload bytes) later = later ≡ record { talks = talks; rest = Unfit payload (bytes ++ more) }
 RestStays more talks (Blamed fault bytes) later = later ≡ record { talks = talks; rest = Blamed fault (bytes ++ more) }
 
--- Where more exchanges may follow, they are cut behind the others once these are over.
+-- Where more exchanges may follow, they are cut after the others once these are over.
 abbrev pub RestGoesOn : List Talk → List Talk → Rest → Cut → Type 0
-RestGoesOn us talks (Behind bytes) later = later ≡ record { talks = talks ++ (cut us bytes).talks; rest = (cut us bytes).rest }
+RestGoesOn us talks (Trailing bytes) later = later ≡ record { talks = talks ++ (cut us bytes).talks; rest = (cut us bytes).rest }
 RestGoesOn us talks (Unfinished bytes) later = later ≡ record { talks = talks; rest = Unfinished bytes }
 RestGoesOn us talks (Unfit payload bytes) later = later ≡ record { talks = talks; rest = Unfit payload bytes }
 RestGoesOn us talks (Blamed fault bytes) later = later ≡ record { talks = talks; rest = Blamed fault bytes }

@@ -22,7 +22,7 @@ abbrev pub AreRows : Bool → ℕ → List (List ℕ) → Type 0
 AreRows deprecates columns [] = Unit {0}
 AreRows deprecates columns (p ∷ ps) = (row_kind deprecates columns p ≡ kinds.Row) × AreRows deprecates columns ps
 
--- an EOF stands behind the columns exactly where the server doesn't deprecate it
+-- an EOF follows the columns exactly where the server doesn't deprecate it
 abbrev pub IsClose : Bool → Option (List ℕ) → Type 0
 IsClose true None = Unit {0}
 IsClose true (Some p) = ⊥
@@ -42,7 +42,7 @@ pub record IsBegun (deprecates : Bool) (older : Sets) (head : SetHead) (rows : L
   pub close : IsClose deprecates head.close
   pub filled : AreRows deprecates head.number rows
 
--- Each set is one that may stand behind the older ones.
+-- Each set is one that may follow the older ones.
 abbrev pub FitSets : Bool → Sets → Type 0
 FitSets deprecates NoSets = Unit {0}
 FitSets deprecates (Lone older p status) = (is_head (spot_in older) ≡ true) × (head_kind p ≡ kinds.Good status) × FitSets deprecates older

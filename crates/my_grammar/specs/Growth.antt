@@ -1,6 +1,6 @@
 -- One payload more in an exchange.
 use Rattle.std.specs.Prelude.{◌≡◌, ℕ, List, [], ◌∷◌, ◌++◌, Bool, true, false}
-use Rattle.my_frame.specs.Chunks.{chunks, number_behind}
+use Rattle.my_frame.specs.Chunks.{chunks, number_after_payload}
 use Rattle.my_grammar.specs.declared.login.Login.{Login}
 use Rattle.my_grammar.specs.declared.spot.Kind.{Kind}
 use Rattle.my_grammar.specs.declared.spot.Kind.TheVariants as kinds
@@ -25,7 +25,7 @@ grow k (Replied terms c last kind) p = Replied terms c last kind
 grow k (Queried terms c sets) p = Queried terms c (grow_sets (deprecates_eof terms.kept) k sets p)
 grow k (Silent terms c) p = Silent terms c
 
--- what the client says at once behind a payload of this kind: its response behind the greeting
+-- what the client says at once after a payload of this kind: its response after the greeting
 abbrev pub replies : Login → Kind → List ℕ → List Turn
 replies login (kinds.Greets capabilities) p = Client (response login p) ∷ []
 replies login (kinds.Good status) p = []
@@ -37,26 +37,26 @@ replies login kinds.Row p = []
 replies login (kinds.End status) p = []
 replies login kinds.Bad p = []
 
--- the client says nothing behind another payload than a greeting
+-- the client says nothing after another payload than a greeting
 abbrev pub not_greets : Kind → Bool
 not_greets (kinds.Greets capabilities) = false
 not_greets k = true
 
--- the number behind a payload that has the number n, and behind what the client says to it
+-- the number after a payload that has the number n, and after what the client says to it
 abbrev pub number_next : Login → Kind → List ℕ → ℕ → ℕ
-number_next login (kinds.Greets capabilities) p n = number_behind (response login p) (number_behind p n)
-number_next login (kinds.Good status) p n = number_behind p n
-number_next login kinds.Failed p n = number_behind p n
-number_next login (kinds.Count columns) p n = number_behind p n
-number_next login kinds.Column p n = number_behind p n
-number_next login kinds.ColumnsDone p n = number_behind p n
-number_next login kinds.Row p n = number_behind p n
-number_next login (kinds.End status) p n = number_behind p n
-number_next login kinds.Bad p n = number_behind p n
+number_next login (kinds.Greets capabilities) p n = number_after_payload (response login p) (number_after_payload p n)
+number_next login (kinds.Good status) p n = number_after_payload p n
+number_next login kinds.Failed p n = number_after_payload p n
+number_next login (kinds.Count columns) p n = number_after_payload p n
+number_next login kinds.Column p n = number_after_payload p n
+number_next login kinds.ColumnsDone p n = number_after_payload p n
+number_next login kinds.Row p n = number_after_payload p n
+number_next login (kinds.End status) p n = number_after_payload p n
+number_next login kinds.Bad p n = number_after_payload p n
 
 -- the bytes of what the client says to it
 abbrev pub said : Login → Kind → List ℕ → ℕ → List ℕ
-said login (kinds.Greets capabilities) p n = chunks (response login p) (number_behind p n)
+said login (kinds.Greets capabilities) p n = chunks (response login p) (number_after_payload p n)
 said login (kinds.Good status) p n = []
 said login kinds.Failed p n = []
 said login (kinds.Count columns) p n = []

@@ -2,18 +2,18 @@
 -- Resultset": in each place the forms that may stand there, in the order in which they are tried.
 use Rattle.std.specs.Prelude.{ℕ, List, codes, Option, Some, None, Bool, true, false, if◌then◌else◌}
 use Rattle.std.specs.Str.{bytes_eq}
-use Rattle.my_wire.specs.declared.ok.OkPacket.{OkPacket}
-use Rattle.my_wire.specs.declared.err.ErrPacket.{ErrPacket}
-use Rattle.my_wire.specs.declared.eof.EofPacket.{EofPacket}
-use Rattle.my_wire.specs.OkPacket.{ok_at, end_ok_at}
-use Rattle.my_wire.specs.ErrPacket.{err_at}
-use Rattle.my_wire.specs.EofPacket.{eof_at}
+use Rattle.my_reply.specs.declared.ok.OkPacket.{OkPacket}
+use Rattle.my_reply.specs.declared.err.ErrPacket.{ErrPacket}
+use Rattle.my_reply.specs.declared.eof.EofPacket.{EofPacket}
+use Rattle.my_reply.specs.OkPacket.{ok_at, end_ok_at}
+use Rattle.my_reply.specs.ErrPacket.{err_at}
+use Rattle.my_reply.specs.EofPacket.{eof_at}
 use Rattle.my_handshake.specs.declared.greeting.Greeting.{Greeting}
 use Rattle.my_handshake.specs.Greeting.{greeting_at}
-use Rattle.my_wire.specs.declared.column_count.ColumnCount.{ColumnCount}
-use Rattle.my_wire.specs.ColumnCount.{column_count_at}
-use Rattle.my_wire.specs.declared.column.Column.{Column as ColumnPacket}
-use Rattle.my_wire.specs.Column.{column_at}
+use Rattle.my_reply.specs.declared.column_count.ColumnCount.{ColumnCount}
+use Rattle.my_reply.specs.ColumnCount.{column_count_at}
+use Rattle.my_reply.specs.declared.column.Column.{Column as ColumnPacket}
+use Rattle.my_reply.specs.Column.{column_at}
 use Rattle.my_value.specs.declared.value.Value.{Value}
 use Rattle.my_value.specs.TextRow.{text_row_at}
 use Rattle.my_grammar.specs.declared.spot.Spot.{Spot}
@@ -61,7 +61,7 @@ abbrev pub described_kind : Option ColumnPacket → Kind
 described_kind None = Bad
 described_kind (Some c) = Column
 
--- the EOF behind columns
+-- the EOF after columns
 abbrev pub done_kind : Option EofPacket → Kind
 done_kind None = Bad
 done_kind (Some e) = ColumnsDone
@@ -96,7 +96,7 @@ head_kind p = or_else (good_kind (ok_at p)) (or_else (failed_kind (err_at false 
 abbrev pub column_kind : List ℕ → Kind
 column_kind p = described_kind (column_at p)
 
--- What may stand behind the columns of a server that doesn't deprecate EOF.
+-- What may follow the columns of a server that doesn't deprecate EOF.
 abbrev pub columns_end_kind : List ℕ → Kind
 columns_end_kind p = done_kind (eof_at p)
 

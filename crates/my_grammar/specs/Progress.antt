@@ -10,7 +10,7 @@ use Rattle.my_grammar.specs.declared.plain.CutRest.TheVariants as rests
 use Rattle.my_grammar.specs.declared.plain.Found.{Found}
 use Rattle.my_grammar.specs.Sets.{NoSets}
 use Rattle.my_grammar.specs.Talk.{Talk, Start, Asked, Queried, Silent, turns, number_of, client_bytes, packets_of, context_of}
-use Rattle.my_grammar.specs.Cut.{Read, Rest, Behind, Unfinished, Unfit, Blamed, Cut}
+use Rattle.my_grammar.specs.Cut.{Read, Rest, Trailing, Unfinished, Unfit, Blamed, Cut}
 
 -- the exchange that begins so
 abbrev pub talk_of : Login → Opening → Talk
@@ -35,7 +35,7 @@ AreAt (t ∷ ts) (p ∷ ps) = IsAt t p × AreAt ts ps
 
 -- which rest it is
 abbrev pub rest_kind : Rest → CutRest
-rest_kind (Behind bytes) = rests.Behind
+rest_kind (Trailing bytes) = rests.Trailing
 rest_kind (Unfinished bytes) = rests.Unfinished
 rest_kind (Unfit payload bytes) = rests.Unfit
 rest_kind (Blamed fault bytes) = rests.Blamed fault

@@ -1,7 +1,7 @@
 -- One move of the program that cuts bytes.
 use Rattle.std.specs.Prelude.{◌≡◌, ℕ, ◌<◌, ◌≤◌, List, [], ◌∷◌, ◌++◌, length, drop, true, false}
 use Rattle.my_frame.specs.declared.front.FramedPayload.{FramedPayload}
-use Rattle.my_frame.specs.Chunks.{number_behind}
+use Rattle.my_frame.specs.Chunks.{number_after_payload}
 use Rattle.my_frame.specs.Front.{Front, Waiting, Broken, Whole, front_at}
 use Rattle.my_grammar.specs.declared.spot.Context.{Context}
 use Rattle.my_grammar.specs.Kinds.{kind_there}
@@ -18,11 +18,11 @@ pub record Hears (login : Login) (k : Kind) (p : List ℕ) (old new : Progress) 
   pub packets : new.packets.items ≡ old.packets.items ++ record { kind = k; payload = p } ∷ []
   pub sent : new.sent ≡ old.sent ++ said login k p old.number
 
--- The payload that was found stands in front, and its span leads behind it.
+-- The payload that was found stands in front, and its span leads after it.
 pub record InFront (n limit : ℕ) (bytes : List ℕ) (framed : FramedPayload) : Type 0 where
   pub rest : List ℕ
   pub front : front_at n limit bytes ≡ Whole framed.payload rest framed.span.next
-  pub next : framed.span.next ≡ number_behind framed.payload n
+  pub next : framed.span.next ≡ number_after_payload framed.payload n
   pub rest_is : drop framed.span.len bytes ≡ rest
   pub fits : framed.span.len ≤ length bytes
   pub some : 0 < framed.span.len

@@ -32,6 +32,6 @@ abbrev pub response_by : Login → Option Greeting → List ℕ
 response_by login None = []
 response_by login (Some g) = response_bytes (response_to login g)
 
--- The payload that the client sends behind a greeting.
+-- The payload that the client sends after a greeting.
 unfoldable pub response : Login → List ℕ → List ℕ
 response login p = response_by login (greeting_at p)

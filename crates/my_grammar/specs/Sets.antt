@@ -10,14 +10,14 @@ use Rattle.my_grammar.specs.declared.spot.Terms.{Terms}
 use Rattle.my_grammar.specs.declared.spot.Context.{Context}
 use Rattle.my_grammar.specs.Contexts.{more}
 
--- the head of a set with columns: the count as it stands and its number, the columns so far, and the EOF behind them
+-- the head of a set with columns: the count as it stands and its number, the columns so far, and the EOF after them
 pub record SetHead : Type 0 where
   pub count : List ℕ
   pub number : ℕ
   pub columns : List (List ℕ)
   pub close : Option (List ℕ)
 
--- No set; or behind the older ones a lone OK, an ERR in a head's place, a head of which so many columns are left, a head whose EOF is
+-- No set; or after the older ones a lone OK, an ERR in a head's place, a head of which so many columns are left, a head whose EOF is
 -- left, rows under a whole head, rows with their end, or rows that an ERR broke off.
 pub data Sets : Type 0 where
   NoSets : Sets
@@ -52,7 +52,7 @@ packets_in (Begun older head rows) = each kinds.Row rows (head_packets head (pac
 packets_in (Ended older head rows last status) = record { kind = kinds.End status; payload = last } ∷ each kinds.Row rows (head_packets head (packets_in older))
 packets_in (Broken older head rows last) = record { kind = kinds.Failed; payload = last } ∷ each kinds.Row rows (head_packets head (packets_in older))
 
--- what is awaited behind them
+-- what is awaited after them
 abbrev pub spot_in : Sets → Spot
 spot_in NoSets = spots.Head
 spot_in (Lone older p status) = more status

@@ -3,7 +3,7 @@
 -- sides, from 0 in each exchange.
 use Rattle.std.specs.Prelude.{◌≡◌, ℕ, ◌≤◌, bit_and, List, [], ◌∷◌, ◌++◌, length, false}
 use Rattle.std.specs.List.{AllByRecursion}
-use Rattle.my_frame.specs.Chunks.{chunks, number_behind}
+use Rattle.my_frame.specs.Chunks.{chunks, number_after_payload}
 use Rattle.my_grammar.specs.declared.login.Login.{Login}
 use Rattle.my_grammar.specs.declared.spot.Spot.TheVariants as spots
 use Rattle.my_grammar.specs.declared.spot.Kind.{Kind}
@@ -56,7 +56,7 @@ pub data Turn : Type 0 where
   Client : (p : List ℕ) → Turn
   Server : (p : List ℕ) → Turn
 
--- the server's payloads, behind other turns
+-- the server's payloads, after other turns
 abbrev pub served : List Packet → List Turn → List Turn
 served [] others = others
 served (packet ∷ packets) others = Server packet.payload ∷ served packets others
@@ -75,8 +75,8 @@ turns (Silent terms c) = Client c ∷ []
 -- the number of the next chunk, of either side
 abbrev pub number_of : List Turn → ℕ
 number_of [] = 0
-number_of (Client p ∷ ts) = number_behind p (number_of ts)
-number_of (Server p ∷ ts) = number_behind p (number_of ts)
+number_of (Client p ∷ ts) = number_after_payload p (number_of ts)
+number_of (Server p ∷ ts) = number_after_payload p (number_of ts)
 
 -- the bytes of one side's payloads
 abbrev pub server_bytes : List Turn → List ℕ

@@ -2,16 +2,17 @@
 
 ghost use Rattle.std.specs.Prelude.{◌≡◌, true, false};
 ghost use Rattle.my_grammar.specs.Kinds.{cells_kind, column_kind, columns_end_kind, count_kind, end_kind, failed_kind, good_kind, greeting_kind, greets_kind, head_kind, is_caching, kind_there, offer_kind, or_else, row_kind, single_kind};
-ghost use Rattle.my_wire.specs.ColumnCount.{column_count_at};
-ghost use Rattle.my_wire.specs.ErrPacket.{err_at};
+ghost use Rattle.my_reply.specs.ColumnCount.{column_count_at};
+ghost use Rattle.my_reply.specs.ErrPacket.{err_at};
 ghost use Rattle.my_handshake.specs.Greeting.{greeting_at};
-ghost use Rattle.my_wire.specs.OkPacket.{ok_at};
+ghost use Rattle.my_reply.specs.OkPacket.{ok_at};
 ghost use Rattle.my_value.specs.TextRow.{text_row_at};
 
 use crate::spot::{Context, Kind, Spot, ends_with_ok};
+use my_handshake::greeting_offer;
+use my_reply::glance::{end_ok_status, is_column, is_err, ok_status};
+use my_reply::{read_column_count, read_eof};
 use my_value::is_text_row;
-use my_wire::glance::{end_ok_status, greeting_offer, is_column, is_err, ok_status};
-use my_wire::{read_column_count, read_eof};
 
 // An ERR, or else what the payload was found to be.
 fn failed(payload: &[u8], before_response: bool) -> Kind

@@ -43,7 +43,7 @@ pub fn cutting_is_sound()
 {}
 
 /// However bytes are cut into exchanges, what was read stays when more bytes come, and so does what can't be read; and further
-/// exchanges are cut behind those that are over.
+/// exchanges are cut after those that are over.
 pub fn cutting_stays()
     ensures stays { (ts : List Talk) (bytes more : List ℕ) → RestStays more (cut ts bytes).talks (cut ts bytes).rest (cut ts (bytes ++ more)) }
     ensures goes_on { (ts us : List Talk) (bytes : List ℕ) → RestGoesOn us (cut ts bytes).talks (cut ts bytes).rest (cut (ts ++ us) bytes) }

@@ -6,9 +6,10 @@ ghost use Rattle.my_grammar.specs.Response.{charset_of, response, response_to};
 
 use crate::scramble::native_answer;
 use crate::texts::Texts;
-use my_wire::{
-    Attributes, Blob, ClientPacket, Greeting, HandshakeResponse, NoMemory, ReadError,
-    ServerVersion, read_greeting, server_version, write_client,
+use my_command::{ClientPacket, write_client};
+use my_frame::{Blob, NoMemory, ReadError};
+use my_handshake::{
+    Attributes, Greeting, HandshakeResponse, ServerVersion, read_greeting, server_version,
 };
 use std::alloc::{AllocError, Global};
 
@@ -24,13 +25,13 @@ pub struct Login {
     pub attributes: Attributes,
     /// The bits of what the client can do.
     pub capabilities: u32,
-    /// The longest payload behind the login, in bytes. Where none is set, the server is asked.
+    /// The longest payload after the login, in bytes. Where none is set, the server is asked.
     pub packet_limit: Option<u64>,
     /// After so many seconds without a command the server ends the connection. Where none is set, the server is asked.
     pub wait_timeout: Option<u64>,
     /// Queries that set a connection up when it is made, from the last to the first.
     pub init: Texts,
-    /// Queries that set a connection up when it is made and whenever it is reset, behind the others, from the last to the first.
+    /// Queries that set a connection up when it is made and whenever it is reset, after the others, from the last to the first.
     pub setup: Texts,
 }
 
@@ -87,7 +88,7 @@ fn written(alloc: Global, login: &Login, greeting: &Greeting) -> Result<Blob, No
     Ok(Blob::from(write_client(alloc, &packet)?))
 }
 
-/// The payload that the client sends behind a greeting; an empty one where the payload is none.
+/// The payload that the client sends after a greeting; an empty one where the payload is none.
 #[tactic(auto, unfolding(crate::specs::Response::response))]
 pub fn login_response(alloc: Global, login: &Login, greeting: &[u8]) -> Result<Blob, NoMemory>
     ensures { IfOk result (λ payload. payload ≡ response login.now greeting.now) }

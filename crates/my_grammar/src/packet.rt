@@ -1,7 +1,7 @@
 //! A payload with what it is.
 
 use crate::spot::Kind;
-use my_wire::Blob;
+use my_frame::Blob;
 
 /// A payload of the server, and what it was where it stood.
 #[derive(Debug, Drop)]

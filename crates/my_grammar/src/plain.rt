@@ -8,14 +8,14 @@ ghost use Rattle.my_grammar.specs.Progress.{front_rest, IsFound, IsReadTo, talk_
 use crate::login::Login;
 use crate::progress::{Opening, Progress};
 use crate::spot::Spot;
-use my_wire::{CodecFault, NoMemory, scan_front};
+use my_frame::{CodecFault, NoMemory, scan_front};
 use std::alloc::Global;
 
-/// What stands behind the last payload that was read.
+/// What follows the last payload that was read.
 #[derive(Clone, Copy, Debug, PartialEq, Eq)]
 pub enum CutRest {
-    /// Bytes, perhaps none, behind an exchange that is over.
-    Behind,
+    /// Bytes, perhaps none, after an exchange that is over.
+    Trailing,
     /// No whole payload yet.
     Unfinished,
     /// A payload that may not stand there.
@@ -24,7 +24,7 @@ pub enum CutRest {
     Blamed(CodecFault),
 }
 
-/// The exchanges that bytes hold, and what stands behind them.
+/// The exchanges that bytes hold, and what follows them.
 #[derive(Drop)]
 pub struct Found {
     pub exchanges: Vec<Progress>,
@@ -51,7 +51,7 @@ fn rest_in_front(progress: &Progress, bytes: &[u8]) -> CutRest
     }
 }
 
-// An exchange as far as the bytes hold it, and the bytes behind.
+// An exchange as far as the bytes hold it, and the bytes after.
 fn read_exchange<'a>(
     alloc: Global,
     login: &Login,
@@ -79,7 +79,7 @@ fn add(exchanges: &mut Vec<Progress>, progress: Progress) -> Result<(), NoMemory
     exchanges.push(progress).map_err(|_| NoMemory)
 }
 
-/// The exchanges that began so, in order, as far as the bytes hold them: no more begins behind one
+/// The exchanges that began so, in order, as far as the bytes hold them: no more begins after one
 /// that isn't over. The client logs in by `login`.
 pub fn cut_bytes(
     alloc: Global,
@@ -95,17 +95,17 @@ pub fn cut_bytes(
         let (progress, after) = read_exchange(alloc, login, opening, rest)?;
         rest = after;
         let over = is_idle(progress.context.spot);
-        let behind = rest_in_front(&progress, rest);
+        let following = rest_in_front(&progress, rest);
         add(&mut exchanges, progress)?;
         if !over {
             return Ok(Found {
                 exchanges,
-                rest: behind,
+                rest: following,
             });
         }
     }
     Ok(Found {
         exchanges,
-        rest: CutRest::Behind,
+        rest: CutRest::Trailing,
     })
 }

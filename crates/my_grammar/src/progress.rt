@@ -1,7 +1,7 @@
 //! One exchange as it is read, payload by payload.
 
 ghost use Rattle.std.specs.Prelude.{◌≡◌, [], ◌++◌, OnOk, IfOk, MatchOption};
-ghost use Rattle.my_frame.specs.Chunks.{chunks, number_behind};
+ghost use Rattle.my_frame.specs.Chunks.{chunks, number_after_payload};
 ghost use Rattle.my_grammar.specs.Growth.{number_next, said};
 ghost use Rattle.my_grammar.specs.Progress.{IsAt, talk_of};
 ghost use Rattle.my_grammar.specs.Reading.{HeardNone, HeardOne, Hears, InFront, NoneInFront};
@@ -13,7 +13,7 @@ use crate::login::{Login, login_response};
 use crate::packet::Packet;
 use crate::queue::Queue;
 use crate::spot::{Context, Kind, Spot, Terms};
-use my_wire::{Blob, CodecError, FramedPayload, NoMemory, payload_in_front};
+use my_frame::{Blob, CodecError, FramedPayload, NoMemory, payload_in_front};
 use std::alloc::Global;
 
 /// How an exchange begins: with the server's greeting, or with a command.
@@ -44,7 +44,7 @@ pub struct Progress {
 pub const DEFAULT_LIMIT: u64 = 4_194_304;
 
 fn asked(alloc: Global, spot: Spot, terms: Terms, command: &[u8]) -> Result<Progress, NoMemory>
-    ensures { IfOk result (λ p. (p.context ≡ record { spot = spot; columns = 0; terms = terms }) × (p.number ≡ number_behind command.now 0) × (p.packets.items ≡ []) × (p.sent ≡ [] ++ chunks command.now 0)) }
+    ensures { IfOk result (λ p. (p.context ≡ record { spot = spot; columns = 0; terms = terms }) × (p.number ≡ number_after_payload command.now 0) × (p.packets.items ≡ []) × (p.sent ≡ [] ++ chunks command.now 0)) }
 {
     let mut sent = Queue::new(alloc);
     let number = sent.push_payload(command, 0)?;
@@ -130,7 +130,7 @@ impl Progress {
         payload: &[u8],
         next: u8,
     ) -> Result<(), NoMemory>
-        requires { next ≡ number_behind payload.now self.old.number }
+        requires { next ≡ number_after_payload payload.now self.old.number }
         ensures sent { OnOk result (self.new.sent ≡ self.old.sent ++ said login.now kind payload.now self.old.number) }
         ensures number { OnOk result (self.new.number ≡ number_next login.now kind payload.now self.old.number) }
         ensures others { (self.new.context ≡ self.old.context) × (self.new.packets.items ≡ self.old.packets.items) }
@@ -154,7 +154,7 @@ impl Progress {
         payload: Blob,
         next: u8,
     ) -> Result<(), NoMemory>
-        requires { next ≡ number_behind payload self.old.number }
+        requires { next ≡ number_after_payload payload self.old.number }
         ensures { OnOk result (Hears login.now kind payload self.old self.new) }
     {
         self.say(alloc, login, kind, payload.as_slice(), next)?;

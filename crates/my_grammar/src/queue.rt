@@ -1,10 +1,10 @@
 //! Bytes that come in at the end and go out at the front.
 
 ghost use Rattle.std.specs.Prelude.{◌≡◌, ◌≤◌, ◌==◌, [], ◌++◌, length, drop, OnOk, OnErr, IfOk};
-ghost use Rattle.my_frame.specs.Chunks.{chunks, number_behind};
+ghost use Rattle.my_frame.specs.Chunks.{chunks, number_after_payload};
 
 use bytes::BytesMut;
-use my_wire::{NoMemory, append_payload};
+use my_frame::{NoMemory, append_payload};
 use std::alloc::Global;
 use std::marker::Model;
 
@@ -76,10 +76,10 @@ impl Queue {
     }
 
     /// Puts a payload's chunks in at the end, numbered from `number` on, and answers the number
-    /// behind theirs.
+    /// after theirs.
     pub fn push_payload(&mut self, payload: &[u8], number: u8) -> Result<u8, NoMemory>
         ensures ok { IfOk result (λ next. (self.new ≡ self.old ++ chunks payload.now number)
-            × (next ≡ number_behind payload.now number)) }
+            × (next ≡ number_after_payload payload.now number)) }
         ensures err { OnErr result (self.new ≡ self.old) }
     {
         append_payload(&mut self.bytes, payload, number)

@@ -3,7 +3,7 @@
 ghost use Rattle.std.specs.Prelude.{◌≡◌, ◌≤◌, IfOk, length};
 ghost use Rattle.my_grammar.specs.Scramble.{native_answer, native_scramble, xor_bytes};
 
-use my_wire::Blob;
+use my_frame::Blob;
 use sha1::Sha1;
 use std::alloc::{AllocError, Global};
 

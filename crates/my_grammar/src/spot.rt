@@ -1,12 +1,12 @@
 //! Where the reading of an exchange stands, and how it moves on with each payload.
 
 ghost use Rattle.std.specs.Prelude.{◌≡◌, bit_and};
-ghost use Rattle.my_grammar.specs.Contexts.{behind_column, behind_columns, behind_greeting, behind_head, behind_row, columns_after, context_after, deprecates_eof, has_more, more, spot_after, kept_after};
+ghost use Rattle.my_grammar.specs.Contexts.{after_column, after_columns, after_greeting, after_head, after_row, columns_after, context_after, deprecates_eof, has_more, more, spot_after, kept_after};
 
 /// The capability of a server that ends a set with an OK and tells no end of its columns.
 pub const DEPRECATE_EOF: u32 = 0x100_0000;
 
-/// The status of an OK or a set's end behind which another set follows.
+/// The status of an OK or a set's end after which another set follows.
 pub const MORE_RESULTS: u16 = 8;
 
 /// What the reading awaits.
@@ -26,7 +26,7 @@ pub enum Spot {
     Further,
     /// So many column packets, at least one.
     Columns(u16),
-    /// The EOF behind the columns, which a server sends that doesn't deprecate it.
+    /// The EOF after the columns, which a server sends that doesn't deprecate it.
     ColumnsEnd,
     /// A row, or the set's end.
     Rows,
@@ -45,7 +45,7 @@ pub enum Kind {
     Count(u16),
     /// A column.
     Column,
-    /// The EOF behind the columns.
+    /// The EOF after the columns.
     ColumnsDone,
     /// A row.
     Row,
@@ -73,21 +73,21 @@ pub struct Context {
     pub terms: Terms,
 }
 
-/// Whether sets end with an OK, so that no EOF stands behind the columns.
+/// Whether sets end with an OK, so that no EOF follows the columns.
 pub fn ends_with_ok(kept: u32) -> bool
     ensures { result ≡ deprecates_eof kept }
 {
     kept & DEPRECATE_EOF == DEPRECATE_EOF
 }
 
-/// Whether another set follows behind an OK or a set's end with this status.
+/// Whether another set follows after an OK or a set's end with this status.
 pub fn has_further_set(status: u16) -> bool
     ensures { result ≡ has_more status }
 {
     status & MORE_RESULTS == MORE_RESULTS
 }
 
-fn behind_end(status: u16) -> Spot
+fn after_end(status: u16) -> Spot
     ensures { result ≡ more status }
 {
     if has_further_set(status) {
@@ -98,7 +98,7 @@ fn behind_end(status: u16) -> Spot
 }
 
 fn at_columns_end(ends_with_ok: bool) -> Spot
-    ensures { result ≡ behind_columns ends_with_ok }
+    ensures { result ≡ after_columns ends_with_ok }
 {
     if ends_with_ok {
         Spot::Rows
@@ -108,7 +108,7 @@ fn at_columns_end(ends_with_ok: bool) -> Spot
 }
 
 fn at_column(ends_with_ok: bool, left: u16) -> Spot
-    ensures { result ≡ behind_column ends_with_ok left }
+    ensures { result ≡ after_column ends_with_ok left }
 {
     if left <= 1 {
         at_columns_end(ends_with_ok)
@@ -118,7 +118,7 @@ fn at_column(ends_with_ok: bool, left: u16) -> Spot
 }
 
 fn at_greeting(kind: Kind) -> Spot
-    ensures { result ≡ behind_greeting kind }
+    ensures { result ≡ after_greeting kind }
 {
     match kind {
         Kind::Greets(_) => Spot::Authentication,
@@ -127,26 +127,26 @@ fn at_greeting(kind: Kind) -> Spot
 }
 
 fn at_head(kind: Kind) -> Spot
-    ensures { result ≡ behind_head kind }
+    ensures { result ≡ after_head kind }
 {
     match kind {
-        Kind::Good(status) => behind_end(status),
+        Kind::Good(status) => after_end(status),
         Kind::Count(columns) => Spot::Columns(columns),
         _ => Spot::Idle,
     }
 }
 
 fn at_row(kind: Kind) -> Spot
-    ensures { result ≡ behind_row kind }
+    ensures { result ≡ after_row kind }
 {
     match kind {
         Kind::Row => Spot::Rows,
-        Kind::End(status) => behind_end(status),
+        Kind::End(status) => after_end(status),
         _ => Spot::Idle,
     }
 }
 
-fn spot_behind(ends_with_ok: bool, spot: Spot, kind: Kind) -> Spot
+fn next_spot(ends_with_ok: bool, spot: Spot, kind: Kind) -> Spot
     ensures { result ≡ spot_after ends_with_ok spot kind }
 {
     match spot {
@@ -159,7 +159,7 @@ fn spot_behind(ends_with_ok: bool, spot: Spot, kind: Kind) -> Spot
     }
 }
 
-fn columns_behind(columns: u16, kind: Kind) -> u16
+fn next_columns(columns: u16, kind: Kind) -> u16
     ensures { result ≡ columns_after columns kind }
 {
     match kind {
@@ -169,7 +169,7 @@ fn columns_behind(columns: u16, kind: Kind) -> u16
     }
 }
 
-fn kept_behind(kept: u32, kind: Kind) -> u32
+fn next_kept(kept: u32, kind: Kind) -> u32
     ensures { result ≡ kept_after kept kind }
 {
     match kind {
@@ -179,15 +179,15 @@ fn kept_behind(kept: u32, kind: Kind) -> u32
 }
 
 impl Context {
-    /// Where the reading stands behind a payload of this kind.
+    /// Where the reading follows a payload of this kind.
     pub fn after(self, kind: Kind) -> Context
         ensures { result ≡ context_after self kind }
     {
         Context {
-            spot: spot_behind(ends_with_ok(self.terms.kept), self.spot, kind),
-            columns: columns_behind(self.columns, kind),
+            spot: next_spot(ends_with_ok(self.terms.kept), self.spot, kind),
+            columns: next_columns(self.columns, kind),
             terms: Terms {
-                kept: kept_behind(self.terms.kept, kind),
+                kept: next_kept(self.terms.kept, kind),
                 limit: self.terms.limit,
             },
         }

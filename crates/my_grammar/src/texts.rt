@@ -2,7 +2,7 @@
 
 ghost use Rattle.std.specs.Prelude.{◌≡◌, [], ◌∷◌, ◌++◌, OnOk, OnErr};
 
-use my_wire::{Blob, NoMemory};
+use my_frame::{Blob, NoMemory};
 use std::alloc::Global;
 use std::marker::Model;
 
@@ -42,7 +42,7 @@ impl Texts {
         }
     }
 
-    /// One text more, behind the others.
+    /// One text more, after the others.
     pub fn push(&mut self, text: Blob) -> Result<(), NoMemory>
         ensures ok { OnOk result (self.new ≡ self.old ++ text ∷ []) }
         ensures err { OnErr result (self.new ≡ self.old) }

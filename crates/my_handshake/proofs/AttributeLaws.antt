@@ -48,8 +48,8 @@ none_before_ahead a b (p ∷ ps) h n =
 put_before : (p q : Attribute) (qs : List Attribute) → is_before p.key q.key ≡ true → put_in_order (q ∷ qs) p ≡ p ∷ q ∷ qs
 put_before p q qs h = rw h refl
 
-put_behind : (p q : Attribute) (qs : List Attribute) → is_before p.key q.key ≡ false → put_in_order (q ∷ qs) p ≡ q ∷ put_in_order qs p
-put_behind p q qs h =
+put_after : (p q : Attribute) (qs : List Attribute) → is_before p.key q.key ≡ false → put_in_order (q ∷ qs) p ≡ q ∷ put_in_order qs p
+put_after p q qs h =
     let place = position_or_len (λ x. is_before p.key x.key) qs in
     let e : 1 + place ≡ suc place = omega arith in
     rw (h, e) refl
@@ -59,7 +59,7 @@ none_before_put key p [] h n = (h, tt)
 none_before_put key p (q ∷ qs) h n =
     elim (true_or_false (is_before p.key q.key)) [
       | inl t ↦ rw (put_before p q qs t) (h, n)
-      | inr t ↦ rw (put_behind p q qs t) (n.0, none_before_put key p qs h n.1)
+      | inr t ↦ rw (put_after p q qs t) (n.0, none_before_put key p qs h n.1)
     ]
 
 pub put_keeps_order : (qs : List Attribute) (p : Attribute) → IsInKeyOrder qs → IsInKeyOrder (put_in_order qs p)
@@ -67,5 +67,5 @@ put_keeps_order [] p o = (tt, tt)
 put_keeps_order (q ∷ qs) p o =
     elim (true_or_false (is_before p.key q.key)) [
       | inl t ↦ rw (put_before p q qs t) ((before_not p.key q.key t, none_before_ahead p.key q.key qs t o.0), o)
-      | inr t ↦ rw (put_behind p q qs t) (none_before_put q.key p qs t o.0, put_keeps_order qs p o.1)
+      | inr t ↦ rw (put_after p q qs t) (none_before_put q.key p qs t o.0, put_keeps_order qs p o.1)
     ]

@@ -19,7 +19,7 @@ put_in_order pairs pair = insert pairs (position_or_len (λ p. is_before pair.ke
 abbrev pub pair_bytes : Attribute → List ℕ
 pair_bytes pair = text_bytes pair.key ++ text_bytes pair.value
 
--- how all are written, behind their length
+-- how all are written, after their length
 abbrev pub attributes_bytes : List Attribute → List ℕ
 attributes_bytes pairs = text_bytes (flat_map pair_bytes pairs)
 

@@ -39,7 +39,7 @@ dotted_at bytes = do
   patch ← three_at after_minor
   Some ((major.0, minor.0, patch.0), patch.1)
 
--- MariaDB's numbers, behind which its name stands
+-- MariaDB's numbers, after which its name stands
 abbrev pub mariadb_at : List ℕ → Option (ℕ × ℕ × ℕ)
 mariadb_at bytes = do
   numbers ← dotted_at bytes

@@ -85,7 +85,7 @@ impl Attributes {
         }
     }
 
-    /// Adds a pair, behind those whose keys aren't greater.
+    /// Adds a pair, after those whose keys aren't greater.
     pub fn put(&mut self, key: Blob, value: Blob) -> Result<(), AllocError>
         ensures ok { OnOk result (self.new ≡ put_in_order self.old (record { key = key; value = value })) }
         ensures err { OnErr result (self.new ≡ self.old) }

@@ -78,7 +78,7 @@ fn mariadb_of(bytes: &[u8]) -> Option<(u16, u16, u16)>
     }
 }
 
-// MariaDB's numbers behind the prefix that old clients want.
+// MariaDB's numbers after the prefix that old clients want.
 fn prefixed_of(text: &[u8]) -> Option<(u16, u16, u16)>
     ensures { result ≡ prefixed_at text.now }
 {

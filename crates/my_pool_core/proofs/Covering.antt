@@ -42,7 +42,7 @@ covered-moved s n p counts settled h there busy =
     (omega (arith, ap one busy, count-push is_idle (without (has_number n) s.connections) (placed n p), count-without-le is_idle (has_number n) s.connections))
     (omega (arith, moved-length n p s.connections there))
 
--- a connection is freed, behind requests of which none that was woken before each waiting one is lost
+-- a connection is freed, after requests of which none that was woken before each waiting one is lost
 pub covered-freed : (s : State) (n : ℕ) (qs : List Request) (counts : Counts) → IsCovered s → list_any (has_number n) s.connections ≡ true
     → how_many is_waiting qs ≤ how_many is_waiting s.requests → woken_first s.requests ≤ woken_first qs
     → IsCovered (record s { connections = without (has_number n) s.connections; requests = wake qs; spare = s.spare + 1; counts = counts })
@@ -229,7 +229,7 @@ covered-queued age s r sound h e why =
       | inr nothing ↦ λ open_ some. omega arith
     ])
 
--- where none is usable, none is idle behind the retired ones
+-- where none is usable, none is idle after the retired ones
 none-usable : (now : ℕ) (cs : List Connection) → latest_usable now cs ≡ None → list_any (is_usable now) cs ≡ false
 none-usable now [] e = refl
 none-usable now (c ∷ cs) e =

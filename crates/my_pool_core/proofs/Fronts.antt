@@ -16,9 +16,9 @@ front-wake (r ∷ rs) some =
     elim (is_waiting r) as (λ b. is_waiting r ≡ b → 0 < one b + how_many is_waiting rs → cond b 0 (one (is_woken r) + woken_first rs) + 1 ≤ woken_first (cond b (standing_as Woken r ∷ rs) (r ∷ wake rs))) [
       | true ↦ λ e k. omega arith
       | false ↦ λ e k.
-          let some_behind : 0 < how_many is_waiting rs = omega arith in
+          let some_after : 0 < how_many is_waiting rs = omega arith in
           let after : woken_first (r ∷ wake rs) ≡ one (is_woken r) + woken_first (wake rs) = ap (λ b. cond b 0 (one (is_woken r) + woken_first (wake rs))) e in
-          omega (arith, after, front-wake rs some_behind)
+          omega (arith, after, front-wake rs some_after)
     ] refl some
 
 -- taking one out loses at most itself
@@ -62,7 +62,7 @@ front-change key f (x ∷ rs) r e quiet =
     at-most true w n = omega arith
     at-most false w n = omega arith
 
--- more behind
+-- more after
 pub front-push : (rs qs : List Request) → woken_first rs ≤ woken_first (rs ++ qs)
 front-push [] qs = omega arith
 front-push (r ∷ rs) qs = elim (is_waiting r) as (λ b. cond b 0 (one (is_woken r) + woken_first rs) ≤ cond b 0 (one (is_woken r) + woken_first (rs ++ qs))) [
@@ -82,7 +82,7 @@ none-after age low (r ∷ rs) lt h =
     and-false true b e = e
     and-false false b e = refl
 
--- one that waits behind another changes nothing
+-- one that waits after another changes nothing
 pub front-late : (age low : ℕ) (rs : List Request) → IsRising low rs → waits_up_to age rs ≡ true → woken_first rs ≤ woken_first (set_waiting age rs)
 front-late age low [] h e = absurd (cc)
 front-late age low (r ∷ rs) h e =

@@ -207,7 +207,7 @@ request-next s e = ap (λ b. if b
 pub kept-request : (s t u : State) (old new : ℕ) → IsKept s old → request s ≡ t → u ≡ t → length t.connections + t.spare ≤ new → IsKept u new
 kept-request s t u old new h is same room = subst (λ v. IsKept v new) (sym same) (record { sound = subst IsSound is (sound-request s h.sound); reserved = room })
 
--- what `retire` answers is idle behind it
+-- what `retire` answers is idle after it
 pub retired-may : (now : ℕ) (s : State) (o : Option ℕ) (cs : List Connection) → IsSound s → o ≡ latest_usable now s.connections → cs ≡ retire now s.connections
     → IfSome o (λ n. found_is is_idle (find (has_number n) cs) ≡ true)
 retired-may now s None cs h e same = tt

@@ -50,7 +50,7 @@ found-req t age rs e =
 abbrev pub IsUnheld : Place → Type 0
 IsUnheld p = (is_connecting_place p ≡ false) × (is_checking_place p ≡ false)
 
--- none waits behind a closed pool, whether one is woken or ends
+-- none waits after a closed pool, whether one is woken or ends
 pub none-wakes : (s : State) → IsSound s → s.closed ≡ true → how_many is_waiting (wake s.requests) ≡ 0
 none-wakes s h shut = omega (arith, h.none_waits shut, wake-waiting s.requests)
 

@@ -64,7 +64,7 @@ pub record Parts (old cs : List Connection) (now i : ℕ) (d : Connection) : Typ
   pub now_is : cs ≡ front ++ here ∷ retire now rest
   pub found : get_or cs (i - 1) d ≡ here
   pub removed : remove cs (i - 1) ≡ front ++ retire now rest
-  pub behind : drop i old ≡ rest
+  pub following : drop i old ≡ rest
 
 pub remove-front : {X : Type 0} (p : List X) (y : X) (ys : List X) → remove (p ++ y ∷ ys) (length p) ≡ p ++ ys
 remove-front [] y ys = refl
@@ -92,7 +92,7 @@ parts old cs now i d some within is =
       now_is = now_is;
       found = ap (λ xs. get_or xs j d) now_is ∙ get_or_at front here (retire now rest) d j long;
       removed = ap (λ xs. remove xs j) now_is ∙ ap (λ n. remove (front ++ here ∷ retire now rest) n) (sym long) ∙ remove-front front here (retire now rest);
-      behind = refl;
+      following = refl;
     }
 
 -- what is left at the latest usable one
@@ -102,13 +102,13 @@ retire-ends old cs now i d c some within is none at usable =
     let p = parts old cs now i d some within is in
     let here : p.here ≡ c = sym p.found ∙ at in
     let u : is_usable now p.here ≡ true = ap (is_usable now) here ∙ usable in
-    let quiet : list_any (is_usable now) p.rest ≡ false = ap (list_any (is_usable now)) (sym p.behind) ∙ none in
+    let quiet : list_any (is_usable now) p.rest ≡ false = ap (list_any (is_usable now)) (sym p.following) ∙ none in
     let any : list_any (is_usable now) (p.here ∷ p.rest) ≡ true = ap (λ b. b || list_any (is_usable now) p.rest) u in (
       p.now_is ∙ ap (λ xs. p.front ++ xs) (sym (retire-usable now p.here p.rest u)) ∙ sym (retire-front now p.front (p.here ∷ p.rest) any) ∙ ap (retire now) (sym p.whole),
       ap (latest_usable now) p.whole ∙ latest-front now p.front (p.here ∷ p.rest) any ∙ latest-usable now p.here p.rest u quiet ∙ ap (λ c. Some c.number) here,
     )
 
--- what is left behind an expired one
+-- what is left after an expired one
 pub retire-goes-on : (old cs : List Connection) (now i : ℕ) (d c : Connection) → 0 < i → i ≤ length old → cs ≡ take i old ++ retire now (drop i old) → list_any (is_usable now) (drop i old) ≡ false
     → get_or cs (i - 1) d ≡ c → is_usable now c ≡ false → is_idle c ≡ true
     → (remove cs (i - 1) ++ placed (get_or cs (i - 1) d).number (returned false) ∷ [] ≡ take (i - 1) old ++ retire now (drop (i - 1) old)) × (list_any (is_usable now) (drop (i - 1) old) ≡ false)
@@ -117,7 +117,7 @@ retire-goes-on old cs now i d c some within is none at unusable idle =
     let here : p.here ≡ c = sym p.found ∙ at in
     let u : is_usable now p.here ≡ false = ap (is_usable now) here ∙ unusable in
     let k : is_idle p.here ≡ true = ap is_idle here ∙ idle in
-    let quiet : list_any (is_usable now) p.rest ≡ false = ap (list_any (is_usable now)) (sym p.behind) ∙ none in (
+    let quiet : list_any (is_usable now) p.rest ≡ false = ap (list_any (is_usable now)) (sym p.following) ∙ none in (
       ap (λ xs. xs ++ placed (get_or cs (i - 1) d).number (returned false) ∷ []) p.removed
           ∙ ap (λ c. (p.front ++ retire now p.rest) ++ placed c.number (returned false) ∷ []) p.found
           ∙ append_assoc p.front (retire now p.rest) (placed p.here.number (returned false) ∷ [])

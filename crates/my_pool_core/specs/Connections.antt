@@ -115,7 +115,7 @@ latest_usable now (c ∷ cs) =
     else if is_usable now c then Some c.number
     else None
 
--- whether it is idle and expired, and none behind it is usable
+-- whether it is idle and expired, and none after it is usable
 abbrev pub is_left : ℕ → Connection → List Connection → Bool
 is_left now c cs = is_idle c && not (is_usable now c) && not (list_any (is_usable now) cs)
 

@@ -53,7 +53,7 @@ pub struct Metrics {
     pub discarded_expired_connection: u64,
     /// Returned ones that were reset.
     pub resetting_connection: u64,
-    /// Those that were closed, since enough were idle, or the pool was closed behind their reset.
+    /// Those that were closed, since enough were idle, or the pool was closed after their reset.
     pub discarded_superfluous_connection: u64,
     /// Those that became idle.
     pub connection_returned_to_pool: u64,

@@ -19,7 +19,7 @@ use std::marker::Model;
 #[derive(Debug, Drop)]
 pub(crate) struct Live {
     requests: Vec<Request>,
-    /// The slot of each request in the heap, and behind them the slots that are free.
+    /// The slot of each request in the heap, and after them the slots that are free.
     slots: Vec<usize>,
     /// The ages of those that wait.
     waiting: WaitHeap,
@@ -46,7 +46,7 @@ fn first_from<C: Ledger>(requests: &[Request], age: u64, steps: &mut C) -> usize
     requires { IsRising 0 requests.now }
     ensures within { result ≤ length requests.now }
     ensures before { (k : ℕ) (d : Request) → k < result → (slice_index_or requests.now k d).age < age }
-    ensures behind { (k : ℕ) (d : Request) → result ≤ k → k < length requests.now → age ≤ (slice_index_or requests.now k d).age }
+    ensures following { (k : ℕ) (d : Request) → result ≤ k → k < length requests.now → age ≤ (slice_index_or requests.now k d).age }
     ensures cost { (d : ℕ) → length requests.now < 2 ^ d → C.noted steps.new ≤ C.noted steps.old + d }
 {
     let mut low = 0;

@@ -199,8 +199,8 @@ pub closed_so : {L : Type 0} (look : L → Looks) (login : Login) (n : ℕ) (cal
 closed_so look login n call copy c b d s t e o us same idle shut seen is st kept link why noted session dlink w shown none =
     let here : kept_of b ≡ asking (kept_of c) call None = kept ∙ ap (λ (x : Call). asking (kept_of c) x None) same in
     let rests : Rests login s (kept_of c) = subst (λ (s : Seen). Rests login s (kept_of c)) (sym seen) w.rests in
-    let behind : Rests login t (ended_by (asking (kept_of c) call None) (asked_by (kept_of c) call) (says.Failed connection_closed)) = refuses login s t (kept_of c) call is st rests in
+    let following : Rests login t (ended_by (asking (kept_of c) call None) (asked_by (kept_of c) call) (says.Failed connection_closed)) = refuses login s t (kept_of c) call is st rests in
     let end : kept_of d ≡ ended_by (asking (kept_of c) call None) (asked_by (kept_of c) call) (says.Failed connection_closed) = noted (asked_by (kept_of c) call) (ap (λ (k : Kept). k.pending) here) ∙ ap (λ (k : Kept). ended_by k (asked_by (kept_of c) call) (says.Failed e)) here ∙ ap (λ (x : Error). ended_by (asking (kept_of c) call None) (asked_by (kept_of c) call) (says.Failed x)) why in
     closed_did look login n call c d o us idle (ap (λ (s : Seen). is_refused s.closed (kind_of call)) (sym seen) ∙ shut) w
-    (subst (λ (s : Seen). Rests login s (ended_by (asking (kept_of c) call None) (asked_by (kept_of c) call) (says.Failed connection_closed))) (sym session) behind)
+    (subst (λ (s : Seen). Rests login s (ended_by (asking (kept_of c) call None) (asked_by (kept_of c) call) (says.Failed connection_closed))) (sym session) following)
     (session ∙ is ∙ seen) end (dlink ∙ link) (shown ∙ ap Failed why) none

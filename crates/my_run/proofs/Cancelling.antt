@@ -1,7 +1,7 @@
 -- How an open call is cancelled, and what tells without a call.
 use Rattle.std.proofs.Common.{◌≡◌, ◌⊎◌, inl, inr, ℕ, List, [], ◌&&◌, not, Bool, true, false, cond, Option, Some, refl, sym, ap, ◌∙◌, subst}
 use Rattle.my_grammar.specs.declared.login.Login.{Login}
-use Rattle.my_wire.specs.declared.ok.OkPacket.{OkPacket}
+use Rattle.my_reply.specs.declared.ok.OkPacket.{OkPacket}
 use Rattle.my_session.specs.declared.call.Task.{Task}
 use Rattle.my_session.specs.declared.call.Task.TheVariants.{Nothing}
 use Rattle.my_session.specs.Calls.{kind_of, fault_in, is_open, is_connect}

@@ -107,9 +107,9 @@ played_push : {L : Type 0} (look : L → Looks) (plans : Plans) (all : List Use)
 played_push look plans all planned i n [] s e w v = let same : n ≡ i = omega (arith, e) in (subst (λ (j : ℕ). IsPlayed look plans j all (planned j) s) same v, tt)
 played_push look plans all planned i n (x ∷ ss) s e w v = (w.0, played_push look plans all planned (suc i) n ss s (omega (arith, e)) w.1 v)
 
-behind_played : {L : Type 0} (look : L → Looks) (plans : Plans) (us all : List Use) (before planned : ℕ → ℕ) (i n : ℕ) (ss : List (Slot L)) → n ≡ i + length ss → ((m : ℕ) → m ≢ n → IsSilent m us × (planned m ≡ before m)) → ArePlayed look plans all before i ss → ArePlayed look plans (us ++ all) planned i ss
-behind_played look plans us all before planned i n [] e q w = tt
-behind_played look plans us all before planned i n (s ∷ ss) e q w = (played_elsewhere look plans i us all (before i) (planned i) s (q i (λ z. absurd (omega (arith, e, z)))) w.0, behind_played look plans us all before planned (suc i) n ss (omega (arith, e)) q w.1)
+after_played : {L : Type 0} (look : L → Looks) (plans : Plans) (us all : List Use) (before planned : ℕ → ℕ) (i n : ℕ) (ss : List (Slot L)) → n ≡ i + length ss → ((m : ℕ) → m ≢ n → IsSilent m us × (planned m ≡ before m)) → ArePlayed look plans all before i ss → ArePlayed look plans (us ++ all) planned i ss
+after_played look plans us all before planned i n [] e q w = tt
+after_played look plans us all before planned i n (s ∷ ss) e q w = (played_elsewhere look plans i us all (before i) (planned i) s (q i (λ z. absurd (omega (arith, e, z)))) w.0, after_played look plans us all before planned (suc i) n ss (omega (arith, e)) q w.1)
 
 handle_pushed : {L : Type 0} (ss : List (Slot L)) (s : Slot L) → at_number (map handle_of (ss ++ s ∷ [])) (length ss) ≡ handle_of s
 handle_pushed [] s = refl
@@ -127,7 +127,7 @@ stepped_new {L} look login plans n o us ss ts s e is st q p d all_st =
           let planned : ℕ → ℕ = put_count n v.planned before in
           record {
             planned = planned;
-            played = subst (ArePlayed look plans (us ++ all) planned 0) (sym e) (played_push look plans (us ++ all) planned 0 n ss s (omega (arith, is)) (behind_played look plans us all before planned 0 n ss (omega (arith, is)) (λ m ne. (q m ne, put_there n m v.planned before ne)) w) (subst (λ (i : ℕ). IsPlayed look plans n (us ++ all) i s) (sym (put_here n v.planned before)) v.played));
+            played = subst (ArePlayed look plans (us ++ all) planned 0) (sym e) (played_push look plans (us ++ all) planned 0 n ss s (omega (arith, is)) (after_played look plans us all before planned 0 n ss (omega (arith, is)) (λ m ne. (q m ne, put_there n m v.planned before ne)) w) (subst (λ (i : ℕ). IsPlayed look plans n (us ++ all) i s) (sym (put_here n v.planned before)) v.played));
             held = held_put login plans n (map handle_of ts) us before v.planned q (subst (λ (h : Handle). HeldBy login (plans.reads n) h (holds_for n us) (before n) v.planned) (sym last) (subst (λ (i : ℕ). HeldBy login (plans.reads n) (handle_of s) (holds_for n us) i v.planned) (sym past.1) v.held));
             past = λ m h. put_there n m v.planned before (λ z. absurd (omega (arith, z, h, is, counted))) ∙ (none m (omega (arith, h, counted))).1;
           };
@@ -136,7 +136,7 @@ stepped_new {L} look login plans n o us ss ts s e is st q p d all_st =
       grows = record { made = handle_of s; dials = subst (λ (i : ℕ). Dials login i o us (handle_of s)) (is ∙ sym (length-map ss handle_of)) d; others = ap (map handle_of) e ∙ map-append handle_of ss (s ∷ []) };
     }
 
--- a dial's own use meets nothing of a link, and the poll's behind it is the link's
+-- a dial's own use meets nothing of a link, and the poll's after it is the link's
 pub dialed_spent : {L : Type 0} (look : L → Looks) (login : Login) (plans : Plans) (n : ℕ) (s : Slot L) (u : Use) (us all : List Use) (before : ℕ) → us ≡ quiet n ∷ u ∷ [] → u.number ≡ n → SlotPlays look login plans n (u ∷ []) all before s → SlotPlays look login plans n us all before s
 dialed_spent look login plans n s u us all before e f w =
     let none : holds_for n (quiet n ∷ []) ≡ 0 = grind (arith, nat_tests) in

@@ -5,7 +5,7 @@ use Rattle.std.proofs.lemmas.Grind.{common_steps}
 use Rattle.std.specs.List.{slice_split}
 use Rattle.my_run.specs.Cut.{first_of, rest_of, pieces_left}
 
--- the first piece and the pieces behind it
+-- the first piece and the pieces after it
 pub pieces_cut : (mark : ℕ) (bs : List ℕ) → slice_split (λ b. b == mark) bs ≡ first_of mark bs ∷ pieces_left mark (rest_of mark bs)
 pieces_cut mark [] = refl
 pieces_cut mark (b ∷ bs) = by_test (b == mark) refl (pieces_cut mark bs)

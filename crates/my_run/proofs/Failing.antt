@@ -147,7 +147,7 @@ fails_ok (Err e) error s t k p is f = tt
 same_kept : (k g : Kept) → g.sent ≡ k.sent → g.taken ≡ k.taken → g.calls ≡ k.calls → g.pending ≡ k.pending → g ≡ k
 same_kept k g s t c p = ap (λ (x : List ℕ). record { sent = x; taken = g.taken; calls = g.calls; pending = g.pending }) s ∙ ap (λ (x : List ℕ). record { sent = k.sent; taken = x; calls = g.calls; pending = g.pending }) t ∙ ap (λ (x : List DoneCall). record { sent = k.sent; taken = k.taken; calls = x; pending = g.pending }) c ∙ ap (λ (x : Option Asked). record { sent = k.sent; taken = k.taken; calls = k.calls; pending = x }) p
 
--- the fault of a link, behind which what was kept is the same
+-- the fault of a link, after which what was kept is the same
 pub broke_so : (login : Login) (s r t : Seen) (k g : Kept) (a : Asked) (e : Error) → e ≢ errors.NoMemory → is_open s.task ≡ true → r ≡ with_failing s faults.Link → ((h : History) → Stands s h → Stands r h) → ((login : Login) (a : Asked) → IsHeard login r k → k.pending ≡ Some a → FailsNow login r t k a e) → g.sent ≡ k.sent → g.taken ≡ k.taken → g.calls ≡ k.calls → g.pending ≡ k.pending → IsHeld login s k a → HasFailed login t g a e 1 0
 broke_so login s r t k g a e ne op is st fails s1 t1 c1 p1 w =
     subst (λ (x : Kept). HasFailed login t x a e 1 0) (sym (same_kept k g s1 t1 c1 p1))

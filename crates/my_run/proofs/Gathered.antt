@@ -39,7 +39,7 @@ use Rattle.my_run.specs.Rests.{Rests, IsAsked}
 use Rattle.my_run.specs.Slot.{kept_of}
 use Rattle.my_run.specs.Sums.{holds_for, IsSilent}
 use Rattle.my_run.proofs.Beginning.{begins, refuses, closed_did, closed_kept, is_idle}
-use Rattle.my_run.proofs.Playing.{plays_on, plays_end, holds_behind, there_plays}
+use Rattle.my_run.proofs.Playing.{plays_on, plays_end, holds_after, there_plays}
 
 -- nothing was gathered yet
 pub none_gathered : {L : Type 0} (look : L → Looks) (login : Login) (n : ℕ) (a : Asked) (c : Conn L) (us : List Use) → us ≡ [] → IsAsked login c.session.seen (kept_of c) a → GatherSoFar look login n a c c us
@@ -64,7 +64,7 @@ answered_quiet login a k end u after.Pending answer e w = cc
 answered_quiet login a k end u (after.Answered other) answer e w = w.3.holds
 answered_quiet login a k end u (after.Failed x) answer e w = w.3
 
--- behind a row the next is asked for
+-- after a row the next is asked for
 pub next_row : {L : Type 0} (e f : Conn L) (rows : Option (List RowParts)) (p : After) → GoesNext e f rows p → (row : RowParts) × (p ≡ after.Answered (answers.Row row)) × AsksNext e f (unwrap_or rows [] ++ row ∷ [])
 next_row e f rows after.Pending g = absurd g
 next_row e f rows (after.Answered answers.Ready) g = absurd g
@@ -91,14 +91,14 @@ module _ {L : Type 0} (look : L → Looks) (login : Login) (n : ℕ) (a : Asked)
       let rows_are : rows ≡ so.now.rows = subst (λ (x : After). RowsOf so.now x rows) next.1 r in
       let all : unwrap_or rows [] ++ row ∷ [] ≡ gathered so.now ++ row ∷ [] = ap (λ (x : Option (List RowParts)). unwrap_or x [] ++ row ∷ []) rows_are in
       let kept : kept_of f ≡ asking (kept_of e) NextRow (Some (gathered so.now ++ row ∷ [])) = asks.kept ∙ ap (λ xs. asking (kept_of e) NextRow (Some xs)) all in
-      let quiet : p.used.holds ≡ 0 = answered_quiet login so.now w.polled.behind (kept_of e) p.used p.after (answers.Row row) next.1 w.polled.ends in
+      let quiet : p.used.holds ≡ 0 = answered_quiet login so.now w.polled.following (kept_of e) p.used p.after (answers.Row row) next.1 w.polled.ends in
       let now : Asked = record { call = NextRow; sent_from = length (kept_of e).sent; rows = Some (gathered so.now ++ row ∷ []) } in
       record {
         now = now;
         asked = subst (λ (k : Kept). IsAsked login f.session.seen k now) (sym kept) (begins login e.session.seen f.session.seen (kept_of e) NextRow (Some (gathered so.now ++ row ∷ [])) asks.seen asks.stands w.rests);
         onto = λ vs o t h. onto_more vs o t (subst (λ (x : After). GathersOn (Gathers login n vs) so.now x (kept_of e) o vs t) (sym next.1) (subst (λ (k : Kept). Gathers login n vs now k o t) kept h));
         spent = λ plans xs before s. subst (λ l. LinkSpent plans n (look l) f.taken.items (more ++ xs) before) (sym asks.link) (subst (λ (bytes : List ℕ). LinkSpent plans n (look e.link) bytes (more ++ xs) before) (sym (ap (λ (k : Kept). k.taken) kept)) (plays_on login n so.now e.session.seen (look d.link) (look e.link) (kept_of d) (kept_of e) p us more plans xs before is w (so.spent plans xs before s) quiet));
-        no_hold = holds_behind n us more p.used is w.polled.of_call.number so.no_hold ∙ quiet;
+        no_hold = holds_after n us more p.used is w.polled.of_call.number so.no_hold ∙ quiet;
         silent = silent_more;
       }
 
@@ -151,12 +151,12 @@ collect_closed {L} look login n c b d s t e o us idle shut seen is st kept link 
     let k = kept_of c in
     let a : Asked = record { call = NextRow; sent_from = length k.sent; rows = Some [] } in
     let rests : Rests login s k = subst (λ (s : Seen). Rests login s k) (sym seen) w.rests in
-    let behind : Rests login t (ended_by (asking k NextRow None) (asked_by k NextRow) (says.Failed connection_closed)) = refuses login s t k NextRow is st rests in
+    let following : Rests login t (ended_by (asking k NextRow None) (asked_by k NextRow) (says.Failed connection_closed)) = refuses login s t k NextRow is st rests in
     let end : kept_of d ≡ ended_by (asking k NextRow None) (asked_by k NextRow) (says.Failed connection_closed) = noted a (ap (λ (x : Kept). x.pending) kept) ∙ ap (λ (x : Kept). ended_by x a (says.Failed e)) kept ∙ ap (λ (x : Error). ended_by (asking k NextRow (Some [])) a (says.Failed x)) why in
     let pending : k.pending ≡ None = is_idle login c.session.seen k idle w.rests.heard in
     let closed : has_closed (made_of k.calls) ≡ true = sym (closed_kept login c.session.seen k w.rests.heard) ∙ sym (ap (λ (s : Seen). s.closed) seen) ∙ closed_true s.closed shut in
     let base = closed_did look login n NextRow c d o us idle (ap (λ (s : Seen). is_refused s.closed (kind_of NextRow)) (sym seen) ∙ shut) w
-    (subst (λ (s : Seen). Rests login s (ended_by (asking k NextRow None) (asked_by k NextRow) (says.Failed connection_closed))) (sym session) behind) (session ∙ is ∙ seen) end (dlink ∙ link) (shown ∙ ap Failed why) none in
+    (subst (λ (s : Seen). Rests login s (ended_by (asking k NextRow None) (asked_by k NextRow) (says.Failed connection_closed))) (sym session) following) (session ∙ is ∙ seen) end (dlink ∙ link) (shown ∙ ap Failed why) none in
     let swap : Calls login n NextRow (Joined true k) o us (Joined true (kept_of d)) → CollectsAt login n (Joined true k) o us (Joined true (kept_of d)) =
     subst (λ (q : Option Asked). BeginsOn q login n NextRow k o us (Joined true (kept_of d)) → CollectsOn q login n k o us (Joined true (kept_of d))) (sym pending)
     (subst (λ (x : Bool). Begins (is_refused x (kind_of NextRow)) login n NextRow k o us (Joined true (kept_of d)) → Collects x login n k o us (Joined true (kept_of d))) (sym closed) (λ x. x)) in
@@ -166,11 +166,11 @@ task_open : (b : Bool) (k : CallKind) → is_open (if b then Leaving else Begun 
 task_open true k = refl
 task_open false k = refl
 
--- behind a row a call is open
+-- after a row a call is open
 pub goes_on_open : {L : Type 0} (e f : Conn L) (rows : Option (List RowParts)) (p : After) → Goes e f rows p On → is_open f.session.seen.task ≡ true
 goes_on_open e f rows p g = let asks = (next_row e f rows p g).2 in ap (λ (s : Seen). is_open s.task) asks.seen ∙ task_open e.session.seen.closed (kind_of NextRow)
 
--- the steps of the loop, by what stands behind each poll
+-- the steps of the loop, by what follows each poll
 pub gather_next : {L : Type 0} (look : L → Looks) (login : Login) (n : ℕ) (a : Asked) (c d e f : Conn L) (us more : List Use) (p : Polled) (rows : Option (List RowParts)) → GatherSoFar look login n a c d us → ((login : Login) (a : Asked) → IsAsked login d.session.seen (kept_of d) a → Drives login n a e.session.seen (look d.link) (look e.link) (kept_of d) (kept_of e) p) → ((a : Asked) → (kept_of d).pending ≡ Some a → RowsOf a p.after rows) → more ≡ us ++ p.used ∷ [] → Goes e f rows p.after On → GatherSoFar look login n a c f more
 gather_next look login n a c d e f us more p rows so w r is g = gather_on look login n a c d e f us more p rows so (w login so.now so.asked) (r so.now so.asked.asked) is g
 

@@ -79,7 +79,7 @@ poll_joined login a k b end u (after.Answered answer) e w r = subst WasJoined (s
 poll_joined login a k b end u (after.Failed x) e w r = subst WasJoined (sym r.0) (ended_joined b a _ (same_joined k b e w))
 
 pub polled_joined : (login : Login) (n : ℕ) (a : Asked) (k end : Kept) (u : Use) (p : After) → WasJoined k → IsPolled login n a k u p end → WasJoined end
-polled_joined login n a k end u p w r = poll_joined login a k r.behind end u p r.calls w r.ends
+polled_joined login n a k end u p w r = poll_joined login a k r.following end u p r.calls w r.ends
 
 -- rows are gathered only on an open session
 abbrev GathersOpen : Asked → Kept → Type 0
@@ -96,7 +96,7 @@ left_open login a k b end u (after.Answered answer) e f w g r = rested_joined en
 left_open login a k b end u (after.Failed x) e f w g r = rested_joined end (ap (λ (k : Kept). k.pending) r.0) (subst WasJoined (sym r.0) (ended_joined b a _ (same_joined k b e w)))
 
 once_joined : (login : Login) (n : ℕ) (a : Asked) (k : Kept) (o : Outcome) (us : List Use) (t : Handle) → WasJoined k → GathersOpen a k → PolledOnce login n a k o us t → IsJoined t
-once_joined login n a k o us t w g r = subst IsJoined (sym r.left) (left_open login a k r.polled.behind r.end r.used r.after r.polled.calls r.polled.pending w g r.polled.ends)
+once_joined login n a k o us t w g r = subst IsJoined (sym r.left) (left_open login a k r.polled.following r.end r.used r.after r.polled.calls r.polled.pending w g r.polled.ends)
 
 -- a poll of the handshake
 no_connect : (b : Bool) → b ≡ true → b ≡ false → ⊥
@@ -113,7 +113,7 @@ shown_joined login n a k b end u o t (after.Answered answer) c calls e g r s =
 shown_joined login n a k b end u o t (after.Failed x) c calls e g r s = subst IsJoined (sym s.1) tt
 
 connects_joined : (login : Login) (n : ℕ) (a : Asked) (k : Kept) (o : Outcome) (u : Use) (t : Handle) → is_connect (kind_of a.call) ≡ true → GathersOpen a k → Connects login n a k o u t → IsJoined t
-connects_joined login n a k o u t c g r = shown_joined login n a k r.polled.behind r.end u o t r.after c r.polled.calls r.polled.pending g r.polled.ends r.shows
+connects_joined login n a k o u t c g r = shown_joined login n a k r.polled.following r.end u o t r.after c r.polled.calls r.polled.pending g r.polled.ends r.shows
 
 none_gathers : (k : Kept) (call : Call) (m : Kept) → GathersOpen (asked_by k call) m
 none_gathers k call m e = cc
@@ -123,7 +123,7 @@ dials_joined login n o us t (Holds e f g) = subst IsJoined (sym g) tt
 dials_joined login n o us t (Fails e f g) = subst IsJoined (sym g) tt
 dials_joined login n o us t (Links u e r) = connects_joined login n (asked_by nothing_kept calls.Connect) (asking nothing_kept calls.Connect None) o u t refl (none_gathers nothing_kept calls.Connect (asking nothing_kept calls.Connect None)) r
 
--- behind a row the session isn't closed
+-- after a row the session isn't closed
 pub row_open : (login : Login) (a : Asked) (k b end : Kept) (u : Use) (p : After) (row : RowParts) → p ≡ after.Answered (answers.Row row) → b.calls ≡ k.calls → IsOpen k → PollEnds login a b u p end → IsOpen end
 row_open login a k b end u p row is e w r =
     let now = subst (λ (x : After). PollEnds login a b u x end) is r in
@@ -142,7 +142,7 @@ gathers_joined : (login : Login) (n : ℕ) (us : List Use) (a : Asked) (k : Kept
 gathers_joined login n [] a k o t w alive r = absurd r
 gathers_joined login n (u ∷ us) a k o t w alive r =
     let polled = r.2 in
-    gathers_on (Gathers login n us) us a r.1 o t r.0 (λ b m v x y. gathers_joined login n us b m o t v x y) (polled_joined login n a k r.1 u r.0 w polled) (left_open login a k polled.behind r.1 u r.0 polled.calls polled.pending w (λ _. alive) polled.ends) (λ row is. row_open login a k polled.behind r.1 u r.0 row is polled.calls alive polled.ends) r.3
+    gathers_on (Gathers login n us) us a r.1 o t r.0 (λ b m v x y. gathers_joined login n us b m o t v x y) (polled_joined login n a k r.1 u r.0 w polled) (left_open login a k polled.following r.1 u r.0 polled.calls polled.pending w (λ _. alive) polled.ends) (λ row is. row_open login a k polled.following r.1 u r.0 row is polled.calls alive polled.ends) r.3
 
 -- what each step leaves at its number
 kept_joined : (h : Handle) (o : Outcome) (us : List Use) (t : Handle) → IsJoined h → IsRefused h o us t → IsJoined t

@@ -36,9 +36,9 @@ holds_end : (n : ℕ) (us : List Use) (u : Use) → u.number ≡ n → holds_for
 holds_end n [] u e = grind (arith, nat_tests, e)
 holds_end n (v ∷ us) u e = omega (arith, holds_end n us u e)
 
--- so many holds, of a poll that comes behind others that didn't hold
-pub holds_behind : (n : ℕ) (us more : List Use) (u : Use) → more ≡ us ++ u ∷ [] → u.number ≡ n → holds_for n us ≡ 0 → holds_for n more ≡ u.holds
-holds_behind n us more u is e none = ap (holds_for n) is ∙ sym (holds_end n us u e) ∙ omega (arith, none)
+-- so many holds, of a poll that comes after others that didn't hold
+pub holds_after : (n : ℕ) (us more : List Use) (u : Use) → more ≡ us ++ u ∷ [] → u.number ≡ n → holds_for n us ≡ 0 → holds_for n more ≡ u.holds
+holds_after n us more u is e none = ap (holds_for n) is ∙ sym (holds_end n us u e) ∙ omega (arith, none)
 
 -- where nothing can be read
 finds : (login : Login) (plan left : Option (List ReadItem)) (t : Seen) (end : Kept) (e : ℕ) → ReadsSpent plan left end.taken e → IsDryWhere left → StepIs t Need → IsHeard login t end → FindsNothingIn login plan end
@@ -50,8 +50,8 @@ module _ (login : Login) (n : ℕ) (a : Asked) (t : Seen) (x y : Looks) (k end :
   poll_spends : PollSpends t (plans.reads n) y.items (plans.writes n) y.writes end.taken (faults_for n (us ++ all) + p.used.faults) before p.used.holds (ends_for n (us ++ all) + p.used.ends)
   poll_spends = w.spent (plans.reads n) (plans.writes n) (faults_for n (us ++ all)) before (ends_for n (us ++ all)) s
 
-  behind_poll : (planned : ℕ) → IsSpent (plans.reads n) y.items (plans.writes n) y.writes end.taken (faults_for n (us ++ all) + p.used.faults) planned (ends_for n (us ++ all) + p.used.ends) → LinkSpent plans n y end.taken (more ++ all) planned
-  behind_poll planned v = subst (λ (xs : List Use). LinkSpent plans n y end.taken (xs ++ all) planned) (sym is)
+  after_poll : (planned : ℕ) → IsSpent (plans.reads n) y.items (plans.writes n) y.writes end.taken (faults_for n (us ++ all) + p.used.faults) planned (ends_for n (us ++ all) + p.used.ends) → LinkSpent plans n y end.taken (more ++ all) planned
+  after_poll planned v = subst (λ (xs : List Use). LinkSpent plans n y end.taken (xs ++ all) planned) (sym is)
       (subst (λ (i : ℕ). IsSpent (plans.reads n) y.items (plans.writes n) y.writes end.taken i planned (ends_for n ((us ++ p.used ∷ []) ++ all))) (faults_end n us all p.used w.polled.of_call.number)
       (subst (λ (i : ℕ). IsSpent (plans.reads n) y.items (plans.writes n) y.writes end.taken (faults_for n (us ++ all) + p.used.faults) planned i) (ends_end n us all p.used w.polled.of_call.number) v))
 
@@ -60,24 +60,24 @@ module _ (login : Login) (n : ℕ) (a : Asked) (t : Seen) (x y : Looks) (k end :
   plays_on none =
       let v = poll_spends in
       let same : before + v.spends.planned ≡ before = omega (arith, v.spends.fits, none) in
-      subst (λ (i : ℕ). LinkSpent plans n y end.taken (more ++ all) i) same (behind_poll (before + v.spends.planned) v.spends.spent)
+      subst (λ (i : ℕ). LinkSpent plans n y end.taken (more ++ all) i) same (after_poll (before + v.spends.planned) v.spends.spent)
 
-  -- a poll behind others that didn't hold
+  -- a poll after others that didn't hold
   pub plays_end : holds_for n us ≡ 0 → LinkPlays login plans n y end more all before
   plays_end none = record {
     planned = before + poll_spends.spends.planned;
-    spent = behind_poll (before + poll_spends.spends.planned) poll_spends.spends.spent;
+    spent = after_poll (before + poll_spends.spends.planned) poll_spends.spends.spent;
     held = by_size (cases_lt poll_spends.spends.planned p.used.holds);
   }
     where
       total : holds_for n more ≡ p.used.holds
-      total = holds_behind n us more p.used is w.polled.of_call.number none
+      total = holds_after n us more p.used is w.polled.of_call.number none
 
       by_size : (poll_spends.spends.planned < p.used.holds) ⊎ (p.used.holds ≤ poll_spends.spends.planned) → HeldBy login (plans.reads n) (Joined true end) (holds_for n more) before (before + poll_spends.spends.planned)
       by_size (inl h) = inr (omega (arith, h, total, poll_spends.spends.last), finds login (plans.reads n) y.items t end _ poll_spends.spends.spent.reads (poll_spends.spends.dry h) (poll_spends.needs h) w.rests.heard)
       by_size (inr h) = inl (omega (arith, h, total, poll_spends.spends.fits))
 
--- what stands at the number behind a poll
+-- what stands at the number after a poll
 pub there_plays : {L : Type 0} (look : L → Looks) (login : Login) (plans : Plans) (n : ℕ) (us all : List Use) (before : ℕ) (c : Conn L) → LinkPlays login plans n (look c.link) (kept_of c) us all before → SlotPlays look login plans n us all before (There c)
 there_plays look login plans n us all before c v = record { planned = v.planned; played = v.spent; held = v.held }
 

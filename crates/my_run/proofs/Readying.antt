@@ -46,7 +46,7 @@ conn_ready c r = is_ready r.0 c.session.seen (kept_of c) r.1.rests.heard (λ non
 pub call_at : {L : Type 0} (c : Conn L) (s : Seen) (call : Call) → ConnReady c → is_open c.session.seen.task ≡ false → s ≡ c.session.seen → is_connect (kind_of call) ≡ false → s.closed ≡ false → AtBegun (kind_of call) s.context.spot
 call_at c s call r idle same kind still = at_begun (kind_of call) s.context.spot kind (ap (λ (t : Seen). is_settled t.context.spot) same ∙ conn_ready c r (no_task c.session.seen.task idle) (sym (ap (λ (t : Seen). t.closed) same) ∙ still))
 
--- a gathering begins, goes on behind a poll, or is taken up again
+-- a gathering begins, goes on after a poll, or is taken up again
 still_open : (b : Bool) → is_refused b (kind_of NextRow) ≡ false → b ≡ false
 still_open true e = e
 still_open false e = refl
@@ -66,17 +66,17 @@ asked_again c connecting gathering r op kind other rows some =
     (r.0, a.0, a.1, j.0 (sym (kind a.0 a.1.asked) ∙ other), j.1 (sym (rows a.0 a.1.asked) ∙ some))
 
 module _ {L : Type 0} (n : ℕ) (x y : Looks) (d e : Conn L) (p : Polled) (r : AskedReady d) (drives : (login : Login) (a : Asked) → IsAsked login d.session.seen (kept_of d) a → Drives login n a e.session.seen x y (kept_of d) (kept_of e) p) where
-  behind : Drives r.0 n r.1 e.session.seen x y (kept_of d) (kept_of e) p
-  behind = drives r.0 r.1 r.2
+  following : Drives r.0 n r.1 e.session.seen x y (kept_of d) (kept_of e) p
+  following = drives r.0 r.1 r.2
 
-  joined_behind : WasJoined (kept_of e)
-  joined_behind = polled_joined r.0 n r.1 (kept_of d) (kept_of e) p.used p.after r.3 behind.polled
+  joined_after : WasJoined (kept_of e)
+  joined_after = polled_joined r.0 n r.1 (kept_of d) (kept_of e) p.used p.after r.3 following.polled
 
-  open_behind : (row : RowParts) → p.after ≡ after.Answered (answers.Row row) → IsOpen (kept_of e)
-  open_behind row is = row_open r.0 r.1 (kept_of d) behind.polled.behind (kept_of e) p.used p.after row is behind.polled.calls r.4 behind.polled.ends
+  open_after : (row : RowParts) → p.after ≡ after.Answered (answers.Row row) → IsOpen (kept_of e)
+  open_after row is = row_open r.0 r.1 (kept_of d) following.polled.following (kept_of e) p.used p.after row is following.polled.calls r.4 following.polled.ends
 
   pub polled_ready : IsReady e.session.seen
-  polled_ready = is_ready r.0 e.session.seen (kept_of e) behind.rests.heard (λ _. joined_behind)
+  polled_ready = is_ready r.0 e.session.seen (kept_of e) following.rests.heard (λ _. joined_after)
 
   pub polled_open : StaysOpen p.after e.session.seen
   polled_open = by_after p.after refl
@@ -84,7 +84,7 @@ module _ {L : Type 0} (n : ℕ) (x y : Looks) (d e : Conn L) (p : Polled) (r : A
       by_after : (q : After) → p.after ≡ q → StaysOpen q e.session.seen
       by_after after.Pending is = tt
       by_after (after.Answered answers.Ready) is = tt
-      by_after (after.Answered (answers.Row row)) is = closed_kept r.0 e.session.seen (kept_of e) behind.rests.heard ∙ open_behind row is
+      by_after (after.Answered (answers.Row row)) is = closed_kept r.0 e.session.seen (kept_of e) following.rests.heard ∙ open_after row is
       by_after (after.Answered answers.SetEnd) is = tt
       by_after (after.Answered answers.NoSet) is = tt
       by_after (after.Failed error) is = tt
@@ -95,4 +95,4 @@ module _ {L : Type 0} (n : ℕ) (x y : Looks) (d e : Conn L) (p : Polled) (r : A
       let asks = next.2 in
       let more : Option (List RowParts) = Some (unwrap_or rows [] ++ next.0 ∷ []) in
       let a : Asked = record { call = NextRow; sent_from = length (kept_of e).sent; rows = more } in
-      (r.0, a, subst (λ (k : Kept). IsAsked r.0 f.session.seen k a) (sym asks.kept) (begins r.0 e.session.seen f.session.seen (kept_of e) NextRow more asks.seen asks.stands behind.rests), subst WasJoined (sym asks.kept) joined_behind, subst IsOpen (sym asks.kept) (open_behind next.0 next.1))
+      (r.0, a, subst (λ (k : Kept). IsAsked r.0 f.session.seen k a) (sym asks.kept) (begins r.0 e.session.seen f.session.seen (kept_of e) NextRow more asks.seen asks.stands following.rests), subst WasJoined (sym asks.kept) joined_after, subst IsOpen (sym asks.kept) (open_after next.0 next.1))

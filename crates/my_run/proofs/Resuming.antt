@@ -50,7 +50,7 @@ no_rows (Some rows) e = cc
 -- another call is polled
 pub call_resumed : {L : Type 0} (look : L → Looks) (login : Login) (n : ℕ) (c : Conn L) (a : Asked) (slot : Slot L) (o : Outcome) (us : List Use) → is_connect (kind_of a.call) ≡ false → is_some a.rows ≡ false → (kept_of c).pending ≡ Some a → Resumed look login n a c slot o us → Did look login n (GoesOn login n) o us (There c) slot
 call_resumed {L} look login n c a slot o us kind rows asked w =
-    let d = w.behind in
+    let d = w.following in
     let polled : Did look login n (GoesOn login n) o us (There c) (There d) = record {
       stood = record { rests = w.polled.rests; stepped = w.polled.stepped };
       played = λ plans all before v. there_plays look login plans n us all before d (w.polled.spent plans all before v);
@@ -73,7 +73,7 @@ some_rows (Some r) e = (r, refl)
 -- a gathering goes on
 pub gathering_resumed : {L : Type 0} (look : L → Looks) (login : Login) (n : ℕ) (c : Conn L) (a : Asked) (slot : Slot L) (o : Outcome) (us : List Use) → is_connect (kind_of a.call) ≡ false → is_some a.rows ≡ true → (kept_of c).pending ≡ Some a → GatheredOn look login n a c slot o us → Did look login n (GoesOn login n) o us (There c) slot
 gathering_resumed {L} look login n c a slot o us kind rows asked w =
-    let d = w.behind in
+    let d = w.following in
     let some = some_rows a.rows rows in
     let polled : Did look login n (GoesOn login n) o us (There c) (There d) = record {
       stood = record { rests = w.did.rests; stepped = w.did.stepped };

@@ -160,8 +160,8 @@ module _ (x y z : Looks) (s : Seen) (sent sent' sent'' taken taken' taken'' : Li
   )
 
 -- a round by what a turn's clauses say of it
-pub round_behind : (x y z : Looks) (s : Seen) (sent sent' sent'' taken taken' taken'' : List ℕ) (n : ℕ) (u : Use) → SoFar x y sent sent' taken taken' n u → SpentSoFar x y taken taken' 0 → (turn : Turn) → TurnIs s y z sent' sent'' taken' taken'' turn → took_by turn ≤ 67108864 - u.taken → (is_full turn ≡ true → 67108864 - u.taken ≡ 0) → (r : Round) → r ≡ round_of turn u → IsRound s x z sent sent'' taken taken'' n r
-round_behind x y z s sent sent' sent'' taken taken' taken'' n u so spent turn t h full r e = subst (IsRound s x z sent sent'' taken taken'' n) (sym e) (round_is x y z s sent sent' sent'' taken taken' taken'' n u so spent turn t (omega (arith, h, so.within)) (λ f. omega (arith, full f, so.within)))
+pub round_after : (x y z : Looks) (s : Seen) (sent sent' sent'' taken taken' taken'' : List ℕ) (n : ℕ) (u : Use) → SoFar x y sent sent' taken taken' n u → SpentSoFar x y taken taken' 0 → (turn : Turn) → TurnIs s y z sent' sent'' taken' taken'' turn → took_by turn ≤ 67108864 - u.taken → (is_full turn ≡ true → 67108864 - u.taken ≡ 0) → (r : Round) → r ≡ round_of turn u → IsRound s x z sent sent'' taken taken'' n r
+round_after x y z s sent sent' sent'' taken taken' taken'' n u so spent turn t h full r e = subst (IsRound s x z sent sent'' taken taken'' n) (sym e) (round_is x y z s sent sent' sent'' taken taken' taken'' n u so spent turn t (omega (arith, h, so.within)) (λ f. omega (arith, full f, so.within)))
 
 -- a poll begins
 pub nothing_yet : (x : Looks) (sent taken : List ℕ) (n : ℕ) (u : Use) → u ≡ quiet n → SoFar x x sent sent taken taken n u

@@ -31,7 +31,7 @@ use Rattle.my_run.proofs.Hearing.{answer_counts, asked_kind, ended_of, heard_gon
 abbrev pub StepStands : Seen → Seen → SessionStep → Type 0
 StepStands s t step = (h : History) → Stands s h → (passed : List Told) × ArePassed (kind_in s.task) passed × Stands t (after_step (passing h passed) step) × HasCause s (passing h passed) step
 
--- behind a step the session stands for what was kept, with what the call was told
+-- after a step the session stands for what was kept, with what the call was told
 heard_on : (login : Login) (s t : Seen) (k : Kept) (step : SessionStep) (g : Kept) → t.login ≡ s.login → StepStands s t step → (w : IsHeard login s k) → ((h : History) → IsOf k h → IsOf g (after_step h step)) → IsHeard login t g
 heard_on login s t k step g l st w f =
     let u = st w.history w.stands in
@@ -121,9 +121,9 @@ is_answered login s t k a answer w v n st =
     }
 
 pub awaits : (s t : Seen) → Steps s t steps.Need → AwaitsBytes t
-awaits s t v = λ behind e w. each_end s t behind e v w
+awaits s t v = λ following e w. each_end s t following e v w
 
--- by what a turn did, where the session stands behind it
+-- by what a turn did, where the session follows it
 pub asked_gone : (login : Login) (s t : Seen) (k : Kept) (a : Asked) (owed out sent : List ℕ) → t ≡ with_owed s owed → ((h : History) → Stands s h → Stands t (gone h out)) → sent ≡ k.sent ++ out → IsHeld login s k a → IsAsked login t (record { sent = sent; taken = k.taken; calls = k.calls; pending = k.pending }) a
 asked_gone login s t k a owed out sent e st same w = record {
   rests = record {

@@ -81,9 +81,9 @@ PollEnds login a k u (Failed e) end = (end ≡ ended_by k a (says.Failed e)) × 
 pub record IsPolled (login : Login) (n : ℕ) (a : Asked) (k : Kept) (u : Use) (after : After) (end : Kept) : Type 0 where
   pub of_call : IsOfCall n u
   pub within : u.taken ≤ 67108864
-  pub behind : Kept
-  pub sent : WentOut k.sent behind.sent
-  pub taken : CameBy k.taken behind.taken u.taken
-  pub calls : behind.calls ≡ k.calls
-  pub pending : behind.pending ≡ Some a
-  pub ends : PollEnds login a behind u after end
+  pub following : Kept
+  pub sent : WentOut k.sent following.sent
+  pub taken : CameBy k.taken following.taken u.taken
+  pub calls : following.calls ≡ k.calls
+  pub pending : following.pending ≡ Some a
+  pub ends : PollEnds login a following u after end

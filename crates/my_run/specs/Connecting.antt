@@ -25,14 +25,14 @@ Settles c n after.Pending slot o = (slot ≡ There c) × (o ≡ Pending)
 Settles c n (after.Answered answer) slot o = (slot ≡ There c) × (o ≡ Connected n c.session.seen.facts.connection (version_of c.session.seen.facts.version))
 Settles c n (after.Failed e) slot o = (slot ≡ Ended c) × (o ≡ Failed e)
 
--- a poll of the handshake: what stands at the number behind it, and what was used of the link's plan
+-- a poll of the handshake: what stands at the number after it, and what was used of the link's plan
 pub record Joins {L : Type 0} (look : L → Looks) (login : Login) (n : ℕ) (a : Asked) (k : Kept) (x : Looks) (slot : Slot L) (o : Outcome) (used : Use) : Type 0 where
   pub stood : IsStood login slot
   pub played : (plans : Plans) (all : List Use) (before : ℕ) → LinkSpent plans n x k.taken all before → SlotPlays look login plans n (used ∷ []) all before slot
   pub number : used.number ≡ n
   pub does : Connects login n a k o used (handle_of slot)
 
--- A dial of a number for which the world told this: what stands there behind it. Where the plan is what was told, and nothing was used
+-- A dial of a number for which the world told this: what stands there after it. Where the plan is what was told, and nothing was used
 -- of it yet, it is kept; where none was told, there is none to be kept.
 pub record Dialed {L : Type 0} (look : L → Looks) (login : Login) (n : ℕ) (reads : Option (List ReadItem)) (writes : Option (List WriteItem)) (slot : Slot L) (o : Outcome) (us : List Use) : Type 0 where
   pub stood : IsStood login slot

@@ -7,12 +7,12 @@ abbrev pub first_of : ℕ → List ℕ → List ℕ
 first_of mark [] = []
 first_of mark (b ∷ bytes) = if b == mark then [] else b ∷ first_of mark bytes
 
--- what stands behind the first mark, if there is one
+-- what follows the first mark, if there is one
 abbrev pub rest_of : ℕ → List ℕ → Option (List ℕ)
 rest_of mark [] = None
 rest_of mark (b ∷ bytes) = if b == mark then Some bytes else rest_of mark bytes
 
--- the pieces of what stands behind a mark
+-- the pieces of what follows a mark
 abbrev pub pieces_left : ℕ → Option (List ℕ) → List (List ℕ)
 pieces_left mark None = []
 pieces_left mark (Some bytes) = slice_split (λ b. b == mark) bytes

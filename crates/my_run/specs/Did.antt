@@ -42,6 +42,6 @@ pub record Stepped {L : Type 0} (look : L → Looks) (login : Login) (plans : Pl
 
 -- what a poll of the open call leaves of a connection that was taken out of its number
 pub record Resumed {L : Type 0} (look : L → Looks) (login : Login) (n : ℕ) (a : Asked) (c : Conn L) (slot : Slot L) (o : Outcome) (us : List Use) : Type 0 where
-  pub behind : Conn L
-  pub slot_is : slot ≡ There behind
-  pub polled : OpenPolled login n a behind.session.seen (look c.link) (look behind.link) (kept_of c) (kept_of behind) o us
+  pub following : Conn L
+  pub slot_is : slot ≡ There following
+  pub polled : OpenPolled login n a following.session.seen (look c.link) (look following.link) (kept_of c) (kept_of following) o us

@@ -15,12 +15,12 @@ use Rattle.my_world.specs.Looks.{Looks}
 use Rattle.my_run.specs.Rests.{Rests}
 
 -- what a poll came to is kept
-abbrev pub kept_behind : Kept → Asked → After → Kept
-kept_behind k a Pending = k
-kept_behind k a (Answered answer) = ended_by k a (says.Answered answer)
-kept_behind k a (Failed e) = ended_by k a (says.Failed e)
+abbrev pub kept_after : Kept → Asked → After → Kept
+kept_after k a Pending = k
+kept_after k a (Answered answer) = ended_by k a (says.Answered answer)
+kept_after k a (Failed e) = ended_by k a (says.Failed e)
 
--- where the session stands behind the poll, and what was used of the link's plan
+-- where the session follows the poll, and what was used of the link's plan
 pub record Drives (login : Login) (n : ℕ) (a : Asked) (t : Seen) (x y : Looks) (k end : Kept) (p : Polled) : Type 0 where
   pub polled : IsPolled login n a k p.used p.after end
   pub rests : Rests login t end

@@ -36,7 +36,7 @@ Shows rows (after.Answered answers.SetEnd) o = rows_shown o ≡ Some (unwrap_or 
 Shows rows (after.Answered answers.NoSet) o = rows_shown o ≡ Some (unwrap_or rows [])
 Shows rows (after.Failed e) o = o ≡ Failed e
 
--- the next row is asked for, behind one more
+-- the next row is asked for, after one more
 pub record AsksNext {L : Type 0} (c d : Conn L) (rows : List RowParts) : Type 0 where
   pub kept : kept_of d ≡ asking (kept_of c) NextRow (Some rows)
   pub seen : d.session.seen ≡ begun c.session.seen NextRow
@@ -74,6 +74,6 @@ pub record GatherSoFar {L : Type 0} (look : L → Looks) (login : Login) (n : �
 
 -- what going on with a gathering leaves of a connection that was taken out of its number
 pub record GatheredOn {L : Type 0} (look : L → Looks) (login : Login) (n : ℕ) (a : Asked) (c : Conn L) (slot : Slot L) (o : Outcome) (us : List Use) : Type 0 where
-  pub behind : Conn L
-  pub slot_is : slot ≡ There behind
-  pub did : GatherDid look login n a c behind o us
+  pub following : Conn L
+  pub slot_is : slot ≡ There following
+  pub did : GatherDid look login n a c following o us

@@ -127,7 +127,7 @@ rows_shown Unread = None
 abbrev pub gathered : Asked → List RowParts
 gathered a = unwrap_or a.rows []
 
--- behind a row the next one is asked for; behind anything else the gathering ends, or holds
+-- after a row the next one is asked for; after anything else the gathering ends, or holds
 abbrev pub GathersOn : (Asked → Kept → Outcome → Handle → Type 0) → Asked → After → Kept → Outcome → List Use → Handle → Type 0
 GathersOn more a after.Pending end o us t = (o ≡ Pending) × (us ≡ []) × (t ≡ Joined true end)
 GathersOn more a (after.Answered answers.Ready) end o us t = (o ≡ Done) × (us ≡ []) × (t ≡ Joined true end)
@@ -246,7 +246,7 @@ abbrev pub handles_after : List Line → List Handle
 handles_after [] = []
 handles_after (l ∷ ls) = l.handles
 
--- the lines stand newest first; each is what its step may come to behind the earlier ones
+-- the lines stand newest first; each is what its step may come to after the earlier ones
 pub record Grows (login : Login) (before : List Line) (l : Line) : Type 0 where
   pub number : l.number ≡ length before + 1
   pub answer : StepGrows login (handles_after before) l.step l.outcome l.uses l.handles

@@ -92,7 +92,7 @@ pub record FewHolds (login : Login) (plans : Plans) (n : ℕ) (lines : List Line
   pub counted : HoldsAre login (plans.reads n) n lines planned
   pub few : ArePlanned (plans.reads n) (plans.writes n) planned
 
--- a connection at number n, behind these lines
+-- a connection at number n, after these lines
 abbrev pub IsExplained : Login → Plans → ℕ → List Line → Handle → Type 0
 IsExplained login plans n lines Absent = Unit {0}
 IsExplained login plans n lines Dialing = plans.reads n ≡ None
@@ -102,7 +102,7 @@ abbrev pub AreExplained : Login → Plans → List Line → ℕ → List Handle 
 AreExplained login plans lines n [] = Unit {0}
 AreExplained login plans lines n (h ∷ hs) = IsExplained login plans n lines h × AreExplained login plans lines (suc n) hs
 
--- so it holds behind each line
+-- so it holds after each line
 abbrev pub EachExplained : Login → Plans → List Line → Type 0
 EachExplained login plans [] = Unit {0}
 EachExplained login plans (l ∷ ls) = AreExplained login plans (l ∷ ls) 0 l.handles × EachExplained login plans ls
@@ -113,9 +113,9 @@ pub record Headline (login : Login) (plans : Plans) (steps : List Step) (answers
   pub lines : List Line
   pub steps_are : steps_of lines ≡ steps
   pub answered : map answer_view answers ≡ answers_of lines
-  -- each answer is what the step may come to behind the earlier ones, with its cause
+  -- each answer is what the step may come to after the earlier ones, with its cause
   pub grown : AreGrown login lines
-  -- behind each line each connection's calls, bytes and rows are explained, and fit the plan
+  -- after each line each connection's calls, bytes and rows are explained, and fit the plan
   pub explained : EachExplained login plans lines
   -- the tapes are what the connections kept
   pub tapes_are : map tape_view tapes ≡ tapes_in 0 (handles_after lines)

@@ -16,7 +16,7 @@ pub record IsTooLong (most : ℕ) (before now : Option (List ℕ)) : Type 0 wher
   pub came : Leaves before bytes now
   pub above : most < length bytes
 
--- a read failed, behind no more bytes than the most
+-- a read failed, after no more bytes than the most
 pub record IsBroken (most : ℕ) (before now : Option (List ℕ)) (c d : ℕ) : Type 0 where
   pub bytes : List ℕ
   pub came : Leaves before bytes now

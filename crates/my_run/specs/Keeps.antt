@@ -53,7 +53,7 @@ abbrev pub ArePlayed : {L : Type 0} → (L → Looks) → Plans → List Use →
 ArePlayed look plans all planned n [] = Unit {0}
 ArePlayed look plans all planned n (s ∷ ss) = IsPlayed look plans n all (planned n) s × ArePlayed look plans all planned (suc n) ss
 
--- what a poll of a connection's call used of its link's plan, behind so many planned holds
+-- what a poll of a connection's call used of its link's plan, after so many planned holds
 pub record LinkPlays (login : Login) (plans : Plans) (n : ℕ) (y : Looks) (end : Kept) (us all : List Use) (before : ℕ) : Type 0 where
   pub planned : ℕ
   pub spent : LinkSpent plans n y end.taken (us ++ all) planned
@@ -65,7 +65,7 @@ pub record SlotPlays {L : Type 0} (look : L → Looks) (login : Login) (plans : 
   pub played : IsPlayed look plans n (us ++ all) planned new
   pub held : HeldBy login (plans.reads n) (handle_of new) (holds_for n us) before planned
 
--- and at all numbers: at those behind the last one nothing was planned
+-- and at all numbers: at those after the last one nothing was planned
 pub record AllPlay {L : Type 0} (look : L → Looks) (login : Login) (plans : Plans) (us all : List Use) (before : ℕ → ℕ) (new : List (Slot L)) : Type 0 where
   pub planned : ℕ → ℕ
   pub played : ArePlayed look plans (us ++ all) planned 0 new

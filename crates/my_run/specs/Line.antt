@@ -141,7 +141,7 @@ abbrev pub bare_item : Keyword → Item
 bare_item Conn = Steps steps.Conn
 bare_item _ = Wrong
 
--- a line of this word, with what stands behind its first blank
+-- a line of this word, with what follows its first blank
 abbrev pub item_with : Keyword → List ℕ → Item
 item_with Packet rest = packet_item Packet (packet_parts rest)
 item_with Drip rest = packet_item Drip (packet_parts rest)

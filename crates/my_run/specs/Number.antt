@@ -4,7 +4,7 @@ use Rattle.std.specs.Str.{bytes_eq}
 use Rattle.std.specs.Result.{result_ok}
 use Rattle.hex.specs.Hex.{decode_of}
 
--- the number that decimal digits give behind this one, below 2^64
+-- the number that decimal digits give after this one, below 2^64
 abbrev pub number_on : ℕ → List ℕ → Option ℕ
 number_on n [] = Some n
 number_on n (b ∷ bytes) = if nat_le 48 b && nat_le b 57 && nat_lt (n * 10 + (b - 48)) (2 ^ 64) then number_on (n * 10 + (b - 48)) bytes else None

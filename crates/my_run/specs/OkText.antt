@@ -1,7 +1,7 @@
 -- What a server's OK said, as text.
 use Rattle.std.specs.Prelude.{ℕ, ◌==◌, List, ◌++◌, codes, Option, Some, None, if◌then◌else◌}
 use Rattle.std.specs.Fmt.{decimal}
-use Rattle.my_wire.specs.declared.ok.OkPacket.{OkPacket}
+use Rattle.my_reply.specs.declared.ok.OkPacket.{OkPacket}
 use Rattle.my_run.specs.TextParts.{bytes_text}
 
 -- the number that the server made for a row; 0 stands for none

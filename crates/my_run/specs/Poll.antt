@@ -19,7 +19,7 @@ use Rattle.my_run.specs.declared.poll.Turn.{Turn}
 use Rattle.my_run.specs.declared.poll.Turn.TheVariants.{Sent, Took, Ended, Broke, Held, Full, Answered, Faulted}
 use Rattle.my_world.specs.Outside.{FaultRose, HoldRose, EndRose}
 use Rattle.my_world.specs.Looks.{Looks}
-use Rattle.my_world.specs.Link.{Told, Gave, behind_hold, behind_fault, behind_end, behind_write, taken_of, behind_taken, behind_write_hold, behind_write_fault}
+use Rattle.my_world.specs.Link.{Told, Gave, after_hold, after_fault, after_end, after_write, taken_of, after_taken, after_write_hold, after_write_fault}
 
 -- the call is still open, and asks for a sending or for bytes
 abbrev pub Waits : Seen → Type 0
@@ -43,22 +43,22 @@ pub record WentOut (sent sent' : List ℕ) : Type 0 where
 pub record TakesOut (x y : Looks) : Type 0 where
   pub offered : ℕ
   pub size : ℕ
-  pub items : Told x.items y.items (λ is js. js ≡ behind_write is)
-  pub writes : Told x.writes y.writes (λ ws vs. (taken_of offered ws ≡ Some size) × (vs ≡ behind_taken size ws))
+  pub items : Told x.items y.items (λ is js. js ≡ after_write is)
+  pub writes : Told x.writes y.writes (λ ws vs. (taken_of offered ws ≡ Some size) × (vs ≡ after_taken size ws))
 
 -- a read told the end
 pub record Ends (x y : Looks) : Type 0 where
-  pub items : Told x.items y.items (λ is js. behind_end is ≡ Some js)
+  pub items : Told x.items y.items (λ is js. after_end is ≡ Some js)
   pub writes : y.writes ≡ x.writes
 
 -- a read held, or a write did
 pub record ReadHeld (x y : Looks) : Type 0 where
-  pub items : Told x.items y.items (λ is js. behind_hold is ≡ Some js)
+  pub items : Told x.items y.items (λ is js. after_hold is ≡ Some js)
   pub writes : y.writes ≡ x.writes
 
 pub record WriteHeld (x y : Looks) : Type 0 where
   pub items : y.items ≡ x.items
-  pub writes : Told x.writes y.writes (λ ws vs. behind_write_hold ws ≡ Some vs)
+  pub writes : Told x.writes y.writes (λ ws vs. after_write_hold ws ≡ Some vs)
 
 -- a read holds where the call asks for bytes, and a write where it asks for a sending
 abbrev pub Holds : Seen → Looks → Looks → Type 0
@@ -66,12 +66,12 @@ Holds t x y = (StepIs t Need × ReadHeld x y) ⊎ (StepIs t Send × WriteHeld x 
 
 -- a read failed, or a write did
 pub record ReadFailed (x y : Looks) : Type 0 where
-  pub items : Told x.items y.items (λ is js. behind_fault is ≡ Some js)
+  pub items : Told x.items y.items (λ is js. after_fault is ≡ Some js)
   pub writes : y.writes ≡ x.writes
 
 pub record WriteFailed (x y : Looks) : Type 0 where
   pub items : y.items ≡ x.items
-  pub writes : Told x.writes y.writes (λ ws vs. behind_write_fault ws ≡ Some vs)
+  pub writes : Told x.writes y.writes (λ ws vs. after_write_fault ws ≡ Some vs)
 
 abbrev pub Fails : Looks → Looks → Type 0
 Fails x y = ReadFailed x y ⊎ WriteFailed x y
@@ -167,7 +167,7 @@ SpendsOn t x y taken taken' u = (plan : Option (List ReadItem)) (rules : Option 
 abbrev pub SpentSoFar : Looks → Looks → List ℕ → List ℕ → ℕ → Type 0
 SpentSoFar x y taken taken' ends = (plan : Option (List ReadItem)) (rules : Option (List WriteItem)) (f w e : ℕ) → IsSpent plan x.items rules x.writes taken f w e → IsSpent plan y.items rules y.writes taken' f w (e + ends)
 
--- whether the poll goes on behind a turn, with what it met so far, or what it came to
+-- whether the poll goes on after a turn, with what it met so far, or what it came to
 abbrev pub round_of : Turn → Use → Round
 round_of Sent u = On u
 round_of (Took n) u = On (record u { taken = u.taken + n })

@@ -67,7 +67,7 @@ RestsBy Pending s = Unit {0}
 RestsBy (Answered answer) s = s.task ≡ Nothing
 RestsBy (Failed e) s = Unit {0}
 
--- and behind a row the session isn't closed
+-- and after a row the session isn't closed
 abbrev pub StaysOpen : After → Seen → Type 0
 StaysOpen Pending s = Unit {0}
 StaysOpen (Answered answers.Ready) s = Unit {0}

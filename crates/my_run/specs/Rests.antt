@@ -1,4 +1,4 @@
--- Where a connection's session stands between and behind the turns of a poll.
+-- Where a connection's session stands between and after the turns of a poll.
 use Rattle.std.specs.Prelude.{◌≡◌, ◌⊎◌, ℕ, Some, None, true, false}
 use Rattle.my_grammar.specs.declared.login.Login.{Login}
 use Rattle.my_session.specs.declared.answer.Answer.{Answer}
@@ -63,7 +63,7 @@ pub record FailsNow (login : Login) (old new : Seen) (k : Kept) (a : Asked) (e :
 
 -- the session asked for bytes: where the link's end is told, it fails by an end that came too early
 abbrev pub AwaitsBytes : Seen → Type 0
-AwaitsBytes s = (behind : Seen) (e : Error) → Steps (with_end s) behind (Fault e) → (e ≡ unexpected_eof s.facts.place) ⊎ (e ≡ errors.NoMemory)
+AwaitsBytes s = (following : Seen) (e : Error) → Steps (with_end s) following (Fault e) → (e ≡ unexpected_eof s.facts.place) ⊎ (e ≡ errors.NoMemory)
 
 -- what a turn leaves: the call is open, or it was answered, or it failed
 abbrev pub TurnRests : Login → Seen → Kept → Asked → Turn → Type 0

@@ -3,7 +3,7 @@ use Rattle.std.specs.Prelude.{ℕ, List, ◌∷◌, ◌++◌, codes}
 use Rattle.std.specs.Fmt.{decimal}
 use Rattle.hex.specs.Hex.{encode_lower}
 
--- a number behind a mark
+-- a number after a mark
 abbrev pub marked : ℕ → ℕ → List ℕ
 marked mark n = mark ∷ decimal n
 

@@ -26,16 +26,16 @@ plain_view p = record { user = p.user.now; pass = p.pass.now; packet = p.packet;
 -- USER,PASS,PACKET,WAIT; a fifth part isn't digits alone
 unfoldable pub plain_parts : List ℕ → Option PlainWords
 plain_parts text = do
-  behind_user ← rest_of 44 text
-  behind_pass ← rest_of 44 behind_user
-  wait_digits ← rest_of 44 behind_pass
-  packet ← number_of (first_of 44 behind_pass)
+  after_user ← rest_of 44 text
+  after_pass ← rest_of 44 after_user
+  wait_digits ← rest_of 44 after_pass
+  packet ← number_of (first_of 44 after_pass)
   wait ← number_of wait_digits
-  Some (record { user = first_of 44 text; pass = first_of 44 behind_user; packet = packet; wait = wait })
+  Some (record { user = first_of 44 text; pass = first_of 44 after_user; packet = packet; wait = wait })
 
--- what stands behind `plain,`, where a word begins so
-abbrev pub behind_plain : List ℕ → Option (List ℕ)
-behind_plain word = if bytes_eq (first_of 44 word) (codes "plain") then rest_of 44 word else None
+-- what follows `plain,`, where a word begins so
+abbrev pub after_plain : List ℕ → Option (List ℕ)
+after_plain word = if bytes_eq (first_of 44 word) (codes "plain") then rest_of 44 word else None
 
 -- an empty text is none
 abbrev pub some_text : List ℕ → Option (List ℕ)
@@ -55,11 +55,11 @@ told_opts (Err e) = None
 abbrev pub url_opts : List ℕ → Option OptsView
 url_opts word = if nat_lt 1048576 (length word) then None else told_opts (options_of word)
 
--- `plain,USER,PASS,PACKET,WAIT`, by what stands behind the first comma, or a URL
+-- `plain,USER,PASS,PACKET,WAIT`, by what follows the first comma, or a URL
 abbrev pub opts_by : Option (List ℕ) → List ℕ → Option OptsView
 opts_by (Some text) word = option_map plain_opts (plain_parts text)
 opts_by None word = url_opts word
 
 -- the options of the second word, or none where it is refused
 abbrev pub word_opts : List ℕ → Option OptsView
-word_opts word = opts_by (behind_plain word) word
+word_opts word = opts_by (after_plain word) word

@@ -19,9 +19,9 @@ use crate::poll::After;
 use crate::slot::{Conn, Slot};
 use crate::tape::{OpenCall, Said};
 use crate::transcript::{Outcome, Use};
+use my_frame::NoMemory;
 use my_session::{Answer, Call, Error};
 use my_value::Row;
-use my_wire::NoMemory;
 use my_world::link::Link;
 use std::alloc::Global;
 

@@ -20,8 +20,8 @@ use crate::drive::note;
 use crate::slot::{Conn, Slot};
 use crate::tape::Said;
 use crate::transcript::Outcome;
+use my_frame::NoMemory;
 use my_session::Call;
-use my_wire::NoMemory;
 use my_world::link::Link;
 use std::alloc::Global;
 

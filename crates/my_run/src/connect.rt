@@ -20,9 +20,10 @@ use crate::login::login_for;
 use crate::poll::{After, quiet_use};
 use crate::slot::{Conn, Slot};
 use crate::transcript::{Outcome, Use};
+use my_frame::NoMemory;
+use my_handshake::server_version;
 use my_opts::Opts;
 use my_session::{Call, Error, IoError, IoFault, IoKind, Session};
-use my_wire::{NoMemory, server_version};
 use my_world::link::Link;
 use my_world::world::{DialStep, World};
 use std::alloc::Global;
@@ -96,7 +97,7 @@ pub fn settle<L>(conn: Conn<L>, number: u64, after: After, uses: Vec<Use>) -> Co
     }
 }
 
-// The use of a dial that gave a link, then that of the poll behind it.
+// The use of a dial that gave a link, then that of the poll after it.
 fn dial_uses(alloc: Global, number: u64, used: Use) -> Result<Vec<Use>, NoMemory>
     ensures { IfOk result (λ us. us.items ≡ quiet number ∷ used ∷ []) }
 {

@@ -1,8 +1,9 @@
 //! Copies of what a call asks and is answered.
 ghost use Rattle.std.specs.Prelude.{◌≡◌, IfOk};
 
+use my_frame::NoMemory;
+use my_reply::OkPacket;
 use my_session::{Answer, Call, Error, ServerError};
-use my_wire::{NoMemory, OkPacket};
 use std::alloc::Global;
 
 fn copy_server(alloc: Global, error: &ServerError) -> Result<ServerError, NoMemory>

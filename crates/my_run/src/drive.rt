@@ -2,7 +2,7 @@
 ghost use Rattle.std.specs.Prelude.{◌≡◌, Some, option_map, true, IfOk, OnOk};
 ghost use Rattle.my_grammar.specs.declared.login.Login.{Login as LoginOf};
 ghost use Rattle.my_session.specs.Calls.{is_open};
-ghost use Rattle.my_run.specs.Drives.{Drives, RowsOf, kept_behind};
+ghost use Rattle.my_run.specs.Drives.{Drives, RowsOf, kept_after};
 ghost use Rattle.my_run.specs.Kept.{Asked, ended_by};
 ghost use Rattle.my_run.specs.Ready.{RestsBy};
 ghost use Rattle.my_run.specs.Rests.{IsAsked};
@@ -12,8 +12,8 @@ use crate::copy::{copy_answer, copy_error};
 use crate::poll::{After, Polled, poll_conn};
 use crate::slot::Conn;
 use crate::tape::{DoneCall, Said};
+use my_frame::NoMemory;
 use my_value::Row;
-use my_wire::NoMemory;
 use my_world::link::Link;
 use std::alloc::Global;
 
@@ -47,7 +47,7 @@ pub fn note<L>(conn: &mut Conn<L>, said: Said) -> Result<Option<Vec<Row>>, NoMem
 // What the call came to is kept.
 fn keep<L>(alloc: Global, conn: &mut Conn<L>, after: &After) -> Result<Option<Vec<Row>>, NoMemory>
     ensures rows { IfOk result (λ rows. (a : Asked) → asked_in conn.old.pending ≡ Some a → RowsOf a after.now (option_map (λ v. v.items) rows)) }
-    ensures kept { OnOk result ((a : Asked) → asked_in conn.old.pending ≡ Some a → kept_of conn.new ≡ kept_behind (kept_of conn.old) a after.now) }
+    ensures kept { OnOk result ((a : Asked) → asked_in conn.old.pending ≡ Some a → kept_of conn.new ≡ kept_after (kept_of conn.old) a after.now) }
     ensures session { conn.new.session ≡ conn.old.session }
     ensures link { conn.new.link ≡ conn.old.link }
 {

@@ -11,7 +11,8 @@ use crate::call::{Did, refused};
 use crate::copy::copy_ok;
 use crate::slot::{Conn, Slot};
 use crate::transcript::Outcome;
-use my_wire::{NoMemory, OkPacket};
+use my_frame::NoMemory;
+use my_reply::OkPacket;
 use my_world::link::Link;
 use std::alloc::Global;
 

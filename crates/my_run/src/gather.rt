@@ -22,9 +22,9 @@ use crate::drive::drive;
 use crate::poll::After;
 use crate::slot::{Conn, Slot};
 use crate::transcript::Outcome;
+use my_frame::NoMemory;
 use my_session::{Answer, Call};
 use my_value::Row;
-use my_wire::NoMemory;
 use my_world::link::Link;
 use std::alloc::Global;
 
@@ -110,7 +110,7 @@ fn go_on<L>(
     }
 }
 
-/// Polls the open call, and behind each row the next one, until something else comes.
+/// Polls the open call, and after each row the next one, until something else comes.
 pub fn gather<L: Link>(alloc: Global, conn: &mut Conn<L>, number: u64) -> Result<Did, NoMemory>
     requires is_on { is_open conn.old.session.seen.task ≡ true }
     requires asked { AskedReady conn.old }

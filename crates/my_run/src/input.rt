@@ -2,7 +2,7 @@
 ghost use Rattle.std.specs.Prelude.{◌≡◌, IfOk};
 ghost use Rattle.my_run.specs.Input.{CameIs};
 
-use my_wire::{NoMemory, Source, SourceStep};
+use my_frame::{NoMemory, Source, SourceStep};
 use std::alloc::Global;
 
 /// The most bytes that a source may give.

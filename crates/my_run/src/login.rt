@@ -2,9 +2,10 @@
 ghost use Rattle.std.specs.Prelude.{◌≡◌, IfOk, map, option_map, string_bytes};
 ghost use Rattle.my_run.specs.Login.{login_of};
 
+use my_frame::{Blob, NoMemory};
 use my_grammar::{Login, Texts};
+use my_handshake::Attributes;
 use my_opts::Opts;
-use my_wire::{Attributes, Blob, NoMemory};
 use std::alloc::Global;
 
 // The longest payload where the options don't say it, in bytes.

@@ -2,9 +2,9 @@
 ghost use Rattle.std.specs.Prelude.{◌≡◌, ◌≤◌, length, drop};
 ghost use Rattle.my_run.specs.Output.{Wrote};
 
-use my_wire::{Sink, SinkStep};
+use my_frame::{Sink, SinkStep};
 
-fn behind(bytes: &[u8], from: usize) -> &[u8]
+fn following(bytes: &[u8], from: usize) -> &[u8]
     requires { from ≤ length bytes.now }
     ensures { result.now ≡ drop from bytes.now }
 {
@@ -17,7 +17,7 @@ pub fn write_all<W: Sink>(out: &mut W, bytes: &[u8]) -> bool
 {
     let mut from = 0;
     'rest: while from < bytes.len() {
-        match out.write(behind(bytes, from)) {
+        match out.write(following(bytes, from)) {
             SinkStep::Took(n) => from += n,
             SinkStep::Failed => return false,
         }

@@ -12,8 +12,8 @@ ghost use Rattle.my_run.specs.Poll.{TurnIs, took_by, is_full, quiet, Polls, Spen
 
 use crate::slot::Conn;
 use crate::transcript::Use;
+use my_frame::NoMemory;
 use my_session::{Answer, Error, LinkFault, SessionStep};
-use my_wire::NoMemory;
 use my_world::link::{Link, ReadStep, WriteStep};
 use std::alloc::Global;
 
@@ -189,7 +189,7 @@ pub fn quiet_use(number: u64) -> Use
     }
 }
 
-// Whether the poll goes on behind a turn, and what it met.
+// Whether the poll goes on after a turn, and what it met.
 fn count_turn(turn: Turn, used: Use) -> Round
     requires { used.taken + took_by turn ≤ 67108864 }
     ensures { result ≡ round_of turn used }

@@ -1,6 +1,6 @@
 //! What a script asks for.
 
-use my_wire::Blob;
+use my_frame::Blob;
 
 /// A step of a script. Each but the first names a connection by its number.
 #[derive(Drop)]

@@ -5,9 +5,9 @@ ghost use Rattle.my_run.specs.Slot.{asked_in};
 ghost use Rattle.my_run.specs.Tapes.{answer_in as answer_of, tape_call as call_of, open_call as open_of};
 
 use crate::transcript::TapeCall;
+use my_frame::NoMemory;
 use my_session::{Answer, Call, Error};
 use my_value::Row;
-use my_wire::NoMemory;
 use std::alloc::Global;
 
 /// How a call ended.

@@ -1,8 +1,9 @@
 //! What a run came to, as data.
 
+use my_handshake::ServerVersion;
+use my_reply::OkPacket;
 use my_session::{Answer, Call, Error};
 use my_value::Row;
-use my_wire::{OkPacket, ServerVersion};
 
 /// How often the outside gave each counted answer to one poll of a call, or to one dial, and how many bytes came.
 #[derive(Clone, Copy, Debug, PartialEq, Eq)]
@@ -23,7 +24,7 @@ pub struct Use {
     pub unlisted: u64,
     /// Requests for a file without a handler.
     pub absent: u64,
-    /// Refusals behind the login.
+    /// Refusals after the login.
     pub refused: u64,
     /// Bytes taken from the link.
     pub taken: u64,

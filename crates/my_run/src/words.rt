@@ -1,17 +1,17 @@
 //! Reads the words of a command line.
 ghost use Rattle.std.specs.Prelude.{◌≡◌, ◌<◌, IfOk, map, option_map, string_bytes};
 ghost use Rattle.my_run.specs.Cut.{first_of, rest_of};
-ghost use Rattle.my_run.specs.Words.{script_word_of, behind_plain, plain_view, plain_parts, plain_opts, url_opts, word_opts, some_text};
+ghost use Rattle.my_run.specs.Words.{script_word_of, after_plain, plain_view, plain_parts, plain_opts, url_opts, word_opts, some_text};
 
 use crate::reading::number::number;
+use my_frame::NoMemory;
 use my_opts::{Opts, OptsBuilder, UrlFault};
-use my_wire::NoMemory;
 use std::alloc::Global;
 
 /// The most bytes of a URL.
 const LONGEST_URL: usize = 1048576;
 
-// What stands before the first mark, and what stands behind it, if there is one.
+// What stands before the first mark, and what follows it, if there is one.
 #[derive(Clone, Copy)]
 struct TextPieces<'a> {
     first: &'a str,
@@ -45,7 +45,7 @@ struct Plain<'a> {
 }
 
 #[tactic(auto, unfolding(crate::specs::Words::plain_parts))]
-fn plain_behind(text: &str) -> Option<Plain<'_>>
+fn plain_after(text: &str) -> Option<Plain<'_>>
     ensures { option_map plain_view result ≡ plain_parts text.now }
 {
     let user = cut_text(',', text);
@@ -62,9 +62,9 @@ fn plain_behind(text: &str) -> Option<Plain<'_>>
     })
 }
 
-// What stands behind `plain,`, where a word begins so.
+// What follows `plain,`, where a word begins so.
 fn plain_text(word: &str) -> Option<&str>
-    ensures { option_map (λ t. t.now) result ≡ behind_plain word.now }
+    ensures { option_map (λ t. t.now) result ≡ after_plain word.now }
 {
     let head = cut_text(',', word);
     if head.first != "plain" {
@@ -99,7 +99,7 @@ fn opts_of(alloc: Global, plain: Plain<'_>) -> Result<Opts, NoMemory>
 fn plain_word(alloc: Global, text: &str) -> Result<Option<Opts>, NoMemory>
     ensures { IfOk result (λ o. o ≡ option_map plain_opts (plain_parts text.now)) }
 {
-    match plain_behind(text) {
+    match plain_after(text) {
         None => Ok(None),
         Some(plain) => Ok(Some(opts_of(alloc, plain)?)),
     }

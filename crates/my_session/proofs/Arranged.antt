@@ -17,7 +17,7 @@ text_within : (terms : Terms) (texts : List (List ℕ)) (n : ℕ) (t : Talk) (x 
 text_within terms texts n t None e q = cc
 text_within terms texts n t (Some text) e q = slice_get_within texts n text e
 
--- behind so many exchanges as began so many queries at least were to be sent
+-- after so many exchanges as began so many queries at least were to be sent
 sent_within : (login : Login) (terms : Terms) (n : ℕ) (t : Talk) → connecting login terms n ≡ Some t → n ≤ length (arranging_texts login)
 sent_within login terms zero t e = omega arith
 sent_within login terms (suc n) t e = text_within terms (arranging_texts login) n t (slice_get (arranging_texts login) n) refl e

@@ -1,6 +1,6 @@
 -- What a payload more does to the errors that the server told.
 use Rattle.std.proofs.Common.{◌≡◌, ℕ, List, [], Bool, true, false, cond, leb, ◌-◌, refl, sym, ap, ◌∙◌}
-use Rattle.my_wire.specs.ErrPacket.{err_at}
+use Rattle.my_reply.specs.ErrPacket.{err_at}
 use Rattle.my_grammar.specs.declared.login.Login.{Login}
 use Rattle.my_grammar.specs.declared.spot.Kind.{Kind}
 use Rattle.my_grammar.specs.declared.spot.Kind.TheVariants as kinds

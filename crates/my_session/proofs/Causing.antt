@@ -1,9 +1,9 @@
 -- Each error that the machine's next move tells has its cause.
 use Rattle.std.proofs.Common.{◌≡◌, ℕ, suc, ◌<◌, List, [], ◌∷◌, ◌++◌, length, ltb, Bool, true, false, cond, Option, Some, None, inl, inr, refl, sym, ap, ◌∙◌, subst, arith}
 use Rattle.std.proofs.lemmas.Bool.Decides.{nat_tests}
-use Rattle.my_wire.specs.declared.err.ErrPacket.{ErrPacket}
+use Rattle.my_reply.specs.declared.err.ErrPacket.{ErrPacket}
 use Rattle.my_frame.specs.declared.fault.CodecFault.TheVariants.{TooLarge}
-use Rattle.my_wire.specs.ErrPacket.{err_at}
+use Rattle.my_reply.specs.ErrPacket.{err_at}
 use Rattle.my_frame.specs.Front.{Front, Waiting, Broken, Whole, front_at}
 use Rattle.my_value.specs.RowParts.{RowParts}
 use Rattle.my_grammar.specs.declared.spot.Context.{Context}
@@ -13,7 +13,7 @@ use Rattle.my_grammar.specs.declared.spot.Spot.{Spot}
 use Rattle.my_grammar.specs.declared.spot.Spot.TheVariants as spots
 use Rattle.my_grammar.specs.declared.spot.Terms.{Terms}
 use Rattle.my_grammar.specs.Contexts.{deprecates_eof, is_bad}
-use Rattle.my_grammar.specs.Cut.{Cut, Behind, front_of, kind_of, rest_in_front, is_idle}
+use Rattle.my_grammar.specs.Cut.{Cut, Trailing, front_of, kind_of, rest_in_front, is_idle}
 use Rattle.my_grammar.specs.CutLaws.{StopsAt}
 use Rattle.my_grammar.specs.Kinds.{kind_there}
 use Rattle.my_grammar.specs.Response.{response}
@@ -66,7 +66,7 @@ module _ (s : Seen) (h : History) (st : Stands s h) (op : is_open s.task ≡ tru
 
   -- all was read, and no end is left to be told
   abbrev pub AllRead : Type 0
-  AllRead = Stops entries h.taken (Behind s.unread) × (s.untold ≡ false)
+  AllRead = Stops entries h.taken (Trailing s.unread) × (s.untold ≡ false)
 
   -- an error, or word that nothing is left, is told with its cause
   abbrev ToldBy : Told → Type 0
@@ -108,7 +108,7 @@ module _ (s : Seen) (h : History) (st : Stands s h) (op : is_open s.task ≡ tru
       }
 
   -- nothing is left
-  ends : is_idle s.context.spot ≡ true → Stops entries h.taken (Behind s.unread)
+  ends : is_idle s.context.spot ≡ true → Stops entries h.taken (Trailing s.unread)
   ends over =
       let here = over_found talk s.unread (ap (λ (c : Context). is_idle c.spot) (sym st.wire.context_is) ∙ over) in
       record {

@@ -1,11 +1,11 @@
 -- Where all bytes of a call are there, it doesn't fail by them.
 use Rattle.std.proofs.Common.{◌≡◌, inl, inr, ℕ, ◌+◌, List, [], ◌∷◌, ◌++◌, length, Option, Some, sym, ap, ◌∙◌, subst, arith}
 use Rattle.std.proofs.lemmas.List.{length-append}
-use Rattle.my_wire.specs.declared.err.ErrPacket.{ErrPacket}
+use Rattle.my_reply.specs.declared.err.ErrPacket.{ErrPacket}
 use Rattle.my_frame.specs.declared.fault.CodecFault.{CodecFault}
-use Rattle.my_wire.specs.ErrPacket.{err_at}
+use Rattle.my_reply.specs.ErrPacket.{err_at}
 use Rattle.my_grammar.specs.declared.spot.Kind.TheVariants.{Failed}
-use Rattle.my_grammar.specs.Cut.{Rest, Behind, Unfit, Blamed, Cut, cut, kind_of}
+use Rattle.my_grammar.specs.Cut.{Rest, Trailing, Unfit, Blamed, Cut, cut, kind_of}
 use Rattle.my_grammar.specs.CutLaws.{RestStays, RestGoesOn}
 use Rattle.my_grammar.specs.Growth.{grow}
 use Rattle.my_grammar.specs.Talk.{Talk, context_of}
@@ -50,24 +50,24 @@ module _ (es : List Entry) (own : List Talk) (taken more : List ℕ) (w : AreWho
   unfit_never payload bytes e =
       let stays : cut (in_order (origins es)) (taken ++ more) ≡ record { talks = (found es taken).talks; rest = Unfit payload (bytes ++ more) } = subst (λ (x : Rest). RestStays more (found es taken).talks x (cut (in_order (origins es)) (taken ++ more))) e (cut_stays (in_order (origins es)) taken more) in
       let last : cut (in_order (origins es) ++ own) (taken ++ more) ≡ record { talks = (found es taken).talks; rest = Unfit payload (bytes ++ more) } = subst (λ (c : Cut). RestGoesOn own c.talks c.rest (cut (in_order (origins es) ++ own) (taken ++ more))) stays (cut_goes_on (in_order (origins es)) own (taken ++ more)) in
-      let no : Behind [] ≡ Unfit payload (bytes ++ more) = sym w.rest_is ∙ ap (λ (c : Cut). c.rest) last in cc
+      let no : Trailing [] ≡ Unfit payload (bytes ++ more) = sym w.rest_is ∙ ap (λ (c : Cut). c.rest) last in cc
 
   blamed_never : (fault : CodecFault) (bytes : List ℕ) → (found es taken).rest ≡ Blamed fault bytes → ⊥
   blamed_never fault bytes e =
       let stays : cut (in_order (origins es)) (taken ++ more) ≡ record { talks = (found es taken).talks; rest = Blamed fault (bytes ++ more) } = subst (λ (x : Rest). RestStays more (found es taken).talks x (cut (in_order (origins es)) (taken ++ more))) e (cut_stays (in_order (origins es)) taken more) in
       let last : cut (in_order (origins es) ++ own) (taken ++ more) ≡ record { talks = (found es taken).talks; rest = Blamed fault (bytes ++ more) } = subst (λ (c : Cut). RestGoesOn own c.talks c.rest (cut (in_order (origins es) ++ own) (taken ++ more))) stays (cut_goes_on (in_order (origins es)) own (taken ++ more)) in
-      let no : Behind [] ≡ Blamed fault (bytes ++ more) = sym w.rest_is ∙ ap (λ (c : Cut). c.rest) last in cc
+      let no : Trailing [] ≡ Blamed fault (bytes ++ more) = sym w.rest_is ∙ ap (λ (c : Cut). c.rest) last in cc
 
-  behind_stays : (bytes : List ℕ) → (found es taken).rest ≡ Behind bytes → length (errors_along (found es taken).talks) + length (errors_along (cut own (bytes ++ more)).talks) ≡ length (errors_along (in_order (talks es)))
-  behind_stays bytes e =
-      let stays : cut (in_order (origins es)) (taken ++ more) ≡ record { talks = (found es taken).talks; rest = Behind (bytes ++ more) } = subst (λ (x : Rest). RestStays more (found es taken).talks x (cut (in_order (origins es)) (taken ++ more))) e (cut_stays (in_order (origins es)) taken more) in
+  after_stays : (bytes : List ℕ) → (found es taken).rest ≡ Trailing bytes → length (errors_along (found es taken).talks) + length (errors_along (cut own (bytes ++ more)).talks) ≡ length (errors_along (in_order (talks es)))
+  after_stays bytes e =
+      let stays : cut (in_order (origins es)) (taken ++ more) ≡ record { talks = (found es taken).talks; rest = Trailing (bytes ++ more) } = subst (λ (x : Rest). RestStays more (found es taken).talks x (cut (in_order (origins es)) (taken ++ more))) e (cut_stays (in_order (origins es)) taken more) in
       let last : cut (in_order (origins es) ++ own) (taken ++ more) ≡ record { talks = (found es taken).talks ++ (cut own (bytes ++ more)).talks; rest = (cut own (bytes ++ more)).rest } = subst (λ (c : Cut). RestGoesOn own c.talks c.rest (cut (in_order (origins es) ++ own) (taken ++ more))) stays (cut_goes_on (in_order (origins es)) own (taken ++ more)) in
       sym (along_more (found es taken).talks (cut own (bytes ++ more)).talks) ∙ ap length (sym (ap (λ (c : Cut). errors_along c.talks) last) ∙ w.no_error)
 
 module _ (s : Seen) (h : History) (newest : Entry) (older : List Entry) (own : List Talk) (more : List ℕ) (w : AreWhole (newest ∷ older) own (h.taken ++ more)) where
   refused_never : (e : ServerError) → IsRefused s h newest older e → ⊥
   refused_never e r =
-      let all = behind_stays (newest ∷ older) own h.taken more w r.rest (r.rest_is) in
+      let all = after_stays (newest ∷ older) own h.taken more w r.rest (r.rest_is) in
       let before = in_order (talks older) in
       let grown = grow Failed newest.talk r.payload in
       let a : length (errors_along (found (newest ∷ older) h.taken).talks) ≡ length (errors_along before) + length (in_order (errors_in grown)) = ap (λ (ts : List Talk). length (errors_along ts)) r.talks_are ∙ along_more before (grown ∷ []) ∙ ap (λ n. length (errors_along before) + n) (along_one grown) in

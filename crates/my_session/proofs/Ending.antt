@@ -1,7 +1,7 @@
 -- Where bytes are awaited, the link's end is an end that came too early.
 use Rattle.std.proofs.Common.{◌≡◌, ◌⊎◌, ℕ, suc, zero, List, [], ◌∷◌, length, Bool, true, false, cond, Option, Some, None, inl, inr, refl, sym, ap, ◌∙◌, subst}
-use Rattle.my_wire.specs.declared.err.ErrPacket.{ErrPacket}
-use Rattle.my_wire.specs.ErrPacket.{err_at}
+use Rattle.my_reply.specs.declared.err.ErrPacket.{ErrPacket}
+use Rattle.my_reply.specs.ErrPacket.{err_at}
 use Rattle.my_frame.specs.Front.{Front, Waiting, Broken, Whole, front_at}
 use Rattle.my_value.specs.RowParts.{RowParts}
 use Rattle.my_grammar.specs.declared.spot.Kind.{Kind}
@@ -184,7 +184,7 @@ end_from s t place e (suc n) m g d = absurd (stopped n s place m g)
 
 pub each_end : EachEnd
 unfolding RestsAt
-each_end old new behind e w v = end_from (with_end new) behind new.facts.place e v.count (asks_again (moved w.count old) new w.last).1 v.go v.last
+each_end old new following e w v = end_from (with_end new) following new.facts.place e v.count (asks_again (moved w.count old) new w.last).1 v.go v.last
 
 -- where the next move tells an error, the next step is one
 tells_fault : (s t : Seen) (e : Error) (step : SessionStep) → (next s).does ≡ Tells (ToldError e) → Does (next s) s t (last_tick step) → IsFault step

@@ -44,7 +44,7 @@ fault_fits s None a q e = owed_fits s s.owed refl a q e
 next_fits : (s : Seen) → is_proper s.task ≡ true → IsQuiet s → MoveFits (kind_in s.task) s (next s)
 next_fits s a q = fault_fits s (fault_in s.task) a q refl
 
--- behind moves that go on, the call is what it was
+-- after moves that go on, the call is what it was
 record IsSame (old here : Seen) : Type 0 where
   pub proper : is_proper here.task ≡ true
   pub kind : kind_in here.task ≡ kind_in old.task

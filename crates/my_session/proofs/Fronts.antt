@@ -7,7 +7,7 @@ use Rattle.my_frame.specs.Framed.{IsFramed}
 use Rattle.my_frame.specs.Front.{Front, Waiting, Broken, Whole}
 use Rattle.my_frame.specs.FrontLaws.{FrontMeans, IsWhole}
 
--- what stands behind a payload's chunks is found behind their length
+-- what follows a payload's chunks is found after their length
 drop_chunks : (bytes front rest : List ℕ) → bytes ≡ front ++ rest → drop (length bytes - length rest) bytes ≡ rest
 drop_chunks bytes front rest e =
     let l = length-append front rest in

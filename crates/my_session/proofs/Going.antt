@@ -3,7 +3,7 @@ use Rattle.std.proofs.Common.{◌≡◌, ◌≢◌, ℕ, zero, suc, ◌+◌, ◌
 use Rattle.std.specs.List.{slice_get}
 use Rattle.my_frame.specs.Chunks.{full_length, numbered, split_full, parts_of, chunks}
 use Rattle.my_frame.specs.Front.{Front, Waiting, Broken, Whole, front_at}
-use Rattle.my_wire.specs.declared.err.ErrPacket.{ErrPacket}
+use Rattle.my_reply.specs.declared.err.ErrPacket.{ErrPacket}
 use Rattle.my_value.specs.RowParts.{RowParts}
 use Rattle.my_grammar.specs.declared.spot.Spot.{Spot}
 use Rattle.my_grammar.specs.declared.spot.Spot.TheVariants as spots
@@ -139,8 +139,8 @@ rank_false Dropping untold = omega arith
 rank_false Leaving untold = omega arith
 rank_false (Failing c fault) untold = omega arith
 
--- the session behind a payload
-record IsBehind (s n : Seen) : Type 0 where
+-- the session after a payload
+record IsPassedOn (s n : Seen) : Type 0 where
   task_is : n.task ≡ s.task
   told : n.untold ≡ false
   less : length n.unread < length s.unread
@@ -157,18 +157,18 @@ gave_is : (s n : Seen) (row : Option RowParts) → MoveIs s (gave s n row).seen 
 gave_is s n None = refl
 gave_is s n (Some row) = refl
 
-same_task : (s n : Seen) → is_open s.task ≡ true → IsBehind s n → (is_open n.task ≡ true) × (left_to_do n < left_to_do s)
+same_task : (s n : Seen) → is_open s.task ≡ true → IsPassedOn s n → (is_open n.task ≡ true) × (left_to_do n < left_to_do s)
 same_task s n op b =
     let less = b.less in
     let bound = rank_false s.task s.untold in
     let same : rank n.task n.untold ≡ rank s.task false = ap (λ t. rank t n.untold) b.task_is ∙ ap (rank s.task) b.told in
     (ap is_open b.task_is ∙ op, omega arith)
 
-passed_is : (s n : Seen) (row : Option RowParts) → is_open s.task ≡ true → IsBehind s n → MoveIs s (passed s n row).seen (passed s n row).does
+passed_is : (s n : Seen) (row : Option RowParts) → is_open s.task ≡ true → IsPassedOn s n → MoveIs s (passed s n row).seen (passed s n row).does
 passed_is s n None op b = refl
 passed_is s n (Some row) op b = same_task s n op b
 
-reacted_is : (s n : Seen) (p : List ℕ) (r : Reaction) → is_open s.task ≡ true → IsBehind s n → GoesOn r → MoveIs s (reacted s n p r).seen (reacted s n p r).does
+reacted_is : (s n : Seen) (p : List ℕ) (r : Reaction) → is_open s.task ≡ true → IsPassedOn s n → GoesOn r → MoveIs s (reacted s n p r).seen (reacted s n p r).does
 reacted_is s n p (reactions.Goes u) op b g =
     let less = b.less in
     let bound = g.1 in

@@ -1,7 +1,7 @@
 -- Each move keeps what a session stands for.
 use Rattle.std.proofs.Common.{◌≡◌, ℕ, List, [], ◌∷◌, Bool, true, false, cond, Option, Some, None, inl, refl, sym, ap, ◌∙◌, subst}
-use Rattle.my_wire.specs.declared.err.ErrPacket.{ErrPacket}
-use Rattle.my_wire.specs.ErrPacket.{err_at}
+use Rattle.my_reply.specs.declared.err.ErrPacket.{ErrPacket}
+use Rattle.my_reply.specs.ErrPacket.{err_at}
 use Rattle.my_frame.specs.FrontLaws.{IsWhole}
 use Rattle.my_value.specs.RowParts.{RowParts}
 use Rattle.my_grammar.specs.declared.spot.Context.{Context}
@@ -80,9 +80,9 @@ module _ (s : Seen) (h : History) (st : Stands s h) (open_still : s.closed ≡ f
       subst (λ (b : Bool). Stands (cond b (fell (after kinds.Failed)) (with_task (after kinds.Failed) Nothing false)) (answered h (ToldError (errors.Server (server_error x))))) (sym on)
       (refuses_connect s h st open_still nothing p rest next whole t (server_error x) e (blames x e is) call hd (tie (ToldError (errors.Server (server_error x))) refl))
 
-  -- the tie of a call that reads behind other exchanges
-  tied_behind : (k : Kind) (c : CallKind) → is_greeting s.context.spot ≡ false → IsTied h.calls (begun_of s.context.spot st.newest.call st.older) → (y : Told) → may_lack y (kind_of (call_of c s.text)) ≡ true → IsTied (record { call = call_of c s.text; what = y } ∷ h.calls) (begun_of (spot_after (deprecates_eof s.context.terms.kept) s.context.spot k) st.newest.call st.older)
-  tied_behind k c past t y lack =
+  -- the tie of a call that reads after other exchanges
+  tied_after : (k : Kind) (c : CallKind) → is_greeting s.context.spot ≡ false → IsTied h.calls (begun_of s.context.spot st.newest.call st.older) → (y : Told) → may_lack y (kind_of (call_of c s.text)) ≡ true → IsTied (record { call = call_of c s.text; what = y } ∷ h.calls) (begun_of (spot_after (deprecates_eof s.context.terms.kept) s.context.spot k) st.newest.call st.older)
+  tied_after k c past t y lack =
       none_waits (spot_after (deprecates_eof s.context.terms.kept) s.context.spot k) (record { call = call_of c s.text; what = y } ∷ h.calls) st.newest.call st.older (not_greeting s.context.spot (deprecates_eof s.context.terms.kept) k)
       (quiet_more (record { call = call_of c s.text; what = y }) h.calls (st.newest.call ∷ calls_in st.older) lack (all_begun s.context.spot h.calls st.newest.call st.older past t))
 
@@ -107,10 +107,10 @@ module _ (s : Seen) (h : History) (st : Stands s h) (open_still : s.closed ≡ f
 
   cleaning_keeps : (c : CallKind) (k : Kind) → HeardAs (Cleaning c) → is_connecting s.task ≡ false → kind_there s.context p ≡ k → is_breaking (react_whole (Cleaning c) k) ≡ false → Keeps (reacted s (after k) p (react_whole (Cleaning c) k)) h
   cleaning_keeps c k hd off e b =
-      let behind = λ (x : Kind). not_greeting s.context.spot (deprecates_eof s.context.terms.kept) x in
-      whole_keeps (Cleaning c) refl hd (λ x _ _ _. (hd.at.0, hd.at.1, behind x))
-      (λ x. none_waits (spot_after (deprecates_eof s.context.terms.kept) s.context.spot x) h.calls st.newest.call st.older (behind x) (all_begun s.context.spot h.calls st.newest.call st.older hd.at.2 hd.tie))
-      (λ f. refuse (Cleaning c) c (err_at (is_greeting s.context.spot) p) refl hd f refl off (asks_not c s.text hd.at.0) hd.at.1 (tied_behind kinds.Failed c hd.at.2 hd.tie)) k e b
+      let following = λ (x : Kind). not_greeting s.context.spot (deprecates_eof s.context.terms.kept) x in
+      whole_keeps (Cleaning c) refl hd (λ x _ _ _. (hd.at.0, hd.at.1, following x))
+      (λ x. none_waits (spot_after (deprecates_eof s.context.terms.kept) s.context.spot x) h.calls st.newest.call st.older (following x) (all_begun s.context.spot h.calls st.newest.call st.older hd.at.2 hd.tie))
+      (λ f. refuse (Cleaning c) c (err_at (is_greeting s.context.spot) p) refl hd f refl off (asks_not c s.text hd.at.0) hd.at.1 (tied_after kinds.Failed c hd.at.2 hd.tie)) k e b
 
   arranging_keeps : (n : ℕ) (k : Kind) → HeardAs (Arranging n) → is_connecting s.task ≡ true → kind_there s.context p ≡ k → is_breaking (react_whole (Arranging n) k) ≡ false → Keeps (reacted s (after k) p (react_whole (Arranging n) k)) h
   arranging_keeps n k hd on e b =
@@ -194,7 +194,7 @@ module _ (s : Seen) (h : History) (st : Stands s h) (open_still : s.closed ≡ f
         (shows s h st open_still nothing told p rest next whole Reading NextRow refl refl hd.at.1 hd.at.0 hd hd.tie Nothing (kinds.Good status) ToldEnd e refl refl refl refl refl refl refl hd.at.0
         (ap (λ gs. gs ∷ givens st.older) (sym (good_gives s h st open_still nothing told p rest next whole Reading NextRow refl refl hd.at.1 hd.at.0 hd hd.tie status e)))
         (λ m made. rests (kinds.Good status) m made (good_rests status hd.at.1 e)) (λ m t. t))
-    reading_keeps kinds.Failed e b = refuse Reading NextRow (err_at (is_greeting s.context.spot) p) refl hd e refl (ap is_connecting task) refl hd.at.0 (tied_behind kinds.Failed NextRow (settled_not_greeting s.context.spot hd.at.1) hd.tie)
+    reading_keeps kinds.Failed e b = refuse Reading NextRow (err_at (is_greeting s.context.spot) p) refl hd e refl (ap is_connecting task) refl hd.at.0 (tied_after kinds.Failed NextRow (settled_not_greeting s.context.spot hd.at.1) hd.tie)
     reading_keeps (kinds.Count n) e b = read_head (kinds.Count n) e refl refl refl
     reading_keeps kinds.Column e b = read_head kinds.Column e refl refl refl
     reading_keeps kinds.ColumnsDone e b = read_head kinds.ColumnsDone e refl refl refl
@@ -228,7 +228,7 @@ module _ (s : Seen) (h : History) (st : Stands s h) (open_still : s.closed ≡ f
         (shows s h st open_still nothing told p rest next whole Dropping DropResult refl refl hd.at.1 hd.at.0 hd hd.tie Dropping (kinds.Good status) ToldEnd e refl refl refl refl refl refl refl hd.at.0
         (ap (λ gs. gs ∷ givens st.older) (sym (good_gives s h st open_still nothing told p rest next whole Dropping DropResult refl refl hd.at.1 hd.at.0 hd hd.tie status e)))
         (λ m made. (made, reading_after s.context.spot (deprecates_eof s.context.terms.kept) (kinds.Good status) hd.at.1)) (λ m t. t)))
-    dropping_keeps kinds.Failed e b = refuse Dropping DropResult (err_at (is_greeting s.context.spot) p) refl hd e refl (ap is_connecting task) refl hd.at.0 (tied_behind kinds.Failed DropResult (settled_not_greeting s.context.spot hd.at.1) hd.tie)
+    dropping_keeps kinds.Failed e b = refuse Dropping DropResult (err_at (is_greeting s.context.spot) p) refl hd e refl (ap is_connecting task) refl hd.at.0 (tied_after kinds.Failed DropResult (settled_not_greeting s.context.spot hd.at.1) hd.tie)
     dropping_keeps (kinds.Count n) e b = drop_head (kinds.Count n) e refl refl refl
     dropping_keeps kinds.Column e b = drop_head kinds.Column e refl refl refl
     dropping_keeps kinds.ColumnsDone e b = drop_head kinds.ColumnsDone e refl refl refl

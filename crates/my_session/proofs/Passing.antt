@@ -2,7 +2,7 @@
 use Rattle.std.proofs.Common.{◌≡◌, ℕ, suc, List, [], ◌∷◌, length, Bool, true, false, cond, Option, Some, None, refl, sym, ap, ◌∙◌, subst}
 use Rattle.my_frame.specs.Front.{Front, Waiting, Broken, Whole}
 use Rattle.my_value.specs.RowParts.{RowParts}
-use Rattle.my_wire.specs.declared.err.ErrPacket.{ErrPacket}
+use Rattle.my_reply.specs.declared.err.ErrPacket.{ErrPacket}
 use Rattle.my_grammar.specs.declared.spot.Spot.{Spot}
 use Rattle.my_grammar.specs.declared.spot.Spot.TheVariants as spots
 use Rattle.my_grammar.specs.declared.spot.Kind.{Kind}
@@ -224,16 +224,16 @@ module _ (s : Seen) (sound : fault_in s.task ≡ None) where
   gave_stays n None same = (tt, refl)
   gave_stays n (Some row) same = (tt, same)
 
-  -- the session behind a payload
-  record IsBehind (n : Seen) : Type 0 where
+  -- the session after a payload
+  record IsPassedOn (n : Seen) : Type 0 where
     task_is : n.task ≡ s.task
     login_is : n.login ≡ s.login
 
-  passed_stays : (n : Seen) (row : Option RowParts) → IsBehind n → kind_in s.task ≡ Some DropResult → Stays (passed s n row)
+  passed_stays : (n : Seen) (row : Option RowParts) → IsPassedOn n → kind_in s.task ≡ Some DropResult → Stays (passed s n row)
   passed_stays n None same drops = (tt, refl)
   passed_stays n (Some row) same drops = ((ap kind_in same.task_is, ap fault_in same.task_is ∙ sound, drops, tt), same.login_is)
 
-  reacted_stays : (n : Seen) (p : List ℕ) (r : Reaction) → IsBehind n → StaysIn (kind_in s.task) r → Stays (reacted s n p r)
+  reacted_stays : (n : Seen) (p : List ℕ) (r : Reaction) → IsPassedOn n → StaysIn (kind_in s.task) r → Stays (reacted s n p r)
   reacted_stays n p (reactions.Goes u) same i = (i, same.login_is)
   reacted_stays n p (reactions.Readies untold) same i = (tt, same.login_is)
   reacted_stays n p reactions.Gives same i = gave_stays n (row_at s.facts.columns p) same.login_is

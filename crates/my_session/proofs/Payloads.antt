@@ -1,17 +1,17 @@
 -- A payload of a kind reads as its packet.
 use Rattle.std.proofs.Common.{◌≡◌, ℕ, List, [], ◌∷◌, length, Bool, true, false, cond, Option, Some, None, refl, sym, ap, ◌∙◌, arith, length-append}
-use Rattle.my_wire.specs.declared.err.ErrPacket.{ErrPacket}
-use Rattle.my_wire.specs.declared.ok.OkPacket.{OkPacket}
-use Rattle.my_wire.specs.declared.eof.EofPacket.{EofPacket}
+use Rattle.my_reply.specs.declared.err.ErrPacket.{ErrPacket}
+use Rattle.my_reply.specs.declared.ok.OkPacket.{OkPacket}
+use Rattle.my_reply.specs.declared.eof.EofPacket.{EofPacket}
 use Rattle.my_handshake.specs.declared.greeting.Greeting.{Greeting}
-use Rattle.my_wire.specs.declared.column.Column.{Column as AnyColumn}
-use Rattle.my_wire.specs.declared.column_count.ColumnCount.{ColumnCount}
-use Rattle.my_wire.specs.Column.{column_at}
-use Rattle.my_wire.specs.ColumnCount.{column_count_at}
-use Rattle.my_wire.specs.EofPacket.{eof_at}
-use Rattle.my_wire.specs.ErrPacket.{err_at}
+use Rattle.my_reply.specs.declared.column.Column.{Column as AnyColumn}
+use Rattle.my_reply.specs.declared.column_count.ColumnCount.{ColumnCount}
+use Rattle.my_reply.specs.Column.{column_at}
+use Rattle.my_reply.specs.ColumnCount.{column_count_at}
+use Rattle.my_reply.specs.EofPacket.{eof_at}
+use Rattle.my_reply.specs.ErrPacket.{err_at}
 use Rattle.my_handshake.specs.Greeting.{greeting_at}
-use Rattle.my_wire.specs.OkPacket.{ok_at, end_ok_at}
+use Rattle.my_reply.specs.OkPacket.{ok_at, end_ok_at}
 use Rattle.my_value.specs.declared.value.Value.{Value}
 use Rattle.my_value.specs.TextRow.{text_row_at}
 use Rattle.my_value.specs.RowParts.{RowParts}

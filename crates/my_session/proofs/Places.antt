@@ -1,9 +1,9 @@
 -- How many payloads were read, as errors tell it.
 use Rattle.std.proofs.Common.{◌≡◌, ℕ, ◌+◌, ◌-◌, ◌^◌, min, List, [], ◌∷◌, ◌++◌, length, leb, Bool, true, false, cond, Option, Some, None, refl, sym, ap, ◌∙◌, arith}
 use Rattle.my_handshake.specs.declared.greeting.Greeting.{Greeting}
-use Rattle.my_wire.specs.declared.column.Column.{Column}
+use Rattle.my_reply.specs.declared.column.Column.{Column}
 use Rattle.my_handshake.specs.Greeting.{greeting_at}
-use Rattle.my_wire.specs.Column.{column_at}
+use Rattle.my_reply.specs.Column.{column_at}
 use Rattle.my_grammar.specs.declared.packet.Packet.{Packet}
 use Rattle.my_grammar.specs.declared.login.Login.{Login}
 use Rattle.my_grammar.specs.declared.spot.Kind.{Kind}
@@ -48,10 +48,10 @@ place_by (packet ∷ ps) f n e =
     ap (λ k. min (k + 1) (2 ^ 64 - 1)) (told_place packet.kind packet.payload (facts_by ps f) ∙ place_by ps f n e)
     ∙ one_more (length ps + n) (2 ^ 64 - 1) ∙ ap (λ k. min k (2 ^ 64 - 1)) (omega arith)
 
-behind_all : (ts : List Talk) (t : Talk) → place_of (ts ++ t ∷ []) ≡ length (packets_of t) + place_of ts
-behind_all [] t = refl
-behind_all (u ∷ ts) t = let more = behind_all ts t in omega arith
+after_all : (ts : List Talk) (t : Talk) → place_of (ts ++ t ∷ []) ≡ length (packets_of t) + place_of ts
+after_all [] t = refl
+after_all (u ∷ ts) t = let more = after_all ts t in omega arith
 
 pub place_is : (login : Login) (es : List Entry) → (facts_of login es).place ≡ place_in es
 place_is login [] = refl
-place_is login (e ∷ es) = place_by (packets_of e.talk) (facts_of login es) (place_of (in_order (talks es))) (place_is login es) ∙ ap (λ k. min k (2 ^ 64 - 1)) (sym (behind_all (in_order (talks es)) e.talk))
+place_is login (e ∷ es) = place_by (packets_of e.talk) (facts_of login es) (place_of (in_order (talks es))) (place_is login es) ∙ ap (λ k. min k (2 ^ 64 - 1)) (sym (after_all (in_order (talks es)) e.talk))

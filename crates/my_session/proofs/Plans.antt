@@ -37,7 +37,7 @@ use Rattle.my_session.proofs.Asking.{asks_keep, arranges_keep}
 use Rattle.my_session.proofs.Keeps.{Keeps, is_reader, react_keeps}
 use Rattle.my_session.proofs.Reacts.{falls, fell_stands}
 use Rattle.my_session.proofs.Spots.{settled_reads, settled_not_greeting}
-use Rattle.my_session.proofs.Ties.{answered_stands, noted_stands, own_behind, at_greeting, quiet_more, arranged_more, first_count}
+use Rattle.my_session.proofs.Ties.{answered_stands, noted_stands, own_after, at_greeting, quiet_more, arranged_more, first_count}
 use Rattle.my_session.proofs.Firsts.{given_first, first_groups}
 use Rattle.my_session.proofs.Views.{given_all}
 
@@ -183,7 +183,7 @@ module _ (s : Seen) (h : History) (st : Stands s h) (open_still : s.closed ≡ f
   rest_at : has_connected h.calls ≡ true → is_settled s.context.spot ≡ true → s.closed ≡ false → cond (has_connected h.calls) (is_settled s.context.spot) (is_greeting s.context.spot) ≡ true
   rest_at made e _ = subst (λ b. cond b (is_settled s.context.spot) (is_greeting s.context.spot) ≡ true) (sym made) e
 
-  -- a query is answered, behind the head of its first set
+  -- a query is answered, after the head of its first set
   readied : HeardAs (Own Query) → s.context.spot ≡ spots.Rows → Keeps (planned s plans.Readies) h
   readied hd rows = answered_stands (with_task s Nothing s.untold) h (call_of Query s.text) ToldReady hd.pending_is (record {
     newest = record { call = st.newest.call; talk = st.newest.talk; given = Some [] };
@@ -200,7 +200,7 @@ module _ (s : Seen) (h : History) (st : Stands s h) (open_still : s.closed ≡ f
       fresh = λ _ _ _. ap Some (sym (first_groups s.untold (sets_of st.newest.talk) hd.at.2));
       at = rest_at hd.at.0 (ap is_settled rows);
       first = hd.first;
-      tie = own_behind s.context.spot h.calls (record { call = call_of Query s.text; what = ToldReady }) st.newest.call st.older (ap is_greeting rows) (sym hd.tie.0) hd.tie.1;
+      tie = own_after s.context.spot h.calls (record { call = call_of Query s.text; what = ToldReady }) st.newest.call st.older (ap is_greeting rows) (sym hd.tie.0) hd.tie.1;
     };
     arranged = arranged_more s.login (record { call = call_of Query s.text; what = ToldReady }) h.calls st.newest st.older refl st.arranged;
     ended_is = st.ended_is;

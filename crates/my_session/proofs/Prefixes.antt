@@ -1,7 +1,7 @@
 -- What stood at an earlier moment is, set by set, a beginning of what stands.
 use Rattle.std.proofs.Common.{◌≡◌, ℕ, ◌-◌, List, [], ◌∷◌, ◌++◌, Bool, true, false, cond, leb, Option, Some, None, refl, sym, ap, ◌∙◌, subst}
 use Rattle.std.proofs.lemmas.List.{append_assoc}
-use Rattle.my_wire.specs.declared.column.Column.{Column}
+use Rattle.my_reply.specs.declared.column.Column.{Column}
 use Rattle.my_value.specs.RowParts.{RowParts}
 use Rattle.my_grammar.specs.declared.spot.Kind.{Kind}
 use Rattle.my_grammar.specs.declared.spot.Kind.TheVariants as kinds
@@ -84,7 +84,7 @@ now_front d (Ended older head rows last status) f =
     record { newer = []; older = sets_in (Ended older head rows last status); all = refl; covers = subst (λ (gs : List Group). Covers gs (sets_in (Ended older head rows last status))) (sym (end_whole (head_columns head) rows (groups older) (sets_in older) w)) (part _ _ refl (λ h. h), w) }
 now_front d (Broken older head rows last) f = begun_front (head_columns head) rows (groups older) (sets_in older) (whole_at_head d older f.2 f.0.heading.place)
 
--- a set more behind
+-- a set more after
 more_set : (gs : List Group) (ss : List Set) (s : Set) → IsFront gs ss → IsFront gs (s ∷ ss)
 more_set gs ss s f = record { newer = s ∷ f.newer; older = f.older; all = ap (λ xs. s ∷ xs) f.all; covers = f.covers }
 

@@ -33,7 +33,7 @@ use Rattle.my_session.specs.Stands.{Stands, Heard, TaskIs, TieIs, IsArranged, ca
 use Rattle.my_session.specs.Steps.{is_settled}
 use Rattle.my_session.proofs.Blames.{is_failed, calm_blames}
 use Rattle.my_session.proofs.Spots.{is_known, known, row_spot, end_spot, good_spot, failed_idle, settled_more, reading_after, left_here, not_greeting, settled_not_greeting}
-use Rattle.my_session.proofs.Ties.{answered_stands, kind_there_is, closed_tie, own_behind, quiet_more, all_begun, none_waits, arranged_more, arranged_fell}
+use Rattle.my_session.proofs.Ties.{answered_stands, kind_there_is, closed_tie, own_after, quiet_more, all_begun, none_waits, arranged_more, arranged_fell}
 use Rattle.my_session.proofs.Firsts.{given_first, first_on, is_queried, IsReady, ready_on, query_talk}
 use Rattle.my_session.proofs.Views.{given_on, given_all, is_part, part_groups, end_groups, good_groups, row_groups}
 use Rattle.my_session.proofs.Wired.{wire_read, wire_fell, talk_grows, silent}
@@ -91,7 +91,7 @@ part_calm Row e = refl
 part_calm (End status) e = refl
 part_calm Bad e = refl
 
--- behind a payload
+-- after a payload
 module _ (s : Seen) (h : History) (st : Stands s h) (open_still : s.closed ≡ false) (nothing : s.owed ≡ []) (p rest : List ℕ) (next : ℕ) (whole : IsWhole s.number s.context.terms.limit s.unread p rest next) where
   d : Bool
   d = deprecates_eof s.context.terms.kept
@@ -208,7 +208,7 @@ module _ (s : Seen) (h : History) (st : Stands s h) (open_still : s.closed ≡ f
         fresh = λ _ _ left. let no : is_left spots.Idle ≡ true = subst (λ (x : Spot). is_left x ≡ true) idle left in cc;
         at = λ _. subst (λ b. cond b (is_settled (spot_by (Good status))) (is_greeting (spot_by (Good status))) ≡ true) (sym hd.at.0) (ap is_settled idle);
         first = λ no. no_greeting (Good status) no;
-        tie = own_behind (spot_by (Good status)) h.calls (record { call = call_of Ping s.text; what = ToldReady }) st.newest.call st.older (not_greeting s.context.spot (deprecates_eof s.context.terms.kept) (Good status)) (sym hd.tie.0) hd.tie.1;
+        tie = own_after (spot_by (Good status)) h.calls (record { call = call_of Ping s.text; what = ToldReady }) st.newest.call st.older (not_greeting s.context.spot (deprecates_eof s.context.terms.kept) (Good status)) (sym hd.tie.0) hd.tie.1;
       }) (arranged_on (Good status) st.newest.given (record { call = call_of Ping s.text; what = ToldReady } ∷ h.calls) e refl (λ _. refl) (arranged_more s.login (record { call = call_of Ping s.text; what = ToldReady }) h.calls st.newest st.older refl st.arranged)) (λ _. refl))
 
   is_query : Heard (tasks.Own Query) s.text s.context.spot s.untold s.closed h.lost h.calls h.pending st.newest st.older → is_queried st.newest.talk ≡ true
@@ -232,7 +232,7 @@ module _ (s : Seen) (h : History) (st : Stands s h) (open_still : s.closed ≡ f
         fresh = λ _ _ _. ap Some (sym ready.none);
         at = λ _. subst (λ b. cond b (is_settled (spot_by (Good status))) (is_greeting (spot_by (Good status))) ≡ true) (sym hd.at.0) settled_here;
         first = λ no. no_greeting (Good status) no;
-        tie = own_behind (spot_by (Good status)) h.calls (record { call = call_of Query s.text; what = ToldReady }) st.newest.call st.older (not_greeting s.context.spot (deprecates_eof s.context.terms.kept) (Good status)) (sym hd.tie.0) hd.tie.1;
+        tie = own_after (spot_by (Good status)) h.calls (record { call = call_of Query s.text; what = ToldReady }) st.newest.call st.older (not_greeting s.context.spot (deprecates_eof s.context.terms.kept) (Good status)) (sym hd.tie.0) hd.tie.1;
       }) (arranged_on (Good status) (Some []) (record { call = call_of Query s.text; what = ToldReady } ∷ h.calls) e refl (λ _. refl) (arranged_more s.login (record { call = call_of Query s.text; what = ToldReady }) h.calls st.newest st.older refl st.arranged)) (λ _. refl))
 
   -- a part of the first head of a query's answer
@@ -256,7 +256,7 @@ module _ (s : Seen) (h : History) (st : Stands s h) (open_still : s.closed ≡ f
   pub reads_on : (k : Kind) → is_reading (spot_by s h st open_still nothing p rest next whole k) ≡ true
   reads_on k = reading_after s.context.spot (deprecates_eof s.context.terms.kept) k reads
 
-  -- the exchanges behind a payload are those before it
+  -- the exchanges after a payload are those before it
   pub tied_on : (k : Kind) (x : List Made) → IsTied x (st.newest.call ∷ calls_in st.older) → IsTied x (begun_of (spot_by s h st open_still nothing p rest next whole k) st.newest.call st.older)
   tied_on k x w = none_waits (spot_by s h st open_still nothing p rest next whole k) x st.newest.call st.older (not_greeting s.context.spot (deprecates_eof s.context.terms.kept) k) w
 

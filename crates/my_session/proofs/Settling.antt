@@ -1,13 +1,13 @@
 -- What the answer to the query for the settings comes to.
 use Rattle.std.proofs.Common.{◌≡◌, ℕ, List, [], ◌∷◌, Bool, true, false, cond, Option, Some, None, refl, ap, ◌∙◌}
-use Rattle.my_wire.specs.declared.column.Column.{Column}
+use Rattle.my_reply.specs.declared.column.Column.{Column}
 use Rattle.my_handshake.specs.declared.greeting.Greeting.{Greeting}
 use Rattle.my_value.specs.RowParts.{RowParts}
 use Rattle.my_grammar.specs.declared.packet.Packet.{Packet}
 use Rattle.my_grammar.specs.declared.spot.Kind.{Kind}
 use Rattle.my_grammar.specs.declared.spot.Kind.TheVariants as kinds
 use Rattle.my_grammar.specs.Sets.{each}
-use Rattle.my_wire.specs.Column.{column_at}
+use Rattle.my_reply.specs.Column.{column_at}
 use Rattle.my_handshake.specs.Greeting.{greeting_at}
 use Rattle.my_session.specs.declared.facts.Facts.{Facts}
 use Rattle.my_session.specs.declared.settings.Settings.{Settings}

@@ -4,7 +4,7 @@ use Rattle.my_grammar.specs.declared.spot.Kind.{Kind}
 use Rattle.my_grammar.specs.declared.spot.Kind.TheVariants.{Greets, Good, Failed, Count, Column, ColumnsDone, Row, End, Bad}
 use Rattle.my_grammar.specs.declared.spot.Spot.{Spot}
 use Rattle.my_grammar.specs.declared.spot.Spot.TheVariants as spots
-use Rattle.my_grammar.specs.Contexts.{is_bad, more, has_more, spot_after, behind_columns}
+use Rattle.my_grammar.specs.Contexts.{is_bad, more, has_more, spot_after, after_columns}
 use Rattle.my_grammar.specs.Kinds.{kind_by, greeting_kind, single_kind, head_kind, column_kind, columns_end_kind, row_kind}
 use Rattle.my_grammar.proofs.Known.{is_greeting_kind, is_single_kind, is_head_kind, is_column_kind, is_close_kind, is_row_kind, known_greeting, known_single, known_head, known_column, known_close, known_row, is_then}
 use Rattle.my_session.specs.Machine.{is_greeting}
@@ -69,7 +69,7 @@ good_spot (spots.Columns left) status i e = cc
 good_spot spots.ColumnsEnd status i e = cc
 good_spot spots.Rows status i e = cc
 
--- behind an ERR nothing is awaited
+-- after an ERR nothing is awaited
 pub failed_idle : (s : Spot) (d : Bool) → is_known s Failed ≡ true → spot_after d s Failed ≡ spots.Idle
 failed_idle spots.Idle d e = refl
 failed_idle spots.Greeting d e = refl
@@ -93,7 +93,7 @@ shaken (spots.Columns left) d status e = cc
 shaken spots.ColumnsEnd d status e = cc
 shaken spots.Rows d status e = cc
 
--- behind a greeting the handshake goes on
+-- after a greeting the handshake goes on
 pub greets_on : (s : Spot) (d : Bool) (c : ℕ) → is_known s (Greets c) ≡ true → spot_after d s (Greets c) ≡ spots.Authentication
 greets_on spots.Idle d c e = cc
 greets_on spots.Greeting d c e = refl
@@ -116,11 +116,11 @@ settled_if false = refl
 pub settled_more : (status : ℕ) → is_settled (more status) ≡ true
 settled_more status = settled_if (has_more status)
 
-reading_columns : (d : Bool) → is_reading (behind_columns d) ≡ true
+reading_columns : (d : Bool) → is_reading (after_columns d) ≡ true
 reading_columns true = refl
 reading_columns false = refl
 
-reading_column : (d last : Bool) (left : ℕ) → is_reading (cond last (behind_columns d) (spots.Columns left)) ≡ true
+reading_column : (d last : Bool) (left : ℕ) → is_reading (cond last (after_columns d) (spots.Columns left)) ≡ true
 reading_column d true left = reading_columns d
 reading_column d false left = refl
 
@@ -186,7 +186,7 @@ not_greeting_if : (t : Bool) → is_greeting (cond t spots.Further spots.Idle) �
 not_greeting_if true = refl
 not_greeting_if false = refl
 
-not_greeting_columns : (d last : Bool) (left : ℕ) → is_greeting (cond last (behind_columns d) (spots.Columns left)) ≡ false
+not_greeting_columns : (d last : Bool) (left : ℕ) → is_greeting (cond last (after_columns d) (spots.Columns left)) ≡ false
 not_greeting_columns true true left = refl
 not_greeting_columns false true left = refl
 not_greeting_columns d false left = refl
@@ -224,7 +224,7 @@ not_greeting_start d Row = refl
 not_greeting_start d (End status) = refl
 not_greeting_start d Bad = refl
 
--- behind a payload no greeting is awaited
+-- after a payload no greeting is awaited
 pub not_greeting : (s : Spot) (d : Bool) (k : Kind) → is_greeting (spot_after d s k) ≡ false
 not_greeting spots.Idle d k = refl
 not_greeting spots.Greeting d k = not_greeting_start d k

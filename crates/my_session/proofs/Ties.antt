@@ -42,14 +42,14 @@ asks_not DropResult text e = cc
 asks_not Ping text e = refl
 asks_not Quit text e = refl
 
--- behind the first of the exchanges that a call owns
-owns_behind : (made : List Made) (m : Made) (older : List Call) → may_lack m.what (kind_of m.call) ≡ true → IsTied made older ⊎ ((is_connect (kind_of m.call) ≡ true) × OwnsFirst m.call older (IsTied made)) → IsTied (m ∷ made) older
-owns_behind made m older lack (inl t) = inl (lack, t)
-owns_behind made m older lack (inr o) = inr o.1
+-- after the first of the exchanges that a call owns
+owns_after : (made : List Made) (m : Made) (older : List Call) → may_lack m.what (kind_of m.call) ≡ true → IsTied made older ⊎ ((is_connect (kind_of m.call) ≡ true) × OwnsFirst m.call older (IsTied made)) → IsTied (m ∷ made) older
+owns_after made m older lack (inl t) = inl (lack, t)
+owns_after made m older lack (inr o) = inr o.1
 
 -- exchanges of one's own; the login is none before the greeting
 owns_tie : (greeting : Bool) (made : List Made) (m : Made) (call : Call) (older : List Call) → may_lack m.what (kind_of m.call) ≡ true → OwnsFirst m.call (call ∷ older) (IsTied made) → IsTied (m ∷ made) (cond greeting older (call ∷ older))
-owns_tie true made m call older lack o = owns_behind made m older lack o.1
+owns_tie true made m call older lack o = owns_after made m older lack o.1
 owns_tie false made m call older lack o = inr o
 
 owns_as : (c d : Call) (cs : List Call) (made : List Made) → d ≡ c → OwnsFirst c cs (IsTied made) → OwnsFirst d cs (IsTied made)
@@ -76,7 +76,7 @@ closed_tie (tasks.Failing d fault) c text spot made call older m k e lack t =
       | inr w ↦ inl (lack, w)
     ]
 
--- behind the greeting all exchanges began
+-- after the greeting all exchanges began
 pub all_begun : (spot : Spot) (made : List Made) (call : Call) (older : List Entry) → is_greeting spot ≡ false → IsTied made (begun_of spot call older) → IsTied made (call ∷ calls_in older)
 all_begun spot made call older e t = subst (λ b. IsTied made (cond b (calls_in older) (call ∷ calls_in older))) e t
 
@@ -86,9 +86,9 @@ none_waits spot made call older e t = subst (λ b. IsTied made (cond b (calls_in
 pub at_greeting : (spot : Spot) (made : List Made) (call : Call) (older : List Entry) → is_greeting spot ≡ true → IsTied made (begun_of spot call older) → IsTied made (calls_in older)
 at_greeting spot made call older e t = subst (λ b. IsTied made (cond b (calls_in older) (call ∷ calls_in older))) e t
 
--- the answer of a call with its own exchange, behind the greeting
-pub own_behind : (spot : Spot) (made : List Made) (m : Made) (call : Call) (older : List Entry) → is_greeting spot ≡ false → m.call ≡ call → IsTied made (calls_in older) → IsTied (m ∷ made) (begun_of spot call older)
-own_behind spot made m call older e same t = none_waits spot (m ∷ made) call older e (inr (same, inl t))
+-- the answer of a call with its own exchange, after the greeting
+pub own_after : (spot : Spot) (made : List Made) (m : Made) (call : Call) (older : List Entry) → is_greeting spot ≡ false → m.call ≡ call → IsTied made (calls_in older) → IsTied (m ∷ made) (begun_of spot call older)
+own_after spot made m call older e same t = none_waits spot (m ∷ made) call older e (inr (same, inl t))
 
 -- the answer of connecting, whose exchanges are all its own
 pub owns_all : (spot : Spot) (made : List Made) (m : Made) (call : Call) (older : List Entry) → is_greeting spot ≡ false → m.call ≡ calls.Connect → OwnsFirst calls.Connect (call ∷ calls_in older) (IsTied made) → IsTied (m ∷ made) (begun_of spot call older)

@@ -1,8 +1,8 @@
 -- Each error of the server is told once, in order.
 use Rattle.std.proofs.Common.{◌≡◌, ℕ, suc, zero, List, [], ◌∷◌, ◌++◌, length, false, Option, Some, None, refl, sym, ap, ◌∙◌, subst}
 use Rattle.std.proofs.lemmas.List.{append_assoc, append-nil}
-use Rattle.my_wire.specs.declared.err.ErrPacket.{ErrPacket}
-use Rattle.my_wire.specs.ErrPacket.{err_at}
+use Rattle.my_reply.specs.declared.err.ErrPacket.{ErrPacket}
+use Rattle.my_reply.specs.ErrPacket.{err_at}
 use Rattle.my_frame.specs.Front.{Front, Waiting, Broken, Whole}
 use Rattle.my_grammar.specs.declared.spot.Kind.{Kind}
 use Rattle.my_grammar.specs.declared.spot.Kind.TheVariants as kinds
@@ -66,9 +66,9 @@ later : (t : Talk) (bytes : List ℕ) → Adds t (read_from t bytes).talk
 unfolding read_from
 later t bytes = later_within (length bytes) t bytes
 
-errors_behind : (ts : List Talk) (t : Talk) → errors_along (ts ++ t ∷ []) ≡ errors_along ts ++ in_order (errors_in t)
-errors_behind [] t = append-nil (in_order (errors_in t))
-errors_behind (u ∷ ts) t = ap (λ es. in_order (errors_in u) ++ es) (errors_behind ts t) ∙ sym (append_assoc (in_order (errors_in u)) (errors_along ts) (in_order (errors_in t)))
+errors_after : (ts : List Talk) (t : Talk) → errors_along (ts ++ t ∷ []) ≡ errors_along ts ++ in_order (errors_in t)
+errors_after [] t = append-nil (in_order (errors_in t))
+errors_after (u ∷ ts) t = ap (λ es. in_order (errors_in u) ++ es) (errors_after ts t) ∙ sym (append_assoc (in_order (errors_in u)) (errors_along ts) (in_order (errors_in t)))
 
 in_order-append : (xs ys : List ServerError) → in_order (xs ++ ys) ≡ in_order ys ++ in_order xs
 in_order-append [] ys = sym (append-nil (in_order ys))
@@ -76,7 +76,7 @@ in_order-append (x ∷ xs) ys = ap (λ es. es ++ x ∷ []) (in_order-append xs y
 
 along_all : (es : List Entry) → errors_along (in_order (talks es)) ≡ in_order (errors_of es)
 along_all [] = refl
-along_all (e ∷ es) = errors_behind (in_order (talks es)) e.talk ∙ ap (λ xs. xs ++ in_order (errors_in e.talk)) (along_all es) ∙ sym (in_order-append (errors_in e.talk) (errors_of es))
+along_all (e ∷ es) = errors_after (in_order (talks es)) e.talk ∙ ap (λ xs. xs ++ in_order (errors_in e.talk)) (along_all es) ∙ sym (in_order-append (errors_in e.talk) (errors_of es))
 
 one_in_order : (o : Option ServerError) → in_order (at_most_one o) ≡ at_most_one o
 one_in_order None = refl
@@ -96,7 +96,7 @@ unheard e es unread =
     record {
       new = w.new;
       errors =
-          errors_behind (in_order (talks es)) now
+          errors_after (in_order (talks es)) now
           ∙ ap (λ xs. xs ++ in_order (errors_in now)) (along_all es)
           ∙ ap (λ xs. in_order (errors_of es) ++ xs) here
           ∙ sym (append_assoc (in_order (errors_of es)) (in_order (errors_in e.talk)) (at_most_one w.new))

@@ -1,8 +1,8 @@
 -- What a payload more does to the sets of an exchange, and to what was given of them.
 use Rattle.std.proofs.Common.{◌≡◌, ℕ, ◌+◌, ◌-◌, ◌<◌, List, [], ◌∷◌, ◌++◌, length, Bool, true, false, cond, leb, Option, Some, None, refl, sym, ap, ◌∙◌, subst, arith}
 use Rattle.std.proofs.lemmas.Bool.Decides.{nat_tests}
-use Rattle.my_wire.specs.declared.column.Column.{Column as AnyColumn}
-use Rattle.my_wire.specs.Column.{column_at}
+use Rattle.my_reply.specs.declared.column.Column.{Column as AnyColumn}
+use Rattle.my_reply.specs.Column.{column_at}
 use Rattle.my_grammar.specs.declared.login.Login.{Login}
 use Rattle.my_grammar.specs.declared.spot.Kind.{Kind}
 use Rattle.my_grammar.specs.declared.spot.Kind.TheVariants as kinds
@@ -206,31 +206,31 @@ last_if true f c ps p is last l g = joined f c ps p is g
 last_if false f c ps p is last l g = absurd (grind (arith, nat_tests))
 
 module _ (f : Facts) (count : List ℕ) (number : ℕ) (others : List Packet) where
-  -- the facts behind a head's count and some columns
-  abbrev behind : List (List ℕ) → Facts
-  behind ps = facts_by (each kinds.Column ps (record { kind = kinds.Count number; payload = count } ∷ others)) f
+  -- the facts after a head's count and some columns
+  abbrev following : List (List ℕ) → Facts
+  following ps = facts_by (each kinds.Column ps (record { kind = kinds.Count number; payload = count } ∷ others)) f
 
-  gathers : (ps : List (List ℕ)) → AreColumns ps → length ps < number → Gathers (behind ps) (number - length ps) (columns_in_order ps)
+  gathers : (ps : List (List ℕ)) → AreColumns ps → length ps < number → Gathers (following ps) (number - length ps) (columns_in_order ps)
   gathers [] a less = record { left_is = omega arith; gathered_is = refl }
   gathers (p ∷ ps) a less =
       let old = gathers ps a.1 (omega arith) in
       let c = column_there (column_at p) a.0 in
       let l = old.left_is in
-      subst (λ (o : Option AnyColumn). Gathers (counted (column_told o (behind ps))) (number - length (p ∷ ps)) (columns_in_order (p ∷ ps))) (sym c.1)
-      (counts _ _ _ (gathers_if (leb (behind ps).left 1) (behind ps) c.0 ps p (number - length (p ∷ ps)) c.1 refl (omega arith) (omega arith) old.gathered_is))
+      subst (λ (o : Option AnyColumn). Gathers (counted (column_told o (following ps))) (number - length (p ∷ ps)) (columns_in_order (p ∷ ps))) (sym c.1)
+      (counts _ _ _ (gathers_if (leb (following ps).left 1) (following ps) c.0 ps p (number - length (p ∷ ps)) c.1 refl (omega arith) (omega arith) old.gathered_is))
     where
       counts : (g : Facts) (left : ℕ) (columns : List AnyColumn) → Gathers g left columns → Gathers (counted g) left columns
       counts g left columns w = record { left_is = w.left_is; gathered_is = w.gathered_is }
 
-  -- behind the last column the set's columns are those of the head
-  all_columns : (ps : List (List ℕ)) → AreColumns ps → length ps ≡ number → 0 < number → (behind ps).columns ≡ columns_in_order ps
+  -- after the last column the set's columns are those of the head
+  all_columns : (ps : List (List ℕ)) → AreColumns ps → length ps ≡ number → 0 < number → (following ps).columns ≡ columns_in_order ps
   all_columns [] a all some = absurd (omega arith)
   all_columns (p ∷ ps) a all some =
       let old = gathers ps a.1 (omega arith) in
       let c = column_there (column_at p) a.0 in
       let l = old.left_is in
-      subst (λ (o : Option AnyColumn). (counted (column_told o (behind ps))).columns ≡ columns_in_order (p ∷ ps)) (sym c.1)
-      (last_if (leb (behind ps).left 1) (behind ps) c.0 ps p c.1 refl (omega arith) old.gathered_is)
+      subst (λ (o : Option AnyColumn). (counted (column_told o (following ps))).columns ≡ columns_in_order (p ∷ ps)) (sym c.1)
+      (last_if (leb (following ps).left 1) (following ps) c.0 ps p c.1 refl (omega arith) old.gathered_is)
 
   -- and stay so while its rows are read
   closed_columns : (ps : List (List ℕ)) (close : Option (List ℕ)) → AreColumns ps → length ps ≡ number → 0 < number → (facts_by (at_most_one kinds.ColumnsDone close (each kinds.Column ps (record { kind = kinds.Count number; payload = count } ∷ others))) f).columns ≡ columns_in_order ps

@@ -2,7 +2,7 @@
 use Rattle.std.proofs.Common.{◌≡◌, ℕ, ◌≤◌, List, [], ◌∷◌, ◌++◌, length, take, drop, Bool, true, false, Some, refl, sym, ap, ◌∙◌, subst}
 use Rattle.std.proofs.lemmas.List.{append_assoc, append-nil, take-append-drop}
 use Rattle.std.proofs.Math.Seq.{drop-nil, take-nil}
-use Rattle.my_frame.specs.Chunks.{chunks, number_behind}
+use Rattle.my_frame.specs.Chunks.{chunks, number_after_payload}
 use Rattle.my_frame.specs.FrontLaws.{IsWhole}
 use Rattle.my_grammar.specs.declared.login.Login.{Login}
 use Rattle.my_grammar.specs.declared.spot.Context.{Context}
@@ -23,8 +23,8 @@ use Rattle.my_session.specs.Facts.{facts_after, facts_by}
 use Rattle.my_session.specs.Machine.{reply_to, reply_bytes, reply_number}
 use Rattle.my_session.specs.Stands.{Wire}
 
--- what the client says behind a payload
-reply_is : (login : Login) (k : Kind) (p : List ℕ) (n : ℕ) → said login k p n ≡ reply_bytes (reply_to login k p) (number_behind p n)
+-- what the client says after a payload
+reply_is : (login : Login) (k : Kind) (p : List ℕ) (n : ℕ) → said login k p n ≡ reply_bytes (reply_to login k p) (number_after_payload p n)
 reply_is login (Greets c) p n = refl
 reply_is login (Good status) p n = refl
 reply_is login Failed p n = refl
@@ -35,7 +35,7 @@ reply_is login Row p n = refl
 reply_is login (End status) p n = refl
 reply_is login Bad p n = refl
 
-number_is : (login : Login) (k : Kind) (p : List ℕ) (n : ℕ) → number_next login k p n ≡ reply_number (reply_to login k p) (number_behind p n)
+number_is : (login : Login) (k : Kind) (p : List ℕ) (n : ℕ) → number_next login k p n ≡ reply_number (reply_to login k p) (number_after_payload p n)
 number_is login (Greets c) p n = refl
 number_is login (Good status) p n = refl
 number_is login Failed p n = refl
@@ -46,7 +46,7 @@ number_is login Row p n = refl
 number_is login (End status) p n = refl
 number_is login Bad p n = refl
 
--- behind another payload than a greeting the client says nothing
+-- after another payload than a greeting the client says nothing
 pub silent : (login : Login) (k : Kind) (p : List ℕ) (n : ℕ) → not_greets k ≡ true → reply_bytes (reply_to login k p) n ≡ []
 silent login (Greets c) p n e = cc
 silent login (Good status) p n e = refl
@@ -165,10 +165,10 @@ module _ (login : Login) (taken sent : List ℕ) (call : Call) (talk : Talk) (ol
       let n = number_of (turns talk) in
       let g : Grows talk k p = talk_grows context number unread owed closed facts k p rest next kind good whole w in
       let r : Reads login k p (turns talk) = reads login k p (turns talk) in
-      let behind : number_behind p n ≡ next = ap (number_behind p) (sym w.number_is) ∙ sym whole.next_is in
+      let following : number_after_payload p n ≡ next = ap (number_after_payload p) (sym w.number_is) ∙ sym whole.next_is in
       let turned = g.turns_are login ∙ ap (λ l. replies l k p ++ Server p ∷ turns talk) w.login_is in
       let server : server_bytes (turns (grow k talk p)) ≡ server_bytes (turns talk) ++ chunks p n = ap server_bytes turned ∙ r.server in
-      let client : client_bytes (turns (grow k talk p)) ≡ client_bytes (turns talk) ++ reply_bytes (reply_to login k p) next = ap client_bytes turned ∙ r.client ∙ ap (λ bs. client_bytes (turns talk) ++ bs) (reply_is login k p n ∙ ap (reply_bytes (reply_to login k p)) behind) in
+      let client : client_bytes (turns (grow k talk p)) ≡ client_bytes (turns talk) ++ reply_bytes (reply_to login k p) next = ap client_bytes turned ∙ r.client ∙ ap (λ bs. client_bytes (turns talk) ++ bs) (reply_is login k p n ∙ ap (reply_bytes (reply_to login k p)) following) in
       let T = taken_by older in
       record {
         taken_is = w.taken_is ∙ ap (λ bs. (T ++ server_bytes (turns talk)) ++ bs) (whole.spelled ∙ ap (λ m. chunks p m ++ rest) w.number_is)
@@ -181,7 +181,7 @@ module _ (login : Login) (taken sent : List ℕ) (call : Call) (talk : Talk) (ol
         owed_is = λ e. ap (λ bs. bs ++ reply_bytes (reply_to login k p) next) (w.owed_is e);
         dropped = λ no. let stop : true ≡ false = sym no ∙ alive in cc;
         answered = λ a. ap (λ bs. bs ++ reply_bytes (reply_to login k p) next) (sym (w.owed_is alive) ∙ nothing) ∙ silent login k p next (sym (ap ends_answered g.packets_are) ∙ a);
-        number_is = ap (reply_number (reply_to login k p)) (sym behind) ∙ sym (number_is login k p n) ∙ sym r.number ∙ sym (ap number_of turned);
+        number_is = ap (reply_number (reply_to login k p)) (sym following) ∙ sym (number_is login k p n) ∙ sym r.number ∙ sym (ap number_of turned);
         context_is = ap (λ c. context_after c k) w.context_is ∙ sym g.context;
         login_is = g.login_is login ∙ w.login_is;
         fits = g.fits;

@@ -3,11 +3,11 @@
 use Rattle.std.specs.Prelude.{◌≡◌, ℕ, ◌-◌, ◌^◌, ◌<◌, min, List, [], ◌∷◌, ◌++◌, ◌⊎◌, length, Some, true, false}
 use Rattle.my_frame.specs.declared.fault.CodecFault.{CodecFault}
 use Rattle.my_frame.specs.declared.fault.CodecFault.TheVariants.{TooLarge}
-use Rattle.my_wire.specs.declared.err.ErrPacket.{ErrPacket}
-use Rattle.my_wire.specs.ErrPacket.{err_at}
+use Rattle.my_reply.specs.declared.err.ErrPacket.{ErrPacket}
+use Rattle.my_reply.specs.ErrPacket.{err_at}
 use Rattle.my_frame.specs.Front.{Whole}
 use Rattle.my_grammar.specs.declared.spot.Kind.TheVariants.{Greets, Failed}
-use Rattle.my_grammar.specs.Cut.{Cut, Rest, Behind, Unfinished, Unfit, Blamed, cut, place_of, front_of, kind_of}
+use Rattle.my_grammar.specs.Cut.{Cut, Rest, Trailing, Unfinished, Unfit, Blamed, cut, place_of, front_of, kind_of}
 use Rattle.my_grammar.specs.Growth.{grow}
 use Rattle.my_grammar.specs.Response.{response}
 use Rattle.my_grammar.specs.Talk.{Talk, context_of, limit_of}
@@ -50,7 +50,7 @@ pub record Stops (es : List Entry) (taken : List ℕ) (rest : Rest) : Type 0 whe
   pub talks_are : (found es taken).talks ≡ in_order (talks es)
   pub rest_is : (found es taken).rest ≡ rest
 
--- behind what was read stands a whole payload that fits no case there
+-- after what was read stands a whole payload that fits no case there
 pub record IsUnfit (es : List Entry) (taken unread : List ℕ) : Type 0 where
   pub payload : List ℕ
   pub stops : Stops es taken (Unfit payload unread)
@@ -86,7 +86,7 @@ pub record IsRefused (s : Seen) (h : History) (newest : Entry) (older : List Ent
   pub reads : err_at (is_greeting (context_of newest.talk).spot) payload ≡ Some packet
   pub error_is : error ≡ server_error packet
   pub talks_are : (found (newest ∷ older) h.taken).talks ≡ in_order (talks older) ++ grow Failed newest.talk payload ∷ []
-  pub rest_is : (found (newest ∷ older) h.taken).rest ≡ Behind rest
+  pub rest_is : (found (newest ∷ older) h.taken).rest ≡ Trailing rest
 
 -- The call was told to fail; the link's end was told, while a payload was awaited that isn't whole; a payload fits no case. No other.
 abbrev pub IoCause : Seen → History → List Entry → IoKind → Type 0
@@ -126,7 +126,7 @@ EachFault = (s : Seen) (h : History) → Stands s h → is_open s.task ≡ true 
 -- Word that nothing is left: all that the grammar finds was read, its newest exchange is over, and no end is left to be told.
 pub record NothingLeft (s : Seen) (h : History) : Type 0 where
   pub says : Says s h
-  pub stops : Stops (says.newest ∷ says.older) h.taken (Behind s.unread)
+  pub stops : Stops (says.newest ∷ says.older) h.taken (Trailing s.unread)
   pub told : s.untold ≡ false
 
 abbrev pub AnswerCause : Seen → History → Answer → Type 0
@@ -141,7 +141,7 @@ EndCause s h steps.Need = Unit {0}
 EndCause s h (steps.Done a) = AnswerCause s h a
 EndCause s h (steps.Fault e) = Because s h e
 
--- The session as it stood when a step ended, behind so many moves of the same call.
+-- The session as it stood when a step ended, after so many moves of the same call.
 pub record HasCause (old : Seen) (h : History) (step : SessionStep) : Type 0 where
   pub here : Seen
   pub count : ℕ

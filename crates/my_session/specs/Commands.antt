@@ -46,7 +46,7 @@ abbrev pub query_of : Terms → Option (List ℕ) → Option Talk
 query_of terms None = None
 query_of terms (Some text) = command_of terms (Query text)
 
--- the exchange that connecting begins behind so many others: the login, and behind it each of these queries
+-- the exchange that connecting begins after so many others: the login, and after it each of these queries
 abbrev pub connecting : Login → Terms → ℕ → Option Talk
 connecting login terms zero = Some (Start login)
 connecting login terms (suc n) = query_of terms (slice_get (arranging_texts login) n)

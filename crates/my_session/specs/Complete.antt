@@ -1,6 +1,6 @@
 -- Where all bytes of a call are there, it doesn't fail by them.
 use Rattle.std.specs.Prelude.{◌≡◌, ◌⊎◌, ℕ, List, [], ◌∷◌, ◌++◌, Some, true}
-use Rattle.my_grammar.specs.Cut.{Behind, cut}
+use Rattle.my_grammar.specs.Cut.{Trailing, cut}
 use Rattle.my_grammar.specs.Talk.{Talk}
 use Rattle.my_session.specs.declared.error.Error.{Error}
 use Rattle.my_session.specs.declared.error.Error.TheVariants as errors
@@ -18,7 +18,7 @@ use Rattle.my_session.specs.Seen.{Seen}
 
 -- These bytes are the exchanges that began and perhaps further ones, all of them whole, and bring no ERR but those that were read.
 pub record AreWhole (es : List Entry) (own : List Talk) (bytes : List ℕ) : Type 0 where
-  pub rest_is : (cut (in_order (origins es) ++ own) bytes).rest ≡ Behind []
+  pub rest_is : (cut (in_order (origins es) ++ own) bytes).rest ≡ Trailing []
   pub no_error : errors_along (cut (in_order (origins es) ++ own) bytes).talks ≡ errors_along (in_order (talks es))
 
 -- What is left then: the call was told to fail, the link's end was told, or a command or response is longer than the limit.

@@ -16,9 +16,9 @@ IsFault (Fault e) = Unit {0}
 
 -- whatever the next step is, it is an error
 abbrev pub Fails : Seen → Type 0
-Fails s = (behind : Seen) (step : SessionStep) → Steps s behind step → IsFault step
+Fails s = (following : Seen) (step : SessionStep) → Steps s following step → IsFault step
 
 -- Where a step asked for bytes and then the link's end is told, the next step fails by an end that came too early, unless memory ran out.
 abbrev pub EachEnd : Type 0
-EachEnd = (old new behind : Seen) (e : Error) → Steps old new Need → Steps (with_end new) behind (Fault e)
+EachEnd = (old new following : Seen) (e : Error) → Steps old new Need → Steps (with_end new) following (Fault e)
     → (e ≡ unexpected_eof new.facts.place) ⊎ (e ≡ NoMemory)

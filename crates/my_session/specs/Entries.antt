@@ -44,7 +44,7 @@ abbrev pub kept_by : Login → List Entry → ℕ
 kept_by login [] = login.capabilities
 kept_by login (e ∷ es) = (context_of e.talk).terms.kept
 
--- what holds between client and server behind them: the capabilities of both, and the longest payload by the settings
+-- what holds between client and server after them: the capabilities of both, and the longest payload by the settings
 abbrev pub terms_by : Login → List Entry → Terms
 terms_by login es = record { kept = kept_by login es; limit = (facts_of login es).settings.limit }
 
@@ -109,7 +109,7 @@ abbrev pub givens : List Entry → List (List Group)
 givens [] = []
 givens (e ∷ es) = onto e.given (givens es)
 
--- the calls that are answered only behind an exchange of their own
+-- the calls that are answered only after an exchange of their own
 abbrev pub needs_own : CallKind → Bool
 needs_own callkinds.Connect = true
 needs_own callkinds.Query = true

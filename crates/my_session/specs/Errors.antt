@@ -2,7 +2,7 @@
 use Rattle.std.specs.Prelude.{ℕ, Bool, true, false}
 use Rattle.std.specs.Str.Lossy.{utf8_lossy}
 use Rattle.my_frame.specs.declared.fault.CodecFault.{CodecFault}
-use Rattle.my_wire.specs.declared.err.ErrPacket.{ErrPacket}
+use Rattle.my_reply.specs.declared.err.ErrPacket.{ErrPacket}
 use Rattle.my_session.specs.declared.call.LinkFault.{LinkFault}
 use Rattle.my_session.specs.declared.call.LinkFault.TheVariants as faults
 use Rattle.my_session.specs.declared.error.Error.{Error}
@@ -22,7 +22,7 @@ is_fatal NoMemory = true
 abbrev pub io_error : IoKind → ℕ → Error
 io_error kind place = Io (ios.Io (record { kind = kind; place = place }))
 
--- a payload that fits no case, behind so many
+-- a payload that fits no case, after so many
 abbrev pub invalid_data : ℕ → Error
 invalid_data place = io_error InvalidData place
 

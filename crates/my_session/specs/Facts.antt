@@ -1,12 +1,12 @@
 -- What the server's payloads tell a client, as a fold over them.
 -- MySQL internals, "Protocol::Handshake" (version and connection id), "OK_Packet", "ERR_Packet" and "Text Resultset".
 use Rattle.std.specs.Prelude.{ℕ, ◌+◌, ◌-◌, ◌^◌, min, List, [], ◌∷◌, ◌++◌, nat_le, Option, Some, None, if◌then◌else◌}
-use Rattle.my_wire.specs.declared.ok.OkPacket.{OkPacket}
+use Rattle.my_reply.specs.declared.ok.OkPacket.{OkPacket}
 use Rattle.my_handshake.specs.declared.greeting.Greeting.{Greeting}
-use Rattle.my_wire.specs.declared.column.Column.{Column}
-use Rattle.my_wire.specs.OkPacket.{ok_at, end_ok_at}
+use Rattle.my_reply.specs.declared.column.Column.{Column}
+use Rattle.my_reply.specs.OkPacket.{ok_at, end_ok_at}
 use Rattle.my_handshake.specs.Greeting.{greeting_at}
-use Rattle.my_wire.specs.Column.{column_at}
+use Rattle.my_reply.specs.Column.{column_at}
 use Rattle.my_grammar.specs.declared.spot.Kind.{Kind}
 use Rattle.my_grammar.specs.declared.spot.Kind.TheVariants.{Greets, Good, Failed, Count, Column as ColumnKind, ColumnsDone, Row, End, Bad}
 use Rattle.my_grammar.specs.declared.login.Login.{Login}

@@ -1,7 +1,7 @@
 -- The items that callers were given, in one group for each set, the newest first.
 use Rattle.std.specs.Prelude.{◌≡◌, ℕ, List, [], ◌∷◌, ◌++◌, Option, Some, None, Bool, true, false, if◌then◌else◌}
-use Rattle.my_wire.specs.declared.column.Column.{Column}
-use Rattle.my_wire.specs.Column.{column_at}
+use Rattle.my_reply.specs.declared.column.Column.{Column}
+use Rattle.my_reply.specs.Column.{column_at}
 use Rattle.my_value.specs.RowParts.{RowParts}
 use Rattle.my_grammar.specs.declared.packet.Packet.{Packet}
 use Rattle.my_grammar.specs.Sets.{SetHead, Sets, NoSets, Lone, Failed, Heading, Headed, Begun, Ended, Broken, grow_sets}

@@ -77,7 +77,7 @@ pub record Says (s : Seen) (h : History) : Type 0 where
   -- what callers were given is what stood at some moment in the exchanges that the grammar finds in the bytes taken
   pub given_is : given h.calls ≡ givens (newest ∷ older)
   pub read : AreGiven (in_order (shares (newest ∷ older))) (cut (in_order (origins (newest ∷ older))) h.taken).talks
-  -- so of each set, callers were given a beginning, in order, and an end only behind the whole
+  -- so of each set, callers were given a beginning, in order, and an end only after the whole
   pub fronts : AreFronts (in_order (shares (newest ∷ older))) (cut (in_order (origins (newest ∷ older))) h.taken).talks
   -- callers were told each ERR that the grammar finds there, once and in order, but perhaps the last
   pub unheard : Option ServerError

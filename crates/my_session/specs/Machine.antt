@@ -1,12 +1,12 @@
 -- The machine: one move of an open call, as a function.
 use Rattle.std.specs.Prelude.{◌≡◌, ℕ, suc, ◌≤◌, ◌⊎◌, nat_lt, List, [], ◌∷◌, ◌++◌, length, drop, Option, Some, None, Bool, true, false, Result, Ok, Err, if◌then◌else◌}
 use Rattle.my_frame.specs.declared.fault.CodecFault.TheVariants.{TooLarge}
-use Rattle.my_wire.specs.declared.err.ErrPacket.{ErrPacket}
+use Rattle.my_reply.specs.declared.err.ErrPacket.{ErrPacket}
 use Rattle.my_frame.specs.declared.read_error.ReadError.{ReadError}
 use Rattle.my_frame.specs.declared.read_error.ReadError.TheVariants as reads
-use Rattle.my_frame.specs.Chunks.{chunks, number_behind}
+use Rattle.my_frame.specs.Chunks.{chunks, number_after_payload}
 use Rattle.my_frame.specs.Front.{Front, Waiting, Broken, Whole, front_at}
-use Rattle.my_wire.specs.ErrPacket.{err_at}
+use Rattle.my_reply.specs.ErrPacket.{err_at}
 use Rattle.my_value.specs.RowParts.{RowParts}
 use Rattle.my_grammar.specs.declared.login.Login.{Login}
 use Rattle.my_grammar.specs.declared.spot.Spot.{Spot}
@@ -63,7 +63,7 @@ with_task s t untold = record { context = s.context; task = t; text = s.text; un
 abbrev pub failed_by : Seen → Error → Move
 failed_by s e = record { seen = fell s; does = Tells (ToldError e) }
 
--- what the client says at once behind a payload of this kind: its response behind the greeting
+-- what the client says at once after a payload of this kind: its response after the greeting
 abbrev pub reply_to : Login → Kind → List ℕ → Option (List ℕ)
 reply_to login (Greets capabilities) p = Some (response login p)
 reply_to login (Good status) p = None
@@ -81,9 +81,9 @@ reply_bytes (Some p) n = chunks p n
 
 abbrev pub reply_number : Option (List ℕ) → ℕ → ℕ
 reply_number None n = n
-reply_number (Some p) n = number_behind p n
+reply_number (Some p) n = number_after_payload p n
 
--- a payload of this kind is read, behind which the rest stands and the next chunk has this number
+-- a payload of this kind is read, after which the rest stands and the next chunk has this number
 abbrev pub advanced : Seen → Kind → List ℕ → List ℕ → ℕ → Seen
 advanced s k p rest next = record {
   context = context_after s.context k;
@@ -121,7 +121,7 @@ abbrev pub passed : Seen → Seen → Option RowParts → Move
 passed s n None = failed_by s (invalid_data s.facts.place)
 passed s n (Some row) = record { seen = n; does = Passes (ToldRow row) }
 
--- what a reaction makes of the payload, behind which the session would be n; one that fits no case is not read
+-- what a reaction makes of the payload, after which the session would be n; one that fits no case is not read
 abbrev pub reacted : Seen → Seen → List ℕ → Reaction → Move
 reacted s n p (reactions.Goes t) = record { seen = with_task n t n.untold; does = Goes }
 reacted s n p (reactions.Readies untold) = record { seen = with_task n tasks.Nothing untold; does = Tells ToldReady }
@@ -140,7 +140,7 @@ above limit (Some p) = if nat_lt limit (length p) then Some (length p) else None
 abbrev pub too_large : Seen → ℕ → ℕ → Move
 too_large s limit len = failed_by s (codec_error (TooLarge len limit))
 
--- what is to be sent behind a payload may not be too long
+-- what is to be sent after a payload may not be too long
 abbrev pub unless_above : Seen → Option ℕ → Move → Move
 unless_above s (Some len) m = too_large s s.context.terms.limit len
 unless_above s None m = m
@@ -178,7 +178,7 @@ commanded s t spot command =
         untold = s.untold;
         closed = s.closed;
         ended = s.ended;
-        number = number_behind command 0;
+        number = number_after_payload command 0;
         unread = s.unread;
         owed = s.owed ++ chunks command 0;
         facts = s.facts;
@@ -199,7 +199,7 @@ abbrev pub asked : Seen → CallKind → Option Talk → Move
 asked s c None = record { seen = with_task s tasks.Nothing s.untold; does = Tells ToldNone }
 asked s c (Some talk) = begins s (tasks.Own c) talk
 
--- the next query that sets the connection up, behind so many; where none is left, the connection is made
+-- the next query that sets the connection up, after so many; where none is left, the connection is made
 abbrev pub arranged : Seen → ℕ → Option Talk → Move
 arranged s n None = record { seen = with_task s tasks.Nothing s.untold; does = Tells ToldReady }
 arranged s n (Some talk) = begins s (tasks.Arranging (suc n)) talk
@@ -229,7 +229,7 @@ next_by None s = when_owed s.owed s
 abbrev pub next : Seen → Move
 next s = next_by (fault_in s.task) s
 
--- the history behind a move
+-- the history after a move
 abbrev pub after_doing : History → Doing → History
 after_doing h Goes = h
 after_doing h (Passes t) = noted h t
@@ -252,7 +252,7 @@ pub record Did (m : Move) (new : Seen) (t : Tick) : Type 0 where
   pub seen : new ≡ m.seen
   pub does : m.does ≡ doing t
 
--- an error of the machine, or want of memory, behind which the session is closed and nothing else moved
+-- an error of the machine, or want of memory, after which the session is closed and nothing else moved
 abbrev pub FaultIs : Move → Seen → Seen → Error → Type 0
 FaultIs m old new (errors.Driver e) = Did m new (ticks.Fault (errors.Driver e))
 FaultIs m old new (errors.Io e) = Did m new (ticks.Fault (errors.Io e))
@@ -273,14 +273,14 @@ Does m old new (ticks.Fault e) = FaultIs m old new e
 abbrev pub dropped : Seen → Seen
 dropped s = if closes_when_cancelled s.task s.context.spot then fell s else with_task s tasks.Nothing s.untold
 
--- a payload that came in, with where it stands, what it is, and what the client says at once behind it
+-- a payload that came in, with where it stands, what it is, and what the client says at once after it
 pub record IsArrival (s : Seen) (a : Arrival) : Type 0 where
   pub room : a.span.len ≤ length s.unread
   pub reply_is : a.reply ≡ reply_to s.login a.kind a.payload
 
--- the session behind it
-abbrev pub behind : Seen → Arrival → Seen
-behind s a = advanced s a.kind a.payload (drop a.span.len s.unread) a.span.next
+-- the session after it
+abbrev pub following : Seen → Arrival → Seen
+following s a = advanced s a.kind a.payload (drop a.span.len s.unread) a.span.next
 
 -- it came to this, unless memory ran out
 abbrev pub Lands : Seen → Tick → Seen → Seen → Tick → Type 0

@@ -1,6 +1,6 @@
 -- Set by set, what was given is the beginning of what stands there.
 use Rattle.std.specs.Prelude.{◌≡◌, ℕ, List, [], ◌∷◌, ◌++◌, Option, Some, None, Bool, true, false}
-use Rattle.my_wire.specs.declared.column.Column.{Column}
+use Rattle.my_reply.specs.declared.column.Column.{Column}
 use Rattle.my_value.specs.RowParts.{RowParts}
 use Rattle.my_grammar.specs.Sets.{Sets, NoSets, Lone, Failed, Heading, Headed, Begun, Ended, Broken}
 use Rattle.my_grammar.specs.Talk.{Talk}
@@ -35,7 +35,7 @@ AreWhole (g ∷ gs) (s ∷ ss) = (g.rows ≡ s.rows) × (g.ended ≡ true) × (s
 AreWhole [] (s ∷ ss) = ⊥
 AreWhole (g ∷ gs) [] = ⊥
 
--- The older rows were given, and the end is told only behind all of them.
+-- The older rows were given, and the end is told only after all of them.
 pub record IsPart (g : Group) (s : Set) : Type 0 where
   pub newer : List RowParts
   pub items : newer ++ g.rows ≡ s.rows

@@ -1,7 +1,7 @@
 -- A payload of a set as the row of its columns.
 -- MySQL internals, "Text Resultset": a row has a cell for each column.
 use Rattle.std.specs.Prelude.{ℕ, List, [], length, Option, Some, None}
-use Rattle.my_wire.specs.declared.column.Column.{Column}
+use Rattle.my_reply.specs.declared.column.Column.{Column}
 use Rattle.my_value.specs.declared.value.Value.{Value}
 use Rattle.my_value.specs.RowParts.{RowParts}
 use Rattle.my_value.specs.TextRow.{text_row_at}

@@ -1,8 +1,8 @@
 -- The errors that the server told, and those that callers were told.
 -- MySQL internals, "ERR_Packet": it ends a response.
 use Rattle.std.specs.Prelude.{ℕ, List, [], ◌∷◌, ◌++◌, Option, Some, None, true, false}
-use Rattle.my_wire.specs.declared.err.ErrPacket.{ErrPacket}
-use Rattle.my_wire.specs.ErrPacket.{err_at}
+use Rattle.my_reply.specs.declared.err.ErrPacket.{ErrPacket}
+use Rattle.my_reply.specs.ErrPacket.{err_at}
 use Rattle.my_grammar.specs.declared.spot.Kind.{Kind}
 use Rattle.my_grammar.specs.declared.spot.Kind.TheVariants as kinds
 use Rattle.my_grammar.specs.Sets.{Sets, NoSets, Lone, Failed, Heading, Headed, Begun, Ended, Broken}

@@ -56,7 +56,7 @@ abbrev pub limit_in : Option ℕ → List Value → ℕ
 limit_in (Some limit) cells = limit
 limit_in None cells = bounded (unwrap_or (number_in (slice_get cells 0)) default_limit)
 
--- the timeout is in the cell behind the limit's, or in the first one
+-- the timeout is in the cell after the limit's, or in the first one
 abbrev pub wait_place : Option ℕ → ℕ
 wait_place (Some limit) = 0
 wait_place None = 1

@@ -1,7 +1,7 @@
 -- What the answer to the query for the settings comes to, whatever the payloads were.
 -- MySQL reference manual, "SHOW VARIABLES" and "SELECT @@name": the answer is one set of rows.
 use Rattle.std.specs.Prelude.{◌≡◌, ℕ, List, [], ◌∷◌, Option, Some, None}
-use Rattle.my_wire.specs.declared.column.Column.{Column}
+use Rattle.my_reply.specs.declared.column.Column.{Column}
 use Rattle.my_value.specs.RowParts.{RowParts}
 use Rattle.my_grammar.specs.declared.packet.Packet.{Packet}
 use Rattle.my_grammar.specs.declared.spot.Kind.TheVariants.{Good, Row, End}

@@ -158,7 +158,7 @@ pub record Steps (old new : Seen) (step : SessionStep) : Type 0 where
   pub go : AllGo count old
   pub last : Does (next (moved count old)) (moved count old) new (last_tick step)
 
--- the history behind a move, and behind a step
+-- the history after a move, and after a step
 abbrev pub after_tick : History → Tick → History
 after_tick h t = after_doing h (doing t)
 

@@ -23,7 +23,7 @@ first_task DropResult = Dropping
 first_task Ping = Cleaning Ping
 first_task Quit = Cleaning Quit
 
--- the rest of the earlier response is read, an end that wasn't told is dropped, and then comes what is planned behind it
+-- the rest of the earlier response is read, an end that wasn't told is dropped, and then comes what is planned after it
 abbrev pub clean_plan : Plan → Spot → Bool → Plan
 clean_plan p spots.Idle untold = if untold then plans.Hears else p
 clean_plan p s untold = plans.Reads
@@ -73,7 +73,7 @@ react_whole t kinds.Row = reactions.Goes t
 react_whole t (kinds.End status) = reactions.Goes t
 react_whole t kinds.Bad = reactions.Breaks
 
--- behind the login the connection is set up
+-- after the login the connection is set up
 abbrev pub react_connect : Kind → Reaction
 react_connect (kinds.Greets n) = reactions.Goes (Own Connect)
 react_connect (kinds.Good status) = reactions.Goes (Arranging 0)

@@ -4,8 +4,8 @@ ghost use Rattle.std.specs.Prelude.{◌≡◌, ◌<◌, ◌-◌, ◌^◌, ◌++�
 ghost use Rattle.std.specs.Option.{option_copied};
 ghost use Rattle.my_session.specs.Commands.{arranging_texts, settings_text};
 
+use my_frame::Blob;
 use my_grammar::Login;
-use my_wire::Blob;
 
 // What the server is asked for: the settings that the options leave open.
 fn settings_text(login: &Login) -> Option<&'static [u8]>

@@ -1,9 +1,9 @@
 //! A payload that came in.
 
+use my_frame::{Blob, Span};
 use my_grammar::Kind;
-use my_wire::{Blob, Span};
 
-/// A payload with where it stands, what it is, and what the client says at once behind it.
+/// A payload with where it stands, what it is, and what the client says at once after it.
 #[derive(Drop)]
 pub struct Arrival {
     pub payload: Blob,

@@ -2,7 +2,7 @@
 
 ghost use Rattle.std.specs.Prelude.{◌≡◌};
 
-use my_wire::Blob;
+use my_frame::Blob;
 
 /// A call, with what it carries.
 #[derive(Debug, Drop)]

@@ -12,8 +12,8 @@ use crate::facts::Facts;
 use crate::machine::Machine;
 use crate::moves::start_context;
 use crate::tables::closes_when_cancelled;
+use my_frame::{Blob, NoMemory};
 use my_grammar::{Login, Queue};
-use my_wire::{Blob, NoMemory};
 use std::alloc::Global;
 
 fn is_refused(closed: bool, call: &Call) -> bool

@@ -3,8 +3,9 @@
 ghost use Rattle.std.specs.Prelude.{◌≡◌, [], ◌∷◌, ◌++◌, OnOk, OnErr, IfOk};
 ghost use Rattle.my_value.specs.RowParts.{columns_of};
 
+use my_frame::NoMemory;
+use my_reply::Column;
 use my_value::Columns;
-use my_wire::{Column, NoMemory};
 use std::alloc::Global;
 use std::marker::Model;
 use std::mem;
@@ -18,7 +19,7 @@ pub struct SetColumns {
 
 impl Model for SetColumns {
     ghost use Rattle.std.specs.Prelude.{List};
-    ghost use Rattle.my_wire.specs.declared.column.Column.{Column as AnyColumn};
+    ghost use Rattle.my_reply.specs.declared.column.Column.{Column as AnyColumn};
     ghost use Rattle.my_value.specs.RowParts.{columns_of};
 
     ghost Value = { List AnyColumn };
@@ -53,7 +54,7 @@ pub struct Gathered {
 
 impl Model for Gathered {
     ghost use Rattle.std.specs.Prelude.{List};
-    ghost use Rattle.my_wire.specs.declared.column.Column.{Column as AnyColumn};
+    ghost use Rattle.my_reply.specs.declared.column.Column.{Column as AnyColumn};
 
     ghost Value = { List AnyColumn };
 

@@ -2,7 +2,7 @@
 
 ghost use Rattle.std.specs.Prelude.{◌≡◌};
 
-use my_wire::{CodecFault, NoMemory, Text};
+use my_frame::{CodecFault, NoMemory, Text};
 use thiserror::Error as ThisError;
 
 /// The driver's own refusals.
@@ -49,7 +49,7 @@ pub enum IoKind {
 
 /// A fault on the way, with the number of whole payloads that were taken before.
 #[derive(Clone, Copy, Debug, PartialEq, Eq, ThisError)]
-#[error("{kind} (behind {place} packets)")]
+#[error("{kind} (after {place} packets)")]
 pub struct IoFault {
     pub kind: IoKind,
     pub place: u64,

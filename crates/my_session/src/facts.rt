@@ -2,17 +2,16 @@
 
 ghost use Rattle.std.specs.Prelude.{◌≡◌, OnOk, OnErr, IfOk};
 ghost use Rattle.my_handshake.specs.Greeting.{greeting_at};
-ghost use Rattle.my_wire.specs.OkPacket.{ok_at, end_ok_at};
-ghost use Rattle.my_wire.specs.Column.{column_at};
+ghost use Rattle.my_reply.specs.OkPacket.{ok_at, end_ok_at};
+ghost use Rattle.my_reply.specs.Column.{column_at};
 
 use crate::columns::{Gathered, SetColumns};
 use crate::settings::Settings;
+use my_frame::{Blob, NoMemory, ReadError};
 use my_grammar::{Kind, Login};
+use my_handshake::{Greeting, read_greeting};
+use my_reply::{Column, OkPacket, read_column, read_end_ok, read_ok};
 use my_value::{Row, read_text_row};
-use my_wire::{
-    Blob, Column, Greeting, NoMemory, OkPacket, ReadError, read_column, read_end_ok, read_greeting,
-    read_ok,
-};
 use std::alloc::Global;
 
 /// What the server told so far.
@@ -22,9 +21,9 @@ pub struct Facts {
     pub version: Blob,
     /// The number of the connection.
     pub connection: u32,
-    /// The server's status bits, as an OK or a set's end told them last; none behind an ERR.
+    /// The server's status bits, as an OK or a set's end told them last; none after an ERR.
     pub status: u16,
-    /// The last OK, or the OK that ended a set; none behind an ERR.
+    /// The last OK, or the OK that ended a set; none after an ERR.
     pub ok: Option<OkPacket>,
     /// How many columns of a head are still to come.
     pub left: u16,

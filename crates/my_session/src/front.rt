@@ -8,8 +8,8 @@ use crate::arrival::Arrival;
 use crate::error::{Error, IoKind};
 use crate::machine::Machine;
 use crate::tables::{Reaction, is_breaking, react_to};
+use my_frame::{Blob, CodecError, CodecFault, FramedPayload, NoMemory, payload_in_front};
 use my_grammar::{Kind, kind_at};
-use my_wire::{Blob, CodecError, CodecFault, FramedPayload, NoMemory, payload_in_front};
 use std::alloc::Global;
 
 // The length of a payload that is to be sent and is above the limit.
@@ -27,11 +27,11 @@ fn length_above(limit: u64, reply: &Option<Blob>) -> Option<u64>
 
 impl Machine {
     ghost use Rattle.my_session.specs.Session.{seen};
-    ghost use Rattle.my_session.specs.Machine.{Does, read_by, read_kind, reading, IsArrival, behind};
+    ghost use Rattle.my_session.specs.Machine.{Does, read_by, read_kind, reading, IsArrival, following};
     ghost use Rattle.my_frame.specs.Front.{front_at, Waiting};
     ghost use Rattle.my_grammar.specs.Kinds.{kind_there};
 
-    // The payload with what it is, and what the client says behind it.
+    // The payload with what it is, and what the client says after it.
     fn arrival(&self, alloc: Global, kind: Kind, found: FramedPayload) -> Result<Arrival, NoMemory>
         requires { found.span.len ≤ length (seen self.now).unread }
         ensures arrives { IfOk result (λ a. IsArrival (seen self.now) a) }
@@ -47,10 +47,10 @@ impl Machine {
         })
     }
 
-    // The payload is read, unless what the client says behind it is too long.
+    // The payload is read, unless what the client says after it is too long.
     fn arrive(&mut self, alloc: Global, reaction: Reaction, arrival: &Arrival) -> Tick
         requires { IsArrival (seen self.old) arrival.now }
-        ensures { Does (read_by (seen self.old) (behind (seen self.old) arrival.now) arrival.now.payload reaction arrival.now.reply) (seen self.old) (seen self.new) result }
+        ensures { Does (read_by (seen self.old) (following (seen self.old) arrival.now) arrival.now.payload reaction arrival.now.reply) (seen self.old) (seen self.new) result }
     {
         let limit = self.context.terms.limit;
         match length_above(limit, &arrival.reply) {

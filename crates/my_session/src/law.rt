@@ -9,7 +9,7 @@ ghost use Rattle.my_session.specs.SettingsLaw.{EachSetting};
 
 /// Of each session and each history for which it stands: the exchanges are those that the command table has for the history's calls;
 /// the bytes sent are the client's in them, only the newest perhaps cut; the bytes taken are cut by the grammar into the server's, and
-/// callers were given a beginning of each set, an end only behind all of it; they were told each ERR that stands there once, in order,
+/// callers were given a beginning of each set, an end only after all of it; they were told each ERR that stands there once, in order,
 /// but perhaps the last; the session is closed exactly by what closes it.
 pub fn each_history()
     ensures { EachHistory }
@@ -25,7 +25,7 @@ pub fn each_end()
     ensures { EachEnd }
 {}
 
-/// Of each error that an open call is told next, its cause in what the grammar finds in the bytes taken: behind all that was read stands
+/// Of each error that an open call is told next, its cause in what the grammar finds in the bytes taken: after all that was read stands
 /// a payload that fits no case, a faulty header, or no whole payload where the link's end was told; an ERR that says so; or a command or
 /// a response that is too long to be sent. A call that was told to fail is told that. Want of memory has no cause.
 pub fn each_fault()

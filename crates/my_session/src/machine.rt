@@ -7,8 +7,8 @@ use crate::arrival::Arrival;
 use crate::call::Task;
 use crate::error::{Error, IoError, IoFault, IoKind};
 use crate::facts::Facts;
+use my_frame::{Blob, CodecFault, NoMemory};
 use my_grammar::{Context, Kind, Login, Queue, login_response};
-use my_wire::{Blob, CodecFault, NoMemory};
 use std::alloc::Global;
 
 /// The session's fields, which contracts see by `seen`.
@@ -29,7 +29,7 @@ pub struct Machine {
 
 impl Machine {
     ghost use Rattle.my_session.specs.Session.{seen};
-    ghost use Rattle.my_session.specs.Machine.{fell, with_task, reply_to, reply_bytes, reply_number, IsArrival, behind, Lands};
+    ghost use Rattle.my_session.specs.Machine.{fell, with_task, reply_to, reply_bytes, reply_number, IsArrival, following, Lands};
     ghost use Rattle.my_session.specs.Errors.{io_error, codec_error};
 
     // The call ends, and the session is closed.
@@ -74,7 +74,7 @@ impl Machine {
         Tick::Done(answer)
     }
 
-    // What the client says at once behind the payload.
+    // What the client says at once after the payload.
     pub fn reply(&self, alloc: Global, kind: Kind, payload: &[u8]) -> Result<Option<Blob>, NoMemory>
         ensures { IfOk result (λ r. r ≡ reply_to (seen self.now).login kind payload.now) }
     {
@@ -91,7 +91,7 @@ impl Machine {
         }
     }
 
-    // The reply is owed, and the number behind it is returned.
+    // The reply is owed, and the number after it is returned.
     fn owe(&mut self, reply: &Option<Blob>, number: u8) -> Result<u8, NoMemory>
         ensures number { IfOk result (λ next. next ≡ reply_number reply.now number) }
         ensures ok { OnOk result (seen self.new ≡ record (seen self.old) { owed = (seen self.old).owed ++ reply_bytes reply.now number }) }
@@ -106,7 +106,7 @@ impl Machine {
     // The payload goes from the unread to the read. What can fail goes first, and only a fall may follow where it failed.
     pub fn advance(&mut self, alloc: Global, arrival: &Arrival) -> Result<(), NoMemory>
         requires { IsArrival (seen self.old) arrival.now }
-        ensures ok { OnOk result (seen self.new ≡ behind (seen self.old) arrival.now) }
+        ensures ok { OnOk result (seen self.new ≡ following (seen self.old) arrival.now) }
         ensures err { OnErr result (fell (seen self.new) ≡ fell (seen self.old)) }
     {
         let number = self.owe(&arrival.reply, arrival.span.next)?;
@@ -129,7 +129,7 @@ impl Machine {
         tick: Tick,
     ) -> Tick
         requires { IsArrival (seen self.old) arrival.now }
-        ensures { Lands (with_task (behind (seen self.old) arrival.now) task untold) tick (seen self.old) (seen self.new) result }
+        ensures { Lands (with_task (following (seen self.old) arrival.now) task untold) tick (seen self.old) (seen self.new) result }
     {
         match self.advance(alloc, arrival) {
             Ok(()) => {

@@ -11,8 +11,8 @@ use crate::call::{CallKind, LinkFault, Task};
 use crate::error::{DriverError, Error, IoKind};
 use crate::machine::Machine;
 use crate::tables::{Plan, plan_for};
+use my_frame::{CodecFault, NoMemory};
 use my_grammar::{Context, DEFAULT_LIMIT, Login, Spot, Terms};
-use my_wire::{CodecFault, NoMemory};
 use std::alloc::Global;
 
 const COM_QUIT: u8 = 1;

@@ -9,9 +9,10 @@ use crate::call::Task;
 use crate::error::{Error, IoKind, ServerError};
 use crate::machine::Machine;
 use crate::tables::{Reaction, is_connecting};
+use my_frame::{NoMemory, ReadError, Text};
 use my_grammar::Spot;
+use my_reply::{ErrPacket, read_err};
 use my_value::{Row, read_text_row};
-use my_wire::{ErrPacket, NoMemory, ReadError, Text, read_err};
 use std::alloc::Global;
 
 // What the packet says.
@@ -29,8 +30,8 @@ fn server_error(alloc: Global, packet: ErrPacket) -> Result<ServerError, NoMemor
 impl Machine {
     ghost use Rattle.my_session.specs.Session.{seen};
     ghost use Rattle.my_session.specs.Rows.{row_at};
-    ghost use Rattle.my_session.specs.Machine.{Does, is_greeting, refused, gave, passed, reacted, IsArrival, behind, ReadsRow};
-    ghost use Rattle.my_wire.specs.ErrPacket.{err_at};
+    ghost use Rattle.my_session.specs.Machine.{Does, is_greeting, refused, gave, passed, reacted, IsArrival, following, ReadsRow};
+    ghost use Rattle.my_reply.specs.ErrPacket.{err_at};
 
     // Whether the server's greeting is still awaited.
     fn awaits_greeting(&self) -> bool
@@ -45,7 +46,7 @@ impl Machine {
     // The server's error ends the call, and a session that isn't connected.
     fn end_refused(&mut self, alloc: Global, arrival: &Arrival, packet: ErrPacket) -> Tick
         requires { IsArrival (seen self.old) arrival.now }
-        ensures { Does (refused (seen self.old) (behind (seen self.old) arrival.now) (Some packet)) (seen self.old) (seen self.new) result }
+        ensures { Does (refused (seen self.old) (following (seen self.old) arrival.now) (Some packet)) (seen self.old) (seen self.new) result }
     {
         let connecting = is_connecting(self.task);
         let error = match server_error(alloc, packet) {
@@ -64,7 +65,7 @@ impl Machine {
 
     fn refuse(&mut self, alloc: Global, arrival: &Arrival) -> Tick
         requires { IsArrival (seen self.old) arrival.now }
-        ensures { Does (refused (seen self.old) (behind (seen self.old) arrival.now) (err_at (is_greeting (seen self.old).context.spot) arrival.now.payload)) (seen self.old) (seen self.new) result }
+        ensures { Does (refused (seen self.old) (following (seen self.old) arrival.now) (err_at (is_greeting (seen self.old).context.spot) arrival.now.payload)) (seen self.old) (seen self.new) result }
     {
         match read_err(alloc, arrival.payload.as_slice(), self.awaits_greeting()) {
             Ok(packet) => self.end_refused(alloc, arrival, packet),
@@ -86,7 +87,7 @@ impl Machine {
 
     fn give(&mut self, alloc: Global, arrival: &Arrival) -> Tick
         requires { IsArrival (seen self.old) arrival.now }
-        ensures { Does (gave (seen self.old) (behind (seen self.old) arrival.now) (row_at (seen self.old).facts.columns arrival.now.payload)) (seen self.old) (seen self.new) result }
+        ensures { Does (gave (seen self.old) (following (seen self.old) arrival.now) (row_at (seen self.old).facts.columns arrival.now.payload)) (seen self.old) (seen self.new) result }
     {
         match self.row(alloc, arrival) {
             Ok(row) => self.land(
@@ -103,7 +104,7 @@ impl Machine {
 
     fn pass(&mut self, alloc: Global, arrival: &Arrival) -> Tick
         requires { IsArrival (seen self.old) arrival.now }
-        ensures { Does (passed (seen self.old) (behind (seen self.old) arrival.now) (row_at (seen self.old).facts.columns arrival.now.payload)) (seen self.old) (seen self.new) result }
+        ensures { Does (passed (seen self.old) (following (seen self.old) arrival.now) (row_at (seen self.old).facts.columns arrival.now.payload)) (seen self.old) (seen self.new) result }
     {
         let task = self.task;
         match self.row(alloc, arrival) {
@@ -116,7 +117,7 @@ impl Machine {
     // What the reaction makes of the payload.
     pub fn react(&mut self, alloc: Global, reaction: Reaction, arrival: &Arrival) -> Tick
         requires { IsArrival (seen self.old) arrival.now }
-        ensures { Does (reacted (seen self.old) (behind (seen self.old) arrival.now) arrival.now.payload reaction) (seen self.old) (seen self.new) result }
+        ensures { Does (reacted (seen self.old) (following (seen self.old) arrival.now) arrival.now.payload reaction) (seen self.old) (seen self.new) result }
     {
         let same = self.task;
         match reaction {

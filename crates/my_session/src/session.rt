@@ -8,8 +8,9 @@ use crate::call::{Call, CallKind, LinkFault, Task};
 use crate::error::Error;
 use crate::machine::Machine;
 use crate::step::step_machine;
+use my_frame::NoMemory;
 use my_grammar::{Login, Spot};
-use my_wire::{NoMemory, OkPacket};
+use my_reply::OkPacket;
 use std::alloc::Global;
 use std::marker::Model;
 
@@ -100,7 +101,7 @@ impl Session {
     }
 
     /// The next step of the open call. Only `DropResult` passes over rows and ends. Each error, and word that nothing is left, has its
-    /// cause in the history behind what was passed over.
+    /// cause in the history after what was passed over.
     pub fn step(&mut self, alloc: Global) -> SessionStep
         requires { is_open self.old.seen.task ≡ true }
         ensures steps { Steps self.old.seen self.new.seen result }
@@ -194,7 +195,7 @@ impl Session {
         self.machine.facts.settings.wait_timeout
     }
 
-    /// The last OK, or the OK that ended a set; none behind an ERR.
+    /// The last OK, or the OK that ended a set; none after an ERR.
     pub fn last_ok(&self) -> Option<&OkPacket>
         ensures { option_copied result ≡ self.now.seen.facts.ok }
     {

@@ -124,7 +124,7 @@ impl Settings {
         }
     }
 
-    /// Behind an OK: it settles the login, and while the server was asked it is the first set, which has no row.
+    /// After an OK: it settles the login, and while the server was asked it is the first set, which has no row.
     pub fn after_ok(self) -> Settings
         ensures { result ≡ good_settings self.stage self }
     {
@@ -141,7 +141,7 @@ impl Settings {
         }
     }
 
-    /// Behind a set's end.
+    /// After a set's end.
     pub fn after_end(self) -> Settings
         ensures { result ≡ end_settings self.stage self }
     {
@@ -158,7 +158,7 @@ impl Settings {
         self.stage == Stage::Asked
     }
 
-    /// Behind a row that tells the settings.
+    /// After a row that tells the settings.
     pub fn after_row(self, row: &Row) -> Settings
         ensures { result ≡ told row.now.cells self }
     {

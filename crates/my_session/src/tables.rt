@@ -17,7 +17,7 @@ pub enum Plan {
     Hears,
     /// The call's own command is owed.
     Asks(CallKind),
-    /// The next query that sets the connection up is owed, behind so many; where none is left, the connection is made.
+    /// The next query that sets the connection up is owed, after so many; where none is left, the connection is made.
     Arranges(usize),
     /// The call is answered: its command was accepted.
     Readies,
@@ -65,12 +65,12 @@ fn first_task(call: CallKind) -> Task
     }
 }
 
-// What is left of a response is read, and then comes what is planned behind it.
-fn clean_plan(behind: Plan, spot: Spot, untold: bool) -> Plan
-    ensures { result ≡ clean_plan behind spot untold }
+// What is left of a response is read, and then comes what is planned after it.
+fn clean_plan(following: Plan, spot: Spot, untold: bool) -> Plan
+    ensures { result ≡ clean_plan following spot untold }
 {
     match spot {
-        Spot::Idle => { if untold { Plan::Hears } else { behind } }
+        Spot::Idle => { if untold { Plan::Hears } else { following } }
         _ => Plan::Reads,
     }
 }

@@ -3,7 +3,7 @@ use Rattle.std.proofs.Common.{◌≡◌, ℕ, ◌+◌, inl, inr, List, [], ◌�
 use Rattle.std.proofs.lemmas.Bool.Decides.{nat_tests}
 use Rattle.my_frame.specs.Numbers.{IsNumber, number_at, bytes_at}
 use Rattle.my_frame.proofs.NumberLaws.{bind_then, chosen, same_pair, bytes_found, bytes_again, number_found, number_again, text_again}
-use Rattle.my_wire.specs.declared.column.Column.{Column}
+use Rattle.my_reply.specs.declared.column.Column.{Column}
 use Rattle.std.specs.Int.{w8, w16, w32}
 use Rattle.my_value.specs.declared.value.Value.{Value}
 use Rattle.my_value.specs.declared.value.Value.TheVariants as values

@@ -2,6 +2,6 @@
 use Rattle.std.proofs.Common.{◌≡◌, ℕ, List, [], ◌∷◌, ◌++◌, Result, Ok, Err}
 use Rattle.my_value.specs.declared.value.Value.{Value}
 
-abbrev pub behind_values : List Value → Result (List Value) (List ℕ) → Result (List Value) (List ℕ)
-behind_values front (Ok vs) = Ok (front ++ vs)
-behind_values front (Err name) = Err name
+abbrev pub after_values : List Value → Result (List Value) (List ℕ) → Result (List Value) (List ℕ)
+after_values front (Ok vs) = Ok (front ++ vs)
+after_values front (Err name) = Err name

@@ -2,7 +2,7 @@
 use Rattle.std.proofs.Common.{◌≡◌, List, [], ◌∷◌, length, Some, sym, ap, subst, ◌∙◌, arith}
 use Rattle.my_value.specs.declared.value.Value.{Value}
 use Rattle.my_value.specs.declared.value.Value.TheVariants.{NULL}
-use Rattle.my_wire.specs.declared.column.Column.{Column}
+use Rattle.my_reply.specs.declared.column.Column.{Column}
 use Rattle.std.specs.Prelude.{slice_get, slice_set}
 use Rattle.my_value.specs.RowParts.{RowParts}
 use Rattle.my_value.specs.RowConversions.{OneCell}

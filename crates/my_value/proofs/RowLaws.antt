@@ -2,7 +2,7 @@
 use Rattle.std.proofs.Common.{◌≡◌, ℕ, suc, ◌+◌, ◌-◌, ◌<◌, List, [], ◌∷◌, ◌++◌, Option, Some, None, refl, sym, ap, ◌∙◌, arith, append_assoc}
 use Rattle.my_frame.specs.Numbers.{◌>>=◌}
 use Rattle.my_value.specs.declared.value.Value.{Value}
-use Rattle.my_value.specs.TextRow.{text_cell_at, text_cells_at, behind}
+use Rattle.my_value.specs.TextRow.{text_cell_at, text_cells_at, following}
 
 -- cells that were read before those that are read now
 abbrev pub with_front : List Value → Option (List Value × List ℕ) → Option (List Value × List ℕ)
@@ -22,12 +22,12 @@ text_more front pushed v count counter rest after all h e items inv =
     let one : with_front front (text_cells_at (count - counter) rest) ≡ with_front (front ++ v ∷ []) (text_cells_at (count - (counter + 1)) after) = rw (k, ← e) (with_front-push front v (text_cells_at (count - (counter + 1)) after)) in
     rw items (sym one ∙ inv)
 
-behind_same : (v : Value) (o : Option (List Value × List ℕ)) → behind (o >>= λ (y : List Value × List ℕ). Some (v ∷ y.0, y.1)) ≡ behind o
-behind_same v None = refl
-behind_same v (Some y) = refl
+after_same : (v : Value) (o : Option (List Value × List ℕ)) → following (o >>= λ (y : List Value × List ℕ). Some (v ∷ y.0, y.1)) ≡ following o
+after_same v None = refl
+after_same v (Some y) = refl
 
-pub behind_more : (v : Value) (count counter : ℕ) (rest after : List ℕ) (all : Option (List ℕ)) → counter < count → Some (v, after) ≡ text_cell_at rest → behind (text_cells_at (count - counter) rest) ≡ all → behind (text_cells_at (count - (counter + 1)) after) ≡ all
-behind_more v count counter rest after all h e inv =
+pub after_more : (v : Value) (count counter : ℕ) (rest after : List ℕ) (all : Option (List ℕ)) → counter < count → Some (v, after) ≡ text_cell_at rest → following (text_cells_at (count - counter) rest) ≡ all → following (text_cells_at (count - (counter + 1)) after) ≡ all
+after_more v count counter rest after all h e inv =
     let k : count - counter ≡ suc (count - (counter + 1)) = omega arith in
-    let one : behind (text_cells_at (count - counter) rest) ≡ behind (text_cells_at (count - (counter + 1)) after) = rw (k, ← e) (behind_same v (text_cells_at (count - (counter + 1)) after)) in
+    let one : following (text_cells_at (count - counter) rest) ≡ following (text_cells_at (count - (counter + 1)) after) = rw (k, ← e) (after_same v (text_cells_at (count - (counter + 1)) after)) in
     sym one ∙ inv

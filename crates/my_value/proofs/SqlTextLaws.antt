@@ -4,17 +4,17 @@ use Rattle.std.proofs.lemmas.Bool.Decides.{nat_tests}
 use Rattle.my_frame.proofs.NumberLaws.{chosen, same_pair}
 use Rattle.my_value.specs.SqlText.{SqlPiece, kept, name, mark, skip_len, name_len, outside_at, piece_at, IsSplit, match_piece, split_in, split}
 
--- the text behind a piece is shorter
-behind_named : (b : ℕ) (bytes : List ℕ) (named : Bool) → length (cond {A = SqlPiece × List ℕ} named (name (take (name_len bytes) bytes), drop (name_len bytes) bytes) (kept (b ∷ []), bytes)).1 ≤ length bytes
-behind_named b bytes true = omega (arith, length-drop (name_len bytes) bytes)
-behind_named b bytes false = omega arith
+-- the text after a piece is shorter
+after_named : (b : ℕ) (bytes : List ℕ) (named : Bool) → length (cond {A = SqlPiece × List ℕ} named (name (take (name_len bytes) bytes), drop (name_len bytes) bytes) (kept (b ∷ []), bytes)).1 ≤ length bytes
+after_named b bytes true = omega (arith, length-drop (name_len bytes) bytes)
+after_named b bytes false = omega arith
 
-behind_marked : (b : ℕ) (bytes : List ℕ) (marked : Bool) (others : SqlPiece × List ℕ) → length others.1 ≤ length bytes → length (cond {A = SqlPiece × List ℕ} marked (mark, bytes) others).1 ≤ length bytes
-behind_marked b bytes true others h = omega arith
-behind_marked b bytes false others h = h
+after_marked : (b : ℕ) (bytes : List ℕ) (marked : Bool) (others : SqlPiece × List ℕ) → length others.1 ≤ length bytes → length (cond {A = SqlPiece × List ℕ} marked (mark, bytes) others).1 ≤ length bytes
+after_marked b bytes true others h = omega arith
+after_marked b bytes false others h = h
 
-behind_outside : (b : ℕ) (bytes : List ℕ) → length (outside_at b bytes).1 ≤ length bytes
-behind_outside b bytes = behind_marked b bytes (eqb b 63) _ (behind_named b bytes (eqb b 58 && ltb 0 (name_len bytes)))
+after_outside : (b : ℕ) (bytes : List ℕ) → length (outside_at b bytes).1 ≤ length bytes
+after_outside b bytes = after_marked b bytes (eqb b 63) _ (after_named b bytes (eqb b 58 && ltb 0 (name_len bytes)))
 
 piece_shorter : (text : List ℕ) (p : SqlPiece) (rest : List ℕ) → piece_at text ≡ Some (p, rest) → length rest < length text
 piece_shorter [] p rest e = absurd cc
@@ -28,7 +28,7 @@ piece_shorter (b ∷ bytes) p rest e =
       | inr w ↦
           let s = same_pair _ _ w.1 in
           let r = ap length (s.1) in
-          omega (arith, behind_outside b bytes, r)
+          omega (arith, after_outside b bytes, r)
     ]
 
 piece_none : (text : List ℕ) → piece_at text ≡ None → text ≡ []

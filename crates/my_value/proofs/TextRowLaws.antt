@@ -50,7 +50,7 @@ text_cell_again bytes (DoubleBits n) rest h = absurd h
 text_cell_again bytes (Date a b c d e f g) rest h = absurd h
 text_cell_again bytes (Time a b c d e f) rest h = absurd h
 
--- so many cells at the front, and the bytes behind them
+-- so many cells at the front, and the bytes after them
 cells_found : (count : ℕ) (bytes : List ℕ) (vs : List Value) → text_cells_at count bytes ≡ Some (vs, []) → (length vs ≡ count) × AreTextCells vs bytes
 cells_found zero bytes vs e =
     let s = same_pair _ _ e in

@@ -4,7 +4,7 @@ use Rattle.std.proofs.lemmas.List.Concat.{flat_map-cons}
 use Rattle.std.specs.List.{flat_map}
 use Rattle.my_frame.specs.Numbers.{IsLen, IsText}
 use Rattle.my_frame.specs.Writing.{le_bytes, text_bytes}
-use Rattle.my_wire.specs.Server.{cell_bytes}
+use Rattle.my_reply.specs.Server.{cell_bytes}
 use Rattle.my_frame.proofs.NumberLaws.{text_found}
 use Rattle.my_frame.proofs.WritingLaws.{text_read_back}
 use Rattle.my_value.specs.TextRow.{AreTextCells, IsTextRow, text_row_at}

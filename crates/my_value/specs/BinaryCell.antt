@@ -35,7 +35,7 @@ time_of parts =
     then Some (values.Time (slice_index parts 0 == 1) (micros_at parts 1) (slice_index parts 5) (slice_index parts 6) (slice_index parts 7) (micros_at parts 8))
     else None
 
--- The bytes begin with the parts of a value behind their length in one byte.
+-- The bytes begin with the parts of a value after their length in one byte.
 abbrev pub IsSized : (List ℕ → Option Value) → List ℕ → Value → List ℕ → Type 0
 IsSized value_of bytes v rest = (parts : List ℕ) × (bytes ≡ length parts ∷ (parts ++ rest)) × (value_of parts ≡ Some v)
 
@@ -52,20 +52,20 @@ IsBinaryCell Time unsigned bytes v rest = IsSized time_of bytes v rest
 IsBinaryCell Null unsigned bytes v rest = (v ≡ values.NULL) × (bytes ≡ rest)
 IsBinaryCell Text unsigned bytes v rest = (text : List ℕ) × IsText bytes text rest × (values.Bytes text ≡ v)
 
--- the parts behind their length, and the bytes behind them
+-- the parts after their length, and the bytes after them
 abbrev pub parts_at : List ℕ → Option (List ℕ × List ℕ)
 parts_at [] = None
 parts_at (len ∷ bytes) = bytes_at len bytes
 
--- the parts as a value, and the bytes behind them
+-- the parts as a value, and the bytes after them
 abbrev pub sized_at : (List ℕ → Option Value) → List ℕ → Option (Value × List ℕ)
 sized_at value_of bytes = parts_at bytes >>= λ x. (value_of x.0 >>= λ v. Some (v, x.1))
 
--- the number in so many bytes, as a value, and the bytes behind it
+-- the number in so many bytes, as a value, and the bytes after it
 abbrev pub numeric_at : (ℕ → Value) → ℕ → List ℕ → Option (Value × List ℕ)
 numeric_at value_of count bytes = number_at count bytes >>= λ x. Some (value_of x.0, x.1)
 
--- the cell in this form, and the bytes behind it
+-- the cell in this form, and the bytes after it
 abbrev pub binary_cell_at : CellForm → Bool → List ℕ → Option (Value × List ℕ)
 binary_cell_at Tiny unsigned bytes = numeric_at (integer w8 unsigned) 1 bytes
 binary_cell_at Short unsigned bytes = numeric_at (integer w16 unsigned) 2 bytes

@@ -3,7 +3,7 @@
 use Rattle.std.specs.Prelude.{◌≡◌, ℕ, ◌+◌, ◌/◌, ◌%◌, Bool, true, false, List, [], ◌∷◌, ◌++◌, length, slice_index, Option, Some, None, ◌==◌, if◌then◌else◌}
 use Rattle.std.specs.Int.{bit_at}
 use Rattle.my_frame.specs.Numbers.{bytes_at, ◌>>=◌}
-use Rattle.my_wire.specs.declared.column.Column.{Column}
+use Rattle.my_reply.specs.declared.column.Column.{Column}
 use Rattle.my_value.specs.declared.value.Value.{Value}
 use Rattle.my_value.specs.declared.value.Value.TheVariants.{NULL}
 use Rattle.my_value.specs.declared.form.CellForm.{CellForm}
@@ -24,7 +24,7 @@ abbrev pub IsColumnCell : Bool → Column → List ℕ → Value → List ℕ �
 IsColumnCell true column bytes v rest = (v ≡ NULL) × (bytes ≡ rest)
 IsColumnCell false column bytes v rest = (form : CellForm) × (form_of_type column.column_type ≡ Some form) × IsBinaryCell form (is_unsigned column.flags) bytes v rest
 
--- The bytes are the cells of the columns from a place on, one behind the other, and nothing else.
+-- The bytes are the cells of the columns from a place on, one after the other, and nothing else.
 abbrev pub AreBinaryCells : ℕ → List ℕ → List Column → List Value → List ℕ → Type 0
 AreBinaryCells place bitmap [] [] bytes = bytes ≡ []
 AreBinaryCells place bitmap [] (v ∷ vs) bytes = ⊥
@@ -39,18 +39,18 @@ pub record IsBinaryRow (columns : List Column) (payload : List ℕ) (cells : Lis
   pub bitmap_is : length bitmap ≡ bitmap_len (length columns)
   pub stand : AreBinaryCells 0 bitmap columns cells values
 
--- the cell of a column, and the bytes behind it
+-- the cell of a column, and the bytes after it
 abbrev pub column_cell_at : Bool → ℕ → ℕ → List ℕ → Option (Value × List ℕ)
 column_cell_at true column_type flags bytes = Some (NULL, bytes)
 column_cell_at false column_type flags bytes = form_of_type column_type >>= λ form. binary_cell_at form (is_unsigned flags) bytes
 
--- the cells of the columns from a place on, and the bytes behind them
+-- the cells of the columns from a place on, and the bytes after them
 abbrev pub binary_cells_at : ℕ → List ℕ → List Column → List ℕ → Option (List Value × List ℕ)
 binary_cells_at place bitmap [] bytes = Some ([], bytes)
 binary_cells_at place bitmap (c ∷ cs) bytes =
     column_cell_at (is_null_at bitmap place) c.column_type c.flags bytes >>= λ x. (binary_cells_at (place + 1) bitmap cs x.1 >>= λ y. Some (x.0 ∷ y.0, y.1))
 
--- the bitmap of so many cells behind the head, and the bytes behind it
+-- the bitmap of so many cells after the head, and the bytes after it
 abbrev pub bitmap_at : ℕ → List ℕ → Option (List ℕ × List ℕ)
 bitmap_at count [] = None
 bitmap_at count (head ∷ bytes) = if head == 0 then bytes_at (bitmap_len count) bytes else None

@@ -36,7 +36,7 @@ joined_types [] vs = []
 joined_types (t ∷ ts) [] = []
 joined_types (t ∷ ts) (v ∷ vs) = joined t (type_of v) ∷ joined_types ts vs
 
--- a value behind its indicator: 1 for NULL, else 0 and the value
+-- a value after its indicator: 1 for NULL, else 0 and the value
 abbrev pub indicated_bytes : Value → List ℕ
 indicated_bytes NULL = 1 ∷ []
 indicated_bytes v = 0 ∷ value_bytes v

@@ -3,7 +3,7 @@ use Rattle.std.specs.Prelude.{List, Vec}
 use Rattle.std.specs.Arc.{arc_value}
 use Rattle.std.specs.declared.sync.Arc.{Arc}
 use Rattle.my_value.specs.declared.value.Value.{Value}
-use Rattle.my_wire.specs.declared.column.Column.{Column}
+use Rattle.my_reply.specs.declared.column.Column.{Column}
 
 -- the cells, and the columns that they belong to
 pub record RowParts : Type 0 where

@@ -26,7 +26,7 @@ type_bytes t = t.kind ∷ t.flag ∷ []
 abbrev pub date_parts : ℕ → ℕ → ℕ → ℕ → ℕ → ℕ → ℕ → List ℕ
 date_parts year month day hour minute second micros = le_bytes 2 year ++ (month ∷ day ∷ hour ∷ minute ∷ second ∷ le_bytes 4 micros)
 
--- how many bytes of its parts are sent: the least of 0, 4, 7 and 11 behind which all is 0
+-- how many bytes of its parts are sent: the least of 0, 4, 7 and 11 after which all is 0
 abbrev pub date_len : ℕ → ℕ → ℕ → ℕ → ℕ → ℕ → ℕ → ℕ
 date_len year month day hour minute second micros =
     if not (micros == 0) then 11 else (if not (((hour == 0) && (minute == 0)) && (second == 0)) then 7 else (if not (((year == 0) && (month == 0)) && (day == 0)) then 4 else 0))
@@ -38,12 +38,12 @@ sign_number negative = if negative then 1 else 0
 abbrev pub time_parts : Bool → ℕ → ℕ → ℕ → ℕ → ℕ → List ℕ
 time_parts negative days hours minutes seconds micros = sign_number negative ∷ (le_bytes 4 days ++ (hours ∷ minutes ∷ seconds ∷ le_bytes 4 micros))
 
--- how many bytes of its parts are sent: the least of 0, 8 and 12 behind which all is 0
+-- how many bytes of its parts are sent: the least of 0, 8 and 12 after which all is 0
 abbrev pub time_len : Bool → ℕ → ℕ → ℕ → ℕ → ℕ → ℕ
 time_len negative days hours minutes seconds micros =
     if not (micros == 0) then 12 else (if (not negative && (days == 0)) && (((hours == 0) && (minutes == 0)) && (seconds == 0)) then 0 else 8)
 
--- so many bytes of the parts, behind their number
+-- so many bytes of the parts, after their number
 abbrev pub sized_bytes : ℕ → List ℕ → List ℕ
 sized_bytes len parts = len ∷ take len parts
 

@@ -77,7 +77,7 @@ abbrev pub outside_at : ℕ → List ℕ → SqlPiece × List ℕ
 outside_at b bytes =
     if b == 63 then (mark, bytes) else (if (b == 58) && nat_lt 0 (name_len bytes) then (name (take (name_len bytes) bytes), drop (name_len bytes) bytes) else (kept (b ∷ []), bytes))
 
--- the piece at the front: a whole quote or comment, or what stands outside them; and the text behind it
+-- the piece at the front: a whole quote or comment, or what stands outside them; and the text after it
 abbrev pub piece_at : List ℕ → Option (SqlPiece × List ℕ)
 piece_at [] = None
 piece_at (b ∷ bytes) =

@@ -9,7 +9,7 @@ ghost use Rattle.my_value.specs.BinaryCell.{binary_cell_at, date_of, integer, lo
 use crate::cell::Cell;
 use crate::form::CellForm;
 use crate::value::Value;
-use my_wire::numbers::{take_bytes, take_text, take_u8, take_u16, take_u32, take_u64};
+use my_frame::numbers::{take_bytes, take_text, take_u8, take_u16, take_u32, take_u64};
 
 fn tiny(n: u8, unsigned: bool) -> Value
     ensures { result ≡ integer w8 unsigned n }
@@ -104,7 +104,7 @@ fn time(parts: &[u8]) -> Option<Value>
     ))
 }
 
-// The parts behind their length, and the bytes behind them.
+// The parts after their length, and the bytes after them.
 fn take_parts(bytes: &[u8]) -> Option<(&[u8], &[u8])>
     ensures { option_map (λ x. (x.0.now, x.1.now)) result ≡ parts_at bytes.now }
 {
@@ -112,7 +112,7 @@ fn take_parts(bytes: &[u8]) -> Option<(&[u8], &[u8])>
     take_bytes(rest, usize::from(*len))
 }
 
-/// The cell at the front in this form, and the bytes behind it.
+/// The cell at the front in this form, and the bytes after it.
 pub fn binary_cell(form: CellForm, unsigned: bool, bytes: &[u8]) -> Option<(Cell<'_>, &[u8])>
     ensures { option_map (λ x. (value_of x.0, x.1.now)) result ≡ binary_cell_at form unsigned bytes.now }
 {

@@ -3,11 +3,11 @@
 ghost use Rattle.std.specs.Prelude.{◌≡◌, ◌↔◌, ◌<◌, ◌^◌, ℕ, IfOk, MatchResult, List, Option, Some, is_some, length};
 ghost use Rattle.std.specs.Option.{option_map};
 ghost use Rattle.my_frame.specs.Reading.{GivesAs};
-ghost use Rattle.my_wire.specs.declared.column.Column.{Column};
+ghost use Rattle.my_reply.specs.declared.column.Column.{Column};
 ghost use Rattle.my_value.specs.RowParts.{columns_of};
 ghost use Rattle.my_value.specs.declared.value.Value.{Value};
 ghost use Rattle.my_value.specs.Cell.{value_of};
-ghost use Rattle.my_value.specs.TextRow.{behind};
+ghost use Rattle.my_value.specs.TextRow.{following};
 ghost use Rattle.my_value.specs.BinaryRow.{IsBinaryRow, binary_cells_at, binary_row_at, bitmap_at, column_cell_at, is_null_at};
 
 use crate::binary_cell::binary_cell;
@@ -15,8 +15,9 @@ use crate::cell::{Cell, own};
 use crate::form::{form_of, has_no_sign};
 use crate::row::{Columns, Row, column_list};
 use crate::value::Value;
-use my_wire::numbers::take_bytes;
-use my_wire::{Column, NoMemory, ReadError};
+use my_frame::numbers::take_bytes;
+use my_frame::{NoMemory, ReadError};
+use my_reply::Column;
 use std::alloc::Global;
 use std::sync::Arc;
 
@@ -29,7 +30,7 @@ fn is_null(bitmap: &[u8], place: usize) -> bool
     (byte >> ((place + 2) % 8)) % 2 == 1
 }
 
-// The cell of a column, and the bytes behind it.
+// The cell of a column, and the bytes after it.
 fn column_cell(null: bool, column_type: u8, flags: u16, bytes: &[u8]) -> Option<(Cell<'_>, &[u8])>
     ensures { option_map (λ x. (value_of x.0, x.1.now)) result ≡ column_cell_at null column_type flags bytes.now }
 {
@@ -40,7 +41,7 @@ fn column_cell(null: bool, column_type: u8, flags: u16, bytes: &[u8]) -> Option<
     binary_cell(form, has_no_sign(flags), bytes)
 }
 
-// The cells of the columns, and the bytes behind them.
+// The cells of the columns, and the bytes after them.
 fn binary_cells<'a>(
     alloc: Global,
     bitmap: &[u8],
@@ -64,9 +65,9 @@ fn binary_cells<'a>(
     Ok(Some((values, rest)))
 }
 
-// The bytes behind the cells of the columns.
-fn behind_binary_cells<'a>(bitmap: &[u8], columns: &[Column], bytes: &'a [u8]) -> Option<&'a [u8]>
-    ensures { option_map (λ x. x.now) result ≡ behind (binary_cells_at 0 bitmap.now columns.now bytes.now) }
+// The bytes after the cells of the columns.
+fn after_binary_cells<'a>(bitmap: &[u8], columns: &[Column], bytes: &'a [u8]) -> Option<&'a [u8]>
+    ensures { option_map (λ x. x.now) result ≡ following (binary_cells_at 0 bitmap.now columns.now bytes.now) }
 {
     let mut rest = bytes;
     for (place, column) in columns.iter().enumerate() {
@@ -77,7 +78,7 @@ fn behind_binary_cells<'a>(bitmap: &[u8], columns: &[Column], bytes: &'a [u8]) -
     Some(rest)
 }
 
-// The bitmap of so many cells behind the head of a row, and the bytes behind it.
+// The bitmap of so many cells after the head of a row, and the bytes after it.
 fn bitmap_of(count: usize, payload: &[u8]) -> Option<(&[u8], &[u8])>
     requires { count < 2 ^ 63 }
     ensures { option_map (λ x. (x.0.now, x.1.now)) result ≡ bitmap_at count payload.now }
@@ -137,5 +138,5 @@ pub fn is_binary_row(columns: &[Column], payload: &[u8]) -> bool
     let Some((bitmap, bytes)) = bitmap_of(columns.len(), payload) else {
         return false;
     };
-    matches!(behind_binary_cells(bitmap, columns, bytes), Some([]))
+    matches!(after_binary_cells(bitmap, columns, bytes), Some([]))
 }

@@ -7,8 +7,8 @@ ghost use Rattle.my_value.specs.BulkBody.{agree, bulk_head, indicated_bytes, joi
 
 use crate::sending::{ParamType, put_type, put_value, type_of, values_len};
 use crate::value::Value;
-use my_wire::NoMemory;
-use my_wire::writing::put_u32;
+use my_frame::NoMemory;
+use my_frame::writing::put_u32;
 use std::alloc::Global;
 
 // Whether values of these two types stand in one column.
@@ -104,7 +104,7 @@ fn put_all_types(out: &mut Vec<u8>, types: &[ParamType]) -> Result<(), NoMemory>
     Ok(())
 }
 
-// Writes a value behind its indicator.
+// Writes a value after its indicator.
 fn put_indicated(out: &mut Vec<u8>, value: &Value) -> Result<(), NoMemory>
     ensures { OnOk result (out.new.items ≡ out.old.items ++ indicated_bytes value.now) }
 {

@@ -4,7 +4,7 @@ ghost use Rattle.std.specs.Prelude.{◌≡◌, IfOk};
 ghost use Rattle.my_value.specs.Cell.{value_of};
 
 use crate::value::Value;
-use my_wire::{Blob, NoMemory};
+use my_frame::{Blob, NoMemory};
 use std::alloc::Global;
 
 /// A value that is still in the payload, or takes no memory.

@@ -7,8 +7,8 @@ ghost use Rattle.my_value.specs.ExecuteBody.{execute_bytes, execute_head, needs_
 
 use crate::sending::{put_type, put_value, type_of, values_len};
 use crate::value::Value;
-use my_wire::NoMemory;
-use my_wire::writing::put_u32;
+use my_frame::NoMemory;
+use my_frame::writing::put_u32;
 use std::alloc::Global;
 
 // The most bytes that a chunk holds.
@@ -40,7 +40,7 @@ fn null_byte(values: &[Value]) -> u8
 }
 
 // The values but the first eight times so many.
-fn behind_eights(values: &[Value], count: usize) -> &[Value]
+fn after_eights(values: &[Value], count: usize) -> &[Value]
     requires { 8 * count ≤ length values.now }
     ensures { result.now ≡ drop (8 * count) values.now }
 {
@@ -52,7 +52,7 @@ fn put_bitmap(out: &mut Vec<u8>, values: &[Value]) -> Result<(), NoMemory>
     ensures { OnOk result (out.new.items ≡ out.old.items ++ null_bytes (null_len (length values.now)) values.now) }
 {
     for place in 0..(values.len() + 7) / 8 {
-        out.push(null_byte(behind_eights(values, place)))?;
+        out.push(null_byte(after_eights(values, place)))?;
     }
     Ok(())
 }

@@ -16,13 +16,13 @@ pub enum CellForm {
     LongLong,
     Float,
     Double,
-    /// Parts of a date behind their length.
+    /// Parts of a date after their length.
     Date,
-    /// Parts of a time behind their length.
+    /// Parts of a time after their length.
     Time,
     /// No bytes.
     Null,
-    /// A text behind its length.
+    /// A text after its length.
     Text,
 }
 

@@ -5,7 +5,7 @@ ghost use Rattle.my_value.specs.SqlText.{IsSplit, SqlPiece, seen, split};
 ghost use Rattle.my_value.specs.NamedParams.{ParsesTo, all_names, all_sent, has_mark, is_mark, names_of, sent_of};
 
 use crate::sql_text::{Piece, front_piece};
-use my_wire::{Blob, NoMemory};
+use my_frame::{Blob, NoMemory};
 use std::alloc::Global;
 use std::marker::Model;
 use thiserror::Error;

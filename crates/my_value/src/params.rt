@@ -7,7 +7,7 @@ ghost use Rattle.std.specs.List.{list_any};
 ghost use Rattle.my_value.specs.ParamValues.{FillsTo, MissesOrFails, ResolvesTo, filled, is_float, last_value, resolved, sendable};
 
 use crate::value::Value;
-use my_wire::{Blob, NoMemory};
+use my_frame::{Blob, NoMemory};
 use std::alloc::Global;
 use thiserror::Error;
 

@@ -6,7 +6,7 @@ ghost use Rattle.my_value.specs.declared.value.Value.TheVariants as values;
 
 use crate::conversion::{FromValue, FromValueError};
 use crate::value::Value;
-use my_wire::Blob;
+use my_frame::Blob;
 use std::alloc::Global;
 
 impl FromValue for bool {

@@ -5,7 +5,8 @@ ghost use Rattle.std.specs.Option.{option_copied};
 ghost use Rattle.my_value.specs.RowParts.{columns_of};
 
 use crate::value::Value;
-use my_wire::{Column, NoMemory};
+use my_frame::NoMemory;
+use my_reply::Column;
 use std::alloc::Global;
 use std::marker::Model;
 use std::mem;

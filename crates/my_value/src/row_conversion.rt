@@ -4,7 +4,7 @@ ghost use Rattle.std.specs.Prelude.{◌≡◌, IfOk, IfErr};
 ghost use Rattle.my_value.specs.RowConversions.{RefusesRow};
 
 use crate::row::Row;
-use my_wire::NoMemory;
+use my_frame::NoMemory;
 use std::alloc::Global;
 use thiserror::Error;
 

@@ -5,8 +5,8 @@ ghost use Rattle.my_frame.specs.Writing.{len_bytes};
 ghost use Rattle.my_value.specs.Sending.{date_len, date_parts, sized_bytes, time_len, time_parts, type_bytes, type_of, value_bytes, values_len};
 
 use crate::value::Value;
-use my_wire::NoMemory;
-use my_wire::writing::{put_text, put_u32, put_u64};
+use my_frame::NoMemory;
+use my_frame::writing::{put_text, put_u32, put_u64};
 
 /// The type of a parameter: the number of the type, and 0x80 where a number has no sign, else 0.
 #[derive(Clone, Copy, Debug, PartialEq, Eq)]
@@ -41,7 +41,7 @@ pub fn put_type(out: &mut Vec<u8>, param_type: ParamType) -> Result<(), NoMemory
     Ok(())
 }
 
-// So many bytes of the parts, behind their number.
+// So many bytes of the parts, after their number.
 fn put_parts(out: &mut Vec<u8>, parts: &[u8], len: usize) -> Result<(), NoMemory>
     requires small { len < 256 }
     requires within { len ≤ length parts.now }

@@ -176,7 +176,7 @@ fn outside(first: u8, bytes: &[u8]) -> (Piece<'_>, &[u8])
     (Piece::Plain(first), bytes)
 }
 
-/// The piece at the front, and the text behind it.
+/// The piece at the front, and the text after it.
 pub fn front_piece(text: &[u8]) -> Option<(Piece<'_>, &[u8])>
     ensures { option_map (λ x. (seen x.0, x.1.now)) result ≡ piece_at text.now }
 {

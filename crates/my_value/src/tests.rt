@@ -5,7 +5,8 @@ mod parameters;
 mod rows;
 
 use crate::{Columns, Value};
-use my_wire::{Blob, Column};
+use my_frame::Blob;
+use my_reply::Column;
 use std::alloc::{AllocError, Global};
 use std::sync::Arc;
 

@@ -6,17 +6,17 @@ ghost use Rattle.my_value.specs.RowParts.{columns_of};
 ghost use Rattle.my_value.specs.declared.value.Value.{Value};
 ghost use Rattle.my_frame.specs.Reading.{GivesAs};
 ghost use Rattle.my_value.specs.Cell.{value_of};
-ghost use Rattle.my_value.specs.TextRow.{IsTextRow, behind, text_cell_at, text_cells_at, text_row_at};
+ghost use Rattle.my_value.specs.TextRow.{IsTextRow, following, text_cell_at, text_cells_at, text_row_at};
 
 use crate::cell::{Cell, own};
 use crate::row::{Columns, Row, column_count};
 use crate::value::Value;
-use my_wire::numbers::take_text;
-use my_wire::{NoMemory, ReadError};
+use my_frame::numbers::take_text;
+use my_frame::{NoMemory, ReadError};
 use std::alloc::Global;
 use std::sync::Arc;
 
-// The cell at the front, and the bytes behind it.
+// The cell at the front, and the bytes after it.
 fn text_cell(bytes: &[u8]) -> Option<(Cell<'_>, &[u8])>
     ensures { option_map (λ x. (value_of x.0, x.1.now)) result ≡ text_cell_at bytes.now }
 {
@@ -30,7 +30,7 @@ fn text_cell(bytes: &[u8]) -> Option<(Cell<'_>, &[u8])>
     }
 }
 
-// So many cells, and the bytes behind them.
+// So many cells, and the bytes after them.
 fn text_cells(
     alloc: Global,
     count: usize,
@@ -52,9 +52,9 @@ fn text_cells(
     Ok(Some((values, rest)))
 }
 
-// The bytes behind so many cells.
-fn behind_text_cells(count: usize, bytes: &[u8]) -> Option<&[u8]>
-    ensures { option_map (λ x. x.now) result ≡ behind (text_cells_at count bytes.now) }
+// The bytes after so many cells.
+fn after_text_cells(count: usize, bytes: &[u8]) -> Option<&[u8]>
+    ensures { option_map (λ x. x.now) result ≡ following (text_cells_at count bytes.now) }
 {
     let mut rest = bytes;
     for _ in 0..count {
@@ -106,7 +106,7 @@ pub fn text_rows_are_read()
 pub fn is_text_row(count: usize, payload: &[u8]) -> bool
     ensures { result ≡ is_some (text_row_at count payload.now) }
 {
-    match behind_text_cells(count, payload) {
+    match after_text_cells(count, payload) {
         Some([]) => !payload.is_empty(),
         _ => false,
     }

@@ -7,7 +7,7 @@ use crate::conversion::{FromValue, FromValueError};
 use crate::row::Row;
 use crate::row_conversion::{FromRow, FromRowError};
 use crate::value::Value;
-use my_wire::NoMemory;
+use my_frame::NoMemory;
 use std::alloc::Global;
 
 /// The converted cell of a row of one cell.

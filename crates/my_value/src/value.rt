@@ -2,7 +2,7 @@
 
 ghost use Rattle.std.specs.Prelude.{◌≡◌, IfOk};
 
-use my_wire::{Blob, NoMemory};
+use my_frame::{Blob, NoMemory};
 use std::alloc::Global;
 
 /// A value as the server and the client hand it over.

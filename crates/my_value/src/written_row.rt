@@ -2,7 +2,7 @@
 
 ghost use Rattle.std.specs.Prelude.{◌≡◌, ◌<◌, ℕ, List, Option, Some, length, map};
 ghost use Rattle.std.specs.List.{flat_map};
-ghost use Rattle.my_wire.specs.Server.{cell_bytes};
+ghost use Rattle.my_reply.specs.Server.{cell_bytes};
 ghost use Rattle.my_value.specs.TextRow.{text_row_at};
 ghost use Rattle.my_value.specs.WrittenRow.{TextsFit, sent_value};
 

@@ -1,4 +1,4 @@
--- The order of a tree's ages, and what it becomes when an entry changes its place with the one before or behind it.
+-- The order of a tree's ages, and what it becomes when an entry changes its place with the one before or after it.
 use Rattle.std.proofs.Common.{◌≡◌, ◌≢◌, ℕ, ◌+◌, ◌*◌, ◌<◌, ◌≤◌, List, sym, ap, ◌∙◌, subst, arith, inl, inr}
 use Rattle.std.proofs.lemmas.Bool.{cases_eq}
 use Rattle.my_wait_heap.specs.declared.entry.Entry.{Entry}
@@ -75,11 +75,11 @@ up-above {n} {age} {new} {i} {p} lo hi lt but older t = λ c clo chi clt.
           omega (arith, t.second, b, h, older)
     ]
 
--- an entry older than the one before it is no younger than those behind it
+-- an entry older than the one before it is no younger than those after it
 pub above-older : {n : ℕ} {age : ℕ → ℕ} {i p : ℕ} → 2 * p + 1 ≤ i → i ≤ 2 * p + 2 → IsOrderedBut n age i → age i < age p → IsAbove n age i
 above-older {n} {age} {i} {p} lo hi but older = λ c clo chi clt. let h = but.over p c lo hi clo chi clt in omega (arith, h, older)
 
--- one step down, to the older one of those behind it
+-- one step down, to the older one of those after it
 pub down-but : {n : ℕ} {age new : ℕ → ℕ} {i b : ℕ} → 2 * i + 1 ≤ b → b ≤ 2 * i + 2 → b < n → IsOrderedBut n age i → ((c : ℕ) → 2 * i + 1 ≤ c → c ≤ 2 * i + 2 → c < n → age b ≤ age c) → Traded age new i b → IsOrderedBut n new b
 down-but {n} {age} {new} {i} {b} lo hi lt but least t = record {
   others = λ q c qlo qhi clt nq nc.
@@ -116,11 +116,11 @@ down-below {age} {new} {i} {b} lo hi older t = λ q qlo qhi.
     let x = ap new e ∙ t.first in
     omega (arith, x, t.second, older)
 
--- where nothing stands behind it
+-- where nothing follows it
 pub above-leaf : {n : ℕ} (age : ℕ → ℕ) {i : ℕ} → n ≤ 2 * i + 1 → IsAbove n age i
 above-leaf {n} age {i} le = λ c clo chi clt. absurd (omega arith)
 
--- where the oldest behind it is no older
+-- where the oldest after it is no older
 pub above-least : {n : ℕ} {age : ℕ → ℕ} {i b : ℕ} → ((c : ℕ) → 2 * i + 1 ≤ c → c ≤ 2 * i + 2 → c < n → age b ≤ age c) → age i ≤ age b → IsAbove n age i
 above-least {n} {age} {i} {b} least le = λ c clo chi clt. let h = least c clo chi clt in omega (arith, h, le)
 

@@ -41,16 +41,16 @@ pub record IsSwapped (xs ys : List Entry) (i j : ℕ) : Type 0 where
   pub second : entry_at ys j ≡ entry_at xs i
   pub others : (k : ℕ) → k ≢ i → k ≢ j → entry_at ys k ≡ entry_at xs k
 
--- no entry is older than the one that it stands behind
+-- no entry is older than the one that it follows
 abbrev pub IsOrdered : ℕ → (ℕ → ℕ) → Type 0
 IsOrdered n age = (p c : ℕ) → 2 * p + 1 ≤ c → c ≤ 2 * p + 2 → c < n → age p ≤ age c
 
--- the same but at one index, where those behind it are no older than the one before it
+-- the same but at one index, where those after it are no older than the one before it
 pub record IsOrderedBut (n : ℕ) (age : ℕ → ℕ) (i : ℕ) : Type 0 where
   pub others : (p c : ℕ) → 2 * p + 1 ≤ c → c ≤ 2 * p + 2 → c < n → p ≢ i → c ≢ i → age p ≤ age c
   pub over : (p c : ℕ) → 2 * p + 1 ≤ i → i ≤ 2 * p + 2 → 2 * i + 1 ≤ c → c ≤ 2 * i + 2 → c < n → age p ≤ age c
 
--- the entry at an index is no younger than those behind it
+-- the entry at an index is no younger than those after it
 abbrev pub IsAbove : ℕ → (ℕ → ℕ) → ℕ → Type 0
 IsAbove n age i = (c : ℕ) → 2 * i + 1 ≤ c → c ≤ 2 * i + 2 → c < n → age i ≤ age c
 

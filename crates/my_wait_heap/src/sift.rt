@@ -31,8 +31,8 @@ impl Tree {
         }
     }
 
-    /// The older one of the entries behind an index.
-    fn older_behind<C: Ledger>(&self, i: usize, steps: &mut C) -> usize
+    /// The older one of the entries after an index.
+    fn older_after<C: Ledger>(&self, i: usize, steps: &mut C) -> usize
         requires { 2 * i + 2 ≤ vec_len self.now.entries }
         ensures low { 2 * i + 1 ≤ result }
         ensures high { result ≤ 2 * i + 2 }
@@ -49,7 +49,7 @@ impl Tree {
         }
     }
 
-    /// The entry at an index goes down to where none behind it is older.
+    /// The entry at an index goes down to where none after it is older.
     fn sift_down<C: Ledger>(&mut self, start: usize, steps: &mut C)
         requires linked { IsTree self.old }
         requires within { start < vec_len self.old.entries }
@@ -63,12 +63,12 @@ impl Tree {
     {
         let mut i = start;
         while i < self.entries.len() / 2 {
-            let behind = self.older_behind(i, steps);
-            if !self.is_older(behind, i, steps) {
+            let following = self.older_after(i, steps);
+            if !self.is_older(following, i, steps) {
                 return;
             }
-            self.swap(i, behind);
-            i = behind;
+            self.swap(i, following);
+            i = following;
         }
     }
 

@@ -8,7 +8,7 @@ use crate::entry::Entry;
 use crate::ledger::Ledger;
 use my_frame::NoMemory;
 
-/// A tree of entries in a list: behind the one at index `i` stand those at `2 * i + 1` and `2 * i + 2`.
+/// A tree of entries in a list: after the one at index `i` stand those at `2 * i + 1` and `2 * i + 2`.
 #[derive(Debug, Drop)]
 pub(crate) struct Tree {
     /// The age that holds each slot.

@@ -1,24 +1,8 @@
-//! The packets of the MySQL client/server protocol. What a server answers to commands is read and
-//! written here; frames, the packets by which a connection is made, a client's commands and the sets
-//! of named bits come from crates of their own and are handed on.
+//! The packets of the MySQL client/server protocol under one name: the sets of named bits, frames,
+//! the packets by which a connection is made, a client's commands, and what a server answers.
+//! Each comes from a crate of its own; this one defines nothing.
 #![tactic(auto)]
 
-mod column;
-mod column_count;
-mod eof;
-mod err;
-mod event;
-pub mod glance;
-mod ok;
-mod replies;
-mod sent;
-mod server;
-
-pub use column::{Column, column_is_read, read_column};
-pub use column_count::{ColumnCount, column_count_is_read, read_column_count};
-pub use eof::{EofPacket, eof_is_read, read_eof};
-pub use err::{ErrPacket, err_is_read, read_err};
-pub use event::{Event, TABLE_MAP, event_is_read, read_event};
 pub use my_command::{
     BulkExecute, ClientPacket, Dump, DumpGtid, Execute, Parameter, ParameterType, RegisterSlave,
     Sid, gtid_block_has_this_length, write_client,
@@ -31,10 +15,13 @@ pub use my_frame::{
 };
 pub use my_handshake::{
     Attribute, Attributes, ChangeUser, Greeting, HandshakeResponse, MoreData, NEEDED_CAPABILITIES,
-    ServerVersion, SwitchRequest, attributes_stay_in_order, greeting_is_read, read_greeting,
-    read_more_data, read_switch, server_version, switch_is_read,
+    ServerVersion, SwitchRequest, attributes_stay_in_order, greeting_is_read, greeting_offer,
+    read_greeting, read_more_data, read_switch, server_version, switch_is_read,
 };
-pub use ok::{OkPacket, ok_is_read, read_end_ok, read_ok};
-pub use replies::{InfileRequest, PrepareOk, read_infile, read_prepare_ok, replies_are_read};
-pub use sent::written_packets_are_read;
-pub use server::{ServerPacket, write_server};
+pub use my_reply::{
+    Column, ColumnCount, EofPacket, ErrPacket, Event, InfileRequest, OkPacket, PrepareOk,
+    ServerPacket, TABLE_MAP, column_count_is_read, column_is_read, eof_is_read, err_is_read,
+    event_is_read, glance, ok_is_read, read_column, read_column_count, read_end_ok, read_eof,
+    read_err, read_event, read_infile, read_ok, read_prepare_ok, replies_are_read, write_server,
+    written_packets_are_read,
+};

@@ -27,7 +27,7 @@ left_whole (Wait ∷ more) = refl
 left_whole (Fail ∷ more) = refl
 left_whole (End ∷ more) = refl
 
--- the item at a place, and those behind it
+-- the item at a place, and those after it
 pub item_out : (place : ℕ) (items : List ReadItem) (x : ReadItem) → place < length items → get_or items place x ≡ x → drop place items ≡ x ∷ drop (place + 1) items
 item_out place items x h e = rw (add-one) (drop-cons items place x h ∙ ap (λ y. y ∷ drop (suc place) items) e)
 

@@ -4,7 +4,7 @@ use Rattle.my_world.specs.declared.link.ReadItem.{ReadItem}
 use Rattle.my_world.specs.declared.link.ReadItem.TheVariants.{Bytes, Turn, Wait, Fail, End}
 use Rattle.my_world.specs.declared.link.WriteItem.{WriteItem}
 use Rattle.my_world.specs.declared.link.WriteItem.TheVariants as puts
-use Rattle.my_world.specs.Link.{Told, Gave, put_back, behind_hold, behind_fault, behind_end, behind_write, taken_of, behind_taken, behind_write_hold, behind_write_fault}
+use Rattle.my_world.specs.Link.{Told, Gave, put_back, after_hold, after_fault, after_end, after_write, taken_of, after_taken, after_write_hold, after_write_fault}
 use Rattle.my_world.specs.Spent.{spelled, fails_in, waits_in, write_fails_in, write_waits_in, has_end, is_at_end, IsDry, IsDryWhere, IsLeft, Whole, Part, Spends, Spent, CountsSpent, ReadsSpent, AllSpent, IsSpent}
 
 -- unchanged, where it is told
@@ -35,10 +35,10 @@ items_in (Some is) = is
 no_end : false ≡ true → ⊥
 no_end e = cc
 
--- what stands behind the first item
-abbrev behind_first : List ReadItem → List ReadItem
-behind_first [] = []
-behind_first (i ∷ is) = is
+-- what follows the first item
+abbrev after_first : List ReadItem → List ReadItem
+after_first [] = []
+after_first (i ∷ is) = is
 
 -- the bytes of the first item
 abbrev first_bytes : List ReadItem → List ℕ
@@ -46,10 +46,10 @@ first_bytes (Bytes bytes ∷ more) = bytes
 first_bytes is = []
 
 -- the first item was used
-left_behind : (p js : List ReadItem) (i : ReadItem) → IsLeft p (i ∷ js) → IsLeft p js
-left_behind p js i (Whole used e) = Whole (used ++ i ∷ []) (e ∙ sym (append_assoc used (i ∷ []) js))
-left_behind p js i (Part used more read rest e f) =
-    let same : js ≡ more = ap behind_first f in
+left_after : (p js : List ReadItem) (i : ReadItem) → IsLeft p (i ∷ js) → IsLeft p js
+left_after p js i (Whole used e) = Whole (used ++ i ∷ []) (e ∙ sym (append_assoc used (i ∷ []) js))
+left_after p js i (Part used more read rest e f) =
+    let same : js ≡ more = ap after_first f in
     Whole (used ++ Bytes (read ++ rest) ∷ []) (e ∙ ap (λ (xs : List ReadItem). used ++ Bytes (read ++ rest) ∷ xs) (sym same) ∙ sym (append_assoc used (Bytes (read ++ rest) ∷ []) js))
 
 -- the first item was read in part
@@ -57,11 +57,11 @@ left_inside : (p more : List ReadItem) (bytes rest : List ℕ) → IsLeft p (Byt
 left_inside p more bytes rest (Whole used e) = Part used more bytes rest e refl
 left_inside p more bytes rest (Part used others read left e f) =
     let inside : left ≡ bytes ++ rest = sym (ap first_bytes f) in
-    let behind : others ≡ more = sym (ap behind_first f) in
-    Part used more (read ++ bytes) rest (e ∙ ap (λ (xs : List ReadItem). used ++ Bytes (read ++ left) ∷ xs) behind ∙ ap (λ (bs : List ℕ). used ++ Bytes bs ∷ more) (ap (λ (bs : List ℕ). read ++ bs) inside ∙ sym (append_assoc read bytes rest))) refl
+    let following : others ≡ more = sym (ap after_first f) in
+    Part used more (read ++ bytes) rest (e ∙ ap (λ (xs : List ReadItem). used ++ Bytes (read ++ left) ∷ xs) following ∙ ap (λ (bs : List ℕ). used ++ Bytes bs ∷ more) (ap (λ (bs : List ℕ). read ++ bs) inside ∙ sym (append_assoc read bytes rest))) refl
 
 left_put : (p more : List ReadItem) (bytes rest : List ℕ) → IsLeft p (Bytes (bytes ++ rest) ∷ more) → IsLeft p (put_back rest more)
-left_put p more bytes [] l = left_behind p more (Bytes (bytes ++ [])) l
+left_put p more bytes [] l = left_after p more (Bytes (bytes ++ [])) l
 left_put p more bytes (b ∷ rest) l = left_inside p more bytes (b ∷ rest) l
 
 -- these items say the same of bytes, faults, holds and the end
@@ -72,15 +72,15 @@ record Alike (is js : List ReadItem) : Type 0 where
   ends : has_end js ≡ has_end is
   stays : is_at_end is ≡ true → is_at_end js ≡ true
 
-met : (is : List ReadItem) → Alike is (behind_write is)
+met : (is : List ReadItem) → Alike is (after_write is)
 met [] = record { left = λ p l. l; spells = refl; fails = refl; ends = refl; stays = λ e. e }
 met (Bytes bytes ∷ more) = record { left = λ p l. l; spells = refl; fails = refl; ends = refl; stays = λ e. e }
-met (Turn ∷ more) = record { left = λ p l. left_behind p more Turn l; spells = refl; fails = refl; ends = refl; stays = λ e. absurd (no_end e) }
+met (Turn ∷ more) = record { left = λ p l. left_after p more Turn l; spells = refl; fails = refl; ends = refl; stays = λ e. absurd (no_end e) }
 met (Wait ∷ more) = record { left = λ p l. l; spells = refl; fails = refl; ends = refl; stays = λ e. e }
 met (Fail ∷ more) = record { left = λ p l. l; spells = refl; fails = refl; ends = refl; stays = λ e. e }
 met (End ∷ more) = record { left = λ p l. l; spells = refl; fails = refl; ends = refl; stays = λ e. e }
 
-met_waits : (is : List ReadItem) → waits_in (behind_write is) ≡ waits_in is
+met_waits : (is : List ReadItem) → waits_in (after_write is) ≡ waits_in is
 met_waits [] = refl
 met_waits (Bytes bytes ∷ more) = refl
 met_waits (Turn ∷ more) = refl
@@ -96,7 +96,7 @@ alike_spent p is js taken e a s = record {
   planned_end = λ h. s.planned_end (sym a.ends ∙ h);
 }
 
-taken_fails : (n : ℕ) (ws : List WriteItem) → write_fails_in (behind_taken n ws) ≡ write_fails_in ws
+taken_fails : (n : ℕ) (ws : List WriteItem) → write_fails_in (after_taken n ws) ≡ write_fails_in ws
 taken_fails n [] = refl
 taken_fails n (puts.Accept k ∷ more) = by_test (k - n == 0)
   where
@@ -106,7 +106,7 @@ taken_fails n (puts.Accept k ∷ more) = by_test (k - n == 0)
 taken_fails n (puts.Wait ∷ more) = refl
 taken_fails n (puts.Fail ∷ more) = refl
 
-taken_waits : (n : ℕ) (ws : List WriteItem) → write_waits_in (behind_taken n ws) ≡ write_waits_in ws
+taken_waits : (n : ℕ) (ws : List WriteItem) → write_waits_in (after_taken n ws) ≡ write_waits_in ws
 taken_waits n [] = refl
 taken_waits n (puts.Accept k ∷ more) = by_test (k - n == 0)
   where
@@ -117,10 +117,10 @@ taken_waits n (puts.Wait ∷ more) = refl
 taken_waits n (puts.Fail ∷ more) = refl
 
 -- a write took bytes
-pub spent_sent : (plan x y : Option (List ReadItem)) (rules ws vs : Option (List WriteItem)) (len n : ℕ) (taken : List ℕ) (f w e : ℕ) → Told x y (λ is js. js ≡ behind_write is) → Told ws vs (λ us vs. (taken_of len us ≡ Some n) × (vs ≡ behind_taken n us)) → IsSpent plan x rules ws taken f w e → IsSpent plan y rules vs taken f w e
+pub spent_sent : (plan x y : Option (List ReadItem)) (rules ws vs : Option (List WriteItem)) (len n : ℕ) (taken : List ℕ) (f w e : ℕ) → Told x y (λ is js. js ≡ after_write is) → Told ws vs (λ us vs. (taken_of len us ≡ Some n) × (vs ≡ after_taken n us)) → IsSpent plan x rules ws taken f w e → IsSpent plan y rules vs taken f w e
 spent_sent plan x y rules ws vs len n taken f w e t u s = record {
-  reads = reads_on plan x y taken taken e e (λ is js. js ≡ behind_write is) t (λ p is js g k. alike_spent p is js taken e (subst (Alike is) (sym g) (met is)) k) s.reads;
-  counts = counts_on plan x y rules ws vs f w f w (λ is js. js ≡ behind_write is) (λ us vs. (taken_of len us ≡ Some n) × (vs ≡ behind_taken n us)) t u
+  reads = reads_on plan x y taken taken e e (λ is js. js ≡ after_write is) t (λ p is js g k. alike_spent p is js taken e (subst (Alike is) (sym g) (met is)) k) s.reads;
+  counts = counts_on plan x y rules ws vs f w f w (λ is js. js ≡ after_write is) (λ us vs. (taken_of len us ≡ Some n) × (vs ≡ after_taken n us)) t u
       (λ p is js rs us vs g h k. record {
         failed = k.failed ∙ sym (ap (λ m. f + m) (ap (λ m. m + write_fails_in vs) (ap fails_in g ∙ (met is).fails) ∙ ap (λ m. fails_in is + m) (ap write_fails_in h.1 ∙ taken_fails n us)));
         waited = k.waited ∙ sym (ap (λ m. w + m) (ap (λ m. m + write_waits_in vs) (ap waits_in g ∙ met_waits is) ∙ ap (λ m. waits_in is + m) (ap write_waits_in h.1 ∙ taken_waits n us)));
@@ -128,16 +128,16 @@ spent_sent plan x y rules ws vs len n taken f w e t u s = record {
 }
 
 -- a write held
-write_held : (us vs : List WriteItem) → behind_write_hold us ≡ Some vs → us ≡ puts.Wait ∷ vs
+write_held : (us vs : List WriteItem) → after_write_hold us ≡ Some vs → us ≡ puts.Wait ∷ vs
 write_held [] vs e = absurd (let k : None ≡ Some vs = e in cc)
 write_held (puts.Accept n ∷ more) vs e = absurd (let k : None ≡ Some vs = e in cc)
 write_held (puts.Wait ∷ more) vs e = ap (λ o. puts.Wait ∷ items_in o) e
 write_held (puts.Fail ∷ more) vs e = absurd (let k : None ≡ Some vs = e in cc)
 
-pub spent_write_held : (plan x y : Option (List ReadItem)) (rules ws vs : Option (List WriteItem)) (taken : List ℕ) (f w e : ℕ) → y ≡ x → Told ws vs (λ us vs. behind_write_hold us ≡ Some vs) → IsSpent plan x rules ws taken f w e → IsSpent plan y rules vs taken f (w + 1) e
+pub spent_write_held : (plan x y : Option (List ReadItem)) (rules ws vs : Option (List WriteItem)) (taken : List ℕ) (f w e : ℕ) → y ≡ x → Told ws vs (λ us vs. after_write_hold us ≡ Some vs) → IsSpent plan x rules ws taken f w e → IsSpent plan y rules vs taken f (w + 1) e
 spent_write_held plan x y rules ws vs taken f w e t u s = record {
   reads = subst (λ (o : Option (List ReadItem)). ReadsSpent plan o taken e) (sym t) s.reads;
-  counts = counts_on plan x y rules ws vs f w f (w + 1) (λ is js. js ≡ is) (λ us vs. behind_write_hold us ≡ Some vs) (told_same x y t) u
+  counts = counts_on plan x y rules ws vs f w f (w + 1) (λ is js. js ≡ is) (λ us vs. after_write_hold us ≡ Some vs) (told_same x y t) u
       (λ p is js rs us vs g h k. let split : us ≡ puts.Wait ∷ vs = write_held us vs h in
       record {
         failed = k.failed ∙ ap (λ m. f + (m + write_fails_in us)) (ap fails_in (sym g)) ∙ ap (λ (xs : List WriteItem). f + (fails_in js + write_fails_in xs)) split;
@@ -146,16 +146,16 @@ spent_write_held plan x y rules ws vs taken f w e t u s = record {
 }
 
 -- a write failed
-write_failed : (us vs : List WriteItem) → behind_write_fault us ≡ Some vs → us ≡ puts.Fail ∷ vs
+write_failed : (us vs : List WriteItem) → after_write_fault us ≡ Some vs → us ≡ puts.Fail ∷ vs
 write_failed [] vs e = absurd (let k : None ≡ Some vs = e in cc)
 write_failed (puts.Accept n ∷ more) vs e = absurd (let k : None ≡ Some vs = e in cc)
 write_failed (puts.Wait ∷ more) vs e = absurd (let k : None ≡ Some vs = e in cc)
 write_failed (puts.Fail ∷ more) vs e = ap (λ o. puts.Fail ∷ items_in o) e
 
-pub spent_write_failed : (plan x y : Option (List ReadItem)) (rules ws vs : Option (List WriteItem)) (taken : List ℕ) (f w e : ℕ) → y ≡ x → Told ws vs (λ us vs. behind_write_fault us ≡ Some vs) → IsSpent plan x rules ws taken f w e → IsSpent plan y rules vs taken (f + 1) w e
+pub spent_write_failed : (plan x y : Option (List ReadItem)) (rules ws vs : Option (List WriteItem)) (taken : List ℕ) (f w e : ℕ) → y ≡ x → Told ws vs (λ us vs. after_write_fault us ≡ Some vs) → IsSpent plan x rules ws taken f w e → IsSpent plan y rules vs taken (f + 1) w e
 spent_write_failed plan x y rules ws vs taken f w e t u s = record {
   reads = subst (λ (o : Option (List ReadItem)). ReadsSpent plan o taken e) (sym t) s.reads;
-  counts = counts_on plan x y rules ws vs f w (f + 1) w (λ is js. js ≡ is) (λ us vs. behind_write_fault us ≡ Some vs) (told_same x y t) u
+  counts = counts_on plan x y rules ws vs f w (f + 1) w (λ is js. js ≡ is) (λ us vs. after_write_fault us ≡ Some vs) (told_same x y t) u
       (λ p is js rs us vs g h k. let split : us ≡ puts.Fail ∷ vs = write_failed us vs h in
       record {
         failed = let now : fails_in p + write_fails_in rs ≡ f + (fails_in js + (1 + write_fails_in vs)) = k.failed ∙ ap (λ m. f + (m + write_fails_in us)) (ap fails_in (sym g)) ∙ ap (λ (xs : List WriteItem). f + (fails_in js + write_fails_in xs)) split in omega (arith, now);
@@ -199,7 +199,7 @@ spent_took plan x y rules ws vs taken bytes f w e t u s = record {
 }
 
 -- a read failed
-failed_at : (is js : List ReadItem) → behind_fault is ≡ Some js → is ≡ Fail ∷ js
+failed_at : (is js : List ReadItem) → after_fault is ≡ Some js → is ≡ Fail ∷ js
 failed_at [] js e = absurd (let k : None ≡ Some js = e in cc)
 failed_at (Bytes bytes ∷ more) js e = absurd (let k : None ≡ Some js = e in cc)
 failed_at (Turn ∷ more) js e = absurd (let k : None ≡ Some js = e in cc)
@@ -207,17 +207,17 @@ failed_at (Wait ∷ more) js e = absurd (let k : None ≡ Some js = e in cc)
 failed_at (Fail ∷ more) js e = ap (λ o. Fail ∷ items_in o) e
 failed_at (End ∷ more) js e = absurd (let k : None ≡ Some js = e in cc)
 
-pub spent_read_failed : (plan x y : Option (List ReadItem)) (rules ws vs : Option (List WriteItem)) (taken : List ℕ) (f w e : ℕ) → Told x y (λ is js. behind_fault is ≡ Some js) → vs ≡ ws → IsSpent plan x rules ws taken f w e → IsSpent plan y rules vs taken (f + 1) w e
+pub spent_read_failed : (plan x y : Option (List ReadItem)) (rules ws vs : Option (List WriteItem)) (taken : List ℕ) (f w e : ℕ) → Told x y (λ is js. after_fault is ≡ Some js) → vs ≡ ws → IsSpent plan x rules ws taken f w e → IsSpent plan y rules vs taken (f + 1) w e
 spent_read_failed plan x y rules ws vs taken f w e t u s = record {
-  reads = reads_on plan x y taken taken e e (λ is js. behind_fault is ≡ Some js) t
+  reads = reads_on plan x y taken taken e e (λ is js. after_fault is ≡ Some js) t
       (λ p is js g k. let split : is ≡ Fail ∷ js = failed_at is js g in
       record {
-        left_is = left_behind p js Fail (subst (IsLeft p) split k.left_is);
+        left_is = left_after p js Fail (subst (IsLeft p) split k.left_is);
         bytes = k.bytes ∙ ap (λ (xs : List ReadItem). taken ++ spelled xs) split;
         ended = λ h. absurd (no_end (sym (ap is_at_end split) ∙ k.ended h));
         planned_end = λ h. k.planned_end (ap has_end split ∙ h);
       }) s.reads;
-  counts = counts_on plan x y rules ws vs f w (f + 1) w (λ is js. behind_fault is ≡ Some js) (λ us vs. vs ≡ us) t (told_same ws vs u)
+  counts = counts_on plan x y rules ws vs f w (f + 1) w (λ is js. after_fault is ≡ Some js) (λ us vs. vs ≡ us) t (told_same ws vs u)
       (λ p is js rs us vs g h k. let split : is ≡ Fail ∷ js = failed_at is js g in
       record {
         failed = let now : fails_in p + write_fails_in rs ≡ f + ((1 + fails_in js) + write_fails_in vs) = k.failed ∙ ap (λ (xs : List ReadItem). f + (fails_in xs + write_fails_in us)) split ∙ ap (λ (xs : List WriteItem). f + ((1 + fails_in js) + write_fails_in xs)) (sym h) in omega (arith, now);
@@ -226,7 +226,7 @@ spent_read_failed plan x y rules ws vs taken f w e t u s = record {
 }
 
 -- a read told the end
-ended_at : (is js : List ReadItem) → behind_end is ≡ Some js → (js ≡ is) × (is_at_end js ≡ true)
+ended_at : (is js : List ReadItem) → after_end is ≡ Some js → (js ≡ is) × (is_at_end js ≡ true)
 ended_at [] js e = absurd (let k : None ≡ Some js = e in cc)
 ended_at (Bytes bytes ∷ more) js e = absurd (let k : None ≡ Some js = e in cc)
 ended_at (Turn ∷ more) js e = absurd (let k : None ≡ Some js = e in cc)
@@ -234,9 +234,9 @@ ended_at (Wait ∷ more) js e = absurd (let k : None ≡ Some js = e in cc)
 ended_at (Fail ∷ more) js e = absurd (let k : None ≡ Some js = e in cc)
 ended_at (End ∷ more) js e = let same : End ∷ more ≡ js = ap items_in e in (sym same, ap is_at_end (sym same))
 
-pub spent_ended : (plan x y : Option (List ReadItem)) (rules ws vs : Option (List WriteItem)) (taken : List ℕ) (f w e e' : ℕ) → Told x y (λ is js. behind_end is ≡ Some js) → vs ≡ ws → IsSpent plan x rules ws taken f w e → IsSpent plan y rules vs taken f w e'
+pub spent_ended : (plan x y : Option (List ReadItem)) (rules ws vs : Option (List WriteItem)) (taken : List ℕ) (f w e e' : ℕ) → Told x y (λ is js. after_end is ≡ Some js) → vs ≡ ws → IsSpent plan x rules ws taken f w e → IsSpent plan y rules vs taken f w e'
 spent_ended plan x y rules ws vs taken f w e e' t u s = record {
-  reads = reads_on plan x y taken taken e e' (λ is js. behind_end is ≡ Some js) t
+  reads = reads_on plan x y taken taken e e' (λ is js. after_end is ≡ Some js) t
       (λ p is js g k. let at = ended_at is js g in
       record {
         left_is = subst (IsLeft p) (sym at.0) k.left_is;
@@ -244,7 +244,7 @@ spent_ended plan x y rules ws vs taken f w e e' t u s = record {
         ended = λ h. at.1;
         planned_end = λ h. k.planned_end (ap has_end (sym at.0) ∙ h);
       }) s.reads;
-  counts = counts_on plan x y rules ws vs f w f w (λ is js. behind_end is ≡ Some js) (λ us vs. vs ≡ us) t (told_same ws vs u)
+  counts = counts_on plan x y rules ws vs f w f w (λ is js. after_end is ≡ Some js) (λ us vs. vs ≡ us) t (told_same ws vs u)
       (λ p is js rs us vs g h k. let at = ended_at is js g in
       record {
         failed = k.failed ∙ ap (λ (xs : List ReadItem). f + (fails_in xs + write_fails_in us)) (sym at.0) ∙ ap (λ (xs : List WriteItem). f + (fails_in js + write_fails_in xs)) (sym h);
@@ -253,7 +253,7 @@ spent_ended plan x y rules ws vs taken f w e e' t u s = record {
 }
 
 -- a read held: by the plan, or where nothing can be read
-held_at : (is js : List ReadItem) → behind_hold is ≡ Some js → (is ≡ Wait ∷ js) ⊎ ((js ≡ is) × IsDry js)
+held_at : (is js : List ReadItem) → after_hold is ≡ Some js → (is ≡ Wait ∷ js) ⊎ ((js ≡ is) × IsDry js)
 held_at [] js e = let same : [] ≡ js = ap items_in e in inr (sym same, subst IsDry same tt)
 held_at (Bytes bytes ∷ more) js e = absurd (let k : None ≡ Some js = e in cc)
 held_at (Turn ∷ more) js e = let same : Turn ∷ more ≡ js = ap items_in e in inr (sym same, subst IsDry same tt)
@@ -268,7 +268,7 @@ spent_waited : (plan x y : Option (List ReadItem)) (rules ws vs : Option (List W
 spent_waited plan x y rules ws vs taken f w e t u s = record {
   reads = reads_on plan x y taken taken e e (λ is js. is ≡ Wait ∷ js) t
       (λ p is js g k. record {
-        left_is = left_behind p js Wait (subst (IsLeft p) g k.left_is);
+        left_is = left_after p js Wait (subst (IsLeft p) g k.left_is);
         bytes = k.bytes ∙ ap (λ (xs : List ReadItem). taken ++ spelled xs) g;
         ended = λ h. absurd (no_end (sym (ap is_at_end g) ∙ k.ended h));
         planned_end = λ h. k.planned_end (ap has_end g ∙ h);
@@ -292,7 +292,7 @@ dry_hold plan left rules rest taken f w e d s = record { planned = 0; fits = ome
 pub no_hold : (plan left : Option (List ReadItem)) (rules rest : Option (List WriteItem)) (taken : List ℕ) (f w e : ℕ) → IsSpent plan left rules rest taken f w e → Spends plan left rules rest taken f w 0 e
 no_hold plan left rules rest taken f w e s = record { planned = 0; fits = omega arith; last = omega arith; dry = λ h. absurd (omega (arith, h)); spent = let same : w + 0 ≡ w = omega arith in subst (λ (n : ℕ). IsSpent plan left rules rest taken f n e) (sym same) s }
 
-pub spends_read_held : (plan x y : Option (List ReadItem)) (rules ws vs : Option (List WriteItem)) (taken : List ℕ) (f w e : ℕ) → Told x y (λ is js. behind_hold is ≡ Some js) → vs ≡ ws → IsSpent plan x rules ws taken f w e → Spends plan y rules vs taken f w 1 e
+pub spends_read_held : (plan x y : Option (List ReadItem)) (rules ws vs : Option (List WriteItem)) (taken : List ℕ) (f w e : ℕ) → Told x y (λ is js. after_hold is ≡ Some js) → vs ≡ ws → IsSpent plan x rules ws taken f w e → Spends plan y rules vs taken f w 1 e
 spends_read_held plan None y rules ws vs taken f w e t u s = dry_hold plan y rules vs taken f w e (subst IsDryWhere (sym t) tt) (spent_same plan None y rules ws vs taken f w e t u s)
 spends_read_held plan (Some is) None rules ws vs taken f w e t u s = absurd t
 spends_read_held plan (Some is) (Some js) rules ws vs taken f w e t u s = by_item (held_at is js t)

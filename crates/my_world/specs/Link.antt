@@ -29,51 +29,51 @@ pub record Gave (bytes : List ℕ) (old new : List ReadItem) : Type 0 where
   pub stood : old ≡ items.Bytes (bytes ++ rest) ∷ more
   pub stands : new ≡ put_back rest more
 
--- what is left behind a read that holds, where one may: at a wait, at a turn that wasn't met, and where nothing is left
-abbrev pub behind_hold : List ReadItem → Option (List ReadItem)
-behind_hold [] = Some []
-behind_hold (items.Bytes bytes ∷ more) = None
-behind_hold (items.Turn ∷ more) = Some (items.Turn ∷ more)
-behind_hold (items.Wait ∷ more) = Some more
-behind_hold (items.Fail ∷ more) = None
-behind_hold (items.End ∷ more) = None
+-- what is left after a read that holds, where one may: at a wait, at a turn that wasn't met, and where nothing is left
+abbrev pub after_hold : List ReadItem → Option (List ReadItem)
+after_hold [] = Some []
+after_hold (items.Bytes bytes ∷ more) = None
+after_hold (items.Turn ∷ more) = Some (items.Turn ∷ more)
+after_hold (items.Wait ∷ more) = Some more
+after_hold (items.Fail ∷ more) = None
+after_hold (items.End ∷ more) = None
 
--- what is left behind a read that fails, where one may
-abbrev pub behind_fault : List ReadItem → Option (List ReadItem)
-behind_fault [] = None
-behind_fault (items.Bytes bytes ∷ more) = None
-behind_fault (items.Turn ∷ more) = None
-behind_fault (items.Wait ∷ more) = None
-behind_fault (items.Fail ∷ more) = Some more
-behind_fault (items.End ∷ more) = None
+-- what is left after a read that fails, where one may
+abbrev pub after_fault : List ReadItem → Option (List ReadItem)
+after_fault [] = None
+after_fault (items.Bytes bytes ∷ more) = None
+after_fault (items.Turn ∷ more) = None
+after_fault (items.Wait ∷ more) = None
+after_fault (items.Fail ∷ more) = Some more
+after_fault (items.End ∷ more) = None
 
--- what is left behind a read that tells the end, where one may
-abbrev pub behind_end : List ReadItem → Option (List ReadItem)
-behind_end [] = None
-behind_end (items.Bytes bytes ∷ more) = None
-behind_end (items.Turn ∷ more) = None
-behind_end (items.Wait ∷ more) = None
-behind_end (items.Fail ∷ more) = None
-behind_end (items.End ∷ more) = Some (items.End ∷ more)
+-- what is left after a read that tells the end, where one may
+abbrev pub after_end : List ReadItem → Option (List ReadItem)
+after_end [] = None
+after_end (items.Bytes bytes ∷ more) = None
+after_end (items.Turn ∷ more) = None
+after_end (items.Wait ∷ more) = None
+after_end (items.Fail ∷ more) = None
+after_end (items.End ∷ more) = Some (items.End ∷ more)
 
 -- a write that took a byte meets a turn that stands first
-abbrev pub behind_write : List ReadItem → List ReadItem
-behind_write [] = []
-behind_write (items.Bytes bytes ∷ more) = items.Bytes bytes ∷ more
-behind_write (items.Turn ∷ more) = more
-behind_write (items.Wait ∷ more) = items.Wait ∷ more
-behind_write (items.Fail ∷ more) = items.Fail ∷ more
-behind_write (items.End ∷ more) = items.End ∷ more
+abbrev pub after_write : List ReadItem → List ReadItem
+after_write [] = []
+after_write (items.Bytes bytes ∷ more) = items.Bytes bytes ∷ more
+after_write (items.Turn ∷ more) = more
+after_write (items.Wait ∷ more) = items.Wait ∷ more
+after_write (items.Fail ∷ more) = items.Fail ∷ more
+after_write (items.End ∷ more) = items.End ∷ more
 
 abbrev pub Reads : Option (List ReadItem) → List ℕ → Option (List ReadItem) → ReadStep → Type 0
 Reads old buf new (reads.Got n) = (0 < n) × (n ≤ length buf) × Told old new (Gave (take n buf))
-Reads old buf new reads.NotYet = Told old new (λ is js. behind_hold is ≡ Some js)
-Reads old buf new reads.End = Told old new (λ is js. behind_end is ≡ Some js)
-Reads old buf new reads.Failed = Told old new (λ is js. behind_fault is ≡ Some js)
+Reads old buf new reads.NotYet = Told old new (λ is js. after_hold is ≡ Some js)
+Reads old buf new reads.End = Told old new (λ is js. after_end is ≡ Some js)
+Reads old buf new reads.Failed = Told old new (λ is js. after_fault is ≡ Some js)
 
 -- a write that holds or fails leaves the items that are read
 abbrev pub Writes : Option (List ReadItem) → Option (List ReadItem) → WriteStep → Type 0
-Writes old new (writes.Took n) = Told old new (λ is js. js ≡ behind_write is)
+Writes old new (writes.Took n) = Told old new (λ is js. js ≡ after_write is)
 Writes old new writes.NotYet = new ≡ old
 Writes old new writes.Failed = new ≡ old
 Writes old new writes.NoMemory = new ≡ old
@@ -89,32 +89,32 @@ taken_of len (puts.Fail ∷ more) = None
 abbrev pub accept_back : ℕ → List WriteItem → List WriteItem
 accept_back n more = if n == 0 then more else puts.Accept n ∷ more
 
--- what is left behind a write that took so many bytes
-abbrev pub behind_taken : ℕ → List WriteItem → List WriteItem
-behind_taken n [] = []
-behind_taken n (puts.Accept k ∷ more) = accept_back (k - n) more
-behind_taken n (puts.Wait ∷ more) = puts.Wait ∷ more
-behind_taken n (puts.Fail ∷ more) = puts.Fail ∷ more
+-- what is left after a write that took so many bytes
+abbrev pub after_taken : ℕ → List WriteItem → List WriteItem
+after_taken n [] = []
+after_taken n (puts.Accept k ∷ more) = accept_back (k - n) more
+after_taken n (puts.Wait ∷ more) = puts.Wait ∷ more
+after_taken n (puts.Fail ∷ more) = puts.Fail ∷ more
 
--- what is left behind a write that holds, where one may
-abbrev pub behind_write_hold : List WriteItem → Option (List WriteItem)
-behind_write_hold [] = None
-behind_write_hold (puts.Accept n ∷ more) = None
-behind_write_hold (puts.Wait ∷ more) = Some more
-behind_write_hold (puts.Fail ∷ more) = None
+-- what is left after a write that holds, where one may
+abbrev pub after_write_hold : List WriteItem → Option (List WriteItem)
+after_write_hold [] = None
+after_write_hold (puts.Accept n ∷ more) = None
+after_write_hold (puts.Wait ∷ more) = Some more
+after_write_hold (puts.Fail ∷ more) = None
 
--- what is left behind a write that fails, where one may
-abbrev pub behind_write_fault : List WriteItem → Option (List WriteItem)
-behind_write_fault [] = None
-behind_write_fault (puts.Accept n ∷ more) = None
-behind_write_fault (puts.Wait ∷ more) = None
-behind_write_fault (puts.Fail ∷ more) = Some more
+-- what is left after a write that fails, where one may
+abbrev pub after_write_fault : List WriteItem → Option (List WriteItem)
+after_write_fault [] = None
+after_write_fault (puts.Accept n ∷ more) = None
+after_write_fault (puts.Wait ∷ more) = None
+after_write_fault (puts.Fail ∷ more) = Some more
 
 -- what a write of so many bytes does to the items that rule writes
 abbrev pub WritesOut : Option (List WriteItem) → ℕ → Option (List WriteItem) → WriteStep → Type 0
-WritesOut old len new (writes.Took n) = Told old new (λ ws vs. (taken_of len ws ≡ Some n) × (vs ≡ behind_taken n ws))
-WritesOut old len new writes.NotYet = Told old new (λ ws vs. behind_write_hold ws ≡ Some vs)
-WritesOut old len new writes.Failed = Told old new (λ ws vs. behind_write_fault ws ≡ Some vs)
+WritesOut old len new (writes.Took n) = Told old new (λ ws vs. (taken_of len ws ≡ Some n) × (vs ≡ after_taken n ws))
+WritesOut old len new writes.NotYet = Told old new (λ ws vs. after_write_hold ws ≡ Some vs)
+WritesOut old len new writes.Failed = Told old new (λ ws vs. after_write_fault ws ≡ Some vs)
 WritesOut old len new writes.NoMemory = new ≡ old
 
 -- what became of the bytes that the link was sent

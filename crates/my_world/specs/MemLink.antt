@@ -5,7 +5,7 @@ use Rattle.my_world.specs.declared.link.ReadItem.{ReadItem}
 use Rattle.my_world.specs.declared.link.WriteItem.{WriteItem}
 use Rattle.my_world.specs.declared.link.WriteStep.{WriteStep}
 use Rattle.my_world.specs.declared.link.WriteStep.TheVariants as writes
-use Rattle.my_world.specs.Link.{behind_write, behind_taken}
+use Rattle.my_world.specs.Link.{after_write, after_taken}
 use Rattle.my_world.specs.Memory.{left_items}
 use Rattle.my_world.specs.Outside.{Counts}
 
@@ -28,8 +28,8 @@ sent_to m = m.got.items
 -- these bytes were kept
 pub record HasKept (m k : MemLink) (bytes : List ℕ) (n : ℕ) : Type 0 where
   pub count : n ≡ length bytes
-  pub items : unread k ≡ behind_write (unread m)
-  pub writes : unwritten k ≡ behind_taken n (unwritten m)
+  pub items : unread k ≡ after_write (unread m)
+  pub writes : unwritten k ≡ after_taken n (unwritten m)
   pub got : sent_to k ≡ sent_to m ++ bytes
   pub counts : counted k ≡ counted m
 

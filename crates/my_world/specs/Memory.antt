@@ -5,7 +5,7 @@ use Rattle.my_world.specs.declared.link.WriteItem.{WriteItem}
 use Rattle.my_world.specs.declared.link.WriteItem.TheVariants as puts
 use Rattle.my_world.specs.declared.memory.writes.Room.{Room}
 use Rattle.my_world.specs.declared.memory.writes.Room.TheVariants as rooms
-use Rattle.my_world.specs.Link.{taken_of, behind_write_hold, behind_write_fault}
+use Rattle.my_world.specs.Link.{taken_of, after_write_hold, after_write_fault}
 use Rattle.my_world.specs.declared.link.ReadItem.{ReadItem}
 use Rattle.my_world.specs.declared.link.ReadItem.TheVariants.{Bytes, Turn, Wait, Fail, End}
 
@@ -51,5 +51,5 @@ is_open puts.Fail = true
 -- what a write of so many bytes comes to, by what is left for writes
 abbrev pub RoomIs : List WriteItem → ℕ → Room → Type 0
 RoomIs ws len (rooms.Take n) = (0 < n) × (n ≤ len) × (taken_of len ws ≡ Some n)
-RoomIs ws len rooms.Hold = behind_write_hold ws ≡ Some (drop 1 ws)
-RoomIs ws len rooms.Fail = behind_write_fault ws ≡ Some (drop 1 ws)
+RoomIs ws len rooms.Hold = after_write_hold ws ≡ Some (drop 1 ws)
+RoomIs ws len rooms.Fail = after_write_fault ws ≡ Some (drop 1 ws)

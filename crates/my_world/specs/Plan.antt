@@ -45,7 +45,7 @@ bytes_item (b ∷ bytes) = items.Bytes (b ∷ bytes) ∷ []
 abbrev pub packet_of : ℕ → List ℕ → List ℕ
 packet_of number payload = header_of (length payload) number ++ payload
 
--- each byte by itself, with a hold behind it
+-- each byte by itself, with a hold after it
 abbrev pub dripped : List ℕ → List ReadItem
 dripped [] = []
 dripped (b ∷ bytes) = items.Bytes (b ∷ []) ∷ items.Wait ∷ dripped bytes

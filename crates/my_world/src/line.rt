@@ -17,7 +17,7 @@ pub enum WorldLine {
     Fail(u64),
     /// Reading is at its end, for good.
     End(u64),
-    /// As a packet, with a hold behind each byte, the header's included.
+    /// As a packet, with a hold after each byte, the header's included.
     Drip(u64, u8, Blob),
     /// So many of the next bytes that are written are taken in one piece, or in shorter ones where the writes are shorter.
     Accept(u64, u64),

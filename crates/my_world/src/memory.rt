@@ -38,7 +38,7 @@ fn copy_front(buf: &mut [u8], bytes: &[u8]) -> usize
     n
 }
 
-fn behind(bytes: &[u8], from: usize) -> &[u8]
+fn following(bytes: &[u8], from: usize) -> &[u8]
     requires { from < length bytes.now }
     ensures { result.now ≡ drop from bytes.now }
 {
@@ -110,7 +110,7 @@ impl Link for MemLink {
                 ReadStep::NotYet
             }
             Some(ReadItem::Bytes(bytes)) => {
-                let n = copy_front(buf, behind(bytes.as_slice(), self.from));
+                let n = copy_front(buf, following(bytes.as_slice(), self.from));
                 let from = self.from + n;
                 if from < bytes.len() {
                     self.from = from;

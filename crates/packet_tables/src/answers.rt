@@ -1,6 +1,7 @@
-use my_wire::{
-    Blob, ReadError, ServerPacket, read_column, read_column_count, read_end_ok, read_err,
-    read_greeting, read_ok, write_server,
+use my_frame::{Blob, ReadError};
+use my_handshake::read_greeting;
+use my_reply::{
+    ServerPacket, read_column, read_column_count, read_end_ok, read_err, read_ok, write_server,
 };
 use std::alloc::{AllocError, Global};
 use std::test::Fail;

@@ -1,9 +1,11 @@
-//! What a reader gives, as a line: the numbers of the record in their order, each with a blank behind it, and then its
+//! What a reader gives, as a line: the numbers of the record in their order, each with a blank after it, and then its
 //! texts, each with a bar.
 
-use my_wire::{
-    OkPacket, ReadError, read_column, read_column_count, read_end_ok, read_eof, read_err,
-    read_event, read_greeting, read_infile, read_more_data, read_ok, read_prepare_ok, read_switch,
+use my_frame::ReadError;
+use my_handshake::{read_greeting, read_more_data, read_switch};
+use my_reply::{
+    OkPacket, read_column, read_column_count, read_end_ok, read_eof, read_err, read_event,
+    read_infile, read_ok, read_prepare_ok,
 };
 use std::alloc::{AllocError, Global};
 

@@ -1,4 +1,4 @@
-use my_wire::server_version;
+use my_handshake::server_version;
 
 // A version's text, whether it is a MariaDB's, and its numbers.
 const VERSIONS: &[(&[u8], bool, [u16; 3])] = &[

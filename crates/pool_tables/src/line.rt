@@ -1,4 +1,4 @@
-//! A list of events as lines: the word of an event with its numbers, or a word for what is seen of the pool; and behind
+//! A list of events as lines: the word of an event with its numbers, or a word for what is seen of the pool; and after
 //! " = " what is answered, or seen.
 
 use my_pool_core::{Core, Facts, Limits, PoolEvent};
@@ -17,7 +17,7 @@ pub fn limits(min: u64, max: u64, waiting: Option<u64>) -> Limits {
     }
 }
 
-/// A connection that may be kept, with a time to live behind its last read, or one whose time is over.
+/// A connection that may be kept, with a time to live after its last read, or one whose time is over.
 pub fn clean(ttl: u64, expired: bool) -> Facts {
     Facts {
         link_closed: false,

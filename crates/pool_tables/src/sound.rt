@@ -38,7 +38,7 @@ pub fn connections_are_sound(core: &Core) -> bool {
 }
 
 /// Whether the ages rise, each request that was queued has waited, each held connection is there, and none waits
-/// behind a closed pool.
+/// after a closed pool.
 pub fn requests_are_sound(core: &Core) -> bool {
     let mut last = None;
     for request in core.requests() {

@@ -1,15 +1,16 @@
-//! Connections that are set up: what is asked behind the login, what the server tells, and what holds then.
+//! Connections that are set up: what is asked after the login, what the server tells, and what holds then.
 
 use crate::play::{LOGIN, RESPONSE, Then, turn};
+use my_frame::{Blob, NoMemory};
 use my_grammar::{Login, Texts};
+use my_handshake::Attributes;
 use my_session::Session;
-use my_wire::{Attributes, Blob, NoMemory};
 use std::alloc::Global;
 use std::fmt::Write;
 use std::process::Abort;
 use std::test::Fail;
 
-// The options of a connection, each text of the two lists one byte; what the server says behind the login; what is sent then, with the
+// The options of a connection, each text of the two lists one byte; what the server says after the login; what is sent then, with the
 // answer, the limit and the timeout; and one call more, what comes in for it, and what was sent with its answer.
 struct Case<'a> {
     limit: Option<u64>,

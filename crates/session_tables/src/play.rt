@@ -4,15 +4,15 @@ ghost use Rattle.std.specs.Prelude.{◌≡◌, true, OnOk};
 ghost use Rattle.my_session.specs.Calls.{is_open};
 
 use crate::hex::bytes_of;
+use my_frame::{Blob, CodecFault, NoMemory};
 use my_session::{
     Answer, Call, DriverError, Error, IoError, IoFault, IoKind, LinkFault, Session, SessionStep,
 };
 use my_value::{Row, Value};
-use my_wire::{Blob, CodecFault, NoMemory};
 use std::alloc::{AllocError, Global};
 use std::fmt::Write;
 
-/// The greeting, and the OK behind the client's response.
+/// The greeting, and the OK after the client's response.
 pub const LOGIN: &str =
     "4a000000 0a 382e302e333600 07000000 6162636465666768 00 8ba2 2d 0200 1f01 15 \
     00000000000000000000 696a6b6c6d6e6f707172737400 \

@@ -1,10 +1,11 @@
 //! Streams of a server whose exchanges are known.
 
 use crate::hex::bytes_of;
+use my_frame::{Blob, CodecFault, NoMemory};
 use my_grammar::{
     CutRest, Found, Kind, Login, Opening, Packet, Queue, Terms, Texts, cut_bytes, native_answer,
 };
-use my_wire::{Attributes, Blob, CodecFault, NoMemory};
+use my_handshake::Attributes;
 use std::alloc::{AllocError, Global};
 use std::fmt::Write;
 use std::test::Fail;
@@ -79,7 +80,7 @@ fn show_row(text: &mut String, cells: &[u8]) -> Result<(), AllocError> {
 
 fn show_rest(text: &mut String, rest: CutRest) -> Result<(), AllocError> {
     match rest {
-        CutRest::Behind => text.push_str("behind"),
+        CutRest::Trailing => text.push_str("trailing"),
         CutRest::Unfinished => text.push_str("unfinished"),
         CutRest::Unfit => text.push_str("unfit"),
         CutRest::Blamed(CodecFault::OutOfOrder { expected, found }) => {
@@ -135,7 +136,7 @@ fn shown(alloc: Global, case: &Example) -> Result<String, NoMemory> {
     Ok(show(alloc, &found)?)
 }
 
-// One query behind a login, in a connection with the usual terms.
+// One query after a login, in a connection with the usual terms.
 fn case<'a>(name: &'a str, packets: &'a [(u8, &'a str)], shows: &'a str) -> Example<'a> {
     Example {
         name,
@@ -148,7 +149,7 @@ fn case<'a>(name: &'a str, packets: &'a [(u8, &'a str)], shows: &'a str) -> Exam
     }
 }
 
-// What a server sends behind a login, and what is found there.
+// What a server sends after a login, and what is found there.
 #[test]
 fn streams_are_cut(rt: HostRuntime) -> Result<(), Fail> {
     let alloc = rt.alloc();
@@ -163,7 +164,7 @@ fn streams_are_cut(rt: HostRuntime) -> Result<(), Fail> {
                 (3, "0131"),
                 (4, "fe000002000000"),
             ],
-            "greets:11fa28b ok:2 | count:1 column row:0131 end:2 | behind",
+            "greets:11fa28b ok:2 | count:1 column row:0131 end:2 | trailing",
         ),
         case(
             "two sets",
@@ -183,7 +184,7 @@ fn streams_are_cut(rt: HostRuntime) -> Result<(), Fail> {
                 (11, "fe000002000000"),
             ],
             "greets:11fa28b ok:2 | count:2 column column row:01310132 row:01330134 end:10 \
-                count:2 column column row:01350136 end:2 | behind",
+                count:2 column column row:01350136 end:2 | trailing",
         ),
         Example {
             queries: 2,
@@ -196,7 +197,7 @@ fn streams_are_cut(rt: HostRuntime) -> Result<(), Fail> {
                     (2, "ff2804 23 3432303030 424c41424c41"),
                     (1, OK),
                 ],
-                "greets:11fa28b ok:2 | ok:10 err | ok:2 | behind",
+                "greets:11fa28b ok:2 | ok:10 err | ok:2 | trailing",
             )
         },
         case(
@@ -210,7 +211,7 @@ fn streams_are_cut(rt: HostRuntime) -> Result<(), Fail> {
                 (4, "fe00000a000000"),
                 (5, "ff1905 23 3432303030 464f4f"),
             ],
-            "greets:11fa28b ok:2 | count:1 column row:0131 end:10 err | behind",
+            "greets:11fa28b ok:2 | count:1 column row:0131 end:10 err | trailing",
         ),
         Example {
             tail: "0200 0003",
@@ -264,7 +265,7 @@ fn streams_are_cut(rt: HostRuntime) -> Result<(), Fail> {
                     (4, "0131"),
                     (5, "fe00000200"),
                 ],
-                "greets:11fa28b ok:2 | count:1 column eof row:0131 end:2 | behind",
+                "greets:11fa28b ok:2 | count:1 column eof row:0131 end:2 | trailing",
             )
         },
         case(
@@ -287,7 +288,7 @@ fn streams_are_cut(rt: HostRuntime) -> Result<(), Fail> {
                 (3, "fb"),
                 (4, "ff1905 464f4f"),
             ],
-            "greets:11fa28b ok:2 | count:1 column row:fb err | behind",
+            "greets:11fa28b ok:2 | count:1 column row:fb err | trailing",
         ),
         case(
             "a request for a file",
@@ -309,7 +310,7 @@ fn streams_are_cut(rt: HostRuntime) -> Result<(), Fail> {
             ..case(
                 "an error in the greeting's place",
                 &[(0, "ff1004 546f6f")],
-                "err | behind",
+                "err | trailing",
             )
         },
         case("another plugin in the greeting", &[(0, CACHING)], "| unfit"),
@@ -354,7 +355,7 @@ fn ample_rows(rt: HostRuntime) -> Result<(), Fail> {
     bytes.push(&[7, 0, 0, 47, 0xFE, 0, 0, 2, 0, 0, 0])?;
     let openings = openings(alloc, 1, KEPT, 4_194_304)?;
     let found = cut_bytes(alloc, &root(alloc)?, openings.as_slice(), bytes.as_slice())?;
-    assert_eq!(rt; found.rest, CutRest::Behind);
+    assert_eq!(rt; found.rest, CutRest::Trailing);
     assert_eq!(rt; found.exchanges.len(), 2);
     assert_eq!(rt; found.exchanges[1].packets.len(), 303);
     Ok(())

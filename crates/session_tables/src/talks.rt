@@ -1,9 +1,10 @@
 //! Talks with a server whose bytes are known.
 
 use crate::play::{LOGIN, RESPONSE, Then, turn};
+use my_frame::{Blob, NoMemory};
 use my_grammar::{Login, Texts};
+use my_handshake::Attributes;
 use my_session::Session;
-use my_wire::{Attributes, Blob, NoMemory};
 use std::alloc::Global;
 use std::fmt::Write;
 use std::process::Abort;

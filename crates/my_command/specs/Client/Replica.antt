@@ -35,7 +35,7 @@ sid_bytes s = s.uuid ++ le_bytes 8 (length s.intervals.items) ++ intervals_bytes
 unfoldable pub gtid_block : List Sid → List ℕ
 gtid_block sids = le_bytes 8 (length sids) ++ flat_map sid_bytes sids
 
--- bytes behind four with their length
+-- bytes after four with their length
 abbrev pub long_bytes : List ℕ → List ℕ
 long_bytes bytes = le_bytes 4 (length bytes) ++ bytes
 

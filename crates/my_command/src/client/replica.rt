@@ -13,7 +13,7 @@ use std::alloc::{AllocError, Global};
 pub struct Sid {
     /// The server's number.
     pub uuid: [u8; 16],
-    /// The numbers of the transactions: the first, and the one behind the last.
+    /// The numbers of the transactions: the first, and the one after the last.
     pub intervals: Vec<(u64, u64)>,
 }
 

@@ -2,7 +2,7 @@
 ghost use Rattle.std.specs.Prelude.{◌≡◌, ◌<◌, IfSome, length, option_map};
 ghost use Rattle.my_run.specs.Cut.{first_of, rest_of};
 
-/// What stands before the first mark, and what stands behind it, if there is one.
+/// What stands before the first mark, and what follows it, if there is one.
 #[derive(Clone, Copy)]
 pub struct Pieces<'a> {
     pub first: &'a [u8],

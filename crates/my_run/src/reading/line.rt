@@ -6,7 +6,7 @@ use super::cut::cut;
 use super::keyword::{Keyword, known_keyword};
 use super::number::{bytes, number, number_to};
 use crate::Step;
-use my_wire::Blob;
+use my_frame::Blob;
 use my_world::WorldLine;
 use std::alloc::{AllocError, Global};
 
@@ -27,7 +27,7 @@ pub enum Item {
     Wrong,
 }
 
-// What stands behind `packet` and `drip`: a link, a packet's number and a payload's digits.
+// What follows `packet` and `drip`: a link, a packet's number and a payload's digits.
 #[derive(Clone, Copy)]
 struct PacketParts<'a> {
     link: u64,
@@ -51,7 +51,7 @@ fn packet(rest: &[u8]) -> Option<PacketParts<'_>>
     })
 }
 
-// What stands behind `bytes`: a link and digits.
+// What follows `bytes`: a link and digits.
 #[derive(Clone, Copy)]
 struct LinkParts<'a> {
     link: u64,
@@ -68,7 +68,7 @@ fn link_and_digits(rest: &[u8]) -> Option<LinkParts<'_>>
     Some(LinkParts { link, digits })
 }
 
-// What stands behind `accept`: a link and how many bytes.
+// What follows `accept`: a link and how many bytes.
 #[derive(Clone, Copy)]
 struct AcceptParts {
     link: u64,
@@ -85,7 +85,7 @@ fn link_and_count(rest: &[u8]) -> Option<AcceptParts>
     Some(AcceptParts { link, count })
 }
 
-// What stands behind `query`: a connection and a text, which may be empty.
+// What follows `query`: a connection and a text, which may be empty.
 #[derive(Clone, Copy)]
 struct QueryParts<'a> {
     connection: u64,

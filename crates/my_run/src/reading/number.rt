@@ -3,7 +3,7 @@ ghost use Rattle.std.specs.Prelude.{◌≡◌, IfOk};
 ghost use Rattle.my_run.specs.Number.{number_of, number_at_most, bytes_of};
 
 use hex::FromHexError;
-use my_wire::Blob;
+use my_frame::Blob;
 use std::alloc::{AllocError, Global};
 
 /// A number in decimal digits, below 2^64.

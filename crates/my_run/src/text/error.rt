@@ -3,8 +3,8 @@ ghost use Rattle.std.specs.Prelude.{◌≡◌, ◌++◌, ◌∷◌, [], OnOk};
 ghost use Rattle.my_run.specs.ErrorText.{driver_text, fault_text, two_text, codec_text, io_text, server_text, error_text};
 
 use super::parts::{push_bytes, push_decimal, push_marked};
+use my_frame::CodecFault;
 use my_session::{DriverError, Error, IoError, IoFault, IoKind, ServerError};
-use my_wire::CodecFault;
 use std::alloc::{AllocError, Global};
 
 fn push_driver(out: &mut Vec<u8>, error: DriverError) -> Result<(), AllocError>

@@ -3,7 +3,7 @@ ghost use Rattle.std.specs.Prelude.{◌≡◌, ◌++◌, OnOk, option_map};
 ghost use Rattle.my_run.specs.OkText.{number_text, insert_text, named_text, changed_text, state_text, info_text, ok_text, fields_text};
 
 use super::parts::{push_bytes, push_decimal};
-use my_wire::OkPacket;
+use my_reply::OkPacket;
 use std::alloc::{AllocError, Global};
 
 #[tactic(auto, unfolding(crate::specs::OkText::number_text))]

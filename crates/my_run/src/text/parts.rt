@@ -39,7 +39,7 @@ pub fn push_signed(alloc: Global, out: &mut Vec<u8>, n: i64) -> Result<(), Alloc
     out.extend_from_slice(text.as_bytes())
 }
 
-/// A mark, and a number behind it.
+/// A mark, and a number after it.
 pub fn push_marked(alloc: Global, out: &mut Vec<u8>, mark: u8, n: u64) -> Result<(), AllocError>
     ensures { OnOk result (out.new.items ≡ out.old.items ++ marked mark n) }
 {

@@ -8,8 +8,8 @@ use super::ok::push_fields;
 use super::parts::{push_decimal, push_hex, push_marked};
 use super::value::{push_row, push_rows};
 use crate::transcript::{Outcome, StepAnswer, Tape, Transcript};
+use my_handshake::ServerVersion;
 use my_session::Error;
-use my_wire::ServerVersion;
 use std::alloc::{AllocError, Global};
 
 #[tactic(auto, unfolding(crate::specs::Text::version_text))]

@@ -22,7 +22,7 @@ fn push_date(
     push_marked(alloc, out, b'-', day as u64)
 }
 
-// Hours, minutes, seconds and microseconds, behind a blank's mark.
+// Hours, minutes, seconds and microseconds, after a blank's mark.
 #[tactic(auto, unfolding(crate::specs::ValueText::clock_text))]
 fn push_clock(
     alloc: Global,

@@ -3,7 +3,7 @@ use crate::{
     FromRow, FromRowError, FromValue, FromValueError, Row, Value, from_row, from_value,
     read_text_row,
 };
-use my_wire::ReadError;
+use my_frame::ReadError;
 use std::alloc::{AllocError, Global};
 use std::test::Fail;
 

@@ -3,12 +3,12 @@ use crate::{
     Params, ParamsError, ParseFault, ParsedNamedParams, Value, bulk_list_len, execute_body,
     into_values, join_types, put_bulk_head, put_bulk_list, types_agree, types_of,
 };
-use my_wire::Blob;
+use my_frame::Blob;
 use std::alloc::{AllocError, Global};
 use std::test::Fail;
 
 // The place of the first text that isn't parsed as it says: what is prepared, and its names with a comma
-// behind each; nothing is prepared of a mixed text.
+// after each; nothing is prepared of a mixed text.
 fn wrong_text(alloc: Global, cases: &[(&[u8], &[u8], &[u8])]) -> Result<Option<usize>, AllocError> {
     for (place, (text, query, names)) in cases.iter().enumerate() {
         let found = parsed(alloc, text)?;

@@ -65,7 +65,7 @@ impl Planned {
         self.reads.append(&mut reads)
     }
 
-    /// Puts these items behind those that stand.
+    /// Puts these items after those that stand.
     pub fn add(&mut self, addition: Addition) -> Result<(), AllocError>
         requires { is_lawful addition ≡ true }
         ensures ok { OnOk result (self.new ≡ record { number = self.old.number; items = grown self.old.items (added addition) }) }

@@ -62,7 +62,7 @@ fn one(alloc: Global, item: ReadItem) -> Result<Addition, AllocError>
     Ok(Addition::Reads(items))
 }
 
-// Each byte by itself, with a hold behind it.
+// Each byte by itself, with a hold after it.
 fn drip(alloc: Global, bytes: &[u8]) -> Result<Addition, AllocError>
     ensures added { IfOk result (λ a. added a ≡ record { reads = dripped bytes.now; writes = [] }) }
     ensures lawful { IfOk result (λ a. is_lawful a ≡ true) }

@@ -1,7 +1,7 @@
 //! What a link in memory does with writes.
 ghost use Rattle.std.specs.Prelude.{◌≡◌, ◌<◌, ◌++◌, ◌∷◌, [], OnOk, OnErr, true, drop};
 ghost use Rattle.std.specs.List.{list_all};
-ghost use Rattle.my_world.specs.Link.{behind_taken};
+ghost use Rattle.my_world.specs.Link.{after_taken};
 ghost use Rattle.my_world.specs.Memory.{is_open, RoomIs};
 
 use crate::link::WriteItem;
@@ -77,7 +77,7 @@ impl Writes {
 
     /// A write took so many bytes.
     pub fn take(&mut self, taken: u64)
-        ensures { self.new ≡ behind_taken taken self.old }
+        ensures { self.new ≡ after_taken taken self.old }
     {
         if let Some(WriteItem::Accept(most)) = self.items.front() {
             let left = most.saturating_sub(taken);

@@ -12,7 +12,7 @@ loop-opening-preserved c =
 pub returns-then-not-over : goal.returns-then-not-over
 returns-then-not-over c =
     let w = at_index c.args.login.now c.args.openings.now c.args.bytes.now c.loop-opening.exchanges.items c.loop-opening.opening-index c.opening-item.result c.loop-opening.rest.now (omega arith) c.opening-item.is c.loop-opening.invariant in
-    cut_at_last c.args.login.now c.args.openings.now c.args.bytes.now c.loop-opening.exchanges.items c.opening-item.result (drop (c.loop-opening.opening-index + 1) c.args.openings.now) c.loop-opening.rest.now c.in_ok-progress.after.now c.in_ok-progress.progress _ w c.in_ok-progress.ensures (sym c.is_idle-over.ensures ∙ c.if-not-over.true) c.in_ok-add.ensures c.rest_in_front-behind.ensures
+    cut_at_last c.args.login.now c.args.openings.now c.args.bytes.now c.loop-opening.exchanges.items c.opening-item.result (drop (c.loop-opening.opening-index + 1) c.args.openings.now) c.loop-opening.rest.now c.in_ok-progress.after.now c.in_ok-progress.progress _ w c.in_ok-progress.ensures (sym c.is_idle-over.ensures ∙ c.if-not-over.true) c.in_ok-add.ensures c.rest_in_front-following.ensures
 
 pub returns : goal.returns
 returns c =

@@ -7,7 +7,7 @@ invariant-loop-low g l = record {
   order : l.low ≤ l.high;
   within : l.high ≤ length l.requests;
   before : (k : ℕ) (d : Request) → k < l.low → (get_or l.requests k d).age < l.age;
-  behind : (k : ℕ) (d : Request) → l.high ≤ k → k < length l.requests → l.age ≤ (get_or l.requests k d).age;
+  following : (k : ℕ) (d : Request) → l.high ≤ k → k < length l.requests → l.age ≤ (get_or l.requests k d).age;
   left : (d : ℕ) → length l.requests < 2 ^ d → (f : ℕ) × (l.high - l.low < 2 ^ f) × (g.C.Ledger.noted l.steps + f ≤ g.C.Ledger.noted l.fn.steps + d);
 }
 

@@ -18,7 +18,7 @@ pub returns-else-requests-first-clause-answer : goal.returns-else-requests-first
 returns-else-requests-first-clause-answer g c =
     let first = c.first_from-first.result in
     let lt : first < length c.args.requests.now = omega (arith, c.if-first-requests.false, c.first_from-first.ensures.within) in
-    let least = c.first_from-first.ensures.behind first (asking 0) (omega arith) lt in
+    let least = c.first_from-first.ensures.following first (asking 0) (omega arith) lt in
     sym (position-none c.args.requests.now c.args.age (asking 0) (λ k l e.
     elim (cases_lt k first) [
       | inl below ↦ absurd (omega (arith, e, c.first_from-first.ensures.before k (asking 0) below))

@@ -5,7 +5,7 @@ use Rattle.my_run.proofs.output.write_all.Goals as goal
 
 pub rest-preserved : goal.rest-preserved
 rest-preserved g c =
-    let b = rw c.behind.ensures at c.in-Took.ensures.bytes in
+    let b = rw c.following.ensures at c.in-Took.ensures.bytes in
     record {
       within = omega (arith, length-drop c.rest.from c.args.bytes.now, b.1);
       so_far = went _ _ _ c.rest.from c.in-Took.n c.args.bytes.now c.rest.invariant.so_far b.2;

@@ -3,7 +3,7 @@ use Rattle.my_run.specs.declared.poll.Round.{Round}
 use Rattle.my_run.specs.declared.poll.Round.TheVariants.{On, Over}
 use Rattle.my_world.specs.Looks.{Looks}
 use Rattle.my_run.specs.Slot.{kept_of}
-use Rattle.my_run.proofs.Rounds.{RoundRests, round_behind, nothing_yet, nothing_spent, round_rests}
+use Rattle.my_run.proofs.Rounds.{RoundRests, round_after, nothing_yet, nothing_spent, round_rests}
 use Rattle.my_run.proofs.poll.poll_conn.Goals as goal
 
 pub turns-init : goal.turns-init
@@ -23,7 +23,7 @@ returns-in-Over-clause-polls g c =
     let x : Looks = g.L.Link.looks c.args.conn.now.link in
     let y : Looks = g.L.Link.looks c.turns.conn.link in
     let z : Looks = g.L.Link.looks c.take_turn.new.conn.link in
-    let here = round_behind x y z c.take_turn.new.conn.session.seen c.args.conn.now.sent.items c.turns.conn.sent.items c.take_turn.new.conn.sent.items c.args.conn.now.taken.items c.turns.conn.taken.items c.take_turn.new.conn.taken.items c.args.number c.turns.used c.turns.invariant.so c.turns.invariant.spent c.in_ok-turn.turn c.in_ok-turn.ensures.turn c.in_ok-turn.ensures.within c.in_ok-turn.ensures.full (Over c.in-Over.polled) (sym c.in-Over.is ∙ c.count_turn.ensures) in
+    let here = round_after x y z c.take_turn.new.conn.session.seen c.args.conn.now.sent.items c.turns.conn.sent.items c.take_turn.new.conn.sent.items c.args.conn.now.taken.items c.turns.conn.taken.items c.take_turn.new.conn.taken.items c.args.number c.turns.used c.turns.invariant.so c.turns.invariant.spent c.in_ok-turn.turn c.in_ok-turn.ensures.turn c.in_ok-turn.ensures.within c.in_ok-turn.ensures.full (Over c.in-Over.polled) (sym c.in-Over.is ∙ c.count_turn.ensures) in
     here.0
 
 pub returns-in-Over-clause-spends : goal.returns-in-Over-clause-spends
@@ -31,7 +31,7 @@ returns-in-Over-clause-spends g c =
     let x : Looks = g.L.Link.looks c.args.conn.now.link in
     let y : Looks = g.L.Link.looks c.turns.conn.link in
     let z : Looks = g.L.Link.looks c.take_turn.new.conn.link in
-    let here = round_behind x y z c.take_turn.new.conn.session.seen c.args.conn.now.sent.items c.turns.conn.sent.items c.take_turn.new.conn.sent.items c.args.conn.now.taken.items c.turns.conn.taken.items c.take_turn.new.conn.taken.items c.args.number c.turns.used c.turns.invariant.so c.turns.invariant.spent c.in_ok-turn.turn c.in_ok-turn.ensures.turn c.in_ok-turn.ensures.within c.in_ok-turn.ensures.full (Over c.in-Over.polled) (sym c.in-Over.is ∙ c.count_turn.ensures) in
+    let here = round_after x y z c.take_turn.new.conn.session.seen c.args.conn.now.sent.items c.turns.conn.sent.items c.take_turn.new.conn.sent.items c.args.conn.now.taken.items c.turns.conn.taken.items c.take_turn.new.conn.taken.items c.args.number c.turns.used c.turns.invariant.so c.turns.invariant.spent c.in_ok-turn.turn c.in_ok-turn.ensures.turn c.in_ok-turn.ensures.within c.in_ok-turn.ensures.full (Over c.in-Over.polled) (sym c.in-Over.is ∙ c.count_turn.ensures) in
     here.1
 
 pub returns-in-Over-clause-rests : goal.returns-in-Over-clause-rests
@@ -44,7 +44,7 @@ turns-preserved g c =
     let x : Looks = g.L.Link.looks c.args.conn.now.link in
     let y : Looks = g.L.Link.looks c.turns.conn.link in
     let z : Looks = g.L.Link.looks c.take_turn.new.conn.link in
-    let here = round_behind x y z c.take_turn.new.conn.session.seen c.args.conn.now.sent.items c.turns.conn.sent.items c.take_turn.new.conn.sent.items c.args.conn.now.taken.items c.turns.conn.taken.items c.take_turn.new.conn.taken.items c.args.number c.turns.used c.turns.invariant.so c.turns.invariant.spent c.in_ok-turn.turn c.in_ok-turn.ensures.turn c.in_ok-turn.ensures.within c.in_ok-turn.ensures.full (On c.in-On.more) (sym c.in-On.is ∙ c.count_turn.ensures) in
+    let here = round_after x y z c.take_turn.new.conn.session.seen c.args.conn.now.sent.items c.turns.conn.sent.items c.take_turn.new.conn.sent.items c.args.conn.now.taken.items c.turns.conn.taken.items c.take_turn.new.conn.taken.items c.args.number c.turns.used c.turns.invariant.so c.turns.invariant.spent c.in_ok-turn.turn c.in_ok-turn.ensures.turn c.in_ok-turn.ensures.within c.in_ok-turn.ensures.full (On c.in-On.more) (sym c.in-On.is ∙ c.count_turn.ensures) in
     record {
       is_on = here.0;
       so = here.1;

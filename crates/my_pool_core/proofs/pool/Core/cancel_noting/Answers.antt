@@ -27,11 +27,11 @@ invariant_of-self-in-Dials g c =
 pub returns-in-Woken-clause-cost : goal.returns-in-Woken-clause-cost
 returns-in-Woken-clause-cost g c = λ d lt.
     let before : length (the_view c.self.inside).requests < 2 ^ d = omega (arith, ap (λ s. length s.requests) c.self.view_is, lt) in
-    let behind : length c.end.new.self < 2 ^ d = omega (arith, ap length c.end.ensures.requests, ended-short c.args.age (the_view c.self.inside).requests, before) in
-    omega (arith, c.find.ensures.cost d before, c.end.ensures.cost d before, c.wake.ensures.cost d behind)
+    let following : length c.end.new.self < 2 ^ d = omega (arith, ap length c.end.ensures.requests, ended-short c.args.age (the_view c.self.inside).requests, before) in
+    omega (arith, c.find.ensures.cost d before, c.end.ensures.cost d before, c.wake.ensures.cost d following)
 
 pub returns-in-Dials-clause-cost : goal.returns-in-Dials-clause-cost
 returns-in-Dials-clause-cost g c = λ d lt.
     let before : length (the_view c.self.inside).requests < 2 ^ d = omega (arith, ap (λ s. length s.requests) c.self.view_is, lt) in
-    let behind : length c.end.new.self < 2 ^ d = omega (arith, ap length c.end.ensures.requests, ended-short c.args.age (the_view c.self.inside).requests, before) in
-    omega (arith, c.find.ensures.cost d before, c.end.ensures.cost d before, c.wake-in-Dials.ensures.cost d behind)
+    let following : length c.end.new.self < 2 ^ d = omega (arith, ap length c.end.ensures.requests, ended-short c.args.age (the_view c.self.inside).requests, before) in
+    omega (arith, c.find.ensures.cost d before, c.end.ensures.cost d before, c.wake-in-Dials.ensures.cost d following)

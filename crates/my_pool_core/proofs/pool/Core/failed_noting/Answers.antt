@@ -13,5 +13,5 @@ invariant_of-self g c =
 pub returns-clause-cost : goal.returns-clause-cost
 returns-clause-cost g c = λ d lt.
     let before : length (the_view c.self.inside).requests < 2 ^ d = omega (arith, ap (λ s. length s.requests) c.self.view_is, lt) in
-    let behind : length c.let_go.new.self < 2 ^ d = omega (arith, ap length c.let_go.ensures.requests, let-go-short c.args.age (the_view c.self.inside).requests, before) in
-    omega (arith, c.let_go.ensures.cost d before, c.wake.ensures.cost d behind)
+    let following : length c.let_go.new.self < 2 ^ d = omega (arith, ap length c.let_go.ensures.requests, let-go-short c.args.age (the_view c.self.inside).requests, before) in
+    omega (arith, c.let_go.ensures.cost d before, c.wake.ensures.cost d following)

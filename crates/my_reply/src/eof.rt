@@ -1,0 +1,43 @@
+//! The packet that ends columns or rows where no OK packet does.
+
+ghost use Rattle.std.specs.Prelude.{◌≡◌, ◌↔◌, List, ℕ, Some};
+ghost use Rattle.std.specs.Option.{ok_or};
+ghost use Rattle.my_frame.specs.Reading.{ReadsExactly};
+ghost use Rattle.my_reply.specs.EofPacket.{IsEof, eof_at};
+
+use my_frame::ReadError;
+use my_frame::numbers::{take_head, take_u16};
+
+/// The end of columns or rows.
+#[derive(Clone, Copy, Debug, PartialEq, Eq)]
+pub struct EofPacket {
+    pub warnings: u16,
+    /// The server's status bits.
+    pub status: u16,
+}
+
+fn eof_of(payload: &[u8]) -> Option<EofPacket>
+    ensures { result ≡ eof_at payload.now }
+{
+    let rest = take_head(payload, 0xFE)?;
+    let (warnings, rest) = take_u16(rest)?;
+    let (status, rest) = take_u16(rest)?;
+    if rest.len() > 2 {
+        return None;
+    }
+    Some(EofPacket { warnings, status })
+}
+
+/// Reads the end of columns or rows.
+pub fn read_eof(payload: &[u8]) -> Result<EofPacket, ReadError>
+    ensures gives { result ≡ ok_or (eof_at payload.now) ReadError.Malformed }
+    ensures exact { ReadsExactly (IsEof payload.now) result }
+{
+    eof_of(payload).ok_or(ReadError::Malformed)
+}
+
+/// A payload is at most one such record, which is what reading gives.
+pub fn eof_is_read()
+    ensures eof { (payload : List ℕ) (x : EofPacket) → (eof_at payload ≡ Some x) ↔ IsEof payload x }
+    ensures one_eof { (payload : List ℕ) (x y : EofPacket) → IsEof payload x → IsEof payload y → x ≡ y }
+{}

@@ -1,0 +1,111 @@
+//! The packet that holds one event of a binary log.
+
+ghost use Rattle.std.specs.Prelude.{◌≡◌, ◌↔◌, List, ℕ, Some};
+ghost use Rattle.std.specs.Option.{option_map};
+ghost use Rattle.my_frame.specs.Reading.{Gives, ReadsExactly};
+ghost use Rattle.my_reply.specs.Event.{IsEvent, event_at, header_at};
+
+use my_frame::numbers::{take_head, take_u8, take_u16, take_u32, take_u48};
+use my_frame::{Blob, ReadError};
+use std::alloc::Global;
+
+/// An event of a binary log.
+#[derive(Debug, Drop, PartialEq, Eq)]
+pub struct Event {
+    /// Seconds since 1970.
+    pub timestamp: u32,
+    /// The number of its type.
+    pub kind: u8,
+    /// The number of the server that made it.
+    pub server: u32,
+    /// The bytes of header and body.
+    pub size: u32,
+    /// The place after it in its file.
+    pub position: u32,
+    pub flags: u16,
+    /// What follows the header.
+    pub body: Blob,
+}
+
+/// The type of an event that maps a table to a number.
+pub const TABLE_MAP: u8 = 19;
+
+// What stands before an event's body.
+#[derive(Clone, Copy)]
+struct EventHeader {
+    timestamp: u32,
+    kind: u8,
+    server: u32,
+    size: u32,
+    position: u32,
+    flags: u16,
+}
+
+#[tactic(auto, unfolding(crate::specs::Event::header_at))]
+fn header_of(bytes: &[u8]) -> Option<(EventHeader, &[u8])>
+    ensures { option_map (λ x. (x.0, x.1.now)) result ≡ header_at bytes.now }
+{
+    let (timestamp, rest) = take_u32(bytes)?;
+    let (kind, rest) = take_u8(rest)?;
+    let (server, rest) = take_u32(rest)?;
+    let (size, rest) = take_u32(rest)?;
+    let (position, rest) = take_u32(rest)?;
+    let (flags, rest) = take_u16(rest)?;
+    let header = EventHeader {
+        timestamp,
+        kind,
+        server,
+        size,
+        position,
+        flags,
+    };
+    Some((header, rest))
+}
+
+fn event_of(alloc: Global, payload: &[u8]) -> Result<Event, ReadError>
+    ensures { Gives result (event_at payload.now) }
+{
+    let bytes = take_head(payload, 0x00).ok_or(ReadError::Malformed)?;
+    let (header, body) = header_of(bytes).ok_or(ReadError::Malformed)?;
+    if bytes.len() as u64 != u64::from(header.size) {
+        return Err(ReadError::Malformed);
+    }
+    Ok(Event {
+        timestamp: header.timestamp,
+        kind: header.kind,
+        server: header.server,
+        size: header.size,
+        position: header.position,
+        flags: header.flags,
+        body: Blob::from_slice(alloc, body)?,
+    })
+}
+
+/// Reads an event of a binary log. One whose size isn't that of its bytes is malformed.
+pub fn read_event(alloc: Global, payload: &[u8]) -> Result<Event, ReadError>
+    ensures gives { Gives result (event_at payload.now) }
+    ensures exact { ReadsExactly (IsEvent payload.now) result }
+{
+    event_of(alloc, payload)
+}
+
+impl Event {
+    ghost use Rattle.my_reply.specs.Event.{table_id_of};
+
+    /// The number of the table that it maps, where it maps one.
+    pub fn table_id(&self) -> Option<u64>
+        ensures { result ≡ table_id_of self.now }
+    {
+        if self.kind != TABLE_MAP {
+            return None;
+        }
+        let (id, _) = take_u48(self.body.as_slice())?;
+        Some(id)
+    }
+}
+
+/// A payload is at most one such record, which is what reading gives.
+pub fn event_is_read()
+    ensures event { (payload : List ℕ) (x : Event) → (event_at payload ≡ Some x) ↔ IsEvent payload x }
+    ensures one_event { (payload : List ℕ) (x y : Event) → IsEvent payload x → IsEvent payload y → x ≡ y }
+{}

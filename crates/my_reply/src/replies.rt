@@ -1,0 +1,79 @@
+//! The replies to a text that is to be kept, and to a query that reads a file of the client.
+
+ghost use Rattle.std.specs.Prelude.{◌≡◌, ◌↔◌, List, ℕ, Some};
+ghost use Rattle.std.specs.Option.{ok_or};
+ghost use Rattle.my_frame.specs.Reading.{Gives, ReadsExactly};
+ghost use Rattle.my_reply.specs.Replies.{IsInfile, IsPrepareOk, infile_at, prepare_ok_at};
+
+use my_frame::numbers::{take_bytes, take_head, take_u16, take_u32};
+use my_frame::{Blob, ReadError};
+use std::alloc::Global;
+
+/// A text is kept as a statement.
+#[derive(Clone, Copy, Debug, PartialEq, Eq)]
+pub struct PrepareOk {
+    /// The statement's number.
+    pub id: u32,
+    /// How many columns its rows have.
+    pub columns: u16,
+    /// How many parameters it takes.
+    pub params: u16,
+    pub warnings: u16,
+}
+
+/// The server wants a file of the client.
+#[derive(Debug, Drop, PartialEq, Eq)]
+pub struct InfileRequest {
+    pub name: Blob,
+}
+
+#[tactic(auto, unfolding(crate::specs::Replies::prepare_ok_at))]
+fn prepare_ok_of(payload: &[u8]) -> Option<PrepareOk>
+    ensures { result ≡ prepare_ok_at payload.now }
+{
+    let rest = take_head(payload, 0x00)?;
+    let (id, rest) = take_u32(rest)?;
+    let (columns, rest) = take_u16(rest)?;
+    let (params, rest) = take_u16(rest)?;
+    let (_filler, rest) = take_bytes(rest, 1)?;
+    let (warnings, _) = take_u16(rest)?;
+    Some(PrepareOk {
+        id,
+        columns,
+        params,
+        warnings,
+    })
+}
+
+/// Reads that a text is kept as a statement. What follows its numbers is ignored.
+pub fn read_prepare_ok(payload: &[u8]) -> Result<PrepareOk, ReadError>
+    ensures gives { result ≡ ok_or (prepare_ok_at payload.now) ReadError.Malformed }
+    ensures exact { ReadsExactly (IsPrepareOk payload.now) result }
+{
+    prepare_ok_of(payload).ok_or(ReadError::Malformed)
+}
+
+fn infile_of(alloc: Global, payload: &[u8]) -> Result<InfileRequest, ReadError>
+    ensures { Gives result (infile_at payload.now) }
+{
+    let rest = take_head(payload, 0xFB).ok_or(ReadError::Malformed)?;
+    Ok(InfileRequest {
+        name: Blob::from_slice(alloc, rest)?,
+    })
+}
+
+/// Reads that the server wants a file of the client.
+pub fn read_infile(alloc: Global, payload: &[u8]) -> Result<InfileRequest, ReadError>
+    ensures gives { Gives result (infile_at payload.now) }
+    ensures exact { ReadsExactly (IsInfile payload.now) result }
+{
+    infile_of(alloc, payload)
+}
+
+/// A payload is at most one such record, which is what reading gives.
+pub fn replies_are_read()
+    ensures prepare_ok { (payload : List ℕ) (x : PrepareOk) → (prepare_ok_at payload ≡ Some x) ↔ IsPrepareOk payload x }
+    ensures one_prepare_ok { (payload : List ℕ) (x y : PrepareOk) → IsPrepareOk payload x → IsPrepareOk payload y → x ≡ y }
+    ensures infile { (payload : List ℕ) (x : InfileRequest) → (infile_at payload ≡ Some x) ↔ IsInfile payload x }
+    ensures one_infile { (payload : List ℕ) (x y : InfileRequest) → IsInfile payload x → IsInfile payload y → x ≡ y }
+{}

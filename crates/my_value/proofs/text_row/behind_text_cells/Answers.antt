@@ -1,5 +1,0 @@
-use Rattle.my_value.proofs.RowLaws.{behind_more}
-use Rattle.my_value.proofs.text_row.behind_text_cells.Goals as goal
-
-pub loop-preserved : goal.loop-preserved
-loop-preserved c = behind_more _ _ _ _ _ _ c.loop-test.true c.in_ok-after.ensures c.loop.invariant

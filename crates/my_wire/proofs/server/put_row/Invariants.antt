@@ -1,7 +1,0 @@
-use Rattle.std.proofs.Common.{◌≡◌, ◌++◌, take}
-use Rattle.std.specs.List.{flat_map}
-use Rattle.my_wire.specs.Server.{cell_bytes}
-use Rattle.my_wire.proofs.server.put_row.Given as goal
-
-abbrev pub invariant-loop-cell : goal.invariant-loop-cell
-invariant-loop-cell l = l.out.items ≡ l.fn.out.items ++ flat_map cell_bytes (take l.cell-index l.cells)
