@@ -2,6 +2,7 @@
 #![tactic(auto)]
 
 mod help;
+mod message;
 #[cfg(test)]
 mod set_tests;
 #[cfg(test)]
@@ -11,21 +12,16 @@ mod url_tests;
 #[cfg(test)]
 mod world_tests;
 
-use help::asked_page;
-use my_frame::{StdSink, StdSource};
-use my_run::output::write_all;
-use my_run::tool::run_tool;
+use help::{Page, asked_page};
+use message::message;
+use my_frame::{Sink, StdSink, StdSource};
+use my_run::{Status, run_tool, write_all};
 use my_world::memory::world::MemWorld;
 use std::alloc::AllocError;
+use std::io::Eprint;
 use std::process::ExitCode;
 use std::rt::Env;
 use std::{env, io};
-
-/// The status of a write that failed.
-const WRITE_FAILED: u8 = 5;
-
-/// The status of words that are no command.
-const NO_COMMAND: u8 = 2;
 
 // The words after the program's name.
 fn command_words<R: Env + AllocGlobal>(rt: &R) -> io::Result<Vec<String>> {
@@ -36,20 +32,50 @@ fn command_words<R: Env + AllocGlobal>(rt: &R) -> io::Result<Vec<String>> {
     Ok(words)
 }
 
+// Writes a page, and returns how that ended.
+fn print_page<W: Sink>(out: &mut W, page: Page) -> Status {
+    if write_all(out, page.text().as_bytes()) {
+        Status::Done
+    } else {
+        Status::SinkFailed
+    }
+}
+
+// How a run ends whose words can't be read.
+fn unread_words(error: &io::Error) -> Status {
+    match error.kind() {
+        io::ErrorKind::OutOfMemory => Status::NoMemory,
+        _ => Status::NoCommand,
+    }
+}
+
+// Tells on standard error why a run of these words ended with this status.
+fn tell<R: Eprint + AllocGlobal>(rt: &R, words: &[String], status: &Status) {
+    let _ = match message(rt.alloc(), words, status) {
+        Ok(None) => Ok(()),
+        Ok(Some(text)) => eprintln!(rt; "my_cli: {text}"),
+        Err(_) => eprintln!(rt; "my_cli: out of memory"),
+    };
+}
+
 fn main(rt: HostRuntime) -> ExitCode {
-    let Ok(words) = command_words(&rt) else {
-        return ExitCode::from(NO_COMMAND);
+    let words = match command_words(&rt) {
+        Ok(words) => words,
+        Err(error) => {
+            let status = unread_words(&error);
+            tell(&rt, &[], &status);
+            return ExitCode::from(status.code());
+        }
     };
     let mut out = StdSink::new(io::writer(&rt));
-    if let Some(page) = asked_page(&words) {
-        return ExitCode::from(if write_all(&mut out, page.text().as_bytes()) {
-            0
-        } else {
-            WRITE_FAILED
-        });
-    }
-    let mut src = StdSource::new(rt.reader());
-    let mut world = MemWorld::new(rt.alloc());
-    let report = run_tool(rt.alloc(), &words, &mut src, &mut out, &mut world);
-    ExitCode::from(report.status)
+    let status = match asked_page(&words) {
+        Some(page) => print_page(&mut out, page),
+        None => {
+            let mut src = StdSource::new(rt.reader());
+            let mut world = MemWorld::new(rt.alloc());
+            run_tool(rt.alloc(), &words, &mut src, &mut out, &mut world).status
+        }
+    };
+    tell(&rt, &words, &status);
+    ExitCode::from(status.code())
 }

@@ -2,8 +2,9 @@
 
 ghost use Rattle.std.specs.Prelude.{None};
 
+use crate::message::message;
 use my_frame::{MemSink, MemSource, NoMemory, Source, SourceStep};
-use my_run::tool::run_tool;
+use my_run::run_tool;
 use my_world::memory::world::MemWorld;
 use std::alloc::Global;
 use std::test::Fail;
@@ -49,6 +50,8 @@ impl Source for Endless {
 pub struct Ended {
     pub status: u8,
     pub text: Vec<u8>,
+    /// Why it ended so; empty where all steps were run.
+    pub cause: String,
 }
 
 fn words_of(alloc: Global, words: &[&str]) -> Result<Vec<String>, NoMemory> {
@@ -70,9 +73,14 @@ fn run_over<S: Source>(
     let mut world = MemWorld::new(alloc);
     let report = run_tool(alloc, &words, src, &mut out, &mut world);
     let text = out.taken().to_vec(alloc)?;
+    let cause = match message(alloc, &words, &report.status)? {
+        Some(cause) => cause,
+        None => String::new(alloc),
+    };
     Ok(Ended {
-        status: report.status,
+        status: report.status.code(),
         text,
+        cause,
     })
 }
 
@@ -81,30 +89,69 @@ pub fn run_text(alloc: Global, words: &[&str], text: &str, room: usize) -> Resul
     run_over(alloc, words, &mut src, room)
 }
 
+// Words and lines, the status with which they end, and its cause.
 #[test]
 fn statuses_of_words_and_lines(rt: HostRuntime) -> Result<(), Fail> {
-    let cases: [(&[&str], &str, u8); 12] = [
-        (&[], "", 2),
-        (&["script"], "", 2),
-        (&["live", WORD], "", 2),
-        (&["script", WORD, "more"], "", 2),
-        (&["script", "mysql://root@localhost"], "", 0),
-        (&["script", "plain,root,,4194304"], "", 6),
-        (&["script", "plain,root,,4194304,28800,1"], "", 6),
+    let plain = "the word is refused: after plain, it has USER,PASS,PACKET,WAIT";
+    let cases: [(&[&str], &str, u8, &str); 13] = [
+        (&[], "", 2, "no such command:; --help teaches the words"),
+        (
+            &["script"],
+            "",
+            2,
+            "no such command: script; --help teaches the words",
+        ),
+        (
+            &["fly", "caf\u{e9}\n"],
+            "",
+            2,
+            "no such command: fly caf???; --help teaches the words",
+        ),
+        (
+            &["script", WORD, "more"],
+            "",
+            2,
+            "no such command: script plain,root,,4194304,28800 more; --help teaches the words",
+        ),
+        (&["script", "mysql://root@localhost"], "", 0, ""),
+        (&["script", "plain,root,,4194304"], "", 6, plain),
+        (&["script", "plain,root,,4194304,28800,1"], "", 6, plain),
         (
             &["script", "plain,root,,4194304,18446744073709551616"],
             "",
             6,
+            plain,
         ),
-        (&["script", WORD], "fly 0\n", 3),
-        (&["script", WORD], "conn\nturn 0\n", 3),
-        (&["script", WORD], "conn\nconn\n", 0),
-        (&["script", WORD], "# nothing\n\n", 0),
+        (
+            &["script", WORD],
+            "conn\nfly 0\nswim 0\n",
+            3,
+            "line 2 doesn't read: fly 0",
+        ),
+        (
+            &["script", WORD],
+            "conn\nturn 0\n",
+            3,
+            "line 2 doesn't read: turn 0",
+        ),
+        (&["script", WORD], "\u{1}\n", 3, "line 1 doesn't read: ?"),
+        (&["script", WORD], "conn\nconn\n", 0, ""),
+        (&["script", WORD], "# nothing\n\n", 0, ""),
     ];
-    for (words, text, status) in cases {
+    for (words, text, status, cause) in cases {
         let ended = run_text(rt.alloc(), words, text, 64)?;
         assert_eq!(rt; ended.status, status, "at {text:?}");
+        assert_eq!(rt; ended.cause.as_str(), cause, "at {text:?}");
     }
+    Ok(())
+}
+
+// Of a line that doesn't read the first 200 bytes are shown.
+#[test]
+fn a_long_bad_line(rt: HostRuntime) -> Result<(), Fail> {
+    let line = "x".repeat(rt.alloc(), 201)?;
+    let ended = run_text(rt.alloc(), &["script", WORD], line.as_str(), 64)?;
+    assert_eq!(rt; ended.cause.len(), 200 + "line 1 doesn't read: ".len());
     Ok(())
 }
 
@@ -114,8 +161,13 @@ fn statuses_of_sources(rt: HostRuntime) -> Result<(), Fail> {
     let words = ["script", WORD];
     let failed = run_over(rt.alloc(), &words, &mut Broken { faults: 0 }, 64)?;
     assert_eq!(rt; failed.status, 4);
+    assert_eq!(rt; failed.cause.as_str(), "standard input failed");
     let long = run_over(rt.alloc(), &words, &mut Endless, 64)?;
     assert_eq!(rt; long.status, 7);
+    assert_eq!(rt;
+        long.cause.as_str(),
+        "standard input has more than 67108864 bytes"
+    );
     Ok(())
 }
 
@@ -131,7 +183,20 @@ fn a_full_sink(rt: HostRuntime) -> Result<(), Fail> {
     );
     let cut = run_text(rt.alloc(), &["script", WORD], text, 12)?;
     assert_eq!(rt; cut.status, 5);
+    assert_eq!(rt; cut.cause.as_str(), "standard output failed");
     assert_eq!(rt; cut.text.as_slice(), b"1 refused No".as_slice());
+    Ok(())
+}
+
+// Where a connection fails before any byte, its tape has none.
+#[test]
+fn a_tape_without_bytes(rt: HostRuntime) -> Result<(), Fail> {
+    let ended = run_text(rt.alloc(), &["script", WORD], "fail 0\nconn\n", 1024)?;
+    assert_eq!(rt; ended.status, 0);
+    assert_eq!(rt;
+        ended.text.as_slice(),
+        b"1 error Io Link\nsent 0 -\ntaken 0 -\nend\n".as_slice()
+    );
     Ok(())
 }
 

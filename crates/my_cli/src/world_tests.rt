@@ -1,7 +1,7 @@
 //! Runs over worlds whose links drip, hold and fail, and scripts of many connections.
 
 use crate::tests::{GREETING, WORD, run_text};
-use my_run::reading::{Read, read_script};
+use my_script::{Read, read_script};
 use std::test::Fail;
 
 const GREETS: &str =
@@ -18,8 +18,8 @@ fn a_link_that_takes_pieces_holds_or_fails(rt: HostRuntime) -> Result<(), Fail> 
         ("accept 0 5\naccept 0 1\n", CONNECTED),
         ("accept 0 18446744073709551615\n", CONNECTED),
         ("accept 1 5\nwfail 1\n", CONNECTED),
-        ("wwait 0\n", "1 pending\nsent 0 \ntaken"),
-        ("wfail 0\n", "1 error Io Link\nsent 0 \ntaken"),
+        ("wwait 0\n", "1 pending\nsent 0 -\ntaken"),
+        ("wfail 0\n", "1 error Io Link\nsent 0 -\ntaken"),
         (
             "accept 0 5\nwwait 0\n",
             "1 pending\nsent 0 3c00000181\ntaken",
@@ -49,7 +49,7 @@ fn a_greeting_that_drips(rt: HostRuntime) -> Result<(), Fail> {
     assert_eq!(rt; ended.status, 0);
     assert_eq!(rt;
         ended.text.as_slice(),
-        b"1 pending\n2 refused NoSuchHandle\nsent 0 \ntaken 0 4a\nend\n".as_slice()
+        b"1 pending\n2 refused NoSuchHandle\nsent 0 -\ntaken 0 4a\nend\n".as_slice()
     );
     Ok(())
 }
@@ -57,7 +57,7 @@ fn a_greeting_that_drips(rt: HostRuntime) -> Result<(), Fail> {
 fn bad_line(read: Read) -> Option<u64> {
     match read {
         Read::Good(_) => None,
-        Read::Bad(line) => Some(line),
+        Read::Bad(line) => Some(line.number),
     }
 }
 

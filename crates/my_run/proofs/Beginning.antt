@@ -18,11 +18,11 @@ use Rattle.my_session.specs.Stands.{Stands, call_with}
 use Rattle.my_session.specs.Steps.{begun, is_refused}
 use Rattle.my_run.specs.declared.poll.Polled.{Polled}
 use Rattle.my_run.specs.declared.tape.Said.TheVariants as says
-use Rattle.my_run.specs.declared.transcript.Outcome.{Outcome}
-use Rattle.my_run.specs.declared.transcript.Use.{Use}
+use Rattle.my_script.specs.declared.transcript.Outcome.{Outcome}
+use Rattle.my_script.specs.declared.transcript.Use.{Use}
 use Rattle.my_run.specs.declared.slot.Conn.{Conn}
 use Rattle.my_run.specs.declared.slot.Slot.TheVariants.{There}
-use Rattle.my_run.specs.declared.transcript.Outcome.TheVariants.{NoSuchHandle, Failed}
+use Rattle.my_script.specs.declared.transcript.Outcome.TheVariants.{NoSuchHandle, Failed}
 use Rattle.my_run.specs.Did.{Did, OpenPolled}
 use Rattle.my_run.specs.Slot.{kept_of}
 use Rattle.my_run.specs.Drives.{Drives}

@@ -20,9 +20,9 @@ use Rattle.my_run.specs.declared.poll.Polled.{Polled}
 use Rattle.my_run.specs.declared.slot.Conn.{Conn}
 use Rattle.my_run.specs.declared.slot.Slot.{Slot}
 use Rattle.my_run.specs.declared.slot.Slot.TheVariants.{Gone, Held, There, Ended}
-use Rattle.my_run.specs.declared.transcript.Outcome.{Outcome}
-use Rattle.my_run.specs.declared.transcript.Outcome.TheVariants.{Pending, Failed}
-use Rattle.my_run.specs.declared.transcript.Use.{Use}
+use Rattle.my_script.specs.declared.transcript.Outcome.{Outcome}
+use Rattle.my_script.specs.declared.transcript.Outcome.TheVariants.{Pending, Failed}
+use Rattle.my_script.specs.declared.transcript.Use.{Use}
 use Rattle.my_run.specs.Connecting.{Settles, Joins, Dialed}
 use Rattle.my_run.specs.Did.{Stepped}
 use Rattle.my_run.specs.Drives.{Drives}

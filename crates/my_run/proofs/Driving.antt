@@ -8,7 +8,7 @@ use Rattle.my_session.specs.Seen.{Seen}
 use Rattle.my_run.specs.declared.poll.After.{After}
 use Rattle.my_run.specs.declared.poll.After.TheVariants.{Pending, Answered, Failed}
 use Rattle.my_run.specs.declared.poll.Polled.{Polled}
-use Rattle.my_run.specs.declared.transcript.Use.{Use}
+use Rattle.my_script.specs.declared.transcript.Use.{Use}
 use Rattle.my_run.specs.Causes.{PollEnds}
 use Rattle.my_run.specs.Drives.{Drives, kept_after}
 use Rattle.my_run.specs.Kept.{Asked, Kept}

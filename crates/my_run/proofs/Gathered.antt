@@ -23,9 +23,9 @@ use Rattle.my_run.specs.declared.poll.Polled.{Polled}
 use Rattle.my_run.specs.declared.slot.Conn.{Conn}
 use Rattle.my_run.specs.declared.slot.Slot.TheVariants.{There}
 use Rattle.my_run.specs.declared.tape.Said.TheVariants as says
-use Rattle.my_run.specs.declared.transcript.Outcome.{Outcome}
-use Rattle.my_run.specs.declared.transcript.Outcome.TheVariants.{Failed}
-use Rattle.my_run.specs.declared.transcript.Use.{Use}
+use Rattle.my_script.specs.declared.transcript.Outcome.{Outcome}
+use Rattle.my_script.specs.declared.transcript.Outcome.TheVariants.{Failed}
+use Rattle.my_script.specs.declared.transcript.Use.{Use}
 use Rattle.my_run.specs.Causes.{PollEnds}
 use Rattle.my_run.specs.Did.{Did}
 use Rattle.my_run.specs.Drives.{Drives, RowsOf}

@@ -20,12 +20,12 @@ use Rattle.my_session.specs.Steps.{AtBegun, is_settled}
 use Rattle.my_grammar.specs.declared.spot.Spot.{Spot}
 use Rattle.my_run.specs.declared.poll.After.{After}
 use Rattle.my_run.specs.declared.poll.After.TheVariants as after
-use Rattle.my_run.specs.declared.step.Step.{Step}
-use Rattle.my_run.specs.declared.step.Step.TheVariants as steps
+use Rattle.my_script.specs.declared.step.Step.{Step}
+use Rattle.my_script.specs.declared.step.Step.TheVariants as steps
 use Rattle.my_run.specs.declared.tape.Said.{Said}
 use Rattle.my_run.specs.declared.tape.Said.TheVariants as says
-use Rattle.my_run.specs.declared.transcript.Outcome.{Outcome}
-use Rattle.my_run.specs.declared.transcript.Use.{Use}
+use Rattle.my_script.specs.declared.transcript.Outcome.{Outcome}
+use Rattle.my_script.specs.declared.transcript.Use.{Use}
 use Rattle.my_run.specs.Causes.{IsPolled, PollEnds}
 use Rattle.my_run.specs.Grows.{IsRefused, OnConnection, PolledOnce, IsClosed, Begins, BeginsOn, Calls, asked_by, ConnectShows, Connects, Dials, Holds, Fails, Links, Gathers, GathersOn, Collects, CollectsOn, CollectsAt, PollsOn, GoesOnWith, GoesOn, CancelsWith, Cancels, TellsWith, TellsFields, At, StepGrows, Line, AreGrown, handles_after}
 use Rattle.my_run.specs.Handle.{Handle, Absent, Dialing, Joined, at_number, put_at}

@@ -1,7 +1,4 @@
-pub mod Cuts
-pub mod Scripts
 pub mod Outputs
-pub mod Texts
 pub mod Spends
 pub mod Hearing
 pub mod Stepping

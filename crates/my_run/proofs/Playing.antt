@@ -12,7 +12,7 @@ use Rattle.my_run.specs.declared.poll.Polled.{Polled}
 use Rattle.my_run.specs.declared.slot.Conn.{Conn}
 use Rattle.my_run.specs.declared.slot.Slot.{Slot}
 use Rattle.my_run.specs.declared.slot.Slot.TheVariants.{There, Ended}
-use Rattle.my_run.specs.declared.transcript.Use.{Use}
+use Rattle.my_script.specs.declared.transcript.Use.{Use}
 use Rattle.my_run.specs.Drives.{Drives}
 use Rattle.my_run.specs.Handle.{Joined}
 use Rattle.my_run.specs.Held.{FindsNothingIn, HeldBy}

@@ -8,9 +8,9 @@ use Rattle.my_world.specs.declared.link.WriteItem.{WriteItem}
 use Rattle.my_run.specs.declared.slot.Conn.{Conn}
 use Rattle.my_run.specs.declared.slot.Slot.{Slot}
 use Rattle.my_run.specs.declared.slot.Slot.TheVariants.{Held, There}
-use Rattle.my_run.specs.declared.transcript.Outcome.{Outcome}
-use Rattle.my_run.specs.declared.transcript.Outcome.TheVariants.{NoSuchHandle}
-use Rattle.my_run.specs.declared.transcript.Use.{Use}
+use Rattle.my_script.specs.declared.transcript.Outcome.{Outcome}
+use Rattle.my_script.specs.declared.transcript.Outcome.TheVariants.{NoSuchHandle}
+use Rattle.my_script.specs.declared.transcript.Use.{Use}
 use Rattle.my_run.specs.Connecting.{Joins, Dialed}
 use Rattle.my_run.specs.Did.{Did, Resumed}
 use Rattle.my_run.specs.Gathering.{GatheredOn}

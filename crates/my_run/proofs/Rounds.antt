@@ -11,7 +11,7 @@ use Rattle.my_run.specs.declared.poll.Round.{Round}
 use Rattle.my_run.specs.declared.poll.Round.TheVariants.{On, Over}
 use Rattle.my_run.specs.declared.poll.Turn.{Turn}
 use Rattle.my_run.specs.declared.poll.Turn.TheVariants.{Sent, Took, Ended, Broke, Held, Full, Answered, Faulted}
-use Rattle.my_run.specs.declared.transcript.Use.{Use}
+use Rattle.my_script.specs.declared.transcript.Use.{Use}
 use Rattle.my_run.specs.Kept.{Asked, Kept}
 use Rattle.my_run.specs.Poll.{CameIn, CameBy, WentOut, Waits, Holds, quiet, TurnIs, took_by, is_full, Polls, SoFar, SpendsOn, SpentSoFar, round_of}
 use Rattle.my_world.specs.Looks.{Looks}

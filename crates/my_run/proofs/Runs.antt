@@ -10,11 +10,11 @@ use Rattle.my_world.specs.Spent.{ReadsSpent, AllSpent, spelled, has_end, is_at_e
 use Rattle.my_run.specs.declared.slot.Conn.{Conn}
 use Rattle.my_run.specs.declared.slot.Slot.{Slot}
 use Rattle.my_run.specs.declared.slot.Slot.TheVariants.{Gone, Held, There, Ended}
-use Rattle.my_run.specs.declared.step.Step.{Step}
-use Rattle.my_run.specs.declared.transcript.Outcome.{Outcome}
-use Rattle.my_run.specs.declared.transcript.StepAnswer.{StepAnswer}
-use Rattle.my_run.specs.declared.transcript.Tape.{Tape}
-use Rattle.my_run.specs.declared.transcript.Use.{Use}
+use Rattle.my_script.specs.declared.step.Step.{Step}
+use Rattle.my_script.specs.declared.transcript.Outcome.{Outcome}
+use Rattle.my_script.specs.declared.transcript.StepAnswer.{StepAnswer}
+use Rattle.my_script.specs.declared.transcript.Tape.{Tape}
+use Rattle.my_script.specs.declared.transcript.Use.{Use}
 use Rattle.my_run.specs.Did.{Stepped}
 use Rattle.my_run.specs.Grows.{At, TellsFields, Line, StepGrows}
 use Rattle.my_run.specs.Handle.{Handle}

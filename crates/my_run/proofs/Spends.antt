@@ -5,7 +5,7 @@ use Rattle.my_world.specs.declared.link.WriteItem.{WriteItem}
 use Rattle.my_world.specs.Spent.{IsSpent}
 use Rattle.my_world.proofs.Spending.{spent_sent, spent_took, spent_ended, spent_read_failed, spent_write_failed, spent_write_held, spent_same, no_hold, spends_read_held}
 use Rattle.my_session.specs.Seen.{Seen}
-use Rattle.my_run.specs.declared.transcript.Use.{Use}
+use Rattle.my_script.specs.declared.transcript.Use.{Use}
 use Rattle.my_run.specs.Poll.{CameIn, TakesOut, Ends, Holds, Fails, PollSpends, SpendsOn, SpentSoFar}
 use Rattle.my_world.specs.Looks.{Looks}
 

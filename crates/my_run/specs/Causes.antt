@@ -19,7 +19,7 @@ use Rattle.my_session.specs.Steps.{StepIs}
 use Rattle.my_run.specs.declared.poll.After.{After}
 use Rattle.my_run.specs.declared.poll.After.TheVariants.{Pending, Answered, Failed}
 use Rattle.my_run.specs.declared.tape.Said.TheVariants as says
-use Rattle.my_run.specs.declared.transcript.Use.{Use}
+use Rattle.my_script.specs.declared.transcript.Use.{Use}
 use Rattle.my_run.specs.Kept.{Asked, Kept, IsOf, IsHeard, ended_by}
 use Rattle.my_run.specs.Poll.{IsOfCall, WentOut, CameBy}
 

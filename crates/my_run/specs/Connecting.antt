@@ -7,9 +7,9 @@ use Rattle.my_run.specs.declared.poll.After.TheVariants as after
 use Rattle.my_run.specs.declared.slot.Conn.{Conn}
 use Rattle.my_run.specs.declared.slot.Slot.{Slot}
 use Rattle.my_run.specs.declared.slot.Slot.TheVariants.{There, Ended}
-use Rattle.my_run.specs.declared.transcript.Outcome.{Outcome}
-use Rattle.my_run.specs.declared.transcript.Outcome.TheVariants.{Pending, Connected, Failed}
-use Rattle.my_run.specs.declared.transcript.Use.{Use}
+use Rattle.my_script.specs.declared.transcript.Outcome.{Outcome}
+use Rattle.my_script.specs.declared.transcript.Outcome.TheVariants.{Pending, Connected, Failed}
+use Rattle.my_script.specs.declared.transcript.Use.{Use}
 use Rattle.my_run.specs.Grows.{Connects, Dials}
 use Rattle.my_run.specs.Keeps.{Plans, IsStood, LinkSpent, SlotPlays}
 use Rattle.my_run.specs.Kept.{Asked, Kept}

@@ -15,9 +15,9 @@ use Rattle.my_run.specs.declared.poll.After.TheVariants as after
 use Rattle.my_run.specs.declared.slot.Conn.{Conn}
 use Rattle.my_run.specs.declared.slot.Slot.{Slot}
 use Rattle.my_run.specs.declared.slot.Slot.TheVariants.{There}
-use Rattle.my_run.specs.declared.transcript.Outcome.{Outcome}
-use Rattle.my_run.specs.declared.transcript.Outcome.TheVariants.{Done, Pending, Failed}
-use Rattle.my_run.specs.declared.transcript.Use.{Use}
+use Rattle.my_script.specs.declared.transcript.Outcome.{Outcome}
+use Rattle.my_script.specs.declared.transcript.Outcome.TheVariants.{Done, Pending, Failed}
+use Rattle.my_script.specs.declared.transcript.Use.{Use}
 use Rattle.my_run.specs.Grows.{Gathers, rows_shown}
 use Rattle.my_run.specs.Handle.{Handle, Joined}
 use Rattle.my_run.specs.Keeps.{Plans, LinkSpent, LinkPlays}

@@ -17,12 +17,12 @@ use Rattle.my_session.specs.Tables.{closes_when_cancelled}
 use Rattle.my_session.specs.declared.error.IoKind.TheVariants.{Dial}
 use Rattle.my_run.specs.declared.poll.After.{After}
 use Rattle.my_run.specs.declared.poll.After.TheVariants as after
-use Rattle.my_run.specs.declared.step.Step.{Step}
-use Rattle.my_run.specs.declared.step.Step.TheVariants as steps
+use Rattle.my_script.specs.declared.step.Step.{Step}
+use Rattle.my_script.specs.declared.step.Step.TheVariants as steps
 use Rattle.my_run.specs.declared.tape.Said.TheVariants as says
-use Rattle.my_run.specs.declared.transcript.Outcome.{Outcome}
-use Rattle.my_run.specs.declared.transcript.Outcome.TheVariants.{Done, Pending, SetEnd, NoSet, Row, Rows, Fields, Connected, Failed, NoSuchHandle, Unread}
-use Rattle.my_run.specs.declared.transcript.Use.{Use}
+use Rattle.my_script.specs.declared.transcript.Outcome.{Outcome}
+use Rattle.my_script.specs.declared.transcript.Outcome.TheVariants.{Done, Pending, SetEnd, NoSet, Row, Rows, Fields, Connected, Failed, NoSuchHandle}
+use Rattle.my_script.specs.declared.transcript.Use.{Use}
 use Rattle.my_run.specs.Causes.{IsPolled}
 use Rattle.my_run.specs.Handle.{Handle, Absent, Dialing, Joined, at_number, put_at}
 use Rattle.my_run.specs.Kept.{Asked, Kept, IsHeard, nothing_kept, made_of, asking, ended_by}
@@ -121,7 +121,6 @@ rows_shown (Fields fields) = None
 rows_shown (Connected number id version) = None
 rows_shown (Failed e) = None
 rows_shown NoSuchHandle = None
-rows_shown Unread = None
 
 -- the rows that the open call gathered so far
 abbrev pub gathered : Asked → List RowParts

@@ -8,11 +8,11 @@ use Rattle.my_world.specs.declared.link.ReadItem.{ReadItem}
 use Rattle.my_world.specs.declared.link.WriteItem.{WriteItem}
 use Rattle.my_world.specs.Spent.{spelled, fails_in, write_fails_in, waits_in, write_waits_in, has_end}
 use Rattle.my_run.specs.declared.slot.Slot.{Slot}
-use Rattle.my_run.specs.declared.step.Step.{Step}
-use Rattle.my_run.specs.declared.transcript.Outcome.{Outcome}
-use Rattle.my_run.specs.declared.transcript.StepAnswer.{StepAnswer}
-use Rattle.my_run.specs.declared.transcript.Tape.{Tape}
-use Rattle.my_run.specs.declared.transcript.Use.{Use}
+use Rattle.my_script.specs.declared.step.Step.{Step}
+use Rattle.my_script.specs.declared.transcript.Outcome.{Outcome}
+use Rattle.my_script.specs.declared.transcript.StepAnswer.{StepAnswer}
+use Rattle.my_script.specs.declared.transcript.Tape.{Tape}
+use Rattle.my_script.specs.declared.transcript.Use.{Use}
 use Rattle.my_run.specs.Grows.{Line, AreGrown, handles_after}
 use Rattle.my_run.specs.Handle.{Handle, Absent, Dialing, Joined, at_number}
 use Rattle.my_run.specs.Held.{HeldBy}

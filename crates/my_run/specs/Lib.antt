@@ -1,16 +1,5 @@
-pub mod Cut
-pub mod Number
-pub mod Keyword
-pub mod Line
-pub mod Script
-pub mod Words
 pub mod Input
 pub mod Output
-pub mod TextParts
-pub mod ValueText
-pub mod ErrorText
-pub mod OkText
-pub mod Text
 pub mod Login
 pub mod Uses
 pub mod Kept

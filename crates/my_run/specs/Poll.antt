@@ -10,7 +10,7 @@ use Rattle.my_world.specs.declared.link.WriteItem.{WriteItem}
 use Rattle.my_run.specs.declared.poll.After.{After}
 use Rattle.my_run.specs.declared.poll.After.TheVariants.{Pending, Answered as Replied, Failed as Refused}
 use Rattle.my_run.specs.declared.poll.Polled.{Polled}
-use Rattle.my_run.specs.declared.transcript.Use.{Use}
+use Rattle.my_script.specs.declared.transcript.Use.{Use}
 use Rattle.my_world.specs.Spent.{IsSpent, Spends}
 use Rattle.my_run.specs.Uses.{CountsTo}
 use Rattle.my_run.specs.declared.poll.Round.{Round}

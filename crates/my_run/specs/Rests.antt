@@ -18,7 +18,7 @@ use Rattle.my_run.specs.declared.poll.After.TheVariants as after
 use Rattle.my_run.specs.declared.poll.Turn.{Turn}
 use Rattle.my_run.specs.declared.poll.Turn.TheVariants.{Sent, Took, Ended, Broke, Held, Full, Answered, Faulted}
 use Rattle.my_run.specs.declared.tape.Said.TheVariants as says
-use Rattle.my_run.specs.declared.transcript.Use.{Use}
+use Rattle.my_script.specs.declared.transcript.Use.{Use}
 use Rattle.my_run.specs.Causes.{WhyFailed, WhyAnswered, ErrorBy}
 use Rattle.my_run.specs.Kept.{Asked, Kept, IsHeard, ended_by}
 

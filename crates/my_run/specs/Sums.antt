@@ -1,6 +1,6 @@
 -- What uses come to, connection by connection.
 use Rattle.std.specs.Prelude.{◌≡◌, ℕ, ◌+◌, ◌==◌, List, [], ◌∷◌, if◌then◌else◌}
-use Rattle.my_run.specs.declared.transcript.Use.{Use}
+use Rattle.my_script.specs.declared.transcript.Use.{Use}
 
 -- how often the links of this number failed
 abbrev pub faults_for : ℕ → List Use → ℕ

@@ -5,8 +5,8 @@ use Rattle.my_session.specs.declared.error.Error.{Error}
 use Rattle.my_run.specs.declared.tape.DoneCall.{DoneCall}
 use Rattle.my_run.specs.declared.tape.Said.{Said}
 use Rattle.my_run.specs.declared.tape.Said.TheVariants.{Answered, Failed, Cancelled}
-use Rattle.my_run.specs.declared.transcript.Tape.{Tape}
-use Rattle.my_run.specs.declared.transcript.TapeCall.{TapeCall}
+use Rattle.my_script.specs.declared.transcript.Tape.{Tape}
+use Rattle.my_script.specs.declared.transcript.TapeCall.{TapeCall}
 use Rattle.my_run.specs.Handle.{Handle, Absent, Dialing, Joined}
 use Rattle.my_run.specs.Kept.{Asked, Kept}
 

@@ -1,26 +1,26 @@
 -- The theorem on the top call: what it means that a run ended with a status.
-use Rattle.std.specs.Prelude.{◌≡◌, ℕ, List, [], ◌∷◌, Bool, Option, Some, None, if◌then◌else◌}
+use Rattle.std.specs.Prelude.{◌≡◌, ℕ, List, [], Bool, Option, Some, None, Ok, Err, if◌then◌else◌}
 use Rattle.my_grammar.specs.declared.login.Login.{Login}
 use Rattle.my_opts.specs.Opts.{OptsView}
 use Rattle.my_world.specs.declared.link.ReadItem.{ReadItem}
 use Rattle.my_world.specs.declared.link.WriteItem.{WriteItem}
 use Rattle.my_world.specs.Plan.{planned_lines, written_lines}
-use Rattle.my_run.specs.declared.step.Step.{Step}
+use Rattle.my_script.specs.declared.step.Step.{Step}
 use Rattle.my_world.specs.declared.line.WorldLine.{WorldLine}
-use Rattle.my_run.specs.declared.transcript.Transcript.{Transcript}
-use Rattle.my_run.specs.declared.transcript.StepAnswer.{StepAnswer}
-use Rattle.my_run.specs.declared.transcript.Outcome.TheVariants.{Unread}
+use Rattle.my_script.specs.declared.transcript.Transcript.{Transcript}
+use Rattle.my_script.specs.declared.reading.script.BadLine.{BadLine}
+use Rattle.my_script.specs.declared.words.WordFault.{WordFault}
 use Rattle.my_run.specs.declared.tool.Report.{Report}
 use Rattle.my_run.specs.declared.tool.Status.{Status}
-use Rattle.my_run.specs.declared.tool.Status.TheVariants.{Done, NoCommand, BadLine, SourceFailed, SinkFailed, BadWord, TooLong, NoMemory}
+use Rattle.my_run.specs.declared.tool.Status.TheVariants.{Done, NoCommand, Unread, SourceFailed, SinkFailed, Refused, TooLong, NoMemory}
 use Rattle.my_run.specs.Input.{IsRead, IsTooLong, IsBroken}
 use Rattle.my_run.specs.Output.{WroteAll, WrotePart}
 use Rattle.my_run.specs.Headline.{Headline}
 use Rattle.my_run.specs.Keeps.{Plans}
 use Rattle.my_run.specs.Login.{login_of}
-use Rattle.my_run.specs.Script.{Script, Good, Bad, script_of}
-use Rattle.my_run.specs.Text.{text_of}
-use Rattle.my_run.specs.Words.{script_word_of, word_opts}
+use Rattle.my_script.specs.Script.{Script, Good, Bad, script_of}
+use Rattle.my_script.specs.Text.{text_of}
+use Rattle.my_script.specs.Words.{script_word_of, word_opts}
 
 -- what is known of the source: the bytes that it has left, if it tells, and how often it failed
 pub record SourceSeen : Type 0 where
@@ -40,15 +40,6 @@ pub record IsEmpty (t : Transcript) : Type 0 where
 pub record IsBlank (w v : SinkSeen) (t : Transcript) : Type 0 where
   pub written : v ≡ w
   pub empty : IsEmpty t
-
--- the transcript tells the number of a line alone
-pub record IsUnread (line : ℕ) (t : Transcript) : Type 0 where
-  pub answer : StepAnswer
-  pub answers : t.answers.items ≡ answer ∷ []
-  pub number : answer.number ≡ line
-  pub outcome : answer.outcome ≡ Unread
-  pub uses : answer.uses.items ≡ []
-  pub tapes : t.tapes.items ≡ []
 
 -- what is known of the world before the run: whether it takes a plan, and what it told of its links
 pub record WorldSeen : Type 0 where
@@ -75,13 +66,9 @@ pub record IsCut (login : Login) (plans : Plans) (steps : List Step) (w v : Sink
 
 abbrev pub ScriptEnds : Login → Plans → List Step → SinkSeen → SinkSeen → Transcript → Status → Type 0
 ScriptEnds login plans steps w v t Done = IsDone login plans steps w v t
-ScriptEnds login plans steps w v t NoCommand = ⊥
-ScriptEnds login plans steps w v t BadLine = ⊥
-ScriptEnds login plans steps w v t SourceFailed = ⊥
 ScriptEnds login plans steps w v t SinkFailed = IsCut login plans steps w v t
-ScriptEnds login plans steps w v t BadWord = ⊥
-ScriptEnds login plans steps w v t TooLong = ⊥
 ScriptEnds login plans steps w v t NoMemory = IsBlank w v t
+ScriptEnds login plans steps w v t _ = ⊥
 
 -- the script was read
 pub record IsGood (login : Login) (world : WorldSeen) (script : Script) (w v : SinkSeen) (t : Transcript) (status : Status) : Type 0 where
@@ -90,22 +77,17 @@ pub record IsGood (login : Login) (world : WorldSeen) (script : Script) (w v : S
   pub good : script ≡ Good lines steps
   pub ends : ScriptEnds login (plans_with world lines) steps w v t status
 
--- a line doesn't read, and none before it; nothing was written
-pub record IsBadLine (script : Script) (w v : SinkSeen) (t : Transcript) : Type 0 where
-  pub line : ℕ
-  pub bad : script ≡ Bad line
-  pub told : IsUnread line t
-  pub written : v ≡ w
+-- this line doesn't read, and none before it; nothing was written
+pub record IsBadLine (script : Script) (w v : SinkSeen) (t : Transcript) (line : BadLine) : Type 0 where
+  pub bad : script ≡ Bad line.number line.text
+  pub blank : IsBlank w v t
 
 abbrev pub TextEnds : Login → WorldSeen → Script → SinkSeen → SinkSeen → Transcript → Status → Type 0
 TextEnds login world script w v t Done = IsGood login world script w v t Done
-TextEnds login world script w v t NoCommand = ⊥
-TextEnds login world script w v t BadLine = IsBadLine script w v t
-TextEnds login world script w v t SourceFailed = ⊥
+TextEnds login world script w v t (Unread line) = IsBadLine script w v t line
 TextEnds login world script w v t SinkFailed = IsGood login world script w v t SinkFailed
-TextEnds login world script w v t BadWord = ⊥
-TextEnds login world script w v t TooLong = ⊥
 TextEnds login world script w v t NoMemory = IsBlank w v t
+TextEnds login world script w v t _ = ⊥
 
 -- all bytes of the source were read, and are no more than they may be
 pub record IsWhole (login : Login) (world : WorldSeen) (s r : SourceSeen) (w v : SinkSeen) (t : Transcript) (status : Status) : Type 0 where
@@ -116,29 +98,34 @@ pub record IsWhole (login : Login) (world : WorldSeen) (s r : SourceSeen) (w v :
 
 abbrev pub InputEnds : Login → WorldSeen → SourceSeen → SourceSeen → SinkSeen → SinkSeen → Transcript → Status → Type 0
 InputEnds login world s r w v t Done = IsWhole login world s r w v t Done
-InputEnds login world s r w v t NoCommand = ⊥
-InputEnds login world s r w v t BadLine = IsWhole login world s r w v t BadLine
+InputEnds login world s r w v t (Unread line) = IsWhole login world s r w v t (Unread line)
 InputEnds login world s r w v t SourceFailed = IsBroken 67108864 s.left r.left s.faults r.faults × IsBlank w v t
 InputEnds login world s r w v t SinkFailed = IsWhole login world s r w v t SinkFailed
-InputEnds login world s r w v t BadWord = ⊥
 InputEnds login world s r w v t TooLong = IsTooLong 67108864 s.left r.left × (r.faults ≡ s.faults) × IsBlank w v t
 InputEnds login world s r w v t NoMemory = IsBlank w v t
+InputEnds login world s r w v t _ = ⊥
 
 -- the second word stands for options
 pub record IsWord (word : List ℕ) (world : WorldSeen) (s r : SourceSeen) (w v : SinkSeen) (t : Transcript) (status : Status) : Type 0 where
   pub opts : OptsView
-  pub read : word_opts word ≡ Some opts
+  pub read : word_opts word ≡ Ok opts
   pub ends : InputEnds (login_of opts) world s r w v t status
+
+-- the second word is refused for this cause, and nothing was read or written
+pub record IsRefusedWord (word : List ℕ) (s r : SourceSeen) (w v : SinkSeen) (t : Transcript) (fault : WordFault) : Type 0 where
+  pub refused : word_opts word ≡ Err fault
+  pub unread : r ≡ s
+  pub blank : IsBlank w v t
 
 abbrev pub WordEnds : List ℕ → WorldSeen → SourceSeen → SourceSeen → SinkSeen → SinkSeen → Transcript → Status → Type 0
 WordEnds word world s r w v t Done = IsWord word world s r w v t Done
-WordEnds word world s r w v t NoCommand = ⊥
-WordEnds word world s r w v t BadLine = IsWord word world s r w v t BadLine
+WordEnds word world s r w v t (Unread line) = IsWord word world s r w v t (Unread line)
 WordEnds word world s r w v t SourceFailed = IsWord word world s r w v t SourceFailed
 WordEnds word world s r w v t SinkFailed = IsWord word world s r w v t SinkFailed
-WordEnds word world s r w v t BadWord = (word_opts word ≡ None) × (r ≡ s) × IsBlank w v t
+WordEnds word world s r w v t (Refused fault) = IsRefusedWord word s r w v t fault
 WordEnds word world s r w v t TooLong = IsWord word world s r w v t TooLong
 WordEnds word world s r w v t NoMemory = IsBlank w v t
+WordEnds word world s r w v t NoCommand = ⊥
 
 -- the words are a command
 pub record IsCommand (words : List (List ℕ)) (world : WorldSeen) (s r : SourceSeen) (w v : SinkSeen) (t : Transcript) (status : Status) : Type 0 where
@@ -149,10 +136,10 @@ pub record IsCommand (words : List (List ℕ)) (world : WorldSeen) (s r : Source
 abbrev pub ToolEnds : List (List ℕ) → WorldSeen → SourceSeen → SourceSeen → SinkSeen → SinkSeen → Transcript → Status → Type 0
 ToolEnds words world s r w v t Done = IsCommand words world s r w v t Done
 ToolEnds words world s r w v t NoCommand = (script_word_of words ≡ None) × (r ≡ s) × IsBlank w v t
-ToolEnds words world s r w v t BadLine = IsCommand words world s r w v t BadLine
+ToolEnds words world s r w v t (Unread line) = IsCommand words world s r w v t (Unread line)
 ToolEnds words world s r w v t SourceFailed = IsCommand words world s r w v t SourceFailed
 ToolEnds words world s r w v t SinkFailed = IsCommand words world s r w v t SinkFailed
-ToolEnds words world s r w v t BadWord = IsCommand words world s r w v t BadWord
+ToolEnds words world s r w v t (Refused fault) = IsCommand words world s r w v t (Refused fault)
 ToolEnds words world s r w v t TooLong = IsCommand words world s r w v t TooLong
 ToolEnds words world s r w v t NoMemory = IsBlank w v t
 
@@ -160,16 +147,14 @@ ToolEnds words world s r w v t NoMemory = IsBlank w v t
 abbrev pub code_of : Status → ℕ
 code_of Done = 0
 code_of NoCommand = 2
-code_of BadLine = 3
+code_of (Unread line) = 3
 code_of SourceFailed = 4
 code_of SinkFailed = 5
-code_of BadWord = 6
+code_of (Refused fault) = 6
 code_of TooLong = 7
 code_of NoMemory = 12
 
 -- The report tells how the run ended. Each status comes exactly where its case says, in this order: the words, the second word, the
--- source, its bytes' number, its lines, the sink; want of memory may come at any place.
-pub record IsReport (words : List (List ℕ)) (world : WorldSeen) (s r : SourceSeen) (w v : SinkSeen) (report : Report) : Type 0 where
-  pub ended : Status
-  pub status : report.status ≡ code_of ended
-  pub ends : ToolEnds words world s r w v report.transcript ended
+-- source, its bytes' number, its lines, the sink; out of memory may come at any place.
+abbrev pub IsReport : List (List ℕ) → WorldSeen → SourceSeen → SourceSeen → SinkSeen → SinkSeen → Report → Type 0
+IsReport words world s r w v report = ToolEnds words world s r w v report.transcript report.status

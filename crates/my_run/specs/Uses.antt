@@ -1,7 +1,7 @@
 -- What a use says of counts.
 use Rattle.std.specs.Prelude.{◌≡◌, ℕ, ◌<◌}
 use Rattle.my_frame.specs.Outside.{Rose}
-use Rattle.my_run.specs.declared.transcript.Use.{Use}
+use Rattle.my_script.specs.declared.transcript.Use.{Use}
 use Rattle.my_world.specs.Outside.{Counts}
 
 -- a count rose exactly where it was used

@@ -10,9 +10,9 @@ ghost use Rattle.my_run.specs.declared.slot.Slot.TheVariants.{There as ThereAt};
 use crate::call::{Did, refused};
 use crate::copy::copy_ok;
 use crate::slot::{Conn, Slot};
-use crate::transcript::Outcome;
 use my_frame::NoMemory;
 use my_reply::OkPacket;
+use my_script::Outcome;
 use my_world::link::Link;
 use std::alloc::Global;
 

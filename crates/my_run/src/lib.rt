@@ -12,15 +12,11 @@ pub mod input;
 pub mod login;
 pub mod output;
 pub mod poll;
-pub mod reading;
 pub mod resume;
 pub mod run;
 pub mod slot;
-pub mod step;
 pub mod tape;
-pub mod text;
 pub mod tool;
-pub mod transcript;
-pub mod words;
 
-pub use step::Step;
+pub use output::write_all;
+pub use tool::{Report, Status, run_tool};

@@ -11,8 +11,8 @@ ghost use Rattle.my_session.specs.declared.call.Task.TheVariants.{Nothing};
 ghost use Rattle.my_run.specs.Poll.{TurnIs, took_by, is_full, quiet, Polls, SpendsOn, round_of};
 
 use crate::slot::Conn;
-use crate::transcript::Use;
 use my_frame::NoMemory;
+use my_script::Use;
 use my_session::{Answer, Error, LinkFault, SessionStep};
 use my_world::link::{Link, ReadStep, WriteStep};
 use std::alloc::Global;

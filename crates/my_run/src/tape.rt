@@ -4,8 +4,8 @@ ghost use Rattle.std.specs.Prelude.{◌≡◌, ◌++◌, map, IfOk};
 ghost use Rattle.my_run.specs.Slot.{asked_in};
 ghost use Rattle.my_run.specs.Tapes.{answer_in as answer_of, tape_call as call_of, open_call as open_of};
 
-use crate::transcript::TapeCall;
 use my_frame::NoMemory;
+use my_script::TapeCall;
 use my_session::{Answer, Call, Error};
 use my_value::Row;
 use std::alloc::Global;

@@ -1,109 +1,80 @@
 //! The top call.
-ghost use Rattle.std.specs.Prelude.{◌≡◌, [], ℕ, OnOk, IfOk, true, map, string_bytes};
+ghost use Rattle.std.specs.Prelude.{◌≡◌, ℕ, OnOk, IfOk, true, map, string_bytes};
 ghost use Rattle.my_world.specs.Plan.{planned_lines, written_lines};
 ghost use Rattle.my_run.specs.Headline.{Headline};
 ghost use Rattle.my_run.specs.Login.{login_of};
-ghost use Rattle.my_run.specs.Script.{script_of};
-ghost use Rattle.my_run.specs.Text.{text_of};
-ghost use Rattle.my_run.specs.Tool.{IsEmpty, IsUnread, plans_with, ScriptEnds, TextEnds, InputEnds, WordEnds, ToolEnds, IsReport, code_of};
+ghost use Rattle.my_script.specs.Script.{script_of};
+ghost use Rattle.my_script.specs.Text.{text_of};
+ghost use Rattle.my_run.specs.Tool.{IsEmpty, plans_with, ScriptEnds, TextEnds, InputEnds, WordEnds, IsReport, code_of};
 
 use crate::input::{Came, MOST_INPUT, read_all};
 use crate::output::write_all;
-use crate::reading::{Read, Script, read_script};
 use crate::run::run_steps;
-use crate::text::transcript::text_of;
-use crate::transcript::{Outcome, StepAnswer, Transcript};
-use crate::words::{read_word, script_word};
 use my_frame::{NoMemory, Sink, Source};
 use my_opts::Opts;
+use my_script::{
+    BadLine, Read, Script, Transcript, WordFault, read_script, read_word, script_word, text_of,
+};
 use my_world::WorldLine;
 use my_world::world::World;
 use std::alloc::Global;
 
-/// How a run ended.
-#[derive(Clone, Copy, Debug, PartialEq, Eq)]
+/// How a run ended, with its cause.
+#[derive(Debug, Drop, PartialEq, Eq)]
 pub enum Status {
     /// All steps were run, and their text was written.
     Done,
     /// The words are no command.
     NoCommand,
-    /// A line of the script doesn't read.
-    BadLine,
+    /// This line of the script doesn't read, and none before it.
+    Unread(BadLine),
     /// The source failed.
     SourceFailed,
     /// The sink failed.
     SinkFailed,
     /// The second word is refused.
-    BadWord,
+    Refused(WordFault),
     /// The source gave more than it may.
     TooLong,
     NoMemory,
 }
 
-/// A run's status, and what it came to.
-#[derive(Drop)]
-pub struct Report {
-    pub status: u8,
-    pub transcript: Transcript,
-}
-
-// How a run ended, and what it came to.
-#[derive(Drop)]
-struct Ended {
-    status: Status,
-    transcript: Transcript,
-}
-
-fn code(status: Status) -> u8
-    ensures { result ≡ code_of status }
-{
-    match status {
-        Status::Done => 0,
-        Status::NoCommand => 2,
-        Status::BadLine => 3,
-        Status::SourceFailed => 4,
-        Status::SinkFailed => 5,
-        Status::BadWord => 6,
-        Status::TooLong => 7,
-        Status::NoMemory => 12,
+impl Status {
+    /// The number with which the program ends.
+    pub fn code(&self) -> u8
+        ensures { result ≡ code_of self.now }
+    {
+        match self {
+            Status::Done => 0,
+            Status::NoCommand => 2,
+            Status::Unread(_) => 3,
+            Status::SourceFailed => 4,
+            Status::SinkFailed => 5,
+            Status::Refused(_) => 6,
+            Status::TooLong => 7,
+            Status::NoMemory => 12,
+        }
     }
 }
 
-fn blank(alloc: Global, status: Status) -> Ended
+/// How a run ended, and what it came to.
+#[derive(Drop)]
+pub struct Report {
+    pub status: Status,
+    pub transcript: Transcript,
+}
+
+fn blank(alloc: Global, status: Status) -> Report
     ensures status { result.status ≡ status }
     ensures empty { IsEmpty result.transcript }
 {
-    Ended {
+    Report {
         status,
         transcript: Transcript {
             answers: Vec::new(alloc),
             tapes: Vec::new(alloc),
         },
     }
-}
-
-fn unread_answer(alloc: Global, number: u64) -> StepAnswer
-    ensures number { result.number ≡ number }
-    ensures outcome { result.outcome ≡ Outcome.Unread }
-    ensures uses { result.uses.items ≡ [] }
-{
-    StepAnswer {
-        number,
-        outcome: Outcome::Unread,
-        uses: Vec::new(alloc),
-    }
-}
-
-// The transcript that tells which line doesn't read.
-fn unread(alloc: Global, number: u64) -> Result<Transcript, NoMemory>
-    ensures { IfOk result (IsUnread number) }
-{
-    let mut answers = Vec::new(alloc);
-    answers.push(unread_answer(alloc, number))?;
-    Ok(Transcript {
-        answers,
-        tapes: Vec::new(alloc),
-    })
 }
 
 fn prepare_each<N: World>(world: &mut N, plan: &[WorldLine]) -> Result<(), NoMemory>
@@ -149,19 +120,19 @@ fn run_good<W: Sink, N: World>(
     script: &Script,
     out: &mut W,
     world: &mut N,
-) -> Ended
+) -> Report
     ensures { ScriptEnds (login_of opts.now) (plans_with (record { takes = N.takes_plan world.old; reads = N.plan world.old; writes = N.write_plan world.old }) script.now.plan.items) script.now.steps.items (record { took = W.took out.old; faults = W.faults out.old }) (record { took = W.took out.new; faults = W.faults out.new }) result.transcript result.status }
 {
     match run_script(alloc, opts, script, world) {
         Err(_) => blank(alloc, Status::NoMemory),
         Ok((transcript, text)) => {
             if write_all(out, &text) {
-                Ended {
+                Report {
                     status: Status::Done,
                     transcript,
                 }
             } else {
-                Ended {
+                Report {
                     status: Status::SinkFailed,
                     transcript,
                 }
@@ -176,18 +147,12 @@ fn run_text<W: Sink, N: World>(
     bytes: &[u8],
     out: &mut W,
     world: &mut N,
-) -> Ended
+) -> Report
     ensures { TextEnds (login_of opts.now) (record { takes = N.takes_plan world.old; reads = N.plan world.old; writes = N.write_plan world.old }) (script_of (N.takes_plan world.old) bytes.now) (record { took = W.took out.old; faults = W.faults out.old }) (record { took = W.took out.new; faults = W.faults out.new }) result.transcript result.status }
 {
     match read_script(alloc, world.plans(), bytes) {
         Err(_) => blank(alloc, Status::NoMemory),
-        Ok(Read::Bad(number)) => match unread(alloc, number) {
-            Err(_) => blank(alloc, Status::NoMemory),
-            Ok(transcript) => Ended {
-                status: Status::BadLine,
-                transcript,
-            },
-        },
+        Ok(Read::Bad(line)) => blank(alloc, Status::Unread(line)),
         Ok(Read::Good(script)) => run_good(alloc, opts, &script, out, world),
     }
 }
@@ -198,7 +163,7 @@ fn run_input<S: Source, W: Sink, N: World>(
     src: &mut S,
     out: &mut W,
     world: &mut N,
-) -> Ended
+) -> Report
     ensures { InputEnds (login_of opts.now) (record { takes = N.takes_plan world.old; reads = N.plan world.old; writes = N.write_plan world.old }) (record { left = S.left src.old; faults = S.faults src.old }) (record { left = S.left src.new; faults = S.faults src.new }) (record { took = W.took out.old; faults = W.faults out.old }) (record { took = W.took out.new; faults = W.faults out.new }) result.transcript result.status }
 {
     match read_all(alloc, src) {
@@ -215,35 +180,20 @@ fn run_word<S: Source, W: Sink, N: World>(
     src: &mut S,
     out: &mut W,
     world: &mut N,
-) -> Ended
+) -> Report
     ensures { WordEnds word.now (record { takes = N.takes_plan world.old; reads = N.plan world.old; writes = N.write_plan world.old }) (record { left = S.left src.old; faults = S.faults src.old }) (record { left = S.left src.new; faults = S.faults src.new }) (record { took = W.took out.old; faults = W.faults out.old }) (record { took = W.took out.new; faults = W.faults out.new }) result.transcript result.status }
 {
     match read_word(alloc, word) {
         Err(_) => blank(alloc, Status::NoMemory),
-        Ok(None) => blank(alloc, Status::BadWord),
-        Ok(Some(opts)) => run_input(alloc, &opts, src, out, world),
-    }
-}
-
-fn run_words<S: Source, W: Sink, N: World>(
-    alloc: Global,
-    words: &[String],
-    src: &mut S,
-    out: &mut W,
-    world: &mut N,
-) -> Ended
-    ensures { ToolEnds (map string_bytes words.now) (record { takes = N.takes_plan world.old; reads = N.plan world.old; writes = N.write_plan world.old }) (record { left = S.left src.old; faults = S.faults src.old }) (record { left = S.left src.new; faults = S.faults src.new }) (record { took = W.took out.old; faults = W.faults out.old }) (record { took = W.took out.new; faults = W.faults out.new }) result.transcript result.status }
-{
-    match script_word(words) {
-        None => blank(alloc, Status::NoCommand),
-        Some(word) => run_word(alloc, word, src, out, world),
+        Ok(Err(fault)) => blank(alloc, Status::Refused(fault)),
+        Ok(Ok(opts)) => run_input(alloc, &opts, src, out, world),
     }
 }
 
 /// Runs a command: reads the words and the source, runs the steps over the world, and writes their text to the sink.
 ///
 /// The status is 2 where the words are no command, 6 where the second word is refused, 4 where the source failed, 7 where it gave
-/// more than 67,108,864 bytes, 3 where a line doesn't read, 5 where the sink failed, 0 where the run is done, and 12 for want of memory.
+/// more than 67,108,864 bytes, 3 where a line doesn't read, 5 where the sink failed, 0 where the run is done, and 12 where it is out of memory.
 pub fn run_tool<S: Source, W: Sink, N: World>(
     alloc: Global,
     words: &[String],
@@ -253,9 +203,8 @@ pub fn run_tool<S: Source, W: Sink, N: World>(
 ) -> Report
     ensures { IsReport (map string_bytes words.now) (record { takes = N.takes_plan world.old; reads = N.plan world.old; writes = N.write_plan world.old }) (record { left = S.left src.old; faults = S.faults src.old }) (record { left = S.left src.new; faults = S.faults src.new }) (record { took = W.took out.old; faults = W.faults out.old }) (record { took = W.took out.new; faults = W.faults out.new }) result }
 {
-    let ended = run_words(alloc, words, src, out, world);
-    Report {
-        status: code(ended.status),
-        transcript: ended.transcript,
+    match script_word(words) {
+        None => blank(alloc, Status::NoCommand),
+        Some(word) => run_word(alloc, word, src, out, world),
     }
 }

@@ -3,8 +3,8 @@ use Rattle.my_run.specs.Keeps.{Plans}
 use Rattle.my_run.specs.Ready.{AllJoined}
 use Rattle.std.proofs.Common.{◌≡◌, ◌≤◌, ◌+◌, ◌++◌, ◌∷◌, [], List, length, get_or, take, rules, arith, ap, refl, sym, ◌∙◌, subst}
 use Rattle.std.proofs.lemmas.List.{take_all, take_more}
-use Rattle.my_run.specs.declared.step.Step.{Step}
-use Rattle.my_run.specs.declared.transcript.StepAnswer.{StepAnswer}
+use Rattle.my_script.specs.declared.step.Step.{Step}
+use Rattle.my_script.specs.declared.transcript.StepAnswer.{StepAnswer}
 use Rattle.my_run.specs.Headline.{SoFar}
 use Rattle.my_run.specs.Login.{login_of}
 use Rattle.my_run.proofs.Runs.{none_yet, step_on, count_up}

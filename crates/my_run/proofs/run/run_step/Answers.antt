@@ -1,5 +1,5 @@
 use Rattle.std.proofs.Common.{◌≡◌, ◌≤◌, List, ℕ, length, arith, sym, ap, ◌∙◌}
-use Rattle.my_run.specs.declared.step.Step.TheVariants as steps
+use Rattle.my_script.specs.declared.step.Step.TheVariants as steps
 use Rattle.my_run.specs.Login.{login_of}
 use Rattle.std.proofs.lemmas.Result.{IfOk-weaker}
 use Rattle.my_run.proofs.Runs.{stepped_as, fields_here}

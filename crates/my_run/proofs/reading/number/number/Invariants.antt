@@ -1,6 +1,0 @@
-use Rattle.std.proofs.Common.{◌≡◌, drop}
-use Rattle.my_run.specs.Number.{number_on}
-use Rattle.my_run.proofs.reading.number.number.Given as goal
-
-abbrev pub invariant-loop-byte : goal.invariant-loop-byte
-invariant-loop-byte l = number_on l.n (drop l.byte-index l.word) ≡ number_on 0 l.word

@@ -1,9 +1,0 @@
-//! Reads scripts and the words of a command.
-
-pub mod cut;
-pub mod keyword;
-pub mod line;
-pub mod number;
-pub mod script;
-
-pub use script::{Read, Script, read_script};

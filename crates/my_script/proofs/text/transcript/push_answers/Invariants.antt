@@ -1,0 +1,6 @@
+use Rattle.std.proofs.Common.{◌≡◌, ◌++◌, drop}
+use Rattle.my_script.specs.Text.{answers_text}
+use Rattle.my_script.proofs.text.transcript.push_answers.Given as goal
+
+abbrev pub invariant-loop-answer : goal.invariant-loop-answer
+invariant-loop-answer l = l.out.items ++ answers_text (drop l.answer-index l.answers) ≡ l.fn.out.items ++ answers_text l.answers

@@ -1,0 +1,56 @@
+-- Errors as text.
+use Rattle.std.specs.Prelude.{ℕ, List, ◌∷◌, ◌++◌, codes}
+use Rattle.std.specs.Fmt.{decimal}
+use Rattle.my_frame.specs.declared.fault.CodecFault.{CodecFault}
+use Rattle.my_frame.specs.declared.fault.CodecFault.TheVariants.{OutOfOrder, TooLarge}
+use Rattle.my_session.specs.declared.error.DriverError.{DriverError}
+use Rattle.my_session.specs.declared.error.DriverError.TheVariants as drivers
+use Rattle.my_session.specs.declared.error.IoKind.{IoKind}
+use Rattle.my_session.specs.declared.error.IoKind.TheVariants as kinds
+use Rattle.my_session.specs.declared.error.IoError.{IoError}
+use Rattle.my_session.specs.declared.error.IoError.TheVariants as ios
+use Rattle.my_session.specs.declared.error.ServerError.{ServerError}
+use Rattle.my_session.specs.declared.error.Error.{Error}
+use Rattle.my_session.specs.declared.error.Error.TheVariants as errors
+use Rattle.my_script.specs.TextParts.{marked, bytes_text}
+
+abbrev pub driver_text : DriverError → List ℕ
+driver_text drivers.ConnectionClosed = codes "Driver ConnectionClosed"
+driver_text drivers.TooLong = codes "Driver TooLong"
+driver_text drivers.CantParseServerVersion = codes "Driver CantParseServerVersion"
+driver_text drivers.PacketOutOfOrder = codes "Driver PacketOutOfOrder"
+driver_text drivers.PacketTooLarge = codes "Driver PacketTooLarge"
+driver_text drivers.BadCompressedPacketHeader = codes "Driver BadCompressedPacketHeader"
+driver_text drivers.NoKeyFound = codes "Driver NoKeyFound"
+driver_text drivers.NamedPipesDisabled = codes "Driver NamedPipesDisabled"
+driver_text drivers.InvalidParsecSalt = codes "Driver InvalidParsecSalt"
+driver_text drivers.NoClientSslFlagFromServer = codes "Driver NoClientSslFlagFromServer"
+
+-- a fault of the way; where the place matters, the number of payloads that were read before
+abbrev pub fault_text : IoKind → ℕ → List ℕ
+fault_text kinds.Link place = codes "Io Link"
+fault_text kinds.Dial place = codes "Io Dial"
+fault_text kinds.UnexpectedEof place = codes "Io UnexpectedEof" ++ marked 32 place
+fault_text kinds.InvalidData place = codes "Io InvalidData" ++ marked 32 place
+
+abbrev pub two_text : List ℕ → ℕ → ℕ → List ℕ
+two_text word first second = word ++ marked 32 first ++ marked 32 second
+
+-- the expected number and the one that came; the length and the limit
+abbrev pub codec_text : CodecFault → List ℕ
+codec_text (OutOfOrder expected found) = two_text (codes "Io Codec OutOfOrder") expected found
+codec_text (TooLarge len limit) = two_text (codes "Io Codec TooLarge") len limit
+
+abbrev pub io_text : IoError → List ℕ
+io_text (ios.Io fault) = fault_text fault.kind fault.place
+io_text (ios.Codec fault) = codec_text fault
+
+-- the code, the state and the message of a server's error
+unfoldable pub server_text : ServerError → List ℕ
+server_text e = codes "Server " ++ decimal e.code ++ (32 ∷ e.state) ++ (32 ∷ bytes_text e.message)
+
+abbrev pub error_text : Error → List ℕ
+error_text (errors.Driver e) = driver_text e
+error_text (errors.Io e) = io_text e
+error_text (errors.Server e) = server_text e
+error_text errors.NoMemory = codes "NoMemory"

@@ -1,0 +1,35 @@
+-- Which word a line begins with.
+use Rattle.std.specs.Prelude.{ℕ, List, codes, if◌then◌else◌}
+use Rattle.std.specs.Str.{bytes_eq}
+use Rattle.my_script.specs.declared.reading.keyword.Keyword.{Keyword}
+use Rattle.my_script.specs.declared.reading.keyword.Keyword.TheVariants.{Packet, Drip, Bytes, Turn, Wait, Fail, End, Accept, WriteWait, WriteFail, Conn, Query, Next, Collect, Drop, Ping, Quit, Fields, Poll, Cancel, Unknown}
+
+-- the words of steps
+abbrev pub step_keyword_of : List ℕ → Keyword
+step_keyword_of word =
+    if bytes_eq word (codes "conn") then Conn
+    else if bytes_eq word (codes "query") then Query
+    else if bytes_eq word (codes "next") then Next
+    else if bytes_eq word (codes "collect") then Collect
+    else if bytes_eq word (codes "drop") then Drop
+    else if bytes_eq word (codes "ping") then Ping
+    else if bytes_eq word (codes "quit") then Quit
+    else if bytes_eq word (codes "fields") then Fields
+    else if bytes_eq word (codes "poll") then Poll
+    else if bytes_eq word (codes "cancel") then Cancel
+    else Unknown
+
+-- the words of a world's lines, and those of steps
+abbrev pub keyword_of : List ℕ → Keyword
+keyword_of word =
+    if bytes_eq word (codes "packet") then Packet
+    else if bytes_eq word (codes "drip") then Drip
+    else if bytes_eq word (codes "bytes") then Bytes
+    else if bytes_eq word (codes "turn") then Turn
+    else if bytes_eq word (codes "wait") then Wait
+    else if bytes_eq word (codes "fail") then Fail
+    else if bytes_eq word (codes "end") then End
+    else if bytes_eq word (codes "accept") then Accept
+    else if bytes_eq word (codes "wwait") then WriteWait
+    else if bytes_eq word (codes "wfail") then WriteFail
+    else step_keyword_of word

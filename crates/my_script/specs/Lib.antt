@@ -1,0 +1,11 @@
+pub mod Cut
+pub mod Number
+pub mod Keyword
+pub mod Line
+pub mod Script
+pub mod Words
+pub mod TextParts
+pub mod ValueText
+pub mod ErrorText
+pub mod OkText
+pub mod Text

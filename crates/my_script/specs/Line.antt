@@ -1,0 +1,175 @@
+-- What a line of a script says: its first word, then its arguments, one space apart.
+use Rattle.std.specs.Prelude.{ℕ, ◌==◌, nat_le, List, [], ◌∷◌, length, Option, Some, None, if◌then◌else◌}
+use Rattle.my_frame.specs.Numbers.{◌>>=◌}
+use Rattle.my_script.specs.declared.step.Step.TheVariants as steps
+use Rattle.my_world.specs.declared.line.WorldLine.TheVariants as lines
+use Rattle.my_script.specs.declared.reading.line.Item.{Item}
+use Rattle.my_script.specs.declared.reading.line.Item.TheVariants.{Nothing, Plans, Steps, Wrong}
+use Rattle.my_script.specs.declared.reading.keyword.Keyword.{Keyword}
+use Rattle.my_script.specs.declared.reading.keyword.Keyword.TheVariants.{Packet, Drip, Bytes, Turn, Wait, Fail, End, Accept, WriteWait, WriteFail, Conn, Query, Next, Collect, Drop, Ping, Quit, Fields, Poll, Cancel, Unknown}
+use Rattle.my_script.specs.declared.reading.line.PacketParts.{PacketParts}
+use Rattle.my_script.specs.declared.reading.line.LinkParts.{LinkParts}
+use Rattle.my_script.specs.declared.reading.line.AcceptParts.{AcceptParts}
+use Rattle.my_script.specs.declared.reading.line.QueryParts.{QueryParts}
+use Rattle.my_script.specs.Cut.{first_of, rest_of}
+use Rattle.my_script.specs.Keyword.{keyword_of}
+use Rattle.my_script.specs.Number.{number_of, number_at_most, bytes_of}
+
+-- a link's number, a packet's number and the digits of its payload
+pub record PacketWords : Type 0 where
+  pub link : ℕ
+  pub number : ℕ
+  pub digits : List ℕ
+
+unfoldable pub packet_parts : List ℕ → Option PacketWords
+packet_parts rest = do
+  link ← number_at_most 65535 (first_of 32 rest)
+  more ← rest_of 32 rest
+  number ← number_at_most 255 (first_of 32 more)
+  digits ← rest_of 32 more
+  Some (record { link = link; number = number; digits = digits })
+
+abbrev pub packet_view : PacketParts → PacketWords
+packet_view p = record { link = p.link; number = p.number; digits = p.digits.now }
+
+-- a link's number and digits
+pub record LinkWords : Type 0 where
+  pub link : ℕ
+  pub digits : List ℕ
+
+unfoldable pub link_parts : List ℕ → Option LinkWords
+link_parts rest = do
+  link ← number_at_most 65535 (first_of 32 rest)
+  digits ← rest_of 32 rest
+  Some (record { link = link; digits = digits })
+
+abbrev pub link_view : LinkParts → LinkWords
+link_view p = record { link = p.link; digits = p.digits.now }
+
+-- a link's number and how many bytes
+pub record AcceptWords : Type 0 where
+  pub link : ℕ
+  pub count : ℕ
+
+unfoldable pub accept_parts : List ℕ → Option AcceptWords
+accept_parts rest = do
+  link ← number_at_most 65535 (first_of 32 rest)
+  more ← rest_of 32 rest
+  count ← number_of more
+  Some (record { link = link; count = count })
+
+abbrev pub accept_view : AcceptParts → AcceptWords
+accept_view p = record { link = p.link; count = p.count }
+
+-- a connection's number and a text
+pub record QueryWords : Type 0 where
+  pub connection : ℕ
+  pub text : List ℕ
+
+unfoldable pub query_parts : List ℕ → Option QueryWords
+query_parts rest = do
+  connection ← number_of (first_of 32 rest)
+  text ← rest_of 32 rest
+  Some (record { connection = connection; text = text })
+
+abbrev pub query_view : QueryParts → QueryWords
+query_view p = record { connection = p.connection; text = p.text.now }
+
+-- a packet that comes whole, or byte by byte
+abbrev pub packet_as : Keyword → ℕ → ℕ → List ℕ → Item
+packet_as Packet link number payload = Plans (lines.Packet link number payload)
+packet_as Drip link number payload = Plans (lines.Drip link number payload)
+packet_as _ link number payload = Wrong
+
+-- a packet of one header
+abbrev pub packet_with : Keyword → ℕ → ℕ → Option (List ℕ) → Item
+packet_with keyword link number None = Wrong
+packet_with keyword link number (Some payload) = if nat_le (length payload) 0xFFFFFE then packet_as keyword link number payload else Wrong
+
+-- bytes, of which there is at least one
+abbrev pub bytes_with : ℕ → Option (List ℕ) → Item
+bytes_with link None = Wrong
+bytes_with link (Some []) = Wrong
+bytes_with link (Some (b ∷ bytes)) = Plans (lines.Bytes link (b ∷ bytes))
+
+-- `packet L N HEX`, `drip L N HEX`
+abbrev pub packet_item : Keyword → Option PacketWords → Item
+packet_item keyword None = Wrong
+packet_item keyword (Some p) = packet_with keyword p.link p.number (bytes_of p.digits)
+
+-- `bytes L HEX`
+abbrev pub bytes_item : Option LinkWords → Item
+bytes_item None = Wrong
+bytes_item (Some p) = bytes_with p.link (bytes_of p.digits)
+
+-- `accept L N`
+abbrev pub accept_item : Option AcceptWords → Item
+accept_item None = Wrong
+accept_item (Some p) = Plans (lines.Accept p.link p.count)
+
+-- `query C TEXT`
+abbrev pub query_item : Option QueryWords → Item
+query_item None = Wrong
+query_item (Some p) = Steps (steps.Query p.connection p.text)
+
+-- `turn L`, `wait L`, `fail L`, `end L`, `wwait L`, `wfail L`
+abbrev pub link_item : Keyword → Option ℕ → Item
+link_item keyword None = Wrong
+link_item Turn (Some link) = Plans (lines.Turn link)
+link_item Wait (Some link) = Plans (lines.Wait link)
+link_item Fail (Some link) = Plans (lines.Fail link)
+link_item End (Some link) = Plans (lines.End link)
+link_item WriteWait (Some link) = Plans (lines.WriteWait link)
+link_item WriteFail (Some link) = Plans (lines.WriteFail link)
+link_item _ (Some link) = Wrong
+
+-- `next C`, and the other steps that name a connection alone
+abbrev pub connection_item : Keyword → Option ℕ → Item
+connection_item keyword None = Wrong
+connection_item Next (Some connection) = Steps (steps.Next connection)
+connection_item Collect (Some connection) = Steps (steps.Collect connection)
+connection_item Drop (Some connection) = Steps (steps.Drop connection)
+connection_item Ping (Some connection) = Steps (steps.Ping connection)
+connection_item Quit (Some connection) = Steps (steps.Quit connection)
+connection_item Fields (Some connection) = Steps (steps.Fields connection)
+connection_item Poll (Some connection) = Steps (steps.Poll connection)
+connection_item Cancel (Some connection) = Steps (steps.Cancel connection)
+connection_item _ (Some connection) = Wrong
+
+-- `conn`
+abbrev pub bare_item : Keyword → Item
+bare_item Conn = Steps steps.Conn
+bare_item _ = Wrong
+
+-- a line of this word, with what follows its first blank
+abbrev pub item_with : Keyword → List ℕ → Item
+item_with Packet rest = packet_item Packet (packet_parts rest)
+item_with Drip rest = packet_item Drip (packet_parts rest)
+item_with Bytes rest = bytes_item (link_parts rest)
+item_with Accept rest = accept_item (accept_parts rest)
+item_with Query rest = query_item (query_parts rest)
+item_with Turn rest = link_item Turn (number_at_most 65535 rest)
+item_with Wait rest = link_item Wait (number_at_most 65535 rest)
+item_with Fail rest = link_item Fail (number_at_most 65535 rest)
+item_with End rest = link_item End (number_at_most 65535 rest)
+item_with WriteWait rest = link_item WriteWait (number_at_most 65535 rest)
+item_with WriteFail rest = link_item WriteFail (number_at_most 65535 rest)
+item_with Next rest = connection_item Next (number_of rest)
+item_with Collect rest = connection_item Collect (number_of rest)
+item_with Drop rest = connection_item Drop (number_of rest)
+item_with Ping rest = connection_item Ping (number_of rest)
+item_with Quit rest = connection_item Quit (number_of rest)
+item_with Fields rest = connection_item Fields (number_of rest)
+item_with Poll rest = connection_item Poll (number_of rest)
+item_with Cancel rest = connection_item Cancel (number_of rest)
+item_with Conn rest = Wrong
+item_with Unknown rest = Wrong
+
+abbrev pub said_by : Keyword → Option (List ℕ) → Item
+said_by keyword None = bare_item keyword
+said_by keyword (Some rest) = item_with keyword rest
+
+-- an empty line and one that begins with `#` say nothing
+abbrev pub line_of : List ℕ → Item
+line_of [] = Nothing
+line_of (b ∷ bytes) = if b == 35 then Nothing else said_by (keyword_of (first_of 32 (b ∷ bytes))) (rest_of 32 (b ∷ bytes))

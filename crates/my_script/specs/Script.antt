@@ -1,0 +1,58 @@
+-- What all lines of a script say: the lines of its world, then its steps; or the first line that doesn't read.
+use Rattle.std.specs.Prelude.{ℕ, ◌+◌, ◌==◌, ◌&&◌, nat_lt, not, take, List, [], ◌∷◌, ◌++◌, Option, Some, None, Bool, true, false, if◌then◌else◌}
+use Rattle.std.specs.List.{slice_split}
+use Rattle.my_script.specs.declared.step.Step.{Step}
+use Rattle.my_script.specs.declared.step.Step.TheVariants.{Conn}
+use Rattle.my_world.specs.declared.line.WorldLine.{WorldLine}
+use Rattle.my_script.specs.declared.reading.line.Item.{Item}
+use Rattle.my_script.specs.declared.reading.line.Item.TheVariants.{Nothing, Plans, Steps, Wrong}
+use Rattle.my_script.specs.declared.reading.script.Read.{Read}
+use Rattle.my_script.specs.declared.reading.script.Read.TheVariants as reads
+use Rattle.my_script.specs.declared.reading.script.Sofar.{Sofar}
+use Rattle.my_script.specs.Line.{line_of}
+
+-- the lines' meaning, or the first line that doesn't read: its number, and its first 200 bytes
+pub data Script : Type 0 where
+  Good : (plan : List WorldLine) (steps : List Step) → Script
+  Bad : (n : ℕ) (text : List ℕ) → Script
+
+-- at most 1,000 lines connect
+abbrev pub admitted_step : Sofar → Step → Option Sofar
+admitted_step s Conn = if nat_lt s.conns 1000 then Some (record { stepped = true; conns = s.conns + 1 }) else None
+admitted_step s _ = Some (record { stepped = true; conns = s.conns })
+
+-- the lines up to this one, where it may stand there: a world's line stands before the first step, over a world that plans
+abbrev pub admitted : Bool → Sofar → Item → Option Sofar
+admitted plans s Nothing = Some s
+admitted plans s (Plans l) = if plans && not s.stepped then Some s else None
+admitted plans s (Steps step) = admitted_step s step
+admitted plans s Wrong = None
+
+-- these stand before what follows says
+abbrev pub front : List WorldLine → List Step → Script → Script
+front ps qs (Good ls ss) = Good (ps ++ ls) (qs ++ ss)
+front ps qs (Bad n text) = Bad n text
+
+abbrev pub with_item : Item → Script → Script
+with_item Nothing more = more
+with_item (Plans l) more = front (l ∷ []) [] more
+with_item (Steps s) more = front [] (s ∷ []) more
+with_item Wrong more = more
+
+-- a line with this number and these bytes, by where it may stand
+abbrev pub on_line : Option Sofar → ℕ → List ℕ → Item → (Sofar → Script) → Script
+on_line None n line item more = Bad n (take 200 line)
+on_line (Some s) n line item more = with_item item (more s)
+
+-- the lines from this number on
+abbrev pub script_from : Bool → Sofar → ℕ → List (List ℕ) → Script
+script_from plans s n [] = Good [] []
+script_from plans s n (l ∷ ls) = on_line (admitted plans s (line_of l)) n l (line_of l) (λ after. script_from plans after (n + 1) ls)
+
+-- all bytes as lines, which end with a line feed; a last line without one reads too
+abbrev pub script_of : Bool → List ℕ → Script
+script_of plans bytes = script_from plans (record { stepped = false; conns = 0 }) 1 (slice_split (λ b. b == 10) bytes)
+
+abbrev pub read_as : Read → Script
+read_as (reads.Good s) = Good s.plan.items s.steps.items
+read_as (reads.Bad line) = Bad line.number line.text

@@ -1,0 +1,15 @@
+//! What a script reads and prints: the words of a command, the lines of a script with the world that they
+//! plan, and what its steps came to with the text of it.
+#![tactic(auto)]
+
+mod reading;
+mod step;
+mod text;
+mod transcript;
+mod words;
+
+pub use reading::script::{BadLine, Read, Script, read_script};
+pub use step::Step;
+pub use text::transcript::text_of;
+pub use transcript::{Outcome, StepAnswer, Tape, TapeCall, Transcript, Use};
+pub use words::{WordFault, read_word, script_word};

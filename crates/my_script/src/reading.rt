@@ -1,0 +1,7 @@
+//! Reads scripts and the words of a command.
+
+pub mod cut;
+pub mod keyword;
+pub mod line;
+pub mod number;
+pub mod script;

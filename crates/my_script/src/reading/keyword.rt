@@ -1,0 +1,102 @@
+//! The words that lines begin with.
+ghost use Rattle.std.specs.Prelude.{◌≡◌};
+ghost use Rattle.my_script.specs.Keyword.{step_keyword_of, keyword_of};
+
+/// The word that a line begins with.
+#[derive(Clone, Copy, Debug, PartialEq, Eq)]
+pub enum Keyword {
+    Packet,
+    Drip,
+    Bytes,
+    Turn,
+    Wait,
+    Fail,
+    End,
+    Accept,
+    WriteWait,
+    WriteFail,
+    Conn,
+    Query,
+    Next,
+    Collect,
+    Drop,
+    Ping,
+    Quit,
+    Fields,
+    Poll,
+    Cancel,
+    Unknown,
+}
+
+fn step_keyword(word: &[u8]) -> Keyword
+    ensures { result ≡ step_keyword_of word.now }
+{
+    if word == b"conn".as_slice() {
+        return Keyword::Conn;
+    }
+    if word == b"query".as_slice() {
+        return Keyword::Query;
+    }
+    if word == b"next".as_slice() {
+        return Keyword::Next;
+    }
+    if word == b"collect".as_slice() {
+        return Keyword::Collect;
+    }
+    if word == b"drop".as_slice() {
+        return Keyword::Drop;
+    }
+    if word == b"ping".as_slice() {
+        return Keyword::Ping;
+    }
+    if word == b"quit".as_slice() {
+        return Keyword::Quit;
+    }
+    if word == b"fields".as_slice() {
+        return Keyword::Fields;
+    }
+    if word == b"poll".as_slice() {
+        return Keyword::Poll;
+    }
+    if word == b"cancel".as_slice() {
+        return Keyword::Cancel;
+    }
+    Keyword::Unknown
+}
+
+/// Which keyword this word is.
+pub fn known_keyword(word: &[u8]) -> Keyword
+    ensures { result ≡ keyword_of word.now }
+{
+    if word == b"packet".as_slice() {
+        return Keyword::Packet;
+    }
+    if word == b"drip".as_slice() {
+        return Keyword::Drip;
+    }
+    if word == b"bytes".as_slice() {
+        return Keyword::Bytes;
+    }
+    if word == b"turn".as_slice() {
+        return Keyword::Turn;
+    }
+    if word == b"wait".as_slice() {
+        return Keyword::Wait;
+    }
+    if word == b"fail".as_slice() {
+        return Keyword::Fail;
+    }
+    if word == b"end".as_slice() {
+        return Keyword::End;
+    }
+    if word == b"accept".as_slice() {
+        return Keyword::Accept;
+    }
+    if word == b"wwait".as_slice() {
+        return Keyword::WriteWait;
+    }
+    if word == b"wfail".as_slice() {
+        return Keyword::WriteFail;
+    }
+    step_keyword(word)
+}

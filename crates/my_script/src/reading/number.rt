@@ -1,0 +1,56 @@
+//! Reads numbers and hexadecimal digits.
+ghost use Rattle.std.specs.Prelude.{◌≡◌, IfOk};
+ghost use Rattle.my_script.specs.Number.{number_of, number_at_most, bytes_of};
+
+use hex::FromHexError;
+use my_frame::Blob;
+use std::alloc::{AllocError, Global};
+
+/// A number in decimal digits, below 2^64.
+pub fn number(word: &[u8]) -> Option<u64>
+    ensures { result ≡ number_of word.now }
+{
+    if word.is_empty() {
+        return None;
+    }
+    let mut n = 0u64;
+    for byte in word {
+        if *byte < b'0' || *byte > b'9' {
+            return None;
+        }
+        let more = n as u128 * 10 + (*byte - b'0') as u128;
+        if more >= 1 << 64 {
+            return None;
+        }
+        n = more as u64;
+    }
+    Some(n)
+}
+
+/// A number in decimal digits that is at most this one.
+pub fn number_to(most: u64, word: &[u8]) -> Option<u64>
+    ensures { result ≡ number_at_most most word.now }
+{
+    let n = number(word)?;
+    if n > most {
+        return None;
+    }
+    Some(n)
+}
+
+/// Bytes as pairs of hexadecimal digits, `-` for no bytes.
+pub fn bytes(alloc: Global, word: &[u8]) -> Result<Option<Blob>, AllocError>
+    ensures { IfOk result (λ read. read ≡ bytes_of word.now) }
+{
+    if word == b"-".as_slice() {
+        return Ok(Some(Blob::new(alloc)));
+    }
+    if word.is_empty() {
+        return Ok(None);
+    }
+    match hex::decode(alloc, word) {
+        Ok(bytes) => Ok(Some(Blob::from(bytes))),
+        Err(FromHexError::OutOfMemory) => Err(AllocError),
+        Err(_) => Ok(None),
+    }
+}

@@ -1,0 +1,138 @@
+//! Reads all lines of a script.
+ghost use Rattle.std.specs.Prelude.{◌≡◌, IfOk, OnOk, take};
+ghost use Rattle.my_script.specs.Script.{Script as Scripts, front, with_item, admitted as admits, admitted_step, read_as, script_of};
+
+use super::cut::cut;
+use super::line::{Item, read_line};
+use crate::Step;
+use my_frame::{Blob, NoMemory};
+use my_world::WorldLine;
+use std::alloc::Global;
+
+/// How many `conn` lines read.
+const MOST_CONNS: u64 = 1000;
+
+/// How many bytes are shown of a line that doesn't read.
+const LONGEST_SHOWN: usize = 200;
+
+/// A script: the lines of its world, then its steps.
+#[derive(Drop)]
+pub struct Script {
+    pub plan: Vec<WorldLine>,
+    pub steps: Vec<Step>,
+}
+
+/// A line that doesn't read.
+#[derive(Debug, Drop, PartialEq, Eq)]
+pub struct BadLine {
+    /// Its number, from 1.
+    pub number: u64,
+    /// Its first 200 bytes.
+    pub text: Blob,
+}
+
+/// What reading gives: a script, or the first line that doesn't read.
+#[derive(Drop)]
+pub enum Read {
+    Good(Script),
+    Bad(BadLine),
+}
+
+/// What the lines before a line were.
+#[derive(Clone, Copy)]
+pub struct Sofar {
+    pub stepped: bool,
+    pub conns: u64,
+}
+
+fn admitted_by_step(sofar: Sofar, step: &Step) -> Option<Sofar>
+    ensures { result ≡ admitted_step sofar step.now }
+{
+    match step {
+        Step::Conn => {
+            if sofar.conns >= MOST_CONNS {
+                return None;
+            }
+            Some(Sofar {
+                stepped: true,
+                conns: sofar.conns + 1,
+            })
+        }
+        _ => Some(Sofar {
+            stepped: true,
+            conns: sofar.conns,
+        }),
+    }
+}
+
+fn bad_line(alloc: Global, number: u64, line: &[u8]) -> Result<BadLine, NoMemory>
+    ensures number { IfOk result (λ bad. bad.number ≡ number) }
+    ensures text { IfOk result (λ bad. bad.text ≡ take 200 line.now) }
+{
+    let shown = line.len().min(LONGEST_SHOWN);
+    Ok(BadLine {
+        number,
+        text: Blob::from_slice(alloc, &line[..shown])?,
+    })
+}
+
+// The lines up to this one, where it may stand there.
+fn admitted(plans: bool, sofar: Sofar, item: &Item) -> Option<Sofar>
+    ensures { result ≡ admits plans sofar item.now }
+{
+    match item {
+        Item::Nothing => Some(sofar),
+        Item::Plans(_) => {
+            if !plans || sofar.stepped {
+                return None;
+            }
+            Some(sofar)
+        }
+        Item::Steps(step) => admitted_by_step(sofar, step),
+        Item::Wrong => None,
+    }
+}
+
+fn add(script: &mut Script, item: Item) -> Result<(), NoMemory>
+    ensures { OnOk result ((more : Scripts) → front script.new.plan.items script.new.steps.items more ≡ front script.old.plan.items script.old.steps.items (with_item item more)) }
+{
+    match item {
+        Item::Nothing | Item::Wrong => Ok(()),
+        Item::Plans(line) => {
+            script.plan.push(line)?;
+            Ok(())
+        }
+        Item::Steps(step) => {
+            script.steps.push(step)?;
+            Ok(())
+        }
+    }
+}
+
+/// Reads all lines. World lines stand before the first step, and read only where the world `plans`.
+pub fn read_script(alloc: Global, plans: bool, bytes: &[u8]) -> Result<Read, NoMemory>
+    ensures { IfOk result (λ read. read_as read ≡ script_of plans bytes.now) }
+{
+    let mut script = Script {
+        plan: Vec::new(alloc),
+        steps: Vec::new(alloc),
+    };
+    let mut sofar = Sofar {
+        stepped: false,
+        conns: 0,
+    };
+    let mut number = 1u64;
+    let mut rest = Some(bytes);
+    'lines: while let Some(text) = rest {
+        let pieces = cut(b'\n', text);
+        let item = read_line(alloc, pieces.first)?;
+        let Some(after) = admitted(plans, sofar, &item) else {
+            return Ok(Read::Bad(bad_line(alloc, number, pieces.first)?));
+        };
+        sofar = after;
+        add(&mut script, item)?;
+        number += 1;
+        rest = pieces.rest;
+    }
+    Ok(Read::Good(script))
+}

@@ -1,0 +1,115 @@
+//! Errors as text.
+ghost use Rattle.std.specs.Prelude.{◌≡◌, ◌++◌, ◌∷◌, [], OnOk};
+ghost use Rattle.my_script.specs.ErrorText.{driver_text, fault_text, two_text, codec_text, io_text, server_text, error_text};
+
+use super::parts::{push_bytes, push_decimal, push_marked};
+use my_frame::CodecFault;
+use my_session::{DriverError, Error, IoError, IoFault, IoKind, ServerError};
+use std::alloc::{AllocError, Global};
+
+fn push_driver(out: &mut Vec<u8>, error: DriverError) -> Result<(), AllocError>
+    ensures { OnOk result (out.new.items ≡ out.old.items ++ driver_text error) }
+{
+    match error {
+        DriverError::ConnectionClosed => out.extend_from_slice(b"Driver ConnectionClosed"),
+        DriverError::TooLong => out.extend_from_slice(b"Driver TooLong"),
+        DriverError::CantParseServerVersion => {
+            out.extend_from_slice(b"Driver CantParseServerVersion")
+        }
+        DriverError::PacketOutOfOrder => out.extend_from_slice(b"Driver PacketOutOfOrder"),
+        DriverError::PacketTooLarge => out.extend_from_slice(b"Driver PacketTooLarge"),
+        DriverError::BadCompressedPacketHeader => {
+            out.extend_from_slice(b"Driver BadCompressedPacketHeader")
+        }
+        DriverError::NoKeyFound => out.extend_from_slice(b"Driver NoKeyFound"),
+        DriverError::NamedPipesDisabled => out.extend_from_slice(b"Driver NamedPipesDisabled"),
+        DriverError::InvalidParsecSalt => out.extend_from_slice(b"Driver InvalidParsecSalt"),
+        DriverError::NoClientSslFlagFromServer => {
+            out.extend_from_slice(b"Driver NoClientSslFlagFromServer")
+        }
+    }
+}
+
+fn push_fault(alloc: Global, out: &mut Vec<u8>, fault: IoFault) -> Result<(), AllocError>
+    ensures { OnOk result (out.new.items ≡ out.old.items ++ fault_text fault.kind fault.place) }
+{
+    match fault.kind {
+        IoKind::Link => out.extend_from_slice(b"Io Link"),
+        IoKind::Dial => out.extend_from_slice(b"Io Dial"),
+        IoKind::UnexpectedEof => {
+            out.extend_from_slice(b"Io UnexpectedEof")?;
+            push_marked(alloc, out, b' ', fault.place)
+        }
+        IoKind::InvalidData => {
+            out.extend_from_slice(b"Io InvalidData")?;
+            push_marked(alloc, out, b' ', fault.place)
+        }
+    }
+}
+
+// A word and two numbers.
+fn push_two(
+    alloc: Global,
+    out: &mut Vec<u8>,
+    word: &[u8],
+    first: u64,
+    second: u64,
+) -> Result<(), AllocError>
+    ensures { OnOk result (out.new.items ≡ out.old.items ++ two_text word.now first second) }
+{
+    out.extend_from_slice(word)?;
+    push_marked(alloc, out, b' ', first)?;
+    push_marked(alloc, out, b' ', second)
+}
+
+fn push_codec(alloc: Global, out: &mut Vec<u8>, fault: CodecFault) -> Result<(), AllocError>
+    ensures { OnOk result (out.new.items ≡ out.old.items ++ codec_text fault) }
+{
+    match fault {
+        CodecFault::OutOfOrder { expected, found } => {
+            push_two(
+                alloc,
+                out,
+                b"Io Codec OutOfOrder",
+                expected as u64,
+                found as u64,
+            )
+        }
+        CodecFault::TooLarge { length, limit } => {
+            push_two(alloc, out, b"Io Codec TooLarge", length, limit)
+        }
+    }
+}
+
+fn push_io(alloc: Global, out: &mut Vec<u8>, error: IoError) -> Result<(), AllocError>
+    ensures { OnOk result (out.new.items ≡ out.old.items ++ io_text error) }
+{
+    match error {
+        IoError::Io(fault) => push_fault(alloc, out, fault),
+        IoError::Codec(fault) => push_codec(alloc, out, fault),
+    }
+}
+
+#[tactic(auto, unfolding(crate::specs::ErrorText::server_text))]
+fn push_server(alloc: Global, out: &mut Vec<u8>, error: &ServerError) -> Result<(), AllocError>
+    ensures { OnOk result (out.new.items ≡ out.old.items ++ server_text error.now) }
+{
+    out.extend_from_slice(b"Server ")?;
+    push_decimal(alloc, out, error.code as u64)?;
+    out.push(b' ')?;
+    out.extend_from_slice(error.state.as_str().as_bytes())?;
+    out.push(b' ')?;
+    push_bytes(alloc, out, error.message.as_str().as_bytes())
+}
+
+/// An error as text, without the word `error`.
+pub fn push_error(alloc: Global, out: &mut Vec<u8>, error: &Error) -> Result<(), AllocError>
+    ensures { OnOk result (out.new.items ≡ out.old.items ++ error_text error.now) }
+{
+    match error {
+        Error::Driver(error) => push_driver(out, *error),
+        Error::Io(error) => push_io(alloc, out, *error),
+        Error::Server(error) => push_server(alloc, out, error),
+        Error::NoMemory => out.extend_from_slice(b"NoMemory"),
+    }
+}

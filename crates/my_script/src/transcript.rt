@@ -1,0 +1,91 @@
+//! What a run came to, as data.
+
+use my_handshake::ServerVersion;
+use my_reply::OkPacket;
+use my_session::{Answer, Call, Error};
+use my_value::Row;
+
+/// How often the outside gave each counted answer to one poll of a call, or to one dial, and how many bytes came.
+#[derive(Clone, Copy, Debug, PartialEq, Eq)]
+pub struct Use {
+    /// The connection's number.
+    pub number: u64,
+    /// The link's, or the dialer's, faults.
+    pub faults: u64,
+    /// Its holds.
+    pub holds: u64,
+    /// Ends of the link.
+    pub ends: u64,
+    /// Checks that found a dead link.
+    pub deaths: u64,
+    /// Reads of a file that failed.
+    pub broken: u64,
+    /// Files that aren't listed.
+    pub unlisted: u64,
+    /// Requests for a file without a handler.
+    pub absent: u64,
+    /// Refusals after the login.
+    pub refused: u64,
+    /// Bytes taken from the link.
+    pub taken: u64,
+    /// Bytes read from a file.
+    pub fed: u64,
+}
+
+/// What a step came to: one variant for each kind of answer line.
+#[derive(Drop)]
+pub enum Outcome {
+    /// `ok`
+    Done,
+    /// `pending`
+    Pending,
+    /// `end`: the set that is read ended.
+    SetEnd,
+    /// `none`: nothing is left to be read.
+    NoSet,
+    /// `row V V`
+    Row(Row),
+    /// `rows N [V V] [V V]`
+    Rows(Vec<Row>),
+    /// `ok affected=A insert=I warnings=W status=F info=b:HEX`, or `ok -` where there is no OK.
+    Fields(Option<OkPacket>),
+    /// `conn C id=I version=A.B.C`
+    Connected(u64, u32, ServerVersion),
+    /// `error` with the error.
+    Failed(Error),
+    /// `refused NoSuchHandle`
+    NoSuchHandle,
+}
+
+/// The answer to a step, which has a number from 1, with one use for each poll and dial that it made.
+#[derive(Drop)]
+pub struct StepAnswer {
+    pub number: u64,
+    pub outcome: Outcome,
+    pub uses: Vec<Use>,
+}
+
+/// A call of a connection. The answer is none where the call is still open.
+#[derive(Drop)]
+pub struct TapeCall {
+    pub call: Call,
+    /// How many bytes were sent when it began.
+    pub sent_from: u64,
+    pub answer: Option<Result<Answer, Error>>,
+}
+
+/// What a connection sent and took, and its calls.
+#[derive(Drop)]
+pub struct Tape {
+    pub number: u64,
+    pub sent: Vec<u8>,
+    pub taken: Vec<u8>,
+    pub calls: Vec<TapeCall>,
+}
+
+/// The answers to a run's steps, and the tapes of its connections by their numbers.
+#[derive(Drop)]
+pub struct Transcript {
+    pub answers: Vec<StepAnswer>,
+    pub tapes: Vec<Tape>,
+}
