@@ -2,5 +2,6 @@
 #![tactic(auto)]
 
 mod flags;
+mod sets;
 
 pub use flags::{CapabilityFlags, MariadbCapabilities, StatusFlags};

@@ -2,10 +2,11 @@
 -- "Sending more than 16Mb": a chunk is a length of three bytes, a number of one byte and that many bytes; each chunk of a
 -- payload but the last is full, and the last, which may be empty, is not.
 use Rattle.std.specs.Prelude.{ℕ, zero, suc, ◌+◌, ◌/◌, ◌%◌, List, [], ◌∷◌, ◌++◌, length, take, drop}
+use Rattle.my_frame.specs.declared.limits.TheConstants.{FULL_LENGTH}
 
 -- how many bytes a full chunk carries
 abbrev pub full_length : ℕ
-full_length = 0xFFFFFF
+full_length = FULL_LENGTH
 
 -- the number of the chunk after that with the number n
 abbrev pub next_number : ℕ → ℕ

@@ -5,7 +5,7 @@ ghost use Rattle.my_frame.specs.Chunks.{chunks, number_after_payload};
 
 use crate::no_memory::NoMemory;
 use crate::put::put_chunks;
-use crate::scan::FULL_LENGTH;
+use crate::limits::FULL_LENGTH;
 use bytes::BytesMut;
 
 /// Adds the payload's chunks, numbered from `number` on, and answers the number after theirs.

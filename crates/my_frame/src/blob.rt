@@ -2,7 +2,9 @@
 
 ghost use Rattle.std.specs.Prelude.{◌≡◌, ◌==◌, [], IfOk, length};
 
-use std::alloc::{AllocError, Global};
+use crate::copied::Copied;
+use crate::no_memory::NoMemory;
+use std::alloc::Global;
 use std::marker::Model;
 
 /// Owned bytes, which contracts see as the list of their values.
@@ -51,6 +53,12 @@ impl Eq for Blob {
     ghost laws = { nat_list_eq_equiv };
 }
 
+impl Copied for Blob {
+    fn copy(&self, alloc: Global) -> Result<Blob, NoMemory> {
+        Blob::copy(self, alloc)
+    }
+}
+
 impl Blob {
     /// No bytes.
     pub fn new(alloc: Global) -> Blob
@@ -62,7 +70,7 @@ impl Blob {
     }
 
     /// A copy of these bytes.
-    pub fn from_slice(alloc: Global, bytes: &[u8]) -> Result<Blob, AllocError>
+    pub fn from_slice(alloc: Global, bytes: &[u8]) -> Result<Blob, NoMemory>
         ensures { IfOk result (λ b. b ≡ bytes.now) }
     {
         Ok(Blob {
@@ -71,7 +79,7 @@ impl Blob {
     }
 
     /// A second value of the same bytes.
-    pub fn copy(&self, alloc: Global) -> Result<Blob, AllocError>
+    pub fn copy(&self, alloc: Global) -> Result<Blob, NoMemory>
         ensures { IfOk result (λ b. b ≡ self.now) }
     {
         Blob::from_slice(alloc, self.bytes.as_slice())

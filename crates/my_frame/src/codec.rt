@@ -8,6 +8,7 @@ ghost use Rattle.my_frame.specs.declared.fault.CodecFault.{CodecFault as AnyFaul
 use crate::append::append_payload;
 use crate::fault::{CodecError, CodecFault};
 use crate::front::{FramedPayload, payload_in_front};
+use crate::limits::DEFAULT_MAX_ALLOWED_PACKET;
 use crate::no_memory::NoMemory;
 use bytes::BytesMut;
 use std::alloc::Global;
@@ -32,11 +33,11 @@ impl PacketCodec {
     ghost use Rattle.my_frame.specs.Codec.{Takes};
 
     /// How many bytes a payload may have where nothing else was said.
-    pub const DEFAULT_LIMIT: u64 = 4_194_304;
+    pub const DEFAULT_LIMIT: u64 = DEFAULT_MAX_ALLOWED_PACKET;
 
     /// A codec at number 0.
     pub fn new() -> PacketCodec
-        ensures { result ≡ record { number = 0; limit = 4194304 } }
+        ensures { result ≡ record { number = 0; limit = DEFAULT_MAX_ALLOWED_PACKET } }
     {
         PacketCodec {
             number: 0,

@@ -1,8 +1,9 @@
 //! Why a payload could not be read or written.
 
 ghost use Rattle.std.specs.Prelude.{◌≡◌};
-ghost use Rattle.my_frame.specs.declared.fault.CodecError.TheVariants.{Fault, NoMemory};
+ghost use Rattle.my_frame.specs.declared.fault.CodecError.TheVariants as errors;
 
+use crate::no_memory::NoMemory;
 use std::alloc::AllocError;
 use thiserror::Error;
 
@@ -26,15 +27,23 @@ pub enum CodecError {
 }
 
 impl From<AllocError> for CodecError {
-    ghost from_gives = { λ _ e. e ≡ NoMemory };
+    ghost from_gives = { λ _ e. e ≡ errors.NoMemory };
 
     fn from(_e: AllocError) -> CodecError {
         CodecError::NoMemory
     }
 }
 
+impl From<NoMemory> for CodecError {
+    ghost from_gives = { λ _ e. e ≡ errors.NoMemory };
+
+    fn from(_e: NoMemory) -> CodecError {
+        CodecError::NoMemory
+    }
+}
+
 impl From<CodecFault> for CodecError {
-    ghost from_gives = { λ fault e. e ≡ Fault fault };
+    ghost from_gives = { λ fault e. e ≡ errors.Fault fault };
 
     fn from(fault: CodecFault) -> CodecError {
         CodecError::Fault(fault)

@@ -8,7 +8,8 @@ ghost use Rattle.my_frame.specs.Framed.{IsFramed, IsThePayload};
 use crate::blob::Blob;
 use crate::fault::CodecError;
 use crate::header::read_header;
-use crate::scan::{FULL_LENGTH, Span, scan_front};
+use crate::limits::FULL_LENGTH;
+use crate::scan::{Span, scan_front};
 use std::alloc::{AllocError, Global};
 
 /// A payload, and where its chunks stand.

@@ -3,7 +3,7 @@
 ghost use Rattle.std.specs.Prelude.{◌≡◌, ◌≤◌, ◌+◌, ◌*◌, ◌/◌, ◌++◌, length};
 ghost use Rattle.my_frame.specs.Chunks.{full_length, chunk, chunks, number_after_payload};
 
-use crate::scan::FULL_LENGTH;
+use crate::limits::FULL_LENGTH;
 use bytes::BytesMut;
 
 // Adds the chunk of this part.

@@ -1,8 +1,9 @@
 //! Why a packet could not be read.
 
 ghost use Rattle.std.specs.Prelude.{◌≡◌};
-ghost use Rattle.my_frame.specs.declared.read_error.ReadError.TheVariants.{NoMemory};
+ghost use Rattle.my_frame.specs.declared.read_error.ReadError.TheVariants as errors;
 
+use crate::no_memory::NoMemory;
 use std::alloc::AllocError;
 use thiserror::Error;
 
@@ -17,9 +18,17 @@ pub enum ReadError {
 }
 
 impl From<AllocError> for ReadError {
-    ghost from_gives = { λ _ e. e ≡ NoMemory };
+    ghost from_gives = { λ _ e. e ≡ errors.NoMemory };
 
     fn from(_e: AllocError) -> ReadError {
+        ReadError::NoMemory
+    }
+}
+
+impl From<NoMemory> for ReadError {
+    ghost from_gives = { λ _ e. e ≡ errors.NoMemory };
+
+    fn from(_e: NoMemory) -> ReadError {
         ReadError::NoMemory
     }
 }

@@ -5,9 +5,7 @@ ghost use Rattle.my_frame.specs.Front.{front_at, span_of};
 
 use crate::fault::CodecFault;
 use crate::header::read_header;
-
-/// How many bytes a full chunk carries. A chunk with fewer is the last of its payload.
-pub const FULL_LENGTH: usize = 0xFF_FFFF;
+use crate::limits::FULL_LENGTH;
 
 /// The chunks of one payload: how many bytes they take with their headers, and the number after theirs.
 #[derive(Clone, Copy, Debug, PartialEq, Eq)]

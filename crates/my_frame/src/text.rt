@@ -2,7 +2,9 @@
 
 ghost use Rattle.std.specs.Prelude.{◌≡◌, ◌==◌, [], IfOk, length};
 
-use std::alloc::{AllocError, Global};
+use crate::copied::Copied;
+use crate::no_memory::NoMemory;
+use std::alloc::Global;
 use std::marker::Model;
 
 /// Owned text, which contracts see as the list of its UTF-8 bytes.
@@ -51,6 +53,12 @@ impl Eq for Text {
     ghost laws = { nat_list_eq_equiv };
 }
 
+impl Copied for Text {
+    fn copy(&self, alloc: Global) -> Result<Text, NoMemory> {
+        Text::copy(self, alloc)
+    }
+}
+
 impl Text {
     ghost use Rattle.std.specs.Prelude.{string_bytes};
     ghost use Rattle.std.specs.Str.Lossy.{utf8_lossy};
@@ -65,7 +73,7 @@ impl Text {
     }
 
     /// A copy of this text.
-    pub fn from_str(alloc: Global, text: &str) -> Result<Text, AllocError>
+    pub fn from_str(alloc: Global, text: &str) -> Result<Text, NoMemory>
         ensures { IfOk result (λ t. t ≡ text.now) }
     {
         Ok(Text {
@@ -74,7 +82,7 @@ impl Text {
     }
 
     /// These bytes as text, U+FFFD in place of what is no UTF-8.
-    pub fn from_utf8_lossy(alloc: Global, bytes: &[u8]) -> Result<Text, AllocError>
+    pub fn from_utf8_lossy(alloc: Global, bytes: &[u8]) -> Result<Text, NoMemory>
         ensures { IfOk result (λ t. t ≡ utf8_lossy bytes.now) }
     {
         Ok(Text {
@@ -83,7 +91,7 @@ impl Text {
     }
 
     /// A second value of the same text.
-    pub fn copy(&self, alloc: Global) -> Result<Text, AllocError>
+    pub fn copy(&self, alloc: Global) -> Result<Text, NoMemory>
         ensures { IfOk result (λ t. t ≡ self.now) }
     {
         Text::from_str(alloc, self.text.as_str())

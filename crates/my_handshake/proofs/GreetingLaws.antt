@@ -1,7 +1,7 @@
 -- The greeting, as a relation and as what is read.
-use Rattle.std.proofs.Common.{◌≡◌, ℕ, ◌+◌, ◌*◌, ◌-◌, max, List, ◌++◌, take, true, eqb, Some, refl, sym, ap, subst, arith}
-use Rattle.std.proofs.lemmas.Bool.Decides.{nat_tests}
-use Rattle.std.specs.Prelude.{bit_and}
+use Rattle.std.proofs.Common.{◌≡◌, ℕ, ◌+◌, ◌*◌, ◌-◌, max, List, ◌++◌, take, eqb, Some, refl, sym, ap, subst}
+use Rattle.my_flags.specs.Sets.{contains}
+use Rattle.my_handshake.specs.declared.greeting.TheConstants.{NEEDED_CAPABILITIES}
 use Rattle.std.specs.List.{before_first}
 use Rattle.my_handshake.specs.declared.greeting.Greeting.{Greeting}
 use Rattle.my_handshake.specs.declared.greeting.Settings.{Settings}
@@ -44,7 +44,12 @@ settings_found bytes settings rest e =
     bind_then (number_at 1 d.1) _ (settings, rest) nd (λ f ef nf.
     bind_then (bytes_at 6 f.1) _ (settings, rest) nf (λ g eg ng.
     bind_then (number_at 4 g.1) _ (settings, rest) ng (λ h eh nh.
-    let fields : Settings = record { capabilities = a.0 + 65536 * d.0; status = c.0; nonce_length = f.0; extended = h.0 } in
+    let fields : Settings = record {
+      capabilities = record { 0 = a.0 + 65536 * d.0 };
+      status = record { 0 = c.0 };
+      nonce_length = f.0;
+      extended = record { 0 = h.0 };
+    } in
     let s = same_pair (fields, h.1) (settings, rest) nh in
     subst (λ o. IsSettings bytes o rest) {x = fields} s.0 (subst (λ r. IsSettings bytes fields r) {x = h.1} s.1 (record {
       low = a.0;
@@ -70,7 +75,7 @@ settings_found bytes settings rest e =
 settings_again : (bytes : List ℕ) (settings : Settings) (rest : List ℕ) → IsSettings bytes settings rest → settings_at bytes ≡ Some (settings, rest)
 unfolding settings_at
 settings_again bytes settings rest w =
-    rw (number_again 2 bytes w.low w.after_low w.low_is, number_again 1 w.after_low w.charset w.after_charset w.charset_is, number_again 2 w.after_charset settings.status w.after_status w.status, number_again 2 w.after_status w.high w.after_high w.high_is, number_again 1 w.after_high settings.nonce_length w.after_length w.nonce_length, bytes_again 6 w.after_length w.reserved w.after_reserved w.reserved_is, number_again 4 w.after_reserved settings.extended rest w.extended, ← w.capabilities) refl
+    rw (number_again 2 bytes w.low w.after_low w.low_is, number_again 1 w.after_low w.charset w.after_charset w.charset_is, number_again 2 w.after_charset settings.status.0 w.after_status w.status, number_again 2 w.after_status w.high w.after_high w.high_is, number_again 1 w.after_high settings.nonce_length w.after_length w.nonce_length, bytes_again 6 w.after_length w.reserved w.after_reserved w.reserved_is, number_again 4 w.after_reserved settings.extended.0 rest w.extended, ← w.capabilities) refl
 
 pub greeting_found : (payload : List ℕ) (greeting : Greeting) → greeting_at payload ≡ Some greeting → IsGreeting payload greeting
 greeting_found payload greeting e =
@@ -79,8 +84,7 @@ greeting_found payload greeting e =
     bind_then (second_at b.0.nonce_length b.1) _ greeting nb (λ c ec nc.
     bind_then (bytes_at (max (b.0.nonce_length - 8) 13) b.1) _ c ec (λ d ed nd.
     let fields : Greeting = greeting_from a.0 b.0 c in
-    let p = passed (eqb (bit_and b.0.capabilities 0x88200) 0x88200) fields greeting nc in
-    let t = p.0 in
+    let p = passed (contains b.0.capabilities NEEDED_CAPABILITIES) fields greeting nc in
     let ended : (take 12 d.0, before_first (λ x. eqb x 0) d.1) ≡ c = cc in
     subst (λ o. IsGreeting payload o) {x = fields} p.1 (record {
       first = a.0.2;
@@ -95,13 +99,11 @@ greeting_found payload greeting e =
       plugin = before_found d.1 c.1 (ap (λ x. x.1) ended);
       nonce = ap (λ x. a.0.2 ++ x) (sym (ap (λ x. x.0) ended));
       capabilities = refl;
-      needed = grind (arith, nat_tests);
+      needed = p.0;
       status = refl;
       extended = refl;
     })))))
 
 pub greeting_again : (payload : List ℕ) (greeting : Greeting) → IsGreeting payload greeting → greeting_at payload ≡ Some greeting
 greeting_again payload greeting w =
-    let needed = w.needed in
-    let b : eqb (bit_and greeting.capabilities 0x88200) 0x88200 ≡ true = grind (arith, nat_tests) in
-    rw (first_again payload greeting.version greeting.id w.first w.after_first w.begins, settings_again w.after_first w.settings w.after_settings w.set, bytes_again (max (w.settings.nonce_length - 8) 13) w.after_settings w.second w.after_second w.second_is, before_again w.after_second greeting.plugin w.plugin, ← w.capabilities, b, ← w.nonce, ← w.status, ← w.extended) refl
+    rw (first_again payload greeting.version greeting.id w.first w.after_first w.begins, settings_again w.after_first w.settings w.after_settings w.set, bytes_again (max (w.settings.nonce_length - 8) 13) w.after_settings w.second w.after_second w.second_is, before_again w.after_second greeting.plugin w.plugin, ← w.capabilities, w.needed, ← w.nonce, ← w.status, ← w.extended) refl

@@ -1,14 +1,17 @@
 -- The packet by which a server greets.
 -- MySQL internals, "Connection Phase Packets": Protocol::HandshakeV10; MariaDB, "Connecting": Initial Handshake Packet, whose last four reserved bytes are its further capabilities.
-use Rattle.std.specs.Prelude.{◌≡◌, ℕ, ◌+◌, ◌*◌, ◌-◌, max, bit_and, List, ◌∷◌, ◌++◌, take, Option, Some, None, ◌==◌, if◌then◌else◌}
+use Rattle.std.specs.Prelude.{◌≡◌, ℕ, ◌+◌, ◌*◌, ◌-◌, max, IsTrue, List, ◌∷◌, ◌++◌, take, Option, Some, None, ◌==◌, if◌then◌else◌}
 use Rattle.std.specs.List.{before_first}
 use Rattle.my_frame.specs.Numbers.{IsBeforeZero, IsBytes, IsNumber, IsText0, bytes_at, head_at, number_at, text0_at, ◌>>=◌}
+use Rattle.my_flags.specs.Sets.{contains}
+use Rattle.my_flags.specs.declared.flags.CapabilityFlags.{CapabilityFlags}
+use Rattle.my_handshake.specs.declared.greeting.TheConstants.{NEEDED_CAPABILITIES}
 use Rattle.my_handshake.specs.declared.greeting.Greeting.{Greeting}
 use Rattle.my_handshake.specs.declared.greeting.Settings.{Settings}
 
--- PROTOCOL_41, SECURE_CONNECTION and PLUGIN_AUTH are offered.
-abbrev pub OffersNeeded : ℕ → Type 0
-OffersNeeded capabilities = bit_and capabilities 0x88200 ≡ 0x88200
+-- The needed capabilities are offered.
+abbrev pub OffersNeeded : CapabilityFlags → Type 0
+OffersNeeded capabilities = IsTrue (contains capabilities NEEDED_CAPABILITIES)
 
 -- The payload begins with a version, a number and the first part of a nonce.
 pub record IsFirst (payload version : List ℕ) (id : ℕ) (first rest : List ℕ) : Type 0 where
@@ -36,12 +39,12 @@ pub record IsSettings (bytes : List ℕ) (settings : Settings) (rest : List ℕ)
   pub after_reserved : List ℕ
   pub low_is : IsNumber 2 bytes low after_low
   pub charset_is : IsNumber 1 after_low charset after_charset
-  pub status : IsNumber 2 after_charset settings.status after_status
+  pub status : IsNumber 2 after_charset settings.status.0 after_status
   pub high_is : IsNumber 2 after_status high after_high
   pub nonce_length : IsNumber 1 after_high settings.nonce_length after_length
   pub reserved_is : IsBytes 6 after_length reserved after_reserved
-  pub extended : IsNumber 4 after_reserved settings.extended rest
-  pub capabilities : settings.capabilities ≡ low + 65536 * high
+  pub extended : IsNumber 4 after_reserved settings.extended.0 rest
+  pub capabilities : settings.capabilities.0 ≡ low + 65536 * high
 
 -- The payload is this greeting. The second part of the nonce has at least 13 bytes, of which the first 12 count; the plugin's name may lack its zero.
 pub record IsGreeting (payload : List ℕ) (greeting : Greeting) : Type 0 where
@@ -80,7 +83,12 @@ settings_at bytes = do
   nonce_length ← number_at 1 high.1
   reserved ← bytes_at 6 nonce_length.1
   extended ← number_at 4 reserved.1
-  Some (record { capabilities = low.0 + 65536 * high.0; status = status.0; nonce_length = nonce_length.0; extended = extended.0 }, extended.1)
+  Some (record {
+    capabilities = record { 0 = low.0 + 65536 * high.0 };
+    status = record { 0 = status.0 };
+    nonce_length = nonce_length.0;
+    extended = record { 0 = extended.0 };
+  }, extended.1)
 
 abbrev pub second_at : ℕ → List ℕ → Option (List ℕ × List ℕ)
 second_at nonce_length bytes = do
@@ -103,4 +111,4 @@ greeting_at payload = do
   begun ← first_at payload
   settings ← settings_at begun.1
   ended ← second_at settings.0.nonce_length settings.1
-  if bit_and settings.0.capabilities 0x88200 == 0x88200 then Some (greeting_from begun.0 settings.0 ended) else None
+  if contains settings.0.capabilities NEEDED_CAPABILITIES then Some (greeting_from begun.0 settings.0 ended) else None

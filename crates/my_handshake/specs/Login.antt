@@ -1,7 +1,8 @@
 -- How the packets are written by which a client logs in.
 -- MySQL internals, "Connection Phase Packets": HandshakeResponse41; "Utility Commands": COM_CHANGE_USER; MariaDB, "Connecting": Handshake Response Packet, whose last four filler bytes are the client's further capabilities.
-use Rattle.std.specs.Prelude.{ℕ, List, [], ◌++◌, bit_and, replicate, Option, Some, None, ◌==◌, if◌then◌else◌}
+use Rattle.std.specs.Prelude.{ℕ, List, [], ◌++◌, replicate, Option, Some, None, if◌then◌else◌}
 use Rattle.my_frame.specs.Writing.{le_bytes, short_bytes, text0_bytes}
+use Rattle.my_flags.specs.Sets.{connects_with_db, sends_connect_attrs}
 use Rattle.my_handshake.specs.Attributes.{attributes_bytes}
 use Rattle.my_handshake.specs.declared.attributes.Attribute.{Attribute}
 use Rattle.my_handshake.specs.declared.login.HandshakeResponse.{HandshakeResponse}
@@ -9,16 +10,19 @@ use Rattle.my_handshake.specs.declared.login.ChangeUser.{ChangeUser}
 
 -- the numbers of a response, with 19 zero bytes
 abbrev pub settings_bytes : HandshakeResponse → List ℕ
-settings_bytes r = le_bytes 4 r.capabilities ++ le_bytes 4 r.max_packet ++ le_bytes 1 r.charset ++ replicate 19 0 ++ le_bytes 4 r.extended
+settings_bytes r =
+    le_bytes 4 r.capabilities.0 ++ le_bytes 4 r.max_packet ++ le_bytes 1 r.charset ++ replicate 19 0
+    ++ le_bytes 4 r.extended.0
 
 -- who logs in, and the answer to the nonce
 abbrev pub names_bytes : List ℕ → List ℕ → List ℕ
 names_bytes user scramble = text0_bytes user ++ short_bytes scramble
 
--- the database where CONNECT_WITH_DB is kept, the plugin, and the attributes where CONNECT_ATTRS is kept
+-- the database where the login names one, the plugin, and the attributes where the login carries them
 abbrev pub kept_bytes : HandshakeResponse → List ℕ
 kept_bytes r =
-    (if bit_and r.capabilities 0x8 == 0 then [] else text0_bytes r.database) ++ text0_bytes r.plugin ++ (if bit_and r.capabilities 0x100000 == 0 then [] else attributes_bytes r.attributes)
+    (if connects_with_db r.capabilities then text0_bytes r.database else []) ++ text0_bytes r.plugin
+    ++ (if sends_connect_attrs r.capabilities then attributes_bytes r.attributes else [])
 
 -- The answer to the server's greeting.
 abbrev pub response_bytes : HandshakeResponse → List ℕ

@@ -4,8 +4,8 @@ ghost use Rattle.std.specs.Prelude.{◌≡◌, ◌<◌, ◌≤◌, [], IfOk, IfS
 ghost use Rattle.std.specs.List.{position_or_len};
 ghost use Rattle.my_handshake.specs.Attributes.{IsInKeyOrder, is_before, put_in_order};
 
-use my_frame::Blob;
-use std::alloc::{AllocError, Global};
+use my_frame::{Blob, Copied, Listed, NoMemory};
+use std::alloc::Global;
 use std::cmp::Ordering;
 use std::marker::Model;
 
@@ -16,10 +16,19 @@ pub struct Attribute {
     pub value: Blob,
 }
 
+impl Copied for Attribute {
+    fn copy(&self, alloc: Global) -> Result<Attribute, NoMemory> {
+        Ok(Attribute {
+            key: self.key.copy(alloc)?,
+            value: self.value.copy(alloc)?,
+        })
+    }
+}
+
 /// Attributes in the byte order of their keys, which contracts see as their list.
-#[derive(Debug, Drop)]
+#[derive(Debug, Drop, PartialEq, Eq)]
 pub struct Attributes {
-    pairs: Vec<Attribute>,
+    pairs: Listed<Attribute>,
 }
 
 impl Model for Attributes {
@@ -28,7 +37,9 @@ impl Model for Attributes {
 
     ghost Value = { List Attribute };
 
-    ghost view = { λ a. a.pairs.items };
+    ghost view = { λ a. a.pairs };
+
+    ghost inverse = { λ pairs. record { pairs = pairs } };
 }
 
 fn is_before(key: &[u8], other: &[u8]) -> bool
@@ -54,25 +65,10 @@ fn place_of(pairs: &[Attribute], key: &[u8]) -> usize
     greater_of(pairs, key).unwrap_or(pairs.len())
 }
 
-// A second value of the same pair.
-fn copy_pair(alloc: Global, pair: &Attribute) -> Result<Attribute, AllocError>
-    ensures { IfOk result (λ copy. copy ≡ pair.now) }
-{
-    Ok(Attribute {
-        key: pair.key.copy(alloc)?,
-        value: pair.value.copy(alloc)?,
-    })
-}
-
-// A second list of the same pairs.
-fn copy_pairs(alloc: Global, pairs: &[Attribute]) -> Result<Vec<Attribute>, AllocError>
-    ensures { IfOk result (λ copies. copies.items ≡ pairs.now) }
-{
-    let mut copies = Vec::new(alloc);
-    for pair in pairs {
-        copies.push(copy_pair(alloc, pair)?)?;
+impl Copied for Attributes {
+    fn copy(&self, alloc: Global) -> Result<Attributes, NoMemory> {
+        Attributes::copy(self, alloc)
     }
-    Ok(copies)
 }
 
 impl Attributes {
@@ -81,26 +77,25 @@ impl Attributes {
         ensures { result ≡ [] }
     {
         Attributes {
-            pairs: Vec::new(alloc),
+            pairs: Listed::new(alloc),
         }
     }
 
     /// Adds a pair, after those whose keys aren't greater.
-    pub fn put(&mut self, key: Blob, value: Blob) -> Result<(), AllocError>
+    pub fn put(&mut self, key: Blob, value: Blob) -> Result<(), NoMemory>
         ensures ok { OnOk result (self.new ≡ put_in_order self.old (record { key = key; value = value })) }
         ensures err { OnErr result (self.new ≡ self.old) }
     {
         let place = place_of(self.pairs.as_slice(), key.as_slice());
-        self.pairs.insert(place, Attribute { key, value })?;
-        Ok(())
+        self.pairs.insert(place, Attribute { key, value })
     }
 
     /// A second value of the same attributes.
-    pub fn copy(&self, alloc: Global) -> Result<Attributes, AllocError>
+    pub fn copy(&self, alloc: Global) -> Result<Attributes, NoMemory>
         ensures { IfOk result (λ a. a ≡ self.now) }
     {
         Ok(Attributes {
-            pairs: copy_pairs(alloc, self.pairs.as_slice())?,
+            pairs: self.pairs.copy(alloc)?,
         })
     }
 

@@ -5,14 +5,19 @@ ghost use Rattle.std.specs.Option.{option_map};
 ghost use Rattle.my_frame.specs.Reading.{Gives, ReadsExactly};
 ghost use Rattle.my_handshake.specs.Greeting.{IsGreeting, first_at, greeting_at, second_at, settings_at};
 
+use my_flags::{CapabilityFlags, MariadbCapabilities, StatusFlags};
 use my_frame::numbers::{
     before_zero, take_bytes, take_head, take_text0, take_u8, take_u16, take_u32,
 };
-use my_frame::{Blob, ReadError};
-use std::alloc::{AllocError, Global};
+use my_frame::{Blob, NoMemory, ReadError};
+use std::alloc::Global;
 
-/// PROTOCOL_41, SECURE_CONNECTION and PLUGIN_AUTH, without which a server isn't spoken to.
-pub const NEEDED_CAPABILITIES: u32 = 0x0008_8200;
+/// The capabilities that a server must have: without them its greeting is malformed.
+pub const NEEDED_CAPABILITIES: CapabilityFlags = CapabilityFlags(
+    CapabilityFlags::CLIENT_PROTOCOL_41.0
+        | CapabilityFlags::CLIENT_SECURE_CONNECTION.0
+        | CapabilityFlags::CLIENT_PLUGIN_AUTH.0,
+);
 
 /// What a server says first.
 #[derive(Debug, Drop, PartialEq, Eq)]
@@ -23,23 +28,38 @@ pub struct Greeting {
     pub id: u32,
     /// 20 random bytes.
     pub nonce: Blob,
-    /// The bits of what the server can do.
-    pub capabilities: u32,
-    /// The server's status bits.
-    pub status: u16,
-    /// The name of the way to log in.
+    pub capabilities: CapabilityFlags,
+    pub status: StatusFlags,
+    /// The name of the authentication plugin.
     pub plugin: Blob,
-    /// MariaDB's further capability bits.
-    pub extended: u32,
+    /// MariaDB's further capabilities.
+    pub extended: MariadbCapabilities,
 }
 
-// What stands between the two parts of the nonce.
+impl Greeting {
+    /// A second value of the same greeting.
+    pub fn copy(&self, alloc: Global) -> Result<Greeting, NoMemory>
+        ensures { IfOk result (λ copy. copy ≡ self.now) }
+    {
+        Ok(Greeting {
+            version: self.version.copy(alloc)?,
+            id: self.id,
+            nonce: self.nonce.copy(alloc)?,
+            capabilities: self.capabilities,
+            status: self.status,
+            plugin: self.plugin.copy(alloc)?,
+            extended: self.extended,
+        })
+    }
+}
+
+// What is between the two parts of the nonce.
 #[derive(Clone, Copy)]
 struct Settings {
-    capabilities: u32,
-    status: u16,
+    capabilities: CapabilityFlags,
+    status: StatusFlags,
     nonce_length: u8,
-    extended: u32,
+    extended: MariadbCapabilities,
 }
 
 // Version, number and the nonce's first part.
@@ -66,10 +86,10 @@ fn settings_of(bytes: &[u8]) -> Option<(Settings, &[u8])>
     let (_reserved, rest) = take_bytes(rest, 6)?;
     let (extended, rest) = take_u32(rest)?;
     let settings = Settings {
-        capabilities: u32::from(low) + 65_536 * u32::from(high),
-        status,
+        capabilities: CapabilityFlags(u32::from(low) + 65_536 * u32::from(high)),
+        status: StatusFlags(status),
         nonce_length,
-        extended,
+        extended: MariadbCapabilities(extended),
     };
     Some((settings, rest))
 }
@@ -83,7 +103,7 @@ fn second_of(nonce_length: u8, bytes: &[u8]) -> Option<(&[u8], &[u8])>
     Some((&second[..12], before_zero(rest)))
 }
 
-fn joined(alloc: Global, first: &[u8], second: &[u8]) -> Result<Blob, AllocError>
+fn joined(alloc: Global, first: &[u8], second: &[u8]) -> Result<Blob, NoMemory>
     ensures { IfOk result (λ b. b ≡ first.now ++ second.now) }
 {
     let mut bytes = Vec::from_slice(alloc, first)?;
@@ -97,7 +117,7 @@ fn greeting_of(alloc: Global, payload: &[u8]) -> Result<Greeting, ReadError>
     let ((version, id, first), rest) = first_of(payload).ok_or(ReadError::Malformed)?;
     let (settings, rest) = settings_of(rest).ok_or(ReadError::Malformed)?;
     let (second, plugin) = second_of(settings.nonce_length, rest).ok_or(ReadError::Malformed)?;
-    if settings.capabilities & NEEDED_CAPABILITIES != NEEDED_CAPABILITIES {
+    if !settings.capabilities.contains(NEEDED_CAPABILITIES) {
         return Err(ReadError::Malformed);
     }
     Ok(Greeting {
@@ -120,13 +140,14 @@ pub fn read_greeting(alloc: Global, payload: &[u8]) -> Result<Greeting, ReadErro
 }
 
 /// The capability bits that a server offers and the name of the way to log in, if it is a greeting.
-pub fn greeting_offer(payload: &[u8]) -> Option<(u32, &[u8])>
-    ensures { option_map (λ x. (x.0, x.1.now)) result ≡ option_map {U = ℕ × List ℕ} (λ g. (g.capabilities, g.plugin)) (greeting_at payload.now) }
+pub fn greeting_offer(payload: &[u8]) -> Option<(CapabilityFlags, &[u8])>
+    ensures { option_map (λ x. (x.0, x.1.now)) result
+        ≡ option_map {U = CapabilityFlags × List ℕ} (λ g. (g.capabilities, g.plugin)) (greeting_at payload.now) }
 {
     let (_begun, rest) = first_of(payload)?;
     let (settings, rest) = settings_of(rest)?;
     let (_second, plugin) = second_of(settings.nonce_length, rest)?;
-    if settings.capabilities & NEEDED_CAPABILITIES != NEEDED_CAPABILITIES {
+    if !settings.capabilities.contains(NEEDED_CAPABILITIES) {
         return None;
     }
     Some((settings.capabilities, plugin))

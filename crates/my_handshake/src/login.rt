@@ -1,40 +1,41 @@
 //! The packets by which a client logs in.
 
-ghost use Rattle.std.specs.Prelude.{◌≡◌, ◌<◌, ◌++◌, OnOk, length};
+ghost use Rattle.std.specs.Prelude.{◌≡◌, ◌<◌, ◌++◌, IfOk, OnOk, length};
 ghost use Rattle.std.specs.List.{flat_map};
 ghost use Rattle.my_handshake.specs.Attributes.{attributes_bytes, pair_bytes};
 ghost use Rattle.my_handshake.specs.Login.{change_user_bytes, kept_bytes, maybe_attributes, names_bytes, response_bytes, settings_bytes};
 
 use crate::attributes::{Attribute, Attributes};
-use my_frame::Blob;
+use my_flags::{CapabilityFlags, MariadbCapabilities};
+use my_frame::{Blob, Copied, NoMemory};
 use my_frame::writing::{put_short, put_text, put_text0, put_u8, put_u16, put_u32};
-use std::alloc::{AllocError, Global};
+use std::alloc::Global;
 
 /// The answer to the server's greeting.
-#[derive(Drop)]
+#[derive(Debug, Drop, PartialEq, Eq)]
 pub struct HandshakeResponse {
     /// The capabilities that both sides have.
-    pub capabilities: u32,
+    pub capabilities: CapabilityFlags,
     /// The longest payload that the client takes.
     pub max_packet: u32,
     /// The number of the character set and its order.
     pub charset: u8,
     /// MariaDB's further capabilities that both sides have.
-    pub extended: u32,
+    pub extended: MariadbCapabilities,
     /// Cut before its first zero byte, as the other names are.
     pub user: Blob,
     /// The answer to the nonce, of at most 255 bytes.
     pub scramble: Blob,
-    /// Sent where CONNECT_WITH_DB is among the capabilities.
+    /// Sent with the capability `CLIENT_CONNECT_WITH_DB`.
     pub database: Blob,
     /// The name of the way to log in.
     pub plugin: Blob,
-    /// Sent where CONNECT_ATTRS is among the capabilities.
+    /// Sent with the capability `CLIENT_CONNECT_ATTRS`.
     pub attributes: Attributes,
 }
 
 /// A new login on a connection that stands.
-#[derive(Drop)]
+#[derive(Debug, Drop, PartialEq, Eq)]
 pub struct ChangeUser {
     /// Cut before its first zero byte, as the other names are.
     pub user: Blob,
@@ -45,22 +46,53 @@ pub struct ChangeUser {
     pub charset: u16,
     /// The name of the way to log in.
     pub plugin: Blob,
-    /// There where CONNECT_ATTRS is among the kept capabilities.
+    /// Given where the connection has the capability `CLIENT_CONNECT_ATTRS`.
     pub attributes: Option<Attributes>,
 }
 
-const CONNECT_WITH_DB: u32 = 0x8;
+impl HandshakeResponse {
+    /// A second value of the same response.
+    pub fn copy(&self, alloc: Global) -> Result<HandshakeResponse, NoMemory>
+        ensures { IfOk result (λ copy. copy ≡ self.now) }
+    {
+        Ok(HandshakeResponse {
+            capabilities: self.capabilities,
+            max_packet: self.max_packet,
+            charset: self.charset,
+            extended: self.extended,
+            user: self.user.copy(alloc)?,
+            scramble: self.scramble.copy(alloc)?,
+            database: self.database.copy(alloc)?,
+            plugin: self.plugin.copy(alloc)?,
+            attributes: self.attributes.copy(alloc)?,
+        })
+    }
+}
 
-const CONNECT_ATTRS: u32 = 0x10_0000;
+impl ChangeUser {
+    /// A second value of the same login.
+    pub fn copy(&self, alloc: Global) -> Result<ChangeUser, NoMemory>
+        ensures { IfOk result (λ copy. copy ≡ self.now) }
+    {
+        Ok(ChangeUser {
+            user: self.user.copy(alloc)?,
+            scramble: self.scramble.copy(alloc)?,
+            database: self.database.copy(alloc)?,
+            charset: self.charset,
+            plugin: self.plugin.copy(alloc)?,
+            attributes: self.attributes.copy(alloc)?,
+        })
+    }
+}
 
-fn put_pair(out: &mut Vec<u8>, pair: &Attribute) -> Result<(), AllocError>
+fn put_pair(out: &mut Vec<u8>, pair: &Attribute) -> Result<(), NoMemory>
     ensures { OnOk result (out.new.items ≡ out.old.items ++ pair_bytes pair.now) }
 {
     put_text(out, pair.key.as_slice())?;
     put_text(out, pair.value.as_slice())
 }
 
-fn put_pairs(out: &mut Vec<u8>, pairs: &[Attribute]) -> Result<(), AllocError>
+fn put_pairs(out: &mut Vec<u8>, pairs: &[Attribute]) -> Result<(), NoMemory>
     ensures { OnOk result (out.new.items ≡ out.old.items ++ flat_map pair_bytes pairs.now) }
 {
     for pair in pairs {
@@ -73,7 +105,7 @@ fn put_attributes(
     alloc: Global,
     out: &mut Vec<u8>,
     attributes: &Attributes,
-) -> Result<(), AllocError>
+) -> Result<(), NoMemory>
     ensures { OnOk result (out.new.items ≡ out.old.items ++ attributes_bytes attributes.now) }
 {
     let mut pairs = Vec::new(alloc);
@@ -81,17 +113,17 @@ fn put_attributes(
     put_text(out, pairs.as_slice())
 }
 
-fn put_settings(out: &mut Vec<u8>, response: &HandshakeResponse) -> Result<(), AllocError>
+fn put_settings(out: &mut Vec<u8>, response: &HandshakeResponse) -> Result<(), NoMemory>
     ensures { OnOk result (out.new.items ≡ out.old.items ++ settings_bytes response.now) }
 {
-    put_u32(out, response.capabilities)?;
+    put_u32(out, response.capabilities.0)?;
     put_u32(out, response.max_packet)?;
     put_u8(out, response.charset)?;
     out.extend_from_slice(&[0; 19])?;
-    put_u32(out, response.extended)
+    put_u32(out, response.extended.0)
 }
 
-fn put_names(out: &mut Vec<u8>, user: &[u8], scramble: &[u8]) -> Result<(), AllocError>
+fn put_names(out: &mut Vec<u8>, user: &[u8], scramble: &[u8]) -> Result<(), NoMemory>
     requires { length scramble.now < 256 }
     ensures { OnOk result (out.new.items ≡ out.old.items ++ names_bytes user.now scramble.now) }
 {
@@ -103,14 +135,14 @@ fn put_kept(
     alloc: Global,
     out: &mut Vec<u8>,
     response: &HandshakeResponse,
-) -> Result<(), AllocError>
+) -> Result<(), NoMemory>
     ensures { OnOk result (out.new.items ≡ out.old.items ++ kept_bytes response.now) }
 {
-    if response.capabilities & CONNECT_WITH_DB != 0 {
+    if response.capabilities.connects_with_db() {
         put_text0(out, response.database.as_slice())?;
     }
     put_text0(out, response.plugin.as_slice())?;
-    if response.capabilities & CONNECT_ATTRS != 0 {
+    if response.capabilities.sends_connect_attrs() {
         put_attributes(alloc, out, &response.attributes)?;
     }
     Ok(())
@@ -121,7 +153,7 @@ pub fn put_response(
     alloc: Global,
     out: &mut Vec<u8>,
     response: &HandshakeResponse,
-) -> Result<(), AllocError>
+) -> Result<(), NoMemory>
     requires { length response.now.scramble < 256 }
     ensures { OnOk result (out.new.items ≡ out.old.items ++ response_bytes response.now) }
 {
@@ -134,7 +166,7 @@ fn put_maybe(
     alloc: Global,
     out: &mut Vec<u8>,
     attributes: &Option<Attributes>,
-) -> Result<(), AllocError>
+) -> Result<(), NoMemory>
     ensures { OnOk result (out.new.items ≡ out.old.items ++ maybe_attributes attributes.now) }
 {
     match attributes {
@@ -148,7 +180,7 @@ pub fn put_change_user(
     alloc: Global,
     out: &mut Vec<u8>,
     change: &ChangeUser,
-) -> Result<(), AllocError>
+) -> Result<(), NoMemory>
     requires { length change.now.scramble < 256 }
     ensures { OnOk result (out.new.items ≡ out.old.items ++ change_user_bytes change.now) }
 {

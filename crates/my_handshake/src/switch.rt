@@ -1,12 +1,12 @@
 //! The packets of logging in that ask for more.
 
-ghost use Rattle.std.specs.Prelude.{◌≡◌, ◌↔◌, List, ℕ, Some};
+ghost use Rattle.std.specs.Prelude.{◌≡◌, ◌↔◌, IfOk, List, ℕ, Some};
 ghost use Rattle.std.specs.Option.{ok_or, option_map};
 ghost use Rattle.my_frame.specs.Reading.{Gives, ReadsExactly};
 ghost use Rattle.my_handshake.specs.SwitchRequest.{IsMoreData, IsSwitch, asked_at, more_data_at, switch_at, without_last_zero};
 
 use my_frame::numbers::{take_head, take_text0, take_u8};
-use my_frame::{Blob, ReadError};
+use my_frame::{Blob, NoMemory, ReadError};
 use std::alloc::Global;
 
 /// The server wants another way to log in.
@@ -16,6 +16,18 @@ pub struct SwitchRequest {
     pub plugin: Blob,
     /// The random bytes to answer, none where the server told none.
     pub nonce: Blob,
+}
+
+impl SwitchRequest {
+    /// A second value of the same request.
+    pub fn copy(&self, alloc: Global) -> Result<SwitchRequest, NoMemory>
+        ensures { IfOk result (λ copy. copy ≡ self.now) }
+    {
+        Ok(SwitchRequest {
+            plugin: self.plugin.copy(alloc)?,
+            nonce: self.nonce.copy(alloc)?,
+        })
+    }
 }
 
 /// The way to log in tells something.

@@ -11,7 +11,7 @@ eof_found payload eof e =
     bind_then (head_at 0xFE payload) _ eof e (λ a ea na.
     bind_then (number_at 2 a) _ eof na (λ b eb nb.
     bind_then (number_at 2 b.1) _ eof nb (λ c ec nc.
-    let fields : EofPacket = record { warnings = b.0; status = c.0 } in
+    let fields : EofPacket = record { warnings = b.0; status = record { 0 = c.0 } } in
     let p = passed (leb (length c.1) 2) fields eof nc in
     let t = p.0 in
     subst (λ o. IsEof payload o) {x = fields} p.1 (record {
@@ -28,4 +28,4 @@ pub eof_again : (payload : List ℕ) (eof : EofPacket) → IsEof payload eof →
 eof_again payload eof w =
     let short = w.short in
     let b : leb (length w.left) 2 ≡ true = grind (arith, nat_tests) in
-    rw (head_again 0xFE payload w.after_head w.spelled, number_again 2 w.after_head eof.warnings w.after_warnings w.warnings, number_again 2 w.after_warnings eof.status w.left w.status, b) refl
+    rw (head_again 0xFE payload w.after_head w.spelled, number_again 2 w.after_head eof.warnings w.after_warnings w.warnings, number_again 2 w.after_warnings eof.status.0 w.left w.status, b) refl

@@ -1,6 +1,7 @@
 -- The OK packet, as a relation and as what is read.
 use Rattle.std.proofs.Common.{◌≡◌, ℕ, inl, inr, List, length, true, ltb, Option, Some, None, refl, sym, ap, subst, arith}
 use Rattle.std.proofs.lemmas.Bool.Decides.{nat_tests}
+use Rattle.my_frame.specs.declared.limits.TheConstants.{FULL_LENGTH}
 use Rattle.my_reply.specs.declared.ok.OkPacket.{OkPacket}
 use Rattle.my_frame.specs.Numbers.{head_at, len_at, number_at, text_at}
 use Rattle.my_reply.specs.OkPacket.{IsInfo, IsFields, IsOk, IsEndOk, info_at, info_of, fields_at, ok_at, end_ok_at}
@@ -29,7 +30,7 @@ fields_found bytes ok e =
     bind_then (len_at a.1) _ ok na (λ b eb nb.
     bind_then (number_at 2 b.1) _ ok nb (λ c ec nc.
     bind_then (number_at 2 c.1) _ ok nc (λ d ed nd.
-    let fields : OkPacket = record { affected = a.0; insert = b.0; status = c.0; warnings = d.0; info = info_of d.1 } in
+    let fields : OkPacket = record { affected = a.0; insert = b.0; status = record { 0 = c.0 }; warnings = d.0; info = info_of d.1 } in
     let same : fields ≡ ok = cc in
     subst (λ o. IsFields bytes o) {x = fields} same (record {
       after_affected = a.1;
@@ -46,7 +47,7 @@ fields_found bytes ok e =
 fields_again : (bytes : List ℕ) (ok : OkPacket) → IsFields bytes ok → fields_at bytes ≡ Some ok
 unfolding fields_at
 fields_again bytes ok w =
-    rw (len_again bytes ok.affected w.after_affected w.affected, len_again w.after_affected ok.insert w.after_insert w.insert, number_again 2 w.after_insert ok.status w.after_status w.status, number_again 2 w.after_status ok.warnings w.left w.warnings, info_again w.left ok.info (text_at w.left) refl w.info) refl
+    rw (len_again bytes ok.affected w.after_affected w.affected, len_again w.after_affected ok.insert w.after_insert w.insert, number_again 2 w.after_insert ok.status.0 w.after_status w.status, number_again 2 w.after_status ok.warnings w.left w.warnings, info_again w.left ok.info (text_at w.left) refl w.info) refl
 
 pub ok_found : (payload : List ℕ) (ok : OkPacket) → ok_at payload ≡ Some ok → IsOk payload ok
 ok_found payload ok e =
@@ -66,5 +67,5 @@ end_ok_found payload ok e =
 pub end_ok_again : (payload : List ℕ) (ok : OkPacket) → IsEndOk payload ok → end_ok_at payload ≡ Some ok
 end_ok_again payload ok w =
     let short = w.short in
-    let b : ltb (length payload) 0xFFFFFF ≡ true = grind (arith, nat_tests) in
+    let b : ltb (length payload) FULL_LENGTH ≡ true = grind (arith, nat_tests) in
     rw (b, head_again 0xFE payload w.after_head w.spelled) (fields_again w.after_head ok w.fields)

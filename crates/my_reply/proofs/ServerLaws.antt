@@ -3,8 +3,10 @@ use Rattle.std.proofs.Common.{◌≡◌, ℕ, ◌+◌, ◌*◌, ◌/◌, ◌%◌
 use Rattle.std.proofs.lemmas.List.{append-nil, take_at, take-append-drop}
 use Rattle.std.proofs.lemmas.Str.{utf8_lossy-IsUtf8}
 use Rattle.std.proofs.lemmas.Bool.Decides.{nat_tests}
-use Rattle.std.specs.Prelude.{bit_and}
 use Rattle.std.specs.List.{before_first}
+use Rattle.my_frame.specs.declared.limits.TheConstants.{FULL_LENGTH}
+use Rattle.my_flags.specs.Sets.{contains}
+use Rattle.my_handshake.specs.declared.greeting.TheConstants.{NEEDED_CAPABILITIES}
 use Rattle.my_handshake.specs.declared.greeting.Greeting.{Greeting}
 use Rattle.my_reply.specs.declared.ok.OkPacket.{OkPacket}
 use Rattle.my_reply.specs.declared.err.ErrPacket.{ErrPacket}
@@ -29,22 +31,22 @@ info_read_back (b ∷ info) h =
     let z : eqb (length all) 0 ≡ false = grind (arith, nat_tests) in
     rw z (ap (λ o. info_at o (text_bytes all)) e)
 
-fields_read_back : (ok : OkPacket) → IsSentOk ok → fields_at (len_bytes ok.affected ++ (len_bytes ok.insert ++ (le_bytes 2 ok.status ++ (le_bytes 2 ok.warnings ++ info_bytes ok.info)))) ≡ Some ok
+fields_read_back : (ok : OkPacket) → IsSentOk ok → fields_at (len_bytes ok.affected ++ (len_bytes ok.insert ++ (le_bytes 2 ok.status.0 ++ (le_bytes 2 ok.warnings ++ info_bytes ok.info)))) ≡ Some ok
 unfolding fields_at
 fields_read_back ok w =
-    rw (len_read_back ok.affected (len_bytes ok.insert ++ (le_bytes 2 ok.status ++ (le_bytes 2 ok.warnings ++ info_bytes ok.info))) w.affected, len_read_back ok.insert (le_bytes 2 ok.status ++ (le_bytes 2 ok.warnings ++ info_bytes ok.info)) w.insert, number_read_back 2 ok.status (le_bytes 2 ok.warnings ++ info_bytes ok.info) w.status, number_read_back 2 ok.warnings (info_bytes ok.info) w.warnings, info_read_back ok.info w.info) refl
+    rw (len_read_back ok.affected (len_bytes ok.insert ++ (le_bytes 2 ok.status.0 ++ (le_bytes 2 ok.warnings ++ info_bytes ok.info))) w.affected, len_read_back ok.insert (le_bytes 2 ok.status.0 ++ (le_bytes 2 ok.warnings ++ info_bytes ok.info)) w.insert, number_read_back 2 ok.status.0 (le_bytes 2 ok.warnings ++ info_bytes ok.info) w.status, number_read_back 2 ok.warnings (info_bytes ok.info) w.warnings, info_read_back ok.info w.info) refl
 
-ok_spelled : (head : ℕ) (ok : OkPacket) → ok_bytes head ok ≡ le_bytes 1 head ++ (len_bytes ok.affected ++ (len_bytes ok.insert ++ (le_bytes 2 ok.status ++ (le_bytes 2 ok.warnings ++ info_bytes ok.info))))
+ok_spelled : (head : ℕ) (ok : OkPacket) → ok_bytes head ok ≡ le_bytes 1 head ++ (len_bytes ok.affected ++ (len_bytes ok.insert ++ (le_bytes 2 ok.status.0 ++ (le_bytes 2 ok.warnings ++ info_bytes ok.info))))
 ok_spelled head ok = simp append_assoc
 
 pub ok_read_back : (ok : OkPacket) → IsSentOk ok → ok_at (ok_bytes 0x00 ok) ≡ Some ok
 unfolding le_bytes
 ok_read_back ok w = ap ok_at (ok_spelled 0x00 ok) ∙ fields_read_back ok w
 
-pub end_ok_read_back : (ok : OkPacket) → IsSentOk ok → length (ok_bytes 0xFE ok) < 0xFFFFFF → end_ok_at (ok_bytes 0xFE ok) ≡ Some ok
+pub end_ok_read_back : (ok : OkPacket) → IsSentOk ok → length (ok_bytes 0xFE ok) < FULL_LENGTH → end_ok_at (ok_bytes 0xFE ok) ≡ Some ok
 unfolding le_bytes
 end_ok_read_back ok w short =
-    let b : ltb (length (ok_bytes 0xFE ok)) 0xFFFFFF ≡ true = grind (arith, nat_tests) in
+    let b : ltb (length (ok_bytes 0xFE ok)) FULL_LENGTH ≡ true = grind (arith, nat_tests) in
     rw b (ap (λ p. head_at 0xFE p >>= λ rest. fields_at rest) (ok_spelled 0xFE ok) ∙ fields_read_back ok w)
 
 pub err_read_back : (err : ErrPacket) → IsSentErr err → err_at false (err_bytes err) ≡ Some err
@@ -85,18 +87,18 @@ first_read_back version id part rest small eight =
 settings_read_back : (g : Greeting) (rest : List ℕ) → IsSentGreeting g → settings_at (settings_bytes g ++ rest) ≡ Some (record { capabilities = g.capabilities; status = g.status; nonce_length = 21; extended = g.extended }, rest)
 unfolding settings_at
 settings_read_back g rest w =
-    let low = g.capabilities % 65536 in
-    let high = g.capabilities / 65536 in
+    let low = g.capabilities.0 % 65536 in
+    let high = g.capabilities.0 / 65536 in
     let caps = w.capabilities in
-    let both : low + 65536 * high ≡ g.capabilities = omega arith in
-    let r6 = le_bytes 4 g.extended ++ rest in
+    let both : low + 65536 * high ≡ g.capabilities.0 = omega arith in
+    let r6 = le_bytes 4 g.extended.0 ++ rest in
     let r5 = replicate 6 0 ++ r6 in
     let r4 = le_bytes 1 21 ++ r5 in
     let r3 = le_bytes 2 high ++ r4 in
-    let r2 = le_bytes 2 g.status ++ r3 in
+    let r2 = le_bytes 2 g.status.0 ++ r3 in
     let r1 = le_bytes 1 45 ++ r2 in
     let spelled : settings_bytes g ++ rest ≡ le_bytes 2 low ++ r1 = simp append_assoc in
-    ap settings_at spelled ∙ rw (number_read_back 2 low r1 (omega arith), number_read_back 1 45 r2 (lit< tt), number_read_back 2 g.status r3 w.status, number_read_back 2 high r4 (omega arith), number_read_back 1 21 r5 (lit< tt), bytes_again 6 r5 (replicate 6 0) r6 (record { count_is = refl; spelled = refl }), number_read_back 4 g.extended rest w.extended, both) refl
+    ap settings_at spelled ∙ rw (number_read_back 2 low r1 (omega arith), number_read_back 1 45 r2 (lit< tt), number_read_back 2 g.status.0 r3 w.status, number_read_back 2 high r4 (omega arith), number_read_back 1 21 r5 (lit< tt), bytes_again 6 r5 (replicate 6 0) r6 (record { count_is = refl; spelled = refl }), number_read_back 4 g.extended.0 rest w.extended, both) refl
 
 second_read_back : (part plugin : List ℕ) → length part ≡ 12 → second_at 21 (part ++ 0 ∷ text0_bytes plugin) ≡ Some (part, before_first (λ b. eqb b 0) plugin)
 unfolding text0_bytes
@@ -124,5 +126,4 @@ greeting_read_back g w =
     nine_joined (le_bytes 1 10) (text0_bytes g.version) (le_bytes 4 g.id) (take 8 (fitted g.nonce)) (le_bytes 1 0) (settings_bytes g) (drop 8 (fitted g.nonce)) (le_bytes 1 0) (text0_bytes g.plugin)
     ∙ ap (λ n. 10 ∷ (text0_bytes g.version ++ (le_bytes 4 g.id ++ (take 8 n ++ 0 ∷ (settings_bytes g ++ (drop 8 n ++ 0 ∷ text0_bytes g.plugin)))))) whole in
     let needed = w.needed in
-    let b : eqb (bit_and g.capabilities 0x88200) 0x88200 ≡ true = grind (arith, nat_tests) in
     ap greeting_at spelled ∙ rw (first_read_back g.version g.id first after w.id (length-take-le 8 g.nonce (omega arith)), settings_read_back g rest w, second_read_back second g.plugin (omega (arith, length-drop 8 g.nonce)), b, w.version, w.plugin, take-append-drop 8 g.nonce) refl

@@ -11,7 +11,7 @@ pub record IsEof (payload : List ℕ) (eof : EofPacket) : Type 0 where
   pub left : List ℕ
   pub spelled : payload ≡ 0xFE ∷ after_head
   pub warnings : IsNumber 2 after_head eof.warnings after_warnings
-  pub status : IsNumber 2 after_warnings eof.status left
+  pub status : IsNumber 2 after_warnings eof.status.0 left
   pub short : length left ≤ 2
 
 -- the same as a function that reads
@@ -20,4 +20,4 @@ eof_at payload = do
   rest ← head_at 0xFE payload
   warnings ← number_at 2 rest
   status ← number_at 2 warnings.1
-  if nat_le (length status.1) 2 then Some (record { warnings = warnings.0; status = status.0 }) else None
+  if nat_le (length status.1) 2 then Some (record { warnings = warnings.0; status = record { 0 = status.0 } }) else None

@@ -2,6 +2,7 @@
 -- MySQL internals, "Generic Response Packets": OK_Packet, with PROTOCOL_41, without SESSION_TRACK.
 use Rattle.std.specs.Prelude.{◌≡◌, ℕ, ◌<◌, ◌⊎◌, List, ◌∷◌, length, Option, Some, None, nat_lt, if◌then◌else◌}
 use Rattle.my_frame.specs.Numbers.{IsNumber, IsLen, IsText, head_at, number_at, len_at, text_at, ◌>>=◌}
+use Rattle.my_frame.specs.declared.limits.TheConstants.{FULL_LENGTH}
 use Rattle.my_reply.specs.declared.ok.OkPacket.{OkPacket}
 
 -- What is left is a text after its length, of which more may follow; else all of it is the info.
@@ -16,7 +17,7 @@ pub record IsFields (bytes : List ℕ) (ok : OkPacket) : Type 0 where
   pub left : List ℕ
   pub affected : IsLen bytes ok.affected after_affected
   pub insert : IsLen after_affected ok.insert after_insert
-  pub status : IsNumber 2 after_insert ok.status after_status
+  pub status : IsNumber 2 after_insert ok.status.0 after_status
   pub warnings : IsNumber 2 after_status ok.warnings left
   pub info : IsInfo left ok.info
 
@@ -29,7 +30,7 @@ pub record IsOk (payload : List ℕ) (ok : OkPacket) : Type 0 where
 -- The payload says that a set of rows ended; a longer one with that head is a row.
 pub record IsEndOk (payload : List ℕ) (ok : OkPacket) : Type 0 where
   pub after_head : List ℕ
-  pub short : length payload < 0xFFFFFF
+  pub short : length payload < FULL_LENGTH
   pub spelled : payload ≡ 0xFE ∷ after_head
   pub fields : IsFields after_head ok
 
@@ -47,7 +48,13 @@ fields_at bytes = do
   insert ← len_at affected.1
   status ← number_at 2 insert.1
   warnings ← number_at 2 status.1
-  Some (record { affected = affected.0; insert = insert.0; status = status.0; warnings = warnings.0; info = info_of warnings.1 })
+  Some (record {
+    affected = affected.0;
+    insert = insert.0;
+    status = record { 0 = status.0 };
+    warnings = warnings.0;
+    info = info_of warnings.1;
+  })
 
 abbrev pub ok_at : List ℕ → Option OkPacket
 ok_at payload = do
@@ -55,4 +62,4 @@ ok_at payload = do
   fields_at rest
 
 abbrev pub end_ok_at : List ℕ → Option OkPacket
-end_ok_at payload = if nat_lt (length payload) 0xFFFFFF then (head_at 0xFE payload >>= λ rest. fields_at rest) else None
+end_ok_at payload = if nat_lt (length payload) FULL_LENGTH then (head_at 0xFE payload >>= λ rest. fields_at rest) else None

@@ -17,16 +17,16 @@ pub record IsSentGreeting (g : Greeting) : Type 0 where
   pub version : HasNoZero g.version
   pub id : g.id < 2 ^ 32
   pub nonce : length g.nonce ≡ 20
-  pub capabilities : g.capabilities < 2 ^ 32
+  pub capabilities : g.capabilities.0 < 2 ^ 32
   pub needed : OffersNeeded g.capabilities
-  pub status : g.status < 2 ^ 16
+  pub status : g.status.0 < 2 ^ 16
   pub plugin : HasNoZero g.plugin
-  pub extended : g.extended < 2 ^ 32
+  pub extended : g.extended.0 < 2 ^ 32
 
 pub record IsSentOk (ok : OkPacket) : Type 0 where
   pub affected : ok.affected < 2 ^ 64
   pub insert : ok.insert < 2 ^ 64
-  pub status : ok.status < 2 ^ 16
+  pub status : ok.status.0 < 2 ^ 16
   pub warnings : ok.warnings < 2 ^ 16
   pub info : length ok.info < 2 ^ 64
 

@@ -17,7 +17,8 @@ fitted nonce = take 20 (nonce ++ replicate 20 0)
 -- capabilities in two halves, the character set 45 and the status between them, the nonce's length with its zero
 abbrev pub settings_bytes : Greeting → List ℕ
 settings_bytes g =
-    le_bytes 2 (g.capabilities % 65536) ++ le_bytes 1 45 ++ le_bytes 2 g.status ++ le_bytes 2 (g.capabilities / 65536) ++ le_bytes 1 21 ++ replicate 6 0 ++ le_bytes 4 g.extended
+    le_bytes 2 (g.capabilities.0 % 65536) ++ le_bytes 1 45 ++ le_bytes 2 g.status.0
+    ++ le_bytes 2 (g.capabilities.0 / 65536) ++ le_bytes 1 21 ++ replicate 6 0 ++ le_bytes 4 g.extended.0
 
 -- A greeting: the nonce stands in two parts round the settings.
 abbrev pub greeting_bytes : Greeting → List ℕ
@@ -30,7 +31,9 @@ info_bytes info = if length info == 0 then [] else text_bytes info
 
 -- An OK, whose head tells whether a command succeeded or a set of rows ended.
 abbrev pub ok_bytes : ℕ → OkPacket → List ℕ
-ok_bytes head ok = le_bytes 1 head ++ len_bytes ok.affected ++ len_bytes ok.insert ++ le_bytes 2 ok.status ++ le_bytes 2 ok.warnings ++ info_bytes ok.info
+ok_bytes head ok =
+    le_bytes 1 head ++ len_bytes ok.affected ++ len_bytes ok.insert ++ le_bytes 2 ok.status.0 ++ le_bytes 2 ok.warnings
+    ++ info_bytes ok.info
 
 -- An ERR with its state.
 abbrev pub err_bytes : ErrPacket → List ℕ
@@ -61,4 +64,4 @@ server_bytes (End ok) = ok_bytes 0xFE ok
 server_bytes (Refuse err) = err_bytes err
 server_bytes (Count n) = len_bytes n
 server_bytes (ColumnPacket c) = column_bytes c
-server_bytes (TextRow cells) = flat_map cell_bytes cells.items
+server_bytes (TextRow cells) = flat_map cell_bytes cells

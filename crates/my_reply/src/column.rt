@@ -1,13 +1,13 @@
 //! The packet that describes one column of a set of rows.
 
-ghost use Rattle.std.specs.Prelude.{◌≡◌, ◌↔◌, List, ℕ, Some};
+ghost use Rattle.std.specs.Prelude.{◌≡◌, ◌↔◌, IfOk, List, ℕ, Some};
 ghost use Rattle.std.specs.Option.{option_map};
 ghost use Rattle.my_frame.specs.Reading.{Gives, GivesAs, ReadsExactly};
 ghost use Rattle.my_frame.specs.Numbers.{text_at};
 ghost use Rattle.my_reply.specs.Column.{IsColumn, column_at, form_at, names_at};
 
 use my_frame::numbers::{take_len, take_text, take_u8, take_u16, take_u32};
-use my_frame::{Blob, ReadError};
+use my_frame::{Blob, Copied, NoMemory, ReadError};
 use std::alloc::Global;
 
 /// One column of a set of rows.
@@ -31,6 +31,32 @@ pub struct Column {
     pub flags: u16,
     /// Digits after the point that are shown.
     pub decimals: u8,
+}
+
+impl Column {
+    /// A second value of the same column.
+    pub fn copy(&self, alloc: Global) -> Result<Column, NoMemory>
+        ensures { IfOk result (λ copy. copy ≡ self.now) }
+    {
+        Ok(Column {
+            schema: self.schema.copy(alloc)?,
+            table: self.table.copy(alloc)?,
+            org_table: self.org_table.copy(alloc)?,
+            name: self.name.copy(alloc)?,
+            org_name: self.org_name.copy(alloc)?,
+            charset: self.charset,
+            length: self.length,
+            column_type: self.column_type,
+            flags: self.flags,
+            decimals: self.decimals,
+        })
+    }
+}
+
+impl Copied for Column {
+    fn copy(&self, alloc: Global) -> Result<Column, NoMemory> {
+        Column::copy(self, alloc)
+    }
 }
 
 // The names of a column, of its table and of its schema.

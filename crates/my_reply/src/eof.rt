@@ -5,6 +5,7 @@ ghost use Rattle.std.specs.Option.{ok_or};
 ghost use Rattle.my_frame.specs.Reading.{ReadsExactly};
 ghost use Rattle.my_reply.specs.EofPacket.{IsEof, eof_at};
 
+use my_flags::StatusFlags;
 use my_frame::ReadError;
 use my_frame::numbers::{take_head, take_u16};
 
@@ -12,8 +13,7 @@ use my_frame::numbers::{take_head, take_u16};
 #[derive(Clone, Copy, Debug, PartialEq, Eq)]
 pub struct EofPacket {
     pub warnings: u16,
-    /// The server's status bits.
-    pub status: u16,
+    pub status: StatusFlags,
 }
 
 fn eof_of(payload: &[u8]) -> Option<EofPacket>
@@ -25,7 +25,10 @@ fn eof_of(payload: &[u8]) -> Option<EofPacket>
     if rest.len() > 2 {
         return None;
     }
-    Some(EofPacket { warnings, status })
+    Some(EofPacket {
+        warnings,
+        status: StatusFlags(status),
+    })
 }
 
 /// Reads the end of columns or rows.

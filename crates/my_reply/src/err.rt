@@ -1,11 +1,11 @@
 //! The packet that says that a command failed.
 
-ghost use Rattle.std.specs.Prelude.{◌≡◌, ◌↔◌, Bool, List, ℕ, Some};
+ghost use Rattle.std.specs.Prelude.{◌≡◌, ◌↔◌, Bool, IfOk, List, ℕ, Some};
 ghost use Rattle.my_frame.specs.Reading.{Gives, GivesAs, ReadsExactly};
 ghost use Rattle.my_reply.specs.ErrPacket.{IsErr, err_at, told_at};
 
 use my_frame::numbers::{take_bytes, take_head, take_u16};
-use my_frame::{ReadError, Text};
+use my_frame::{NoMemory, ReadError, Text};
 use std::alloc::Global;
 
 /// What a server says of a command that failed.
@@ -15,6 +15,19 @@ pub struct ErrPacket {
     /// The SQL state, `HY000` where the server told none.
     pub state: [u8; 5],
     pub message: Text,
+}
+
+impl ErrPacket {
+    /// A second value of the same packet.
+    pub fn copy(&self, alloc: Global) -> Result<ErrPacket, NoMemory>
+        ensures { IfOk result (λ copy. copy ≡ self.now) }
+    {
+        Ok(ErrPacket {
+            code: self.code,
+            state: self.state,
+            message: self.message.copy(alloc)?,
+        })
+    }
 }
 
 // The state and the message after the code.

@@ -1,12 +1,12 @@
 //! The packet that holds one event of a binary log.
 
-ghost use Rattle.std.specs.Prelude.{◌≡◌, ◌↔◌, List, ℕ, Some};
+ghost use Rattle.std.specs.Prelude.{◌≡◌, ◌↔◌, IfOk, List, ℕ, Some};
 ghost use Rattle.std.specs.Option.{option_map};
 ghost use Rattle.my_frame.specs.Reading.{Gives, ReadsExactly};
 ghost use Rattle.my_reply.specs.Event.{IsEvent, event_at, header_at};
 
 use my_frame::numbers::{take_head, take_u8, take_u16, take_u32, take_u48};
-use my_frame::{Blob, ReadError};
+use my_frame::{Blob, NoMemory, ReadError};
 use std::alloc::Global;
 
 /// An event of a binary log.
@@ -91,6 +91,21 @@ pub fn read_event(alloc: Global, payload: &[u8]) -> Result<Event, ReadError>
 
 impl Event {
     ghost use Rattle.my_reply.specs.Event.{table_id_of};
+
+    /// A second value of the same event.
+    pub fn copy(&self, alloc: Global) -> Result<Event, NoMemory>
+        ensures { IfOk result (λ copy. copy ≡ self.now) }
+    {
+        Ok(Event {
+            timestamp: self.timestamp,
+            kind: self.kind,
+            server: self.server,
+            size: self.size,
+            position: self.position,
+            flags: self.flags,
+            body: self.body.copy(alloc)?,
+        })
+    }
 
     /// The number of the table that it maps, where it maps one.
     pub fn table_id(&self) -> Option<u64>

@@ -7,34 +7,36 @@ ghost use Rattle.my_reply.specs.ErrPacket.{err_at, told_at};
 ghost use Rattle.my_reply.specs.Column.{column_at, names_at};
 
 use crate::column::form_of;
+use my_flags::StatusFlags;
+use my_frame::FULL_LENGTH;
 use my_frame::numbers::{take_head, take_len, take_text, take_u16};
 
 // The status after an OK's head.
 #[tactic(auto, unfolding(crate::specs::OkPacket::fields_at))]
-fn fields_status(bytes: &[u8]) -> Option<u16>
+fn fields_status(bytes: &[u8]) -> Option<StatusFlags>
     ensures { result ≡ option_map (λ ok. ok.status) (fields_at bytes.now) }
 {
     let (_affected, rest) = take_len(bytes)?;
     let (_insert, rest) = take_len(rest)?;
     let (status, rest) = take_u16(rest)?;
     let (_warnings, _rest) = take_u16(rest)?;
-    Some(status)
+    Some(StatusFlags(status))
 }
 
-/// The status bits of the OK packet, if it is one.
-pub fn ok_status(payload: &[u8]) -> Option<u16>
+/// The status of the OK packet, if it is one.
+pub fn ok_status(payload: &[u8]) -> Option<StatusFlags>
     ensures { result ≡ option_map (λ ok. ok.status) (ok_at payload.now) }
 {
     let rest = take_head(payload, 0x00)?;
     fields_status(rest)
 }
 
-/// The status bits of the OK packet that ends a set of rows, if it is one.
-pub fn end_ok_status(payload: &[u8]) -> Option<u16>
+/// The status of the OK packet that ends a set of rows, if it is one.
+pub fn end_ok_status(payload: &[u8]) -> Option<StatusFlags>
     ensures { result ≡ option_map (λ ok. ok.status) (end_ok_at payload.now) }
 {
     let rest = take_head(payload, 0xFE)?;
-    if payload.len() >= 0xFF_FFFF {
+    if payload.len() >= FULL_LENGTH {
         return None;
     }
     fields_status(rest)

@@ -1,11 +1,12 @@
 //! The packet that says that a command succeeded, or that a set of rows ended.
 
-ghost use Rattle.std.specs.Prelude.{◌≡◌, ◌↔◌, List, ℕ, Some};
+ghost use Rattle.std.specs.Prelude.{◌≡◌, ◌↔◌, IfOk, List, ℕ, Some};
 ghost use Rattle.my_frame.specs.Reading.{Gives, ReadsExactly};
 ghost use Rattle.my_reply.specs.OkPacket.{IsEndOk, IsOk, end_ok_at, fields_at, info_of, ok_at};
 
+use my_flags::StatusFlags;
 use my_frame::numbers::{take_head, take_len, take_text, take_u16};
-use my_frame::{Blob, ReadError};
+use my_frame::{Blob, FULL_LENGTH, NoMemory, ReadError};
 use std::alloc::Global;
 
 /// What a server says of a command that succeeded, or of a set of rows that ended.
@@ -15,11 +16,25 @@ pub struct OkPacket {
     pub affected: u64,
     /// The number that the server made for the last new row, 0 where it made none.
     pub insert: u64,
-    /// The server's status bits.
-    pub status: u16,
+    pub status: StatusFlags,
     pub warnings: u16,
     /// A remark for people.
     pub info: Blob,
+}
+
+impl OkPacket {
+    /// A second value of the same packet.
+    pub fn copy(&self, alloc: Global) -> Result<OkPacket, NoMemory>
+        ensures { IfOk result (λ copy. copy ≡ self.now) }
+    {
+        Ok(OkPacket {
+            affected: self.affected,
+            insert: self.insert,
+            status: self.status,
+            warnings: self.warnings,
+            info: self.info.copy(alloc)?,
+        })
+    }
 }
 
 // The text that follows its length, of which more may follow; else all that is left.
@@ -44,7 +59,7 @@ fn fields_of(alloc: Global, bytes: &[u8]) -> Result<OkPacket, ReadError>
     Ok(OkPacket {
         affected,
         insert,
-        status,
+        status: StatusFlags(status),
         warnings,
         info,
     })
@@ -60,7 +75,7 @@ fn ok_of(alloc: Global, payload: &[u8]) -> Result<OkPacket, ReadError>
 fn end_ok_of(alloc: Global, payload: &[u8]) -> Result<OkPacket, ReadError>
     ensures { Gives result (end_ok_at payload.now) }
 {
-    if payload.len() >= 0xFF_FFFF {
+    if payload.len() >= FULL_LENGTH {
         return Err(ReadError::Malformed);
     }
     let rest = take_head(payload, 0xFE).ok_or(ReadError::Malformed)?;

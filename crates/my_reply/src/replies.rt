@@ -1,12 +1,12 @@
 //! The replies to a text that is to be kept, and to a query that reads a file of the client.
 
-ghost use Rattle.std.specs.Prelude.{◌≡◌, ◌↔◌, List, ℕ, Some};
+ghost use Rattle.std.specs.Prelude.{◌≡◌, ◌↔◌, IfOk, List, ℕ, Some};
 ghost use Rattle.std.specs.Option.{ok_or};
 ghost use Rattle.my_frame.specs.Reading.{Gives, ReadsExactly};
 ghost use Rattle.my_reply.specs.Replies.{IsInfile, IsPrepareOk, infile_at, prepare_ok_at};
 
 use my_frame::numbers::{take_bytes, take_head, take_u16, take_u32};
-use my_frame::{Blob, ReadError};
+use my_frame::{Blob, NoMemory, ReadError};
 use std::alloc::Global;
 
 /// A text is kept as a statement.
@@ -25,6 +25,17 @@ pub struct PrepareOk {
 #[derive(Debug, Drop, PartialEq, Eq)]
 pub struct InfileRequest {
     pub name: Blob,
+}
+
+impl InfileRequest {
+    /// A second value of the same request.
+    pub fn copy(&self, alloc: Global) -> Result<InfileRequest, NoMemory>
+        ensures { IfOk result (λ copy. copy ≡ self.now) }
+    {
+        Ok(InfileRequest {
+            name: self.name.copy(alloc)?,
+        })
+    }
 }
 
 #[tactic(auto, unfolding(crate::specs::Replies::prepare_ok_at))]

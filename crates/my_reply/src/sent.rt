@@ -1,6 +1,7 @@
 //! What a server wrote is read back.
 
 ghost use Rattle.std.specs.Prelude.{◌≡◌, ◌<◌, ◌≤◌, ℕ, Bool, Some, false, length};
+ghost use Rattle.my_frame.specs.declared.limits.TheConstants.{FULL_LENGTH};
 ghost use Rattle.my_reply.specs.ColumnCount.{column_count_at};
 ghost use Rattle.my_reply.specs.Column.{column_at};
 ghost use Rattle.my_reply.specs.ErrPacket.{err_at};
@@ -20,7 +21,7 @@ use my_handshake::Greeting;
 pub fn written_packets_are_read()
     ensures greeting { (g : Greeting) → IsSentGreeting g → greeting_at (server_bytes (ServerPacket.Greeting g)) ≡ Some g }
     ensures ok { (ok : OkPacket) → IsSentOk ok → ok_at (server_bytes (ServerPacket.Fine ok)) ≡ Some ok }
-    ensures end_ok { (ok : OkPacket) → IsSentOk ok → length (server_bytes (ServerPacket.End ok)) < 0xFFFFFF → end_ok_at (server_bytes (ServerPacket.End ok)) ≡ Some ok }
+    ensures end_ok { (ok : OkPacket) → IsSentOk ok → length (server_bytes (ServerPacket.End ok)) < FULL_LENGTH → end_ok_at (server_bytes (ServerPacket.End ok)) ≡ Some ok }
     ensures err { (err : ErrPacket) → IsSentErr err → err_at false (server_bytes (ServerPacket.Refuse err)) ≡ Some err }
     ensures count { (cached : Bool) (n : ℕ) → 0 < n → n ≤ 65535 → column_count_at cached (server_bytes (ServerPacket.Count n)) ≡ Some (record { count = n; skipped = false }) }
     ensures column { (c : Column) → IsSentColumn c → column_at (server_bytes (ServerPacket.Column c)) ≡ Some c }

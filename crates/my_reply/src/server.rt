@@ -8,12 +8,12 @@ use crate::column::Column;
 use crate::err::ErrPacket;
 use crate::ok::OkPacket;
 use my_frame::writing::{put_len, put_text, put_text0, put_u8, put_u16, put_u32};
-use my_frame::{Blob, NoMemory};
+use my_frame::{Blob, Copied, Listed, NoMemory};
 use my_handshake::Greeting;
-use std::alloc::{AllocError, Global};
+use std::alloc::Global;
 
 /// A packet of the server.
-#[derive(Drop)]
+#[derive(Debug, Drop, PartialEq, Eq)]
 pub enum ServerPacket {
     /// Sent first.
     Greeting(Greeting),
@@ -27,12 +27,29 @@ pub enum ServerPacket {
     Count(u16),
     Column(Column),
     /// The cells of a row as text; `None` is NULL.
-    TextRow(Vec<Option<Blob>>),
+    TextRow(Listed<Option<Blob>>),
+}
+
+impl ServerPacket {
+    /// A second value of the same packet.
+    pub fn copy(&self, alloc: Global) -> Result<ServerPacket, NoMemory>
+        ensures { IfOk result (λ copy. copy ≡ self.now) }
+    {
+        match self {
+            ServerPacket::Greeting(greeting) => Ok(ServerPacket::Greeting(greeting.copy(alloc)?)),
+            ServerPacket::Fine(ok) => Ok(ServerPacket::Fine(ok.copy(alloc)?)),
+            ServerPacket::End(ok) => Ok(ServerPacket::End(ok.copy(alloc)?)),
+            ServerPacket::Refuse(err) => Ok(ServerPacket::Refuse(err.copy(alloc)?)),
+            ServerPacket::Count(count) => Ok(ServerPacket::Count(*count)),
+            ServerPacket::Column(column) => Ok(ServerPacket::Column(column.copy(alloc)?)),
+            ServerPacket::TextRow(cells) => Ok(ServerPacket::TextRow(cells.copy(alloc)?)),
+        }
+    }
 }
 
 // A nonce of 20 bytes: cut, or filled with zeros.
 #[tactic(auto, unfolding(crate::specs::Server::fitted))]
-fn fitted(alloc: Global, nonce: &[u8]) -> Result<Vec<u8>, AllocError>
+fn fitted(alloc: Global, nonce: &[u8]) -> Result<Vec<u8>, NoMemory>
     ensures bytes { IfOk result (λ v. v.items ≡ fitted nonce.now) }
     ensures len { IfOk result (λ v. length v.items ≡ 20) }
 {
@@ -42,19 +59,19 @@ fn fitted(alloc: Global, nonce: &[u8]) -> Result<Vec<u8>, AllocError>
     Ok(bytes)
 }
 
-fn put_settings(out: &mut Vec<u8>, greeting: &Greeting) -> Result<(), AllocError>
+fn put_settings(out: &mut Vec<u8>, greeting: &Greeting) -> Result<(), NoMemory>
     ensures { OnOk result (out.new.items ≡ out.old.items ++ settings_bytes greeting.now) }
 {
-    put_u16(out, (greeting.capabilities % 65_536) as u16)?;
+    put_u16(out, (greeting.capabilities.0 % 65_536) as u16)?;
     put_u8(out, 45)?;
-    put_u16(out, greeting.status)?;
-    put_u16(out, (greeting.capabilities / 65_536) as u16)?;
+    put_u16(out, greeting.status.0)?;
+    put_u16(out, (greeting.capabilities.0 / 65_536) as u16)?;
     put_u8(out, 21)?;
     out.extend_from_slice(&[0; 6])?;
-    put_u32(out, greeting.extended)
+    put_u32(out, greeting.extended.0)
 }
 
-fn put_greeting(alloc: Global, out: &mut Vec<u8>, greeting: &Greeting) -> Result<(), AllocError>
+fn put_greeting(alloc: Global, out: &mut Vec<u8>, greeting: &Greeting) -> Result<(), NoMemory>
     ensures { OnOk result (out.new.items ≡ out.old.items ++ greeting_bytes greeting.now) }
 {
     let nonce = fitted(alloc, greeting.nonce.as_slice())?;
@@ -70,7 +87,7 @@ fn put_greeting(alloc: Global, out: &mut Vec<u8>, greeting: &Greeting) -> Result
     put_text0(out, greeting.plugin.as_slice())
 }
 
-fn put_info(out: &mut Vec<u8>, info: &[u8]) -> Result<(), AllocError>
+fn put_info(out: &mut Vec<u8>, info: &[u8]) -> Result<(), NoMemory>
     ensures { OnOk result (out.new.items ≡ out.old.items ++ info_bytes info.now) }
 {
     if info.is_empty() {
@@ -79,28 +96,29 @@ fn put_info(out: &mut Vec<u8>, info: &[u8]) -> Result<(), AllocError>
     put_text(out, info)
 }
 
-fn put_ok(out: &mut Vec<u8>, head: u8, ok: &OkPacket) -> Result<(), AllocError>
+fn put_ok(out: &mut Vec<u8>, head: u8, ok: &OkPacket) -> Result<(), NoMemory>
     ensures { OnOk result (out.new.items ≡ out.old.items ++ ok_bytes head ok.now) }
 {
     put_u8(out, head)?;
     put_len(out, ok.affected)?;
     put_len(out, ok.insert)?;
-    put_u16(out, ok.status)?;
+    put_u16(out, ok.status.0)?;
     put_u16(out, ok.warnings)?;
     put_info(out, ok.info.as_slice())
 }
 
-fn put_err(out: &mut Vec<u8>, err: &ErrPacket) -> Result<(), AllocError>
+fn put_err(out: &mut Vec<u8>, err: &ErrPacket) -> Result<(), NoMemory>
     ensures { OnOk result (out.new.items ≡ out.old.items ++ err_bytes err.now) }
 {
     put_u8(out, 0xFF)?;
     put_u16(out, err.code)?;
     put_u8(out, b'#')?;
     out.extend_from_slice(&err.state)?;
-    out.extend_from_slice(err.message.as_str().as_bytes())
+    out.extend_from_slice(err.message.as_str().as_bytes())?;
+    Ok(())
 }
 
-fn put_names(out: &mut Vec<u8>, column: &Column) -> Result<(), AllocError>
+fn put_names(out: &mut Vec<u8>, column: &Column) -> Result<(), NoMemory>
     ensures { OnOk result (out.new.items ≡ out.old.items ++ names_bytes column.now) }
 {
     put_text(out, b"def")?;
@@ -111,7 +129,7 @@ fn put_names(out: &mut Vec<u8>, column: &Column) -> Result<(), AllocError>
     put_text(out, column.org_name.as_slice())
 }
 
-fn put_form(out: &mut Vec<u8>, column: &Column) -> Result<(), AllocError>
+fn put_form(out: &mut Vec<u8>, column: &Column) -> Result<(), NoMemory>
     ensures { OnOk result (out.new.items ≡ out.old.items ++ form_bytes column.now) }
 {
     put_len(out, 0x0C)?;
@@ -123,14 +141,14 @@ fn put_form(out: &mut Vec<u8>, column: &Column) -> Result<(), AllocError>
     put_u16(out, 0)
 }
 
-fn put_column(out: &mut Vec<u8>, column: &Column) -> Result<(), AllocError>
+fn put_column(out: &mut Vec<u8>, column: &Column) -> Result<(), NoMemory>
     ensures { OnOk result (out.new.items ≡ out.old.items ++ column_bytes column.now) }
 {
     put_names(out, column)?;
     put_form(out, column)
 }
 
-fn put_cell(out: &mut Vec<u8>, cell: &Option<Blob>) -> Result<(), AllocError>
+fn put_cell(out: &mut Vec<u8>, cell: &Option<Blob>) -> Result<(), NoMemory>
     ensures { OnOk result (out.new.items ≡ out.old.items ++ cell_bytes cell.now) }
 {
     match cell {
@@ -139,7 +157,7 @@ fn put_cell(out: &mut Vec<u8>, cell: &Option<Blob>) -> Result<(), AllocError>
     }
 }
 
-fn put_row(out: &mut Vec<u8>, cells: &[Option<Blob>]) -> Result<(), AllocError>
+fn put_row(out: &mut Vec<u8>, cells: &[Option<Blob>]) -> Result<(), NoMemory>
     ensures { OnOk result (out.new.items ≡ out.old.items ++ flat_map cell_bytes cells.now) }
 {
     for cell in cells {
@@ -148,7 +166,7 @@ fn put_row(out: &mut Vec<u8>, cells: &[Option<Blob>]) -> Result<(), AllocError>
     Ok(())
 }
 
-fn put_packet(alloc: Global, out: &mut Vec<u8>, packet: &ServerPacket) -> Result<(), AllocError>
+fn put_packet(alloc: Global, out: &mut Vec<u8>, packet: &ServerPacket) -> Result<(), NoMemory>
     ensures { OnOk result (out.new.items ≡ out.old.items ++ server_bytes packet.now) }
 {
     match packet {
