@@ -4,13 +4,14 @@ ghost use Rattle.std.specs.Prelude.{◌≡◌, ◌<◌, ◌^◌, IfOk, length};
 ghost use Rattle.my_command.specs.Client.Packet.{PartsFit};
 ghost use Rattle.my_command.specs.Client.Replica.{gtid_block};
 
-use my_command::{
-    BulkExecute, ClientPacket, Dump, DumpGtid, Execute, Parameter, ParameterType, RegisterSlave,
-    Sid, gtid_block_has_this_length,
-};
-use my_frame::Blob;
+use my_command::ClientPacket;
+use my_command::laws::gtid_block_has_this_length;
+use my_command::replica::{Dump, DumpGtid, RegisterSlave, Sid};
+use my_command::statement::{BulkExecute, Execute, Parameter, ParameterType};
+use my_flags::{CapabilityFlags, MariadbCapabilities};
+use my_frame::{Blob, Listed, NoMemory};
 use my_handshake::{Attributes, ChangeUser, HandshakeResponse};
-use std::alloc::{AllocError, Global};
+use std::alloc::Global;
 
 /// Which packet.
 #[derive(Clone, Copy)]
@@ -46,15 +47,15 @@ fn login(
     capabilities: u32,
     extended: u32,
     scramble: &[u8],
-) -> Result<ClientPacket, AllocError>
+) -> Result<ClientPacket, NoMemory>
     requires { length scramble.now < 256 }
     ensures { IfOk result PartsFit }
 {
     Ok(ClientPacket::Response(HandshakeResponse {
-        capabilities,
+        capabilities: CapabilityFlags(capabilities),
         max_packet: 4_194_304,
         charset: 45,
-        extended,
+        extended: MariadbCapabilities(extended),
         user: Blob::from_slice(alloc, b"root\0more")?,
         scramble: Blob::from_slice(alloc, scramble)?,
         database: Blob::from_slice(alloc, b"shop")?,
@@ -63,7 +64,7 @@ fn login(
     }))
 }
 
-fn attributes(alloc: Global) -> Result<Attributes, AllocError> {
+fn attributes(alloc: Global) -> Result<Attributes, NoMemory> {
     let mut attributes = Attributes::new(alloc);
     for (key, value) in [(b"pid", b"7"), (b"osx", b"x")] {
         let key = Blob::from_slice(alloc, key)?;
@@ -72,7 +73,7 @@ fn attributes(alloc: Global) -> Result<Attributes, AllocError> {
     Ok(attributes)
 }
 
-fn change_user(alloc: Global) -> Result<ClientPacket, AllocError>
+fn change_user(alloc: Global) -> Result<ClientPacket, NoMemory>
     ensures { IfOk result PartsFit }
 {
     Ok(ClientPacket::ChangeUser(ChangeUser {
@@ -85,7 +86,7 @@ fn change_user(alloc: Global) -> Result<ClientPacket, AllocError>
     }))
 }
 
-fn parameter(alloc: Global, kind: u8, flag: u8, value: &[u8]) -> Result<Parameter, AllocError> {
+fn parameter(alloc: Global, kind: u8, flag: u8, value: &[u8]) -> Result<Parameter, NoMemory> {
     let value = Some(Blob::from_slice(alloc, value)?);
     Ok(Parameter {
         form: ParameterType { kind, flag },
@@ -93,8 +94,8 @@ fn parameter(alloc: Global, kind: u8, flag: u8, value: &[u8]) -> Result<Paramete
     })
 }
 
-fn execute_three(alloc: Global) -> Result<Execute, AllocError> {
-    let mut parameters = Vec::new(alloc);
+fn execute_three(alloc: Global) -> Result<Execute, NoMemory> {
+    let mut parameters = Listed::new(alloc);
     parameters.push(parameter(alloc, 0xFD, 0, b"\x03bar")?)?;
     parameters.push(parameter(alloc, 8, 0, b"\x2a\0\0\0\0\0\0\0")?)?;
     parameters.push(parameter(alloc, 0xFD, 0, b"\x03bar")?)?;
@@ -104,9 +105,9 @@ fn execute_three(alloc: Global) -> Result<Execute, AllocError> {
     })
 }
 
-fn execute_nine(alloc: Global) -> Result<Execute, AllocError> {
+fn execute_nine(alloc: Global) -> Result<Execute, NoMemory> {
     let form = ParameterType { kind: 6, flag: 0 };
-    let mut parameters = Vec::new(alloc);
+    let mut parameters = Listed::new(alloc);
     parameters.push(Parameter { form, value: None })?;
     parameters.push(parameter(alloc, 8, 0x80, b"\x07\0\0\0\0\0\0\0")?)?;
     for _ in 2..9 {
@@ -118,14 +119,14 @@ fn execute_nine(alloc: Global) -> Result<Execute, AllocError> {
     })
 }
 
-fn bulk(alloc: Global) -> Result<BulkExecute, AllocError> {
-    let mut types = Vec::new(alloc);
+fn bulk(alloc: Global) -> Result<BulkExecute, NoMemory> {
+    let mut types = Listed::new(alloc);
     types.push(ParameterType { kind: 8, flag: 0 })?;
-    let mut first = Vec::new(alloc);
+    let mut first = Listed::new(alloc);
     first.push(Some(Blob::from_slice(alloc, b"\x01\0\0\0\0\0\0\0")?))?;
-    let mut second = Vec::new(alloc);
+    let mut second = Listed::new(alloc);
     second.push(None)?;
-    let mut rows = Vec::new(alloc);
+    let mut rows = Listed::new(alloc);
     rows.push(first)?;
     rows.push(second)?;
     Ok(BulkExecute {
@@ -140,7 +141,7 @@ fn register(
     host: &[u8],
     password: &[u8],
     port: u16,
-) -> Result<ClientPacket, AllocError>
+) -> Result<ClientPacket, NoMemory>
     requires host { length host.now < 256 }
     requires password { length password.now < 256 }
     ensures { IfOk result PartsFit }
@@ -154,7 +155,7 @@ fn register(
     }))
 }
 
-fn dump(alloc: Global, position: u64, non_blocking: bool) -> Result<Dump, AllocError> {
+fn dump(alloc: Global, position: u64, non_blocking: bool) -> Result<Dump, NoMemory> {
     Ok(Dump {
         position,
         non_blocking,
@@ -163,9 +164,9 @@ fn dump(alloc: Global, position: u64, non_blocking: bool) -> Result<Dump, AllocE
     })
 }
 
-fn sid(alloc: Global) -> Result<Sid, AllocError>
+fn sid(alloc: Global) -> Result<Sid, NoMemory>
     ensures uuid { IfOk result (λ s. length s.uuid ≡ 16) }
-    ensures intervals { IfOk result (λ s. length s.intervals.items ≡ 1) }
+    ensures intervals { IfOk result (λ s. length s.intervals ≡ 1) }
 {
     let mut intervals = Vec::new(alloc);
     intervals.push((1, 6))?;
@@ -175,16 +176,16 @@ fn sid(alloc: Global) -> Result<Sid, AllocError>
     })
 }
 
-fn sids(alloc: Global) -> Result<Vec<Sid>, AllocError>
-    ensures { IfOk result (λ v. length (gtid_block v.items) < 2 ^ 32) }
+fn sids(alloc: Global) -> Result<Listed<Sid>, NoMemory>
+    ensures { IfOk result (λ v. length (gtid_block v) < 2 ^ 32) }
 {
     gtid_block_has_this_length();
-    let mut all = Vec::new(alloc);
+    let mut all = Listed::new(alloc);
     all.push(sid(alloc)?)?;
     Ok(all)
 }
 
-fn dump_gtid(alloc: Global) -> Result<ClientPacket, AllocError>
+fn dump_gtid(alloc: Global) -> Result<ClientPacket, NoMemory>
     ensures { IfOk result PartsFit }
 {
     Ok(ClientPacket::DumpGtid(DumpGtid {
@@ -196,7 +197,7 @@ fn dump_gtid(alloc: Global) -> Result<ClientPacket, AllocError>
     }))
 }
 
-fn long_data(alloc: Global) -> Result<ClientPacket, AllocError>
+fn long_data(alloc: Global) -> Result<ClientPacket, NoMemory>
     ensures { IfOk result PartsFit }
 {
     Ok(ClientPacket::LongData {
@@ -207,7 +208,7 @@ fn long_data(alloc: Global) -> Result<ClientPacket, AllocError>
 }
 
 /// The packet of this case.
-pub fn packet_of(alloc: Global, case: Case) -> Result<ClientPacket, AllocError>
+pub fn packet_of(alloc: Global, case: Case) -> Result<ClientPacket, NoMemory>
     ensures { IfOk result PartsFit }
 {
     match case {
@@ -229,7 +230,7 @@ pub fn packet_of(alloc: Global, case: Case) -> Result<ClientPacket, AllocError>
         Case::Answer(bytes) => Ok(ClientPacket::SwitchAnswer(Blob::from_slice(alloc, bytes)?)),
         Case::Execute { statement } => Ok(ClientPacket::Execute(Execute {
             statement,
-            parameters: Vec::new(alloc),
+            parameters: Listed::new(alloc),
         })),
         Case::ExecuteThree => Ok(ClientPacket::Execute(execute_three(alloc)?)),
         Case::ExecuteNine => Ok(ClientPacket::Execute(execute_nine(alloc)?)),

@@ -2,7 +2,7 @@
 use Rattle.std.proofs.Common.{◌≡◌, ℕ, ◌+◌, ◌*◌, ◌/◌, List, ◌++◌, length, drop, refl, ap, ◌∙◌, arith, append_assoc, add-one}
 use Rattle.std.proofs.lemmas.List.{drop-drop}
 use Rattle.my_frame.specs.Writing.{le_bytes}
-use Rattle.my_command.specs.declared.client.statement.Parameter.{Parameter}
+use Rattle.my_command.specs.declared.statement.Parameter.{Parameter}
 use Rattle.my_command.specs.Client.Statement.{null_byte, null_bytes, null_bitmap}
 
 pub bits_put : (before out after : List ℕ) (ps rest : List Parameter) (k byte : ℕ) → out ≡ before ++ null_bytes ps k → rest ≡ drop (8 * k) ps → byte ≡ null_byte rest → after ≡ out ++ le_bytes 1 byte → after ≡ before ++ null_bytes ps (k + 1)

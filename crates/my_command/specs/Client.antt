@@ -2,3 +2,4 @@
 pub mod Packet
 pub mod Replica
 pub mod Statement
+pub mod Transactions

@@ -2,8 +2,10 @@
 #![tactic(auto)]
 
 mod client;
+pub mod laws;
+pub mod replica;
+pub mod statement;
+mod write;
 
-pub use client::{
-    BulkExecute, ClientPacket, Dump, DumpGtid, Execute, Parameter, ParameterType, RegisterSlave,
-    Sid, gtid_block_has_this_length, write_client,
-};
+pub use client::ClientPacket;
+pub use write::write_client;

@@ -4,6 +4,7 @@ ghost use Rattle.std.specs.Prelude.{◌≡◌, IfOk};
 
 use crate::no_memory::NoMemory;
 use std::alloc::Global;
+use std::net::IpAddr;
 
 /// A type whose values can be copied where there is memory.
 pub trait Copied: Sized + Drop {
@@ -29,5 +30,11 @@ impl<T: Copied> Copied for Option<T> {
             Some(value) => Ok(Some(value.copy(alloc)?)),
             None => Ok(None),
         }
+    }
+}
+
+impl Copied for IpAddr {
+    fn copy(&self, _alloc: Global) -> Result<IpAddr, NoMemory> {
+        Ok(*self)
     }
 }

@@ -24,8 +24,8 @@ pub use builder::OptsBuilder;
 pub use change_user::ChangeUserOpts;
 pub use error::{UrlError, UrlFault};
 pub use laws::url_gives_what_a_builder_gives;
-pub use lists::Listed;
 pub use millis::Millis;
+pub use my_frame::Listed;
 pub use opts::{DEFAULT_PORT, DEFAULT_STMT_CACHE_SIZE, Opts};
 pub use pool::{
     DEFAULT_INACTIVE_CONNECTION_TTL, DEFAULT_POOL_CONSTRAINTS, DEFAULT_TTL_CHECK_INTERVAL,

@@ -3,79 +3,11 @@
 ghost use Rattle.std.specs.Prelude.{◌≡◌, [], ◌∷◌, map, IfOk, IfErr, string_bytes, option_map, option_copied, unwrap_or};
 ghost use Rattle.my_opts.specs.Lists.{pair_bytes, with_attribute};
 
-use my_frame::NoMemory;
+use my_frame::{Listed, NoMemory};
 use std::alloc::Global;
 use std::collections::BTreeMap;
 use std::marker::Model;
 use std::net::IpAddr;
-
-/// Items in order, which contracts see as their list.
-///
-/// It is made from a `Vec`, and gives it back, without taking memory.
-#[derive(Drop)]
-pub struct Listed<T> {
-    items: Vec<T>,
-}
-
-impl<T> Model for Listed<T> {
-    ghost use Rattle.std.specs.Prelude.{List};
-
-    ghost Value = { List T };
-
-    ghost view = { λ l. l.items.items };
-}
-
-impl<T> Listed<T> {
-    /// These items.
-    pub fn new(items: Vec<T>) -> Listed<T>
-        ensures { result ≡ items.items }
-    {
-        Listed { items }
-    }
-
-    /// The items.
-    pub fn as_vec(&self) -> &Vec<T>
-        ensures { result.now.items ≡ self.now }
-    {
-        &self.items
-    }
-
-    /// The items, given back.
-    pub fn into_vec(self) -> Vec<T>
-        ensures { result.items ≡ self }
-    {
-        self.items
-    }
-}
-
-impl<T: PartialEq> PartialEq for Listed<T> {
-    ghost use Rattle.std.specs.Cmp.Lexicographic.{pointwise, lists_per};
-
-    ghost eq = { pointwise T.eq };
-
-    ghost laws = { lists_per T.laws };
-
-    fn eq(&self, other: &Listed<T>) -> bool {
-        self.items == other.items
-    }
-}
-
-impl<T: Eq> Eq for Listed<T> {
-    ghost use Rattle.std.specs.Cmp.Lexicographic.{lists_equiv};
-
-    ghost laws = { lists_equiv T.Eq.laws };
-}
-
-impl Listed<IpAddr> {
-    /// A second value of the same addresses.
-    pub fn copy(&self, alloc: Global) -> Result<Listed<IpAddr>, NoMemory>
-        ensures { IfOk result (λ l. l ≡ self.now) }
-    {
-        Ok(Listed {
-            items: Vec::from_slice(alloc, self.items.as_slice())?,
-        })
-    }
-}
 
 /// Texts in order, which contracts see as the list of their bytes.
 #[derive(Drop)]
@@ -215,7 +147,7 @@ pub(crate) fn list_of(ips: Option<Vec<IpAddr>>) -> Option<Listed<IpAddr>>
     ensures { result ≡ option_map (λ ips. ips.items) ips }
 {
     match ips {
-        Some(ips) => Some(Listed::new(ips)),
+        Some(ips) => Some(Listed::from(ips)),
         None => None,
     }
 }

@@ -6,7 +6,7 @@ ghost use Rattle.std.specs.Net.Addr.{IsLoopbackV4, IsLoopbackV6};
 ghost use Rattle.std.specs.Net.Grammar.{IsIpv4Text, IsIpv6Text};
 ghost use Rattle.my_opts.specs.Loopback.{IsLoopbackIp, IsLoopbackHost, IsOtherHost, Writes, WritesNo, unbracketed};
 
-use crate::lists::Listed;
+use my_frame::Listed;
 use std::net::{IpAddr, Ipv4Addr, Ipv6Addr};
 
 /// Whether one of the known addresses is of the machine itself.

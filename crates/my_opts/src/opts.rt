@@ -8,14 +8,14 @@ ghost use Rattle.my_opts.specs.Target.{target_of};
 
 use crate::builder::OptsBuilder;
 use crate::capabilities::client_capabilities;
-use crate::lists::{Attributes, Listed, Texts, copied_attributes, copied_ips};
+use crate::lists::{Attributes, Texts, copied_attributes, copied_ips};
 use crate::loopback::{any_loopback, is_loopback_host};
 use crate::millis::Millis;
 use crate::pool::PoolOpts;
 use crate::target::Target;
 use crate::text::{copied, shown};
 use my_flags::CapabilityFlags;
-use my_frame::{NoMemory, Text};
+use my_frame::{Listed, NoMemory, Text};
 use std::alloc::Global;
 use std::collections::BTreeMap;
 use std::marker::Model;

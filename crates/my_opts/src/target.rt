@@ -1,7 +1,6 @@
 //! Where a connection is made.
 
-use crate::lists::Listed;
-use my_frame::Text;
+use my_frame::{Listed, Text};
 use std::net::IpAddr;
 
 /// Where a connection is made.

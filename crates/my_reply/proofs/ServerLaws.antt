@@ -5,8 +5,6 @@ use Rattle.std.proofs.lemmas.Str.{utf8_lossy-IsUtf8}
 use Rattle.std.proofs.lemmas.Bool.Decides.{nat_tests}
 use Rattle.std.specs.List.{before_first}
 use Rattle.my_frame.specs.declared.limits.TheConstants.{FULL_LENGTH}
-use Rattle.my_flags.specs.Sets.{contains}
-use Rattle.my_handshake.specs.declared.greeting.TheConstants.{NEEDED_CAPABILITIES}
 use Rattle.my_handshake.specs.declared.greeting.Greeting.{Greeting}
 use Rattle.my_reply.specs.declared.ok.OkPacket.{OkPacket}
 use Rattle.my_reply.specs.declared.err.ErrPacket.{ErrPacket}
@@ -125,5 +123,4 @@ greeting_read_back g w =
     let spelled : greeting_bytes g ≡ 10 ∷ (text0_bytes g.version ++ (le_bytes 4 g.id ++ (first ++ 0 ∷ after))) =
     nine_joined (le_bytes 1 10) (text0_bytes g.version) (le_bytes 4 g.id) (take 8 (fitted g.nonce)) (le_bytes 1 0) (settings_bytes g) (drop 8 (fitted g.nonce)) (le_bytes 1 0) (text0_bytes g.plugin)
     ∙ ap (λ n. 10 ∷ (text0_bytes g.version ++ (le_bytes 4 g.id ++ (take 8 n ++ 0 ∷ (settings_bytes g ++ (drop 8 n ++ 0 ∷ text0_bytes g.plugin)))))) whole in
-    let needed = w.needed in
-    ap greeting_at spelled ∙ rw (first_read_back g.version g.id first after w.id (length-take-le 8 g.nonce (omega arith)), settings_read_back g rest w, second_read_back second g.plugin (omega (arith, length-drop 8 g.nonce)), b, w.version, w.plugin, take-append-drop 8 g.nonce) refl
+    ap greeting_at spelled ∙ rw (first_read_back g.version g.id first after w.id (length-take-le 8 g.nonce (omega arith)), settings_read_back g rest w, second_read_back second g.plugin (omega (arith, length-drop 8 g.nonce)), w.needed, w.version, w.plugin, take-append-drop 8 g.nonce) refl

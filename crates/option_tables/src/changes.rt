@@ -127,7 +127,7 @@ fn ample_changes_are_kept(rt: HostRuntime) -> Result<(), Fail> {
 fn ample_copies_of_lists(rt: HostRuntime) -> Result<(), Fail> {
     let alloc = rt.alloc();
     let ips = [IpAddr::V4(Ipv4Addr::new(10, 0, 0, 1))];
-    let ips = Listed::new(Vec::from_slice(alloc, &ips)?);
+    let ips = Listed::from(Vec::from_slice(alloc, &ips)?);
     assert!(rt; ips.copy(alloc)? == ips);
     Ok(())
 }

@@ -1,9 +1,9 @@
-use my_frame::{Blob, ReadError};
+use my_frame::{Blob, Listed, NoMemory, ReadError};
 use my_handshake::read_greeting;
 use my_reply::{
     ServerPacket, read_column, read_column_count, read_end_ok, read_err, read_ok, write_server,
 };
-use std::alloc::{AllocError, Global};
+use std::alloc::Global;
 use std::test::Fail;
 
 #[derive(Clone, Copy)]
@@ -37,8 +37,8 @@ const ANSWERS: &[(Case, &[u8])] = &[
 ];
 
 // 1, NULL and an empty text.
-fn row(alloc: Global) -> Result<ServerPacket, AllocError> {
-    let mut cells = Vec::new(alloc);
+fn row(alloc: Global) -> Result<ServerPacket, NoMemory> {
+    let mut cells = Listed::new(alloc);
     cells.push(Some(Blob::from_slice(alloc, b"1")?))?;
     cells.push(None)?;
     cells.push(Some(Blob::new(alloc)))?;
@@ -60,7 +60,7 @@ fn packet_of(alloc: Global, case: Case, payload: &[u8]) -> Result<ServerPacket, 
 
 fn written(alloc: Global, case: Case, payload: &[u8]) -> Result<Vec<u8>, ReadError> {
     let packet = packet_of(alloc, case, payload)?;
-    write_server(alloc, &packet).map_err(|_| ReadError::NoMemory)
+    Ok(write_server(alloc, &packet)?)
 }
 
 #[test]

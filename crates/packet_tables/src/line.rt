@@ -57,9 +57,9 @@ fn greeting(alloc: Global, payload: &[u8]) -> Result<String, ReadError> {
     let greeting = read_greeting(alloc, payload)?;
     let numbers = [
         u64::from(greeting.id),
-        u64::from(greeting.capabilities),
-        u64::from(greeting.status),
-        u64::from(greeting.extended),
+        u64::from(greeting.capabilities.0),
+        u64::from(greeting.status.0),
+        u64::from(greeting.extended.0),
     ];
     let texts = [
         greeting.version.as_slice(),
@@ -73,7 +73,7 @@ fn ok(alloc: Global, ok: &OkPacket) -> Result<String, ReadError> {
     let numbers = [
         ok.affected,
         ok.insert,
-        u64::from(ok.status),
+        u64::from(ok.status.0),
         u64::from(ok.warnings),
     ];
     Ok(joined(alloc, &numbers, &[ok.info.as_slice()])?)
@@ -95,7 +95,7 @@ fn err(alloc: Global, payload: &[u8], before_response: bool) -> Result<String, R
 
 fn eof(alloc: Global, payload: &[u8]) -> Result<String, ReadError> {
     let eof = read_eof(payload)?;
-    let numbers = [u64::from(eof.warnings), u64::from(eof.status)];
+    let numbers = [u64::from(eof.warnings), u64::from(eof.status.0)];
     Ok(joined(alloc, &numbers, &[])?)
 }
 

@@ -1,6 +1,7 @@
 use crate::line::{Kind, line_of};
 use crate::told::{ENDS, GREETINGS, OTHERS, SETS, Told};
 use my_frame::ReadError;
+use my_flags::StatusFlags;
 use my_reply::read_eof;
 use std::alloc::Global;
 use std::process::Abort;
@@ -49,6 +50,6 @@ fn ample_payloads_read_as_the_protocol_says(rt: HostRuntime) -> Result<(), Fail>
 fn ample_first(rt: HostRuntime) -> Result<(), Fail> {
     let eof = read_eof(&[0xfe, 1, 0, 2, 0])?;
     assert_eq!(rt; eof.warnings, 1);
-    assert_eq!(rt; eof.status, 2);
+    assert_eq!(rt; eof.status, StatusFlags::SERVER_STATUS_AUTOCOMMIT);
     Ok(())
 }

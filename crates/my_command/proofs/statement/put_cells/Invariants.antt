@@ -1,7 +1,7 @@
 use Rattle.std.proofs.Common.{◌≡◌, ◌++◌, take}
 use Rattle.std.specs.List.{flat_map}
 use Rattle.my_command.specs.Client.Statement.{cell_bytes}
-use Rattle.my_command.proofs.client.statement.put_cells.Given as goal
+use Rattle.my_command.proofs.statement.put_cells.Given as goal
 
 abbrev pub invariant-loop-cell : goal.invariant-loop-cell
 invariant-loop-cell l = l.out.items ≡ l.fn.out.items ++ flat_map (cell_bytes) (take l.cell-index l.cells)

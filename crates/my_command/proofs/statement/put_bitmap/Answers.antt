@@ -1,6 +1,6 @@
 use Rattle.std.proofs.Common.{arith}
 use Rattle.my_command.proofs.StatementLaws.{bits_put, bits_left, bits_all}
-use Rattle.my_command.proofs.client.statement.put_bitmap.Goals as goal
+use Rattle.my_command.proofs.statement.put_bitmap.Goals as goal
 
 pub loop-preserved : goal.loop-preserved
 loop-preserved c =

@@ -1,12 +1,12 @@
 //! The packets that execute a statement.
 
-ghost use Rattle.std.specs.Prelude.{◌≡◌, ◌≤◌, ◌++◌, OnOk, Option, drop, slice_get};
+ghost use Rattle.std.specs.Prelude.{◌≡◌, ◌≤◌, ◌++◌, IfOk, OnOk, Option, drop, slice_get};
 ghost use Rattle.std.specs.List.{flat_map};
 ghost use Rattle.my_command.specs.Client.Statement.{bulk_bytes, cell_bytes, execute_bytes, null_bit, null_bitmap, null_byte, parameters_bytes, type_bytes, value_bytes};
 
-use my_frame::Blob;
+use my_frame::{Blob, Copied, Listed, NoMemory};
 use my_frame::writing::{put_u8, put_u16, put_u32};
-use std::alloc::AllocError;
+use std::alloc::Global;
 
 /// The type of a parameter.
 #[derive(Clone, Copy, Debug, PartialEq, Eq)]
@@ -18,27 +18,67 @@ pub struct ParameterType {
 }
 
 /// A parameter of a statement.
-#[derive(Drop)]
+#[derive(Debug, Drop, PartialEq, Eq)]
 pub struct Parameter {
     pub form: ParameterType,
-    /// The value as it is written, empty where it went ahead; `None` is NULL.
+    /// The value as it is written, empty where it was sent before; `None` is NULL.
     pub value: Option<Blob>,
 }
 
 /// Executes a statement.
-#[derive(Drop)]
+#[derive(Debug, Drop, PartialEq, Eq)]
 pub struct Execute {
     pub statement: u32,
-    pub parameters: Vec<Parameter>,
+    pub parameters: Listed<Parameter>,
 }
 
 /// Executes a statement of a MariaDB once for each row.
-#[derive(Drop)]
+#[derive(Debug, Drop, PartialEq, Eq)]
 pub struct BulkExecute {
     pub statement: u32,
-    pub types: Vec<ParameterType>,
+    pub types: Listed<ParameterType>,
     /// The values as they are written; `None` is NULL.
-    pub rows: Vec<Vec<Option<Blob>>>,
+    pub rows: Listed<Listed<Option<Blob>>>,
+}
+
+impl Copied for ParameterType {
+    fn copy(&self, _alloc: Global) -> Result<ParameterType, NoMemory> {
+        Ok(*self)
+    }
+}
+
+impl Copied for Parameter {
+    fn copy(&self, alloc: Global) -> Result<Parameter, NoMemory> {
+        Ok(Parameter {
+            form: self.form,
+            value: self.value.copy(alloc)?,
+        })
+    }
+}
+
+impl Execute {
+    /// A second value of the same packet.
+    pub fn copy(&self, alloc: Global) -> Result<Execute, NoMemory>
+        ensures { IfOk result (λ copy. copy ≡ self.now) }
+    {
+        Ok(Execute {
+            statement: self.statement,
+            parameters: self.parameters.copy(alloc)?,
+        })
+    }
+}
+
+impl BulkExecute {
+    /// A second value of the same packet.
+    pub fn copy(&self, alloc: Global) -> Result<BulkExecute, NoMemory>
+        ensures { IfOk result (λ copy. copy ≡ self.now) }
+    {
+        Ok(BulkExecute {
+            statement: self.statement,
+            types: self.types.copy(alloc)?,
+            rows: self.rows.copy(alloc)?,
+        })
+    }
 }
 
 // 1 where there is a parameter and it is NULL.
@@ -77,7 +117,7 @@ fn after_eight(parameters: &[Parameter]) -> &[Parameter]
     }
 }
 
-fn put_bitmap(out: &mut Vec<u8>, parameters: &[Parameter]) -> Result<(), AllocError>
+fn put_bitmap(out: &mut Vec<u8>, parameters: &[Parameter]) -> Result<(), NoMemory>
     ensures { OnOk result (out.new.items ≡ out.old.items ++ null_bitmap parameters.now) }
 {
     let mut rest = parameters;
@@ -88,14 +128,14 @@ fn put_bitmap(out: &mut Vec<u8>, parameters: &[Parameter]) -> Result<(), AllocEr
     Ok(())
 }
 
-fn put_type(out: &mut Vec<u8>, form: ParameterType) -> Result<(), AllocError>
+fn put_type(out: &mut Vec<u8>, form: ParameterType) -> Result<(), NoMemory>
     ensures { OnOk result (out.new.items ≡ out.old.items ++ type_bytes form) }
 {
     put_u8(out, form.kind)?;
     put_u8(out, form.flag)
 }
 
-fn put_parameter_types(out: &mut Vec<u8>, parameters: &[Parameter]) -> Result<(), AllocError>
+fn put_parameter_types(out: &mut Vec<u8>, parameters: &[Parameter]) -> Result<(), NoMemory>
     ensures { OnOk result (out.new.items ≡ out.old.items ++ flat_map (λ p. type_bytes p.form) parameters.now) }
 {
     for parameter in parameters {
@@ -104,16 +144,19 @@ fn put_parameter_types(out: &mut Vec<u8>, parameters: &[Parameter]) -> Result<()
     Ok(())
 }
 
-fn put_value(out: &mut Vec<u8>, value: &Option<Blob>) -> Result<(), AllocError>
+fn put_value(out: &mut Vec<u8>, value: &Option<Blob>) -> Result<(), NoMemory>
     ensures { OnOk result (out.new.items ≡ out.old.items ++ value_bytes value.now) }
 {
     match value {
         None => Ok(()),
-        Some(bytes) => out.extend_from_slice(bytes.as_slice()),
+        Some(bytes) => {
+            out.extend_from_slice(bytes.as_slice())?;
+            Ok(())
+        }
     }
 }
 
-fn put_values(out: &mut Vec<u8>, parameters: &[Parameter]) -> Result<(), AllocError>
+fn put_values(out: &mut Vec<u8>, parameters: &[Parameter]) -> Result<(), NoMemory>
     ensures { OnOk result (out.new.items ≡ out.old.items ++ flat_map (λ p. value_bytes p.value) parameters.now) }
 {
     for parameter in parameters {
@@ -122,7 +165,7 @@ fn put_values(out: &mut Vec<u8>, parameters: &[Parameter]) -> Result<(), AllocEr
     Ok(())
 }
 
-fn put_parameters(out: &mut Vec<u8>, parameters: &[Parameter]) -> Result<(), AllocError>
+fn put_parameters(out: &mut Vec<u8>, parameters: &[Parameter]) -> Result<(), NoMemory>
     ensures { OnOk result (out.new.items ≡ out.old.items ++ parameters_bytes parameters.now) }
 {
     if parameters.is_empty() {
@@ -134,8 +177,10 @@ fn put_parameters(out: &mut Vec<u8>, parameters: &[Parameter]) -> Result<(), All
     put_values(out, parameters)
 }
 
-pub fn put_execute(out: &mut Vec<u8>, execute: &Execute) -> Result<(), AllocError>
-    ensures { OnOk result (out.new.items ≡ out.old.items ++ execute_bytes execute.now.statement execute.now.parameters.items) }
+/// Writes the packet at the end of what is there.
+pub fn put_execute(out: &mut Vec<u8>, execute: &Execute) -> Result<(), NoMemory>
+    ensures { OnOk result (out.new.items
+        ≡ out.old.items ++ execute_bytes execute.now.statement execute.now.parameters) }
 {
     put_u8(out, 0x17)?;
     put_u32(out, execute.statement)?;
@@ -144,7 +189,7 @@ pub fn put_execute(out: &mut Vec<u8>, execute: &Execute) -> Result<(), AllocErro
     put_parameters(out, execute.parameters.as_slice())
 }
 
-fn put_types(out: &mut Vec<u8>, types: &[ParameterType]) -> Result<(), AllocError>
+fn put_types(out: &mut Vec<u8>, types: &[ParameterType]) -> Result<(), NoMemory>
     ensures { OnOk result (out.new.items ≡ out.old.items ++ flat_map type_bytes types.now) }
 {
     for form in types {
@@ -153,19 +198,20 @@ fn put_types(out: &mut Vec<u8>, types: &[ParameterType]) -> Result<(), AllocErro
     Ok(())
 }
 
-fn put_cell(out: &mut Vec<u8>, cell: &Option<Blob>) -> Result<(), AllocError>
+fn put_cell(out: &mut Vec<u8>, cell: &Option<Blob>) -> Result<(), NoMemory>
     ensures { OnOk result (out.new.items ≡ out.old.items ++ cell_bytes cell.now) }
 {
     match cell {
         None => put_u8(out, 1),
         Some(bytes) => {
             put_u8(out, 0)?;
-            out.extend_from_slice(bytes.as_slice())
+            out.extend_from_slice(bytes.as_slice())?;
+            Ok(())
         }
     }
 }
 
-fn put_cells(out: &mut Vec<u8>, cells: &[Option<Blob>]) -> Result<(), AllocError>
+fn put_cells(out: &mut Vec<u8>, cells: &[Option<Blob>]) -> Result<(), NoMemory>
     ensures { OnOk result (out.new.items ≡ out.old.items ++ flat_map cell_bytes cells.now) }
 {
     for cell in cells {
@@ -174,8 +220,8 @@ fn put_cells(out: &mut Vec<u8>, cells: &[Option<Blob>]) -> Result<(), AllocError
     Ok(())
 }
 
-fn put_rows(out: &mut Vec<u8>, rows: &[Vec<Option<Blob>>]) -> Result<(), AllocError>
-    ensures { OnOk result (out.new.items ≡ out.old.items ++ flat_map (λ row. flat_map cell_bytes row.items) rows.now) }
+fn put_rows(out: &mut Vec<u8>, rows: &[Listed<Option<Blob>>]) -> Result<(), NoMemory>
+    ensures { OnOk result (out.new.items ≡ out.old.items ++ flat_map (λ row. flat_map cell_bytes row) rows.now) }
 {
     for row in rows {
         put_cells(out, row.as_slice())?;
@@ -183,7 +229,8 @@ fn put_rows(out: &mut Vec<u8>, rows: &[Vec<Option<Blob>>]) -> Result<(), AllocEr
     Ok(())
 }
 
-pub fn put_bulk(out: &mut Vec<u8>, bulk: &BulkExecute) -> Result<(), AllocError>
+/// Writes the packet at the end of what is there.
+pub fn put_bulk(out: &mut Vec<u8>, bulk: &BulkExecute) -> Result<(), NoMemory>
     ensures { OnOk result (out.new.items ≡ out.old.items ++ bulk_bytes bulk.now) }
 {
     put_u8(out, 0xFA)?;
