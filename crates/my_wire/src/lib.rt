@@ -3,15 +3,12 @@
 //! Each comes from a crate of its own; this one defines nothing.
 #![tactic(auto)]
 
-pub use my_command::{
-    BulkExecute, ClientPacket, Dump, DumpGtid, Execute, Parameter, ParameterType, RegisterSlave,
-    Sid, gtid_block_has_this_length, write_client,
-};
+pub use my_command::{ClientPacket, replica, statement, write_client};
 pub use my_flags::{CapabilityFlags, MariadbCapabilities, StatusFlags};
 pub use my_frame::{
-    Blob, CodecError, CodecFault, FULL_LENGTH, FramedPayload, MemSink, MemSource, NoMemory,
-    PacketCodec, ReadError, Sink, SinkStep, Source, SourceStep, Span, StdSink, StdSource, Text,
-    append_payload, laws, numbers, payload_in_front, scan_front, writing,
+    Blob, CodecError, CodecFault, Copied, FULL_LENGTH, FramedPayload, Listed, MemSink, MemSource,
+    NoMemory, PacketCodec, ReadError, Sink, SinkStep, Source, SourceStep, Span, StdSink, StdSource,
+    Text, append_payload, copy_items, laws, limits, numbers, payload_in_front, scan_front, writing,
 };
 pub use my_handshake::{
     Attribute, Attributes, ChangeUser, Greeting, HandshakeResponse, MoreData, NEEDED_CAPABILITIES,
