@@ -1,4 +1,9 @@
 -- What stands in front: the chunks of a payload within the limit, or the first faulty header, are found there.
+pub mod Gathering
+pub mod Scanning
+pub mod Steps
+pub mod WholeHeads
+
 use Rattle.std.proofs.Common.{◌≡◌, ◌≢◌, ℕ, zero, suc, ◌+◌, ◌^◌, ◌<◌, ◌≤◌, List, [], ◌∷◌, ◌++◌, length, take, drop, inl, inr, refl, sym, ap, subst, ◌∙◌, arith, add-zero, append_assoc, length-append}
 use Rattle.std.proofs.lemmas.Bool.{cases_lt}
 use Rattle.std.proofs.lemmas.List.{take_at, drop_at}
@@ -9,7 +14,7 @@ use Rattle.my_frame.specs.Chunks.{full_length, next_number, header, numbered, nu
 use Rattle.my_frame.specs.Faults.{IsBlamed, Faulty, HasNoPayload, HasNoFault}
 use Rattle.my_frame.specs.Front.{Waiting, Broken, Whole, header_length, after_part, front_from, front_at}
 use Rattle.my_frame.proofs.ChunkLaws.{header_length-header, number_after_payload-short, number_after_payload-full, short_or_full, short_spelled, full_spelled}
-use Rattle.my_frame.proofs.FrontSteps.{front-misnumbered, front-too_large, front-last, front-full}
+use Rattle.my_frame.proofs.Fronts.Steps.{front-misnumbered, front-too_large, front-last, front-full}
 
 -- what stands in front of a header and a body, by the header
 module _ (n before limit len number : ℕ) (body : List ℕ) (fits : len < 2 ^ 24) where

@@ -7,7 +7,7 @@ use Rattle.my_frame.specs.declared.fault.CodecFault.TheVariants.{OutOfOrder, Too
 use Rattle.my_frame.specs.Chunks.{full_length, next_number}
 use Rattle.my_frame.specs.Front.{Front, Waiting, Broken, Whole, header_length, header_number, after_part, front_from, front_at}
 use Rattle.my_frame.specs.FrontLaws.{FrontGrows}
-use Rattle.my_frame.proofs.FrontSteps.{front-short, front-misnumbered, front-too_large, front-partial, front-last, front-full}
+use Rattle.my_frame.proofs.Fronts.Steps.{front-short, front-misnumbered, front-too_large, front-partial, front-last, front-full}
 
 header_number-append : (bytes more : List ℕ) → 4 ≤ length bytes → header_number (bytes ++ more) ≡ header_number bytes
 header_number-append bytes more long = get_or-append bytes more 0 3 (omega arith)

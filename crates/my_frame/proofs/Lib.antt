@@ -1,14 +1,10 @@
 pub mod ChunkLaws
 pub mod Decoding
-pub mod FrontSteps
 pub mod Fronts
-pub mod Gathering
 pub mod Growing
 pub mod Meanings
 pub mod NumberLaws
 pub mod Numerals
 pub mod Putting
 pub mod ReadingLaws
-pub mod Scanning
-pub mod WholeHeads
 pub mod WritingLaws

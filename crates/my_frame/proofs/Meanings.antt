@@ -10,8 +10,8 @@ use Rattle.my_frame.specs.Faults.{IsBlamed, Faulty}
 use Rattle.my_frame.specs.Front.{Front, Waiting, Broken, Whole, header_length, header_number, after_part, front_from, front_at}
 use Rattle.my_frame.specs.FrontLaws.{AreBytes, IsWhole, FrontMeans}
 use Rattle.my_frame.proofs.ChunkLaws.{chunks-short, chunks-full, number_after_payload-short, number_after_payload-full}
-use Rattle.my_frame.proofs.FrontSteps.{front-short, front-misnumbered, front-too_large, front-partial, front-last, front-full}
-use Rattle.my_frame.proofs.WholeHeads.{whole_head}
+use Rattle.my_frame.proofs.Fronts.Steps.{front-short, front-misnumbered, front-too_large, front-partial, front-last, front-full}
+use Rattle.my_frame.proofs.Fronts.WholeHeads.{whole_head}
 use Rattle.my_frame.proofs.Fronts.{no_payload, no_fault}
 
 -- four bytes or more are a header and a body

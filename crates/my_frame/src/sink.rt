@@ -11,17 +11,17 @@ use std::marker::Model;
 /// What a write did.
 #[derive(Clone, Copy, Debug, PartialEq, Eq)]
 pub enum SinkStep {
-    /// So many bytes went out, from the front: at least one, and at most all.
+    /// This number of bytes went out, from the front: at least one, and at most all.
     Took(usize),
     Failed,
 }
 
 /// A sink of bytes.
 pub trait Sink {
-    /// How often a write failed. It never falls.
+    /// The number of writes that failed. It never falls.
     ghost faults: { Self → ℕ };
 
-    /// The bytes that it took, if it tells.
+    /// The bytes that it took, where they are known.
     ghost took: { Self → Option (List ℕ) };
 
     /// Writes some of the bytes, of which there are some.

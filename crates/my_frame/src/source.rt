@@ -1,14 +1,14 @@
 //! Where bytes come from.
 
-ghost use Rattle.std.specs.Prelude.{◌≡◌, ◌<◌, ℕ, List, Option, Some, length, min, take};
-ghost use Rattle.my_frame.specs.Sources.{Gave, SourceCounts, mem_step};
+ghost use Rattle.std.specs.Prelude.{◌≡◌, ◌<◌, ℕ, List, Option, Some, drop, length, min, take};
+ghost use Rattle.my_frame.specs.Sources.{Gave, KeepsRest, SourceCounts, mem_step};
 
 use std::marker::Model;
 
 /// What a read did.
 #[derive(Clone, Copy, Debug, PartialEq, Eq)]
 pub enum SourceStep {
-    /// So many bytes came, to the buffer's front: at least one, and at most as many as it has.
+    /// This number of bytes came, to the buffer's front: at least one, and at most as many as it has.
     Got(usize),
     /// Nothing is left.
     End,
@@ -17,10 +17,10 @@ pub enum SourceStep {
 
 /// A source of bytes.
 pub trait Source {
-    /// How often a read failed. It never falls.
+    /// The number of reads that failed. It never falls.
     ghost faults: { Self → ℕ };
 
-    /// The bytes that are left, if it tells.
+    /// The bytes that are left, where they are known.
     ghost left: { Self → Option (List ℕ) };
 
     /// Reads some bytes into a buffer that is not empty.
@@ -59,6 +59,7 @@ impl MemSource {
 fn copy_front(buf: &mut [u8], bytes: &[u8]) -> usize
     ensures count { result ≡ min (length buf.old) (length bytes.now) }
     ensures copied { take result buf.new ≡ take result bytes.now }
+    ensures kept { drop result buf.new ≡ drop result buf.old }
 {
     let count = buf.len().min(bytes.len());
     buf[..count].copy_from_slice(&bytes[..count]);
@@ -75,6 +76,9 @@ impl Source for MemSource {
         ensures bytes { Gave (Some self.old) buf.new (Some self.new) result }
         ensures counts { SourceCounts 0 0 result }
         ensures exact { result ≡ mem_step self.old buf.old }
+
+        // The buffer stays as it was after the bytes that came.
+        ensures kept { KeepsRest buf.old buf.new result }
     {
         let (_, left) = self.bytes.as_slice().split_at(self.from);
         if left.is_empty() {

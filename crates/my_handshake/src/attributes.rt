@@ -2,7 +2,7 @@
 
 ghost use Rattle.std.specs.Prelude.{◌≡◌, ◌<◌, ◌≤◌, [], IfOk, IfSome, List, OnOk, OnErr, length, position};
 ghost use Rattle.std.specs.List.{position_or_len};
-ghost use Rattle.my_handshake.specs.Attributes.{IsInKeyOrder, is_before, put_in_order};
+ghost use Rattle.my_handshake.specs.Attributes.{is_before, put_in_order};
 
 use my_frame::{Blob, Copied, Listed, NoMemory};
 use std::alloc::Global;
@@ -105,8 +105,3 @@ impl Attributes {
         self.pairs.as_slice()
     }
 }
-
-/// A pair is put so that the keys stay in byte order.
-pub fn attributes_stay_in_order()
-    ensures { (pairs : List Attribute) (pair : Attribute) → IsInKeyOrder pairs → IsInKeyOrder (put_in_order pairs pair) }
-{}

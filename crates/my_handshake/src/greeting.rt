@@ -1,6 +1,6 @@
 //! The packet by which a server greets.
 
-ghost use Rattle.std.specs.Prelude.{◌≡◌, ◌↔◌, ◌++◌, IfOk, List, ℕ, Some};
+ghost use Rattle.std.specs.Prelude.{◌≡◌, ◌++◌, IfOk, List, ℕ, Some};
 ghost use Rattle.std.specs.Option.{option_map};
 ghost use Rattle.my_frame.specs.Reading.{Gives, ReadsExactly};
 ghost use Rattle.my_handshake.specs.Greeting.{IsGreeting, first_at, greeting_at, second_at, settings_at};
@@ -152,9 +152,3 @@ pub fn greeting_offer(payload: &[u8]) -> Option<(CapabilityFlags, &[u8])>
     }
     Some((settings.capabilities, plugin))
 }
-
-/// A payload is at most one such record, which is what reading gives.
-pub fn greeting_is_read()
-    ensures greeting { (payload : List ℕ) (x : Greeting) → (greeting_at payload ≡ Some x) ↔ IsGreeting payload x }
-    ensures one_greeting { (payload : List ℕ) (x y : Greeting) → IsGreeting payload x → IsGreeting payload y → x ≡ y }
-{}

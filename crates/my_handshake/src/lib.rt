@@ -4,14 +4,13 @@
 
 mod attributes;
 mod greeting;
+pub mod laws;
 mod login;
 mod switch;
 mod version;
 
-pub use attributes::{Attribute, Attributes, attributes_stay_in_order};
-pub use greeting::{
-    Greeting, NEEDED_CAPABILITIES, greeting_is_read, greeting_offer, read_greeting,
-};
+pub use attributes::{Attribute, Attributes};
+pub use greeting::{Greeting, NEEDED_CAPABILITIES, greeting_offer, read_greeting};
 pub use login::{ChangeUser, HandshakeResponse, put_change_user, put_response};
-pub use switch::{MoreData, SwitchRequest, read_more_data, read_switch, switch_is_read};
+pub use switch::{MoreData, SwitchRequest, read_more_data, read_switch};
 pub use version::{ServerVersion, server_version};

@@ -1,6 +1,6 @@
 //! The packets of logging in that ask for more.
 
-ghost use Rattle.std.specs.Prelude.{◌≡◌, ◌↔◌, IfOk, List, ℕ, Some};
+ghost use Rattle.std.specs.Prelude.{◌≡◌, IfOk, Some};
 ghost use Rattle.std.specs.Option.{ok_or, option_map};
 ghost use Rattle.my_frame.specs.Reading.{Gives, ReadsExactly};
 ghost use Rattle.my_handshake.specs.SwitchRequest.{IsMoreData, IsSwitch, asked_at, more_data_at, switch_at, without_last_zero};
@@ -91,11 +91,3 @@ pub fn read_more_data(payload: &[u8]) -> Result<MoreData, ReadError>
 {
     more_data_of(payload).ok_or(ReadError::Malformed)
 }
-
-/// A payload is at most one such record, which is what reading gives.
-pub fn switch_is_read()
-    ensures switch { (payload : List ℕ) (x : SwitchRequest) → (switch_at payload ≡ Some x) ↔ IsSwitch payload x }
-    ensures one_switch { (payload : List ℕ) (x y : SwitchRequest) → IsSwitch payload x → IsSwitch payload y → x ≡ y }
-    ensures more_data { (payload : List ℕ) (x : MoreData) → (more_data_at payload ≡ Some x) ↔ IsMoreData payload x }
-    ensures one_more_data { (payload : List ℕ) (x y : MoreData) → IsMoreData payload x → IsMoreData payload y → x ≡ y }
-{}

@@ -1,8 +1,2 @@
-mod ColumnCountLaws
-mod ColumnLaws
-mod EofLaws
-mod ErrLaws
-mod EventLaws
-mod OkLaws
-mod ReplyLaws
+mod Readers
 mod ServerLaws

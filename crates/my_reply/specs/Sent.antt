@@ -1,11 +1,14 @@
--- Which packets of a server are read back as they were: those whose numbers fit their bytes and whose texts can be told.
+-- Which packets of a server are read back as they were: those whose numbers fit their bytes and whose texts are spelled.
 -- MySQL internals, "Connection Phase Packets", "Generic Response Packets", "Text Resultset".
-use Rattle.std.specs.Prelude.{◌≡◌, ℕ, ◌<◌, ◌^◌, List, length, ◌==◌}
+use Rattle.std.specs.Prelude.{◌≡◌, ℕ, ◌<◌, ◌≤◌, ◌^◌, false, List, length, ◌==◌}
 use Rattle.std.specs.List.{before_first}
 use Rattle.std.specs.Str.{IsUtf8}
 use Rattle.my_handshake.specs.Greeting.{OffersNeeded}
 use Rattle.my_handshake.specs.declared.greeting.Greeting.{Greeting}
 use Rattle.my_reply.specs.declared.ok.OkPacket.{OkPacket}
+use Rattle.my_frame.specs.declared.limits.TheConstants.{FULL_LENGTH}
+use Rattle.my_reply.specs.Server.{ok_bytes}
+use Rattle.my_reply.specs.declared.column_count.ColumnCount.{ColumnCount}
 use Rattle.my_reply.specs.declared.err.ErrPacket.{ErrPacket}
 use Rattle.my_reply.specs.declared.column.Column.{Column}
 
@@ -29,6 +32,17 @@ pub record IsSentOk (ok : OkPacket) : Type 0 where
   pub status : ok.status.0 < 2 ^ 16
   pub warnings : ok.warnings < 2 ^ 16
   pub info : length ok.info < 2 ^ 64
+
+-- an OK that ends a set of rows
+pub record IsSentEndOk (ok : OkPacket) : Type 0 where
+  pub fields : IsSentOk ok
+  pub short : length (ok_bytes 0xFE ok) < FULL_LENGTH
+
+-- a count of columns that follow
+pub record IsSentCount (columns : ColumnCount) : Type 0 where
+  pub some : 0 < columns.count
+  pub few : columns.count ≤ 65535
+  pub follow : columns.skipped ≡ false
 
 pub record IsSentErr (err : ErrPacket) : Type 0 where
   pub code : err.code < 2 ^ 16

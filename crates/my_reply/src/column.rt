@@ -1,7 +1,6 @@
 //! The packet that describes one column of a set of rows.
 
-ghost use Rattle.std.specs.Prelude.{◌≡◌, ◌↔◌, IfOk, List, ℕ, Some};
-ghost use Rattle.std.specs.Option.{option_map};
+ghost use Rattle.std.specs.Prelude.{◌≡◌, IfOk, Some};
 ghost use Rattle.my_frame.specs.Reading.{Gives, GivesAs, ReadsExactly};
 ghost use Rattle.my_frame.specs.Numbers.{text_at};
 ghost use Rattle.my_reply.specs.Column.{IsColumn, column_at, form_at, names_at};
@@ -164,9 +163,3 @@ pub fn read_column(alloc: Global, payload: &[u8]) -> Result<Column, ReadError>
 {
     column_of(alloc, payload)
 }
-
-/// A payload is at most one such record, which is what reading gives.
-pub fn column_is_read()
-    ensures column { (payload : List ℕ) (x : Column) → (column_at payload ≡ Some x) ↔ IsColumn payload x }
-    ensures one_column { (payload : List ℕ) (x y : Column) → IsColumn payload x → IsColumn payload y → x ≡ y }
-{}

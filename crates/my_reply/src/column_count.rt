@@ -1,6 +1,6 @@
 //! The packet that begins a set of rows.
 
-ghost use Rattle.std.specs.Prelude.{◌≡◌, ◌↔◌, Bool, List, ℕ, Some};
+ghost use Rattle.std.specs.Prelude.{◌≡◌, Some};
 ghost use Rattle.std.specs.Option.{ok_or};
 ghost use Rattle.my_frame.specs.Reading.{ReadsExactly};
 ghost use Rattle.my_reply.specs.ColumnCount.{IsColumnCount, column_count_at, skipped_at};
@@ -50,9 +50,3 @@ pub fn read_column_count(payload: &[u8], cached: bool) -> Result<ColumnCount, Re
 {
     column_count_of(payload, cached).ok_or(ReadError::Malformed)
 }
-
-/// A payload is at most one such record, which is what reading gives.
-pub fn column_count_is_read()
-    ensures column_count { (cached : Bool) (payload : List ℕ) (x : ColumnCount) → (column_count_at cached payload ≡ Some x) ↔ IsColumnCount cached payload x }
-    ensures one_column_count { (cached : Bool) (payload : List ℕ) (x y : ColumnCount) → IsColumnCount cached payload x → IsColumnCount cached payload y → x ≡ y }
-{}

@@ -1,6 +1,6 @@
 //! The packet that ends columns or rows where no OK packet does.
 
-ghost use Rattle.std.specs.Prelude.{◌≡◌, ◌↔◌, List, ℕ, Some};
+ghost use Rattle.std.specs.Prelude.{◌≡◌, Some};
 ghost use Rattle.std.specs.Option.{ok_or};
 ghost use Rattle.my_frame.specs.Reading.{ReadsExactly};
 ghost use Rattle.my_reply.specs.EofPacket.{IsEof, eof_at};
@@ -38,9 +38,3 @@ pub fn read_eof(payload: &[u8]) -> Result<EofPacket, ReadError>
 {
     eof_of(payload).ok_or(ReadError::Malformed)
 }
-
-/// A payload is at most one such record, which is what reading gives.
-pub fn eof_is_read()
-    ensures eof { (payload : List ℕ) (x : EofPacket) → (eof_at payload ≡ Some x) ↔ IsEof payload x }
-    ensures one_eof { (payload : List ℕ) (x y : EofPacket) → IsEof payload x → IsEof payload y → x ≡ y }
-{}

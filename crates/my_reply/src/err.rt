@@ -1,6 +1,6 @@
 //! The packet that says that a command failed.
 
-ghost use Rattle.std.specs.Prelude.{◌≡◌, ◌↔◌, Bool, IfOk, List, ℕ, Some};
+ghost use Rattle.std.specs.Prelude.{◌≡◌, IfOk};
 ghost use Rattle.my_frame.specs.Reading.{Gives, GivesAs, ReadsExactly};
 ghost use Rattle.my_reply.specs.ErrPacket.{IsErr, err_at, told_at};
 
@@ -68,9 +68,3 @@ pub fn read_err(
 {
     err_of(alloc, payload, before_response)
 }
-
-/// A payload is at most one such record, which is what reading gives.
-pub fn err_is_read()
-    ensures err { (before : Bool) (payload : List ℕ) (x : ErrPacket) → (err_at before payload ≡ Some x) ↔ IsErr before payload x }
-    ensures one_err { (before : Bool) (payload : List ℕ) (x y : ErrPacket) → IsErr before payload x → IsErr before payload y → x ≡ y }
-{}

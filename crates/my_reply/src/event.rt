@@ -1,6 +1,6 @@
 //! The packet that holds one event of a binary log.
 
-ghost use Rattle.std.specs.Prelude.{◌≡◌, ◌↔◌, IfOk, List, ℕ, Some};
+ghost use Rattle.std.specs.Prelude.{◌≡◌, IfOk, Some};
 ghost use Rattle.std.specs.Option.{option_map};
 ghost use Rattle.my_frame.specs.Reading.{Gives, ReadsExactly};
 ghost use Rattle.my_reply.specs.Event.{IsEvent, event_at, header_at};
@@ -118,9 +118,3 @@ impl Event {
         Some(id)
     }
 }
-
-/// A payload is at most one such record, which is what reading gives.
-pub fn event_is_read()
-    ensures event { (payload : List ℕ) (x : Event) → (event_at payload ≡ Some x) ↔ IsEvent payload x }
-    ensures one_event { (payload : List ℕ) (x y : Event) → IsEvent payload x → IsEvent payload y → x ≡ y }
-{}

@@ -1,6 +1,6 @@
 //! The packet that says that a command succeeded, or that a set of rows ended.
 
-ghost use Rattle.std.specs.Prelude.{◌≡◌, ◌↔◌, IfOk, List, ℕ, Some};
+ghost use Rattle.std.specs.Prelude.{◌≡◌, IfOk, Some};
 ghost use Rattle.my_frame.specs.Reading.{Gives, ReadsExactly};
 ghost use Rattle.my_reply.specs.OkPacket.{IsEndOk, IsOk, end_ok_at, fields_at, info_of, ok_at};
 
@@ -97,11 +97,3 @@ pub fn read_end_ok(alloc: Global, payload: &[u8]) -> Result<OkPacket, ReadError>
 {
     end_ok_of(alloc, payload)
 }
-
-/// A payload is at most one such record, which is what reading gives.
-pub fn ok_is_read()
-    ensures ok { (payload : List ℕ) (x : OkPacket) → (ok_at payload ≡ Some x) ↔ IsOk payload x }
-    ensures one_ok { (payload : List ℕ) (x y : OkPacket) → IsOk payload x → IsOk payload y → x ≡ y }
-    ensures end_ok { (payload : List ℕ) (x : OkPacket) → (end_ok_at payload ≡ Some x) ↔ IsEndOk payload x }
-    ensures one_end_ok { (payload : List ℕ) (x y : OkPacket) → IsEndOk payload x → IsEndOk payload y → x ≡ y }
-{}

@@ -1,6 +1,6 @@
 //! The replies to a text that is to be kept, and to a query that reads a file of the client.
 
-ghost use Rattle.std.specs.Prelude.{◌≡◌, ◌↔◌, IfOk, List, ℕ, Some};
+ghost use Rattle.std.specs.Prelude.{◌≡◌, IfOk, Some};
 ghost use Rattle.std.specs.Option.{ok_or};
 ghost use Rattle.my_frame.specs.Reading.{Gives, ReadsExactly};
 ghost use Rattle.my_reply.specs.Replies.{IsInfile, IsPrepareOk, infile_at, prepare_ok_at};
@@ -80,11 +80,3 @@ pub fn read_infile(alloc: Global, payload: &[u8]) -> Result<InfileRequest, ReadE
 {
     infile_of(alloc, payload)
 }
-
-/// A payload is at most one such record, which is what reading gives.
-pub fn replies_are_read()
-    ensures prepare_ok { (payload : List ℕ) (x : PrepareOk) → (prepare_ok_at payload ≡ Some x) ↔ IsPrepareOk payload x }
-    ensures one_prepare_ok { (payload : List ℕ) (x y : PrepareOk) → IsPrepareOk payload x → IsPrepareOk payload y → x ≡ y }
-    ensures infile { (payload : List ℕ) (x : InfileRequest) → (infile_at payload ≡ Some x) ↔ IsInfile payload x }
-    ensures one_infile { (payload : List ℕ) (x y : InfileRequest) → IsInfile payload x → IsInfile payload y → x ≡ y }
-{}

@@ -1,5 +1,5 @@
 use Rattle.std.proofs.Common.{length, ap, arith}
-use Rattle.my_frame.proofs.Gathering.{gathered_none, gathered_short, gathered_partial, gathered_last, gathered_full}
+use Rattle.my_frame.proofs.Fronts.Gathering.{gathered_none, gathered_short, gathered_partial, gathered_last, gathered_full}
 use Rattle.my_frame.proofs.front.gather.Goals as goal
 
 pub chunks-init : goal.chunks-init

@@ -1,5 +1,5 @@
 use Rattle.std.proofs.Common.{length}
-use Rattle.my_frame.proofs.Gathering.{Gathered}
+use Rattle.my_frame.proofs.Fronts.Gathering.{Gathered}
 use Rattle.my_frame.proofs.front.gather.Given as goal
 
 abbrev pub invariant-chunks : goal.invariant-chunks

@@ -1,4 +1,4 @@
-use Rattle.my_frame.proofs.WholeHeads.{rest_is_shorter}
+use Rattle.my_frame.proofs.Fronts.WholeHeads.{rest_is_shorter}
 use Rattle.my_frame.proofs.laws.reading_takes_bytes.Goals as goal
 
 pub returns : goal.returns

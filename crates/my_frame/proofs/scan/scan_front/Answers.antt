@@ -1,5 +1,5 @@
 use Rattle.std.proofs.Common.{length, ap, arith}
-use Rattle.my_frame.proofs.Scanning.{scanned-short, scanned-misnumbered, scanned-too_large, scanned-partial, scanned-last, scanned-full}
+use Rattle.my_frame.proofs.Fronts.Scanning.{scanned-short, scanned-misnumbered, scanned-too_large, scanned-partial, scanned-last, scanned-full}
 use Rattle.my_frame.proofs.scan.scan_front.Goals as goal
 
 pub returns-then-header-expected : goal.returns-then-header-expected

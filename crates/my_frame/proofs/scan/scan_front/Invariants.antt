@@ -1,5 +1,5 @@
 use Rattle.std.proofs.Common.{length}
-use Rattle.my_frame.proofs.Scanning.{Scanned}
+use Rattle.my_frame.proofs.Fronts.Scanning.{Scanned}
 use Rattle.my_frame.proofs.scan.scan_front.Given as goal
 
 abbrev pub invariant-chunks : goal.invariant-chunks

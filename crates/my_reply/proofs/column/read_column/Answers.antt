@@ -1,6 +1,6 @@
 use Rattle.my_reply.specs.Column.{IsColumn, column_at}
 use Rattle.my_frame.proofs.ReadingLaws.{reads_exactly}
-use Rattle.my_reply.proofs.ColumnLaws.{column_found, column_again}
+use Rattle.my_reply.proofs.Readers.ColumnLaws.{column_found, column_again}
 use Rattle.my_reply.proofs.column.read_column.Goals as goal
 
 pub returns-clause-exact : goal.returns-clause-exact

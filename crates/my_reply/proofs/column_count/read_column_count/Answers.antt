@@ -1,6 +1,6 @@
 use Rattle.my_reply.specs.ColumnCount.{IsColumnCount, column_count_at}
 use Rattle.my_frame.proofs.ReadingLaws.{reads_plainly}
-use Rattle.my_reply.proofs.ColumnCountLaws.{column_count_found, column_count_again}
+use Rattle.my_reply.proofs.Readers.ColumnCountLaws.{column_count_found, column_count_again}
 use Rattle.my_reply.proofs.column_count.read_column_count.Goals as goal
 
 pub returns-clause-exact : goal.returns-clause-exact

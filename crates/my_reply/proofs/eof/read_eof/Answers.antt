@@ -1,6 +1,6 @@
 use Rattle.my_reply.specs.EofPacket.{IsEof, eof_at}
 use Rattle.my_frame.proofs.ReadingLaws.{reads_plainly}
-use Rattle.my_reply.proofs.EofLaws.{eof_found, eof_again}
+use Rattle.my_reply.proofs.Readers.EofLaws.{eof_found, eof_again}
 use Rattle.my_reply.proofs.eof.read_eof.Goals as goal
 
 pub returns-clause-exact : goal.returns-clause-exact

@@ -1,6 +1,6 @@
 use Rattle.my_reply.specs.ErrPacket.{IsErr, err_at}
 use Rattle.my_frame.proofs.ReadingLaws.{reads_exactly}
-use Rattle.my_reply.proofs.ErrLaws.{err_found, err_again}
+use Rattle.my_reply.proofs.Readers.ErrLaws.{err_found, err_again}
 use Rattle.my_reply.proofs.err.read_err.Goals as goal
 
 pub returns-clause-exact : goal.returns-clause-exact

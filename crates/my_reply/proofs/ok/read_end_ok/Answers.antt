@@ -1,6 +1,6 @@
 use Rattle.my_reply.specs.OkPacket.{IsEndOk, end_ok_at}
 use Rattle.my_frame.proofs.ReadingLaws.{reads_exactly}
-use Rattle.my_reply.proofs.OkLaws.{end_ok_found, end_ok_again}
+use Rattle.my_reply.proofs.Readers.OkLaws.{end_ok_found, end_ok_again}
 use Rattle.my_reply.proofs.ok.read_end_ok.Goals as goal
 
 pub returns-clause-exact : goal.returns-clause-exact

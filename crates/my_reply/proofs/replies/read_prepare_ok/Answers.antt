@@ -1,6 +1,6 @@
 use Rattle.my_reply.specs.Replies.{IsPrepareOk, prepare_ok_at}
 use Rattle.my_frame.proofs.ReadingLaws.{reads_plainly}
-use Rattle.my_reply.proofs.ReplyLaws.{prepare_ok_found, prepare_ok_again}
+use Rattle.my_reply.proofs.Readers.ReplyLaws.{prepare_ok_found, prepare_ok_again}
 use Rattle.my_reply.proofs.replies.read_prepare_ok.Goals as goal
 
 pub returns-clause-exact : goal.returns-clause-exact

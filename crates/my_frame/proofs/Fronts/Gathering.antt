@@ -4,7 +4,7 @@ use Rattle.std.proofs.Common.{◌≡◌, ℕ, ◌+◌, ◌<◌, ◌≤◌, List,
 use Rattle.my_frame.specs.Chunks.{full_length, next_number}
 use Rattle.my_frame.specs.Front.{Whole, header_length, front_from, front_at}
 use Rattle.my_frame.specs.Framed.{IsThePayload}
-use Rattle.my_frame.proofs.WholeHeads.{whole_head}
+use Rattle.my_frame.proofs.Fronts.WholeHeads.{whole_head}
 
 pub record Left (rest payload p after : List ℕ) (limit next : ℕ) : Type 0 where
   pub number : ℕ

@@ -1,8 +1,9 @@
 -- The replies to a text that is kept, and to a query that reads a file, as relations and as what is read.
 use Rattle.std.proofs.Common.{◌≡◌, ℕ, List, Some, refl, subst}
+use Rattle.my_reply.specs.declared.replies.InfileRequest.{InfileRequest}
 use Rattle.my_reply.specs.declared.replies.PrepareOk.{PrepareOk}
 use Rattle.my_frame.specs.Numbers.{bytes_at, head_at, number_at}
-use Rattle.my_reply.specs.Replies.{IsPrepareOk, prepare_ok_at}
+use Rattle.my_reply.specs.Replies.{IsInfile, IsPrepareOk, infile_at, prepare_ok_at}
 use Rattle.my_frame.proofs.NumberLaws.{bind_then, head_found, head_again, bytes_found, bytes_again, number_found, number_again}
 
 pub prepare_ok_found : (payload : List ℕ) (prepared : PrepareOk) → prepare_ok_at payload ≡ Some prepared → IsPrepareOk payload prepared
@@ -36,3 +37,13 @@ pub prepare_ok_again : (payload : List ℕ) (prepared : PrepareOk) → IsPrepare
 unfolding prepare_ok_at
 prepare_ok_again payload prepared w =
     rw (head_again 0x00 payload w.after_head w.spelled, number_again 4 w.after_head prepared.id w.after_id w.id, number_again 2 w.after_id prepared.columns w.after_columns w.columns, number_again 2 w.after_columns prepared.params w.after_params w.params, bytes_again 1 w.after_params w.filler w.after_filler w.filler_is, number_again 2 w.after_filler prepared.warnings w.rest w.warnings) refl
+
+pub infile_found : (payload : List ℕ) (infile : InfileRequest) → infile_at payload ≡ Some infile → IsInfile payload infile
+infile_found payload infile e =
+    bind_then (head_at 0xFB payload) _ infile e (λ a ea na.
+    let fields : InfileRequest = record { name = a } in
+    let same : fields ≡ infile = cc in
+    subst (λ o. IsInfile payload o) {x = fields} same (head_found 0xFB payload a ea))
+
+pub infile_again : (payload : List ℕ) (infile : InfileRequest) → IsInfile payload infile → infile_at payload ≡ Some infile
+infile_again payload infile w = rw (head_again 0xFB payload infile.name w) refl
