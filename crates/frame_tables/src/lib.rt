@@ -1,5 +1,5 @@
-//! Tables of frames and numbers: how streams are cut and put together, and what sources and sinks answer. This crate has
-//! tests alone.
+//! Tables of frames and numbers: how streams are cut and put together, and what sources and sinks
+//! do. This crate has tests alone.
 #![tactic(auto)]
 
 #[cfg(test)]

@@ -13,7 +13,7 @@ fn decoded(
     Ok(codec.decode(alloc, wire)?.unwrap_or(Vec::new(alloc)))
 }
 
-// Sends that many bytes, and reads them back. The last chunk stands at `last_at` and ends the stream.
+// Sends `len` bytes, and reads them back. The last chunk begins at `last_at` and ends the stream.
 fn goes_and_comes(
     rt: &impl Abort,
     alloc: Global,

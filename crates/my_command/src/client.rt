@@ -11,9 +11,9 @@ use std::alloc::Global;
 /// A packet of the client.
 #[derive(Debug, Drop, PartialEq, Eq)]
 pub enum ClientPacket {
-    /// The answer to the server's greeting.
+    /// The response to the server's greeting.
     Response(HandshakeResponse),
-    /// The answer to a switch of the authentication plugin.
+    /// The response to a switch of the authentication plugin.
     SwitchAnswer(Blob),
     /// Ends the connection.
     Quit,
@@ -40,9 +40,9 @@ pub enum ClientPacket {
     /// Closes a statement.
     CloseStatement(u32),
     RegisterSlave(RegisterSlave),
-    /// Asks for a binary log from a place in a file on.
+    /// Asks for a binary log from a position in a file on.
     Dump(Dump),
-    /// Asks for a binary log without the transactions that are named.
+    /// Asks for a binary log without the transactions that the client has.
     DumpGtid(DumpGtid),
 }
 

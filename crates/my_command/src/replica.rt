@@ -12,7 +12,7 @@ use std::marker::Model;
 /// Transactions of one server.
 #[derive(Debug, Drop)]
 pub struct Sid {
-    /// The server's number.
+    /// The server's UUID.
     pub uuid: [u8; 16],
     /// The numbers of the transactions: the first, and the one after the last.
     pub intervals: Vec<(u64, u64)>,
@@ -59,7 +59,7 @@ impl Copied for Sid {
 /// Makes the client known as a replica.
 #[derive(Debug, Drop, PartialEq, Eq)]
 pub struct RegisterSlave {
-    /// The client's number among the servers.
+    /// The client's server id.
     pub server: u32,
     /// At most 255 bytes, as the two that follow.
     pub host: Blob,
@@ -68,25 +68,25 @@ pub struct RegisterSlave {
     pub port: u16,
 }
 
-/// Asks for a binary log from a place in a file on.
+/// Asks for a binary log from a position in a file on.
 #[derive(Debug, Drop, PartialEq, Eq)]
 pub struct Dump {
-    /// The place, of which the low 32 bits are sent.
+    /// The position in the file, of which the low 32 bits are sent.
     pub position: u64,
     /// The stream ends where the log does.
     pub non_blocking: bool,
-    /// The client's number among the servers.
+    /// The client's server id.
     pub server: u32,
     pub file: Blob,
 }
 
-/// Asks for a binary log without the transactions that are named.
+/// Asks for a binary log without the transactions that the client has.
 #[derive(Debug, Drop, PartialEq, Eq)]
 pub struct DumpGtid {
     pub position: u64,
     /// The stream ends where the log does.
     pub non_blocking: bool,
-    /// The client's number among the servers.
+    /// The client's server id.
     pub server: u32,
     /// Fewer than 2^32 bytes.
     pub file: Blob,

@@ -4,7 +4,7 @@ ghost use Rattle.std.specs.Prelude.{⊤, [], ◌∷◌, codes};
 
 use bitflags::{Flag, Flags, bitflag_items};
 
-/// What a client or a server can do. Both sides tell theirs while a connection is made, and what
+/// What a client or a server can do. Both sides send theirs while a connection is made, and what
 /// both have holds from then on.
 #[derive(Clone, Copy, PartialEq, Eq, Debug)]
 pub struct CapabilityFlags(pub u32);
@@ -58,7 +58,7 @@ impl Flags for CapabilityFlags {
     }
 }
 
-/// The state of a server's session, as it tells it in its replies.
+/// The state of a server's session, as its replies give it.
 #[derive(Clone, Copy, PartialEq, Eq, Debug)]
 pub struct StatusFlags(pub u16);
 
@@ -110,8 +110,8 @@ impl Flags for StatusFlags {
     }
 }
 
-/// What a MariaDB server can do beyond `CapabilityFlags`. It tells them in the last four of the
-/// greeting's reserved bytes, and a client answers with those that it has too.
+/// What a MariaDB server can do beyond `CapabilityFlags`. It sends them in the last four of the
+/// greeting's reserved bytes, and a client returns those that it has too.
 #[derive(Clone, Copy, PartialEq, Eq, Debug)]
 pub struct MariadbCapabilities(pub u32);
 

@@ -5,7 +5,7 @@ use Rattle.std.proofs.lemmas.Bool.{cases_lt}
 use Rattle.my_frame.specs.Chunks.{full_length, next_number, header, chunk, numbered, number_after, split_full, parts_of, chunks, number_after_payload}
 use Rattle.my_frame.specs.Front.{header_length}
 
--- a header tells its length
+-- a header's length is read back
 pub header_length-header : (len number : ℕ) (body : List ℕ) → len < 2 ^ 24 → header_length (header len number ++ body) ≡ len
 header_length-header len number body fits = omega arith
 

@@ -1,4 +1,4 @@
--- What the answer of a read in front says of the chunks and faults there.
+-- What the result of reading a payload says of the chunks and faults that the bytes begin with.
 use Rattle.std.proofs.Common.{◌≡◌, ℕ, ◌+◌, ◌-◌, ◌≤◌, List, ◌++◌, length, drop, ap, subst, ◌∙◌, arith, length-append, ◌↔◌, Result, Ok, Err, Option, Some, None, IsErrOf}
 use Rattle.std.proofs.lemmas.List.{drop_at}
 use Rattle.my_frame.specs.declared.fault.CodecFault.{CodecFault}

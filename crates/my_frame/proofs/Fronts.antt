@@ -1,4 +1,4 @@
--- What stands in front: the chunks of a payload within the limit, or the first faulty header, are found there.
+-- The chunks of a payload within the limit, and the first faulty header, are found where the bytes begin with them.
 pub mod Gathering
 pub mod Scanning
 pub mod Steps
@@ -16,7 +16,7 @@ use Rattle.my_frame.specs.Front.{Waiting, Broken, Whole, header_length, after_pa
 use Rattle.my_frame.proofs.ChunkLaws.{header_length-header, number_after_payload-short, number_after_payload-full, short_or_full, short_spelled, full_spelled}
 use Rattle.my_frame.proofs.Fronts.Steps.{front-misnumbered, front-too_large, front-last, front-full}
 
--- what stands in front of a header and a body, by the header
+-- what a header and a body begin, by the header
 module _ (n before limit len number : ℕ) (body : List ℕ) (fits : len < 2 ^ 24) where
   len_is : header_length (header len number ++ body) ≡ len
   len_is = header_length-header len number body fits
@@ -94,7 +94,7 @@ blamed_after (part ∷ parts) n before limit len number more fault fits full wit
     (blamed_after parts (next_number n) (before + full_length) limit len number more fault fits full.1 (omega arith)
     (subst (λ x. IsBlamed (number_after parts (next_number n)) x limit len number fault) sum h))
 
--- a faulty header, wherever it stands
+-- a faulty header, after any number of chunks
 pub blamed : (bytes : List ℕ) (n before limit : ℕ) (fault : CodecFault) → Faulty bytes n before limit fault → front_from n before limit bytes ≡ Broken fault
 blamed bytes n before limit fault w =
     ap (λ x. front_from n before limit x) w.spelled ∙ blamed_after w.parts n before limit w.len w.number w.more fault w.len_fits w.full w.within w.blamed
@@ -119,7 +119,7 @@ too_large_below (suc bound) p more n before limit less within above =
           ]
     ]
 
--- where nothing is found, no payload stands, and no fault
+-- where nothing is found, there is no payload and no fault
 pub no_payload : (bytes : List ℕ) (n limit : ℕ) → front_at n limit bytes ≡ Waiting → HasNoPayload bytes n
 no_payload bytes n limit e = record {
   none = λ p more spelled.

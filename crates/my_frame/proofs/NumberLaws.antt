@@ -1,4 +1,4 @@
--- What stands at the front of bytes, as a relation and as what is read.
+-- What bytes begin with, as a relation and as what is read.
 use Rattle.std.proofs.Common.{◌≡◌, ◌≢◌, ℕ, ◌+◌, ◌≤◌, ◌<◌, ◌⊎◌, inl, inr, List, [], ◌∷◌, ◌++◌, length, take, drop, get_or, Bool, true, false, cond, Option, Some, None, eqb, ltb, refl, sym, ap, subst, ◌∙◌, arith, suc, length-append, length-take-le, add-one, drop-cons, append_assoc}
 use Rattle.std.proofs.lemmas.List.{take_at, drop_at, take-append-drop, take_all, get_or_append_left, get_or-take}
 use Rattle.std.proofs.Math.Seq.{get_or-append_seam}

@@ -10,7 +10,7 @@ use Rattle.std.proofs.lemmas.Bool.Decides.{Decides-and, Decides-ltb, nat_tests}
 use Rattle.std.proofs.lemmas.Fmt.{IsAscii-from_digits}
 use Rattle.my_frame.specs.Numeral.{is_numeral, whole_number}
 
--- digits are told from other bytes
+-- a byte is a digit or it isn't
 all_digits-Decides : (digits : List ℕ) → Decides (list_all (λ c. is_digit c 10) digits) (AllDigits 10 digits)
 all_digits-Decides [] = (λ _. tt, λ _. refl)
 all_digits-Decides (c ∷ digits) = Decides-and (is_digit c 10) (list_all (λ d. is_digit d 10) digits) (Decides-ltb (digit_value c) 10) (all_digits-Decides digits)

@@ -6,14 +6,15 @@ use Rattle.my_frame.specs.declared.fault.CodecFault.{CodecFault}
 use Rattle.my_frame.specs.declared.fault.CodecFault.TheVariants.{OutOfOrder, TooLarge}
 use Rattle.my_frame.specs.Chunks.{full_length, header, numbered, number_after, chunks}
 
--- What a header is blamed for, where the number expected is awaited and the payload's earlier chunks carried before bytes. A
--- header with a wrong number is blamed for that alone.
+-- What a header is blamed for, where the next sequence id is `expected` and the payload's earlier chunks had `before`
+-- bytes. A header with a wrong sequence id is blamed for that alone.
 abbrev pub IsBlamed : ℕ → ℕ → ℕ → ℕ → ℕ → CodecFault → Type 0
 IsBlamed expected before limit len number (OutOfOrder e f) = (number ≢ expected) × (e ≡ expected) × (f ≡ number)
-IsBlamed expected before limit len number (TooLarge l m) = (number ≡ expected) × (limit < before + len) × (l ≡ before + len) × (m ≡ limit)
+IsBlamed expected before limit len number (TooLarge l m) =
+    (number ≡ expected) × (limit < before + len) × (l ≡ before + len) × (m ≡ limit)
 
--- After full chunks with the right numbers and within the limit stands a header with this fault: the first faulty one.
--- Earlier chunks of the payload, in front of these bytes, carried before bytes.
+-- Full chunks with the right sequence ids and within the limit are followed by a header with this fault, the first faulty
+-- one. Earlier chunks of the payload, before these bytes, had `before` bytes.
 pub record Faulty (bytes : List ℕ) (n before limit : ℕ) (fault : CodecFault) : Type 0 where
   pub parts : List (List ℕ)
   pub len : ℕ
@@ -25,7 +26,7 @@ pub record Faulty (bytes : List ℕ) (n before limit : ℕ) (fault : CodecFault)
   pub within : before + length (concat parts) ≤ limit
   pub blamed : IsBlamed (number_after parts n) (before + length (concat parts)) limit len number fault
 
--- No payload's chunks stand at the front of these bytes.
+-- These bytes begin with no payload's chunks.
 pub record HasNoPayload (bytes : List ℕ) (n : ℕ) : Type 0 where
   pub none : (p more : List ℕ) → bytes ≡ chunks p n ++ more → ⊥
 

@@ -1,5 +1,7 @@
--- Numbers and texts in a packet: as relations between a value, the bytes that begin with it and the bytes after it, and as functions that read.
--- MySQL internals, "Protocol Data Types": Integer Types (FixedLengthInteger, LengthEncodedInteger) and String Types (FixedLengthString, NulTerminatedString, LengthEncodedString).
+-- Numbers and texts in a packet: as relations between a value, the bytes that begin with it and the bytes after it, and
+-- as functions that read.
+-- MySQL internals, "Protocol Data Types": Integer Types (FixedLengthInteger, LengthEncodedInteger) and String Types
+-- (FixedLengthString, NulTerminatedString, LengthEncodedString).
 use Rattle.std.specs.Prelude.{◌≡◌, ◌≢◌, ℕ, ◌+◌, ◌*◌, ◌<◌, ◌⊎◌, List, [], ◌∷◌, ◌++◌, length, take, drop, All, Option, Some, None, position, nat_lt, ◌==◌, if◌then◌else◌}
 
 -- the number that these bytes spell, the lowest first
@@ -7,12 +9,12 @@ abbrev pub le_value : List ℕ → ℕ
 le_value [] = 0
 le_value (b ∷ bytes) = b + 256 * le_value bytes
 
--- The bytes begin with that many bytes, which are the part.
+-- The bytes begin with the part, which has `count` bytes.
 pub record IsBytes (count : ℕ) (bytes part rest : List ℕ) : Type 0 where
   pub count_is : length part ≡ count
   pub spelled : bytes ≡ part ++ rest
 
--- The bytes begin with the number n in count bytes.
+-- The bytes begin with the number n in `count` bytes.
 pub record IsNumber (count : ℕ) (bytes : List ℕ) (n : ℕ) (rest : List ℕ) : Type 0 where
   pub digits : List ℕ
   pub value : n ≡ le_value digits
@@ -22,7 +24,9 @@ pub record IsNumber (count : ℕ) (bytes : List ℕ) (n : ℕ) (rest : List ℕ)
 abbrev pub IsLen : List ℕ → ℕ → List ℕ → Type 0
 IsLen [] n rest = ⊥
 IsLen (head ∷ bytes) n rest =
-    ((head < 0xFB) × (n ≡ head) × (bytes ≡ rest)) ⊎ (((head ≡ 0xFC) × IsNumber 2 bytes n rest) ⊎ (((head ≡ 0xFD) × IsNumber 3 bytes n rest) ⊎ ((head ≡ 0xFE) × IsNumber 8 bytes n rest)))
+    ((head < 0xFB) × (n ≡ head) × (bytes ≡ rest))
+    ⊎ (((head ≡ 0xFC) × IsNumber 2 bytes n rest)
+    ⊎ (((head ≡ 0xFD) × IsNumber 3 bytes n rest) ⊎ ((head ≡ 0xFE) × IsNumber 8 bytes n rest)))
 
 -- The bytes begin with a text after its length.
 pub record IsText (bytes text rest : List ℕ) : Type 0 where
@@ -49,12 +53,15 @@ abbrev pub bytes_at : ℕ → List ℕ → Option (List ℕ × List ℕ)
 bytes_at count bytes = if nat_lt (length bytes) count then None else Some (take count bytes, drop count bytes)
 
 abbrev pub number_at : ℕ → List ℕ → Option (ℕ × List ℕ)
-number_at count bytes = if nat_lt (length bytes) count then None else Some (le_value (take count bytes), drop count bytes)
+number_at count bytes =
+    if nat_lt (length bytes) count then None else Some (le_value (take count bytes), drop count bytes)
 
 abbrev pub len_at : List ℕ → Option (ℕ × List ℕ)
 len_at [] = None
 len_at (head ∷ bytes) =
-    if nat_lt head 0xFB then Some (head, bytes) else (if head == 0xFC then number_at 2 bytes else (if head == 0xFD then number_at 3 bytes else (if head == 0xFE then number_at 8 bytes else None)))
+    if nat_lt head 0xFB then Some (head, bytes)
+    else (if head == 0xFC then number_at 2 bytes
+    else (if head == 0xFD then number_at 3 bytes else (if head == 0xFE then number_at 8 bytes else None)))
 
 abbrev pub text_at : List ℕ → Option (List ℕ × List ℕ)
 text_at bytes = do

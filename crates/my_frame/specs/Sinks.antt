@@ -1,10 +1,10 @@
--- What the answers of a sink mean, in the way of POSIX write(2): from one byte to all that it was given, or a fault.
+-- What the steps of a sink mean, as those of POSIX write(2): from one byte to all that it was given, or a fault.
 use Rattle.std.specs.Prelude.{◌≡◌, ℕ, ◌<◌, ◌≤◌, ◌==◌, min, List, length, take, Option, if◌then◌else◌}
 use Rattle.my_frame.specs.declared.sink.SinkStep.{SinkStep}
 use Rattle.my_frame.specs.declared.sink.SinkStep.TheVariants.{Took, Failed}
 use Rattle.my_frame.specs.Outside.{Rose, Comes}
 
--- what became of what the sink took
+-- what the sink took after a step, by what it took before and by the bytes given
 abbrev pub TookBytes : Option (List ℕ) → List ℕ → Option (List ℕ) → SinkStep → Type 0
 TookBytes before bytes now (Took n) = (0 < n) × (n ≤ length bytes) × Comes before (take n bytes) now
 TookBytes before bytes now Failed = now ≡ before
@@ -14,7 +14,7 @@ abbrev pub SinkCounts : ℕ → ℕ → SinkStep → Type 0
 SinkCounts before now (Took n) = now ≡ before
 SinkCounts before now Failed = Rose before now
 
--- A sink in memory: what it took, how many bytes it has room for, and how often it failed.
+-- A sink in memory: what it took, its room in bytes, and the number of writes that failed.
 pub record Held : Type 0 where
   pub taken : List ℕ
   pub room : ℕ

@@ -1,4 +1,5 @@
--- What the steps of a source mean, as those of POSIX read(2): from one byte to as many as the buffer has, the end, or a fault.
+-- What the steps of a source mean, as those of POSIX read(2): from one byte to as many as the buffer has, the end, or a
+-- fault.
 use Rattle.std.specs.Prelude.{◌≡◌, ℕ, ◌<◌, ◌≤◌, ◌==◌, min, List, drop, length, take, Option, if◌then◌else◌}
 use Rattle.my_frame.specs.declared.source.SourceStep.{SourceStep}
 use Rattle.my_frame.specs.declared.source.SourceStep.TheVariants.{Got, End, Failed}

@@ -3,7 +3,7 @@
 use Rattle.std.specs.Prelude.{ℕ, zero, suc, ◌/◌, ◌%◌, List, [], ◌∷◌, ◌++◌, length, ◌==◌, nat_lt, if◌then◌else◌}
 use Rattle.std.specs.List.{before_first}
 
--- n in so many bytes, the lowest first
+-- n in this number of bytes, the lowest first
 unfoldable pub le_bytes : ℕ → ℕ → List ℕ
 le_bytes zero n = []
 le_bytes (suc k) n = n % 256 ∷ le_bytes k (n / 256)
@@ -11,7 +11,9 @@ le_bytes (suc k) n = n % 256 ∷ le_bytes k (n / 256)
 -- n with its length, in the shortest form
 unfoldable pub len_bytes : ℕ → List ℕ
 len_bytes n =
-    if nat_lt n 0xFB then n ∷ [] else (if nat_lt n 0x10000 then 0xFC ∷ le_bytes 2 n else (if nat_lt n 0x1000000 then 0xFD ∷ le_bytes 3 n else 0xFE ∷ le_bytes 8 n))
+    if nat_lt n 0xFB then n ∷ []
+    else (if nat_lt n 0x10000 then 0xFC ∷ le_bytes 2 n
+    else (if nat_lt n 0x1000000 then 0xFD ∷ le_bytes 3 n else 0xFE ∷ le_bytes 8 n))
 
 -- a text after its length
 unfoldable pub text_bytes : List ℕ → List ℕ

@@ -1,4 +1,4 @@
-//! Payloads that are to be sent, after others.
+//! Payloads to send, added to a buffer.
 
 ghost use Rattle.std.specs.Prelude.{◌≡◌, ◌++◌, OnErr, IfOk};
 ghost use Rattle.my_frame.specs.Chunks.{chunks, number_after_payload};
@@ -8,7 +8,7 @@ use crate::put::put_chunks;
 use crate::limits::FULL_LENGTH;
 use bytes::BytesMut;
 
-/// Adds the payload's chunks, numbered from `number` on, and answers the number after theirs.
+/// Adds the payload's chunks, with sequence ids from `number` on, and returns the next sequence id.
 pub fn append_payload(dst: &mut BytesMut, payload: &[u8], number: u8) -> Result<u8, NoMemory>
     ensures ok { IfOk result (λ next. (dst.new.items ≡ dst.old.items ++ chunks payload.now number)
         × (next ≡ number_after_payload payload.now number)) }

@@ -9,7 +9,7 @@ use std::marker::Model;
 
 /// Owned bytes, which contracts see as the list of their values.
 ///
-/// It is made from a `Vec<u8>`, and gives it back, without taking memory.
+/// It is made from a `Vec<u8>` and turned back into one without taking memory.
 #[derive(Debug, Drop)]
 pub struct Blob {
     bytes: Vec<u8>,

@@ -14,7 +14,7 @@ use bytes::BytesMut;
 use std::alloc::Global;
 use std::marker::Model;
 
-/// Reads and writes payloads as numbered chunks. The number counts over both directions.
+/// Reads and writes payloads as numbered chunks. The sequence id counts over both directions.
 #[derive(Debug, Drop)]
 pub struct PacketCodec {
     number: u8,
@@ -32,10 +32,10 @@ impl Model for PacketCodec {
 impl PacketCodec {
     ghost use Rattle.my_frame.specs.Codec.{Takes};
 
-    /// How many bytes a payload may have where nothing else was said.
+    /// The longest payload in bytes, where nothing else was set.
     pub const DEFAULT_LIMIT: u64 = DEFAULT_MAX_ALLOWED_PACKET;
 
-    /// A codec at number 0.
+    /// A codec whose next chunk has the sequence id 0.
     pub fn new() -> PacketCodec
         ensures { result ≡ record { number = 0; limit = DEFAULT_MAX_ALLOWED_PACKET } }
     {
@@ -45,7 +45,7 @@ impl PacketCodec {
         }
     }
 
-    /// The next chunk has the number 0 again, as a new command's first has.
+    /// The next chunk has the sequence id 0 again, as a new command's first has.
     pub fn reset_seq_id(&mut self)
         ensures { self.new ≡ record self.old { number = 0 } }
     {
@@ -59,7 +59,7 @@ impl PacketCodec {
         self.limit = limit;
     }
 
-    /// How many bytes a payload may have.
+    /// The longest payload in bytes.
     pub fn max_allowed_packet(&self) -> u64
         ensures { result ≡ self.now.limit }
     {

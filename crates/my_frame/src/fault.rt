@@ -7,8 +7,9 @@ use crate::no_memory::NoMemory;
 use std::alloc::AllocError;
 use thiserror::Error;
 
-/// What is wrong with a stream of chunks, or with a payload that is to be sent: a chunk came with the number `found` where
-/// `expected` is the next one, or a payload has at least `length` bytes, which is more than `limit`.
+/// What is wrong with a stream of chunks, or with a payload to send: a chunk has the sequence id
+/// `found` where `expected` is the next one, or a payload has at least `length` bytes, which is more
+/// than `limit`.
 #[derive(Clone, Copy, Debug, PartialEq, Eq, Error)]
 pub enum CodecFault {
     #[error("packet out of order: expected number {expected}, found {found}")]
@@ -17,7 +18,7 @@ pub enum CodecFault {
     TooLarge { length: u64, limit: u64 },
 }
 
-/// What a codec answers where it can't read or write a payload.
+/// Why a codec can't read or write a payload.
 #[derive(Debug, Drop, Error)]
 pub enum CodecError {
     #[error(transparent)]

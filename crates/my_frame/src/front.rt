@@ -1,4 +1,4 @@
-//! The payload at the front of some bytes, whatever it is kept in.
+//! The payload that some bytes begin with, copied.
 
 ghost use Rattle.std.specs.Prelude.{◌≡◌, IfOk};
 ghost use Rattle.my_frame.specs.Front.{front_at};
@@ -12,14 +12,14 @@ use crate::limits::FULL_LENGTH;
 use crate::scan::{Span, scan_front};
 use std::alloc::{AllocError, Global};
 
-/// A payload, and where its chunks stand.
+/// A payload and the span of its chunks.
 #[derive(Debug, Drop)]
 pub struct FramedPayload {
     pub payload: Blob,
     pub span: Span,
 }
 
-// The payload whose chunks stand in front, if they do.
+// The payload whose chunks the bytes begin with, where they begin with one.
 fn gather(alloc: Global, bytes: &[u8]) -> Result<Vec<u8>, AllocError>
     ensures { IfOk result (λ v. IsThePayload bytes.now v.items) }
 {
@@ -41,8 +41,9 @@ fn gather(alloc: Global, bytes: &[u8]) -> Result<Vec<u8>, AllocError>
     Ok(payload)
 }
 
-/// Copies the payload at the front of the bytes, whose chunks are numbered from `number` on and which has at most `limit` bytes.
-/// `Ok(None)` means that neither it nor a fault stands there yet. After its span the next payload may stand.
+/// Copies the payload that the bytes begin with. Its chunks have sequence ids from `number` on, and it
+/// has at most `limit` bytes. `Ok(None)` means that neither it nor a fault is there yet. The next
+/// payload may follow its span.
 pub fn payload_in_front(
     alloc: Global,
     bytes: &[u8],

@@ -1,16 +1,16 @@
-// The four bytes in front of a chunk's own.
+// The four bytes that a chunk begins with.
 
 ghost use Rattle.std.specs.Prelude.{◌≡◌, ◌<◌, ◌≤◌, ◌^◌, length};
 ghost use Rattle.my_frame.specs.Front.{header_length, header_number};
 
-// How many bytes the chunk carries, and its number.
+// The length of the chunk's part of a payload, and its sequence id.
 #[derive(Clone, Copy)]
 pub struct Header {
     pub len: usize,
     pub number: u8,
 }
 
-// The header in front.
+// The header that the bytes begin with.
 pub fn read_header(bytes: &[u8]) -> Header
     requires { 4 ≤ length bytes.now }
     ensures len { result.len ≡ header_length bytes.now }

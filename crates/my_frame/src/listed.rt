@@ -9,7 +9,7 @@ use std::marker::Model;
 
 /// Items in order, which contracts see as their list.
 ///
-/// It is made from a `Vec`, and gives it back, without taking memory.
+/// It is made from a `Vec` and turned back into one without taking memory.
 #[derive(Debug, Drop)]
 pub struct Listed<T> {
     items: Vec<T>,
@@ -75,7 +75,7 @@ impl<T> Listed<T> {
         &self.items
     }
 
-    /// The `Vec` of the items, given back.
+    /// The `Vec` of the items.
     pub fn into_vec(self) -> Vec<T>
         ensures { result.items ≡ self }
     {

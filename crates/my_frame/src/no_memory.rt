@@ -1,4 +1,4 @@
-//! The answer of a call that got no memory.
+//! The error of a call that ran out of memory.
 
 use std::alloc::{AllocError, AllocFailed};
 use thiserror::Error;

@@ -1,12 +1,12 @@
-//! Numbers and texts at the front of bytes: each call gives what stands there and the bytes after it,
-//! or `None` where nothing of that form stands there. Numbers have their lowest byte first.
+//! Numbers and texts at the front of bytes: each call returns what the bytes begin with and the bytes
+//! after it, or `None` where they begin with nothing of that form. Numbers have their lowest byte first.
 
-ghost use Rattle.std.specs.Prelude.{◌≡◌, ◌==◌, ◌<◌, ◌↔◌, ◌∷◌, ℕ, List, IfSome, Option, Some, length, position};
+ghost use Rattle.std.specs.Prelude.{◌≡◌, ◌==◌, ◌<◌, IfSome, Option, Some, length, position};
 ghost use Rattle.std.specs.List.{before_first};
 ghost use Rattle.std.specs.Option.{option_map};
-ghost use Rattle.my_frame.specs.Numbers.{IsBeforeZero, IsBytes, IsLen, IsNumber, IsText, IsText0, bytes_at, head_at, len_at, number_at, text0_at, text_at};
+ghost use Rattle.my_frame.specs.Numbers.{bytes_at, head_at, len_at, number_at, text0_at, text_at};
 
-/// So many bytes as they stand.
+/// The first `count` bytes.
 pub fn take_bytes(bytes: &[u8], count: usize) -> Option<(&[u8], &[u8])>
     ensures { option_map (λ x. (x.0.now, x.1.now)) result ≡ bytes_at count bytes.now }
 {
@@ -153,14 +153,3 @@ pub fn before_zero(bytes: &[u8]) -> &[u8]
         None => bytes,
     }
 }
-
-/// What stands at the front of bytes is what reading gives.
-pub fn numbers_are_read()
-    ensures head { (head : ℕ) (bytes rest : List ℕ) → (head_at head bytes ≡ Some rest) ↔ (bytes ≡ head ∷ rest) }
-    ensures before { (bytes part : List ℕ) → (before_first (λ b. b == 0) bytes ≡ part) ↔ IsBeforeZero bytes part }
-    ensures bytes { (count : ℕ) (bytes part rest : List ℕ) → (bytes_at count bytes ≡ Some (part, rest)) ↔ IsBytes count bytes part rest }
-    ensures number { (count : ℕ) (bytes : List ℕ) (n : ℕ) (rest : List ℕ) → (number_at count bytes ≡ Some (n, rest)) ↔ IsNumber count bytes n rest }
-    ensures len { (bytes : List ℕ) (n : ℕ) (rest : List ℕ) → (len_at bytes ≡ Some (n, rest)) ↔ IsLen bytes n rest }
-    ensures text { (bytes text rest : List ℕ) → (text_at bytes ≡ Some (text, rest)) ↔ IsText bytes text rest }
-    ensures text0 { (bytes text rest : List ℕ) → (text0_at bytes ≡ Some (text, rest)) ↔ IsText0 bytes text rest }
-{}

@@ -24,7 +24,7 @@ fn put_chunk(dst: &mut BytesMut, part: &[u8], number: u8)
     dst.extend_reserved(part);
 }
 
-// Adds the payload's chunks, numbered from `number` on, and returns the number after theirs.
+// Adds the payload's chunks, with sequence ids from `number` on, and returns the next sequence id.
 pub fn put_chunks(dst: &mut BytesMut, payload: &[u8], number: u8) -> u8
     requires { length payload.now + 4 * (length payload.now / full_length + 1) ≤ dst.old.spare }
     ensures items { dst.new.items ≡ dst.old.items ++ chunks payload.now number }

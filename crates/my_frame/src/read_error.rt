@@ -7,8 +7,8 @@ use crate::no_memory::NoMemory;
 use std::alloc::AllocError;
 use thiserror::Error;
 
-/// What a reader of packets answers where it gives no record: the payload is no record of the kind that is read, or an
-/// allocation failed.
+/// Why a reader of packets returns no record: the payload is no record of the kind that is read, or
+/// an allocation failed.
 #[derive(Clone, Copy, Debug, PartialEq, Eq, Error)]
 pub enum ReadError {
     #[error("malformed packet")]

@@ -1,4 +1,4 @@
-//! Where the chunks of a payload stand, found without taking memory.
+//! The chunks of the payload that some bytes begin with, found without taking memory.
 
 ghost use Rattle.std.specs.Prelude.{◌≡◌, length};
 ghost use Rattle.my_frame.specs.Front.{front_at, span_of};
@@ -7,15 +7,15 @@ use crate::fault::CodecFault;
 use crate::header::read_header;
 use crate::limits::FULL_LENGTH;
 
-/// The chunks of one payload: how many bytes they take with their headers, and the number after theirs.
+/// The chunks of one payload: their length with their headers, in bytes, and the next sequence id.
 #[derive(Clone, Copy, Debug, PartialEq, Eq)]
 pub struct Span {
     pub len: usize,
     pub next: u8,
 }
 
-/// Looks for a whole payload at the front of the bytes, whose chunks are numbered from `number` on and which has at most `limit`
-/// bytes. `Ok(None)` means that neither it nor a fault stands there yet.
+/// Looks for a whole payload that the bytes begin with. Its chunks have sequence ids from `number`
+/// on, and it has at most `limit` bytes. `Ok(None)` means that neither it nor a fault is there yet.
 pub fn scan_front(bytes: &[u8], number: u8, limit: u64) -> Result<Option<Span>, CodecFault>
     ensures { result ≡ span_of bytes.now (front_at number limit bytes.now) }
 {

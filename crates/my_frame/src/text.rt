@@ -9,7 +9,7 @@ use std::marker::Model;
 
 /// Owned text, which contracts see as the list of its UTF-8 bytes.
 ///
-/// It is made from a `String`, and gives it back, without taking memory.
+/// It is made from a `String` and turned back into one without taking memory.
 #[derive(Debug, Drop)]
 pub struct Text {
     text: String,

@@ -1,8 +1,6 @@
 //! Numbers and texts at the end of bytes that are written. Numbers have their lowest byte first.
 
-ghost use Rattle.std.specs.Prelude.{◌≡◌, ◌==◌, ◌+◌, ◌<◌, ◌≤◌, ◌^◌, ◌++◌, [], ◌∷◌, ℕ, List, OnOk, Some, length};
-ghost use Rattle.std.specs.List.{before_first};
-ghost use Rattle.my_frame.specs.Numbers.{bytes_at, len_at, number_at, text0_at, text_at};
+ghost use Rattle.std.specs.Prelude.{◌≡◌, ◌+◌, ◌<◌, ◌++◌, OnOk, length};
 ghost use Rattle.my_frame.specs.Writing.{le_bytes, len_bytes, short_bytes, text0_bytes, text_bytes};
 
 use crate::numbers::before_zero;
@@ -97,11 +95,3 @@ pub fn put_short(out: &mut Vec<u8>, text: &[u8]) -> Result<(), NoMemory>
     out.extend_from_slice(text)?;
     Ok(())
 }
-
-/// What was written is read again, whatever follows it.
-pub fn written_is_read()
-    ensures number { (count n : ℕ) (rest : List ℕ) → n < 256 ^ count → number_at count (le_bytes count n ++ rest) ≡ Some (n, rest) }
-    ensures len { (n : ℕ) (rest : List ℕ) → n < 2 ^ 64 → len_at (len_bytes n ++ rest) ≡ Some (n, rest) }
-    ensures text { (text rest : List ℕ) → length text < 2 ^ 64 → text_at (text_bytes text ++ rest) ≡ Some (text, rest) }
-    ensures text0 { (text rest : List ℕ) → text0_at (text0_bytes text ++ rest) ≡ Some (before_first (λ b. b == 0) text, rest) }
-{}

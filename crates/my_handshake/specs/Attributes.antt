@@ -7,7 +7,7 @@ use Rattle.std.specs.Cmp.Lexicographic.{slice_cmp}
 use Rattle.my_frame.specs.Writing.{text_bytes}
 use Rattle.my_handshake.specs.declared.attributes.Attribute.{Attribute}
 
--- a key stands before another in byte order
+-- a key is before another in byte order
 abbrev pub is_before : List ℕ → List ℕ → Bool
 is_before key other = is_lt (slice_cmp nat_cmp key other)
 
@@ -23,12 +23,12 @@ pair_bytes pair = text_bytes pair.key ++ text_bytes pair.value
 abbrev pub attributes_bytes : List Attribute → List ℕ
 attributes_bytes pairs = text_bytes (flat_map pair_bytes pairs)
 
--- No key of these stands before the key.
+-- None of these keys is before the key.
 abbrev pub NoneBefore : List ℕ → List Attribute → Type 0
 NoneBefore key [] = Unit {0}
 NoneBefore key (p ∷ ps) = (is_before p.key key ≡ false) × NoneBefore key ps
 
--- No key stands before the key of a pair ahead of it.
+-- No key is before the key of an earlier pair.
 abbrev pub IsInKeyOrder : List Attribute → Type 0
 IsInKeyOrder [] = Unit {0}
 IsInKeyOrder (p ∷ ps) = NoneBefore p.key ps × IsInKeyOrder ps

@@ -1,5 +1,6 @@
 -- The packet by which a server greets.
--- MySQL internals, "Connection Phase Packets": Protocol::HandshakeV10; MariaDB, "Connecting": Initial Handshake Packet, whose last four reserved bytes are its further capabilities.
+-- MySQL internals, "Connection Phase Packets": Protocol::HandshakeV10; MariaDB, "Connecting": Initial Handshake Packet,
+-- whose last four reserved bytes are its further capabilities.
 use Rattle.std.specs.Prelude.{◌≡◌, ℕ, ◌+◌, ◌*◌, ◌-◌, max, IsTrue, List, ◌∷◌, ◌++◌, take, Option, Some, None, ◌==◌, if◌then◌else◌}
 use Rattle.std.specs.List.{before_first}
 use Rattle.my_frame.specs.Numbers.{IsBeforeZero, IsBytes, IsNumber, IsText0, bytes_at, head_at, number_at, text0_at, ◌>>=◌}
@@ -25,7 +26,7 @@ pub record IsFirst (payload version : List ℕ) (id : ℕ) (first rest : List �
   pub first_is : IsBytes 8 after_id first after_first
   pub filler : after_first ≡ 0 ∷ rest
 
--- Then come these settings: the capabilities in two halves with charset and status between them, and six reserved bytes.
+-- Then these settings follow: the capabilities in two halves, charset and status between them, and six reserved bytes.
 pub record IsSettings (bytes : List ℕ) (settings : Settings) (rest : List ℕ) : Type 0 where
   pub low : ℕ
   pub charset : ℕ
@@ -46,7 +47,8 @@ pub record IsSettings (bytes : List ℕ) (settings : Settings) (rest : List ℕ)
   pub extended : IsNumber 4 after_reserved settings.extended.0 rest
   pub capabilities : settings.capabilities.0 ≡ low + 65536 * high
 
--- The payload is this greeting. The second part of the nonce has at least 13 bytes, of which the first 12 count; the plugin's name may lack its zero.
+-- The payload is this greeting. The second part of the nonce has at least 13 bytes, of which the first 12 are used; the
+-- plugin's name may lack its zero.
 pub record IsGreeting (payload : List ℕ) (greeting : Greeting) : Type 0 where
   pub first : List ℕ
   pub second : List ℕ

@@ -1,5 +1,6 @@
 -- How the packets are written by which a client logs in.
--- MySQL internals, "Connection Phase Packets": HandshakeResponse41; "Utility Commands": COM_CHANGE_USER; MariaDB, "Connecting": Handshake Response Packet, whose last four filler bytes are the client's further capabilities.
+-- MySQL internals, "Connection Phase Packets": HandshakeResponse41; "Utility Commands": COM_CHANGE_USER; MariaDB,
+-- "Connecting": Handshake Response Packet, whose last four filler bytes are the client's further capabilities.
 use Rattle.std.specs.Prelude.{ℕ, List, [], ◌++◌, replicate, Option, Some, None, if◌then◌else◌}
 use Rattle.my_frame.specs.Writing.{le_bytes, short_bytes, text0_bytes}
 use Rattle.my_flags.specs.Sets.{connects_with_db, sends_connect_attrs}
@@ -14,7 +15,7 @@ settings_bytes r =
     le_bytes 4 r.capabilities.0 ++ le_bytes 4 r.max_packet ++ le_bytes 1 r.charset ++ replicate 19 0
     ++ le_bytes 4 r.extended.0
 
--- who logs in, and the answer to the nonce
+-- who logs in, and the response to the nonce
 abbrev pub names_bytes : List ℕ → List ℕ → List ℕ
 names_bytes user scramble = text0_bytes user ++ short_bytes scramble
 
@@ -24,7 +25,7 @@ kept_bytes r =
     (if connects_with_db r.capabilities then text0_bytes r.database else []) ++ text0_bytes r.plugin
     ++ (if sends_connect_attrs r.capabilities then attributes_bytes r.attributes else [])
 
--- The answer to the server's greeting.
+-- The client's response to the server's greeting.
 abbrev pub response_bytes : HandshakeResponse → List ℕ
 response_bytes r = settings_bytes r ++ names_bytes r.user r.scramble ++ kept_bytes r
 
@@ -32,7 +33,8 @@ abbrev pub maybe_attributes : Option (List Attribute) → List ℕ
 maybe_attributes None = []
 maybe_attributes (Some pairs) = attributes_bytes pairs
 
--- A new login on a connection that stands.
+-- A new login on an open connection.
 abbrev pub change_user_bytes : ChangeUser → List ℕ
 change_user_bytes c =
-    le_bytes 1 0x11 ++ names_bytes c.user c.scramble ++ text0_bytes c.database ++ le_bytes 2 c.charset ++ text0_bytes c.plugin ++ maybe_attributes c.attributes
+    le_bytes 1 0x11 ++ names_bytes c.user c.scramble ++ text0_bytes c.database ++ le_bytes 2 c.charset
+    ++ text0_bytes c.plugin ++ maybe_attributes c.attributes

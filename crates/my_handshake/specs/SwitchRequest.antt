@@ -1,4 +1,4 @@
--- The packets of logging in that ask for more.
+-- The packets by which a server asks for more while a client logs in.
 -- MySQL internals, "Connection Phase Packets": AuthSwitchRequest, OldAuthSwitchRequest, AuthMoreData.
 use Rattle.std.specs.Prelude.{◌≡◌, ◌≢◌, ℕ, ◌-◌, ◌⊎◌, ◌&&◌, List, [], ◌∷◌, ◌++◌, length, take, slice_index, Option, Some, codes, nat_lt, ◌==◌, if◌then◌else◌}
 use Rattle.my_frame.specs.Numbers.{IsNumber, IsText0, head_at, number_at, text0_at, ◌>>=◌}
@@ -7,9 +7,10 @@ use Rattle.my_handshake.specs.declared.switch.MoreData.{MoreData}
 
 -- One zero at the end is no part of the nonce.
 abbrev pub IsNonce : List ℕ → List ℕ → Type 0
-IsNonce left nonce = (left ≡ nonce ++ 0 ∷ []) ⊎ (((front : List ℕ) → left ≢ front ++ 0 ∷ []) × (nonce ≡ left))
+IsNonce left nonce =
+    (left ≡ nonce ++ 0 ∷ []) ⊎ (((front : List ℕ) → left ≢ front ++ 0 ∷ []) × (nonce ≡ left))
 
--- The payload names another way to log in.
+-- The payload names another authentication plugin.
 pub record NamesSwitch (payload : List ℕ) (switch : SwitchRequest) : Type 0 where
   pub after_head : List ℕ
   pub left : List ℕ
@@ -17,17 +18,17 @@ pub record NamesSwitch (payload : List ℕ) (switch : SwitchRequest) : Type 0 wh
   pub plugin : IsText0 after_head switch.plugin left
   pub nonce : IsNonce left switch.nonce
 
--- The payload is the bare head, which asks for the oldest way.
+-- The payload is the bare head, which asks for the oldest plugin.
 pub record IsOldSwitch (payload : List ℕ) (switch : SwitchRequest) : Type 0 where
   pub spelled : payload ≡ 0xFE ∷ []
   pub plugin : switch.plugin ≡ codes "mysql_old_password"
   pub nonce : switch.nonce ≡ []
 
--- The payload wants another way to log in.
+-- The payload asks for another authentication plugin.
 abbrev pub IsSwitch : List ℕ → SwitchRequest → Type 0
 IsSwitch payload switch = NamesSwitch payload switch ⊎ IsOldSwitch payload switch
 
--- The payload tells something of the way to log in, which begins with this byte.
+-- The payload is data of the authentication plugin, which begins with this byte.
 pub record IsMoreData (payload : List ℕ) (more : MoreData) : Type 0 where
   pub after_head : List ℕ
   pub rest : List ℕ
@@ -36,7 +37,8 @@ pub record IsMoreData (payload : List ℕ) (more : MoreData) : Type 0 where
 
 -- the same as functions that read
 abbrev pub without_last_zero : List ℕ → List ℕ
-without_last_zero left = if nat_lt 0 (length left) && (slice_index left (length left - 1) == 0) then take (length left - 1) left else left
+without_last_zero left =
+    if nat_lt 0 (length left) && (slice_index left (length left - 1) == 0) then take (length left - 1) left else left
 
 abbrev pub asked_at : List ℕ → Option (List ℕ × List ℕ)
 asked_at [] = Some (codes "mysql_old_password", [])

@@ -1,4 +1,5 @@
--- The version that a server tells in its greeting: MySQL's `8.0.36`, MariaDB's `10.6.12-MariaDB`, before which `5.5.5-` may stand for old clients.
+-- The version in a server's greeting: MySQL's `8.0.36`, MariaDB's `10.6.12-MariaDB`, which may follow `5.5.5-` for the
+-- sake of old clients.
 -- MariaDB, "Connecting": Initial Handshake Packet, server version.
 use Rattle.std.specs.Prelude.{ℕ, ◌+◌, ◌*◌, ◌-◌, ◌&&◌, true, false, List, [], ◌∷◌, drop, Option, Some, None, codes, nat_eq, nat_le, if◌then◌else◌}
 use Rattle.std.specs.List.{starts_with}
@@ -10,7 +11,7 @@ abbrev pub digit_at : List ℕ → Option (ℕ × List ℕ)
 digit_at [] = None
 digit_at (b ∷ rest) = if nat_le 48 b && nat_le b 57 then Some (b - 48, rest) else None
 
--- the number with one digit more, where one stands next
+-- the number with one digit more, where a digit comes next
 abbrev pub grown : ℕ → List ℕ → Option (ℕ × List ℕ) → ℕ × List ℕ
 grown value bytes None = (value, bytes)
 grown value bytes (Some x) = (10 * value + x.0, x.1)
@@ -39,7 +40,7 @@ dotted_at bytes = do
   patch ← three_at after_minor
   Some ((major.0, minor.0, patch.0), patch.1)
 
--- MariaDB's numbers, after which its name stands
+-- MariaDB's numbers, which its name follows
 abbrev pub mariadb_at : List ℕ → Option (ℕ × ℕ × ℕ)
 mariadb_at bytes = do
   numbers ← dotted_at bytes
@@ -59,6 +60,6 @@ version_from (Some n) other = record { mariadb = true; major = n.0; minor = n.1;
 version_from None (Some x) = record { mariadb = false; major = x.0.0; minor = x.0.1; patch = x.0.2 }
 version_from None None = record { mariadb = false; major = 0; minor = 0; patch = 0 }
 
--- The version that a text tells; three zeros where it tells none.
+-- The version that a text spells; three zeros where it spells none.
 abbrev pub version_of : List ℕ → ServerVersion
 version_of text = version_from (or_else (prefixed_at text) (mariadb_at text)) (dotted_at text)

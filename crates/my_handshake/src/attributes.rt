@@ -1,4 +1,4 @@
-//! What a client tells of itself: pairs of a name and a value.
+//! Connection attributes, by which a client describes itself: pairs of a name and a value.
 
 ghost use Rattle.std.specs.Prelude.{◌≡◌, ◌<◌, ◌≤◌, [], IfOk, IfSome, List, OnOk, OnErr, length, position};
 ghost use Rattle.std.specs.List.{position_or_len};

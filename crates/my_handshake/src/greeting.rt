@@ -19,12 +19,12 @@ pub const NEEDED_CAPABILITIES: CapabilityFlags = CapabilityFlags(
         | CapabilityFlags::CLIENT_PLUGIN_AUTH.0,
 );
 
-/// What a server says first.
+/// The first packet of a server.
 #[derive(Debug, Drop, PartialEq, Eq)]
 pub struct Greeting {
     /// The server's version as text.
     pub version: Blob,
-    /// The connection's number.
+    /// The connection id.
     pub id: u32,
     /// 20 random bytes.
     pub nonce: Blob,

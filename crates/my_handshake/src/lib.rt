@@ -1,5 +1,5 @@
-//! The packets by which a connection is made: the server's greeting, its version, the client's login, and the
-//! switch of the way to log in.
+//! The packets by which a connection is made: the server's greeting, its version, the client's login,
+//! and the switch of the authentication plugin.
 #![tactic(auto)]
 
 mod attributes;

@@ -11,40 +11,40 @@ use my_frame::{Blob, Copied, NoMemory};
 use my_frame::writing::{put_short, put_text, put_text0, put_u8, put_u16, put_u32};
 use std::alloc::Global;
 
-/// The answer to the server's greeting.
+/// The client's response to the server's greeting.
 #[derive(Debug, Drop, PartialEq, Eq)]
 pub struct HandshakeResponse {
     /// The capabilities that both sides have.
     pub capabilities: CapabilityFlags,
-    /// The longest payload that the client takes.
+    /// The longest payload that the client accepts, in bytes.
     pub max_packet: u32,
-    /// The number of the character set and its order.
+    /// The number of the collation.
     pub charset: u8,
     /// MariaDB's further capabilities that both sides have.
     pub extended: MariadbCapabilities,
     /// Cut before its first zero byte, as the other names are.
     pub user: Blob,
-    /// The answer to the nonce, of at most 255 bytes.
+    /// The response to the nonce, of at most 255 bytes.
     pub scramble: Blob,
     /// Sent with the capability `CLIENT_CONNECT_WITH_DB`.
     pub database: Blob,
-    /// The name of the way to log in.
+    /// The name of the authentication plugin.
     pub plugin: Blob,
     /// Sent with the capability `CLIENT_CONNECT_ATTRS`.
     pub attributes: Attributes,
 }
 
-/// A new login on a connection that stands.
+/// A new login on an open connection.
 #[derive(Debug, Drop, PartialEq, Eq)]
 pub struct ChangeUser {
     /// Cut before its first zero byte, as the other names are.
     pub user: Blob,
-    /// The answer to the nonce, of at most 255 bytes.
+    /// The response to the nonce, of at most 255 bytes.
     pub scramble: Blob,
     pub database: Blob,
-    /// The number of the character set and its order.
+    /// The number of the collation.
     pub charset: u16,
-    /// The name of the way to log in.
+    /// The name of the authentication plugin.
     pub plugin: Blob,
     /// Given where the connection has the capability `CLIENT_CONNECT_ATTRS`.
     pub attributes: Option<Attributes>,
@@ -148,7 +148,7 @@ fn put_kept(
     Ok(())
 }
 
-/// Writes the answer to a greeting at the end of what is there.
+/// Adds the response to a greeting at the end of `out`.
 pub fn put_response(
     alloc: Global,
     out: &mut Vec<u8>,
@@ -175,7 +175,7 @@ fn put_maybe(
     }
 }
 
-/// Writes a new login at the end of what is there.
+/// Adds a new login at the end of `out`.
 pub fn put_change_user(
     alloc: Global,
     out: &mut Vec<u8>,

@@ -1,4 +1,4 @@
-//! The packets of logging in that ask for more.
+//! The packets by which a server asks for more while a client logs in.
 
 ghost use Rattle.std.specs.Prelude.{◌≡◌, IfOk, Some};
 ghost use Rattle.std.specs.Option.{ok_or, option_map};
@@ -9,12 +9,12 @@ use my_frame::numbers::{take_head, take_text0, take_u8};
 use my_frame::{Blob, NoMemory, ReadError};
 use std::alloc::Global;
 
-/// The server wants another way to log in.
+/// The server asks for another authentication plugin.
 #[derive(Debug, Drop, PartialEq, Eq)]
 pub struct SwitchRequest {
-    /// Its name.
+    /// The plugin's name.
     pub plugin: Blob,
-    /// The random bytes to answer, none where the server told none.
+    /// The nonce, empty where the server sent none.
     pub nonce: Blob,
 }
 
@@ -30,7 +30,7 @@ impl SwitchRequest {
     }
 }
 
-/// The way to log in tells something.
+/// Data of the authentication plugin.
 #[derive(Clone, Copy, Debug, PartialEq, Eq)]
 pub struct MoreData {
     /// Its first byte.
@@ -46,7 +46,7 @@ fn without_last_zero(left: &[u8]) -> &[u8]
     }
 }
 
-// The name and the nonce; the bare head asks for the oldest way.
+// The name and the nonce; the bare head asks for the oldest plugin.
 fn asked_of(rest: &[u8]) -> Option<(&[u8], &[u8])>
     ensures { option_map (λ x. (x.0.now, x.1.now)) result ≡ asked_at rest.now }
 {
@@ -68,7 +68,7 @@ fn switch_of(alloc: Global, payload: &[u8]) -> Result<SwitchRequest, ReadError>
     })
 }
 
-/// Reads that the server wants another way to log in. The bare head asks for `mysql_old_password`.
+/// Reads a request to switch the authentication plugin. The bare head asks for `mysql_old_password`.
 pub fn read_switch(alloc: Global, payload: &[u8]) -> Result<SwitchRequest, ReadError>
     ensures gives { Gives result (switch_at payload.now) }
     ensures exact { ReadsExactly (IsSwitch payload.now) result }
@@ -84,7 +84,7 @@ fn more_data_of(payload: &[u8]) -> Option<MoreData>
     Some(MoreData { kind })
 }
 
-/// Reads that the way to log in tells something. What follows its first byte is ignored.
+/// Reads data of the authentication plugin. What follows its first byte is ignored.
 pub fn read_more_data(payload: &[u8]) -> Result<MoreData, ReadError>
     ensures gives { result ≡ ok_or (more_data_at payload.now) ReadError.Malformed }
     ensures exact { ReadsExactly (IsMoreData payload.now) result }

@@ -1,4 +1,4 @@
-//! The version that a server tells in its greeting.
+//! The version in a server's greeting.
 
 ghost use Rattle.std.specs.Prelude.{◌≡◌, ◌+◌, ◌*◌, ◌<◌, ◌≤◌, IfSome};
 ghost use Rattle.std.specs.Option.{option_map};
@@ -6,7 +6,7 @@ ghost use Rattle.my_handshake.specs.Version.{digit_at, dotted_at, further_digit,
 
 use my_frame::numbers::take_head;
 
-/// Which server it is: its make and its three numbers, all 0 where its text tells none.
+/// The server's make and the three numbers of its version, all 0 where its text is none.
 #[derive(Clone, Copy, Debug, PartialEq, Eq)]
 pub struct ServerVersion {
     pub mariadb: bool,
@@ -25,7 +25,7 @@ fn take_digit(bytes: &[u8]) -> Option<(u16, &[u8])>
     }
 }
 
-// One digit more where one stands next.
+// One digit more, where a digit comes next.
 fn further_digit(value: u16, bytes: &[u8]) -> (u16, &[u8])
     requires { value < 100 }
     ensures value { (result.0, result.1.now) ≡ further_digit (value, bytes.now) }
@@ -89,7 +89,7 @@ fn prefixed_of(text: &[u8]) -> Option<(u16, u16, u16)>
     }
 }
 
-/// The version that a greeting's text tells.
+/// The version that a greeting's text spells.
 pub fn server_version(text: &[u8]) -> ServerVersion
     ensures { result ≡ version_of text.now }
 {

@@ -6,7 +6,7 @@ use Rattle.my_reply.specs.declared.column.Column.{Column}
 use Rattle.my_reply.specs.declared.column.Names.{Names}
 use Rattle.my_reply.specs.declared.column.Form.{Form}
 
--- The bytes begin with a catalog, which is not kept, and these names.
+-- The bytes begin with a catalog, which is ignored, and these names.
 pub record IsNames (bytes : List ℕ) (names : Names) (rest : List ℕ) : Type 0 where
   pub catalog : List ℕ
   pub after_catalog : List ℕ
@@ -21,7 +21,7 @@ pub record IsNames (bytes : List ℕ) (names : Names) (rest : List ℕ) : Type 0
   pub name : IsText after_org_table names.name after_name
   pub org_name : IsText after_name names.org_name rest
 
--- The bytes are the twelve of a form after their length: numbers, and two more that say nothing.
+-- The bytes are the twelve of a form after their length: numbers, and two more that are ignored.
 pub record IsForm (bytes : List ℕ) (form : Form) : Type 0 where
   pub after_size : List ℕ
   pub after_charset : List ℕ
@@ -70,7 +70,13 @@ names_at bytes = do
   org_table ← text_at table.1
   name ← text_at org_table.1
   org_name ← text_at name.1
-  Some (record { schema = schema.0; table = table.0; org_table = org_table.0; name = name.0; org_name = org_name.0 }, org_name.1)
+  Some (record {
+    schema = schema.0;
+    table = table.0;
+    org_table = org_table.0;
+    name = name.0;
+    org_name = org_name.0;
+  }, org_name.1)
 
 unfoldable pub form_at : List ℕ → Option Form
 form_at bytes = do

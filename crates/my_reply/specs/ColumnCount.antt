@@ -1,15 +1,18 @@
 -- The packet that begins a set of rows.
--- MySQL internals, "Text Resultset": column_count; MariaDB, "Result Set Packets": Column count packet, whose second byte tells whether metadata follows (MARIADB_CLIENT_CACHE_METADATA).
+-- MySQL internals, "Text Resultset": column_count; MariaDB, "Result Set Packets": Column count packet, whose second
+-- byte says whether metadata follows (MARIADB_CLIENT_CACHE_METADATA).
 use Rattle.std.specs.Prelude.{◌≡◌, ℕ, ◌<◌, ◌≤◌, ◌⊎◌, Bool, true, false, ◌&&◌, List, [], ◌∷◌, Option, Some, None, ◌==◌, nat_le, nat_lt, if◌then◌else◌}
 use Rattle.my_frame.specs.Numbers.{IsLen, len_at, ◌>>=◌}
 use Rattle.my_reply.specs.declared.column_count.ColumnCount.{ColumnCount}
 
--- What is after the count tells whether the columns are skipped; nothing tells that they follow.
+-- What follows the count says whether the columns are skipped; where nothing follows, they are sent.
 abbrev pub IsSkipped : Bool → List ℕ → Bool → Type 0
 IsSkipped cached left skipped =
-    ((left ≡ []) × (skipped ≡ false)) ⊎ (((cached ≡ true) × (left ≡ 0 ∷ []) × (skipped ≡ true)) ⊎ ((cached ≡ true) × (left ≡ 1 ∷ []) × (skipped ≡ false)))
+    ((left ≡ []) × (skipped ≡ false))
+    ⊎ (((cached ≡ true) × (left ≡ 0 ∷ []) × (skipped ≡ true))
+    ⊎ ((cached ≡ true) × (left ≡ 1 ∷ []) × (skipped ≡ false)))
 
--- The payload begins a set of rows with so many columns.
+-- The payload begins a set of rows with this number of columns.
 pub record IsColumnCount (cached : Bool) (payload : List ℕ) (columns : ColumnCount) : Type 0 where
   pub left : List ℕ
   pub count : IsLen payload columns.count left

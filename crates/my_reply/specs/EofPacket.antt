@@ -4,7 +4,7 @@ use Rattle.std.specs.Prelude.{◌≡◌, ℕ, ◌≤◌, List, ◌∷◌, length
 use Rattle.my_frame.specs.Numbers.{IsNumber, head_at, number_at, ◌>>=◌}
 use Rattle.my_reply.specs.declared.eof.EofPacket.{EofPacket}
 
--- The payload ends columns or rows; at most two more bytes follow, which say nothing.
+-- The payload ends columns or rows; at most two more bytes follow, which are ignored.
 pub record IsEof (payload : List ℕ) (eof : EofPacket) : Type 0 where
   pub after_head : List ℕ
   pub after_warnings : List ℕ

@@ -1,11 +1,11 @@
 -- The packet that says that a command failed.
--- MySQL internals, "Generic Response Packets": ERR_Packet, with PROTOCOL_41 once the client has answered the greeting.
+-- MySQL internals, "Generic Response Packets": ERR_Packet, with PROTOCOL_41 once the client has sent its response.
 use Rattle.std.specs.Prelude.{◌≡◌, ◌≢◌, ℕ, ◌⊎◌, Bool, true, false, ◌&&◌, List, [], ◌∷◌, Option, Some, codes, ◌==◌, not, if◌then◌else◌}
 use Rattle.std.specs.Str.Lossy.{utf8_lossy}
 use Rattle.my_frame.specs.Numbers.{IsBytes, IsNumber, bytes_at, head_at, number_at, ◌>>=◌}
 use Rattle.my_reply.specs.declared.err.ErrPacket.{ErrPacket}
 
--- A state is told after a `#`, once the client has answered.
+-- A state follows a `#`, once the client has sent its response.
 pub record TellsState (before : Bool) (left state message : List ℕ) : Type 0 where
   pub answered : before ≡ false
   pub after_mark : List ℕ

@@ -7,7 +7,9 @@ use Rattle.my_reply.specs.declared.ok.OkPacket.{OkPacket}
 
 -- What is left is a text after its length, of which more may follow; else all of it is the info.
 abbrev pub IsInfo : List ℕ → List ℕ → Type 0
-IsInfo left info = ((rest : List ℕ) × IsText left info rest) ⊎ (((text rest : List ℕ) → IsText left text rest → ⊥) × (info ≡ left))
+IsInfo left info =
+    ((rest : List ℕ) × IsText left info rest)
+    ⊎ (((text rest : List ℕ) → IsText left text rest → ⊥) × (info ≡ left))
 
 -- The bytes after the head are these fields.
 pub record IsFields (bytes : List ℕ) (ok : OkPacket) : Type 0 where
@@ -62,4 +64,5 @@ ok_at payload = do
   fields_at rest
 
 abbrev pub end_ok_at : List ℕ → Option OkPacket
-end_ok_at payload = if nat_lt (length payload) FULL_LENGTH then (head_at 0xFE payload >>= λ rest. fields_at rest) else None
+end_ok_at payload =
+    if nat_lt (length payload) FULL_LENGTH then (head_at 0xFE payload >>= λ rest. fields_at rest) else None

@@ -1,11 +1,11 @@
--- The replies to a text that is to be kept, and to a query that reads a file of the client.
+-- The replies to a statement to prepare, and to a query that reads a file of the client.
 -- MySQL internals, "Prepared Statements": COM_STMT_PREPARE_OK; "Text Resultset": LOCAL INFILE Request.
 use Rattle.std.specs.Prelude.{◌≡◌, ℕ, List, ◌∷◌, Option, Some}
 use Rattle.my_frame.specs.Numbers.{IsBytes, IsNumber, bytes_at, head_at, number_at, ◌>>=◌}
 use Rattle.my_reply.specs.declared.replies.PrepareOk.{PrepareOk}
 use Rattle.my_reply.specs.declared.replies.InfileRequest.{InfileRequest}
 
--- The payload says that a text is kept as a statement; one byte between its numbers says nothing, nor do those after.
+-- The payload says that a statement was prepared; one byte between its numbers is ignored, and so are those after them.
 pub record IsPrepareOk (payload : List ℕ) (prepared : PrepareOk) : Type 0 where
   pub filler : List ℕ
   pub after_head : List ℕ
@@ -21,7 +21,7 @@ pub record IsPrepareOk (payload : List ℕ) (prepared : PrepareOk) : Type 0 wher
   pub filler_is : IsBytes 1 after_params filler after_filler
   pub warnings : IsNumber 2 after_filler prepared.warnings rest
 
--- The payload wants the file of this name.
+-- The payload asks for the file of this name.
 abbrev pub IsInfile : List ℕ → InfileRequest → Type 0
 IsInfile payload infile = payload ≡ 0xFB ∷ infile.name
 

@@ -1,4 +1,4 @@
--- Which packets of a server are read back as they were: those whose numbers fit their bytes and whose texts are spelled.
+-- Which packets of a server are read back as they were: numbers fit their bytes, and texts can be written.
 -- MySQL internals, "Connection Phase Packets", "Generic Response Packets", "Text Resultset".
 use Rattle.std.specs.Prelude.{◌≡◌, ℕ, ◌<◌, ◌≤◌, ◌^◌, false, List, length, ◌==◌}
 use Rattle.std.specs.List.{before_first}

@@ -20,16 +20,17 @@ settings_bytes g =
     le_bytes 2 (g.capabilities.0 % 65536) ++ le_bytes 1 45 ++ le_bytes 2 g.status.0
     ++ le_bytes 2 (g.capabilities.0 / 65536) ++ le_bytes 1 21 ++ replicate 6 0 ++ le_bytes 4 g.extended.0
 
--- A greeting: the nonce stands in two parts round the settings.
+-- A greeting: the nonce is in two parts, before and after the settings.
 abbrev pub greeting_bytes : Greeting → List ℕ
 greeting_bytes g =
-    le_bytes 1 10 ++ text0_bytes g.version ++ le_bytes 4 g.id ++ take 8 (fitted g.nonce) ++ le_bytes 1 0 ++ settings_bytes g ++ drop 8 (fitted g.nonce) ++ le_bytes 1 0 ++ text0_bytes g.plugin
+    le_bytes 1 10 ++ text0_bytes g.version ++ le_bytes 4 g.id ++ take 8 (fitted g.nonce) ++ le_bytes 1 0
+    ++ settings_bytes g ++ drop 8 (fitted g.nonce) ++ le_bytes 1 0 ++ text0_bytes g.plugin
 
 -- no info is written as nothing
 abbrev pub info_bytes : List ℕ → List ℕ
 info_bytes info = if length info == 0 then [] else text_bytes info
 
--- An OK, whose head tells whether a command succeeded or a set of rows ended.
+-- An OK, whose head says whether a command succeeded or a set of rows ended.
 abbrev pub ok_bytes : ℕ → OkPacket → List ℕ
 ok_bytes head ok =
     le_bytes 1 head ++ len_bytes ok.affected ++ len_bytes ok.insert ++ le_bytes 2 ok.status.0 ++ le_bytes 2 ok.warnings
@@ -41,11 +42,15 @@ err_bytes err = le_bytes 1 0xFF ++ le_bytes 2 err.code ++ le_bytes 1 35 ++ err.s
 
 -- the names of a column, after the catalog `def`
 abbrev pub names_bytes : Column → List ℕ
-names_bytes c = text_bytes (codes "def") ++ text_bytes c.schema ++ text_bytes c.table ++ text_bytes c.org_table ++ text_bytes c.name ++ text_bytes c.org_name
+names_bytes c =
+    text_bytes (codes "def") ++ text_bytes c.schema ++ text_bytes c.table ++ text_bytes c.org_table
+    ++ text_bytes c.name ++ text_bytes c.org_name
 
--- what its values look like, in twelve bytes
+-- the form of its values, in twelve bytes
 abbrev pub form_bytes : Column → List ℕ
-form_bytes c = len_bytes 0x0C ++ le_bytes 2 c.charset ++ le_bytes 4 c.length ++ le_bytes 1 c.column_type ++ le_bytes 2 c.flags ++ le_bytes 1 c.decimals ++ le_bytes 2 0
+form_bytes c =
+    len_bytes 0x0C ++ le_bytes 2 c.charset ++ le_bytes 4 c.length ++ le_bytes 1 c.column_type ++ le_bytes 2 c.flags
+    ++ le_bytes 1 c.decimals ++ le_bytes 2 0
 
 -- A column.
 abbrev pub column_bytes : Column → List ℕ

@@ -21,14 +21,14 @@ pub struct Column {
     pub name: Blob,
     /// The column's own name.
     pub org_name: Blob,
-    /// The number of the character set and its order.
+    /// The number of the collation.
     pub charset: u16,
     /// The most bytes that a value takes as text.
     pub length: u32,
     /// The number of the type.
     pub column_type: u8,
     pub flags: u16,
-    /// Digits after the point that are shown.
+    /// The number of digits after the point that are shown.
     pub decimals: u8,
 }
 
@@ -85,7 +85,7 @@ fn text_of(alloc: Global, bytes: &[u8]) -> Result<(Blob, &[u8]), ReadError>
     Ok((Blob::from_slice(alloc, text)?, rest))
 }
 
-// The catalog stands before the names, and says nothing.
+// The catalog comes before the names, and is ignored.
 #[tactic(auto, unfolding(crate::specs::Column::names_at))]
 fn names_of(alloc: Global, bytes: &[u8]) -> Result<(Names, &[u8]), ReadError>
     ensures { GivesAs (λ x. (x.0, x.1.now)) result (names_at bytes.now) }

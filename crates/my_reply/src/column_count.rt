@@ -8,12 +8,12 @@ ghost use Rattle.my_reply.specs.ColumnCount.{IsColumnCount, column_count_at, ski
 use my_frame::ReadError;
 use my_frame::numbers::take_len;
 
-/// How many columns the rows have.
+/// The number of columns that the rows have.
 #[derive(Clone, Copy, Debug, PartialEq, Eq)]
 pub struct ColumnCount {
     /// At least 1.
     pub count: u16,
-    /// The columns don't follow: they are those that the statement had before.
+    /// The columns don't follow: the statement has the same columns as before.
     pub skipped: bool,
 }
 
@@ -42,8 +42,8 @@ fn column_count_of(payload: &[u8], cached: bool) -> Option<ColumnCount>
     })
 }
 
-/// Reads how many columns the rows have. Only where both sides keep columns (`cached`) may a byte
-/// tell whether they follow.
+/// Reads the number of columns that the rows have. Only where both sides cache columns (`cached`)
+/// may a byte say whether they follow.
 pub fn read_column_count(payload: &[u8], cached: bool) -> Result<ColumnCount, ReadError>
     ensures gives { result ≡ ok_or (column_count_at cached payload.now) ReadError.Malformed }
     ensures exact { ReadsExactly (IsColumnCount cached payload.now) result }

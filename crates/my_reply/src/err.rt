@@ -8,11 +8,11 @@ use my_frame::numbers::{take_bytes, take_head, take_u16};
 use my_frame::{NoMemory, ReadError, Text};
 use std::alloc::Global;
 
-/// What a server says of a command that failed.
+/// The ERR packet: a command failed.
 #[derive(Debug, Drop, PartialEq, Eq)]
 pub struct ErrPacket {
     pub code: u16,
-    /// The SQL state, `HY000` where the server told none.
+    /// The SQL state, `HY000` where the server sent none.
     pub state: [u8; 5],
     pub message: Text,
 }
@@ -57,7 +57,7 @@ fn err_of(alloc: Global, payload: &[u8], before_response: bool) -> Result<ErrPac
     })
 }
 
-/// Reads that a command failed. Before the client's response was sent no state is told.
+/// Reads that a command failed. Before the client's response the packet has no SQL state.
 pub fn read_err(
     alloc: Global,
     payload: &[u8],

@@ -14,23 +14,23 @@ use std::alloc::Global;
 pub struct Event {
     /// Seconds since 1970.
     pub timestamp: u32,
-    /// The number of its type.
+    /// The number of the event's type.
     pub kind: u8,
-    /// The number of the server that made it.
+    /// The id of the server that wrote it.
     pub server: u32,
-    /// The bytes of header and body.
+    /// The length of header and body in bytes.
     pub size: u32,
-    /// The place after it in its file.
+    /// The position after it in its file.
     pub position: u32,
     pub flags: u16,
     /// What follows the header.
     pub body: Blob,
 }
 
-/// The type of an event that maps a table to a number.
+/// The type of an event that maps a table to an id.
 pub const TABLE_MAP: u8 = 19;
 
-// What stands before an event's body.
+// What comes before an event's body.
 #[derive(Clone, Copy)]
 struct EventHeader {
     timestamp: u32,
@@ -107,7 +107,7 @@ impl Event {
         })
     }
 
-    /// The number of the table that it maps, where it maps one.
+    /// The id of the table that it maps, where it maps one.
     pub fn table_id(&self) -> Option<u64>
         ensures { result ≡ table_id_of self.now }
     {

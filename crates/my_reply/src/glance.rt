@@ -1,4 +1,5 @@
-//! What a payload is, looked at without taking memory: each call says what the reader of that packet would give of it.
+//! What a payload is, found without taking memory: each call returns a part of what the reader of
+//! that packet would return.
 
 ghost use Rattle.std.specs.Prelude.{◌≡◌, is_some};
 ghost use Rattle.std.specs.Option.{option_map};
@@ -42,7 +43,7 @@ pub fn end_ok_status(payload: &[u8]) -> Option<StatusFlags>
     fields_status(rest)
 }
 
-// Whether a state and a message may stand there.
+// Whether a state and a message can be read.
 fn may_be_told(before_response: bool, left: &[u8]) -> bool
     ensures { result ≡ is_some (told_at before_response left.now) }
 {

@@ -1,4 +1,4 @@
-//! What a server answers to commands, read and written.
+//! The packets that a server answers commands with, read and written.
 #![tactic(auto)]
 
 mod column;

@@ -9,12 +9,12 @@ use my_frame::numbers::{take_head, take_len, take_text, take_u16};
 use my_frame::{Blob, FULL_LENGTH, NoMemory, ReadError};
 use std::alloc::Global;
 
-/// What a server says of a command that succeeded, or of a set of rows that ended.
+/// The OK packet: a command succeeded, or a set of rows ended.
 #[derive(Debug, Drop, PartialEq, Eq)]
 pub struct OkPacket {
-    /// Rows that were changed.
+    /// The number of rows that were changed.
     pub affected: u64,
-    /// The number that the server made for the last new row, 0 where it made none.
+    /// The id that the server generated for the last new row, 0 where it generated none.
     pub insert: u64,
     pub status: StatusFlags,
     pub warnings: u16,
@@ -90,7 +90,7 @@ pub fn read_ok(alloc: Global, payload: &[u8]) -> Result<OkPacket, ReadError>
     ok_of(alloc, payload)
 }
 
-/// Reads that a set of rows ended, where ends are told by such packets.
+/// Reads that a set of rows ended, where an OK packet ends it.
 pub fn read_end_ok(alloc: Global, payload: &[u8]) -> Result<OkPacket, ReadError>
     ensures gives { Gives result (end_ok_at payload.now) }
     ensures exact { ReadsExactly (IsEndOk payload.now) result }

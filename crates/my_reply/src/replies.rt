@@ -1,4 +1,4 @@
-//! The replies to a text that is to be kept, and to a query that reads a file of the client.
+//! The replies to a statement to prepare, and to a query that reads a file of the client.
 
 ghost use Rattle.std.specs.Prelude.{◌≡◌, IfOk, Some};
 ghost use Rattle.std.specs.Option.{ok_or};
@@ -9,19 +9,19 @@ use my_frame::numbers::{take_bytes, take_head, take_u16, take_u32};
 use my_frame::{Blob, NoMemory, ReadError};
 use std::alloc::Global;
 
-/// A text is kept as a statement.
+/// A statement was prepared.
 #[derive(Clone, Copy, Debug, PartialEq, Eq)]
 pub struct PrepareOk {
-    /// The statement's number.
+    /// The statement's id.
     pub id: u32,
-    /// How many columns its rows have.
+    /// The number of columns that its rows have.
     pub columns: u16,
-    /// How many parameters it takes.
+    /// The number of parameters that it takes.
     pub params: u16,
     pub warnings: u16,
 }
 
-/// The server wants a file of the client.
+/// The server asks for a file of the client.
 #[derive(Debug, Drop, PartialEq, Eq)]
 pub struct InfileRequest {
     pub name: Blob,
@@ -56,7 +56,7 @@ fn prepare_ok_of(payload: &[u8]) -> Option<PrepareOk>
     })
 }
 
-/// Reads that a text is kept as a statement. What follows its numbers is ignored.
+/// Reads that a statement was prepared. What follows its numbers is ignored.
 pub fn read_prepare_ok(payload: &[u8]) -> Result<PrepareOk, ReadError>
     ensures gives { result ≡ ok_or (prepare_ok_at payload.now) ReadError.Malformed }
     ensures exact { ReadsExactly (IsPrepareOk payload.now) result }
@@ -73,7 +73,7 @@ fn infile_of(alloc: Global, payload: &[u8]) -> Result<InfileRequest, ReadError>
     })
 }
 
-/// Reads that the server wants a file of the client.
+/// Reads that the server asks for a file of the client.
 pub fn read_infile(alloc: Global, payload: &[u8]) -> Result<InfileRequest, ReadError>
     ensures gives { Gives result (infile_at payload.now) }
     ensures exact { ReadsExactly (IsInfile payload.now) result }

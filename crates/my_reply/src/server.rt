@@ -23,7 +23,7 @@ pub enum ServerPacket {
     End(OkPacket),
     /// A command failed.
     Refuse(ErrPacket),
-    /// A set of rows begins: how many columns it has.
+    /// A set of rows begins: the number of its columns.
     Count(u16),
     Column(Column),
     /// The cells of a row as text; `None` is NULL.

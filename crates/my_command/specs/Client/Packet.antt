@@ -1,5 +1,6 @@
 -- How each packet of a client is written.
--- MySQL internals, "Command Phase": Text Protocol, Utility Commands, Prepared Statements; "Connection Phase Packets": AuthSwitchResponse.
+-- MySQL internals, "Command Phase": Text Protocol, Utility Commands, Prepared Statements; "Connection Phase Packets":
+-- AuthSwitchResponse.
 use Rattle.std.specs.Prelude.{ℕ, ◌<◌, List, [], ◌∷◌, ◌++◌, length}
 use Rattle.my_command.specs.declared.client.ClientPacket.{ClientPacket}
 use Rattle.my_command.specs.declared.client.ClientPacket.TheVariants.{Response, SwitchAnswer, Quit, Ping, ResetConnection, ChangeUser, Query, InfilePiece, Prepare, Execute, LongData, BulkExecute, CloseStatement, RegisterSlave, Dump, DumpGtid}
@@ -16,7 +17,7 @@ PartsFit (RegisterSlave s) = FitsSlave s
 PartsFit (DumpGtid d) = FitsDump d
 PartsFit _ = Unit {0}
 
--- a part of one parameter's value, ahead of the statement's execution
+-- a part of one parameter's value, before the statement's execution
 abbrev pub long_data_bytes : ℕ → ℕ → List ℕ → List ℕ
 long_data_bytes statement parameter bytes = le_bytes 1 0x18 ++ le_bytes 4 statement ++ le_bytes 2 parameter ++ bytes
 

@@ -18,7 +18,7 @@ slave_bytes s =
     le_bytes 1 0x15 ++ le_bytes 4 s.server ++ short_bytes s.host ++ short_bytes s.user ++ short_bytes s.password
     ++ le_bytes 2 s.port ++ le_bytes 8 0
 
--- Asks for a log from a place in a file on; flag 1 ends the stream with the log.
+-- Asks for a log from a position in a file on; flag 1 ends the stream with the log.
 abbrev pub dump_bytes : Dump → List ℕ
 dump_bytes d =
     le_bytes 1 0x12 ++ le_bytes 4 (d.position % 2 ^ 32) ++ le_bytes 2 (if d.non_blocking then 1 else 0)

@@ -20,7 +20,8 @@ null_bit (Some p) = null_of p.value
 -- the bits of the first eight parameters, the first one's lowest
 abbrev pub null_byte : List Parameter → ℕ
 null_byte ps =
-    (null_bit (slice_get ps 0) + 2 * null_bit (slice_get ps 1) + 4 * null_bit (slice_get ps 2) + 8 * null_bit (slice_get ps 3))
+    (null_bit (slice_get ps 0) + 2 * null_bit (slice_get ps 1) + 4 * null_bit (slice_get ps 2)
+    + 8 * null_bit (slice_get ps 3))
     + 16 * (null_bit (slice_get ps 4) + 2 * null_bit (slice_get ps 5) + 4 * null_bit (slice_get ps 6)
     + 8 * null_bit (slice_get ps 7))
 
@@ -45,11 +46,13 @@ value_bytes (Some bytes) = bytes
 abbrev pub parameters_bytes : List Parameter → List ℕ
 parameters_bytes ps =
     if length ps == 0 then []
-    else null_bitmap ps ++ le_bytes 1 1 ++ flat_map (λ p. type_bytes p.form) ps ++ flat_map (λ p. value_bytes p.value) ps
+    else null_bitmap ps ++ le_bytes 1 1 ++ flat_map (λ p. type_bytes p.form) ps
+    ++ flat_map (λ p. value_bytes p.value) ps
 
 -- Executes a statement once, without a cursor.
 abbrev pub execute_bytes : ℕ → List Parameter → List ℕ
-execute_bytes statement ps = le_bytes 1 0x17 ++ le_bytes 4 statement ++ le_bytes 1 0 ++ le_bytes 4 1 ++ parameters_bytes ps
+execute_bytes statement ps =
+    le_bytes 1 0x17 ++ le_bytes 4 statement ++ le_bytes 1 0 ++ le_bytes 4 1 ++ parameters_bytes ps
 
 -- a value of a row: its indicator, and the value where it isn't NULL
 abbrev pub cell_bytes : Option (List ℕ) → List ℕ
@@ -62,4 +65,5 @@ rows_bytes rows = flat_map (λ row. flat_map cell_bytes row) rows
 -- Executes a statement once for each row; types are sent.
 abbrev pub bulk_bytes : BulkExecute → List ℕ
 bulk_bytes bulk =
-    le_bytes 1 0xFA ++ le_bytes 4 bulk.statement ++ le_bytes 2 0x80 ++ flat_map type_bytes bulk.types ++ rows_bytes bulk.rows
+    le_bytes 1 0xFA ++ le_bytes 4 bulk.statement ++ le_bytes 2 0x80 ++ flat_map type_bytes bulk.types
+    ++ rows_bytes bulk.rows

@@ -1,4 +1,4 @@
--- What a payload in front says of its first header.
+-- What follows for the first header where the bytes begin with a payload.
 use Rattle.std.proofs.Common.{◌≡◌, ℕ, zero, suc, ◌+◌, ◌-◌, ◌<◌, ◌≤◌, List, ◌++◌, length, take, drop, ◌⊎◌, inl, inr, sym, ap, ◌∙◌, arith, length-drop}
 use Rattle.std.proofs.lemmas.Bool.{cases_lt, cases_eq}
 use Rattle.my_frame.specs.Chunks.{full_length, next_number}
@@ -12,7 +12,7 @@ pub record IsLast (n len : ℕ) (body p rest : List ℕ) (next : ℕ) : Type 0 w
   pub rest_is : rest ≡ drop len body
   pub next_is : next ≡ next_number n
 
--- A full chunk of the payload: after it stands what is left of the payload.
+-- A full chunk of the payload, and what is left of the payload after it.
 pub record GoesOn (n before limit len : ℕ) (body p rest : List ℕ) (next : ℕ) : Type 0 where
   pub full : full_length ≤ len
   pub left : List ℕ
@@ -78,6 +78,6 @@ shorter_below (suc bound) n before limit bytes p rest next less e =
       | inr goes ↦ omega (arith, shorter_below bound (next_number n) (before + len) limit (drop len (drop 4 bytes)) goes.left rest next (omega arith) goes.found)
     ]
 
--- after a payload stand fewer bytes
+-- fewer bytes follow a payload
 pub rest_is_shorter : (n limit : ℕ) (bytes p rest : List ℕ) (next : ℕ) → front_at n limit bytes ≡ Whole p rest next → length rest + 4 ≤ length bytes
 rest_is_shorter n limit bytes p rest next e = shorter_below (suc (length bytes)) n 0 limit bytes p rest next (omega arith) e

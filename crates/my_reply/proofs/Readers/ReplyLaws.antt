@@ -1,4 +1,4 @@
--- The replies to a text that is kept, and to a query that reads a file, as relations and as what is read.
+-- The replies to a statement to prepare, and to a query that reads a file, as relations and as what is read.
 use Rattle.std.proofs.Common.{◌≡◌, ℕ, List, Some, refl, subst}
 use Rattle.my_reply.specs.declared.replies.InfileRequest.{InfileRequest}
 use Rattle.my_reply.specs.declared.replies.PrepareOk.{PrepareOk}

@@ -1,5 +1,5 @@
 use Rattle.my_frame.proofs.WritingLaws.{number_read_back, len_read_back, text_read_back, text0_read_back}
-use Rattle.my_frame.proofs.writing.written_is_read.Goals as goal
+use Rattle.my_frame.proofs.laws.written_is_read.Goals as goal
 
 pub returns-clause-number : goal.returns-clause-number
 returns-clause-number c = number_read_back

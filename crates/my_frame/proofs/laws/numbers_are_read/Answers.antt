@@ -1,5 +1,5 @@
 use Rattle.my_frame.proofs.NumberLaws.{head_found, head_again, before_found, before_again, bytes_found, bytes_again, number_found, number_again, len_found, len_again, text_found, text_again, text0_found, text0_again}
-use Rattle.my_frame.proofs.numbers.numbers_are_read.Goals as goal
+use Rattle.my_frame.proofs.laws.numbers_are_read.Goals as goal
 
 pub returns-clause-head : goal.returns-clause-head
 returns-clause-head c = λ head bytes rest. (head_found head bytes rest, head_again head bytes rest)
