@@ -1,5 +1,5 @@
-//! Tables of a client's packets: what they are written as. The expected payloads stand in the public pages of the protocol
-//! and in worked conversations. This crate has tests alone.
+//! Tables of a client's packets: what they are written as. The expected payloads are those of the
+//! protocol's public pages and of recorded exchanges. This crate has tests alone.
 #![tactic(auto)]
 
 #[cfg(test)]

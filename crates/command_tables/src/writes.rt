@@ -97,3 +97,22 @@ fn ample_packets_are_written(rt: HostRuntime) -> Result<(), Fail> {
     }
     Ok(())
 }
+
+#[test]
+fn ample_copies_are_equal(rt: HostRuntime) -> Result<(), Fail> {
+    let alloc = rt.alloc();
+    for (case, _) in SENT {
+        let packet = packet_of(alloc, *case)?;
+        assert!(rt; packet.copy(alloc)? == packet);
+    }
+    Ok(())
+}
+
+#[test]
+fn ample_other_packets_are_not_equal(rt: HostRuntime) -> Result<(), Fail> {
+    let alloc = rt.alloc();
+    let packet = packet_of(alloc, Case::Query(b"SELECT 1"))?;
+    assert!(rt; packet != packet_of(alloc, Case::Query(b"SELECT 2"))?);
+    assert!(rt; packet != packet_of(alloc, Case::Prepare(b"SELECT 1"))?);
+    Ok(())
+}

@@ -4,8 +4,8 @@ ghost use Rattle.std.specs.Prelude.{◌≡◌, ◌≤◌, ◌++◌, IfOk, OnOk, 
 ghost use Rattle.std.specs.List.{flat_map};
 ghost use Rattle.my_command.specs.Client.Statement.{bulk_bytes, cell_bytes, execute_bytes, null_bit, null_bitmap, null_byte, parameters_bytes, type_bytes, value_bytes};
 
-use my_frame::{Blob, Copied, Listed, NoMemory};
 use my_frame::writing::{put_u8, put_u16, put_u32};
+use my_frame::{Blob, Copied, Listed, NoMemory};
 use std::alloc::Global;
 
 /// The type of a parameter.

@@ -17,4 +17,4 @@ IsFramed bytes (Whole payload rest next) r =
 -- The bytes begin with this payload, whatever its sequence id and the limit.
 pub record IsThePayload (bytes payload : List ℕ) : Type 0 where
   pub in_front : (n limit : ℕ) (p rest : List ℕ) (next : ℕ)
-    → front_at n limit bytes ≡ Whole p rest next → payload ≡ p
+      → front_at n limit bytes ≡ Whole p rest next → payload ≡ p

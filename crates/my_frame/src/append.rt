@@ -3,9 +3,9 @@
 ghost use Rattle.std.specs.Prelude.{◌≡◌, ◌++◌, OnErr, IfOk};
 ghost use Rattle.my_frame.specs.Chunks.{chunks, number_after_payload};
 
+use crate::limits::FULL_LENGTH;
 use crate::no_memory::NoMemory;
 use crate::put::put_chunks;
-use crate::limits::FULL_LENGTH;
 use bytes::BytesMut;
 
 /// Adds the payload's chunks, with sequence ids from `number` on, and returns the next sequence id.

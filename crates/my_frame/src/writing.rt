@@ -3,8 +3,8 @@
 ghost use Rattle.std.specs.Prelude.{◌≡◌, ◌+◌, ◌<◌, ◌++◌, OnOk, length};
 ghost use Rattle.my_frame.specs.Writing.{le_bytes, len_bytes, short_bytes, text0_bytes, text_bytes};
 
-use crate::numbers::before_zero;
 use crate::no_memory::NoMemory;
+use crate::numbers::before_zero;
 
 /// A number of one byte.
 #[tactic(auto, unfolding(crate::specs::Writing::le_bytes))]

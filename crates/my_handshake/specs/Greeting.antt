@@ -85,12 +85,15 @@ settings_at bytes = do
   nonce_length ← number_at 1 high.1
   reserved ← bytes_at 6 nonce_length.1
   extended ← number_at 4 reserved.1
-  Some (record {
-    capabilities = record { 0 = low.0 + 65536 * high.0 };
-    status = record { 0 = status.0 };
-    nonce_length = nonce_length.0;
-    extended = record { 0 = extended.0 };
-  }, extended.1)
+  Some (
+    record {
+      capabilities = record { 0 = low.0 + 65536 * high.0 };
+      status = record { 0 = status.0 };
+      nonce_length = nonce_length.0;
+      extended = record { 0 = extended.0 };
+    },
+    extended.1,
+  )
 
 abbrev pub second_at : ℕ → List ℕ → Option (List ℕ × List ℕ)
 second_at nonce_length bytes = do

@@ -7,8 +7,8 @@ ghost use Rattle.my_handshake.specs.Login.{change_user_bytes, kept_bytes, maybe_
 
 use crate::attributes::{Attribute, Attributes};
 use my_flags::{CapabilityFlags, MariadbCapabilities};
-use my_frame::{Blob, Copied, NoMemory};
 use my_frame::writing::{put_short, put_text, put_text0, put_u8, put_u16, put_u32};
+use my_frame::{Blob, Copied, NoMemory};
 use std::alloc::Global;
 
 /// The client's response to the server's greeting.
@@ -101,11 +101,7 @@ fn put_pairs(out: &mut Vec<u8>, pairs: &[Attribute]) -> Result<(), NoMemory>
     Ok(())
 }
 
-fn put_attributes(
-    alloc: Global,
-    out: &mut Vec<u8>,
-    attributes: &Attributes,
-) -> Result<(), NoMemory>
+fn put_attributes(alloc: Global, out: &mut Vec<u8>, attributes: &Attributes) -> Result<(), NoMemory>
     ensures { OnOk result (out.new.items ≡ out.old.items ++ attributes_bytes attributes.now) }
 {
     let mut pairs = Vec::new(alloc);
@@ -131,11 +127,7 @@ fn put_names(out: &mut Vec<u8>, user: &[u8], scramble: &[u8]) -> Result<(), NoMe
     put_short(out, scramble)
 }
 
-fn put_kept(
-    alloc: Global,
-    out: &mut Vec<u8>,
-    response: &HandshakeResponse,
-) -> Result<(), NoMemory>
+fn put_kept(alloc: Global, out: &mut Vec<u8>, response: &HandshakeResponse) -> Result<(), NoMemory>
     ensures { OnOk result (out.new.items ≡ out.old.items ++ kept_bytes response.now) }
 {
     if response.capabilities.connects_with_db() {

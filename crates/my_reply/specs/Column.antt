@@ -70,13 +70,16 @@ names_at bytes = do
   org_table ← text_at table.1
   name ← text_at org_table.1
   org_name ← text_at name.1
-  Some (record {
-    schema = schema.0;
-    table = table.0;
-    org_table = org_table.0;
-    name = name.0;
-    org_name = org_name.0;
-  }, org_name.1)
+  Some (
+    record {
+      schema = schema.0;
+      table = table.0;
+      org_table = org_table.0;
+      name = name.0;
+      org_name = org_name.0;
+    },
+    org_name.1,
+  )
 
 unfoldable pub form_at : List ℕ → Option Form
 form_at bytes = do

@@ -31,14 +31,17 @@ header_at bytes = do
   size ← number_at 4 server.1
   position ← number_at 4 size.1
   flags ← number_at 2 position.1
-  Some (record {
-    timestamp = timestamp.0;
-    kind = kind.0;
-    server = server.0;
-    size = size.0;
-    position = position.0;
-    flags = flags.0;
-  }, flags.1)
+  Some (
+    record {
+      timestamp = timestamp.0;
+      kind = kind.0;
+      server = server.0;
+      size = size.0;
+      position = position.0;
+      flags = flags.0;
+    },
+    flags.1,
+  )
 
 abbrev pub event_from : EventHeader → List ℕ → Event
 event_from h body = record {

@@ -58,16 +58,34 @@ fn packet_of(alloc: Global, case: Case, payload: &[u8]) -> Result<ServerPacket, 
     }
 }
 
-fn written(alloc: Global, case: Case, payload: &[u8]) -> Result<Vec<u8>, ReadError> {
-    let packet = packet_of(alloc, case, payload)?;
-    Ok(write_server(alloc, &packet)?)
+#[test]
+fn ample_answers_are_written_as_they_were_read(rt: HostRuntime) -> Result<(), Fail> {
+    let alloc = rt.alloc();
+    for (case, want) in ANSWERS {
+        let packet = packet_of(alloc, *case, want)?;
+        let payload = write_server(alloc, &packet)?;
+        assert!(rt; payload.as_slice() == *want, "{payload:?}");
+        let again = packet_of(alloc, *case, payload.as_slice())?;
+        assert!(rt; again == packet, "{again:?}");
+    }
+    Ok(())
 }
 
 #[test]
-fn ample_answers_are_written_as_they_were_read(rt: HostRuntime) -> Result<(), Fail> {
-    for (case, want) in ANSWERS {
-        let payload = written(rt.alloc(), *case, want)?;
-        assert!(rt; payload.as_slice() == *want, "{payload:?}");
+fn ample_copies_are_equal(rt: HostRuntime) -> Result<(), Fail> {
+    let alloc = rt.alloc();
+    for (case, payload) in ANSWERS {
+        let packet = packet_of(alloc, *case, payload)?;
+        assert!(rt; packet.copy(alloc)? == packet);
     }
+    Ok(())
+}
+
+#[test]
+fn ample_other_answers_are_not_equal(rt: HostRuntime) -> Result<(), Fail> {
+    let alloc = rt.alloc();
+    let fine = packet_of(alloc, Case::Fine, b"\0\0\0\x02\0\0\0")?;
+    assert!(rt; fine != packet_of(alloc, Case::Fine, b"\0\0\0\x0a\0\0\0")?);
+    assert!(rt; fine != packet_of(alloc, Case::End, b"\xfe\0\0\x02\0\0\0")?);
     Ok(())
 }

@@ -1,5 +1,5 @@
-//! Tables of a server's packets: what payloads read as, and what packets are written as. The expected values stand in the
-//! public pages of the protocol and in worked conversations. This crate has tests alone.
+//! Tables of a server's packets: what payloads read as, and what packets are written as. The expected
+//! values are those of the protocol's public pages and of recorded exchanges. This crate has tests alone.
 #![tactic(auto)]
 
 #[cfg(test)]

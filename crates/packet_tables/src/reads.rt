@@ -1,7 +1,7 @@
 use crate::line::{Kind, line_of};
 use crate::told::{ENDS, GREETINGS, OTHERS, SETS, Told};
-use my_frame::ReadError;
 use my_flags::StatusFlags;
+use my_frame::ReadError;
 use my_reply::read_eof;
 use std::alloc::Global;
 use std::process::Abort;
