@@ -19,7 +19,7 @@ pub enum CodecFault {
 }
 
 /// Why a codec can't read or write a payload.
-#[derive(Debug, Drop, Error)]
+#[derive(Debug, Drop, PartialEq, Eq, Error)]
 pub enum CodecError {
     #[error(transparent)]
     Fault(CodecFault),

@@ -6,7 +6,7 @@ use Rattle.std.proofs.lemmas.Bool.Decides.{nat_tests}
 use Rattle.my_handshake.specs.declared.switch.SwitchRequest.{SwitchRequest}
 use Rattle.my_handshake.specs.declared.switch.MoreData.{MoreData}
 use Rattle.my_frame.specs.Numbers.{head_at, number_at, text0_at}
-use Rattle.my_handshake.specs.SwitchRequest.{IsNonce, IsSwitch, IsMoreData, without_last_zero, asked_at, switch_at, more_data_at}
+use Rattle.my_handshake.specs.SwitchRequest.{IsNonce, IsSwitch, IsMoreData, without_last_zero, request_at, switch_at, more_data_at}
 use Rattle.my_frame.proofs.NumberLaws.{bind_then, same_pair, head_found, head_again, text0_found, text0_again, number_found, number_again}
 
 ends_zero : List ℕ → Bool
@@ -59,17 +59,17 @@ nonce_again left nonce h =
 pub switch_found : (payload : List ℕ) (switch : SwitchRequest) → switch_at payload ≡ Some switch → IsSwitch payload switch
 switch_found payload switch e =
     bind_then (head_at 0xFE payload) _ switch e (λ a ea na.
-    bind_then (asked_at a) _ switch na (λ b eb nb.
+    bind_then (request_at a) _ switch na (λ b eb nb.
     let fields : SwitchRequest = record { plugin = b.0; nonce = b.1 } in
     let same : fields ≡ switch = cc in
-    subst (λ o. IsSwitch payload o) {x = fields} same (asked_found payload a b (head_found 0xFE payload a ea) eb)))
+    subst (λ o. IsSwitch payload o) {x = fields} same (request_found payload a b (head_found 0xFE payload a ea) eb)))
   where
-    asked_found : (payload rest : List ℕ) (x : List ℕ × List ℕ) → payload ≡ 0xFE ∷ rest → asked_at rest ≡ Some x → IsSwitch payload (record { plugin = x.0; nonce = x.1 })
-    asked_found payload [] x s e =
+    request_found : (payload rest : List ℕ) (x : List ℕ × List ℕ) → payload ≡ 0xFE ∷ rest → request_at rest ≡ Some x → IsSwitch payload (record { plugin = x.0; nonce = x.1 })
+    request_found payload [] x s e =
         let y : List ℕ × List ℕ = (codes "mysql_old_password", []) in
         let p = same_pair y x e in
         inr (record { spelled = s; plugin = sym p.0; nonce = sym p.1 })
-    asked_found payload (r ∷ rest) x s e =
+    request_found payload (r ∷ rest) x s e =
         bind_then (text0_at (r ∷ rest)) _ x e (λ t et nt.
         let y : List ℕ × List ℕ = (t.0, without_last_zero t.1) in
         let p = same_pair y x nt in
@@ -81,14 +81,14 @@ switch_found payload switch e =
           nonce = subst (λ n. IsNonce t.1 n) p.1 (nonce_found t.1);
         }))
 
-asked_again : (rest plugin left nonce : List ℕ) → text0_at rest ≡ Some (plugin, left) → without_last_zero left ≡ nonce → asked_at rest ≡ Some (plugin, nonce)
-asked_again [] plugin left nonce e n = absurd cc
-asked_again (b ∷ rest) plugin left nonce e n = rw (e, n) refl
+request_again : (rest plugin left nonce : List ℕ) → text0_at rest ≡ Some (plugin, left) → without_last_zero left ≡ nonce → request_at rest ≡ Some (plugin, nonce)
+request_again [] plugin left nonce e n = absurd cc
+request_again (b ∷ rest) plugin left nonce e n = rw (e, n) refl
 
 pub switch_again : (payload : List ℕ) (switch : SwitchRequest) → IsSwitch payload switch → switch_at payload ≡ Some switch
 switch_again payload switch h =
     elim h [
-      | inl w ↦ rw (head_again 0xFE payload w.after_head w.spelled, asked_again w.after_head switch.plugin w.left switch.nonce (text0_again w.after_head switch.plugin w.left w.plugin) (nonce_again w.left switch.nonce w.nonce)) refl
+      | inl w ↦ rw (head_again 0xFE payload w.after_head w.spelled, request_again w.after_head switch.plugin w.left switch.nonce (text0_again w.after_head switch.plugin w.left w.plugin) (nonce_again w.left switch.nonce w.nonce)) refl
       | inr w ↦ rw (head_again 0xFE payload [] w.spelled, ← w.plugin, ← w.nonce) refl
     ]
 

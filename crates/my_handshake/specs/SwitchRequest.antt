@@ -40,15 +40,15 @@ abbrev pub without_last_zero : List ℕ → List ℕ
 without_last_zero left =
     if nat_lt 0 (length left) && (slice_index left (length left - 1) == 0) then take (length left - 1) left else left
 
-abbrev pub asked_at : List ℕ → Option (List ℕ × List ℕ)
-asked_at [] = Some (codes "mysql_old_password", [])
-asked_at (b ∷ rest) = text0_at (b ∷ rest) >>= λ plugin. Some (plugin.0, without_last_zero plugin.1)
+abbrev pub request_at : List ℕ → Option (List ℕ × List ℕ)
+request_at [] = Some (codes "mysql_old_password", [])
+request_at (b ∷ rest) = text0_at (b ∷ rest) >>= λ plugin. Some (plugin.0, without_last_zero plugin.1)
 
 abbrev pub switch_at : List ℕ → Option SwitchRequest
 switch_at payload = do
   rest ← head_at 0xFE payload
-  asked ← asked_at rest
-  Some (record { plugin = asked.0; nonce = asked.1 })
+  request ← request_at rest
+  Some (record { plugin = request.0; nonce = request.1 })
 
 abbrev pub more_data_at : List ℕ → Option MoreData
 more_data_at payload = do

@@ -3,7 +3,7 @@
 ghost use Rattle.std.specs.Prelude.{◌≡◌, IfOk, Some};
 ghost use Rattle.std.specs.Option.{ok_or, option_map};
 ghost use Rattle.my_frame.specs.Reading.{Gives, ReadsExactly};
-ghost use Rattle.my_handshake.specs.SwitchRequest.{IsMoreData, IsSwitch, asked_at, more_data_at, switch_at, without_last_zero};
+ghost use Rattle.my_handshake.specs.SwitchRequest.{IsMoreData, IsSwitch, request_at, more_data_at, switch_at, without_last_zero};
 
 use my_frame::numbers::{take_head, take_text0, take_u8};
 use my_frame::{Blob, NoMemory, ReadError};
@@ -47,8 +47,8 @@ fn without_last_zero(left: &[u8]) -> &[u8]
 }
 
 // The name and the nonce; the bare head asks for the oldest plugin.
-fn asked_of(rest: &[u8]) -> Option<(&[u8], &[u8])>
-    ensures { option_map (λ x. (x.0.now, x.1.now)) result ≡ asked_at rest.now }
+fn request_of(rest: &[u8]) -> Option<(&[u8], &[u8])>
+    ensures { option_map (λ x. (x.0.now, x.1.now)) result ≡ request_at rest.now }
 {
     if rest.is_empty() {
         return Some((b"mysql_old_password", rest));
@@ -61,7 +61,7 @@ fn switch_of(alloc: Global, payload: &[u8]) -> Result<SwitchRequest, ReadError>
     ensures { Gives result (switch_at payload.now) }
 {
     let rest = take_head(payload, 0xFE).ok_or(ReadError::Malformed)?;
-    let (plugin, nonce) = asked_of(rest).ok_or(ReadError::Malformed)?;
+    let (plugin, nonce) = request_of(rest).ok_or(ReadError::Malformed)?;
     Ok(SwitchRequest {
         plugin: Blob::from_slice(alloc, plugin)?,
         nonce: Blob::from_slice(alloc, nonce)?,

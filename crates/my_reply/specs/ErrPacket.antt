@@ -6,14 +6,14 @@ use Rattle.my_frame.specs.Numbers.{IsBytes, IsNumber, bytes_at, head_at, number_
 use Rattle.my_reply.specs.declared.err.ErrPacket.{ErrPacket}
 
 -- A state follows a `#`, once the client has sent its response.
-pub record TellsState (before : Bool) (left state message : List ℕ) : Type 0 where
+pub record HasState (before : Bool) (left state message : List ℕ) : Type 0 where
   pub answered : before ≡ false
   pub after_mark : List ℕ
   pub marked : left ≡ 35 ∷ after_mark
   pub follows : IsBytes 5 after_mark state message
 
 -- Else all that is left is the message, and the state is that of a general error.
-pub record TellsNone (before : Bool) (left state message : List ℕ) : Type 0 where
+pub record HasNoState (before : Bool) (left state message : List ℕ) : Type 0 where
   pub unmarked : (before ≡ true) ⊎ ((rest : List ℕ) → left ≢ 35 ∷ rest)
   pub general : state ≡ codes "HY000"
   pub all : message ≡ left
@@ -25,7 +25,7 @@ pub record IsErr (before : Bool) (payload : List ℕ) (err : ErrPacket) : Type 0
   pub message : List ℕ
   pub spelled : payload ≡ 0xFF ∷ after_head
   pub code : IsNumber 2 after_head err.code left
-  pub told : TellsState before left err.state message ⊎ TellsNone before left err.state message
+  pub told : HasState before left err.state message ⊎ HasNoState before left err.state message
   pub text : err.message ≡ utf8_lossy message
 
 -- the same as functions that read

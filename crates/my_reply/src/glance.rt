@@ -44,7 +44,7 @@ pub fn end_ok_status(payload: &[u8]) -> Option<StatusFlags>
 }
 
 // Whether a state and a message can be read.
-fn may_be_told(before_response: bool, left: &[u8]) -> bool
+fn has_state(before_response: bool, left: &[u8]) -> bool
     ensures { result ≡ is_some (told_at before_response left.now) }
 {
     match left {
@@ -63,7 +63,7 @@ pub fn is_err(payload: &[u8], before_response: bool) -> bool
     let Some((_code, rest)) = take_u16(rest) else {
         return false;
     };
-    may_be_told(before_response, rest)
+    has_state(before_response, rest)
 }
 
 // The bytes after the names of a column.

@@ -7,8 +7,8 @@ mod answers;
 #[cfg(test)]
 mod line;
 #[cfg(test)]
-mod reads;
+mod payloads;
 #[cfg(test)]
-mod told;
+mod reads;
 #[cfg(test)]
 mod versions;

@@ -1,5 +1,5 @@
 use crate::line::{Kind, line_of};
-use crate::told::{ENDS, GREETINGS, OTHERS, SETS, Told};
+use crate::payloads::{ENDS, GREETINGS, OTHERS, Payload, SETS};
 use my_flags::StatusFlags;
 use my_frame::ReadError;
 use my_reply::read_eof;
@@ -16,23 +16,23 @@ fn read(alloc: Global, kind: Kind, payload: &[u8]) -> Result<Option<String>, Rea
     }
 }
 
-// How many fronts of the payload, itself too, are a record.
-fn fronts_of(alloc: Global, kind: Kind, payload: &[u8]) -> Result<usize, ReadError> {
-    let mut fronts = 0usize;
+// How many prefixes of the payload, itself too, are a record.
+fn prefixes_of(alloc: Global, kind: Kind, payload: &[u8]) -> Result<usize, ReadError> {
+    let mut prefixes = 0usize;
     for len in 0..=payload.len() {
         let is_record = read(alloc, kind, &payload[..len])?.is_some();
-        fronts = fronts.saturating_add(usize::from(is_record));
+        prefixes = prefixes.saturating_add(usize::from(is_record));
     }
-    Ok(fronts)
+    Ok(prefixes)
 }
 
-fn are_read(rt: &impl Abort, alloc: Global, table: &[Told]) -> Result<(), Fail> {
-    for (kind, payload, fronts, line) in table {
-        let told = read(alloc, *kind, payload)?;
-        let text = told.as_ref().map(|t| t.as_str());
+fn are_read(rt: &impl Abort, alloc: Global, table: &[Payload]) -> Result<(), Fail> {
+    for (kind, payload, prefixes, line) in table {
+        let line_read = read(alloc, *kind, payload)?;
+        let text = line_read.as_ref().map(|t| t.as_str());
         assert!(rt; text == *line, "{payload:?}: {text:?}");
-        let found = fronts_of(alloc, *kind, payload)?;
-        assert!(rt; found == *fronts, "{payload:?}: {found} fronts");
+        let found = prefixes_of(alloc, *kind, payload)?;
+        assert!(rt; found == *prefixes, "{payload:?}: {found} prefixes");
     }
     Ok(())
 }

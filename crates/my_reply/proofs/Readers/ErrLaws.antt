@@ -4,10 +4,10 @@ use Rattle.std.proofs.lemmas.Bool.Decides.{nat_tests}
 use Rattle.std.specs.Str.Lossy.{utf8_lossy}
 use Rattle.my_reply.specs.declared.err.ErrPacket.{ErrPacket}
 use Rattle.my_frame.specs.Numbers.{bytes_at, head_at, number_at}
-use Rattle.my_reply.specs.ErrPacket.{TellsState, TellsNone, IsErr, told_at, err_at}
+use Rattle.my_reply.specs.ErrPacket.{HasState, HasNoState, IsErr, told_at, err_at}
 use Rattle.my_frame.proofs.NumberLaws.{bind_then, chosen, same_pair, head_found, head_again, bytes_found, bytes_again, number_found, number_again}
 
-told_found : (before : Bool) (left state message : List ℕ) → told_at before left ≡ Some (state, message) → TellsState before left state message ⊎ TellsNone before left state message
+told_found : (before : Bool) (left state message : List ℕ) → told_at before left ≡ Some (state, message) → HasState before left state message ⊎ HasNoState before left state message
 told_found before [] state message e =
     let s = same_pair _ _ e in
     inr (record { unmarked = inr (λ rest p. absurd cc); general = sym s.0; all = sym s.1 })
@@ -27,7 +27,7 @@ told_found false (mark ∷ left) state message e =
           inr (record { unmarked = inr (λ rest p. m cc); general = sym s.0; all = sym s.1 })
     ]
 
-state_again : (before : Bool) (left state message : List ℕ) → TellsState before left state message → told_at before left ≡ Some (state, message)
+state_again : (before : Bool) (left state message : List ℕ) → HasState before left state message → told_at before left ≡ Some (state, message)
 state_again before left state message w = rw (w.marked, w.answered) (bytes_again 5 w.after_mark state message w.follows)
 
 none_again : (before : Bool) (left : List ℕ) → (before ≡ true) ⊎ ((rest : List ℕ) → left ≢ 35 ∷ rest) → told_at before left ≡ Some (codes "HY000", left)
@@ -40,7 +40,7 @@ none_again before (mark ∷ left) h =
     ] in
     rw b refl
 
-told_again : (before : Bool) (left state message : List ℕ) → TellsState before left state message ⊎ TellsNone before left state message → told_at before left ≡ Some (state, message)
+told_again : (before : Bool) (left state message : List ℕ) → HasState before left state message ⊎ HasNoState before left state message → told_at before left ≡ Some (state, message)
 told_again before left state message h =
     elim h [
       | inl w ↦ state_again before left state message w

@@ -1,11 +1,12 @@
-//! What servers send, and what it reads as: the reader, the payload, how many of the payload's fronts (itself
-//! too) are a record, and the record's line, or `None` where the payload is malformed.
+//! What servers send, and what it reads as: the reader, the payload, how many of the payload's
+//! prefixes (itself included) are a record, and the record's line, or `None` where the payload is
+//! malformed.
 
 use crate::line::Kind;
 
-pub type Told = (Kind, &'static [u8], usize, Option<&'static str>);
+pub type Payload = (Kind, &'static [u8], usize, Option<&'static str>);
 
-pub const GREETINGS: &[Told] = &[
+pub const GREETINGS: &[Payload] = &[
     (
         Kind::Greeting,
         b"\x0a5.5.2-m2\0\x0b\0\0\0dvH@I-CJ\0\xff\xf7\x08\x02\0\0\0\0\0\0\0\0\0\0\0\0\0\0*4d|cZwk4^]:\0",
@@ -56,7 +57,7 @@ pub const GREETINGS: &[Told] = &[
     ),
 ];
 
-pub const ENDS: &[Told] = &[
+pub const ENDS: &[Payload] = &[
     (Kind::Fine, b"", 0, None),
     (Kind::Fine, b"\0\0\0\x02\0\0\0", 1, Some("0 0 2 0 |")),
     (Kind::Fine, b"\0\0\0\x03\0\0\0", 1, Some("0 0 3 0 |")),
@@ -115,7 +116,7 @@ pub const ENDS: &[Told] = &[
     ),
 ];
 
-pub const SETS: &[Told] = &[
+pub const SETS: &[Payload] = &[
     (Kind::Count, b"\x01", 1, Some("1 0 ")),
     (Kind::Count, b"\x02", 1, Some("2 0 ")),
     (Kind::Count, b"\xfc\xff\xff", 1, Some("65535 0 ")),
@@ -163,7 +164,7 @@ pub const SETS: &[Told] = &[
     ),
 ];
 
-pub const OTHERS: &[Told] = &[
+pub const OTHERS: &[Payload] = &[
     (
         Kind::Switch,
         b"\xfemysql_native_password\0abcd\0",
