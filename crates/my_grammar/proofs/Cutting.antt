@@ -13,7 +13,7 @@ use Rattle.my_grammar.specs.CutLaws.{StopsAt}
 use Rattle.my_grammar.proofs.Fronts.{takes_whole}
 use Rattle.my_grammar.proofs.Growth.{grows, reads, any_login}
 
--- how many payloads are read at most tells nothing, where the bytes can't hold so many
+-- how many payloads are read at most doesn't matter, where the bytes can't hold that many
 enough : (f g : ℕ) (t : Talk) (bytes : List ℕ) → length bytes ≤ f → length bytes ≤ g → read_within f t bytes ≡ read_within g t bytes
 unfolding read_within
 enough zero zero t bytes a b = refl
@@ -40,7 +40,7 @@ enough (suc f) (suc g) t bytes a b = same (λ u rest c d. enough f g u rest c d)
     same go (Broken fault) e = refl
     same go (Whole p rest next) e = by_kind go p rest (takes_whole (number_of (turns t)) (limit_of t) bytes p rest next e).shorter (kind_of t p) (is_bad (kind_of t p))
 
--- one payload that may stand in front
+-- the bytes begin with one payload that fits
 read_one : (f : ℕ) (t : Talk) (bytes p rest : List ℕ) (next : ℕ) (k : Kind) → front_of t bytes ≡ Whole p rest next → kind_of t p ≡ k → is_bad k ≡ false → read_within (suc f) t bytes ≡ read_within f (grow k t p) rest
 unfolding read_within
 read_one f t bytes p rest next k e is good =
@@ -52,7 +52,7 @@ reads_one t bytes p rest next k e is good =
     let w = (takes_whole (number_of (turns t)) (limit_of t) bytes p rest next e).shorter in
     enough (length bytes) (suc (length bytes)) t bytes (omega arith) (omega arith) ∙ read_one (length bytes) t bytes p rest next k e is good ∙ enough (length bytes) (length rest) (grow k t p) rest (omega arith) (omega arith)
 
--- reading begins with the exchange as it began, and comes to the exchange as it stands
+-- reading begins with the exchange as it began, and comes to the exchange as it is
 pub record Reaches (t : Talk) : Type 0 where
   pub reaches : (rest : List ℕ) → read_from (origin t) (server_bytes (turns t) ++ rest) ≡ read_from t rest
 

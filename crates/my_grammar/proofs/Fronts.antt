@@ -6,12 +6,12 @@ use Rattle.my_frame.specs.declared.fault.CodecFault.TheVariants.{OutOfOrder, Too
 use Rattle.my_frame.specs.Chunks.{full_length, next_number}
 use Rattle.my_frame.specs.Front.{Front, Waiting, Broken, Whole, front_at, front_from, front_within, after_part, body_front, header_front, header_length, header_number}
 
--- A payload in front, where earlier chunks of it carried before bytes.
+-- A payload in front, where earlier packets of it carried before bytes.
 pub record Takes (before limit : ℕ) (bytes p rest : List ℕ) : Type 0 where
   pub shorter : length rest < length bytes
   pub within : before + length p ≤ limit
 
--- what stands in front, if it is a payload
+-- the payload in front, if there is one
 abbrev pub FrontTakes : ℕ → ℕ → List ℕ → Front → Type 0
 FrontTakes before limit bytes Waiting = Unit {0}
 FrontTakes before limit bytes (Broken fault) = Unit {0}

@@ -2,13 +2,15 @@
 use Rattle.std.proofs.Common.{◌≡◌, ℕ, ◌≤◌, List, [], ◌∷◌, ◌++◌, length, true, false, None, refl, sym, ap, ◌∙◌, subst}
 use Rattle.std.proofs.lemmas.List.{append-nil}
 use Rattle.std.specs.List.{AllByRecursion}
+use Rattle.my_flags.specs.declared.flags.CapabilityFlags.{CapabilityFlags}
+use Rattle.my_flags.specs.Sets.{deprecates_eof}
 use Rattle.my_grammar.specs.declared.login.Login.{Login}
 use Rattle.my_grammar.specs.declared.spot.Spot.{Spot}
 use Rattle.my_grammar.specs.declared.spot.Kind.{Kind}
 use Rattle.my_grammar.specs.declared.spot.Kind.TheVariants.{Greets, Good, Failed, Count, Column, ColumnsDone, Row, End, Bad}
 use Rattle.my_grammar.specs.declared.spot.Terms.{Terms}
 use Rattle.my_grammar.specs.declared.spot.Context.{Context}
-use Rattle.my_grammar.specs.Contexts.{deprecates_eof, is_bad}
+use Rattle.my_grammar.specs.Contexts.{is_bad}
 use Rattle.my_grammar.specs.Kinds.{greeting_kind, single_kind, kind_by, kind_there}
 use Rattle.my_grammar.specs.Sets.{Sets, Packet, packets_in, spot_in, columns_in, grow_sets}
 use Rattle.my_grammar.specs.Talk.{Talk, Start, Unwelcome, Greeted, Settled, Asked, Replied, Queried, Silent, Turn, Client, Server, served, packets_of, context_of, Fits, limit_of}
@@ -45,7 +47,7 @@ grows_start login Row p e i b short = cc
 grows_start login (End status) p e i b short = cc
 grows_start login Bad p e i b short = cc
 
-grows_greeted : (login : Login) (q : List ℕ) (c : ℕ) (k : Kind) (p : List ℕ) → single_kind p ≡ k → is_single_kind k ≡ true → is_bad k ≡ false → length p ≤ limit_of (Greeted login q c) → Fits (Greeted login q c) → Grows (Greeted login q c) k p
+grows_greeted : (login : Login) (q : List ℕ) (c : CapabilityFlags) (k : Kind) (p : List ℕ) → single_kind p ≡ k → is_single_kind k ≡ true → is_bad k ≡ false → length p ≤ limit_of (Greeted login q c) → Fits (Greeted login q c) → Grows (Greeted login q c) k p
 grows_greeted login q c (Greets n) p e i b short f = cc
 grows_greeted login q c (Good status) p e i b short f = record { context = refl; packets_are = refl; turns_are = λ l. refl; login_is = λ l. refl; fits = record { kinds = (f.kinds, e, refl); within = (short, f.within) }; origin_is = refl }
 grows_greeted login q c Failed p e i b short f = record { context = refl; packets_are = refl; turns_are = λ l. refl; login_is = λ l. refl; fits = record { kinds = (f.kinds, e, refl); within = (short, f.within) }; origin_is = refl }
@@ -67,7 +69,7 @@ grows_asked terms c Row p e i b short = cc
 grows_asked terms c (End status) p e i b short = cc
 grows_asked terms c Bad p e i b short = cc
 
-same_context : (s s' : Spot) (n n' kept kept' limit : ℕ) → s ≡ s' → n ≡ n' → kept ≡ kept' → (let c : Context = record { spot = s; columns = n; terms = record { kept = kept; limit = limit } } in c) ≡ record { spot = s'; columns = n'; terms = record { kept = kept'; limit = limit } }
+same_context : (s s' : Spot) (n n' : ℕ) (kept kept' : CapabilityFlags) (limit : ℕ) → s ≡ s' → n ≡ n' → kept ≡ kept' → (let c : Context = record { spot = s; columns = n; terms = record { kept = kept; limit = limit } } in c) ≡ record { spot = s'; columns = n'; terms = record { kept = kept'; limit = limit } }
 same_context s s' n n' kept kept' limit e f g = cc
 
 grows_queried : (terms : Terms) (c : List ℕ) (x : Sets) (k : Kind) (p : List ℕ) → kind_by (spot_in x) (deprecates_eof terms.kept) (columns_in x) p ≡ k → is_bad k ≡ false → length p ≤ terms.limit → Fits (Queried terms c x) → Grows (Queried terms c x) k p
@@ -94,6 +96,6 @@ grows (Replied terms c last kind) k p e b short f = absurd (none k e b)
 grows (Queried terms c x) k p e b short f = grows_queried terms c x k p e b short f
 grows (Silent terms c) k p e b short f = absurd (none k e b)
 
--- an exchange of another kind has no login, and any stands for it
+-- an exchange of another kind has no login, and any serves
 abbrev pub any_login : Login
-any_login = record { user = None; password = None; database = None; max_packet = 0; attributes = []; capabilities = 0; packet_limit = None; wait_timeout = None; init = []; setup = [] }
+any_login = record { user = None; password = None; database = None; max_packet = 0; attributes = []; capabilities = record { 0 = 0 }; packet_limit = None; wait_timeout = None; init = []; setup = [] }

@@ -1,6 +1,9 @@
--- Which kinds a payload can have where the reading stands.
+-- Which kinds a payload can have in its context.
 use Rattle.std.proofs.Common.{◌≡◌, ℕ, List, Bool, true, false, cond, leb, ltb, ◌&&◌, Option, Some, None, ◌⊎◌, inl, inr, refl, sym, subst, arith}
 use Rattle.std.proofs.lemmas.Bool.Decides.{nat_tests}
+use Rattle.my_flags.specs.declared.flags.CapabilityFlags.{CapabilityFlags}
+use Rattle.my_flags.specs.declared.flags.StatusFlags.{StatusFlags}
+use Rattle.my_flags.specs.Sets.{deprecates_eof, has_more_results}
 use Rattle.my_reply.specs.OkPacket.{ok_at, end_ok_at}
 use Rattle.my_reply.specs.ErrPacket.{err_at}
 use Rattle.my_reply.specs.EofPacket.{eof_at}
@@ -15,11 +18,11 @@ use Rattle.my_grammar.specs.declared.spot.Spot.{Spot}
 use Rattle.my_grammar.specs.declared.spot.Spot.TheVariants as spots
 use Rattle.my_grammar.specs.declared.spot.Kind.{Kind}
 use Rattle.my_grammar.specs.declared.spot.Kind.TheVariants.{Greets, Good, Failed, Count, Column, ColumnsDone, Row, End, Bad}
-use Rattle.my_grammar.specs.Contexts.{deprecates_eof, has_more, more, after_head, spot_after}
+use Rattle.my_grammar.specs.Contexts.{more, after_head, spot_after}
 use Rattle.my_grammar.specs.Kinds.{or_else, is_caching, good_kind, failed_kind, count_kind, greets_kind, described_kind, done_kind, ended_kind, eof_kind, cells_kind, greeting_kind, single_kind, head_kind, column_kind, columns_end_kind, end_kind, row_kind, kind_by}
 use Rattle.my_grammar.specs.FitSets.{is_head}
 
--- what may stand in a place, as tests
+-- what may come in a place, as tests
 abbrev pub is_greeting_kind : Kind → Bool
 is_greeting_kind (Greets capabilities) = true
 is_greeting_kind Failed = true
@@ -56,7 +59,7 @@ is_row_kind Failed = true
 is_row_kind Bad = true
 is_row_kind k = false
 
--- what holds of both forms holds of the one that stands there
+-- what holds of both forms holds of the one that the payload has
 either : (P : Kind → Bool) (k l : Kind) → P k ≡ true → P l ≡ true → P (or_else k l) ≡ true
 either P (Greets capabilities) l a b = a
 either P (Good status) l a b = a
@@ -71,10 +74,10 @@ either P Bad l a b = b
 failed : (P : Kind → Bool) → P Bad ≡ true → P Failed ≡ true → (b : Bool) (p : List ℕ) → P (failed_kind (err_at b p)) ≡ true
 failed P bad is b p = elim (err_at b p) as (λ o. P (failed_kind o) ≡ true) [ None ↦ bad | Some e ↦ is ]
 
-good : (P : Kind → Bool) → P Bad ≡ true → ((s : ℕ) → P (Good s) ≡ true) → (p : List ℕ) → P (good_kind (ok_at p)) ≡ true
+good : (P : Kind → Bool) → P Bad ≡ true → ((s : StatusFlags) → P (Good s) ≡ true) → (p : List ℕ) → P (good_kind (ok_at p)) ≡ true
 good P bad is p = elim (ok_at p) as (λ o. P (good_kind o) ≡ true) [ None ↦ bad | Some ok ↦ is ok.status ]
 
-offer_if : (t caching : Bool) (c : ℕ) → is_greeting_kind (cond t (cond caching Bad (Greets c)) Bad) ≡ true
+offer_if : (t caching : Bool) (c : CapabilityFlags) → is_greeting_kind (cond t (cond caching Bad (Greets c)) Bad) ≡ true
 offer_if true true c = refl
 offer_if true false c = refl
 offer_if false caching c = refl
@@ -122,7 +125,7 @@ known_row d n p =
     (either is_row_kind (failed_kind (err_at false p)) (cells_kind (text_row_at n p)) (failed is_row_kind refl refl false p)
     (elim (text_row_at n p) as (λ o. is_row_kind (cells_kind o) ≡ true) [ None ↦ refl | Some c ↦ refl ]))
 
--- what a kind is that stands in a place
+-- what a kind is that comes in a place
 pub is_then : (P : Kind → Bool) (k l : Kind) → P k ≡ true → k ≡ l → P l ≡ true
 is_then P k l a e = subst (λ x. P x ≡ true) e a
 
@@ -154,8 +157,8 @@ more_if true = inl refl
 more_if false = inr refl
 
 -- after an OK or an end
-pub more_cases : (status : ℕ) → (more status ≡ spots.Further) ⊎ (more status ≡ spots.Idle)
-more_cases status = more_if (has_more status)
+pub more_cases : (status : StatusFlags) → (more status ≡ spots.Further) ⊎ (more status ≡ spots.Idle)
+more_cases status = more_if (has_more_results status)
 
 -- nothing is known where nothing is awaited
 pub idle_bad : (s : Spot) (d : Bool) (n : ℕ) (p : List ℕ) (k : Kind) → s ≡ spots.Idle → kind_by s d n p ≡ k → k ≡ Bad

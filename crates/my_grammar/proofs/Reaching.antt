@@ -2,11 +2,13 @@
 use Rattle.std.proofs.Common.{◌≡◌, ℕ, suc, ◌-◌, ◌≤◌, ◌<◌, List, [], ◌∷◌, length, Bool, true, false, cond, leb, Option, Some, None, refl, sym, ◌∙◌, subst, arith, add-zero}
 use Rattle.std.proofs.lemmas.Bool.Decides.{nat_tests}
 use Rattle.std.specs.List.{AllByRecursion}
+use Rattle.my_flags.specs.declared.flags.CapabilityFlags.{CapabilityFlags}
+use Rattle.my_flags.specs.declared.flags.StatusFlags.{StatusFlags}
+use Rattle.my_flags.specs.Sets.{deprecates_eof}
 use Rattle.my_grammar.specs.declared.login.Login.{Login}
 use Rattle.my_grammar.specs.declared.spot.Kind.{Kind}
 use Rattle.my_grammar.specs.declared.spot.Kind.TheVariants.{Greets, Good, Failed, Count, Column, ColumnsDone, Row, End}
 use Rattle.my_grammar.specs.declared.spot.Terms.{Terms}
-use Rattle.my_grammar.specs.Contexts.{deprecates_eof}
 use Rattle.my_grammar.specs.Kinds.{head_kind, columns_end_kind, kind_by}
 use Rattle.my_grammar.specs.Sets.{SetHead, Sets, NoSets, Lone, Failed as FailedSet, Heading, Headed, Begun, Ended, Broken, Packet, each, at_most_one, head_packets, packets_in, spot_in, columns_in}
 use Rattle.my_grammar.specs.FitSets.{is_head, IsClose, IsHeading, IsBegun, FitSets}
@@ -33,7 +35,7 @@ queried_fits w = record { kinds = w.fits; within = w.within }
 in_place : (x : Sets) (d : Bool) (p : List ℕ) (k : Kind) → is_head (spot_in x) ≡ true → head_kind p ≡ k → kind_by (spot_in x) d (columns_in x) p ≡ k
 in_place x d p k h e = head_kind_is (spot_in x) d (columns_in x) p h ∙ e
 
-lone_stands : (terms : Terms) (c : List ℕ) (older : Sets) (p : List ℕ) (status : ℕ) → Stands terms c older → is_head (spot_in older) ≡ true → head_kind p ≡ Good status → length p ≤ terms.limit → Stands terms c (Lone older p status)
+lone_stands : (terms : Terms) (c : List ℕ) (older : Sets) (p : List ℕ) (status : StatusFlags) → Stands terms c older → is_head (spot_in older) ≡ true → head_kind p ≡ Good status → length p ≤ terms.limit → Stands terms c (Lone older p status)
 lone_stands terms c older p status w h e short = record {
   fits = (h, e, w.fits);
   within = (short, w.within);
@@ -181,7 +183,7 @@ sets_stand terms c (Broken older head rows last) f all =
 start_fits : (login : Login) → Fits (Start login)
 start_fits login = record { kinds = tt; within = tt }
 
-greeted_reaches : (login : Login) (p : List ℕ) (capabilities : ℕ) → Fits (Greeted login p capabilities) → Reaches (Greeted login p capabilities)
+greeted_reaches : (login : Login) (p : List ℕ) (capabilities : CapabilityFlags) → Fits (Greeted login p capabilities) → Reaches (Greeted login p capabilities)
 greeted_reaches login p capabilities f = goes_on (Start login) (Greets capabilities) p f.kinds refl f.within.0 (start_fits login) (at_origin (Start login) refl refl)
 
 pub reaches : (t : Talk) → Fits t → Reaches t

@@ -1,6 +1,8 @@
 -- One payload more in a response of sets.
 use Rattle.std.proofs.Common.{◌≡◌, ℕ, suc, ◌-◌, ◌<◌, List, [], ◌∷◌, Bool, true, false, cond, leb, Option, Some, None, inl, inr, refl, sym, ap, ◌∙◌, subst, arith, add-zero}
 use Rattle.std.proofs.lemmas.Bool.Decides.{nat_tests}
+use Rattle.my_flags.specs.declared.flags.CapabilityFlags.{CapabilityFlags}
+use Rattle.my_flags.specs.declared.flags.StatusFlags.{StatusFlags}
 use Rattle.my_grammar.specs.declared.spot.Spot.{Spot}
 use Rattle.my_grammar.specs.declared.spot.Spot.TheVariants as spots
 use Rattle.my_grammar.specs.declared.spot.Kind.{Kind}
@@ -121,7 +123,7 @@ at_row d older head rows (End status) p e i b f = record { grown = record { othe
 at_row d older head rows Bad p e i b f = cc
 
 -- after a set that another may follow
-at_more : (d : Bool) (x : Sets) (status : ℕ) (k : Kind) (p : List ℕ) → spot_in x ≡ more status → kind_by (spot_in x) d (columns_in x) p ≡ k → is_bad k ≡ false → FitSets d x → GrowsSets d x k p
+at_more : (d : Bool) (x : Sets) (status : StatusFlags) (k : Kind) (p : List ℕ) → spot_in x ≡ more status → kind_by (spot_in x) d (columns_in x) p ≡ k → is_bad k ≡ false → FitSets d x → GrowsSets d x k p
 at_more d x status k p is e b f =
     elim (more_cases status) [
       | inl further ↦
@@ -134,7 +136,7 @@ at_more d x status k p is e b f =
     never : (k : Kind) → k ≡ Bad → is_bad k ≡ false → ⊥
     never k bad b = let h : is_bad Bad ≡ false = subst (λ k. is_bad k ≡ false) bad b in cc
 
--- nothing stands where nothing is awaited
+-- nothing fits where nothing is awaited
 pub none : (k : Kind) → Bad ≡ k → is_bad k ≡ false → ⊥
 none k bad b = let h : is_bad Bad ≡ false = subst (λ k. is_bad k ≡ false) (sym bad) b in cc
 
@@ -150,7 +152,7 @@ grows_sets d (Broken older head rows last) k p e b f = absurd (none k e b)
 
 -- A kind that no greeting has.
 pub record NeverGreets (k : Kind) (p : List ℕ) : Type 0 where
-  pub kept : (n : ℕ) → kept_after n k ≡ n
+  pub kept : (n : CapabilityFlags) → kept_after n k ≡ n
   pub silent : (login : Login) → replies login k p ≡ []
 
 pub no_greeting : (k : Kind) (p : List ℕ) → not_greets k ≡ true → NeverGreets k p

@@ -1,6 +1,7 @@
--- What is read from bytes stands there.
+-- What is read from bytes is in them.
 use Rattle.std.proofs.Common.{◌≡◌, ℕ, suc, zero, ◌+◌, ◌^◌, ◌≤◌, ◌<◌, List, [], ◌∷◌, ◌++◌, map, length, Bool, true, false, cond, get_or, refl, sym, ap, ◌∙◌, subst, arith, append_assoc}
 use Rattle.std.proofs.Math.Seq.{get_or-append_right}
+use Rattle.my_flags.specs.Sets.{deprecates_eof}
 use Rattle.my_frame.specs.Chunks.{chunks}
 use Rattle.my_frame.specs.Front.{Front, Waiting, Broken, Whole}
 use Rattle.my_frame.specs.FrontLaws.{AreBytes}
@@ -9,7 +10,7 @@ use Rattle.my_grammar.specs.declared.spot.Spot.{Spot}
 use Rattle.my_grammar.specs.declared.spot.Spot.TheVariants as spots
 use Rattle.my_grammar.specs.declared.spot.Kind.{Kind}
 use Rattle.my_grammar.specs.declared.spot.Kind.TheVariants.{Bad}
-use Rattle.my_grammar.specs.Contexts.{is_bad, deprecates_eof}
+use Rattle.my_grammar.specs.Contexts.{is_bad}
 use Rattle.my_grammar.specs.Kinds.{kind_by}
 use Rattle.my_grammar.specs.Talk.{Talk, Start, Unwelcome, Greeted, Settled, Asked, Replied, Queried, Silent, Fits, turns, number_of, server_bytes, packets_of, context_of, limit_of, origin, login_in}
 use Rattle.my_grammar.specs.Growth.{grow, Grows}

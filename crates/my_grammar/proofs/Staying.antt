@@ -1,11 +1,12 @@
 -- What the grammar finds in bytes stays when more bytes come, and when more exchanges may follow.
 use Rattle.std.proofs.Common.{◌≡◌, ℕ, suc, zero, ◌≤◌, ◌<◌, List, [], ◌∷◌, ◌++◌, length, Bool, true, false, cond, refl, sym, ap, ◌∙◌, subst, arith}
+use Rattle.my_flags.specs.Sets.{deprecates_eof}
 use Rattle.my_frame.specs.Front.{Front, Waiting, Broken, Whole}
 use Rattle.my_frame.specs.FrontLaws.{FrontGrows}
 use Rattle.my_frame.proofs.Growing.{front_grows}
 use Rattle.my_grammar.specs.declared.spot.Spot.{Spot}
 use Rattle.my_grammar.specs.declared.spot.Spot.TheVariants as spots
-use Rattle.my_grammar.specs.Contexts.{is_bad, deprecates_eof}
+use Rattle.my_grammar.specs.Contexts.{is_bad}
 use Rattle.my_grammar.specs.Kinds.{kind_by}
 use Rattle.my_grammar.specs.Talk.{Talk, turns, number_of, context_of, limit_of}
 use Rattle.my_grammar.specs.Growth.{grow}

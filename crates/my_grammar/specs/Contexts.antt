@@ -1,46 +1,41 @@
 -- Where the reading of an exchange follows a payload of a kind. MySQL client/server protocol, "Connection Phase" and
 -- "COM_QUERY Response": a greeting, an answer to it and an OK or ERR make a connection; a response is a chain of sets; a set is a lone
--- OK or ERR, or a count, so many columns, an EOF unless the server deprecates it, rows and an end; an OK or an end whose status has
+-- OK or ERR, or a count, that many columns, an EOF unless the server deprecates it, rows and an end; an OK or an end whose status has
 -- SERVER_MORE_RESULTS_EXISTS is followed by another set.
-use Rattle.std.specs.Prelude.{ℕ, ◌==◌, ◌-◌, nat_le, bit_and, Bool, true, false, if◌then◌else◌}
+use Rattle.std.specs.Prelude.{ℕ, ◌-◌, nat_le, Bool, true, false, if◌then◌else◌}
+use Rattle.my_flags.specs.declared.flags.StatusFlags.{StatusFlags}
+use Rattle.my_flags.specs.Sets.{deprecates_eof, has_more_results, intersection}
+use Rattle.my_flags.specs.declared.flags.CapabilityFlags.{CapabilityFlags}
 use Rattle.my_grammar.specs.declared.spot.Spot.{Spot}
 use Rattle.my_grammar.specs.declared.spot.Spot.TheVariants.{Idle, Greeting, Authentication, Single, Head, Further, Columns, ColumnsEnd, Rows}
 use Rattle.my_grammar.specs.declared.spot.Kind.{Kind}
-use Rattle.my_grammar.specs.declared.spot.Kind.TheVariants.{Greets, Good, Failed, Count, Column, ColumnsDone, Row, End, Bad}
+use Rattle.my_grammar.specs.declared.spot.Kind.TheVariants.{Greets, Good, Count, Column, ColumnsDone, Row, End, Bad}
 use Rattle.my_grammar.specs.declared.spot.Context.{Context}
 
--- whether capabilities have CLIENT_DEPRECATE_EOF
-abbrev pub deprecates_eof : ℕ → Bool
-deprecates_eof kept = bit_and kept 0x1000000 == 0x1000000
-
--- whether a status has SERVER_MORE_RESULTS_EXISTS
-abbrev pub has_more : ℕ → Bool
-has_more status = bit_and status 8 == 8
-
 -- after an OK or an end with this status
-abbrev pub more : ℕ → Spot
-more status = if has_more status then Further else Idle
+abbrev pub more : StatusFlags → Spot
+more status = if has_more_results status then Further else Idle
 
 -- after the last column
 abbrev pub after_columns : Bool → Spot
 after_columns deprecates = if deprecates then Rows else ColumnsEnd
 
--- after a column, where so many were awaited
+-- after a column, where left columns were awaited
 abbrev pub after_column : Bool → ℕ → Spot
 after_column deprecates left = if nat_le left 1 then after_columns deprecates else Columns (left - 1)
 
--- after what stands in the place of a greeting
+-- after a payload in the place of a greeting
 abbrev pub after_greeting : Kind → Spot
 after_greeting (Greets capabilities) = Authentication
 after_greeting k = Idle
 
--- after what stands in the place of a set's head
+-- after a payload in the place of a set's head
 abbrev pub after_head : Kind → Spot
 after_head (Good status) = more status
 after_head (Count columns) = Columns columns
 after_head k = Idle
 
--- after what stands in the place of a row
+-- after a payload in the place of a row
 abbrev pub after_row : Kind → Spot
 after_row Row = Rows
 after_row (End status) = more status
@@ -60,19 +55,15 @@ spot_after deprecates Rows k = after_row k
 
 -- the columns of the set that is being read
 abbrev pub columns_after : ℕ → Kind → ℕ
-columns_after columns (Greets capabilities) = 0
-columns_after columns (Good status) = 0
-columns_after columns Failed = 0
 columns_after columns (Count n) = n
 columns_after columns Column = columns
 columns_after columns ColumnsDone = columns
 columns_after columns Row = columns
-columns_after columns (End status) = 0
-columns_after columns Bad = 0
+columns_after columns _ = 0
 
--- what both sides can do, once the server told what it can
-abbrev pub kept_after : ℕ → Kind → ℕ
-kept_after kept (Greets capabilities) = bit_and kept capabilities
+-- the capabilities of both sides, once the server sent its own
+abbrev pub kept_after : CapabilityFlags → Kind → CapabilityFlags
+kept_after kept (Greets capabilities) = intersection kept capabilities
 kept_after kept k = kept
 
 -- the context after a payload of this kind
@@ -83,14 +74,7 @@ context_after c k = record {
   terms = record { kept = kept_after c.terms.kept k; limit = c.terms.limit };
 }
 
--- a payload that may not stand there
+-- a payload that fits no case
 abbrev pub is_bad : Kind → Bool
-is_bad (Greets capabilities) = false
-is_bad (Good status) = false
-is_bad Failed = false
-is_bad (Count columns) = false
-is_bad Column = false
-is_bad ColumnsDone = false
-is_bad Row = false
-is_bad (End status) = false
 is_bad Bad = true
+is_bad _ = false

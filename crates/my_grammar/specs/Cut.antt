@@ -1,5 +1,5 @@
 -- The exchanges that a server's bytes hold, however they came. MySQL client/server protocol, "MySQL Packets" and "Command Phase": the
--- chunks of the exchanges stand one after the other, and each exchange numbers them from 0.
+-- packets of the exchanges follow one another, and in each exchange their sequence ids begin with 0.
 use Rattle.std.specs.Prelude.{ℕ, zero, suc, ◌+◌, List, [], ◌∷◌, length, Bool, true, false, if◌then◌else◌}
 use Rattle.my_frame.specs.declared.fault.CodecFault.{CodecFault}
 use Rattle.my_frame.specs.Front.{Front, Waiting, Broken, Whole, front_at}
@@ -16,7 +16,7 @@ pub record Read : Type 0 where
   pub talk : Talk
   pub rest : List ℕ
 
--- what stands in front of bytes where the exchange awaits a payload
+-- what bytes begin with where the exchange awaits a payload
 abbrev pub front_of : Talk → List ℕ → Front
 front_of t bytes = front_at (number_of (turns t)) (limit_of t) bytes
 
@@ -24,7 +24,7 @@ front_of t bytes = front_at (number_of (turns t)) (limit_of t) bytes
 abbrev pub kind_of : Talk → List ℕ → Kind
 kind_of t p = kind_there (context_of t) p
 
--- a payload that may stand there is read, and the reading goes on after it
+-- a payload that fits is read, and the reading goes on after it
 abbrev pub read_payload : Talk → List ℕ → List ℕ → List ℕ → Kind → (Talk → List ℕ → Read) → Read
 read_payload t bytes p rest k go = if is_bad k then record { talk = t; rest = bytes } else go (grow k t p) rest
 
@@ -33,7 +33,7 @@ read_front t bytes Waiting go = record { talk = t; rest = bytes }
 read_front t bytes (Broken fault) go = record { talk = t; rest = bytes }
 read_front t bytes (Whole p rest next) go = read_payload t bytes p rest (kind_of t p) go
 
--- so many payloads at most
+-- n payloads at most
 unfoldable pub read_within : ℕ → Talk → List ℕ → Read
 read_within zero t bytes = record { talk = t; rest = bytes }
 read_within (suc most) t bytes = read_front t bytes (front_of t bytes) (read_within most)
@@ -43,7 +43,7 @@ unfoldable pub read_from : Talk → List ℕ → Read
 read_from t bytes = read_within (length bytes) t bytes
 
 -- What the reading stopped at: the bytes after the whole of the last exchange; bytes that hold no whole payload yet; a payload that
--- may not stand there, with the bytes from it on; a header with a wrong number or a length above the limit.
+-- fits no case there, with the bytes from it on; a header with a wrong sequence id or a length above the limit.
 pub data Rest : Type 0 where
   Trailing : (bytes : List ℕ) → Rest
   Unfinished : (bytes : List ℕ) → Rest

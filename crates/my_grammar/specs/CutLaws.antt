@@ -7,7 +7,7 @@ use Rattle.my_grammar.specs.Sets.{Packet}
 use Rattle.my_grammar.specs.Talk.{Talk, Fits, turns, server_bytes, packets_of, origin}
 use Rattle.my_grammar.specs.Cut.{Read, Rest, Trailing, Unfinished, Unfit, Blamed, Cut, cut, front_of, kind_of, is_over}
 
--- no payload that may stand there stands in front
+-- the bytes begin with no payload that fits there
 abbrev pub StopsAt : Talk → Front → Type 0
 StopsAt t Waiting = Unit {0}
 StopsAt t (Broken fault) = Unit {0}

@@ -1,4 +1,4 @@
--- The sets that a server may send. MySQL client/server protocol, "Text Resultset": each payload is what stands in its place.
+-- The sets that a server may send. MySQL client/server protocol, "Text Resultset": each payload is what fits in its place.
 use Rattle.std.specs.Prelude.{◌≡◌, ℕ, ◌+◌, ◌<◌, List, [], ◌∷◌, length, Option, Some, None, Bool, true, false}
 use Rattle.my_grammar.specs.declared.spot.Spot.{Spot}
 use Rattle.my_grammar.specs.declared.spot.Spot.TheVariants as spots
@@ -17,7 +17,7 @@ abbrev pub AreColumns : List (List ℕ) → Type 0
 AreColumns [] = Unit {0}
 AreColumns (p ∷ ps) = (column_kind p ≡ kinds.Column) × AreColumns ps
 
--- each is a row of so many columns, and no end
+-- each is a row of that many columns, and no end
 abbrev pub AreRows : Bool → ℕ → List (List ℕ) → Type 0
 AreRows deprecates columns [] = Unit {0}
 AreRows deprecates columns (p ∷ ps) = (row_kind deprecates columns p ≡ kinds.Row) × AreRows deprecates columns ps
@@ -29,7 +29,7 @@ IsClose true (Some p) = ⊥
 IsClose false None = ⊥
 IsClose false (Some p) = columns_end_kind p ≡ kinds.ColumnsDone
 
--- A head in its place, of which so many columns are left.
+-- A head in its place, of which left columns are awaited.
 pub record IsHeading (older : Sets) (head : SetHead) (left : ℕ) : Type 0 where
   pub place : is_head (spot_in older) ≡ true
   pub count : head_kind head.count ≡ kinds.Count head.number

@@ -1,10 +1,11 @@
 -- One payload more in an exchange.
 use Rattle.std.specs.Prelude.{◌≡◌, ℕ, List, [], ◌∷◌, ◌++◌, Bool, true, false}
+use Rattle.my_flags.specs.Sets.{deprecates_eof}
 use Rattle.my_frame.specs.Chunks.{chunks, number_after_payload}
 use Rattle.my_grammar.specs.declared.login.Login.{Login}
 use Rattle.my_grammar.specs.declared.spot.Kind.{Kind}
 use Rattle.my_grammar.specs.declared.spot.Kind.TheVariants as kinds
-use Rattle.my_grammar.specs.Contexts.{context_after, deprecates_eof}
+use Rattle.my_grammar.specs.Contexts.{context_after}
 use Rattle.my_grammar.specs.Response.{response}
 use Rattle.my_grammar.specs.Sets.{grow_sets}
 use Rattle.my_grammar.specs.Talk.{Talk, Start, Unwelcome, Greeted, Settled, Asked, Replied, Queried, Silent, Turn, Client, Server, packets_of, turns, number_of, server_bytes, client_bytes, context_of, Fits, origin, login_in}
@@ -28,14 +29,7 @@ grow k (Silent terms c) p = Silent terms c
 -- what the client says at once after a payload of this kind: its response after the greeting
 abbrev pub replies : Login → Kind → List ℕ → List Turn
 replies login (kinds.Greets capabilities) p = Client (response login p) ∷ []
-replies login (kinds.Good status) p = []
-replies login kinds.Failed p = []
-replies login (kinds.Count columns) p = []
-replies login kinds.Column p = []
-replies login kinds.ColumnsDone p = []
-replies login kinds.Row p = []
-replies login (kinds.End status) p = []
-replies login kinds.Bad p = []
+replies login _ p = []
 
 -- the client says nothing after another payload than a greeting
 abbrev pub not_greets : Kind → Bool
@@ -45,28 +39,14 @@ not_greets k = true
 -- the number after a payload that has the number n, and after what the client says to it
 abbrev pub number_next : Login → Kind → List ℕ → ℕ → ℕ
 number_next login (kinds.Greets capabilities) p n = number_after_payload (response login p) (number_after_payload p n)
-number_next login (kinds.Good status) p n = number_after_payload p n
-number_next login kinds.Failed p n = number_after_payload p n
-number_next login (kinds.Count columns) p n = number_after_payload p n
-number_next login kinds.Column p n = number_after_payload p n
-number_next login kinds.ColumnsDone p n = number_after_payload p n
-number_next login kinds.Row p n = number_after_payload p n
-number_next login (kinds.End status) p n = number_after_payload p n
-number_next login kinds.Bad p n = number_after_payload p n
+number_next login _ p n = number_after_payload p n
 
 -- the bytes of what the client says to it
 abbrev pub said : Login → Kind → List ℕ → ℕ → List ℕ
 said login (kinds.Greets capabilities) p n = chunks (response login p) (number_after_payload p n)
-said login (kinds.Good status) p n = []
-said login kinds.Failed p n = []
-said login (kinds.Count columns) p n = []
-said login kinds.Column p n = []
-said login kinds.ColumnsDone p n = []
-said login kinds.Row p n = []
-said login (kinds.End status) p n = []
-said login kinds.Bad p n = []
+said login _ p n = []
 
--- A payload more, of the kind that it is where the reading stands, is one payload more in each reading of the exchange.
+-- A payload more, of the kind that it is in its context, is one payload more in each reading of the exchange.
 pub record Grows (t : Talk) (k : Kind) (p : List ℕ) : Type 0 where
   pub context : context_of (grow k t p) ≡ context_after (context_of t) k
   pub packets_are : packets_of (grow k t p) ≡ record { kind = k; payload = p } ∷ packets_of t

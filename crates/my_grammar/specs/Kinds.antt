@@ -1,7 +1,9 @@
--- What a payload is, where the reading stands. MySQL client/server protocol, "Connection Phase", "Generic Response Packets" and "Text
--- Resultset": in each place the forms that may stand there, in the order in which they are tried.
+-- What a payload is in its context. MySQL client/server protocol, "Connection Phase", "Generic Response Packets" and "Text
+-- Resultset": in each place the forms that fit there, in the order in which they are tried.
 use Rattle.std.specs.Prelude.{ℕ, List, codes, Option, Some, None, Bool, true, false, if◌then◌else◌}
 use Rattle.std.specs.Str.{bytes_eq}
+use Rattle.my_flags.specs.declared.flags.CapabilityFlags.{CapabilityFlags}
+use Rattle.my_flags.specs.Sets.{deprecates_eof}
 use Rattle.my_reply.specs.declared.ok.OkPacket.{OkPacket}
 use Rattle.my_reply.specs.declared.err.ErrPacket.{ErrPacket}
 use Rattle.my_reply.specs.declared.eof.EofPacket.{EofPacket}
@@ -21,9 +23,8 @@ use Rattle.my_grammar.specs.declared.spot.Spot.TheVariants as spots
 use Rattle.my_grammar.specs.declared.spot.Kind.{Kind}
 use Rattle.my_grammar.specs.declared.spot.Kind.TheVariants.{Greets, Good, Failed, Count, Column, ColumnsDone, Row, End, Bad}
 use Rattle.my_grammar.specs.declared.spot.Context.{Context}
-use Rattle.my_grammar.specs.Contexts.{deprecates_eof}
 
--- the first form, unless it doesn't stand there; then the other
+-- the first form where the payload has it; else the other
 abbrev pub or_else : Kind → Kind → Kind
 or_else Bad k = k
 or_else k l = k
@@ -48,7 +49,7 @@ abbrev pub is_caching : List ℕ → Bool
 is_caching plugin = bytes_eq plugin (codes "caching_sha2_password")
 
 -- a server that deprecates EOF and logs in by the native password
-abbrev pub offer_kind : ℕ → List ℕ → Kind
+abbrev pub offer_kind : CapabilityFlags → List ℕ → Kind
 offer_kind capabilities plugin = if deprecates_eof capabilities then (if is_caching plugin then Bad else Greets capabilities) else Bad
 
 -- a greeting
@@ -80,19 +81,19 @@ abbrev pub cells_kind : Option (List Value) → Kind
 cells_kind None = Bad
 cells_kind (Some cells) = Row
 
--- What may stand in the place of a greeting: an ERR there has no state.
+-- What may come in the place of a greeting: an ERR there has no state.
 abbrev pub greeting_kind : List ℕ → Kind
 greeting_kind p = or_else (greets_kind (greeting_at p)) (failed_kind (err_at true p))
 
--- What may stand where one OK or ERR is awaited.
+-- What may come where one OK or ERR is awaited.
 abbrev pub single_kind : List ℕ → Kind
 single_kind p = or_else (good_kind (ok_at p)) (failed_kind (err_at false p))
 
--- What may stand as the head of a set.
+-- What may come as the head of a set.
 abbrev pub head_kind : List ℕ → Kind
 head_kind p = or_else (good_kind (ok_at p)) (or_else (failed_kind (err_at false p)) (count_kind (column_count_at false p)))
 
--- What may stand in the place of a column: no ERR.
+-- What may come in the place of a column: no ERR.
 abbrev pub column_kind : List ℕ → Kind
 column_kind p = described_kind (column_at p)
 
@@ -105,7 +106,7 @@ abbrev pub end_kind : Bool → List ℕ → Kind
 end_kind true p = ended_kind (end_ok_at p)
 end_kind false p = eof_kind (eof_at p)
 
--- What may stand in the place of a row of so many columns: an end is tried first.
+-- What may come in the place of a row of that many columns: an end is tried first.
 abbrev pub row_kind : Bool → ℕ → List ℕ → Kind
 row_kind deprecates columns p = or_else (end_kind deprecates p) (or_else (failed_kind (err_at false p)) (cells_kind (text_row_at columns p)))
 

@@ -5,9 +5,9 @@ use Rattle.my_grammar.specs.declared.login.Login.{Login}
 use Rattle.my_grammar.specs.declared.progress.Opening.{Opening}
 use Rattle.my_grammar.specs.declared.progress.Opening.TheVariants as openings
 use Rattle.my_grammar.specs.declared.progress.Progress.{Progress}
-use Rattle.my_grammar.specs.declared.plain.CutRest.{CutRest}
-use Rattle.my_grammar.specs.declared.plain.CutRest.TheVariants as rests
-use Rattle.my_grammar.specs.declared.plain.Found.{Found}
+use Rattle.my_grammar.specs.declared.cut.CutRest.{CutRest}
+use Rattle.my_grammar.specs.declared.cut.CutRest.TheVariants as rests
+use Rattle.my_grammar.specs.declared.cut.Found.{Found}
 use Rattle.my_grammar.specs.Sets.{NoSets}
 use Rattle.my_grammar.specs.Talk.{Talk, Start, Asked, Queried, Silent, turns, number_of, client_bytes, packets_of, context_of}
 use Rattle.my_grammar.specs.Cut.{Read, Rest, Trailing, Unfinished, Unfit, Blamed, Cut}
@@ -19,14 +19,14 @@ talk_of login (openings.Simple terms command) = Asked terms command
 talk_of login (openings.Query terms command) = Queried terms command NoSets
 talk_of login (openings.Silent terms command) = Silent terms command
 
--- The program stands where the exchange does, with its payloads in order and what the client said.
+-- The program is where the exchange is, with its payloads in order and what the client sent.
 pub record IsAt (t : Talk) (p : Progress) : Type 0 where
   pub context : p.context ≡ context_of t
   pub number : p.number ≡ number_of (turns t)
   pub packets : p.packets.items ≡ reverse (packets_of t)
   pub sent : p.sent ≡ client_bytes (turns t)
 
--- each stands where its exchange does
+-- each is where its exchange is
 abbrev pub AreAt : List Talk → List Progress → Type 0
 AreAt [] [] = Unit {0}
 AreAt [] (p ∷ ps) = ⊥
@@ -40,7 +40,7 @@ rest_kind (Unfinished bytes) = rests.Unfinished
 rest_kind (Unfit payload bytes) = rests.Unfit
 rest_kind (Blamed fault bytes) = rests.Blamed fault
 
--- which rest stands in front of what may not be read
+-- which rest begins with what cannot be read
 abbrev pub front_rest : Front → CutRest
 front_rest Waiting = rests.Unfinished
 front_rest (Broken fault) = rests.Blamed fault

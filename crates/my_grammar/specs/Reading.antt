@@ -11,14 +11,14 @@ use Rattle.my_grammar.specs.declared.progress.Progress.{Progress}
 use Rattle.my_grammar.specs.Contexts.{context_after, is_bad}
 use Rattle.my_grammar.specs.Growth.{number_next, said}
 
--- A payload of this kind is heard, and answered.
+-- A payload of this kind is read, and answered.
 pub record Hears (login : Login) (k : Kind) (p : List ℕ) (old new : Progress) : Type 0 where
   pub context : new.context ≡ context_after old.context k
   pub number : new.number ≡ number_next login k p old.number
   pub packets : new.packets.items ≡ old.packets.items ++ record { kind = k; payload = p } ∷ []
   pub sent : new.sent ≡ old.sent ++ said login k p old.number
 
--- The payload that was found stands in front, and its span leads after it.
+-- The bytes begin with the payload that was found, and its span ends after it.
 pub record InFront (n limit : ℕ) (bytes : List ℕ) (framed : FramedPayload) : Type 0 where
   pub rest : List ℕ
   pub front : front_at n limit bytes ≡ Whole framed.payload rest framed.span.next
@@ -27,19 +27,19 @@ pub record InFront (n limit : ℕ) (bytes : List ℕ) (framed : FramedPayload) :
   pub fits : framed.span.len ≤ length bytes
   pub some : 0 < framed.span.len
 
--- no whole payload stands in front
+-- the bytes begin with no whole payload
 abbrev pub NoneInFront : Front → Type 0
 NoneInFront Waiting = Unit {0}
 NoneInFront (Broken fault) = Unit {0}
 NoneInFront (Whole p rest next) = ⊥
 
--- nothing that may stand there stands in front
+-- the bytes begin with nothing that fits there
 abbrev pub StopsHere : Context → Front → Type 0
 StopsHere c Waiting = Unit {0}
 StopsHere c (Broken fault) = Unit {0}
 StopsHere c (Whole p rest next) = is_bad (kind_there c p) ≡ true
 
--- The payload in front was heard, and its chunks take so many bytes.
+-- The payload in front was read, and its packets take len bytes.
 pub record HeardOne (login : Login) (bytes : List ℕ) (old new : Progress) (len : ℕ) : Type 0 where
   pub payload : List ℕ
   pub rest : List ℕ
@@ -51,7 +51,7 @@ pub record HeardOne (login : Login) (bytes : List ℕ) (old new : Progress) (len
   pub fits : len ≤ length bytes
   pub some : 0 < len
 
--- Nothing was heard, and nothing changed.
+-- Nothing was read, and nothing changed.
 pub record HeardNone (bytes : List ℕ) (old new : Progress) : Type 0 where
   pub stops : StopsHere old.context (front_at old.number old.context.terms.limit bytes)
   pub context : new.context ≡ old.context

@@ -1,5 +1,6 @@
 -- The answer to a server's greeting. MySQL client/server protocol, "Connection Phase Packets": Protocol::HandshakeResponse41.
-use Rattle.std.specs.Prelude.{ℕ, ◌==◌, ◌&&◌, ◌||◌, bit_and, nat_le, nat_lt, List, [], Option, Some, None, codes, unwrap_or, if◌then◌else◌}
+use Rattle.std.specs.Prelude.{ℕ, ◌==◌, ◌&&◌, ◌||◌, nat_le, nat_lt, List, [], Option, Some, None, codes, unwrap_or, if◌then◌else◌}
+use Rattle.my_flags.specs.Sets.{intersection}
 use Rattle.my_handshake.specs.declared.greeting.Greeting.{Greeting}
 use Rattle.my_handshake.specs.declared.version.ServerVersion.{ServerVersion}
 use Rattle.my_handshake.specs.declared.login.HandshakeResponse.{HandshakeResponse}
@@ -17,10 +18,10 @@ charset_of v =
 -- what the client answers to this greeting
 abbrev pub response_to : Login → Greeting → HandshakeResponse
 response_to login g = record {
-  capabilities = bit_and login.capabilities g.capabilities;
+  capabilities = intersection login.capabilities g.capabilities;
   max_packet = login.max_packet;
   charset = charset_of (version_of g.version);
-  extended = 0;
+  extended = record { 0 = 0 };
   user = unwrap_or login.user [];
   scramble = native_answer login.password g.nonce;
   database = unwrap_or login.database [];

@@ -1,6 +1,7 @@
 -- A response as a list of sets, newest first inside, so that each payload more is one constructor. MySQL client/server protocol,
 -- "COM_QUERY Response", "Text Resultset" and "Multi-Resultset".
 use Rattle.std.specs.Prelude.{ℕ, ◌-◌, nat_le, List, [], ◌∷◌, Option, Some, None, Bool, if◌then◌else◌}
+use Rattle.my_flags.specs.declared.flags.StatusFlags.{StatusFlags}
 use Rattle.my_grammar.specs.declared.spot.Spot.{Spot}
 use Rattle.my_grammar.specs.declared.spot.Spot.TheVariants as spots
 use Rattle.my_grammar.specs.declared.spot.Kind.{Kind}
@@ -10,23 +11,23 @@ use Rattle.my_grammar.specs.declared.spot.Terms.{Terms}
 use Rattle.my_grammar.specs.declared.spot.Context.{Context}
 use Rattle.my_grammar.specs.Contexts.{more}
 
--- the head of a set with columns: the count as it stands and its number, the columns so far, and the EOF after them
+-- the head of a set with columns: the count as it was received and its number, the columns so far, and the EOF after them
 pub record SetHead : Type 0 where
   pub count : List ℕ
   pub number : ℕ
   pub columns : List (List ℕ)
   pub close : Option (List ℕ)
 
--- No set; or after the older ones a lone OK, an ERR in a head's place, a head of which so many columns are left, a head whose EOF is
+-- No set; or after the older ones a lone OK, an ERR in a head's place, a head of which left columns are awaited, a head whose EOF is
 -- left, rows under a whole head, rows with their end, or rows that an ERR broke off.
 pub data Sets : Type 0 where
   NoSets : Sets
-  Lone : (older : Sets) (p : List ℕ) (status : ℕ) → Sets
+  Lone : (older : Sets) (p : List ℕ) (status : StatusFlags) → Sets
   Failed : (older : Sets) (p : List ℕ) → Sets
   Heading : (older : Sets) (head : SetHead) (left : ℕ) → Sets
   Headed : (older : Sets) (head : SetHead) → Sets
   Begun : (older : Sets) (head : SetHead) (rows : List (List ℕ)) → Sets
-  Ended : (older : Sets) (head : SetHead) (rows : List (List ℕ)) (last : List ℕ) (status : ℕ) → Sets
+  Ended : (older : Sets) (head : SetHead) (rows : List (List ℕ)) (last : List ℕ) (status : StatusFlags) → Sets
   Broken : (older : Sets) (head : SetHead) (rows : List (List ℕ)) (last : List ℕ) → Sets
 
 -- payloads of one kind, in front of others
@@ -65,14 +66,10 @@ spot_in (Broken older head rows last) = spots.Idle
 
 -- the number of columns of the set that is being read
 abbrev pub columns_in : Sets → ℕ
-columns_in NoSets = 0
-columns_in (Lone older p status) = 0
-columns_in (Failed older p) = 0
 columns_in (Heading older head left) = head.number
 columns_in (Headed older head) = head.number
 columns_in (Begun older head rows) = head.number
-columns_in (Ended older head rows last status) = 0
-columns_in (Broken older head rows last) = 0
+columns_in _ = 0
 
 abbrev pub context_in : Terms → Sets → Context
 context_in terms x = record { spot = spot_in x; columns = columns_in x; terms = terms }
@@ -99,7 +96,7 @@ abbrev pub with_row : Sets → List ℕ → Sets
 with_row (Begun older head rows) p = Begun older head (p ∷ rows)
 with_row x p = x
 
-abbrev pub with_end : Sets → List ℕ → ℕ → Sets
+abbrev pub with_end : Sets → List ℕ → StatusFlags → Sets
 with_end (Begun older head rows) p status = Ended older head rows p status
 with_end x p status = x
 

@@ -1,8 +1,11 @@
 -- An exchange as it was read: a client's command with the server's payloads so far, or the opening of a connection, which begins with
--- the server. MySQL client/server protocol, "Connection Phase" and "Command Phase". One running number goes over the chunks of both
+-- the server. MySQL client/server protocol, "Connection Phase" and "Command Phase". One running sequence id goes over the packets of both
 -- sides, from 0 in each exchange.
-use Rattle.std.specs.Prelude.{◌≡◌, ℕ, ◌≤◌, bit_and, List, [], ◌∷◌, ◌++◌, length, false}
+use Rattle.std.specs.Prelude.{◌≡◌, ℕ, ◌≤◌, List, [], ◌∷◌, ◌++◌, length, false}
 use Rattle.std.specs.List.{AllByRecursion}
+use Rattle.my_flags.specs.declared.flags.CapabilityFlags.{CapabilityFlags}
+use Rattle.my_flags.specs.Sets.{deprecates_eof, intersection}
+use Rattle.my_frame.specs.declared.limits.TheConstants.{DEFAULT_MAX_ALLOWED_PACKET}
 use Rattle.my_frame.specs.Chunks.{chunks, number_after_payload}
 use Rattle.my_grammar.specs.declared.login.Login.{Login}
 use Rattle.my_grammar.specs.declared.spot.Spot.TheVariants as spots
@@ -10,7 +13,7 @@ use Rattle.my_grammar.specs.declared.spot.Kind.{Kind}
 use Rattle.my_grammar.specs.declared.spot.Kind.TheVariants as kinds
 use Rattle.my_grammar.specs.declared.spot.Terms.{Terms}
 use Rattle.my_grammar.specs.declared.spot.Context.{Context}
-use Rattle.my_grammar.specs.Contexts.{deprecates_eof, is_bad}
+use Rattle.my_grammar.specs.Contexts.{is_bad}
 use Rattle.my_grammar.specs.Kinds.{greeting_kind, single_kind}
 use Rattle.my_grammar.specs.Sets.{Sets, NoSets, Packet, packets_in, context_in}
 use Rattle.my_grammar.specs.FitSets.{FitSets}
@@ -22,8 +25,8 @@ use Rattle.my_grammar.specs.Response.{response}
 pub data Talk : Type 0 where
   Start : (login : Login) → Talk
   Unwelcome : (login : Login) (p : List ℕ) → Talk
-  Greeted : (login : Login) (p : List ℕ) (capabilities : ℕ) → Talk
-  Settled : (login : Login) (p : List ℕ) (capabilities : ℕ) (last : List ℕ) (kind : Kind) → Talk
+  Greeted : (login : Login) (p : List ℕ) (capabilities : CapabilityFlags) → Talk
+  Settled : (login : Login) (p : List ℕ) (capabilities : CapabilityFlags) (last : List ℕ) (kind : Kind) → Talk
   Asked : (terms : Terms) (command : List ℕ) → Talk
   Replied : (terms : Terms) (command : List ℕ) (last : List ℕ) (kind : Kind) → Talk
   Queried : (terms : Terms) (command : List ℕ) (sets : Sets) → Talk
@@ -31,25 +34,23 @@ pub data Talk : Type 0 where
 
 -- the longest payload that is read until the settings are known
 abbrev pub default_limit : ℕ
-default_limit = 4194304
+default_limit = DEFAULT_MAX_ALLOWED_PACKET
 
--- before the greeting the client's own capabilities stand
+-- before the greeting the client's own capabilities hold
 abbrev pub start_terms : Login → Terms
 start_terms login = record { kept = login.capabilities; limit = default_limit }
 
-abbrev pub greeted_terms : Login → ℕ → Terms
-greeted_terms login capabilities = record { kept = bit_and login.capabilities capabilities; limit = default_limit }
+abbrev pub greeted_terms : Login → CapabilityFlags → Terms
+greeted_terms login capabilities = record { kept = intersection login.capabilities capabilities; limit = default_limit }
 
 -- the server's payloads with what they are, the newest first: facts of an exchange are folds over them
 abbrev pub packets_of : Talk → List Packet
-packets_of (Start login) = []
 packets_of (Unwelcome login p) = record { kind = kinds.Failed; payload = p } ∷ []
 packets_of (Greeted login p capabilities) = record { kind = kinds.Greets capabilities; payload = p } ∷ []
 packets_of (Settled login p capabilities last kind) = record { kind = kind; payload = last } ∷ record { kind = kinds.Greets capabilities; payload = p } ∷ []
-packets_of (Asked terms c) = []
 packets_of (Replied terms c last kind) = record { kind = kind; payload = last } ∷ []
 packets_of (Queried terms c sets) = packets_in sets
-packets_of (Silent terms c) = []
+packets_of _ = []
 
 -- whose payload it is
 pub data Turn : Type 0 where
@@ -72,7 +73,7 @@ turns (Replied terms c last kind) = Server last ∷ Client c ∷ []
 turns (Queried terms c sets) = served (packets_in sets) (Client c ∷ [])
 turns (Silent terms c) = Client c ∷ []
 
--- the number of the next chunk, of either side
+-- the sequence id of the next packet, of either side
 abbrev pub number_of : List Turn → ℕ
 number_of [] = 0
 number_of (Client p ∷ ts) = number_after_payload p (number_of ts)
@@ -89,7 +90,7 @@ client_bytes [] = []
 client_bytes (Client p ∷ ts) = client_bytes ts ++ chunks p (number_of ts)
 client_bytes (Server p ∷ ts) = client_bytes ts
 
--- where the reading stands
+-- the context of the next payload
 abbrev pub context_of : Talk → Context
 context_of (Start login) = record { spot = spots.Greeting; columns = 0; terms = start_terms login }
 context_of (Unwelcome login p) = record { spot = spots.Idle; columns = 0; terms = start_terms login }
@@ -100,27 +101,22 @@ context_of (Replied terms c last kind) = record { spot = spots.Idle; columns = 0
 context_of (Queried terms c sets) = context_in terms sets
 context_of (Silent terms c) = record { spot = spots.Idle; columns = 0; terms = terms }
 
--- each payload is what may stand in its place
+-- each payload is one that fits in its place
 abbrev pub FitKinds : Talk → Type 0
-FitKinds (Start login) = Unit {0}
 FitKinds (Unwelcome login p) = greeting_kind p ≡ kinds.Failed
 FitKinds (Greeted login p capabilities) = greeting_kind p ≡ kinds.Greets capabilities
 FitKinds (Settled login p capabilities last kind) = (greeting_kind p ≡ kinds.Greets capabilities) × (single_kind last ≡ kind) × (is_bad kind ≡ false)
-FitKinds (Asked terms c) = Unit {0}
 FitKinds (Replied terms c last kind) = (single_kind last ≡ kind) × (is_bad kind ≡ false)
 FitKinds (Queried terms c sets) = FitSets (deprecates_eof terms.kept) sets
-FitKinds (Silent terms c) = Unit {0}
+FitKinds _ = Unit {0}
 
 -- the longest payload that is read in the exchange
 abbrev pub limit_of : Talk → ℕ
-limit_of (Start login) = default_limit
-limit_of (Unwelcome login p) = default_limit
-limit_of (Greeted login p capabilities) = default_limit
-limit_of (Settled login p capabilities last kind) = default_limit
 limit_of (Asked terms c) = terms.limit
 limit_of (Replied terms c last kind) = terms.limit
 limit_of (Queried terms c sets) = terms.limit
 limit_of (Silent terms c) = terms.limit
+limit_of _ = default_limit
 
 -- The exchange is one that the protocol has, with no payload above the limit.
 pub record Fits (t : Talk) : Type 0 where
@@ -138,13 +134,10 @@ origin (Replied terms c last kind) = Asked terms c
 origin (Queried terms c sets) = Queried terms c NoSets
 origin (Silent terms c) = Silent terms c
 
--- the login of an opening; another exchange has none, and any stands for it
+-- the login of a connecting exchange; for others the default any
 abbrev pub login_in : Login → Talk → Login
 login_in any (Start login) = login
 login_in any (Unwelcome login p) = login
 login_in any (Greeted login p capabilities) = login
 login_in any (Settled login p capabilities last kind) = login
-login_in any (Asked terms c) = any
-login_in any (Replied terms c last kind) = any
-login_in any (Queried terms c sets) = any
-login_in any (Silent terms c) = any
+login_in any _ = any

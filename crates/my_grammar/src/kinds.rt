@@ -1,4 +1,4 @@
-//! What a payload is, where the reading stands. No call takes memory.
+//! What a payload is in its context. No call allocates.
 
 ghost use Rattle.std.specs.Prelude.{◌≡◌, true, false};
 ghost use Rattle.my_grammar.specs.Kinds.{cells_kind, column_kind, columns_end_kind, count_kind, end_kind, failed_kind, good_kind, greeting_kind, greets_kind, head_kind, is_caching, kind_there, offer_kind, or_else, row_kind, single_kind};
@@ -8,7 +8,8 @@ ghost use Rattle.my_handshake.specs.Greeting.{greeting_at};
 ghost use Rattle.my_reply.specs.OkPacket.{ok_at};
 ghost use Rattle.my_value.specs.TextRow.{text_row_at};
 
-use crate::spot::{Context, Kind, Spot, ends_with_ok};
+use crate::spot::{Context, Kind, Spot};
+use my_flags::CapabilityFlags;
 use my_handshake::greeting_offer;
 use my_reply::glance::{end_ok_status, is_column, is_err, ok_status};
 use my_reply::{read_column_count, read_eof};
@@ -40,10 +41,10 @@ fn is_caching(plugin: &[u8]) -> bool
     plugin == b"caching_sha2_password".as_slice()
 }
 
-fn offer(capabilities: u32, plugin: &[u8]) -> Kind
+fn offer(capabilities: CapabilityFlags, plugin: &[u8]) -> Kind
     ensures { result ≡ offer_kind capabilities plugin.now }
 {
-    if ends_with_ok(capabilities) && !is_caching(plugin) {
+    if capabilities.deprecates_eof() && !is_caching(plugin) {
         Kind::Greets(capabilities)
     } else {
         Kind::Bad
@@ -175,6 +176,10 @@ pub fn kind_at(context: Context, payload: &[u8]) -> Kind
         Spot::Head | Spot::Further => head(payload),
         Spot::Columns(_) => described(payload),
         Spot::ColumnsEnd => done(payload),
-        Spot::Rows => row(ends_with_ok(context.terms.kept), context.columns, payload),
+        Spot::Rows => row(
+            context.terms.kept.deprecates_eof(),
+            context.columns,
+            payload,
+        ),
     }
 }

@@ -10,7 +10,7 @@ ghost use Rattle.my_grammar.specs.Growth.{Grows, Reads};
 ghost use Rattle.my_grammar.specs.Cut.{cut, is_over, kind_of, onto, read_from};
 ghost use Rattle.my_grammar.specs.CutLaws.{IsCut, IsRead, RestGoesOn, RestStays};
 
-/// A payload within the limit that may stand where an exchange awaits one makes it an exchange with one payload more, in each
+/// A payload within the limit that fits where an exchange awaits one makes it an exchange with one payload more, in each
 /// reading: its place, its payloads, both sides' turns, and that it is as the protocol has it.
 pub fn each_payload_grows()
     ensures { (t : Talk) (p : List ℕ) → is_bad (kind_of t p) ≡ false → length p ≤ limit_of t → Fits t → Grows t (kind_of t p) p }
@@ -21,7 +21,7 @@ pub fn each_payload_counts()
     ensures { (login : AnyLogin) (k : AnyKind) (p : List ℕ) (ts : List Turn) → Reads login k p ts }
 {}
 
-/// What was read of an exchange is found again in its bytes: reading from its beginning comes to where it stands, whatever follows.
+/// What was read of an exchange is found again in its bytes: reading from its beginning comes to the same place, whatever follows.
 pub fn exchange_is_reached()
     ensures { (t : Talk) (rest : List ℕ) → Fits t → read_from (origin t) (server_bytes (turns t) ++ rest) ≡ read_from t rest }
 {}
@@ -32,7 +32,7 @@ pub fn whole_exchange_is_cut()
         → cut (origin t ∷ ts) (server_bytes (turns t) ++ rest) ≡ onto t (cut ts rest) }
 {}
 
-/// What is read of an exchange stands in the bytes, and the reading stops only where nothing can be read.
+/// What is read of an exchange is in the bytes, and the reading stops only where nothing can be read.
 pub fn reading_is_sound()
     ensures { (t : Talk) (bytes : List ℕ) → AreBytes bytes → Fits t → IsRead t bytes (read_from t bytes) }
 {}

@@ -1,38 +1,58 @@
-//! What a client says of itself when a connection is made.
+//! What a client sends of itself when a connection is made.
 
 ghost use Rattle.std.specs.Prelude.{◌≡◌, ◌≤◌, [], IfOk, length, unwrap_or};
 ghost use Rattle.my_handshake.specs.Login.{response_bytes};
 ghost use Rattle.my_grammar.specs.Response.{charset_of, response, response_to};
 
 use crate::scramble::native_answer;
-use crate::texts::Texts;
 use my_command::{ClientPacket, write_client};
-use my_frame::{Blob, NoMemory, ReadError};
+use my_flags::{CapabilityFlags, MariadbCapabilities};
+use my_frame::{Blob, Copied, Listed, NoMemory, ReadError};
 use my_handshake::{
     Attributes, Greeting, HandshakeResponse, ServerVersion, read_greeting, server_version,
 };
-use std::alloc::{AllocError, Global};
+use std::alloc::Global;
 
 /// What of the options a client needs to log in and to set its connection up.
-#[derive(Debug, Drop)]
+#[derive(Debug, Drop, PartialEq, Eq)]
 pub struct Login {
     pub user: Option<Blob>,
     pub password: Option<Blob>,
     pub database: Option<Blob>,
-    /// The longest payload that the client reads, as it tells the server, in bytes.
+    /// The longest payload that the client reads, as it sends it to the server, in bytes.
     pub max_packet: u32,
     /// Names and values that the server keeps for its statistics.
     pub attributes: Attributes,
-    /// The bits of what the client can do.
-    pub capabilities: u32,
+    /// What the client can do.
+    pub capabilities: CapabilityFlags,
     /// The longest payload after the login, in bytes. Where none is set, the server is asked.
     pub packet_limit: Option<u64>,
-    /// After so many seconds without a command the server ends the connection. Where none is set, the server is asked.
+    /// After this many seconds without a command the server ends the connection. Where none is set, the server is asked.
     pub wait_timeout: Option<u64>,
     /// Queries that set a connection up when it is made, from the last to the first.
-    pub init: Texts,
+    pub init: Listed<Blob>,
     /// Queries that set a connection up when it is made and whenever it is reset, after the others, from the last to the first.
-    pub setup: Texts,
+    pub setup: Listed<Blob>,
+}
+
+impl Login {
+    /// A second value of the same login.
+    pub fn copy(&self, alloc: Global) -> Result<Login, NoMemory>
+        ensures { IfOk result (λ copy. copy ≡ self.now) }
+    {
+        Ok(Login {
+            user: self.user.copy(alloc)?,
+            password: self.password.copy(alloc)?,
+            database: self.database.copy(alloc)?,
+            max_packet: self.max_packet,
+            attributes: self.attributes.copy(alloc)?,
+            capabilities: self.capabilities,
+            packet_limit: self.packet_limit,
+            wait_timeout: self.wait_timeout,
+            init: self.init.copy(alloc)?,
+            setup: self.setup.copy(alloc)?,
+        })
+    }
 }
 
 // The number of the character set: utf8mb4 where the server knows it.
@@ -49,7 +69,7 @@ fn charset_for(version: ServerVersion) -> u8
     }
 }
 
-fn text_or_none(alloc: Global, text: &Option<Blob>) -> Result<Blob, AllocError>
+fn text_or_none(alloc: Global, text: &Option<Blob>) -> Result<Blob, NoMemory>
     ensures { IfOk result (λ copy. copy ≡ unwrap_or text.now []) }
 {
     match text {
@@ -63,16 +83,16 @@ fn response_to(
     alloc: Global,
     login: &Login,
     greeting: &Greeting,
-) -> Result<HandshakeResponse, AllocError>
+) -> Result<HandshakeResponse, NoMemory>
     ensures value { IfOk result (λ packet. packet ≡ response_to login.now greeting.now) }
     ensures short { IfOk result (λ packet. length packet.scramble ≤ 20) }
 {
     let scramble = native_answer(alloc, &login.password, greeting.nonce.as_slice())?;
     Ok(HandshakeResponse {
-        capabilities: login.capabilities & greeting.capabilities,
+        capabilities: login.capabilities.intersection(greeting.capabilities),
         max_packet: login.max_packet,
         charset: charset_for(server_version(greeting.version.as_slice())),
-        extended: 0,
+        extended: MariadbCapabilities(0),
         user: text_or_none(alloc, &login.user)?,
         scramble,
         database: text_or_none(alloc, &login.database)?,

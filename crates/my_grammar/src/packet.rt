@@ -1,11 +1,26 @@
 //! A payload with what it is.
 
-use crate::spot::Kind;
-use my_frame::Blob;
+ghost use Rattle.std.specs.Prelude.{◌≡◌, IfOk};
 
-/// A payload of the server, and what it was where it stood.
-#[derive(Debug, Drop)]
+use crate::spot::Kind;
+use my_frame::{Blob, NoMemory};
+use std::alloc::Global;
+
+/// A payload of the server, and what it was in its context.
+#[derive(Debug, Drop, PartialEq, Eq)]
 pub struct Packet {
     pub kind: Kind,
     pub payload: Blob,
+}
+
+impl Packet {
+    /// A second value of the same packet.
+    pub fn copy(&self, alloc: Global) -> Result<Packet, NoMemory>
+        ensures { IfOk result (λ copy. copy ≡ self.now) }
+    {
+        Ok(Packet {
+            kind: self.kind,
+            payload: self.payload.copy(alloc)?,
+        })
+    }
 }

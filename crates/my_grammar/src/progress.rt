@@ -17,7 +17,7 @@ use my_frame::{Blob, CodecError, FramedPayload, NoMemory, payload_in_front};
 use std::alloc::Global;
 
 /// How an exchange begins: with the server's greeting, or with a command.
-#[derive(Debug, Drop)]
+#[derive(Debug, Drop, PartialEq, Eq)]
 pub enum Opening {
     Connect,
     /// A command that one OK or ERR answers.
@@ -28,20 +28,40 @@ pub enum Opening {
     Silent { terms: Terms, command: Blob },
 }
 
+impl Opening {
+    /// A second value of the same opening.
+    pub fn copy(&self, alloc: Global) -> Result<Opening, NoMemory>
+        ensures { IfOk result (λ copy. copy ≡ self.now) }
+    {
+        match self {
+            Opening::Connect => Ok(Opening::Connect),
+            Opening::Simple { terms, command } => Ok(Opening::Simple {
+                terms: *terms,
+                command: command.copy(alloc)?,
+            }),
+            Opening::Query { terms, command } => Ok(Opening::Query {
+                terms: *terms,
+                command: command.copy(alloc)?,
+            }),
+            Opening::Silent { terms, command } => Ok(Opening::Silent {
+                terms: *terms,
+                command: command.copy(alloc)?,
+            }),
+        }
+    }
+}
+
 /// An exchange as far as it is read.
 #[derive(Drop)]
 pub struct Progress {
     pub context: Context,
-    /// The number of the next chunk.
+    /// The sequence id of the next packet.
     pub number: u8,
     /// The server's payloads in order.
     pub packets: Vec<Packet>,
-    /// What the client said.
+    /// The bytes that the client sent.
     pub sent: Queue,
 }
-
-/// The longest payload that is read until the settings are known, in bytes.
-pub const DEFAULT_LIMIT: u64 = 4_194_304;
 
 fn asked(alloc: Global, spot: Spot, terms: Terms, command: &[u8]) -> Result<Progress, NoMemory>
     ensures { IfOk result (λ p. (p.context ≡ record { spot = spot; columns = 0; terms = terms }) × (p.number ≡ number_after_payload command.now 0) × (p.packets.items ≡ []) × (p.sent ≡ [] ++ chunks command.now 0)) }
@@ -97,14 +117,7 @@ impl Progress {
     {
         match opening {
             Opening::Connect => Ok(Progress {
-                context: Context {
-                    spot: Spot::Greeting,
-                    columns: 0,
-                    terms: Terms {
-                        kept: login.capabilities,
-                        limit: DEFAULT_LIMIT,
-                    },
-                },
+                context: Context::start(login),
                 number: 0,
                 packets: Vec::new(alloc),
                 sent: Queue::new(alloc),
@@ -121,7 +134,7 @@ impl Progress {
         }
     }
 
-    // What the client says to a payload: its response to a greeting.
+    // What the client sends after a payload: its response to a greeting.
     fn say(
         &mut self,
         alloc: Global,
@@ -145,7 +158,7 @@ impl Progress {
         Ok(())
     }
 
-    // A payload of this kind is heard.
+    // A payload of this kind is read.
     fn hear(
         &mut self,
         alloc: Global,
@@ -165,8 +178,8 @@ impl Progress {
         Ok(())
     }
 
-    /// Hears the payload in front of the bytes, if one may stand there, and answers how many bytes
-    /// its chunks take. `None` where none may: then nothing changes.
+    /// Reads the payload that the bytes begin with, and returns how many bytes its packets take.
+    /// `None` where no payload fits: then nothing changes.
     pub(crate) fn hear_one(
         &mut self,
         alloc: Global,

@@ -8,7 +8,7 @@ use my_frame::{NoMemory, append_payload};
 use std::alloc::Global;
 use std::marker::Model;
 
-/// Bytes in order, which contracts see as their list. What went out leaves room for what comes in:
+/// Bytes in order, which contracts see as their list. What is taken out leaves room for what is put in:
 /// over a whole stream each byte is moved a bounded number of times.
 #[derive(Drop)]
 pub struct Queue {
@@ -51,7 +51,7 @@ impl Queue {
         self.bytes.is_empty()
     }
 
-    /// Takes so many bytes out at the front.
+    /// Takes `count` bytes out at the front.
     pub fn skip(&mut self, count: usize)
         requires { count ≤ length self.old }
         ensures { self.new ≡ drop count self.old }
@@ -75,8 +75,8 @@ impl Queue {
         Ok(())
     }
 
-    /// Puts a payload's chunks in at the end, numbered from `number` on, and answers the number
-    /// after theirs.
+    /// Puts a payload's packets in at the end, with sequence ids from `number` on, and returns the
+    /// next one.
     pub fn push_payload(&mut self, payload: &[u8], number: u8) -> Result<u8, NoMemory>
         ensures ok { IfOk result (λ next. (self.new ≡ self.old ++ chunks payload.now number)
             × (next ≡ number_after_payload payload.now number)) }

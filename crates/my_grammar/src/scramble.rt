@@ -3,7 +3,7 @@
 ghost use Rattle.std.specs.Prelude.{◌≡◌, ◌≤◌, IfOk, length};
 ghost use Rattle.my_grammar.specs.Scramble.{native_answer, native_scramble, xor_bytes};
 
-use my_frame::Blob;
+use my_frame::{Blob, NoMemory};
 use sha1::Sha1;
 use std::alloc::{AllocError, Global};
 
@@ -33,11 +33,7 @@ fn native_scramble(alloc: Global, password: &[u8], nonce: &[u8]) -> Result<Vec<u
 }
 
 /// The answer of `mysql_native_password`, of at most 20 bytes: an empty one without a password.
-pub fn native_answer(
-    alloc: Global,
-    password: &Option<Blob>,
-    nonce: &[u8],
-) -> Result<Blob, AllocError>
+pub fn native_answer(alloc: Global, password: &Option<Blob>, nonce: &[u8]) -> Result<Blob, NoMemory>
     ensures value { IfOk result (λ answer. answer ≡ native_answer password.now nonce.now) }
     ensures short { IfOk result (λ answer. length answer ≤ 20) }
 {

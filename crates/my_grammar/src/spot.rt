@@ -1,13 +1,11 @@
-//! Where the reading of an exchange stands, and how it moves on with each payload.
+//! The place of the reading in an exchange, and how it moves on with each payload.
 
-ghost use Rattle.std.specs.Prelude.{◌≡◌, bit_and};
-ghost use Rattle.my_grammar.specs.Contexts.{after_column, after_columns, after_greeting, after_head, after_row, columns_after, context_after, deprecates_eof, has_more, more, spot_after, kept_after};
+ghost use Rattle.std.specs.Prelude.{◌≡◌};
+ghost use Rattle.my_grammar.specs.Contexts.{after_column, after_columns, after_greeting, after_head, after_row, columns_after, context_after, more, spot_after, kept_after};
 
-/// The capability of a server that ends a set with an OK and tells no end of its columns.
-pub const DEPRECATE_EOF: u32 = 0x100_0000;
-
-/// The status of an OK or a set's end after which another set follows.
-pub const MORE_RESULTS: u16 = 8;
+use crate::login::Login;
+use my_flags::{CapabilityFlags, StatusFlags};
+use my_frame::limits::DEFAULT_MAX_ALLOWED_PACKET;
 
 /// What the reading awaits.
 #[derive(Clone, Copy, Debug, PartialEq, Eq)]
@@ -16,7 +14,7 @@ pub enum Spot {
     Idle,
     /// The server's greeting, with which a connection begins.
     Greeting,
-    /// What the server says to the answer that its greeting got.
+    /// The server's answer to the client's response to its greeting.
     Authentication,
     /// The one OK or ERR that answers a simple command.
     Single,
@@ -24,7 +22,7 @@ pub enum Spot {
     Head,
     /// The head of a further set.
     Further,
-    /// So many column packets, at least one.
+    /// This many column packets, at least one.
     Columns(u16),
     /// The EOF after the columns, which a server sends that doesn't deprecate it.
     ColumnsEnd,
@@ -32,16 +30,16 @@ pub enum Spot {
     Rows,
 }
 
-/// What a payload is, where the reading stands.
+/// What a payload is in its context.
 #[derive(Clone, Copy, Debug, PartialEq, Eq)]
 pub enum Kind {
     /// A greeting, of a server with these capabilities.
-    Greets(u32),
+    Greets(CapabilityFlags),
     /// An OK with this status.
-    Good(u16),
+    Good(StatusFlags),
     /// An ERR.
     Failed,
-    /// A set's head: so many columns follow, at least one.
+    /// A set's head, with the number of columns that follow, at least one.
     Count(u16),
     /// A column.
     Column,
@@ -50,16 +48,16 @@ pub enum Kind {
     /// A row.
     Row,
     /// A set's end with this status.
-    End(u16),
-    /// Nothing that may stand there.
+    End(StatusFlags),
+    /// Nothing that fits there.
     Bad,
 }
 
 /// What client and server keep to in an exchange.
 #[derive(Clone, Copy, Debug, PartialEq, Eq)]
 pub struct Terms {
-    /// The capabilities of both, as far as both have told them.
-    pub kept: u32,
+    /// The capabilities of both, as far as both have sent them.
+    pub kept: CapabilityFlags,
     /// The length of the longest payload that is read, in bytes.
     pub limit: u64,
 }
@@ -73,24 +71,10 @@ pub struct Context {
     pub terms: Terms,
 }
 
-/// Whether sets end with an OK, so that no EOF follows the columns.
-pub fn ends_with_ok(kept: u32) -> bool
-    ensures { result ≡ deprecates_eof kept }
-{
-    kept & DEPRECATE_EOF == DEPRECATE_EOF
-}
-
-/// Whether another set follows after an OK or a set's end with this status.
-pub fn has_further_set(status: u16) -> bool
-    ensures { result ≡ has_more status }
-{
-    status & MORE_RESULTS == MORE_RESULTS
-}
-
-fn after_end(status: u16) -> Spot
+fn after_end(status: StatusFlags) -> Spot
     ensures { result ≡ more status }
 {
-    if has_further_set(status) {
+    if status.has_more_results() {
         Spot::Further
     } else {
         Spot::Idle
@@ -169,22 +153,38 @@ fn next_columns(columns: u16, kind: Kind) -> u16
     }
 }
 
-fn next_kept(kept: u32, kind: Kind) -> u32
+fn next_kept(kept: CapabilityFlags, kind: Kind) -> CapabilityFlags
     ensures { result ≡ kept_after kept kind }
 {
     match kind {
-        Kind::Greets(capabilities) => kept & capabilities,
+        Kind::Greets(capabilities) => kept.intersection(capabilities),
         _ => kept,
     }
 }
 
 impl Context {
+    ghost use Rattle.my_grammar.specs.Talk.{Start, context_of};
+
+    /// Where the reading of a connection begins.
+    pub fn start(login: &Login) -> Context
+        ensures { result ≡ context_of (Start login.now) }
+    {
+        Context {
+            spot: Spot::Greeting,
+            columns: 0,
+            terms: Terms {
+                kept: login.capabilities,
+                limit: DEFAULT_MAX_ALLOWED_PACKET,
+            },
+        }
+    }
+
     /// Where the reading follows a payload of this kind.
     pub fn after(self, kind: Kind) -> Context
         ensures { result ≡ context_after self kind }
     {
         Context {
-            spot: next_spot(ends_with_ok(self.terms.kept), self.spot, kind),
+            spot: next_spot(self.terms.kept.deprecates_eof(), self.spot, kind),
             columns: next_columns(self.columns, kind),
             terms: Terms {
                 kept: next_kept(self.terms.kept, kind),

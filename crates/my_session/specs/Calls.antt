@@ -18,12 +18,8 @@ kind_of calls.Quit = Quit
 
 -- the text that a call carries
 abbrev pub text_of : Call → List ℕ → List ℕ
-text_of calls.Connect old = old
 text_of (calls.Query text) old = text
-text_of calls.NextRow old = old
-text_of calls.DropResult old = old
-text_of calls.Ping old = old
-text_of calls.Quit old = old
+text_of _ old = old
 
 -- the call of this kind, with the text that it carries where it carries one
 abbrev pub call_of : CallKind → List ℕ → Call
@@ -48,48 +44,24 @@ kind_in (Failing c fault) = Some c
 
 abbrev pub is_open : Task → Bool
 is_open Nothing = false
-is_open (Begun c) = true
-is_open (Cleaning c) = true
-is_open (Own c) = true
-is_open (Arranging n) = true
-is_open Reading = true
-is_open Dropping = true
-is_open Leaving = true
-is_open (Failing c fault) = true
+is_open _ = true
 
 -- the calls that send a command of their own
 abbrev pub asks : CallKind → Bool
-asks Connect = false
 asks Query = true
-asks NextRow = false
-asks DropResult = false
 asks Ping = true
 asks Quit = true
+asks _ = false
 
 abbrev pub is_connect : CallKind → Bool
 is_connect Connect = true
-is_connect Query = false
-is_connect NextRow = false
-is_connect DropResult = false
-is_connect Ping = false
-is_connect Quit = false
+is_connect _ = false
 
 abbrev pub is_quit : CallKind → Bool
-is_quit Connect = false
-is_quit Query = false
-is_quit NextRow = false
-is_quit DropResult = false
-is_quit Ping = false
 is_quit Quit = true
+is_quit _ = false
 
--- the fault of a call that was told to fail
+-- the fault of a call that was made to fail
 abbrev pub fault_in : Task → Option LinkFault
-fault_in Nothing = None
-fault_in (Begun c) = None
-fault_in (Cleaning c) = None
-fault_in (Own c) = None
-fault_in (Arranging n) = None
-fault_in Reading = None
-fault_in Dropping = None
-fault_in Leaving = None
 fault_in (Failing c fault) = Some fault
+fault_in _ = None

@@ -1,6 +1,7 @@
--- Why a call was told an error, in the words of what the grammar finds in the bytes taken.
--- MySQL client/server protocol, "MySQL Packets" (numbers and lengths of chunks) and "ERR_Packet".
+-- Why a call returned an error, in the words of what the grammar finds in the bytes taken.
+-- MySQL client/server protocol, "MySQL Packets" (sequence ids and lengths of packets) and "ERR_Packet".
 use Rattle.std.specs.Prelude.{◌≡◌, ℕ, ◌-◌, ◌^◌, ◌<◌, min, List, [], ◌∷◌, ◌++◌, ◌⊎◌, length, Some, true, false}
+use Rattle.my_flags.specs.declared.flags.CapabilityFlags.{CapabilityFlags}
 use Rattle.my_frame.specs.declared.fault.CodecFault.{CodecFault}
 use Rattle.my_frame.specs.declared.fault.CodecFault.TheVariants.{TooLarge}
 use Rattle.my_reply.specs.declared.err.ErrPacket.{ErrPacket}
@@ -41,7 +42,7 @@ use Rattle.my_session.specs.Steps.{moved}
 abbrev pub found : List Entry → List ℕ → Cut
 found es taken = cut (in_order (origins es)) taken
 
--- how many whole payloads were read, as an error tells it: the count stays at its last value
+-- how many whole payloads were read, as an error has it: the count stays at its last value
 abbrev pub place_in : List Entry → ℕ
 place_in es = min (place_of (in_order (talks es))) (2 ^ 64 - 1)
 
@@ -50,7 +51,7 @@ pub record Stops (es : List Entry) (taken : List ℕ) (rest : Rest) : Type 0 whe
   pub talks_are : (found es taken).talks ≡ in_order (talks es)
   pub rest_is : (found es taken).rest ≡ rest
 
--- after what was read stands a whole payload that fits no case there
+-- after what was read follows a whole payload that fits no case there
 pub record IsUnfit (es : List Entry) (taken unread : List ℕ) : Type 0 where
   pub payload : List ℕ
   pub stops : Stops es taken (Unfit payload unread)
@@ -64,18 +65,18 @@ pub record IsLongCommand (s : Seen) (h : History) (es : List Entry) (fault : Cod
   pub above : (terms_by s.login es).limit < length (command_in talk)
   pub fault_is : fault ≡ TooLarge (length (command_in talk)) (terms_by s.login es).limit
 
--- The greeting stands in front, and the client's response to it is longer than a payload may be.
+-- The greeting follows, and the client's response to it is longer than a payload may be.
 pub record IsLongResponse (s : Seen) (talk : Talk) (fault : CodecFault) : Type 0 where
   pub payload : List ℕ
   pub rest : List ℕ
   pub number : ℕ
-  pub capabilities : ℕ
+  pub capabilities : CapabilityFlags
   pub front : front_of talk s.unread ≡ Whole payload rest number
   pub kind : kind_of talk payload ≡ Greets capabilities
   pub above : limit_of talk < length (response s.login payload)
   pub fault_is : fault ≡ TooLarge (length (response s.login payload)) (limit_of talk)
 
--- An ERR that says this stands in front, and the grammar finds it as the end of the newest exchange.
+-- An ERR that says this follows, and the grammar finds it as the end of the newest exchange.
 pub record IsRefused (s : Seen) (h : History) (newest : Entry) (older : List Entry) (error : ServerError) : Type 0 where
   pub payload : List ℕ
   pub rest : List ℕ
@@ -88,7 +89,7 @@ pub record IsRefused (s : Seen) (h : History) (newest : Entry) (older : List Ent
   pub talks_are : (found (newest ∷ older) h.taken).talks ≡ in_order (talks older) ++ grow Failed newest.talk payload ∷ []
   pub rest_is : (found (newest ∷ older) h.taken).rest ≡ Trailing rest
 
--- The call was told to fail; the link's end was told, while a payload was awaited that isn't whole; a payload fits no case. No other.
+-- The call was made to fail; the link reported its end, while a payload was awaited that isn't whole; a payload fits no case. No other.
 abbrev pub IoCause : Seen → History → List Entry → IoKind → Type 0
 IoCause s h es Link = fault_in s.task ≡ Some faults.Link
 IoCause s h es Dial = ⊥
@@ -99,7 +100,7 @@ IoCause s h es InvalidData = IsUnfit es h.taken s.unread
 abbrev pub CodecCause : Seen → History → Entry → List Entry → CodecFault → Type 0
 CodecCause s h newest older fault = Stops (newest ∷ older) h.taken (Blamed fault s.unread) ⊎ (IsLongCommand s h (newest ∷ older) fault ⊎ IsLongResponse s newest.talk fault)
 
--- A refusal of a closed session is told as a call begins, and by no step.
+-- A closed session refuses as a call begins, and in no step.
 abbrev pub DriverCause : Seen → DriverError → Type 0
 DriverCause s drivers.TooLong = fault_in s.task ≡ Some faults.TooLong
 DriverCause s e = ⊥
@@ -108,7 +109,7 @@ abbrev pub IoErrorCause : Seen → History → Entry → List Entry → IoError 
 IoErrorCause s h newest older (ios.Io fault) = (fault.place ≡ place_in (newest ∷ older)) × IoCause s h (newest ∷ older) fault.kind
 IoErrorCause s h newest older (ios.Codec fault) = CodecCause s h newest older fault
 
--- why the open call is told this error; want of memory is free
+-- why the open call returns this error; out of memory is free
 abbrev pub Cause : Seen → History → Entry → List Entry → Error → Type 0
 Cause s h newest older (errors.Driver e) = DriverCause s e
 Cause s h newest older (errors.Io e) = IoErrorCause s h newest older e
@@ -123,17 +124,15 @@ pub record Because (s : Seen) (h : History) (e : Error) : Type 0 where
 abbrev pub EachFault : Type 0
 EachFault = (s : Seen) (h : History) → Stands s h → is_open s.task ≡ true → (e : Error) → (next s).does ≡ Tells (ToldError e) → Because s h e
 
--- Word that nothing is left: all that the grammar finds was read, its newest exchange is over, and no end is left to be told.
+-- The answer that nothing is left: all that the grammar finds was read, its newest exchange is over, and no end is left to be returned.
 pub record NothingLeft (s : Seen) (h : History) : Type 0 where
   pub says : Says s h
   pub stops : Stops (says.newest ∷ says.older) h.taken (Trailing s.unread)
   pub told : s.untold ≡ false
 
 abbrev pub AnswerCause : Seen → History → Answer → Type 0
-AnswerCause s h answers.Ready = Unit {0}
-AnswerCause s h (answers.Row row) = Unit {0}
-AnswerCause s h answers.SetEnd = Unit {0}
 AnswerCause s h answers.NoSet = NothingLeft s h
+AnswerCause s h _ = Unit {0}
 
 abbrev pub EndCause : Seen → History → SessionStep → Type 0
 EndCause s h steps.Send = Unit {0}
@@ -141,7 +140,7 @@ EndCause s h steps.Need = Unit {0}
 EndCause s h (steps.Done a) = AnswerCause s h a
 EndCause s h (steps.Fault e) = Because s h e
 
--- The session as it stood when a step ended, after so many moves of the same call.
+-- The session as it was when a step ended, after count moves of the same call.
 pub record HasCause (old : Seen) (h : History) (step : SessionStep) : Type 0 where
   pub here : Seen
   pub count : ℕ

@@ -1,30 +1,21 @@
--- The command that a call sends, as the exchange that it begins.
+-- The command that a call sends, as the exchange that it begins with a client's packet.
 -- MySQL internals, "Text Protocol" and "Utility Commands": COM_QUERY, COM_PING, COM_QUIT.
 use Rattle.std.specs.Prelude.{ℕ, zero, suc, List, [], ◌∷◌, ◌++◌, reverse, slice_get, codes, Option, Some, None}
+use Rattle.my_command.specs.declared.client.ClientPacket.TheVariants as packets
+use Rattle.my_command.specs.Client.Packet.{client_bytes as packet_bytes}
 use Rattle.my_grammar.specs.declared.login.Login.{Login}
 use Rattle.my_grammar.specs.declared.spot.Terms.{Terms}
 use Rattle.my_grammar.specs.Sets.{NoSets}
-use Rattle.my_grammar.specs.Talk.{Talk, Start, Unwelcome, Greeted, Settled, Asked, Replied, Queried, Silent}
+use Rattle.my_grammar.specs.Talk.{Talk, Start, Asked, Replied, Queried, Silent}
 use Rattle.my_session.specs.declared.call.Call.{Call}
 use Rattle.my_session.specs.declared.call.Call.TheVariants.{Connect, Query, NextRow, DropResult, Ping, Quit}
 
-abbrev pub query_command : List ℕ → List ℕ
-query_command text = 3 ∷ text
-
-abbrev pub ping_command : List ℕ
-ping_command = 14 ∷ []
-
-abbrev pub quit_command : List ℕ
-quit_command = 1 ∷ []
-
 -- the exchange of the command of a call that sends one, between client and server that keep to these terms
 abbrev pub command_of : Terms → Call → Option Talk
-command_of terms Connect = None
-command_of terms (Query text) = Some (Queried terms (query_command text) NoSets)
-command_of terms NextRow = None
-command_of terms DropResult = None
-command_of terms Ping = Some (Asked terms ping_command)
-command_of terms Quit = Some (Silent terms quit_command)
+command_of terms (Query text) = Some (Queried terms (packet_bytes (packets.Query text)) NoSets)
+command_of terms Ping = Some (Asked terms (packet_bytes packets.Ping))
+command_of terms Quit = Some (Silent terms (packet_bytes packets.Quit))
+command_of terms _ = None
 
 -- what the server is asked for: the settings that the options leave open
 abbrev pub settings_text : Option ℕ → Option ℕ → Option (List ℕ)
@@ -46,12 +37,12 @@ abbrev pub query_of : Terms → Option (List ℕ) → Option Talk
 query_of terms None = None
 query_of terms (Some text) = command_of terms (Query text)
 
--- the exchange that connecting begins after so many others: the login, and after it each of these queries
+-- the exchange that connecting begins after n others: the login, and after it each of these queries
 abbrev pub connecting : Login → Terms → ℕ → Option Talk
 connecting login terms zero = Some (Start login)
 connecting login terms (suc n) = query_of terms (slice_get (arranging_texts login) n)
 
--- the exchange that a call begins, if it begins one: connecting begins several, and so many stand before it
+-- the exchange that a call begins, if it begins one: connecting begins several, and n of them came before
 abbrev pub opening : Login → Terms → Call → ℕ → Option Talk
 opening login terms Connect n = connecting login terms n
 opening login terms (Query text) n = command_of terms (Query text)
@@ -62,11 +53,8 @@ opening login terms Quit n = command_of terms Quit
 
 -- the command with which an exchange began, if the client began it
 abbrev pub command_in : Talk → List ℕ
-command_in (Start login) = []
-command_in (Unwelcome login p) = []
-command_in (Greeted login p capabilities) = []
-command_in (Settled login p capabilities last kind) = []
 command_in (Asked terms c) = c
 command_in (Replied terms c last kind) = c
 command_in (Queried terms c sets) = c
 command_in (Silent terms c) = c
+command_in _ = []

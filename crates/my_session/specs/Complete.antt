@@ -21,7 +21,7 @@ pub record AreWhole (es : List Entry) (own : List Talk) (bytes : List ℕ) : Typ
   pub rest_is : (cut (in_order (origins es) ++ own) bytes).rest ≡ Trailing []
   pub no_error : errors_along (cut (in_order (origins es) ++ own) bytes).talks ≡ errors_along (in_order (talks es))
 
--- What is left then: the call was told to fail, the link's end was told, or a command or response is longer than the limit.
+-- What is left then: the call was made to fail, the link reported its end, or a command or response is longer than the limit.
 abbrev pub OutsideKind : Seen → History → IoKind → Type 0
 OutsideKind s h Link = fault_in s.task ≡ Some faults.Link
 OutsideKind s h Dial = ⊥

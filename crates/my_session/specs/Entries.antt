@@ -1,14 +1,15 @@
 -- The exchanges of a session, the newest first, and the command table.
 use Rattle.std.specs.Prelude.{◌≡◌, ℕ, suc, List, [], ◌∷◌, ◌++◌, Option, Some, None, Bool, true, false, not, ◌||◌, ◌⊎◌, if◌then◌else◌}
+use Rattle.my_flags.specs.declared.flags.CapabilityFlags.{CapabilityFlags}
+use Rattle.my_flags.specs.Sets.{deprecates_eof}
 use Rattle.my_grammar.specs.declared.login.Login.{Login}
 use Rattle.my_grammar.specs.declared.packet.Packet.{Packet}
 use Rattle.my_grammar.specs.declared.spot.Spot.TheVariants.{Idle}
 use Rattle.my_grammar.specs.declared.spot.Terms.{Terms}
-use Rattle.my_grammar.specs.Contexts.{deprecates_eof}
 use Rattle.my_grammar.specs.FitSets.{FitSets}
 use Rattle.my_grammar.specs.Growth.{not_greets}
 use Rattle.my_grammar.specs.Sets.{Sets, NoSets}
-use Rattle.my_grammar.specs.Talk.{Talk, Start, Unwelcome, Greeted, Settled, Asked, Replied, Queried, Silent, turns, server_bytes, client_bytes, context_of, packets_of, Fits, origin}
+use Rattle.my_grammar.specs.Talk.{Talk, Queried, turns, server_bytes, client_bytes, context_of, packets_of, Fits, origin}
 use Rattle.my_session.specs.declared.call.Call.{Call}
 use Rattle.my_session.specs.declared.call.CallKind.{CallKind}
 use Rattle.my_session.specs.declared.call.CallKind.TheVariants as callkinds
@@ -17,7 +18,7 @@ use Rattle.my_session.specs.Calls.{kind_of, is_connect}
 use Rattle.my_session.specs.Commands.{opening}
 use Rattle.my_session.specs.Facts.{first_facts, facts_by}
 use Rattle.my_session.specs.Groups.{Group, groups, IsEarlier}
-use Rattle.my_session.specs.History.{Made, Told, ToldReady, ToldRow, ToldEnd, ToldNone, ToldError, Dropped}
+use Rattle.my_session.specs.History.{Made, Told, ToldReady}
 
 -- an exchange, the call that began it, and what this call and later ones were given of it, if it is a query that was answered
 pub record Entry : Type 0 where
@@ -34,13 +35,13 @@ abbrev pub sent_by : List Entry → List ℕ
 sent_by [] = []
 sent_by (e ∷ es) = sent_by es ++ client_bytes (turns e.talk)
 
--- what the server told in them
+-- what the server sent in them
 abbrev pub facts_of : Login → List Entry → Facts
 facts_of login [] = first_facts login
 facts_of login (e ∷ es) = facts_by (packets_of e.talk) (facts_of login es)
 
 -- the capabilities that both sides keep
-abbrev pub kept_by : Login → List Entry → ℕ
+abbrev pub kept_by : Login → List Entry → CapabilityFlags
 kept_by login [] = login.capabilities
 kept_by login (e ∷ es) = (context_of e.talk).terms.kept
 
@@ -72,27 +73,15 @@ abbrev pub is_answered : Talk → Bool
 is_answered t = ends_answered (packets_of t)
 
 abbrev pub sets_of : Talk → Sets
-sets_of (Start login) = NoSets
-sets_of (Unwelcome login p) = NoSets
-sets_of (Greeted login p capabilities) = NoSets
-sets_of (Settled login p capabilities last kind) = NoSets
-sets_of (Asked terms c) = NoSets
-sets_of (Replied terms c last kind) = NoSets
 sets_of (Queried terms c sets) = sets
-sets_of (Silent terms c) = NoSets
+sets_of _ = NoSets
 
 -- whether the server ends the sets by an OK; where there are none, it doesn't matter
 abbrev pub ends_with_ok : Talk → Bool
-ends_with_ok (Start login) = true
-ends_with_ok (Unwelcome login p) = true
-ends_with_ok (Greeted login p capabilities) = true
-ends_with_ok (Settled login p capabilities last kind) = true
-ends_with_ok (Asked terms c) = true
-ends_with_ok (Replied terms c last kind) = true
 ends_with_ok (Queried terms c sets) = deprecates_eof terms.kept
-ends_with_ok (Silent terms c) = true
+ends_with_ok _ = true
 
--- what was given is what stood in the response at some moment
+-- what was given is what the response was at some moment
 abbrev pub IsGiven : Option (List Group) → Talk → Type 0
 IsGiven None t = Unit {0}
 IsGiven (Some g) t = (y : Sets) × IsEarlier (ends_with_ok t) y (sets_of t) × (g ≡ groups y) × FitSets (ends_with_ok t) y
@@ -111,20 +100,14 @@ givens (e ∷ es) = onto e.given (givens es)
 
 -- the calls that are answered only after an exchange of their own
 abbrev pub needs_own : CallKind → Bool
-needs_own callkinds.Connect = true
-needs_own callkinds.Query = true
 needs_own callkinds.NextRow = false
 needs_own callkinds.DropResult = false
-needs_own callkinds.Ping = true
 needs_own callkinds.Quit = false
+needs_own _ = true
 
 abbrev pub may_lack : Told → CallKind → Bool
 may_lack ToldReady c = not (needs_own c)
-may_lack (ToldRow row) c = true
-may_lack ToldEnd c = true
-may_lack ToldNone c = true
-may_lack (ToldError e) c = true
-may_lack (Dropped closing) c = true
+may_lack _ c = true
 
 abbrev pub calls_in : List Entry → List Call
 calls_in [] = []

@@ -14,15 +14,13 @@ use Rattle.my_session.specs.declared.error.IoError.TheVariants as ios
 use Rattle.my_session.specs.declared.error.ServerError.{ServerError}
 
 abbrev pub is_fatal : Error → Bool
-is_fatal (Driver e) = true
-is_fatal (Io e) = true
 is_fatal (Server e) = false
-is_fatal NoMemory = true
+is_fatal _ = true
 
 abbrev pub io_error : IoKind → ℕ → Error
 io_error kind place = Io (ios.Io (record { kind = kind; place = place }))
 
--- a payload that fits no case, after so many
+-- a payload that fits no case, after place others
 abbrev pub invalid_data : ℕ → Error
 invalid_data place = io_error InvalidData place
 
@@ -36,7 +34,7 @@ codec_error fault = Io (ios.Codec fault)
 abbrev pub connection_closed : Error
 connection_closed = Driver ConnectionClosed
 
--- what a call that was told to fail is told
+-- what a call that was made to fail returns
 abbrev pub link_error : LinkFault → ℕ → Error
 link_error faults.Link place = io_error Link place
 link_error faults.TooLong place = Driver TooLong

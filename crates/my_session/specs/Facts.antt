@@ -1,6 +1,7 @@
--- What the server's payloads tell a client, as a fold over them.
+-- What a client learns from the server's payloads, as a fold over them.
 -- MySQL internals, "Protocol::Handshake" (version and connection id), "OK_Packet", "ERR_Packet" and "Text Resultset".
 use Rattle.std.specs.Prelude.{ℕ, ◌+◌, ◌-◌, ◌^◌, min, List, [], ◌∷◌, ◌++◌, nat_le, Option, Some, None, if◌then◌else◌}
+use Rattle.my_flags.specs.declared.flags.StatusFlags.{StatusFlags}
 use Rattle.my_reply.specs.declared.ok.OkPacket.{OkPacket}
 use Rattle.my_handshake.specs.declared.greeting.Greeting.{Greeting}
 use Rattle.my_reply.specs.declared.column.Column.{Column}
@@ -16,24 +17,28 @@ use Rattle.my_session.specs.declared.settings.Settings.{Settings}
 use Rattle.my_session.specs.Rows.{row_at}
 use Rattle.my_session.specs.Settings.{first_settings, good_settings, end_settings, row_settings}
 
--- before the server said anything
+-- no status bits
+abbrev pub no_status : StatusFlags
+no_status = record { 0 = 0 }
+
+-- before the first payload
 abbrev pub first_facts : Login → Facts
-first_facts login = record { version = []; connection = 0; status = 0; ok = None; left = 0; gathered = []; columns = []; settings = first_settings login; place = 0 }
+first_facts login = record { version = []; connection = 0; status = no_status; ok = None; left = 0; gathered = []; columns = []; settings = first_settings login; place = 0 }
 
 -- one payload more; the count stays at its last value
 abbrev pub counted : Facts → Facts
 counted f = record { version = f.version; connection = f.connection; status = f.status; ok = f.ok; left = f.left; gathered = f.gathered; columns = f.columns; settings = f.settings; place = min (f.place + 1) (2 ^ 64 - 1) }
 
--- a greeting tells the server's version and the connection's number
+-- a greeting has the server's version and the connection's number
 abbrev pub with_greeting : Option Greeting → Facts → Facts
 with_greeting None f = f
 with_greeting (Some g) f = record { version = g.version; connection = g.id; status = f.status; ok = f.ok; left = f.left; gathered = f.gathered; columns = f.columns; settings = f.settings; place = f.place }
 
--- an OK tells the status, and stays the last one; so does the OK that ends a set
-abbrev pub with_ok : Option OkPacket → ℕ → Facts → Facts
+-- an OK has the status, and stays the last one; so does the OK that ends a set
+abbrev pub with_ok : Option OkPacket → StatusFlags → Facts → Facts
 with_ok ok status f = record { version = f.version; connection = f.connection; status = status; ok = ok; left = f.left; gathered = f.gathered; columns = f.columns; settings = f.settings; place = f.place }
 
--- a head begins, of so many columns
+-- a head begins, of n columns
 abbrev pub with_count : ℕ → Facts → Facts
 with_count n f = record { version = f.version; connection = f.connection; status = f.status; ok = f.ok; left = n; gathered = []; columns = f.columns; settings = f.settings; place = f.place }
 
@@ -49,11 +54,11 @@ with_column (Some c) f =
 abbrev pub with_settings : Settings → Facts → Facts
 with_settings settings f = record { version = f.version; connection = f.connection; status = f.status; ok = f.ok; left = f.left; gathered = f.gathered; columns = f.columns; settings = settings; place = f.place }
 
--- what a payload of this kind tells; an ERR empties the status and leaves no last OK
+-- what a payload of this kind adds; an ERR empties the status and leaves no last OK
 abbrev pub told_after : Kind → List ℕ → Facts → Facts
 told_after (Greets capabilities) p f = with_greeting (greeting_at p) f
 told_after (Good status) p f = with_settings (good_settings f.settings.stage f.settings) (with_ok (ok_at p) status f)
-told_after Failed p f = with_ok None 0 f
+told_after Failed p f = with_ok None no_status f
 told_after (Count n) p f = with_count n f
 told_after ColumnKind p f = with_column (column_at p) f
 told_after ColumnsDone p f = f

@@ -3,9 +3,9 @@ use Rattle.std.specs.Prelude.{◌≡◌, ◌⊎◌, ℕ, Option, Some, None, Boo
 use Rattle.my_session.specs.declared.answer.SessionStep.{SessionStep}
 use Rattle.my_session.specs.declared.answer.SessionStep.TheVariants.{Send, Need, Done, Fault}
 use Rattle.my_session.specs.declared.call.CallKind.{CallKind}
-use Rattle.my_session.specs.declared.call.CallKind.TheVariants.{Connect, Query, NextRow, DropResult, Ping, Quit}
+use Rattle.my_session.specs.declared.call.CallKind.TheVariants.{NextRow}
 use Rattle.my_session.specs.declared.call.Task.{Task}
-use Rattle.my_session.specs.declared.call.Task.TheVariants.{Nothing, Begun, Cleaning, Own, Arranging, Reading, Dropping, Leaving, Failing}
+use Rattle.my_session.specs.declared.call.Task.TheVariants.{Begun}
 use Rattle.my_session.specs.declared.call.LinkFault.{LinkFault}
 use Rattle.my_session.specs.declared.error.Error.{Error}
 use Rattle.my_session.specs.declared.error.Error.TheVariants as errors
@@ -15,59 +15,44 @@ use Rattle.my_session.specs.declared.error.IoKind.{IoKind}
 use Rattle.my_session.specs.declared.error.IoKind.TheVariants as kinds
 use Rattle.my_session.specs.Calls.{kind_in, fault_in}
 use Rattle.my_session.specs.Errors.{link_error}
-use Rattle.my_session.specs.History.{History, Told, ToldReady, ToldRow, ToldEnd, ToldNone, ToldError, Dropped, told}
+use Rattle.my_session.specs.History.{History, Told, ToldReady, ToldError, Dropped, told}
 use Rattle.my_session.specs.Seen.{Seen}
 use Rattle.my_session.specs.Stands.{Stands}
 use Rattle.my_session.specs.Steps.{Steps}
 
 -- the one call that is answered by rows and ends
 abbrev pub reads : CallKind → Bool
-reads Connect = false
-reads Query = false
 reads NextRow = true
-reads DropResult = false
-reads Ping = false
-reads Quit = false
+reads _ = false
 
--- a read is told a row, an end, or that nothing is left; each other call is told that it is done; each may fail
+-- a read returns a row, an end, or that nothing is left; each other call returns that it is done; each may fail
 abbrev pub may_be : CallKind → Told → Bool
 may_be c ToldReady = not (reads c)
-may_be c (ToldRow row) = reads c
-may_be c ToldEnd = reads c
-may_be c ToldNone = reads c
 may_be c (ToldError e) = true
 may_be c (Dropped closing) = true
+may_be c _ = reads c
 
 abbrev pub may_be_told : Option CallKind → Told → Bool
 may_be_told None t = true
 may_be_told (Some c) t = may_be c t
 
 abbrev pub AnswerFits : Option CallKind → SessionStep → Type 0
-AnswerFits c Send = Unit {0}
-AnswerFits c Need = Unit {0}
 AnswerFits c (Done a) = may_be_told c (told a) ≡ true
-AnswerFits c (Fault e) = Unit {0}
+AnswerFits c _ = Unit {0}
 
 -- a call that was never stepped
 abbrev pub is_begun : Task → Bool
-is_begun Nothing = false
 is_begun (Begun c) = true
-is_begun (Cleaning c) = false
-is_begun (Own c) = false
-is_begun (Arranging n) = false
-is_begun Reading = false
-is_begun Dropping = false
-is_begun Leaving = false
-is_begun (Failing c fault) = false
+is_begun _ = false
 
--- a call that asks for something was stepped, and wasn't told to fail
+-- a call that asks for something was stepped, and wasn't made to fail
 abbrev pub WasStepped : Task → SessionStep → Type 0
 WasStepped t Send = (is_begun t ≡ false) × (fault_in t ≡ None)
 WasStepped t Need = (is_begun t ≡ false) × (fault_in t ≡ None)
 WasStepped t (Done a) = Unit {0}
 WasStepped t (Fault e) = Unit {0}
 
--- an error of the session's own: never of the link, and an end that came too early only where the link's end was told
+-- an error of the session's own: never of the link, and an early end only where the link reported its end
 abbrev pub OwnKind : Bool → IoKind → Type 0
 OwnKind ended kinds.Link = ⊥
 OwnKind ended kinds.Dial = ⊥
@@ -84,7 +69,7 @@ OwnError ended (errors.Io e) = OwnIo ended e
 OwnError ended (errors.Server e) = Unit {0}
 OwnError ended errors.NoMemory = Unit {0}
 
--- what a call that was told to fail is told, unless memory ran out
+-- what a call that was made to fail returns, unless memory ran out
 abbrev pub IsLinkError : LinkFault → Error → Type 0
 IsLinkError fault e = (place : ℕ) × ((e ≡ link_error fault place) ⊎ (e ≡ errors.NoMemory))
 
@@ -93,12 +78,10 @@ FaultFits None ended e = OwnError ended e
 FaultFits (Some fault) ended e = IsLinkError fault e
 
 abbrev pub ErrorFits : Option LinkFault → Bool → SessionStep → Type 0
-ErrorFits fault ended Send = Unit {0}
-ErrorFits fault ended Need = Unit {0}
-ErrorFits fault ended (Done a) = Unit {0}
 ErrorFits fault ended (Fault e) = FaultFits fault ended e
+ErrorFits fault ended _ = Unit {0}
 
--- The open call's answer is of its kind, or the call was stepped; the session still logs in as it did, no step tells the link's end, and
+-- The open call's answer is of its kind, or the call was stepped; the session still logs in as it did, no step reports the link's end, and
 -- none opens a closed session.
 pub record StepFits (old new : Seen) (step : SessionStep) : Type 0 where
   pub answer : AnswerFits (kind_in old.task) step

@@ -6,12 +6,12 @@ use Rattle.my_value.specs.RowParts.{RowParts}
 use Rattle.my_grammar.specs.declared.packet.Packet.{Packet}
 use Rattle.my_grammar.specs.Sets.{SetHead, Sets, NoSets, Lone, Failed, Heading, Headed, Begun, Ended, Broken, grow_sets}
 use Rattle.my_session.specs.declared.call.CallKind.{CallKind}
-use Rattle.my_session.specs.declared.call.CallKind.TheVariants.{Connect, Query, NextRow, DropResult, Ping, Quit}
+use Rattle.my_session.specs.declared.call.CallKind.TheVariants.{Query}
 use Rattle.my_session.specs.Calls.{kind_of}
-use Rattle.my_session.specs.History.{Made, Told, ToldReady, ToldRow, ToldEnd, ToldNone, ToldError, Dropped}
+use Rattle.my_session.specs.History.{Made, Told, ToldReady, ToldRow, ToldEnd}
 use Rattle.my_session.specs.Rows.{row_of}
 
--- the rows of a set that were given, the newest first, and whether its end was told
+-- the rows of a set that were given, the newest first, and whether its end was returned
 pub record Group : Type 0 where
   pub rows : List RowParts
   pub ended : Bool
@@ -36,26 +36,20 @@ stop_given [] = []
 stop_given (g ∷ gs) = with_stop g ∷ gs
 
 abbrev pub ready_given : CallKind → List (List Group) → List (List Group)
-ready_given Connect gs = gs
 ready_given Query gs = [] ∷ gs
-ready_given NextRow gs = gs
-ready_given DropResult gs = gs
-ready_given Ping gs = gs
-ready_given Quit gs = gs
+ready_given _ gs = gs
 
 abbrev pub given_after : Told → CallKind → List (List Group) → List (List Group)
 given_after ToldReady c gs = ready_given c gs
 given_after (ToldRow r) c gs = item_given r gs
 given_after ToldEnd c gs = stop_given gs
-given_after ToldNone c gs = gs
-given_after (ToldError e) c gs = gs
-given_after (Dropped closing) c gs = gs
+given_after _ c gs = gs
 
 abbrev pub given : List Made → List (List Group)
 given [] = []
 given (m ∷ ms) = given_after m.what (kind_of m.call) (given ms)
 
--- the columns of a head, in order, where its packets stand newest first
+-- the columns of a head, in order, of its packets, which are newest first
 abbrev pub column_list : Option Column → List Column
 column_list None = []
 column_list (Some c) = c ∷ []
@@ -67,7 +61,7 @@ columns_in_order (p ∷ ps) = columns_in_order ps ++ column_list (column_at p)
 abbrev pub head_columns : SetHead → List Column
 head_columns head = columns_in_order head.columns
 
--- all that stands in a response, given by the same steps
+-- all of a response, given by the same steps
 abbrev pub with_items : List Column → List (List ℕ) → List Group → List Group
 with_items columns [] gs = gs
 with_items columns (p ∷ ps) gs = with_item (row_of columns p) (with_items columns ps gs)
@@ -82,7 +76,7 @@ groups (Begun older head rows) = with_items (head_columns head) rows (groups old
 groups (Ended older head rows last status) = with_stop (with_items (head_columns head) rows (groups older))
 groups (Broken older head rows last) = with_items (head_columns head) rows (groups older)
 
--- a response at a later moment, by the packets that came in between, the newest first
+-- a response at a later moment, by the packets in between, the newest first
 abbrev pub grown : Bool → Sets → List Packet → Sets
 grown deprecates x [] = x
 grown deprecates x (packet ∷ packets) = grow_sets deprecates packet.kind (grown deprecates x packets) packet.payload

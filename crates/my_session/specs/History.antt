@@ -1,4 +1,4 @@
--- What happened on a session: the bytes that it sent and took, and its calls with what they were told, the newest first.
+-- What happened on a session: the bytes that it sent and took, and its calls with what they returned, the newest first.
 use Rattle.std.specs.Prelude.{ℕ, List, [], ◌∷◌, ◌++◌, Option, Some, None, Bool, true, false, ◌||◌}
 use Rattle.my_session.specs.declared.call.Call.{Call}
 use Rattle.my_session.specs.declared.call.CallKind.{CallKind}
@@ -11,7 +11,7 @@ use Rattle.my_session.specs.declared.answer.Answer.TheVariants.{Ready, Row, SetE
 use Rattle.my_session.specs.Calls.{kind_of, is_connect, is_quit}
 use Rattle.my_value.specs.RowParts.{RowParts}
 
--- What a call was told: an answer, an error, or nothing since it was cancelled, which closed the session or not.
+-- What a call returned: an answer, an error, or nothing since it was cancelled, which closed the session or not.
 pub data Told : Type 0 where
   ToldReady : Told
   ToldRow : (row : RowParts) → Told
@@ -26,7 +26,7 @@ told (Row r) = ToldRow r
 told SetEnd = ToldEnd
 told NoSet = ToldNone
 
--- a call with one thing that it was told, or that it passed over
+-- a call with one thing that it returned, or that it passed over
 pub record Made : Type 0 where
   pub call : Call
   pub what : Told
@@ -36,9 +36,9 @@ pub record History : Type 0 where
   pub taken : List ℕ
   pub calls : List Made
   pub pending : Option Call
-  -- the link told its end
+  -- the link reported its end
   pub ended : Bool
-  -- bytes came in for which no memory was found, while no call was open
+  -- bytes were received for which there was no memory, while no call was open
   pub lost : Bool
 
 abbrev pub beginning : History
@@ -52,7 +52,7 @@ with_answer (Some call) t calls = record { call = call; what = t } ∷ calls
 abbrev pub began : History → Call → History
 began h call = record { sent = h.sent; taken = h.taken; calls = h.calls; pending = Some call; ended = h.ended; lost = h.lost }
 
--- the open call ends, and was told this
+-- the open call ends, and returned this
 abbrev pub answered : History → Told → History
 answered h t = record { sent = h.sent; taken = h.taken; calls = with_answer h.pending t h.calls; pending = None; ended = h.ended; lost = h.lost }
 
@@ -64,19 +64,19 @@ abbrev pub passing : History → List Told → History
 passing h [] = h
 passing h (t ∷ ts) = noted (passing h ts) t
 
--- bytes came in
+-- bytes were received
 abbrev pub took : History → List ℕ → History
 took h bytes = record { sent = h.sent; taken = h.taken ++ bytes; calls = h.calls; pending = h.pending; ended = h.ended; lost = h.lost }
 
--- bytes went out
+-- bytes were sent
 abbrev pub gone : History → List ℕ → History
 gone h bytes = record { sent = h.sent ++ bytes; taken = h.taken; calls = h.calls; pending = h.pending; ended = h.ended; lost = h.lost }
 
--- the link's end was told
+-- the link reported its end
 abbrev pub ending : History → History
 ending h = record { sent = h.sent; taken = h.taken; calls = h.calls; pending = h.pending; ended = true; lost = h.lost }
 
--- where no call is open, want of memory for bytes that came in loses them
+-- out of memory for bytes that were received: where no call is open, they are lost
 abbrev pub is_idle : Option Call → Bool
 is_idle None = true
 is_idle (Some c) = false
@@ -98,11 +98,9 @@ closes_by NoMemory c = true
 
 abbrev pub closes : Told → CallKind → Bool
 closes ToldReady c = is_quit c
-closes (ToldRow r) c = false
-closes ToldEnd c = false
-closes ToldNone c = false
 closes (ToldError e) c = closes_by e c
 closes (Dropped closing) c = closing
+closes _ c = false
 
 -- closed exactly by a fatal error, a call that was cancelled while its answer was awaited, a quit, or bytes that were lost
 abbrev pub has_closed : List Made → Bool

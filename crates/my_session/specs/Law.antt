@@ -1,4 +1,4 @@
--- What holds of each history that a session stands for.
+-- What holds of each history of a session.
 use Rattle.std.specs.Prelude.{◌≡◌, ℕ, List, [], ◌∷◌, ◌++◌, ◌⊎◌, Option, Some, None, true, false}
 use Rattle.my_grammar.specs.Talk.{Talk, Fits, turns, client_bytes, origin}
 use Rattle.my_grammar.specs.Cut.{cut}
@@ -12,7 +12,7 @@ use Rattle.my_session.specs.Seen.{Seen}
 use Rattle.my_session.specs.ServerErrors.{errors_in, errors_told}
 use Rattle.my_session.specs.Stands.{Stands, IsArranged, begun_of}
 
--- what stands newest first, oldest first
+-- a list that is newest first, oldest first
 abbrev pub in_order : {A : Type 0} → List A → List A
 in_order [] = []
 in_order (x ∷ xs) = in_order xs ++ x ∷ []
@@ -37,7 +37,7 @@ AreGiven (g ∷ gs) (t ∷ ts) = IsGiven g t × AreGiven gs ts
 AreGiven [] (t ∷ ts) = ⊥
 AreGiven (g ∷ gs) [] = ⊥
 
--- the errors that the server told in exchanges, in order
+-- the server's errors in exchanges, in order
 abbrev pub errors_along : List Talk → List ServerError
 errors_along [] = []
 errors_along (t ∷ ts) = in_order (errors_in t) ++ errors_along ts
@@ -74,15 +74,15 @@ pub record Says (s : Seen) (h : History) : Type 0 where
   pub all : gone ++ rest ≡ client_bytes (turns newest.talk)
   pub whole : h.pending ≡ None → s.closed ≡ false → rest ≡ []
   pub answered : is_answered newest.talk ≡ true → rest ≡ []
-  -- what callers were given is what stood at some moment in the exchanges that the grammar finds in the bytes taken
+  -- what callers were given is what was at some moment in the exchanges that the grammar finds in the bytes taken
   pub given_is : given h.calls ≡ givens (newest ∷ older)
   pub read : AreGiven (in_order (shares (newest ∷ older))) (cut (in_order (origins (newest ∷ older))) h.taken).talks
   -- so of each set, callers were given a beginning, in order, and an end only after the whole
   pub fronts : AreFronts (in_order (shares (newest ∷ older))) (cut (in_order (origins (newest ∷ older))) h.taken).talks
-  -- callers were told each ERR that the grammar finds there, once and in order, but perhaps the last
+  -- callers got each ERR that the grammar finds there, once and in order, but perhaps the last
   pub unheard : Option ServerError
   pub errors : errors_along (cut (in_order (origins (newest ∷ older))) h.taken).talks ≡ in_order (errors_told h.calls) ++ at_most_one unheard
-  -- what is known of the server is what it told in them
+  -- what is known of the server is what it sent in them
   pub facts : s.facts ≡ facts_of s.login (newest ∷ older)
   -- closed exactly by a fatal error, a call that was cancelled while its answer was awaited, a quit, or bytes that were lost
   pub closed_is : s.closed ≡ is_closed h

@@ -13,7 +13,7 @@ use Rattle.my_grammar.specs.declared.spot.Spot.{Spot}
 use Rattle.my_grammar.specs.declared.spot.Spot.TheVariants as spots
 use Rattle.my_grammar.specs.declared.spot.Terms.{Terms}
 use Rattle.my_grammar.specs.declared.spot.Kind.{Kind}
-use Rattle.my_grammar.specs.declared.spot.Kind.TheVariants.{Greets, Good, Failed, Count, Column, ColumnsDone, Row, End, Bad}
+use Rattle.my_grammar.specs.declared.spot.Kind.TheVariants.{Greets}
 use Rattle.my_grammar.specs.Contexts.{context_after}
 use Rattle.my_grammar.specs.Kinds.{kind_there}
 use Rattle.my_grammar.specs.Response.{response}
@@ -28,7 +28,7 @@ use Rattle.my_session.specs.declared.tables.Reaction.{Reaction}
 use Rattle.my_session.specs.declared.tables.Reaction.TheVariants as reactions
 use Rattle.my_session.specs.declared.error.Error.{Error}
 use Rattle.my_session.specs.declared.error.Error.TheVariants as errors
-use Rattle.my_session.specs.declared.arrival.Arrival.{Arrival}
+use Rattle.my_session.specs.declared.session.receiving.Arrival.{Arrival}
 use Rattle.my_session.specs.declared.answer.Tick.{Tick}
 use Rattle.my_session.specs.declared.answer.Tick.TheVariants as ticks
 use Rattle.my_session.specs.Calls.{call_of, fault_in}
@@ -40,7 +40,7 @@ use Rattle.my_session.specs.Rows.{row_at}
 use Rattle.my_session.specs.Seen.{Seen}
 use Rattle.my_session.specs.Tables.{plan_of, react, is_breaking, is_connecting, closes_when_cancelled}
 
--- what a move comes to: it goes on, perhaps past something; it asks for a sending or for bytes; or the call is told something and ends
+-- what a move comes to: it goes on, perhaps past something; it asks for a sending or for bytes; or the call returns something and ends
 pub data Doing : Type 0 where
   Goes : Doing
   Passes : (t : Told) → Doing
@@ -63,17 +63,10 @@ with_task s t untold = record { context = s.context; task = t; text = s.text; un
 abbrev pub failed_by : Seen → Error → Move
 failed_by s e = record { seen = fell s; does = Tells (ToldError e) }
 
--- what the client says at once after a payload of this kind: its response after the greeting
+-- what the client sends at once after a payload of this kind: its response after the greeting
 abbrev pub reply_to : Login → Kind → List ℕ → Option (List ℕ)
 reply_to login (Greets capabilities) p = Some (response login p)
-reply_to login (Good status) p = None
-reply_to login Failed p = None
-reply_to login (Count n) p = None
-reply_to login Column p = None
-reply_to login ColumnsDone p = None
-reply_to login Row p = None
-reply_to login (End status) p = None
-reply_to login Bad p = None
+reply_to login _ p = None
 
 abbrev pub reply_bytes : Option (List ℕ) → ℕ → List ℕ
 reply_bytes None n = []
@@ -83,7 +76,7 @@ abbrev pub reply_number : Option (List ℕ) → ℕ → ℕ
 reply_number None n = n
 reply_number (Some p) n = number_after_payload p n
 
--- a payload of this kind is read, after which the rest stands and the next chunk has this number
+-- a payload of this kind is read: the rest follows, and next is the next sequence id
 abbrev pub advanced : Seen → Kind → List ℕ → List ℕ → ℕ → Seen
 advanced s k p rest next = record {
   context = context_after s.context k;
@@ -155,7 +148,7 @@ read_kind s p rest next k =
     then failed_by s (invalid_data s.facts.place)
     else read_by s (advanced s k p rest next) p (react s.task k) (reply_to s.login k p)
 
--- the payload in front; where it isn't whole, and the link told its end, it never will be
+-- the payload in front; where it isn't whole, and the link reported its end, it never will be
 abbrev pub reading : Seen → Front → Move
 reading s Waiting = if s.ended then failed_by s (unexpected_eof s.facts.place) else record { seen = s; does = Needs }
 reading s (Broken fault) = failed_by s (codec_error fault)
@@ -199,7 +192,7 @@ abbrev pub asked : Seen → CallKind → Option Talk → Move
 asked s c None = record { seen = with_task s tasks.Nothing s.untold; does = Tells ToldNone }
 asked s c (Some talk) = begins s (tasks.Own c) talk
 
--- the next query that sets the connection up, after so many; where none is left, the connection is made
+-- the next query that sets the connection up, after n others; where none is left, the connection is made
 abbrev pub arranged : Seen → ℕ → Option Talk → Move
 arranged s n None = record { seen = with_task s tasks.Nothing s.untold; does = Tells ToldReady }
 arranged s n (Some talk) = begins s (tasks.Arranging (suc n)) talk
@@ -221,7 +214,7 @@ abbrev pub when_owed : List ℕ → Seen → Move
 when_owed [] s = planned s (plan_of s.task s.context.spot s.untold)
 when_owed (b ∷ bytes) s = record { seen = s; does = Sends }
 
--- a call that was told to fail fails
+-- a call that was made to fail fails
 abbrev pub next_by : Option LinkFault → Seen → Move
 next_by (Some fault) s = failed_by s (link_error fault s.facts.place)
 next_by None s = when_owed s.owed s
@@ -231,13 +224,11 @@ next s = next_by (fault_in s.task) s
 
 -- the history after a move
 abbrev pub after_doing : History → Doing → History
-after_doing h Goes = h
 after_doing h (Passes t) = noted h t
-after_doing h Sends = h
-after_doing h Needs = h
 after_doing h (Tells t) = answered h t
+after_doing h _ = h
 
--- what the code's tick says
+-- what the code's tick is
 abbrev pub doing : Tick → Doing
 doing ticks.Goes = Goes
 doing (ticks.PassedRow row) = Passes (ToldRow row)
@@ -252,7 +243,7 @@ pub record Did (m : Move) (new : Seen) (t : Tick) : Type 0 where
   pub seen : new ≡ m.seen
   pub does : m.does ≡ doing t
 
--- an error of the machine, or want of memory, after which the session is closed and nothing else moved
+-- an error of the machine, or out of memory, after which the session is closed and nothing else moved
 abbrev pub FaultIs : Move → Seen → Seen → Error → Type 0
 FaultIs m old new (errors.Driver e) = Did m new (ticks.Fault (errors.Driver e))
 FaultIs m old new (errors.Io e) = Did m new (ticks.Fault (errors.Io e))
@@ -273,7 +264,7 @@ Does m old new (ticks.Fault e) = FaultIs m old new e
 abbrev pub dropped : Seen → Seen
 dropped s = if closes_when_cancelled s.task s.context.spot then fell s else with_task s tasks.Nothing s.untold
 
--- a payload that came in, with where it stands, what it is, and what the client says at once after it
+-- a payload that was received, with its place, its kind, and what the client sends at once after it
 pub record IsArrival (s : Seen) (a : Arrival) : Type 0 where
   pub room : a.span.len ≤ length s.unread
   pub reply_is : a.reply ≡ reply_to s.login a.kind a.payload

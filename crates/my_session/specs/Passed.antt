@@ -2,16 +2,13 @@
 use Rattle.std.specs.Prelude.{◌≡◌, List, [], ◌∷◌, Option, Some}
 use Rattle.my_session.specs.declared.call.CallKind.{CallKind}
 use Rattle.my_session.specs.declared.call.CallKind.TheVariants.{DropResult}
-use Rattle.my_session.specs.History.{Told, ToldReady, ToldRow, ToldEnd, ToldNone, ToldError, Dropped}
+use Rattle.my_session.specs.History.{Told, ToldRow, ToldEnd}
 
 -- a row, or the end of a set
 abbrev pub IsItem : Told → Type 0
-IsItem ToldReady = ⊥
 IsItem (ToldRow row) = Unit {0}
 IsItem ToldEnd = Unit {0}
-IsItem ToldNone = ⊥
-IsItem (ToldError e) = ⊥
-IsItem (Dropped closing) = ⊥
+IsItem _ = ⊥
 
 -- Rows and ends that a call of this kind passed over: DropResult alone passes over any.
 abbrev pub ArePassed : Option CallKind → List Told → Type 0

@@ -1,4 +1,4 @@
--- Set by set, what was given is the beginning of what stands there.
+-- Set by set, what was given is the beginning of what was received.
 use Rattle.std.specs.Prelude.{◌≡◌, ℕ, List, [], ◌∷◌, ◌++◌, Option, Some, None, Bool, true, false}
 use Rattle.my_reply.specs.declared.column.Column.{Column}
 use Rattle.my_value.specs.RowParts.{RowParts}
@@ -35,7 +35,7 @@ AreWhole (g ∷ gs) (s ∷ ss) = (g.rows ≡ s.rows) × (g.ended ≡ true) × (s
 AreWhole [] (s ∷ ss) = ⊥
 AreWhole (g ∷ gs) [] = ⊥
 
--- The older rows were given, and the end is told only after all of them.
+-- The older rows were given, and the end is returned only after all of them.
 pub record IsPart (g : Group) (s : Set) : Type 0 where
   pub newer : List RowParts
   pub items : newer ++ g.rows ≡ s.rows

@@ -5,9 +5,9 @@ use Rattle.my_grammar.specs.declared.spot.Context.{Context}
 use Rattle.my_session.specs.declared.call.Task.{Task}
 use Rattle.my_session.specs.declared.facts.Facts.{Facts}
 
--- Where the reading stands and what the open call is at, with the text that it carries; whether the end of a lone OK wasn't told yet,
--- whether the session is closed, and whether the link told its end; the number of the next chunk, the bytes that weren't read and
--- those that weren't sent; what the server told, and what the client said of itself.
+-- The context of the next payload; what the open call is at, with the text that it carries; whether the end of a lone OK is still to be
+-- returned, whether the session is closed, and whether the link reported its end; the next sequence id, the bytes that weren't read and
+-- those that weren't sent; what the server sent of itself, and what the client did.
 pub record Seen : Type 0 where
   pub context : Context
   pub task : Task

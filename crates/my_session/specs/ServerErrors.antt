@@ -1,4 +1,4 @@
--- The errors that the server told, and those that callers were told.
+-- The server's errors, and those that callers got.
 -- MySQL internals, "ERR_Packet": it ends a response.
 use Rattle.std.specs.Prelude.{ℕ, List, [], ◌∷◌, ◌++◌, Option, Some, None, true, false}
 use Rattle.my_reply.specs.declared.err.ErrPacket.{ErrPacket}
@@ -6,13 +6,13 @@ use Rattle.my_reply.specs.ErrPacket.{err_at}
 use Rattle.my_grammar.specs.declared.spot.Kind.{Kind}
 use Rattle.my_grammar.specs.declared.spot.Kind.TheVariants as kinds
 use Rattle.my_grammar.specs.Sets.{Sets, NoSets, Lone, Failed, Heading, Headed, Begun, Ended, Broken}
-use Rattle.my_grammar.specs.Talk.{Talk, Start, Unwelcome, Greeted, Settled, Asked, Replied, Queried, Silent}
+use Rattle.my_grammar.specs.Talk.{Talk, Unwelcome, Settled, Replied, Queried}
 use Rattle.my_session.specs.declared.error.Error.{Error}
 use Rattle.my_session.specs.declared.error.Error.TheVariants as errors
 use Rattle.my_session.specs.declared.error.ServerError.{ServerError}
 use Rattle.my_session.specs.Entries.{Entry}
 use Rattle.my_session.specs.Errors.{server_error}
-use Rattle.my_session.specs.History.{Made, Told, ToldReady, ToldRow, ToldEnd, ToldNone, ToldError, Dropped}
+use Rattle.my_session.specs.History.{Made, Told, ToldError}
 
 -- what an ERR says, the newest first
 abbrev pub error_onto : Option ErrPacket → List ServerError → List ServerError
@@ -21,15 +21,8 @@ error_onto (Some e) es = server_error e ∷ es
 
 -- the one answer of an exchange, where it is an ERR
 abbrev pub error_of : Kind → List ℕ → List ServerError
-error_of (kinds.Greets capabilities) p = []
-error_of (kinds.Good status) p = []
 error_of kinds.Failed p = error_onto (err_at false p) []
-error_of (kinds.Count n) p = []
-error_of kinds.Column p = []
-error_of kinds.ColumnsDone p = []
-error_of kinds.Row p = []
-error_of (kinds.End status) p = []
-error_of kinds.Bad p = []
+error_of _ p = []
 
 -- the ERRs among sets
 abbrev pub errors_in_sets : Sets → List ServerError
@@ -44,33 +37,24 @@ errors_in_sets (Broken older head rows last) = error_onto (err_at false last) (e
 
 -- the ERRs of an exchange; one in place of the greeting has no state
 abbrev pub errors_in : Talk → List ServerError
-errors_in (Start login) = []
 errors_in (Unwelcome login p) = error_onto (err_at true p) []
-errors_in (Greeted login p capabilities) = []
 errors_in (Settled login p capabilities last kind) = error_of kind last
-errors_in (Asked terms c) = []
 errors_in (Replied terms c last kind) = error_of kind last
 errors_in (Queried terms c sets) = errors_in_sets sets
-errors_in (Silent terms c) = []
+errors_in _ = []
 
 abbrev pub errors_of : List Entry → List ServerError
 errors_of [] = []
 errors_of (e ∷ es) = errors_in e.talk ++ errors_of es
 
--- the server's errors that callers were told
+-- the server's errors that callers got
 abbrev pub with_error : Error → List ServerError → List ServerError
-with_error (errors.Driver e) es = es
-with_error (errors.Io e) es = es
 with_error (errors.Server e) es = e ∷ es
-with_error errors.NoMemory es = es
+with_error _ es = es
 
 abbrev pub with_told : Told → List ServerError → List ServerError
-with_told ToldReady es = es
-with_told (ToldRow row) es = es
-with_told ToldEnd es = es
-with_told ToldNone es = es
 with_told (ToldError e) es = with_error e es
-with_told (Dropped closing) es = es
+with_told _ es = es
 
 abbrev pub errors_told : List Made → List ServerError
 errors_told [] = []

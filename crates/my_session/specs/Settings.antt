@@ -1,17 +1,17 @@
 -- The settings of a connection: how long a payload may be, and how long the connection may rest.
 -- MySQL reference manual, "Server System Variables": max_allowed_packet, in bytes, and wait_timeout, in seconds.
 use Rattle.std.specs.Prelude.{ℕ, max, min, List, slice_get, unwrap_or, Option, Some, None, Bool, true, false, if◌then◌else◌}
+use Rattle.my_frame.specs.declared.limits.TheConstants.{DEFAULT_MAX_ALLOWED_PACKET, GREATEST_MAX_ALLOWED_PACKET, LEAST_MAX_ALLOWED_PACKET}
 use Rattle.my_frame.specs.Numeral.{whole_number}
 use Rattle.my_value.specs.declared.value.Value.{Value}
-use Rattle.my_value.specs.declared.value.Value.TheVariants.{NULL, Bytes}
+use Rattle.my_value.specs.declared.value.Value.TheVariants.{Bytes}
 use Rattle.my_value.specs.RowParts.{RowParts}
 use Rattle.my_grammar.specs.declared.login.Login.{Login}
-use Rattle.my_grammar.specs.Talk.{default_limit}
 use Rattle.my_session.specs.declared.settings.Stage.{Stage}
 use Rattle.my_session.specs.declared.settings.Stage.TheVariants.{Unasked, Asked, Known}
 use Rattle.my_session.specs.declared.settings.Settings.{Settings}
 
--- what stands for a timeout that isn't told: eight hours
+-- the timeout where the answer has none: eight hours
 abbrev pub default_wait : ℕ
 default_wait = 28800
 
@@ -21,16 +21,16 @@ first_settings login = record {
   stage = Unasked;
   limit_option = login.packet_limit;
   wait_option = login.wait_timeout;
-  limit = default_limit;
-  next_limit = unwrap_or login.packet_limit default_limit;
+  limit = DEFAULT_MAX_ALLOWED_PACKET;
+  next_limit = unwrap_or login.packet_limit DEFAULT_MAX_ALLOWED_PACKET;
   wait_timeout = unwrap_or login.wait_timeout default_wait;
 }
 
--- what was told holds from now on
+-- the next limit holds from now on
 abbrev pub in_force : Settings → Settings
 in_force s = record { stage = Known; limit_option = s.limit_option; wait_option = s.wait_option; limit = s.next_limit; next_limit = s.next_limit; wait_timeout = s.wait_timeout }
 
--- the server is to tell them
+-- the server is asked
 abbrev pub awaited : Settings → Settings
 awaited s = record { stage = Asked; limit_option = s.limit_option; wait_option = s.wait_option; limit = s.limit; next_limit = s.next_limit; wait_timeout = s.wait_timeout }
 
@@ -42,19 +42,17 @@ settled None wait s = awaited s
 
 -- the number that a cell holds; one that is missing or NULL holds none
 abbrev pub number_in : Option Value → Option ℕ
-number_in None = None
-number_in (Some NULL) = None
 number_in (Some (Bytes text)) = whole_number 64 text
-number_in (Some v) = None
+number_in _ = None
 
 -- a server's max_allowed_packet is taken within the bounds of the option
 abbrev pub bounded : ℕ → ℕ
-bounded n = min (max n 1024) 1073741824
+bounded n = min (max n LEAST_MAX_ALLOWED_PACKET) GREATEST_MAX_ALLOWED_PACKET
 
 -- the limit is in the row's first cell, where it was asked for
 abbrev pub limit_in : Option ℕ → List Value → ℕ
 limit_in (Some limit) cells = limit
-limit_in None cells = bounded (unwrap_or (number_in (slice_get cells 0)) default_limit)
+limit_in None cells = bounded (unwrap_or (number_in (slice_get cells 0)) DEFAULT_MAX_ALLOWED_PACKET)
 
 -- the timeout is in the cell after the limit's, or in the first one
 abbrev pub wait_place : Option ℕ → ℕ

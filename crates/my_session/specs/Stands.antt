@@ -1,4 +1,4 @@
--- For which histories a session stands.
+-- Which histories a session may have had.
 use Rattle.std.specs.Prelude.{◌≡◌, ℕ, suc, length, List, [], ◌∷◌, ◌++◌, ◌||◌, ◌&&◌, ◌⊎◌, Option, Some, None, Bool, true, false, if◌then◌else◌}
 use Rattle.my_grammar.specs.declared.login.Login.{Login}
 use Rattle.my_grammar.specs.declared.spot.Context.{Context}
@@ -71,39 +71,25 @@ is_shaking s = false
 abbrev pub keeps : Task → Bool
 keeps tasks.Nothing = true
 keeps (tasks.Begun c) = true
-keeps (tasks.Cleaning c) = false
-keeps (tasks.Own c) = false
-keeps (tasks.Arranging n) = false
 keeps tasks.Reading = true
 keeps tasks.Dropping = true
-keeps tasks.Leaving = false
-keeps (tasks.Failing c fault) = false
+keeps _ = false
 
 -- tasks of a session that isn't closed
 abbrev pub is_alive : Task → Bool
 is_alive tasks.Nothing = false
-is_alive (tasks.Begun c) = true
-is_alive (tasks.Cleaning c) = true
-is_alive (tasks.Own c) = true
-is_alive (tasks.Arranging n) = true
-is_alive tasks.Reading = true
-is_alive tasks.Dropping = true
 is_alive tasks.Leaving = false
 is_alive (tasks.Failing c fault) = false
+is_alive _ = true
 
 -- tasks that may owe bytes
 abbrev pub owes : Task → Bool
-owes tasks.Nothing = false
-owes (tasks.Begun c) = false
-owes (tasks.Cleaning c) = false
 owes (tasks.Own c) = true
 owes (tasks.Arranging n) = true
-owes tasks.Reading = false
-owes tasks.Dropping = false
-owes tasks.Leaving = false
 owes (tasks.Failing c fault) = true
+owes _ = false
 
--- what callers know: all but the end of a lone OK that wasn't told yet
+-- what callers know: all but the end of a lone OK that is still to be returned
 abbrev pub known_part : Bool → Sets → Sets
 known_part false x = x
 known_part true NoSets = NoSets
@@ -117,23 +103,11 @@ known_part true (Broken older head rows last) = Broken older head rows last
 
 abbrev pub is_lone : Sets → Bool
 is_lone (Lone older p status) = true
-is_lone NoSets = false
-is_lone (Failed older p) = false
-is_lone (Heading older head left) = false
-is_lone (Headed older head) = false
-is_lone (Begun older head rows) = false
-is_lone (Ended older head rows last status) = false
-is_lone (Broken older head rows last) = false
+is_lone _ = false
 
 abbrev pub is_none : Sets → Bool
 is_none NoSets = true
-is_none (Lone older p status) = false
-is_none (Failed older p) = false
-is_none (Heading older head left) = false
-is_none (Headed older head) = false
-is_none (Begun older head rows) = false
-is_none (Ended older head rows last status) = false
-is_none (Broken older head rows last) = false
+is_none _ = false
 
 abbrev pub is_empty : List (List ℕ) → Bool
 is_empty [] = true
@@ -142,15 +116,12 @@ is_empty (p ∷ ps) = false
 -- the head of the first set, or a part of it
 abbrev pub is_first : Sets → Bool
 is_first NoSets = true
-is_first (Lone older p status) = false
-is_first (Failed older p) = false
 is_first (Heading older head left) = is_none older
 is_first (Headed older head) = is_none older
 is_first (Begun older head rows) = is_none older && is_empty rows
-is_first (Ended older head rows last status) = false
-is_first (Broken older head rows last) = false
+is_first _ = false
 
--- where a call's own exchange stands; the login is the first exchange of connecting
+-- where a call's own exchange is; the login is the first exchange of connecting
 abbrev pub OwnAt : CallKind → Spot → Bool → ℕ → Entry → Type 0
 OwnAt Connect spot connected count newest = (connected ≡ false) × (is_shaking spot ≡ true) × (count ≡ 1)
 OwnAt Query spot connected count newest = (connected ≡ true) × (newest.given ≡ None) × (is_first (sets_of newest.talk) ≡ true)
@@ -164,7 +135,7 @@ abbrev pub BegunAt : CallKind → Spot → Bool → Type 0
 BegunAt Connect spot connected = (connected ≡ false) × (spot ≡ spots.Greeting)
 BegunAt c spot connected = (connected ≡ true) × (is_settled spot ≡ true)
 
--- where a task stands, while so many exchanges of connecting began
+-- where a task is, while count exchanges of connecting began
 abbrev pub TaskIs : Task → Spot → Bool → Bool → ℕ → Entry → Type 0
 TaskIs tasks.Nothing spot closed connected count newest = closed ≡ false → (if connected then is_settled spot else is_greeting spot) ≡ true
 TaskIs (tasks.Begun c) spot closed connected count newest = BegunAt c spot connected
@@ -182,22 +153,17 @@ begun_of spot call older = if is_greeting spot then calls_in older else call ∷
 
 -- the newest exchange is the open call's own, or an earlier call's; while it connects, all are its own that began since
 abbrev pub TieIs : Task → List ℕ → Spot → List Made → Call → List Entry → Type 0
-TieIs tasks.Nothing text spot made call older = IsTied made (begun_of spot call older)
-TieIs (tasks.Begun c) text spot made call older = IsTied made (begun_of spot call older)
-TieIs (tasks.Cleaning c) text spot made call older = IsTied made (begun_of spot call older)
 TieIs (tasks.Own c) text spot made call older = (call ≡ call_of c text) × IsTied made (calls_in older)
 TieIs (tasks.Arranging n) text spot made call older = OwnsFirst calls.Connect (call ∷ calls_in older) (IsTied made)
-TieIs tasks.Reading text spot made call older = IsTied made (begun_of spot call older)
-TieIs tasks.Dropping text spot made call older = IsTied made (begun_of spot call older)
-TieIs tasks.Leaving text spot made call older = IsTied made (begun_of spot call older)
 TieIs (tasks.Failing c fault) text spot made call older = OwnsFirst (call_of c text) (call ∷ calls_in older) (IsTied made) ⊎ IsTied made (begun_of spot call older)
+TieIs _ text spot made call older = IsTied made (begun_of spot call older)
 
 -- the open call, with the text that it carries
 abbrev pub call_with : Option CallKind → List ℕ → Option Call
 call_with None text = None
 call_with (Some c) text = Some (call_of c text)
 
--- The calls: what they were given is what stood in the responses.
+-- The calls: what they were given is what was in the responses.
 pub record Heard (task : Task) (text : List ℕ) (spot : Spot) (untold closed lost : Bool) (made : List Made) (pending : Option Call) (newest : Entry) (older : List Entry) : Type 0 where
   pub pending_is : pending ≡ call_with (kind_in task) text
   pub closed_is : closed ≡ has_closed made || lost

@@ -11,7 +11,7 @@ use Rattle.my_session.specs.declared.answer.Tick.{Tick}
 use Rattle.my_session.specs.declared.answer.Tick.TheVariants as ticks
 use Rattle.my_session.specs.declared.call.Call.{Call}
 use Rattle.my_session.specs.declared.call.CallKind.{CallKind}
-use Rattle.my_session.specs.declared.call.CallKind.TheVariants.{Connect, Query, NextRow, DropResult, Ping, Quit}
+use Rattle.my_session.specs.declared.call.CallKind.TheVariants.{Connect, NextRow, DropResult, Quit}
 use Rattle.my_session.specs.declared.call.LinkFault.{LinkFault}
 use Rattle.my_session.specs.declared.call.LinkFault.TheVariants.{NoMemory}
 use Rattle.my_session.specs.declared.call.Task.{Task}
@@ -19,7 +19,7 @@ use Rattle.my_session.specs.declared.call.Task.TheVariants.{Nothing, Begun, Clea
 use Rattle.my_session.specs.Calls.{kind_of, text_of, is_open, is_quit}
 use Rattle.my_session.specs.Facts.{first_facts}
 use Rattle.my_session.specs.History.{History, ToldError, told, answered}
-use Rattle.my_session.specs.Machine.{Doing, Goes, Passes, Sends, Needs, Tells, Does, fell, next, doing, after_doing}
+use Rattle.my_session.specs.Machine.{Doing, Goes, Passes, Does, fell, next, doing, after_doing}
 use Rattle.my_session.specs.Seen.{Seen}
 
 -- the places at which a connected session rests between calls
@@ -32,11 +32,7 @@ is_settled s = false
 -- where a call may begin on an open session: Connect before the greeting, each other one once it is connected
 abbrev pub AtBegun : CallKind → Spot → Type 0
 AtBegun Connect spot = spot ≡ spots.Greeting
-AtBegun Query spot = is_settled spot ≡ true
-AtBegun NextRow spot = is_settled spot ≡ true
-AtBegun DropResult spot = is_settled spot ≡ true
-AtBegun Ping spot = is_settled spot ≡ true
-AtBegun Quit spot = is_settled spot ≡ true
+AtBegun _ spot = is_settled spot ≡ true
 
 abbrev pub is_greeted : Spot → Bool
 is_greeted spots.Greeting = false
@@ -45,11 +41,7 @@ is_greeted s = true
 -- the same, as a test
 abbrev pub is_begun_at : CallKind → Spot → Bool
 is_begun_at Connect spot = not (is_greeted spot)
-is_begun_at Query spot = is_settled spot
-is_begun_at NextRow spot = is_settled spot
-is_begun_at DropResult spot = is_settled spot
-is_begun_at Ping spot = is_settled spot
-is_begun_at Quit spot = is_settled spot
+is_begun_at _ spot = is_settled spot
 
 -- before the greeting
 abbrev pub fresh : Login → Seen
@@ -69,11 +61,11 @@ with_owed s owed = record { context = s.context; task = s.task; text = s.text; u
 abbrev pub with_unread : Seen → List ℕ → Seen
 with_unread s unread = record { context = s.context; task = s.task; text = s.text; untold = s.untold; closed = s.closed; ended = s.ended; number = s.number; unread = unread; owed = s.owed; facts = s.facts; login = s.login }
 
--- the link told its end
+-- the link reported its end
 abbrev pub with_end : Seen → Seen
 with_end s = record { context = s.context; task = s.task; text = s.text; untold = s.untold; closed = s.closed; ended = true; number = s.number; unread = s.unread; owed = s.owed; facts = s.facts; login = s.login }
 
--- the open call is told to fail; where none is open, nothing changes
+-- the open call is made to fail; where none is open, nothing changes
 abbrev pub failing : Task → LinkFault → Task
 failing Nothing fault = Nothing
 failing (Begun c) fault = Failing c fault
@@ -88,7 +80,7 @@ failing (Failing c old) fault = Failing c fault
 abbrev pub with_failing : Seen → LinkFault → Seen
 with_failing s fault = record { context = s.context; task = failing s.task fault; text = s.text; untold = s.untold; closed = s.closed; ended = s.ended; number = s.number; unread = s.unread; owed = s.owed; facts = s.facts; login = s.login }
 
--- bytes came in for which no memory was found: the open call is told to fail, or the session is closed
+-- bytes were received for which there is no memory: the open call is made to fail, or the session is closed
 abbrev pub with_loss : Seen → Seen
 with_loss s = if is_open s.task then with_failing s NoMemory else fell s
 
@@ -111,7 +103,7 @@ abbrev pub left_to_do : Seen → ℕ
 left_to_do s = 4 * length s.unread + rank s.task s.untold
 
 -- what a move leaves: the call goes on with less to do; asks for a sending exactly where bytes are owed, or for bytes where none are
--- owed, the payload in front is neither whole nor faulty, and the link didn't tell its end; or it ends
+-- owed, the payload in front is neither whole nor faulty, and the link didn't report its end; or it ends
 abbrev pub TickIs : Seen → Seen → Tick → Type 0
 TickIs old new ticks.Goes = (is_open new.task ≡ true) × (left_to_do new < left_to_do old)
 TickIs old new (ticks.PassedRow row) = (is_open new.task ≡ true) × (left_to_do new < left_to_do old)
@@ -138,11 +130,9 @@ last_tick (steps.Fault e) = ticks.Fault e
 abbrev pub goes_on : Doing → Bool
 goes_on Goes = true
 goes_on (Passes t) = true
-goes_on Sends = false
-goes_on Needs = false
-goes_on (Tells t) = false
+goes_on _ = false
 
--- where so many moves lead
+-- where n moves lead
 abbrev pub moved : ℕ → Seen → Seen
 moved zero s = s
 moved (suc n) s = (next (moved n s)).seen

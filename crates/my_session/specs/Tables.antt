@@ -23,7 +23,7 @@ first_task DropResult = Dropping
 first_task Ping = Cleaning Ping
 first_task Quit = Cleaning Quit
 
--- the rest of the earlier response is read, an end that wasn't told is dropped, and then comes what is planned after it
+-- the rest of the earlier response is read, the end of a lone OK that is still to be returned is dropped, and then p is done
 abbrev pub clean_plan : Plan → Spot → Bool → Plan
 clean_plan p spots.Idle untold = if untold then plans.Hears else p
 clean_plan p s untold = plans.Reads
@@ -43,12 +43,9 @@ query_plan s = plans.Reads
 
 -- a quit has no answer
 abbrev pub own_plan : CallKind → Spot → Plan
-own_plan Connect s = plans.Reads
 own_plan Query s = query_plan s
-own_plan NextRow s = plans.Reads
-own_plan DropResult s = plans.Reads
-own_plan Ping s = plans.Reads
 own_plan Quit s = plans.Quits
+own_plan _ s = plans.Reads
 
 abbrev pub plan_of : Task → Spot → Bool → Plan
 plan_of Nothing s untold = plans.NoMore
@@ -96,10 +93,8 @@ react_ping k = reactions.Breaks
 abbrev pub react_own : CallKind → Kind → Reaction
 react_own Connect k = react_connect k
 react_own Query k = react_query k
-react_own NextRow k = reactions.Breaks
-react_own DropResult k = reactions.Breaks
 react_own Ping k = react_ping k
-react_own Quit k = reactions.Breaks
+react_own _ k = reactions.Breaks
 
 abbrev pub react_reading : Kind → Reaction
 react_reading (kinds.Greets n) = reactions.Breaks
@@ -124,38 +119,22 @@ react_dropping (kinds.End status) = reactions.PassesEnd
 react_dropping kinds.Bad = reactions.Breaks
 
 abbrev pub react : Task → Kind → Reaction
-react Nothing k = reactions.Breaks
-react (Begun c) k = reactions.Breaks
 react (Cleaning c) k = react_whole (Cleaning c) k
 react (Own c) k = react_own c k
 react (Arranging n) k = react_whole (Arranging n) k
 react Reading k = react_reading k
 react Dropping k = react_dropping k
-react Leaving k = reactions.Breaks
-react (Failing c fault) k = reactions.Breaks
+react _ k = reactions.Breaks
 
 abbrev pub is_breaking : Reaction → Bool
-is_breaking (reactions.Goes t) = false
-is_breaking (reactions.Readies untold) = false
-is_breaking reactions.Gives = false
-is_breaking reactions.Ends = false
-is_breaking reactions.PassesRow = false
-is_breaking reactions.PassesEnd = false
-is_breaking reactions.Refuses = false
 is_breaking reactions.Breaks = true
+is_breaking _ = false
 
 -- a server's error ends a session that isn't connected
 abbrev pub is_connecting : Task → Bool
-is_connecting Nothing = false
-is_connecting (Begun c) = false
-is_connecting (Cleaning c) = false
 is_connecting (Own Connect) = true
-is_connecting (Own c) = false
 is_connecting (Arranging n) = true
-is_connecting Reading = false
-is_connecting Dropping = false
-is_connecting Leaving = false
-is_connecting (Failing c fault) = false
+is_connecting _ = false
 
 -- where the head of a further set is awaited
 abbrev pub awaits_head : Spot → Bool
@@ -163,7 +142,7 @@ awaits_head spots.Idle = false
 awaits_head spots.Rows = false
 awaits_head s = true
 
--- a call that sends a command, once stepped, closes the session where it is cancelled, and so does a read that awaits a further head, or a call that was told to fail
+-- a call that sends a command, once stepped, closes the session where it is cancelled, and so does a read that awaits a further head, or a call that was made to fail
 abbrev pub closes_when_cancelled : Task → Spot → Bool
 closes_when_cancelled Nothing s = false
 closes_when_cancelled (Begun c) s = false

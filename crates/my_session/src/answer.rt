@@ -1,7 +1,11 @@
 //! What a call is answered, and what it asks for on the way.
 
+ghost use Rattle.std.specs.Prelude.{◌≡◌, IfOk};
+
 use crate::error::Error;
+use my_frame::NoMemory;
 use my_value::Row;
+use std::alloc::Global;
 
 /// The answer of a call.
 #[derive(Drop)]
@@ -13,6 +17,20 @@ pub enum Answer {
     SetEnd,
     /// Nothing is left to be read.
     NoSet,
+}
+
+impl Answer {
+    /// A second value of the same answer.
+    pub fn copy(&self, alloc: Global) -> Result<Answer, NoMemory>
+        ensures { IfOk result (λ copy. copy ≡ self.now) }
+    {
+        match self {
+            Answer::Ready => Ok(Answer::Ready),
+            Answer::Row(row) => Ok(Answer::Row(row.copy(alloc)?)),
+            Answer::SetEnd => Ok(Answer::SetEnd),
+            Answer::NoSet => Ok(Answer::NoSet),
+        }
+    }
 }
 
 /// What one move of the open call comes to.

@@ -1,17 +1,18 @@
 //! What a caller asks of a session, and what the open call is at.
 
-ghost use Rattle.std.specs.Prelude.{◌≡◌};
+ghost use Rattle.std.specs.Prelude.{◌≡◌, IfOk};
 
-use my_frame::Blob;
+use my_frame::{Blob, NoMemory};
+use std::alloc::Global;
 
 /// A call, with what it carries.
-#[derive(Debug, Drop)]
+#[derive(Debug, Drop, PartialEq, Eq)]
 pub enum Call {
     /// The handshake, with which a session begins, and the queries that set the connection up.
     Connect,
     /// A query of this text.
     Query(Blob),
-    /// The next row of the set that is read, its end, or word that nothing is left.
+    /// The next row of the set that is read, its end, or that nothing is left.
     NextRow,
     /// Reads what is left and passes over it.
     DropResult,
@@ -51,7 +52,7 @@ pub enum Task {
     Cleaning(CallKind),
     /// The call's own exchange.
     Own(CallKind),
-    /// The connection is set up: so many queries of the client's own were sent. Their answers are read whole.
+    /// The connection is set up: this many queries of the client's own were sent. Their answers are read whole.
     Arranging(usize),
     /// The next row is awaited.
     Reading,
@@ -59,7 +60,7 @@ pub enum Task {
     Dropping,
     /// A quit on a closed session.
     Leaving,
-    /// The call was told to fail.
+    /// The call was made to fail.
     Failing(CallKind, LinkFault),
 }
 
@@ -77,6 +78,20 @@ impl Call {
             Call::DropResult => CallKind::DropResult,
             Call::Ping => CallKind::Ping,
             Call::Quit => CallKind::Quit,
+        }
+    }
+
+    /// A second value of the same call.
+    pub fn copy(&self, alloc: Global) -> Result<Call, NoMemory>
+        ensures { IfOk result (λ copy. copy ≡ self.now) }
+    {
+        match self {
+            Call::Connect => Ok(Call::Connect),
+            Call::Query(text) => Ok(Call::Query(text.copy(alloc)?)),
+            Call::NextRow => Ok(Call::NextRow),
+            Call::DropResult => Ok(Call::DropResult),
+            Call::Ping => Ok(Call::Ping),
+            Call::Quit => Ok(Call::Quit),
         }
     }
 }

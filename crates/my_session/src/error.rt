@@ -1,8 +1,9 @@
 //! Why a call of a session ends without its answer.
 
-ghost use Rattle.std.specs.Prelude.{◌≡◌};
+ghost use Rattle.std.specs.Prelude.{◌≡◌, IfOk};
 
 use my_frame::{CodecFault, NoMemory, Text};
+use std::alloc::Global;
 use thiserror::Error as ThisError;
 
 /// The driver's own refusals.
@@ -42,7 +43,7 @@ pub enum IoKind {
     /// The link ended where a packet was awaited.
     #[error("the link ended where a packet was awaited")]
     UnexpectedEof,
-    /// A payload came that may not stand there.
+    /// A payload was received that fits no case.
     #[error("a packet came that may not stand there")]
     InvalidData,
 }
@@ -60,12 +61,12 @@ pub struct IoFault {
 pub enum IoError {
     #[error(transparent)]
     Io(IoFault),
-    /// The chunks of a payload are wrong.
+    /// The packets of a payload are wrong.
     #[error(transparent)]
     Codec(CodecFault),
 }
 
-/// What a server says of a command that failed.
+/// A server's error, after a command that failed.
 #[derive(Debug, Drop, PartialEq, Eq, ThisError)]
 #[error("server error {code} ({})", message.as_str())]
 pub struct ServerError {
@@ -73,6 +74,19 @@ pub struct ServerError {
     /// Five characters that name the class of the error.
     pub state: Text,
     pub message: Text,
+}
+
+impl ServerError {
+    /// A second value of the same error.
+    pub fn copy(&self, alloc: Global) -> Result<ServerError, NoMemory>
+        ensures { IfOk result (λ copy. copy ≡ self.now) }
+    {
+        Ok(ServerError {
+            code: self.code,
+            state: self.state.copy(alloc)?,
+            message: self.message.copy(alloc)?,
+        })
+    }
 }
 
 /// Why a call has no answer.
@@ -108,6 +122,18 @@ impl Error {
         match self {
             Error::Driver(_) | Error::Io(_) | Error::NoMemory => true,
             Error::Server(_) => false,
+        }
+    }
+
+    /// A second value of the same error.
+    pub fn copy(&self, alloc: Global) -> Result<Error, NoMemory>
+        ensures { IfOk result (λ copy. copy ≡ self.now) }
+    {
+        match self {
+            Error::Driver(error) => Ok(Error::Driver(*error)),
+            Error::Io(error) => Ok(Error::Io(*error)),
+            Error::Server(error) => Ok(Error::Server(error.copy(alloc)?)),
+            Error::NoMemory => Ok(Error::NoMemory),
         }
     }
 }

@@ -1,34 +1,35 @@
-//! What the server's payloads tell a client.
+//! What a client learns from the server's payloads.
 
 ghost use Rattle.std.specs.Prelude.{◌≡◌, OnOk, OnErr, IfOk};
 ghost use Rattle.my_handshake.specs.Greeting.{greeting_at};
 ghost use Rattle.my_reply.specs.OkPacket.{ok_at, end_ok_at};
 ghost use Rattle.my_reply.specs.Column.{column_at};
 
-use crate::columns::{Gathered, SetColumns};
+use crate::columns::SetColumns;
 use crate::settings::Settings;
-use my_frame::{Blob, NoMemory, ReadError};
+use my_flags::StatusFlags;
+use my_frame::{Blob, Listed, NoMemory, ReadError};
 use my_grammar::{Kind, Login};
 use my_handshake::{Greeting, read_greeting};
 use my_reply::{Column, OkPacket, read_column, read_end_ok, read_ok};
 use my_value::{Row, read_text_row};
 use std::alloc::Global;
 
-/// What the server told so far.
+/// What the server's payloads said so far.
 #[derive(Drop)]
 pub struct Facts {
-    /// The server's version, as it tells it.
+    /// The server's version, as its greeting has it.
     pub version: Blob,
     /// The number of the connection.
     pub connection: u32,
-    /// The server's status bits, as an OK or a set's end told them last; none after an ERR.
-    pub status: u16,
+    /// The server's status, of the last OK or set's end; none after an ERR.
+    pub status: StatusFlags,
     /// The last OK, or the OK that ended a set; none after an ERR.
     pub ok: Option<OkPacket>,
-    /// How many columns of a head are still to come.
+    /// How many columns of a head are still awaited.
     pub left: u16,
     /// The columns of a head so far.
-    pub gathered: Gathered,
+    pub gathered: Listed<Column>,
     /// The columns of the newest set whose head is whole.
     pub columns: SetColumns,
     /// How long a payload may be, and how long the connection may rest.
@@ -86,7 +87,7 @@ impl Facts {
     ghost use Rattle.my_session.specs.Rows.{row_at};
     ghost use Rattle.my_session.specs.Settings.{end_settings, good_settings, row_settings};
 
-    /// Before the server said anything.
+    /// Before the first payload.
     pub fn new(alloc: Global, login: &Login) -> Result<Facts, NoMemory>
         ensures { IfOk result (λ f. f ≡ first_facts login.now) }
     {
@@ -94,10 +95,10 @@ impl Facts {
         Ok(Facts {
             version: Blob::new(alloc),
             connection: 0,
-            status: 0,
+            status: StatusFlags(0),
             ok: None,
             left: 0,
-            gathered: Gathered::new(alloc),
+            gathered: Listed::new(alloc),
             columns,
             settings: Settings::new(login),
             place: 0,
@@ -119,7 +120,7 @@ impl Facts {
         }
     }
 
-    fn learn_ok(&mut self, ok: Option<OkPacket>, status: u16)
+    fn learn_ok(&mut self, ok: Option<OkPacket>, status: StatusFlags)
         ensures { self.new ≡ with_ok ok status self.old }
     {
         self.ok = ok;
@@ -135,7 +136,7 @@ impl Facts {
             self.left -= 1;
             return Ok(());
         }
-        self.columns = self.gathered.finish(alloc, column)?;
+        self.columns = SetColumns::finish(alloc, &mut self.gathered, column)?;
         self.left = 0;
         Ok(())
     }
@@ -161,9 +162,10 @@ impl Facts {
         }
     }
 
-    // A row that tells the settings.
+    // A row with the settings.
     fn learn_row(&mut self, alloc: Global, payload: &[u8]) -> Result<(), NoMemory>
-        ensures ok { OnOk result (self.new ≡ with_settings (row_settings (row_at self.old.columns payload.now) self.old.settings) self.old) }
+        ensures ok { let row = row_at self.old.columns payload.now in
+            OnOk result (self.new ≡ with_settings (row_settings row self.old.settings) self.old) }
         ensures err { OnErr result (self.new ≡ self.old) }
     {
         if self.settings.awaits_row() {
@@ -174,7 +176,7 @@ impl Facts {
         Ok(())
     }
 
-    /// What a payload of this kind tells. Want of memory changes nothing.
+    /// What a payload of this kind adds. Out of memory, nothing changes.
     pub fn learn(&mut self, alloc: Global, kind: Kind, payload: &[u8]) -> Result<(), NoMemory>
         ensures ok { OnOk result (self.new ≡ facts_after kind payload.now self.old) }
         ensures err { OnErr result (self.new ≡ self.old) }
@@ -194,10 +196,10 @@ impl Facts {
                 self.learn_ok(ok, status);
                 self.settings = self.settings.after_end();
             }
-            Kind::Failed => self.learn_ok(None, 0),
+            Kind::Failed => self.learn_ok(None, StatusFlags(0)),
             Kind::Count(columns) => {
                 self.left = columns;
-                self.gathered = Gathered::new(alloc);
+                self.gathered = Listed::new(alloc);
             }
             Kind::Column => {
                 let column = column_in(alloc, payload)?;

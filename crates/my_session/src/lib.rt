@@ -2,33 +2,23 @@
 #![tactic(auto)]
 
 mod answer;
-mod arranging;
-mod arrival;
 mod call;
-mod calls;
 mod columns;
 mod error;
 mod facts;
-mod front;
 mod law;
-mod machine;
-mod moves;
-mod read;
 mod session;
 mod settings;
-mod step;
 mod tables;
 
 pub use answer::{Answer, SessionStep, Tick};
-pub use arrival::Arrival;
 pub use call::{Call, CallKind, LinkFault, Task};
-pub use columns::{Gathered, SetColumns};
+pub use columns::SetColumns;
 pub use error::{DriverError, Error, IoError, IoFault, IoKind, ServerError};
 pub use facts::Facts;
 pub use law::{
     each_answer_fits, each_end, each_fault, each_history, each_setting, each_whole_call,
 };
-pub use machine::Machine;
 pub use session::Session;
 pub use settings::{Settings, Stage};
 pub use tables::{Plan, Reaction};

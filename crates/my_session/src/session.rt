@@ -1,44 +1,86 @@
-//! A session: the public calls.
+//! A session: its state, and the calls by which a caller begins a call, carries its bytes, and ends it early.
 
-ghost use Rattle.std.specs.Prelude.{◌≡◌, ◌≤◌, ◌++◌, ◌↔◌, ◌||◌, List, length, drop, take as front, true, false, OnOk, OnErr, IfOk, IfErr, IsErr};
+ghost use Rattle.std.specs.Prelude.{◌≡◌, ◌≤◌, ◌++◌, ◌↔◌, ◌||◌, length, drop, take as front, true, false, OnOk, OnErr, IfOk, IfErr, IsErr};
 ghost use Rattle.std.specs.Option.{option_copied};
+ghost use Rattle.my_session.specs.Calls.{kind_of};
+ghost use Rattle.my_session.specs.Steps.{is_refused, failing};
 
-use crate::answer::SessionStep;
+mod receiving;
+mod sending;
+mod stepping;
+
 use crate::call::{Call, CallKind, LinkFault, Task};
-use crate::error::Error;
-use crate::machine::Machine;
-use crate::step::step_machine;
-use my_frame::NoMemory;
-use my_grammar::{Login, Spot};
+use crate::error::{DriverError, Error};
+use crate::facts::Facts;
+use crate::tables::closes_when_cancelled;
+use my_frame::{Blob, NoMemory};
+use my_grammar::{Context, Login, Queue, Spot};
 use my_reply::OkPacket;
 use std::alloc::Global;
 use std::marker::Model;
 
-/// One connection's talk with a server, with no input or output of its own: a caller begins a call, sends what is owed, hands in
-/// what came, and steps the call until it is answered.
+/// One connection to a server, with no input or output of its own: a caller begins a call, sends what is owed, hands
+/// in what is received, and steps the call until it is answered.
 #[derive(Drop)]
 pub struct Session {
-    machine: Machine,
+    context: Context,
+    task: Task,
+    // The text of the open call.
+    text: Blob,
+    // Whether the end of a lone OK is still to be returned.
+    untold: bool,
+    closed: bool,
+    // Whether the link reported its end.
+    ended: bool,
+    // The sequence id of the next packet.
+    number: u8,
+    unread: Queue,
+    owed: Queue,
+    facts: Facts,
+    login: Login,
 }
 
 impl Model for Session {
-    ghost use Rattle.my_session.specs.Session.{seen};
     ghost use Rattle.my_session.specs.View.{View};
 
     ghost Value = { View };
 
-    ghost view = { λ s. record { seen = seen s.machine } };
+    ghost use Rattle.my_session.specs.Session.{HoldsBytes, seen};
+
+    ghost view = { λ s. record { seen = seen s } };
+
+    ghost invariant = { HoldsBytes };
+}
+
+fn is_refused(closed: bool, call: &Call) -> bool
+    ensures { result ≡ is_refused closed (kind_of call.now) }
+{
+    closed && call.kind() != CallKind::Quit
+}
+
+// The task of a call that is made to fail.
+fn failing(task: Task, fault: LinkFault) -> Task
+    ensures { result ≡ failing task fault }
+{
+    match task {
+        Task::Nothing => Task::Nothing,
+        Task::Begun(call) | Task::Cleaning(call) | Task::Own(call) | Task::Failing(call, _) => {
+            Task::Failing(call, fault)
+        }
+        Task::Arranging(_) => Task::Failing(CallKind::Connect, fault),
+        Task::Reading => Task::Failing(CallKind::NextRow, fault),
+        Task::Dropping => Task::Failing(CallKind::DropResult, fault),
+        Task::Leaving => Task::Failing(CallKind::Quit, fault),
+    }
 }
 
 impl Session {
-    ghost use Rattle.my_session.specs.Calls.{is_open, kind_in, kind_of};
-    ghost use Rattle.my_session.specs.Causes.{HasCause};
+    ghost use Rattle.my_session.specs.Calls.{is_open, text_of};
     ghost use Rattle.my_session.specs.Errors.{connection_closed};
-    ghost use Rattle.my_session.specs.Machine.{dropped};
-    ghost use Rattle.my_session.specs.Steps.{AtBegun, is_begun_at, is_refused, is_settled, fresh, begun, with_owed, with_unread, with_end, with_failing, with_loss, StepIs, Steps, after_step};
-    ghost use Rattle.my_session.specs.History.{History, Told, ToldError, Dropped, is_closed, beginning, began, answered, passing, took, gone, ending, losing};
-    ghost use Rattle.my_session.specs.Passed.{ArePassed};
+    ghost use Rattle.my_session.specs.History.{History, ToldError, Dropped, is_closed, beginning, began, answered, took, gone, ending, losing};
+    ghost use Rattle.my_session.specs.Machine.{dropped, fell};
     ghost use Rattle.my_session.specs.Stands.{Stands};
+    ghost use Rattle.my_session.specs.Steps.{AtBegun, is_begun_at, is_settled, fresh, begun, with_owed, with_unread, with_end, with_failing, with_loss};
     ghost use Rattle.my_session.specs.Tables.{closes_when_cancelled};
 
     /// A session that awaits the server's greeting.
@@ -46,8 +88,48 @@ impl Session {
         ensures seen { IfOk result (λ s. s.seen ≡ fresh login) }
         ensures stands { IfOk result (λ s. Stands s.seen beginning) }
     {
-        let machine = Machine::new(alloc, login)?;
-        Ok(Session { machine })
+        let facts = Facts::new(alloc, &login)?;
+        Ok(Session {
+            context: Context::start(&login),
+            task: Task::Nothing,
+            text: Blob::new(alloc),
+            untold: false,
+            closed: false,
+            ended: false,
+            number: 0,
+            unread: Queue::new(alloc),
+            owed: Queue::new(alloc),
+            facts,
+            login,
+        })
+    }
+
+    fn keep_text(&mut self, call: Call)
+        ensures { self.new.seen ≡ record self.old.seen { text = text_of call self.old.seen.text } }
+    {
+        match call {
+            Call::Query(text) => self.text = text,
+            Call::Connect | Call::NextRow | Call::DropResult | Call::Ping | Call::Quit => {}
+        }
+    }
+
+    fn start(&mut self, call: Call) -> Result<(), Error>
+        ensures ok { OnOk result (self.new.seen ≡ begun self.old.seen call) }
+        ensures err { OnErr result (self.new.seen ≡ self.old.seen) }
+        ensures why { IfErr result (λ e. e ≡ connection_closed) }
+        ensures closed { IsErr result ↔ (is_refused self.old.seen.closed (kind_of call) ≡ true) }
+        ensures free { OnOk result (is_refused self.old.seen.closed (kind_of call) ≡ false) }
+    {
+        if is_refused(self.closed, &call) {
+            return Err(Error::Driver(DriverError::ConnectionClosed));
+        }
+        self.task = if self.closed {
+            Task::Leaving
+        } else {
+            Task::Begun(call.kind())
+        };
+        self.keep_text(call);
+        Ok(())
     }
 
     /// Begins a call. The first call is Connect, and no later one is. A closed session refuses each call but `Quit`.
@@ -58,147 +140,184 @@ impl Session {
         ensures err { OnErr result (self.new.seen ≡ self.old.seen) }
         ensures why { IfErr result (λ e. e ≡ connection_closed) }
         ensures closed { IsErr result ↔ (is_refused self.old.seen.closed (kind_of call) ≡ true) }
-        ensures known { (h : History) → Stands self.old.seen h → (IsErr result ↔ (is_refused (is_closed h) (kind_of call) ≡ true)) }
+        ensures known { (h : History) → Stands self.old.seen h
+            → (IsErr result ↔ (is_refused (is_closed h) (kind_of call) ≡ true)) }
         ensures stands { OnOk result ((h : History) → Stands self.old.seen h → Stands self.new.seen (began h call)) }
-        ensures refused { OnErr result ((h : History) → Stands self.old.seen h → Stands self.new.seen (answered (began h call) (ToldError connection_closed))) }
+        ensures refused { OnErr result ((h : History) → Stands self.old.seen h
+            → Stands self.new.seen (answered (began h call) (ToldError connection_closed))) }
     {
-        self.machine.begin(call)
+        self.start(call)
     }
 
     /// Whether a call is open.
     pub fn is_open(&self) -> bool
         ensures { result ≡ is_open self.now.seen.task }
     {
-        self.machine.is_open()
+        match self.task {
+            Task::Nothing => false,
+            _ => true,
+        }
     }
 
     /// Whether the session is closed.
     pub fn is_closed(&self) -> bool
         ensures { result ≡ self.now.seen.closed }
     {
-        self.machine.closed
+        self.closed
     }
 
-    /// Whether a call of this kind may begin: on an open session Connect before the greeting, and each other one once it is
-    /// connected and no answer is awaited.
+    /// Whether a call of this kind may begin: on an open session Connect before the greeting, and each other
+    /// one once it is connected and no answer is awaited.
     pub fn may_begin(&self, call: CallKind) -> bool
         ensures value { result ≡ (self.now.seen.closed || is_begun_at call self.now.seen.context.spot) }
         ensures order { result ≡ true → self.now.seen.closed ≡ false → AtBegun call self.now.seen.context.spot }
     {
-        if self.machine.closed {
+        if self.closed {
             return true;
         }
         match call {
-            CallKind::Connect => match self.machine.context.spot {
+            CallKind::Connect => match self.context.spot {
                 Spot::Greeting => true,
                 _ => false,
             },
-            _ => match self.machine.context.spot {
+            _ => match self.context.spot {
                 Spot::Idle | Spot::Further | Spot::Rows => true,
                 _ => false,
             },
         }
     }
 
-    /// The next step of the open call. Only `DropResult` passes over rows and ends. Each error, and word that nothing is left, has its
-    /// cause in the history after what was passed over.
-    pub fn step(&mut self, alloc: Global) -> SessionStep
-        requires { is_open self.old.seen.task ≡ true }
-        ensures steps { Steps self.old.seen self.new.seen result }
-        ensures leaves { StepIs self.new.seen result }
-        ensures login { self.new.seen.login ≡ self.old.seen.login }
-        ensures stands { (h : History) → Stands self.old.seen h
-            → (passed : List Told) × ArePassed (kind_in self.old.seen.task) passed × Stands self.new.seen (after_step (passing h passed) result) × HasCause self.old.seen (passing h passed) result }
-    {
-        step_machine(alloc, &mut self.machine)
-    }
-
     /// The bytes that are to be sent.
     pub fn owed(&self) -> &[u8]
         ensures { result.now ≡ self.now.seen.owed }
     {
-        self.machine.owed()
+        self.owed.as_slice()
     }
 
-    /// So many of the bytes owed went out.
+    /// `count` of the bytes owed were sent.
     pub fn sent(&mut self, count: usize)
         requires { count ≤ length self.old.seen.owed }
         ensures seen { self.new.seen ≡ with_owed self.old.seen (drop count self.old.seen.owed) }
-        ensures stands { (h : History) → Stands self.old.seen h → Stands self.new.seen (gone h (front count self.old.seen.owed)) }
+        ensures stands { (h : History) → Stands self.old.seen h
+            → Stands self.new.seen (gone h (front count self.old.seen.owed)) }
     {
-        self.machine.sent(count);
+        self.owed.skip(count);
     }
 
-    /// These bytes came in. Want of memory lets the open call fail; where none is open, it closes the session.
+    // The call ends, and the session is closed.
+    fn fall(&mut self)
+        ensures { self.new.seen ≡ fell self.old.seen }
+    {
+        self.task = Task::Nothing;
+        self.closed = true;
+        self.owed.clear();
+    }
+
+    // Bytes were received for which there is no memory.
+    fn lose(&mut self)
+        ensures { self.new.seen ≡ with_loss self.old.seen }
+    {
+        if self.is_open() {
+            self.task = failing(self.task, LinkFault::NoMemory);
+        } else {
+            self.fall();
+        }
+    }
+
+    fn append(&mut self, bytes: &[u8]) -> Result<(), NoMemory>
+        ensures ok { OnOk result (self.new.seen ≡ with_unread self.old.seen (self.old.seen.unread ++ bytes.now)) }
+        ensures err { OnErr result (self.new.seen ≡ with_loss self.old.seen) }
+    {
+        match self.unread.push(bytes) {
+            Ok(()) => Ok(()),
+            Err(NoMemory) => {
+                self.lose();
+                Err(NoMemory)
+            }
+        }
+    }
+
+    /// These bytes were received. Out of memory, the open call fails; where none is open, the session is closed.
     pub fn take(&mut self, bytes: &[u8]) -> Result<(), NoMemory>
         ensures ok { OnOk result (self.new.seen ≡ with_unread self.old.seen (self.old.seen.unread ++ bytes.now)) }
         ensures err { OnErr result (self.new.seen ≡ with_loss self.old.seen) }
-        ensures stands { OnOk result ((h : History) → Stands self.old.seen h → Stands self.new.seen (took h bytes.now)) }
+        ensures stands { OnOk result ((h : History) → Stands self.old.seen h
+            → Stands self.new.seen (took h bytes.now)) }
         ensures lost { OnErr result ((h : History) → Stands self.old.seen h → Stands self.new.seen (losing h)) }
     {
-        self.machine.take(bytes)
+        self.append(bytes)
     }
 
-    /// The link told its end.
+    /// The link reported its end.
     pub fn end(&mut self)
         ensures seen { self.new.seen ≡ with_end self.old.seen }
         ensures stands { (h : History) → Stands self.old.seen h → Stands self.new.seen (ending h) }
     {
-        self.machine.end();
+        self.ended = true;
     }
 
-    /// The open call is told to fail: its next step is that fault, and the session is closed.
+    /// The open call fails by this fault of its link: that is its next step, and the session is closed then.
     pub fn fail(&mut self, fault: LinkFault)
         requires { is_open self.old.seen.task ≡ true }
         ensures seen { self.new.seen ≡ with_failing self.old.seen fault }
         ensures stands { (h : History) → Stands self.old.seen h → Stands self.new.seen h }
     {
-        self.machine.fail(fault);
+        self.task = failing(self.task, fault);
     }
 
-    /// The open call is cancelled. No byte that was taken is lost. A call that sends commands closes the session, unless it was
-    /// never stepped; a read closes it where the head of a further set is awaited.
+    fn drop_call(&mut self)
+        ensures { self.new.seen ≡ dropped self.old.seen }
+    {
+        if closes_when_cancelled(self.task, self.context.spot) {
+            self.fall();
+        } else {
+            self.task = Task::Nothing;
+        }
+    }
+
+    /// The open call is cancelled. No byte that was taken is lost. A call that sends commands closes the
+    /// session, unless it was never stepped; a read closes it where the head of a further set is awaited.
     pub fn cancel(&mut self)
         requires { is_open self.old.seen.task ≡ true }
         ensures seen { self.new.seen ≡ dropped self.old.seen }
-        ensures stands { (h : History) → Stands self.old.seen h
-            → Stands self.new.seen (answered h (Dropped (closes_when_cancelled self.old.seen.task self.old.seen.context.spot))) }
+        ensures stands { let s = self.old.seen in (h : History) → Stands s h
+            → Stands self.new.seen (answered h (Dropped (closes_when_cancelled s.task s.context.spot))) }
     {
-        let _ = self.machine.cancel();
+        self.drop_call();
     }
 
-    /// The number of the connection, as the server told it.
+    /// The number of the connection, as the server reported it.
     pub fn connection_id(&self) -> u32
         ensures { result ≡ self.now.seen.facts.connection }
     {
-        self.machine.facts.connection
+        self.facts.connection
     }
 
-    /// The server's version, as it told it.
+    /// The server's version, as it reported it.
     pub fn version(&self) -> &[u8]
         ensures { result.now ≡ self.now.seen.facts.version }
     {
-        self.machine.facts.version.as_slice()
+        self.facts.version.as_slice()
     }
 
     /// The longest payload of a command and its answer, in bytes.
     pub fn limit(&self) -> u64
         ensures { result ≡ self.now.seen.facts.settings.limit }
     {
-        self.machine.facts.settings.limit
+        self.facts.settings.limit
     }
 
-    /// After so many seconds without a command the server ends the connection.
+    /// After this many seconds without a command the server ends the connection.
     pub fn wait_timeout(&self) -> u64
         ensures { result ≡ self.now.seen.facts.settings.wait_timeout }
     {
-        self.machine.facts.settings.wait_timeout
+        self.facts.settings.wait_timeout
     }
 
     /// The last OK, or the OK that ended a set; none after an ERR.
     pub fn last_ok(&self) -> Option<&OkPacket>
         ensures { option_copied result ≡ self.now.seen.facts.ok }
     {
-        self.machine.facts.ok.as_ref()
+        self.facts.ok.as_ref()
     }
 }

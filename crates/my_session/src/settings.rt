@@ -1,21 +1,18 @@
-//! How long a payload may be, and how long a connection may rest: by the options, or as the server tells it.
+//! How long a payload may be, and how long a connection may rest: by the options, or by the server's answer.
 
 ghost use Rattle.std.specs.Prelude.{◌≡◌, max, min, slice_get};
 ghost use Rattle.std.specs.Option.{option_copied};
 ghost use Rattle.my_frame.specs.Numeral.{whole_number};
 ghost use Rattle.my_session.specs.Settings.{bounded, in_force, limit_in, number_in, wait_in, wait_place};
 
-use my_grammar::{DEFAULT_LIMIT, Login};
+use my_frame::limits::{
+    DEFAULT_MAX_ALLOWED_PACKET, GREATEST_MAX_ALLOWED_PACKET, LEAST_MAX_ALLOWED_PACKET,
+};
+use my_grammar::Login;
 use my_value::{Row, Value};
 
-/// What stands for a timeout that isn't told, in seconds: eight hours.
+/// The timeout where the server's answer has none, in seconds: eight hours.
 const DEFAULT_WAIT: u64 = 28_800;
-
-/// What a server's limit is at least, in bytes.
-const LEAST_LIMIT: u64 = 1_024;
-
-/// What a server's limit is at most, in bytes.
-const MOST_LIMIT: u64 = 1_073_741_824;
 
 /// How far the settings are known.
 #[derive(Clone, Copy, Debug, PartialEq, Eq)]
@@ -39,11 +36,11 @@ pub struct Settings {
     pub limit: u64,
     /// What that will be once the settings are known.
     pub next_limit: u64,
-    /// After so many seconds without a command the server ends the connection.
+    /// After this many seconds without a command the server ends the connection.
     pub wait_timeout: u64,
 }
 
-// The whole number that a text writes: a plus or none, and decimal digits.
+// The whole number that a text writes: perhaps a plus, and decimal digits.
 fn number_at(text: &[u8]) -> Option<u64>
     ensures { result ≡ whole_number 64 text.now }
 {
@@ -66,7 +63,9 @@ fn number_in(cell: Option<&Value>) -> Option<u64>
 fn bounded(limit: u64) -> u64
     ensures { result ≡ bounded limit }
 {
-    limit.max(LEAST_LIMIT).min(MOST_LIMIT)
+    limit
+        .max(LEAST_MAX_ALLOWED_PACKET)
+        .min(GREATEST_MAX_ALLOWED_PACKET)
 }
 
 fn limit_in(option: Option<u64>, row: &Row) -> u64
@@ -74,7 +73,7 @@ fn limit_in(option: Option<u64>, row: &Row) -> u64
 {
     match option {
         Some(limit) => limit,
-        None => bounded(number_in(row.as_ref(0)).unwrap_or(DEFAULT_LIMIT)),
+        None => bounded(number_in(row.as_ref(0)).unwrap_or(DEFAULT_MAX_ALLOWED_PACKET)),
     }
 }
 
@@ -108,8 +107,8 @@ impl Settings {
             stage: Stage::Unasked,
             limit_option: login.packet_limit,
             wait_option: login.wait_timeout,
-            limit: DEFAULT_LIMIT,
-            next_limit: login.packet_limit.unwrap_or(DEFAULT_LIMIT),
+            limit: DEFAULT_MAX_ALLOWED_PACKET,
+            next_limit: login.packet_limit.unwrap_or(DEFAULT_MAX_ALLOWED_PACKET),
             wait_timeout: login.wait_timeout.unwrap_or(DEFAULT_WAIT),
         }
     }
@@ -151,14 +150,14 @@ impl Settings {
         }
     }
 
-    /// Whether a row is awaited that tells the settings.
+    /// Whether a row with the settings is awaited.
     pub fn awaits_row(self) -> bool
         ensures { result ≡ awaits_row self.stage }
     {
         self.stage == Stage::Asked
     }
 
-    /// After a row that tells the settings.
+    /// After a row with the settings.
     pub fn after_row(self, row: &Row) -> Settings
         ensures { result ≡ told row.now.cells self }
     {

@@ -13,21 +13,22 @@ pub enum Plan {
     Reads,
     /// The call's first task begins.
     Starts(Task),
-    /// An end that wasn't told is dropped.
+    /// The end of a lone OK that no read returned is dropped.
     Hears,
     /// The call's own command is owed.
     Asks(CallKind),
-    /// The next query that sets the connection up is owed, after so many; where none is left, the connection is made.
+    /// The next query that sets the connection up is owed, after this many others; where none is left, the
+    /// connection is made.
     Arranges(usize),
     /// The call is answered: its command was accepted.
     Readies,
-    /// The session is closed.
+    /// The session is closed: `Quit` is done.
     Quits,
-    /// An end that wasn't told is passed over.
+    /// The end of a lone OK that no read returned is passed over.
     Passes,
-    /// Nothing is left to be passed over.
+    /// Nothing is left to be passed over: `DropResult` is done.
     Dropped,
-    /// An end that wasn't told is told.
+    /// The end of a lone OK that no read returned is the answer.
     Ends,
     /// Nothing is left to be read.
     NoMore,
@@ -38,7 +39,7 @@ pub enum Plan {
 pub enum Reaction {
     /// The call goes on with this task.
     Goes(Task),
-    /// The call is answered; the end of a lone OK is left to be told, or not.
+    /// The call is answered; whether the end of a lone OK is left for a read to return.
     Readies(bool),
     /// The row is the call's answer.
     Gives,
@@ -65,7 +66,7 @@ fn first_task(call: CallKind) -> Task
     }
 }
 
-// What is left of a response is read, and then comes what is planned after it.
+// The rest of a response is read, and then `following` is done.
 fn clean_plan(following: Plan, spot: Spot, untold: bool) -> Plan
     ensures { result ≡ clean_plan following spot untold }
 {
@@ -234,7 +235,7 @@ pub fn react_to(task: Task, kind: Kind) -> Reaction
     }
 }
 
-/// Whether a payload fits no case.
+/// Whether the payload fits no case.
 pub fn is_breaking(reaction: Reaction) -> bool
     ensures { result ≡ is_breaking reaction }
 {

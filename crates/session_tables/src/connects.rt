@@ -1,29 +1,80 @@
-//! Connections that are set up: what is asked after the login, what the server tells, and what holds then.
+//! Connections that are set up: what is asked after the login, what the server answers, and what holds then.
 
-use crate::play::{LOGIN, RESPONSE, Then, turn};
-use my_frame::{Blob, NoMemory};
-use my_grammar::{Login, Texts};
-use my_handshake::Attributes;
+use crate::play::{LOGIN, RESPONSE, Then, login, turn};
+use my_frame::limits::DEFAULT_MAX_ALLOWED_PACKET;
+use my_frame::{Blob, Listed, NoMemory};
 use my_session::Session;
 use std::alloc::Global;
 use std::fmt::Write;
 use std::process::Abort;
 use std::test::Fail;
 
-// The options of a connection, each text of the two lists one byte; what the server says after the login; what is sent then, with the
-// answer, the limit and the timeout; and one call more, what comes in for it, and what was sent with its answer.
+// The queries for both settings, for the limit, and for the timeout.
+const ASKS_BOTH: &str = "2b0000000353454c4543542040406d61785f616c6c6f7765645f7061636b65742c\
+    4040776169745f74696d656f7574 ";
+
+const ASKS_LIMIT: &str = "1c0000000353454c4543542040406d61785f616c6c6f7765645f7061636b6574 ";
+
+const ASKS_WAIT: &str = "160000000353454c454354204040776169745f74696d656f7574 ";
+
+// The head of a set of two columns, and of one.
+const TWO: &str = "01000001 02 17000002 0364656600000001 70 000c3f0001000000088100000000 \
+    17000003 0364656600000001 77 000c3f0001000000088100000000";
+
+const ONE: &str = "01000001 01 17000002 0364656600000001 70 000c3f0001000000088100000000";
+
+const OK: &str = "07000001 00000002000000";
+
+const REFUSED: &str = "0a000001 ff2804 23 3432303030 58";
+
+// A call more, which an open session answers, and which a closed one refuses.
+const PING: (&str, &str, &str) = ("ping", OK, "010000000e ok");
+
+const NO_PING: (&str, &str, &str) = ("ping", OK, "error closed");
+
+// The options of a connection, each text of the two lists one byte; what the server sends after the login, in two parts; what the
+// client asks first then, and what it sends after that, with the answer, the limit and the timeout; and one call more, the bytes that
+// are received for it, and what was sent with its answer.
+#[derive(Clone, Copy)]
 struct Case<'a> {
     limit: Option<u64>,
     wait: Option<u64>,
     init: &'a str,
     setup: &'a str,
-    server: &'a str,
+    head: &'a str,
+    rest: &'a str,
+    asks: &'a str,
     want: &'a str,
     then: (&'a str, &'a str, &'a str),
 }
 
-fn texts(alloc: Global, list: &str) -> Result<Texts, NoMemory> {
-    let mut texts = Texts::new(alloc);
+// Both settings are asked for, and this is answered.
+fn asked<'a>(head: &'a str, rest: &'a str, want: &'a str) -> Case<'a> {
+    Case {
+        limit: None,
+        wait: None,
+        init: "",
+        setup: "",
+        head,
+        rest,
+        asks: ASKS_BOTH,
+        want,
+        then: PING,
+    }
+}
+
+// Both settings are given, and nothing is asked.
+fn given<'a>(rest: &'a str, want: &'a str) -> Case<'a> {
+    Case {
+        limit: Some(DEFAULT_MAX_ALLOWED_PACKET),
+        wait: Some(60),
+        asks: "",
+        ..asked("", rest, want)
+    }
+}
+
+fn texts(alloc: Global, list: &str) -> Result<Listed<Blob>, NoMemory> {
+    let mut texts = Listed::new(alloc);
     for &byte in list.as_bytes() {
         texts.push(Blob::from_slice(alloc, &[byte])?)?;
     }
@@ -31,25 +82,16 @@ fn texts(alloc: Global, list: &str) -> Result<Texts, NoMemory> {
 }
 
 fn new_session(alloc: Global, case: &Case) -> Result<Session, NoMemory> {
-    let login = Login {
-        user: Some(Blob::from_slice(alloc, b"root")?),
-        password: None,
-        database: None,
-        max_packet: 4_194_304,
-        attributes: Attributes::new(alloc),
-        capabilities: 0x10f_a281,
-        packet_limit: case.limit,
-        wait_timeout: case.wait,
-        init: texts(alloc, case.init)?,
-        setup: texts(alloc, case.setup)?,
-    };
+    let mut login = login(alloc, case.limit, case.wait)?;
+    login.init = texts(alloc, case.init)?;
+    login.setup = texts(alloc, case.setup)?;
     Session::new(alloc, login)
 }
 
 // What is sent while a session connects, with the answer, the limit and the timeout.
-fn connect(alloc: Global, session: &mut Session, server: &str) -> Result<String, NoMemory> {
+fn connect(alloc: Global, session: &mut Session, case: &Case) -> Result<String, NoMemory> {
     let mut bytes = String::new(alloc);
-    write!(bytes, "{LOGIN}{server}")?;
+    write!(bytes, "{LOGIN}{}{}", case.head, case.rest)?;
     let mut shown = turn(alloc, session, "connect", bytes.as_str(), Then::Cancels)?;
     let limit = session.limit();
     let wait = session.wait_timeout();
@@ -63,9 +105,11 @@ fn connects_so(
     session: &mut Session,
     case: &Case,
 ) -> Result<(), Fail> {
-    let text = connect(alloc, session, case.server)?;
+    let text = connect(alloc, session, case)?;
     let sent = text.as_str().strip_prefix(RESPONSE).unwrap_or("");
-    assert_eq!(rt; sent, case.want);
+    let mut want = String::new(alloc);
+    write!(want, "{}{}", case.asks, case.want)?;
+    assert_eq!(rt; sent, want.as_str());
     Ok(())
 }
 
@@ -93,59 +137,38 @@ fn both_are_asked(rt: HostRuntime) -> Result<(), Fail> {
     for case in &[
         // The server's limit is taken within bounds, and holds for commands and for answers.
         Case {
-            limit: None,
-            wait: None,
-            init: "",
-            setup: "",
-            server: "01000001 02 17000002 0364656600000001 70 000c3f0001000000088100000000 17000003 \
-                0364656600000001 77 000c3f0001000000088100000000 0b000004 0431303030 053238383030 \
-                07000005 fe000002000000",
-            want: "2b0000000353454c4543542040406d61785f616c6c6f7765645f7061636b65742c4040776169745f74696d656f7574 \
-                ok 1024 28800",
             then: (
                 "DO 1",
                 "01040001",
                 "0500000003444f2031 error length 1025 1024",
             ),
+            ..asked(
+                TWO,
+                "0b000004 0431303030 053238383030 07000005 fe000002000000",
+                "ok 1024 28800",
+            )
         },
         Case {
-            limit: None,
-            wait: None,
-            init: "",
-            setup: "",
-            server: "01000001 02 17000002 0364656600000001 70 000c3f0001000000088100000000 17000003 \
-                0364656600000001 77 000c3f0001000000088100000000 0b000004 0431303030 053238383030 \
-                07000005 fe000002000000",
-            want: "2b0000000353454c4543542040406d61785f616c6c6f7765645f7061636b65742c4040776169745f74696d656f7574 \
-                ok 1024 28800",
             then: ("long", "", "error length 1025 1024"),
+            ..asked(
+                TWO,
+                "0b000004 0431303030 053238383030 07000005 fe000002000000",
+                "ok 1024 28800",
+            )
         },
-        Case {
-            limit: None,
-            wait: None,
-            init: "",
-            setup: "",
-            server: "01000001 02 17000002 0364656600000001 70 000c3f0001000000088100000000 17000003 \
-                0364656600000001 77 000c3f0001000000088100000000 0d000004 0a32303030303030303030 0130 \
-                07000005 fe000002000000",
-            want: "2b0000000353454c4543542040406d61785f616c6c6f7765645f7061636b65742c4040776169745f74696d656f7574 \
-                ok 1073741824 0",
-            then: ("ping", "07000001 00000002000000", "010000000e ok"),
-        },
+        asked(
+            TWO,
+            "0d000004 0a32303030303030303030 0130 07000005 fe000002000000",
+            "ok 1073741824 0",
+        ),
         // The last row of the first set counts.
-        Case {
-            limit: None,
-            wait: None,
-            init: "",
-            setup: "",
-            server: "01000001 02 17000002 0364656600000001 70 000c3f0001000000088100000000 17000003 \
-                0364656600000001 77 000c3f0001000000088100000000 0a000004 0432303438 0431303030 08000005 \
-                0434303936 023939 07000006 fe00000a000000 01000007 01 17000008 0364656600000001 70 \
-                000c3f0001000000088100000000 05000009 0438313932 0700000a fe000002000000",
-            want: "2b0000000353454c4543542040406d61785f616c6c6f7765645f7061636b65742c4040776169745f74696d656f7574 \
-                ok 4096 99",
-            then: ("ping", "07000001 00000002000000", "010000000e ok"),
-        },
+        asked(
+            TWO,
+            "0a000004 0432303438 0431303030 08000005 0434303936 023939 07000006 fe00000a000000 \
+                01000007 01 17000008 0364656600000001 70 000c3f0001000000088100000000 \
+                05000009 0438313932 0700000a fe000002000000",
+            "ok 4096 99",
+        ),
     ] {
         play(&rt, alloc, case)?;
     }
@@ -157,59 +180,35 @@ fn usual_values_stand(rt: HostRuntime) -> Result<(), Fail> {
     let alloc = rt.alloc();
     for case in &[
         // What isn't there, or is NULL or no number, is the usual value.
-        Case {
-            limit: None,
-            wait: None,
-            init: "",
-            setup: "",
-            server: "01000001 01 17000002 0364656600000001 70 000c3f0001000000088100000000 05000003 \
-                0438313932 07000004 fe000002000000",
-            want: "2b0000000353454c4543542040406d61785f616c6c6f7765645f7061636b65742c4040776169745f74696d656f7574 \
-                ok 8192 28800",
-            then: ("ping", "07000001 00000002000000", "010000000e ok"),
-        },
-        Case {
-            limit: None,
-            wait: None,
-            init: "",
-            setup: "",
-            server: "01000001 02 17000002 0364656600000001 70 000c3f0001000000088100000000 17000003 \
-                0364656600000001 77 000c3f0001000000088100000000 04000004 fb 023178 07000005 \
-                fe000002000000",
-            want: "2b0000000353454c4543542040406d61785f616c6c6f7765645f7061636b65742c4040776169745f74696d656f7574 \
-                ok 4194304 28800",
-            then: ("ping", "07000001 00000002000000", "010000000e ok"),
-        },
-        Case {
-            limit: None,
-            wait: None,
-            init: "",
-            setup: "",
-            server: "07000001 00000002000000",
-            want: "2b0000000353454c4543542040406d61785f616c6c6f7765645f7061636b65742c4040776169745f74696d656f7574 \
-                ok 4194304 28800",
-            then: ("ping", "07000001 00000002000000", "010000000e ok"),
-        },
+        asked(
+            ONE,
+            "05000003 0438313932 07000004 fe000002000000",
+            "ok 8192 28800",
+        ),
+        asked(
+            TWO,
+            "04000004 fb 023178 07000005 fe000002000000",
+            "ok 4194304 28800",
+        ),
+        asked(OK, "", "ok 4194304 28800"),
         // One of them is asked for.
         Case {
-            limit: None,
             wait: Some(60),
-            init: "",
-            setup: "",
-            server: "01000001 01 17000002 0364656600000001 70 000c3f0001000000088100000000 06000003 \
-                052b32303438 07000004 fe000002000000",
-            want: "1c0000000353454c4543542040406d61785f616c6c6f7765645f7061636b6574 ok 2048 60",
-            then: ("ping", "07000001 00000002000000", "010000000e ok"),
+            asks: ASKS_LIMIT,
+            ..asked(
+                ONE,
+                "06000003 052b32303438 07000004 fe000002000000",
+                "ok 2048 60",
+            )
         },
         Case {
             limit: Some(8_192),
-            wait: None,
-            init: "",
-            setup: "",
-            server: "01000001 01 17000002 0364656600000001 70 000c3f0001000000088100000000 04000003 03333031 \
-                07000004 fe000002000000",
-            want: "160000000353454c454354204040776169745f74696d656f7574 ok 8192 301",
-            then: ("ping", "07000001 00000002000000", "010000000e ok"),
+            asks: ASKS_WAIT,
+            ..asked(
+                ONE,
+                "04000003 03333031 07000004 fe000002000000",
+                "ok 8192 301",
+            )
         },
     ] {
         play(&rt, alloc, case)?;
@@ -222,65 +221,46 @@ fn queries_set_up(rt: HostRuntime) -> Result<(), Fail> {
     let alloc = rt.alloc();
     for case in &[
         // Where both options are set and there are no texts, nothing is sent.
-        Case {
-            limit: Some(4_194_304),
-            wait: Some(60),
-            init: "",
-            setup: "",
-            server: "",
-            want: "ok 4194304 60",
-            then: ("ping", "07000001 00000002000000", "010000000e ok"),
-        },
+        given("", "ok 4194304 60"),
         // Each list is sent from its last text to its first.
         Case {
-            limit: Some(4_194_304),
-            wait: Some(60),
             init: "AB",
             setup: "CD",
-            server: "07000001 00000002000000 07000001 00000002000000 07000001 00000002000000 07000001 \
-                00000002000000",
-            want: "020000000342 020000000341 020000000344 020000000343 ok 4194304 60",
-            then: ("ping", "07000001 00000002000000", "010000000e ok"),
+            ..given(
+                "07000001 00000002000000 07000001 00000002000000 07000001 00000002000000 \
+                    07000001 00000002000000",
+                "020000000342 020000000341 020000000344 020000000343 ok 4194304 60",
+            )
         },
         // Answers are read whole, with all their sets, and within the limit of the options.
         Case {
             limit: Some(1_024),
-            wait: Some(60),
-            init: "",
             setup: "AB",
-            server: "01000001 01 17000002 0364656600000001 70 000c3f0001000000088100000000 02000003 0131 \
-                07000004 fe00000a000000 07000005 00000002000000 01040001",
-            want: "020000000342 020000000341 error length 1025 1024 1024 60",
-            then: ("ping", "07000001 00000002000000", "error closed"),
+            head: ONE,
+            then: NO_PING,
+            ..given(
+                "02000003 0131 07000004 fe00000a000000 07000005 00000002000000 01040001",
+                "020000000342 020000000341 error length 1025 1024 1024 60",
+            )
         },
         // A server's error closes the session, which isn't connected yet; so does a cancelling before all are answered.
         Case {
-            limit: Some(4_194_304),
-            wait: Some(60),
             init: "AB",
-            setup: "",
-            server: "07000001 00000002000000 0a000001 ff2804 23 3432303030 58",
-            want: "020000000342 020000000341 error 1064 42000 X 4194304 60",
-            then: ("ping", "07000001 00000002000000", "error closed"),
+            head: OK,
+            then: NO_PING,
+            ..given(
+                REFUSED,
+                "020000000342 020000000341 error 1064 42000 X 4194304 60",
+            )
         },
         Case {
-            limit: None,
-            wait: None,
-            init: "",
-            setup: "",
-            server: "0a000001 ff2804 23 3432303030 58",
-            want: "2b0000000353454c4543542040406d61785f616c6c6f7765645f7061636b65742c4040776169745f74696d656f7574 \
-                error 1064 42000 X 4194304 28800",
-            then: ("ping", "07000001 00000002000000", "error closed"),
+            then: NO_PING,
+            ..asked("", REFUSED, "error 1064 42000 X 4194304 28800")
         },
         Case {
-            limit: Some(4_194_304),
-            wait: Some(60),
             init: "AB",
-            setup: "",
-            server: "07000001 00000002000000",
-            want: "020000000342 020000000341 waits 4194304 60",
-            then: ("ping", "07000001 00000002000000", "error closed"),
+            then: NO_PING,
+            ..given(OK, "020000000342 020000000341 waits 4194304 60")
         },
     ] {
         play(&rt, alloc, case)?;

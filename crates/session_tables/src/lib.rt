@@ -1,5 +1,5 @@
 //! Tables of talks with a server: what the bytes of a stream are cut into, and what a session answers and sends. The
-//! expected values stand in the public pages of the protocol and in worked conversations. This crate has tests alone.
+//! expected values are those of the public pages of the protocol and in worked conversations. This crate has tests alone.
 #![tactic(auto)]
 
 #[cfg(test)]

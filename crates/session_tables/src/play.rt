@@ -4,7 +4,11 @@ ghost use Rattle.std.specs.Prelude.{◌≡◌, true, OnOk};
 ghost use Rattle.my_session.specs.Calls.{is_open};
 
 use crate::hex::bytes_of;
-use my_frame::{Blob, CodecFault, NoMemory};
+use my_flags::CapabilityFlags;
+use my_frame::limits::DEFAULT_MAX_ALLOWED_PACKET;
+use my_frame::{Blob, CodecFault, Listed, NoMemory};
+use my_grammar::Login;
+use my_handshake::Attributes;
 use my_session::{
     Answer, Call, DriverError, Error, IoError, IoFault, IoKind, LinkFault, Session, SessionStep,
 };
@@ -23,7 +27,30 @@ pub const RESPONSE: &str =
     "3c00000181a20f01000040002d0000000000000000000000000000000000000000000000\
     726f6f7400006d7973716c5f6e61746976655f70617373776f726400 ";
 
-/// What happens where bytes are awaited that don't come: the call is cancelled or told to fail, or the link ends.
+/// What the client can do, after the greeting too.
+pub const KEPT: CapabilityFlags = CapabilityFlags(0x10f_a281);
+
+/// A user `root`, with these options of the two settings.
+pub fn login(
+    alloc: Global,
+    packet_limit: Option<u64>,
+    wait_timeout: Option<u64>,
+) -> Result<Login, NoMemory> {
+    Ok(Login {
+        user: Some(Blob::from_slice(alloc, b"root")?),
+        password: None,
+        database: None,
+        max_packet: 4_194_304,
+        attributes: Attributes::new(alloc),
+        capabilities: KEPT,
+        packet_limit,
+        wait_timeout,
+        init: Listed::new(alloc),
+        setup: Listed::new(alloc),
+    })
+}
+
+/// What happens where bytes are awaited that don't come: the call is cancelled or made to fail, or the link ends.
 #[derive(Clone, Copy)]
 pub enum Then {
     Cancels,
@@ -31,8 +58,8 @@ pub enum Then {
     Ends,
 }
 
-// A query of so many bytes.
-fn long_query(alloc: Global, length: usize) -> Result<Call, AllocError> {
+// A query of `length` bytes.
+fn long_query(alloc: Global, length: usize) -> Result<Call, NoMemory> {
     let mut text = Vec::new(alloc);
     for _ in 0..length {
         text.push(b'x')?;
@@ -40,7 +67,7 @@ fn long_query(alloc: Global, length: usize) -> Result<Call, AllocError> {
     Ok(Call::Query(Blob::from(text)))
 }
 
-fn call_of(alloc: Global, text: &str) -> Result<Call, AllocError> {
+fn call_of(alloc: Global, text: &str) -> Result<Call, NoMemory> {
     match text {
         "long" => long_query(alloc, 1_024),
         "connect" => Ok(Call::Connect),
@@ -112,7 +139,7 @@ fn show_error(text: &mut String, error: &Error) -> Result<(), AllocError> {
     }
 }
 
-// All bytes came in that do: whether the call goes on.
+// No more bytes come: whether the call goes on.
 fn end_link(session: &mut Session, then: Then) -> bool
     requires { is_open session.old.seen.task ≡ true }
     ensures { result ≡ true → is_open session.new.seen.task ≡ true }

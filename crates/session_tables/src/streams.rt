@@ -1,11 +1,11 @@
 //! Streams of a server whose exchanges are known.
 
 use crate::hex::bytes_of;
+use crate::play::{KEPT, login};
+use my_flags::CapabilityFlags;
+use my_frame::limits::DEFAULT_MAX_ALLOWED_PACKET;
 use my_frame::{Blob, CodecFault, NoMemory};
-use my_grammar::{
-    CutRest, Found, Kind, Login, Opening, Packet, Queue, Terms, Texts, cut_bytes, native_answer,
-};
-use my_handshake::Attributes;
+use my_grammar::{CutRest, Found, Kind, Opening, Packet, Queue, Terms, cut_bytes, native_answer};
 use std::alloc::{AllocError, Global};
 use std::fmt::Write;
 use std::test::Fail;
@@ -23,28 +23,16 @@ const OK: &str = "00000002000000";
 
 const COLUMN: &str = "0364656600000001 31 000c3f0001000000088100000000";
 
-// What both sides can do, with the end of sets by an OK and without.
-const KEPT: u32 = 0x10f_a281;
+// What both sides can do where sets end with an EOF.
+const KEPT_OLD: CapabilityFlags = CapabilityFlags(0x0f_a281);
 
-const KEPT_OLD: u32 = 0x0f_a281;
-
-fn root(alloc: Global) -> Result<Login, AllocError> {
-    Ok(Login {
-        user: Some(Blob::from_slice(alloc, b"root")?),
-        password: None,
-        database: None,
-        max_packet: 4_194_304,
-        attributes: Attributes::new(alloc),
-        capabilities: KEPT,
-        packet_limit: None,
-        wait_timeout: None,
-        init: Texts::new(alloc),
-        setup: Texts::new(alloc),
-    })
-}
-
-// A connection, and then so many queries.
-fn openings(alloc: Global, queries: u8, kept: u32, limit: u64) -> Result<Vec<Opening>, NoMemory> {
+// A connection, and then `queries` queries.
+fn openings(
+    alloc: Global,
+    queries: u8,
+    kept: CapabilityFlags,
+    limit: u64,
+) -> Result<Vec<Opening>, NoMemory> {
     let mut openings = Vec::new(alloc);
     openings.push(Opening::Connect).map_err(|_| NoMemory)?;
     for _ in 0..queries {
@@ -58,14 +46,14 @@ fn openings(alloc: Global, queries: u8, kept: u32, limit: u64) -> Result<Vec<Ope
 
 fn show_packet(text: &mut String, packet: &Packet) -> Result<(), AllocError> {
     match packet.kind {
-        Kind::Greets(capabilities) => write!(text, "greets:{capabilities:x} "),
-        Kind::Good(status) => write!(text, "ok:{status} "),
+        Kind::Greets(capabilities) => write!(text, "greets:{:x} ", capabilities.0),
+        Kind::Good(status) => write!(text, "ok:{} ", status.0),
         Kind::Failed => text.push_str("err "),
         Kind::Count(columns) => write!(text, "count:{columns} "),
         Kind::Column => text.push_str("column "),
         Kind::ColumnsDone => text.push_str("eof "),
         Kind::Row => show_row(text, packet.payload.as_slice()),
-        Kind::End(status) => write!(text, "end:{status} "),
+        Kind::End(status) => write!(text, "end:{} ", status.0),
         Kind::Bad => text.push_str("bad "),
     }
 }
@@ -105,7 +93,7 @@ fn show(alloc: Global, found: &Found) -> Result<String, AllocError> {
     Ok(text)
 }
 
-// Payloads with the numbers of their headers, then bytes as they stand.
+// Payloads with the sequence ids of their headers, then further bytes.
 fn stream(alloc: Global, packets: &[(u8, &str)], tail: &str) -> Result<Queue, NoMemory> {
     let mut bytes = Queue::new(alloc);
     for &(number, payload) in packets {
@@ -121,7 +109,7 @@ fn stream(alloc: Global, packets: &[(u8, &str)], tail: &str) -> Result<Queue, No
 struct Example<'a> {
     name: &'a str,
     queries: u8,
-    kept: u32,
+    kept: CapabilityFlags,
     limit: u64,
     packets: &'a [(u8, &'a str)],
     tail: &'a str,
@@ -129,7 +117,7 @@ struct Example<'a> {
 }
 
 fn shown(alloc: Global, case: &Example) -> Result<String, NoMemory> {
-    let login = root(alloc)?;
+    let login = login(alloc, None, None)?;
     let openings = openings(alloc, case.queries, case.kept, case.limit)?;
     let bytes = stream(alloc, case.packets, case.tail)?;
     let found = cut_bytes(alloc, &login, openings.as_slice(), bytes.as_slice())?;
@@ -142,7 +130,7 @@ fn case<'a>(name: &'a str, packets: &'a [(u8, &'a str)], shows: &'a str) -> Exam
         name,
         queries: 1,
         kept: KEPT,
-        limit: 4_194_304,
+        limit: DEFAULT_MAX_ALLOWED_PACKET,
         packets,
         tail: "",
         shows,
@@ -325,8 +313,8 @@ fn streams_are_cut(rt: HostRuntime) -> Result<(), Fail> {
 #[test]
 fn ample_sent(rt: HostRuntime) -> Result<(), Fail> {
     let alloc = rt.alloc();
-    let login = root(alloc)?;
-    let openings = openings(alloc, 1, KEPT, 4_194_304)?;
+    let login = login(alloc, None, None)?;
+    let openings = openings(alloc, 1, KEPT, DEFAULT_MAX_ALLOWED_PACKET)?;
     let bytes = stream(alloc, &[(0, GREETING), (2, OK)], "")?;
     let found = cut_bytes(alloc, &login, openings.as_slice(), bytes.as_slice())?;
     let mut sent = Vec::new(alloc);
@@ -342,7 +330,7 @@ fn ample_sent(rt: HostRuntime) -> Result<(), Fail> {
     Ok(())
 }
 
-// Rows number their chunks on beyond 255.
+// The sequence ids of rows go on after 255 from 0.
 #[test]
 fn ample_rows(rt: HostRuntime) -> Result<(), Fail> {
     let alloc = rt.alloc();
@@ -353,8 +341,13 @@ fn ample_rows(rt: HostRuntime) -> Result<(), Fail> {
         number = number.wrapping_add(1);
     }
     bytes.push(&[7, 0, 0, 47, 0xFE, 0, 0, 2, 0, 0, 0])?;
-    let openings = openings(alloc, 1, KEPT, 4_194_304)?;
-    let found = cut_bytes(alloc, &root(alloc)?, openings.as_slice(), bytes.as_slice())?;
+    let openings = openings(alloc, 1, KEPT, DEFAULT_MAX_ALLOWED_PACKET)?;
+    let found = cut_bytes(
+        alloc,
+        &login(alloc, None, None)?,
+        openings.as_slice(),
+        bytes.as_slice(),
+    )?;
     assert_eq!(rt; found.rest, CutRest::Trailing);
     assert_eq!(rt; found.exchanges.len(), 2);
     assert_eq!(rt; found.exchanges[1].packets.len(), 303);

@@ -1,9 +1,8 @@
 //! Talks with a server whose bytes are known.
 
-use crate::play::{LOGIN, RESPONSE, Then, turn};
-use my_frame::{Blob, NoMemory};
-use my_grammar::{Login, Texts};
-use my_handshake::Attributes;
+use crate::play::{LOGIN, RESPONSE, Then, login, turn};
+use my_frame::NoMemory;
+use my_frame::limits::DEFAULT_MAX_ALLOWED_PACKET;
 use my_session::Session;
 use std::alloc::Global;
 use std::fmt::Write;
@@ -26,7 +25,7 @@ const SETS: &str = "090000000353454c4543542032 ok";
 
 const DO: &str = "0500000003444f2031 ok";
 
-// A session that is connected and then makes these calls: of each the call, the bytes that come in while it is open, and what was sent
+// A session that is connected and then makes these calls: of each the call, the bytes that are received while it is open, and what was sent
 // for it with its answer.
 struct Talk<'a> {
     turns: &'a [(&'a str, &'a str, &'a str)],
@@ -34,18 +33,7 @@ struct Talk<'a> {
 }
 
 fn new_session(alloc: Global) -> Result<Session, NoMemory> {
-    let login = Login {
-        user: Some(Blob::from_slice(alloc, b"root")?),
-        password: None,
-        database: None,
-        max_packet: 4_194_304,
-        attributes: Attributes::new(alloc),
-        capabilities: 0x10f_a281,
-        packet_limit: Some(4_194_304),
-        wait_timeout: Some(28_800),
-        init: Texts::new(alloc),
-        setup: Texts::new(alloc),
-    };
+    let login = login(alloc, Some(DEFAULT_MAX_ALLOWED_PACKET), Some(28_800))?;
     Session::new(alloc, login)
 }
 
@@ -99,7 +87,7 @@ fn turns_are_answered(rt: HostRuntime) -> Result<(), Fail> {
             ],
             then: Then::Cancels,
         },
-        // An error that wasn't read is told to the next command, and once; a quit is sent once.
+        // An error that wasn't read is returned by the next command, and once; a quit is sent once.
         Talk {
             turns: &[
                 (

@@ -1,4 +1,4 @@
--- What is cut stands there.
+-- What is cut is in the bytes.
 use Rattle.my_grammar.proofs.Sound.{cut_is_sound}
 use Rattle.my_grammar.proofs.laws.cutting_is_sound.Goals as goal
 

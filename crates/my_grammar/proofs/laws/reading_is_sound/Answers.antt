@@ -1,4 +1,4 @@
--- What is read stands there.
+-- What is read is in the bytes.
 use Rattle.my_grammar.proofs.Sound.{sound}
 use Rattle.my_grammar.proofs.laws.reading_is_sound.Goals as goal
 

@@ -1,4 +1,4 @@
--- What was found stands in front.
+-- The bytes begin with what was found.
 use Rattle.my_grammar.proofs.InFronts.{found_stands}
 use Rattle.my_grammar.proofs.progress.whole_in_front.Goals as goal
 

@@ -1,4 +1,4 @@
-use Rattle.my_session.proofs.Fitting as law
+use Rattle.my_session.proofs.Fits as law
 use Rattle.my_session.proofs.law.each_answer_fits.Goals as goal
 
 pub returns : goal.returns

@@ -1,4 +1,4 @@
-use Rattle.my_session.proofs.Ending as law
+use Rattle.my_session.proofs.Ends as law
 use Rattle.my_session.proofs.law.each_end.Goals as goal
 
 pub returns : goal.returns

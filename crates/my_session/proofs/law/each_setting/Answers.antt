@@ -1,4 +1,4 @@
-use Rattle.my_session.proofs.Settling as law
+use Rattle.my_session.proofs.SettingsLaw as law
 use Rattle.my_session.proofs.law.each_setting.Goals as goal
 
 pub returns : goal.returns

@@ -1,4 +1,4 @@
-use Rattle.my_session.proofs.Completing as completing
+use Rattle.my_session.proofs.Whole as completing
 use Rattle.my_session.proofs.law.each_whole_call.Goals as goal
 
 pub returns : goal.returns

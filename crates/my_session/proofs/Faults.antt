@@ -1,0 +1,403 @@
+-- Each error that the machine's next move returns has its cause.
+pub mod Misfits
+pub mod Payloads
+pub mod Places
+use Rattle.std.proofs.Common.{◌≡◌, ℕ, suc, ◌<◌, List, [], ◌∷◌, ◌++◌, length, ltb, Bool, true, false, cond, Option, Some, None, inl, inr, refl, sym, ap, ◌∙◌, subst, arith}
+use Rattle.std.proofs.lemmas.Bool.Decides.{nat_tests}
+use Rattle.my_flags.specs.declared.flags.CapabilityFlags.{CapabilityFlags}
+use Rattle.my_flags.specs.Sets.{deprecates_eof}
+use Rattle.my_reply.specs.declared.err.ErrPacket.{ErrPacket}
+use Rattle.my_frame.specs.declared.fault.CodecFault.TheVariants.{TooLarge}
+use Rattle.my_reply.specs.ErrPacket.{err_at}
+use Rattle.my_frame.specs.Front.{Front, Waiting, Broken, Whole, front_at}
+use Rattle.my_value.specs.RowParts.{RowParts}
+use Rattle.my_grammar.specs.declared.spot.Context.{Context}
+use Rattle.my_grammar.specs.declared.spot.Kind.{Kind}
+use Rattle.my_grammar.specs.declared.spot.Kind.TheVariants as kinds
+use Rattle.my_grammar.specs.declared.spot.Spot.{Spot}
+use Rattle.my_grammar.specs.declared.spot.Spot.TheVariants as spots
+use Rattle.my_grammar.specs.declared.spot.Terms.{Terms}
+use Rattle.my_grammar.specs.Contexts.{is_bad}
+use Rattle.my_grammar.specs.Cut.{Cut, Trailing, front_of, kind_of, rest_in_front, is_idle}
+use Rattle.my_grammar.specs.CutLaws.{StopsAt}
+use Rattle.my_grammar.specs.Kinds.{kind_there}
+use Rattle.my_grammar.specs.Response.{response}
+use Rattle.my_grammar.specs.Talk.{Talk, context_of, limit_of, origin}
+use Rattle.my_session.specs.declared.call.Call.{Call}
+use Rattle.my_session.specs.declared.call.CallKind.{CallKind}
+use Rattle.my_session.specs.declared.call.CallKind.TheVariants.{Connect, Query, NextRow, DropResult, Ping, Quit}
+use Rattle.my_session.specs.declared.call.LinkFault.{LinkFault}
+use Rattle.my_session.specs.declared.call.LinkFault.TheVariants as faults
+use Rattle.my_session.specs.declared.call.Task.{Task}
+use Rattle.my_session.specs.declared.call.Task.TheVariants.{Nothing, Begun, Cleaning, Own, Arranging, Reading, Dropping, Leaving, Failing}
+use Rattle.my_session.specs.declared.error.Error.{Error}
+use Rattle.my_session.specs.declared.error.Error.TheVariants as errors
+use Rattle.my_session.specs.declared.facts.Facts.{Facts}
+use Rattle.my_session.specs.declared.tables.Plan.{Plan}
+use Rattle.my_session.specs.declared.tables.Plan.TheVariants as plans
+use Rattle.my_session.specs.declared.tables.Reaction.{Reaction}
+use Rattle.my_session.specs.declared.tables.Reaction.TheVariants as reactions
+use Rattle.my_session.specs.declared.answer.Answer.{Answer}
+use Rattle.my_session.specs.declared.answer.Answer.TheVariants as answers
+use Rattle.my_session.specs.declared.answer.Tick.TheVariants as ticks
+use Rattle.my_session.specs.Calls.{call_of, kind_in, fault_in, is_open, asks}
+use Rattle.my_session.specs.Causes.{Stops, Cause, Because, NothingLeft, AnswerCause, EachFault, place_in}
+use Rattle.my_session.specs.Commands.{opening, command_of, connecting, command_in}
+use Rattle.my_session.specs.Entries.{Entry, facts_of, terms_by, connecting_in}
+use Rattle.my_session.specs.Errors.{invalid_data, unexpected_eof, link_error}
+use Rattle.my_session.specs.History.{History, Told, ToldReady, ToldRow, ToldEnd, ToldNone, ToldError, Dropped}
+use Rattle.my_session.specs.Law.{in_order, talks}
+use Rattle.my_session.specs.Machine as machine
+use Rattle.my_session.specs.Machine.{Move, Doing, Goes, Sends, Needs, Tells, Did, FaultIs, advanced, reply_to, above, unless_above, refused, gave, passed, reacted, read_by, reading, next_terms, asked, arranged, planned, when_owed, next_by, next, is_greeting}
+use Rattle.my_session.specs.Rows.{row_at}
+use Rattle.my_session.specs.Seen.{Seen}
+use Rattle.my_session.specs.Stands.{Stands, Heard, call_with, is_reading}
+use Rattle.my_session.specs.Tables.{plan_of, clean_plan, own_plan, query_plan, read_plan, drop_plan, react, is_breaking}
+use Rattle.my_session.proofs.Faults.Payloads.{failed_reads, told_columns, row_reads}
+use Rattle.my_session.proofs.Faults.Places.{place_is}
+use Rattle.my_session.proofs.Faults.Misfits.{Awaits, FitsKind, react_fits, is_heading, heading_spot, cleaning_awaits, arranging_awaits, reading_awaits, dropping_awaits, connect_awaits, ping_awaits, head_awaits, column_awaits, close_awaits}
+use Rattle.my_session.proofs.History.{each_history}
+use Rattle.my_session.proofs.Stands.Spots.{is_known, known, row_spot}
+use Rattle.my_session.proofs.History.Stopping.{talks_found, rest_found, stopped, over_found, failed_found}
+use Rattle.my_session.proofs.Stands.Firsts.{query_talk}
+use Rattle.my_session.proofs.Stands.Wired.{limit_is, terms_now}
+
+module _ (s : Seen) (h : History) (st : Stands s h) (op : is_open s.task ≡ true) where
+  abbrev talk : Talk
+  talk = st.newest.talk
+
+  abbrev entries : List Entry
+  entries = st.newest ∷ st.older
+
+  -- all was read, and no end is left to be returned
+  abbrev pub AllRead : Type 0
+  AllRead = Stops entries h.taken (Trailing s.unread) × (s.untold ≡ false)
+
+  -- an error, or the answer that nothing is left, is returned with its cause
+  abbrev ToldBy : Told → Type 0
+  ToldBy ToldReady = Unit {0}
+  ToldBy (ToldRow row) = Unit {0}
+  ToldBy ToldEnd = Unit {0}
+  ToldBy ToldNone = AllRead
+  ToldBy (ToldError e) = Cause s h st.newest st.older e
+  ToldBy (Dropped closing) = Unit {0}
+
+  abbrev pub TellsBy : Doing → Type 0
+  TellsBy Goes = Unit {0}
+  TellsBy (machine.Passes t) = Unit {0}
+  TellsBy Sends = Unit {0}
+  TellsBy Needs = Unit {0}
+  TellsBy (Tells t) = ToldBy t
+
+  abbrev Explained : Move → Type 0
+  Explained m = TellsBy m.does
+
+  place : s.facts.place ≡ place_in entries
+  place = ap (λ (f : Facts). f.place) st.wire.facts_are ∙ place_is s.login entries
+
+  front_here : front_of talk s.unread ≡ front_at s.number s.context.terms.limit s.unread
+  front_here =
+      ap (λ n. front_at n (limit_of talk) s.unread) (sym st.wire.number_is)
+      ∙ ap (λ l. front_at s.number l s.unread) (sym (limit_is talk) ∙ ap (λ (c : Context). c.terms.limit) (sym st.wire.context_is))
+
+  kind_here : (p : List ℕ) → kind_of talk p ≡ kind_there s.context p
+  kind_here p = ap (λ (c : Context). kind_there c p) (sym st.wire.context_is)
+
+  -- nothing more is read
+  stops : (f : Front) → front_at s.number s.context.terms.limit s.unread ≡ f → StopsAt talk f → is_idle s.context.spot ≡ false → Stops entries h.taken (rest_in_front s.unread f)
+  stops f at stop waits =
+      let here = stopped talk s.unread f (front_here ∙ at) stop (ap (λ (c : Context). is_idle c.spot) (sym st.wire.context_is) ∙ waits) in
+      record {
+        talks_are = talks_found st.newest st.older h.taken s.unread st.wire.taken_is st.wire.done st.wire.fits ∙ ap (λ (c : Cut). in_order (talks st.older) ++ c.talks) here;
+        rest_is = rest_found st.newest st.older h.taken s.unread st.wire.taken_is st.wire.done st.wire.fits ∙ ap (λ (c : Cut). c.rest) here;
+      }
+
+  -- nothing is left
+  ends : is_idle s.context.spot ≡ true → Stops entries h.taken (Trailing s.unread)
+  ends over =
+      let here = over_found talk s.unread (ap (λ (c : Context). is_idle c.spot) (sym st.wire.context_is) ∙ over) in
+      record {
+        talks_are = talks_found st.newest st.older h.taken s.unread st.wire.taken_is st.wire.done st.wire.fits ∙ ap (λ (c : Cut). in_order (talks st.older) ++ c.talks) here;
+        rest_is = rest_found st.newest st.older h.taken s.unread st.wire.taken_is st.wire.done st.wire.fits ∙ ap (λ (c : Cut). c.rest) here;
+      }
+
+  link : (fault : LinkFault) → fault_in s.task ≡ Some fault → Cause s h st.newest st.older (link_error fault s.facts.place)
+  link faults.Link e = (place, e)
+  link faults.TooLong e = e
+  link faults.NoMemory e = tt
+
+  -- the payload in front
+  module _ (waits : is_idle s.context.spot ≡ false) (p rest : List ℕ) (next : ℕ) (at : front_at s.number s.context.terms.limit s.unread ≡ Whole p rest next) where
+    unfit : is_bad (kind_there s.context p) ≡ true → Cause s h st.newest st.older (invalid_data s.facts.place)
+    unfit bad = (place, record { payload = p; stops = stops (Whole p rest next) at (ap is_bad (kind_here p) ∙ bad) waits })
+
+    refused_told : (n : Seen) (x : Option ErrPacket) → kind_there s.context p ≡ kinds.Failed → err_at (is_greeting s.context.spot) p ≡ x → Explained (refused s n x)
+    refused_told n None k is =
+        let some = failed_reads s.context.spot (deprecates_eof s.context.terms.kept) s.context.columns p k in
+        let no : None ≡ Some some.0 = sym is ∙ some.1 in cc
+    refused_told n (Some x) k is = record {
+      payload = p;
+      rest = rest;
+      number = next;
+      packet = x;
+      front = front_here ∙ at;
+      kind = kind_here p ∙ k;
+      reads = ap (λ (c : Context). err_at (is_greeting c.spot) p) (sym st.wire.context_is) ∙ is;
+      error_is = refl;
+      talks_are =
+          talks_found st.newest st.older h.taken s.unread st.wire.taken_is st.wire.done st.wire.fits
+          ∙ ap (λ (c : Cut). in_order (talks st.older) ++ c.talks) (failed_found talk s.unread p rest next (front_here ∙ at) (kind_here p ∙ k));
+      rest_is =
+          rest_found st.newest st.older h.taken s.unread st.wire.taken_is st.wire.done st.wire.fits
+          ∙ ap (λ (c : Cut). c.rest) (failed_found talk s.unread p rest next (front_here ∙ at) (kind_here p ∙ k));
+    }
+
+    -- a payload that is a row reads as one
+    row_there : kind_there s.context p ≡ kinds.Row → (row : RowParts) × (row_at s.facts.columns p ≡ Some row)
+    row_there k =
+        let rows : s.context.spot ≡ spots.Rows = row_spot s.context.spot (known s.context.spot (deprecates_eof s.context.terms.kept) s.context.columns p kinds.Row k) in
+        let there : (context_of talk).spot ≡ spots.Rows = ap (λ (c : Context). c.spot) (sym st.wire.context_is) ∙ rows in
+        let same : s.context.columns ≡ length s.facts.columns =
+        ap (λ (c : Context). c.columns) st.wire.context_is ∙ told_columns talk (facts_of s.login st.older) st.wire.fits there ∙ ap (λ (f : Facts). length f.columns) (sym st.wire.facts_are) in
+        row_reads s.facts.columns (deprecates_eof s.context.terms.kept) s.context.columns p same (ap (λ (x : Spot). kind_there (record { spot = x; columns = s.context.columns; terms = s.context.terms }) p) (sym rows) ∙ k)
+
+    gave_told : (n : Seen) (x : Option RowParts) → kind_there s.context p ≡ kinds.Row → row_at s.facts.columns p ≡ x → Explained (gave s n x)
+    gave_told n None k is = let some = row_there k in let no : None ≡ Some some.0 = sym is ∙ some.1 in cc
+    gave_told n (Some row) k is = tt
+
+    passed_told : (n : Seen) (x : Option RowParts) → kind_there s.context p ≡ kinds.Row → row_at s.facts.columns p ≡ x → Explained (passed s n x)
+    passed_told n None k is = let some = row_there k in let no : None ≡ Some some.0 = sym is ∙ some.1 in cc
+    passed_told n (Some row) k is = tt
+
+    reacted_told : (n : Seen) (r : Reaction) (k : Kind) → kind_there s.context p ≡ k → FitsKind r k → is_breaking r ≡ false → Explained (reacted s n p r)
+    reacted_told n (reactions.Goes u) k e fit b = tt
+    reacted_told n (reactions.Readies untold) k e fit b = tt
+    reacted_told n reactions.Gives k e fit b = gave_told n (row_at s.facts.columns p) (e ∙ fit) refl
+    reacted_told n reactions.Ends k e fit b = tt
+    reacted_told n reactions.PassesRow k e fit b = passed_told n (row_at s.facts.columns p) (e ∙ fit) refl
+    reacted_told n reactions.PassesEnd k e fit b = tt
+    reacted_told n reactions.Refuses k e fit b = refused_told n (err_at (is_greeting s.context.spot) p) (e ∙ fit) refl
+    reacted_told n reactions.Breaks k e fit b = cc
+
+    -- the response to a greeting may be too long
+    long_told : (n : CapabilityFlags) → kind_there s.context p ≡ kinds.Greets n → (m : Move) → Explained m → (b : Bool) → ltb s.context.terms.limit (length (response s.login p)) ≡ b → Explained (unless_above s (cond b (Some (length (response s.login p))) None) m)
+    long_told n k m told false e = told
+    long_told n k m told true e =
+        let limit : s.context.terms.limit ≡ limit_of talk = ap (λ (c : Context). c.terms.limit) st.wire.context_is ∙ limit_is talk in
+        let long : s.context.terms.limit < length (response s.login p) = grind (arith, nat_tests) in
+        inr (inr (record {
+          payload = p;
+          rest = rest;
+          number = next;
+          capabilities = n;
+          front = front_here ∙ at;
+          kind = kind_here p ∙ k;
+          above = subst (λ l. l < length (response s.login p)) limit long;
+          fault_is = ap (λ l. TooLarge (length (response s.login p)) l) limit;
+        }))
+
+    unless_told : (k : Kind) → kind_there s.context p ≡ k → (m : Move) → Explained m → Explained (unless_above s (above s.context.terms.limit (reply_to s.login k p)) m)
+    unless_told (kinds.Greets n) e m told = long_told n e m told (ltb s.context.terms.limit (length (response s.login p))) refl
+    unless_told (kinds.Good status) e m told = told
+    unless_told kinds.Failed e m told = told
+    unless_told (kinds.Count n) e m told = told
+    unless_told kinds.Column e m told = told
+    unless_told kinds.ColumnsDone e m told = told
+    unless_told kinds.Row e m told = told
+    unless_told (kinds.End status) e m told = told
+    unless_told kinds.Bad e m told = told
+
+    kind_told : ((k : Kind) → is_known s.context.spot k ≡ true → is_breaking (react s.task k) ≡ true → is_bad k ≡ true) → (k : Kind) → kind_there s.context p ≡ k → (b : Bool) → is_breaking (react s.task k) ≡ b → Explained (cond b (machine.failed_by s (invalid_data s.facts.place)) (read_by s (advanced s k p rest next) p (react s.task k) (reply_to s.login k p)))
+    kind_told breaks k e true b = unfit (ap is_bad e ∙ breaks k (known s.context.spot (deprecates_eof s.context.terms.kept) s.context.columns p k e) b)
+    kind_told breaks k e false b = unless_told k e (reacted s (advanced s k p rest next) p (react s.task k)) (reacted_told (advanced s k p rest next) (react s.task k) k e (react_fits s.task k) b)
+
+  waiting_told : is_idle s.context.spot ≡ false → front_at s.number s.context.terms.limit s.unread ≡ Waiting → (b : Bool) → s.ended ≡ b → Explained (cond b (machine.failed_by s (unexpected_eof s.facts.place)) (record { seen = s; does = Needs }))
+  waiting_told waits at true e = (place, (sym st.ended_is ∙ e, stops Waiting at tt waits))
+  waiting_told waits at false e = tt
+
+  front_told : Awaits s.task s.context.spot → (f : Front) → front_at s.number s.context.terms.limit s.unread ≡ f → Explained (reading s f)
+  front_told a Waiting at = waiting_told a.waits at s.ended refl
+  front_told a (Broken fault) at = inl (stops (Broken fault) at tt a.waits)
+  front_told a (Whole p rest next) at = kind_told a.waits p rest next at a.breaks (kind_there s.context p) refl (is_breaking (react s.task (kind_there s.context p))) refl
+
+  -- what holds in the next exchange is what the exchanges say
+  terms_here : terms_by s.login entries ≡ next_terms s
+  terms_here = terms_now s.login st.newest st.older s.context s.facts st.wire.context_is st.wire.facts_are
+
+  -- the call's next command may be too long
+  command_told : (c : CallKind) (u : Task) (t : Talk) → Some c ≡ kind_in s.task → opening s.login (next_terms s) (call_of c s.text) (connecting_in entries) ≡ Some t → (b : Bool) → ltb s.facts.settings.limit (length (command_in t)) ≡ b → Explained (cond b (machine.too_large s s.facts.settings.limit (length (command_in t))) (record { seen = machine.queued s u t; does = Sends }))
+  command_told c u t own opens false e = tt
+  command_told c u t own opens true e =
+      let limit : s.facts.settings.limit ≡ (terms_by s.login entries).limit = ap (λ (x : Terms). x.limit) (sym terms_here) in
+      let long : s.facts.settings.limit < length (command_in t) = grind (arith, nat_tests) in
+      inr (inl (record {
+        call = call_of c s.text;
+        pending = st.heard.pending_is ∙ ap (λ k. call_with k s.text) (sym own);
+        talk = t;
+        opens = ap (λ (x : Terms). opening s.login x (call_of c s.text) (connecting_in entries)) terms_here ∙ opens;
+        above = subst (λ l. l < length (command_in t)) limit long;
+        fault_is = ap (λ l. TooLarge (length (command_in t)) l) limit;
+      }))
+
+  opens_some : (c : CallKind) → asks c ≡ true → command_of (next_terms s) (call_of c s.text) ≡ None → ⊥
+  opens_some Connect e none = cc
+  opens_some Query e none = cc
+  opens_some NextRow e none = cc
+  opens_some DropResult e none = cc
+  opens_some Ping e none = cc
+  opens_some Quit e none = cc
+
+  -- the own command of a call is the exchange that it begins
+  opens_own : (c : CallKind) → asks c ≡ true → opening s.login (next_terms s) (call_of c s.text) (connecting_in entries) ≡ command_of (next_terms s) (call_of c s.text)
+  opens_own Connect e = cc
+  opens_own Query e = refl
+  opens_own NextRow e = cc
+  opens_own DropResult e = cc
+  opens_own Ping e = refl
+  opens_own Quit e = refl
+
+  asked_told : (c : CallKind) → asks c ≡ true → Some c ≡ kind_in s.task → (o : Option Talk) → command_of (next_terms s) (call_of c s.text) ≡ o → Explained (asked s c o)
+  asked_told c asking own None opens = absurd (opens_some c asking opens)
+  asked_told c asking own (Some t) opens = command_told c (Own c) t own (opens_own c asking ∙ opens) (ltb s.facts.settings.limit (length (command_in t))) refl
+
+  arranged_told : (n : ℕ) → connecting_in entries ≡ suc n → Some Connect ≡ kind_in s.task → (o : Option Talk) → connecting s.login (next_terms s) (suc n) ≡ o → Explained (arranged s n o)
+  arranged_told n count own None opens = tt
+  arranged_told n count own (Some t) opens = command_told Connect (Arranging (suc n)) t own (ap (connecting s.login (next_terms s)) count ∙ opens) (ltb s.facts.settings.limit (length (command_in t))) refl
+
+  -- plans that fit the task
+  abbrev Suits : Plan → Type 0
+  Suits plans.Reads = Awaits s.task s.context.spot
+  Suits (plans.Asks c) = (asks c ≡ true) × (Some c ≡ kind_in s.task)
+  Suits (plans.Arranges n) = (connecting_in entries ≡ suc n) × (Some Connect ≡ kind_in s.task)
+  Suits plans.NoMore = (is_idle s.context.spot ≡ true) × (s.untold ≡ false)
+  Suits p = Unit {0}
+
+  plan_told : (p : Plan) → Suits p → Explained (planned s p)
+  plan_told plans.Reads a = front_told a _ refl
+  plan_told (plans.Starts u) a = tt
+  plan_told plans.Hears a = tt
+  plan_told (plans.Asks c) own = asked_told c own.0 own.1 _ refl
+  plan_told (plans.Arranges n) own = arranged_told n own.0 own.1 _ refl
+  plan_told plans.Readies a = tt
+  plan_told plans.Quits a = tt
+  plan_told plans.Passes a = tt
+  plan_told plans.Dropped a = tt
+  plan_told plans.Ends a = tt
+  plan_told plans.NoMore a = (ends a.0, a.1)
+
+  abbrev HeardAs : Task → Type 0
+  HeardAs t = Heard t s.text s.context.spot s.untold s.closed h.lost h.calls h.pending st.newest st.older
+
+  awaits_as : (t : Task) → s.task ≡ t → Awaits t s.context.spot → Awaits s.task s.context.spot
+  awaits_as t e a = subst (λ (u : Task). Awaits u s.context.spot) (sym e) a
+
+  clean_suits : (t : Task) → s.task ≡ t → ((spot : Spot) → is_idle spot ≡ false → is_greeting spot ≡ false → Awaits t spot) → (p : Plan) → Suits p → (spot : Spot) → s.context.spot ≡ spot → is_greeting spot ≡ false → (untold : Bool) → Suits (clean_plan p spot untold)
+  clean_suits t e waits p suit spots.Idle at past true = tt
+  clean_suits t e waits p suit spots.Idle at past false = suit
+  clean_suits t e waits p suit spots.Greeting at past untold = cc
+  clean_suits t e waits p suit spots.Authentication at past untold = awaits_as t e (waits s.context.spot (ap is_idle at) (ap is_greeting at))
+  clean_suits t e waits p suit spots.Single at past untold = awaits_as t e (waits s.context.spot (ap is_idle at) (ap is_greeting at))
+  clean_suits t e waits p suit spots.Head at past untold = awaits_as t e (waits s.context.spot (ap is_idle at) (ap is_greeting at))
+  clean_suits t e waits p suit spots.Further at past untold = awaits_as t e (waits s.context.spot (ap is_idle at) (ap is_greeting at))
+  clean_suits t e waits p suit (spots.Columns left) at past untold = awaits_as t e (waits s.context.spot (ap is_idle at) (ap is_greeting at))
+  clean_suits t e waits p suit spots.ColumnsEnd at past untold = awaits_as t e (waits s.context.spot (ap is_idle at) (ap is_greeting at))
+  clean_suits t e waits p suit spots.Rows at past untold = awaits_as t e (waits s.context.spot (ap is_idle at) (ap is_greeting at))
+
+  query_suits : s.task ≡ Own Query → (spot : Spot) → s.context.spot ≡ spot → is_heading spot ≡ true → Suits (query_plan spot)
+  query_suits e spots.Idle at heads = cc
+  query_suits e spots.Greeting at heads = cc
+  query_suits e spots.Authentication at heads = cc
+  query_suits e spots.Single at heads = cc
+  query_suits e spots.Head at heads = awaits_as (Own Query) e (subst (λ (x : Spot). Awaits (Own Query) x) (sym at) head_awaits)
+  query_suits e spots.Further at heads = cc
+  query_suits e (spots.Columns left) at heads = awaits_as (Own Query) e (subst (λ (x : Spot). Awaits (Own Query) x) (sym at) (column_awaits left))
+  query_suits e spots.ColumnsEnd at heads = awaits_as (Own Query) e (subst (λ (x : Spot). Awaits (Own Query) x) (sym at) close_awaits)
+  query_suits e spots.Rows at heads = tt
+
+  own_suits : (c : CallKind) → s.task ≡ Own c → HeardAs (Own c) → Suits (own_plan c s.context.spot)
+  own_suits Connect e hd = awaits_as (Own Connect) e (connect_awaits s.context.spot hd.at.1)
+  own_suits Query e hd =
+      let queried = query_talk s.login (terms_by s.login st.older) (connecting_in st.older) s.text talk (subst (λ (c : Call). opening s.login (terms_by s.login st.older) c (connecting_in st.older) ≡ Some (origin talk)) hd.tie.0 st.wire.table.0) in
+      query_suits e s.context.spot refl (ap (λ (c : Context). is_heading c.spot) st.wire.context_is ∙ heading_spot talk queried hd.at.2)
+  own_suits NextRow e hd = absurd hd.at
+  own_suits DropResult e hd = absurd hd.at
+  own_suits Ping e hd = awaits_as (Own Ping) e (subst (λ (x : Spot). Awaits (Own Ping) x) (sym hd.at.1) ping_awaits)
+  own_suits Quit e hd = tt
+
+  read_suits : s.task ≡ Reading → s.untold ≡ false → (spot : Spot) → s.context.spot ≡ spot → is_reading spot ≡ true → Suits (read_plan spot)
+  read_suits e told spots.Idle at reads = (ap is_idle at, told)
+  read_suits e told spots.Greeting at reads = cc
+  read_suits e told spots.Authentication at reads = cc
+  read_suits e told spots.Single at reads = cc
+  read_suits e told spots.Head at reads = cc
+  read_suits e told spots.Further at reads = awaits_as Reading e (reading_awaits s.context.spot (ap is_idle at) (ap is_greeting at))
+  read_suits e told (spots.Columns left) at reads = awaits_as Reading e (reading_awaits s.context.spot (ap is_idle at) (ap is_greeting at))
+  read_suits e told spots.ColumnsEnd at reads = awaits_as Reading e (reading_awaits s.context.spot (ap is_idle at) (ap is_greeting at))
+  read_suits e told spots.Rows at reads = awaits_as Reading e (reading_awaits s.context.spot (ap is_idle at) (ap is_greeting at))
+
+  drop_suits : s.task ≡ Dropping → (spot : Spot) → s.context.spot ≡ spot → is_reading spot ≡ true → Suits (drop_plan spot)
+  drop_suits e spots.Idle at reads = tt
+  drop_suits e spots.Greeting at reads = cc
+  drop_suits e spots.Authentication at reads = cc
+  drop_suits e spots.Single at reads = cc
+  drop_suits e spots.Head at reads = cc
+  drop_suits e spots.Further at reads = awaits_as Dropping e (dropping_awaits s.context.spot (ap is_idle at) (ap is_greeting at))
+  drop_suits e (spots.Columns left) at reads = awaits_as Dropping e (dropping_awaits s.context.spot (ap is_idle at) (ap is_greeting at))
+  drop_suits e spots.ColumnsEnd at reads = awaits_as Dropping e (dropping_awaits s.context.spot (ap is_idle at) (ap is_greeting at))
+  drop_suits e spots.Rows at reads = awaits_as Dropping e (dropping_awaits s.context.spot (ap is_idle at) (ap is_greeting at))
+
+  suits : (t : Task) → s.task ≡ t → fault_in t ≡ None → HeardAs t → (untold : Bool) → s.untold ≡ untold → Suits (plan_of t s.context.spot untold)
+  suits Nothing e sound hd untold told = let no : false ≡ true = sym (ap is_open e) ∙ op in cc
+  suits (Begun c) e sound hd untold told = tt
+  suits (Cleaning c) e sound hd untold told = clean_suits (Cleaning c) e (cleaning_awaits c) (plans.Asks c) (hd.at.0, sym (ap kind_in e)) s.context.spot refl hd.at.2 untold
+  suits (Own c) e sound hd untold told = own_suits c e hd
+  suits (Arranging n) e sound hd untold told = clean_suits (Arranging n) e (arranging_awaits n) (plans.Arranges n) (hd.at.1, sym (ap kind_in e)) s.context.spot refl hd.at.2 untold
+  suits Reading e sound hd true told = tt
+  suits Reading e sound hd false told = read_suits e told s.context.spot refl hd.at.1
+  suits Dropping e sound hd true told = tt
+  suits Dropping e sound hd false told = drop_suits e s.context.spot refl hd.at.1
+  suits Leaving e sound hd untold told = tt
+  suits (Failing c fault) e sound hd untold told = cc
+
+  owed_told : fault_in s.task ≡ None → (owed : List ℕ) → Explained (when_owed owed s)
+  owed_told sound [] = plan_told (plan_of s.task s.context.spot s.untold) (suits s.task refl sound st.heard s.untold refl)
+  owed_told sound (b ∷ bytes) = tt
+
+  by_fault : (fault : Option LinkFault) → fault_in s.task ≡ fault → Explained (next_by fault s)
+  by_fault (Some fault) e = link fault e
+  by_fault None e = owed_told e s.owed
+
+  -- what the next move returns has its cause
+  pub next_told : Explained (next s)
+  next_told = by_fault (fault_in s.task) refl
+
+  told_as : (t : Told) → (next s).does ≡ Tells t → ToldBy t
+  told_as t is = subst (λ (d : Doing). TellsBy d) is next_told
+
+  pub because : (e : Error) → (next s).does ≡ Tells (ToldError e) → Because s h e
+  unfolding each_history
+  because e is = record { says = each_history s h st; cause = told_as (ToldError e) is }
+
+  pub nothing_left : (next s).does ≡ Tells ToldNone → NothingLeft s h
+  unfolding each_history
+  nothing_left is = let all = told_as ToldNone is in record { says = each_history s h st; stops = all.0; told = all.1 }
+
+  did_because : (e : Error) (new : Seen) → Did (next s) new (ticks.Fault e) → Because s h e
+  did_because e new d = because e d.does
+
+  -- the code's error, or out of memory
+  pub fault_because : (e : Error) (new : Seen) → FaultIs (next s) s new e → Because s h e
+  unfolding each_history
+  fault_because (errors.Driver e) new d = did_because (errors.Driver e) new d
+  fault_because (errors.Io e) new d = did_because (errors.Io e) new d
+  fault_because (errors.Server e) new d = did_because (errors.Server e) new d
+  fault_because errors.NoMemory new d = record { says = each_history s h st; cause = tt }
+
+  pub answer_cause : (a : Answer) (new : Seen) → Did (next s) new (ticks.Done a) → AnswerCause s h a
+  answer_cause answers.Ready new d = tt
+  answer_cause (answers.Row row) new d = tt
+  answer_cause answers.SetEnd new d = tt
+  answer_cause answers.NoSet new d = nothing_left d.does
+
+pub each_fault : EachFault
+each_fault s h st op e is = because s h st op e is

@@ -1,0 +1,294 @@
+-- What a task that reads awaits: each payload that it doesn't take fits no case there.
+use Rattle.std.proofs.Common.{◌≡◌, ℕ, Bool, true, false, refl, sym, ◌∙◌}
+use Rattle.my_flags.specs.declared.flags.CapabilityFlags.{CapabilityFlags}
+use Rattle.my_grammar.specs.declared.spot.Kind.{Kind}
+use Rattle.my_grammar.specs.declared.spot.Kind.TheVariants as kinds
+use Rattle.my_grammar.specs.declared.spot.Spot.{Spot}
+use Rattle.my_grammar.specs.declared.spot.Spot.TheVariants as spots
+use Rattle.my_grammar.specs.Contexts.{is_bad}
+use Rattle.my_grammar.specs.Cut.{is_idle}
+use Rattle.my_grammar.specs.Sets.{Sets, NoSets, Lone, Failed, Heading, Headed, Begun as BegunSet, Ended, Broken, spot_in}
+use Rattle.my_grammar.specs.Talk.{Talk, Start, Unwelcome, Greeted, Settled, Asked, Replied, Queried, Silent, context_of}
+use Rattle.my_grammar.proofs.Known.{is_greeting_kind, is_single_kind, is_head_kind, is_column_kind, is_close_kind}
+use Rattle.my_session.specs.declared.call.CallKind.{CallKind}
+use Rattle.my_session.specs.declared.call.CallKind.TheVariants.{Connect, Query, NextRow, DropResult, Ping, Quit}
+use Rattle.my_session.specs.declared.call.Task.{Task}
+use Rattle.my_session.specs.declared.call.Task.TheVariants.{Nothing, Begun, Cleaning, Own, Arranging, Reading, Dropping, Leaving, Failing}
+use Rattle.my_session.specs.declared.tables.Reaction.{Reaction}
+use Rattle.my_session.specs.declared.tables.Reaction.TheVariants as reactions
+use Rattle.my_session.specs.Entries.{sets_of}
+use Rattle.my_session.specs.Machine.{is_greeting}
+use Rattle.my_session.specs.Stands.{is_first, is_shaking}
+use Rattle.my_session.specs.Tables.{react, react_whole, react_connect, react_query, react_ping, react_own, is_breaking}
+use Rattle.my_session.proofs.Stands.Spots.{is_known}
+use Rattle.my_session.proofs.Stands.Firsts.{is_queried}
+
+-- the kind that a reaction is to
+abbrev pub FitsKind : Reaction → Kind → Type 0
+FitsKind reactions.Gives k = k ≡ kinds.Row
+FitsKind reactions.PassesRow k = k ≡ kinds.Row
+FitsKind reactions.Refuses k = k ≡ kinds.Failed
+FitsKind r k = Unit {0}
+
+connect_fits : (k : Kind) → FitsKind (react_connect k) k
+connect_fits (kinds.Greets n) = tt
+connect_fits (kinds.Good status) = tt
+connect_fits kinds.Failed = refl
+connect_fits (kinds.Count n) = tt
+connect_fits kinds.Column = tt
+connect_fits kinds.ColumnsDone = tt
+connect_fits kinds.Row = tt
+connect_fits (kinds.End status) = tt
+connect_fits kinds.Bad = tt
+
+query_fits : (k : Kind) → FitsKind (react_query k) k
+query_fits (kinds.Greets n) = tt
+query_fits (kinds.Good status) = tt
+query_fits kinds.Failed = refl
+query_fits (kinds.Count n) = tt
+query_fits kinds.Column = tt
+query_fits kinds.ColumnsDone = tt
+query_fits kinds.Row = tt
+query_fits (kinds.End status) = tt
+query_fits kinds.Bad = tt
+
+ping_fits : (k : Kind) → FitsKind (react_ping k) k
+ping_fits (kinds.Greets n) = tt
+ping_fits (kinds.Good status) = tt
+ping_fits kinds.Failed = refl
+ping_fits (kinds.Count n) = tt
+ping_fits kinds.Column = tt
+ping_fits kinds.ColumnsDone = tt
+ping_fits kinds.Row = tt
+ping_fits (kinds.End status) = tt
+ping_fits kinds.Bad = tt
+
+own_fits : (c : CallKind) (k : Kind) → FitsKind (react_own c k) k
+own_fits Connect k = connect_fits k
+own_fits Query k = query_fits k
+own_fits NextRow k = tt
+own_fits DropResult k = tt
+own_fits Ping k = ping_fits k
+own_fits Quit k = tt
+
+whole_fits : (t : Task) (k : Kind) → FitsKind (react_whole t k) k
+whole_fits t (kinds.Greets n) = tt
+whole_fits t (kinds.Good status) = tt
+whole_fits t kinds.Failed = refl
+whole_fits t (kinds.Count n) = tt
+whole_fits t kinds.Column = tt
+whole_fits t kinds.ColumnsDone = tt
+whole_fits t kinds.Row = tt
+whole_fits t (kinds.End status) = tt
+whole_fits t kinds.Bad = tt
+
+pub react_fits : (t : Task) (k : Kind) → FitsKind (react t k) k
+react_fits Nothing k = tt
+react_fits (Begun c) k = tt
+react_fits (Cleaning c) k = whole_fits (Cleaning c) k
+react_fits (Own c) k = own_fits c k
+react_fits (Arranging n) k = whole_fits (Arranging n) k
+react_fits Reading (kinds.Greets n) = tt
+react_fits Reading (kinds.Good status) = tt
+react_fits Reading kinds.Failed = refl
+react_fits Reading (kinds.Count n) = tt
+react_fits Reading kinds.Column = tt
+react_fits Reading kinds.ColumnsDone = tt
+react_fits Reading kinds.Row = refl
+react_fits Reading (kinds.End status) = tt
+react_fits Reading kinds.Bad = tt
+react_fits Dropping (kinds.Greets n) = tt
+react_fits Dropping (kinds.Good status) = tt
+react_fits Dropping kinds.Failed = refl
+react_fits Dropping (kinds.Count n) = tt
+react_fits Dropping kinds.Column = tt
+react_fits Dropping kinds.ColumnsDone = tt
+react_fits Dropping kinds.Row = refl
+react_fits Dropping (kinds.End status) = tt
+react_fits Dropping kinds.Bad = tt
+react_fits Leaving k = tt
+react_fits (Failing c fault) k = tt
+
+-- a task that reads here awaits a payload, and takes all that fit here
+pub record Awaits (t : Task) (spot : Spot) : Type 0 where
+  pub waits : is_idle spot ≡ false
+  pub breaks : (k : Kind) → is_known spot k ≡ true → is_breaking (react t k) ≡ true → is_bad k ≡ true
+
+-- a greeting comes at the beginning alone
+greets_first : (spot : Spot) (n : CapabilityFlags) → is_known spot (kinds.Greets n) ≡ true → is_greeting spot ≡ true
+greets_first spots.Idle n e = cc
+greets_first spots.Greeting n e = refl
+greets_first spots.Authentication n e = cc
+greets_first spots.Single n e = cc
+greets_first spots.Head n e = cc
+greets_first spots.Further n e = cc
+greets_first (spots.Columns left) n e = cc
+greets_first spots.ColumnsEnd n e = cc
+greets_first spots.Rows n e = cc
+
+no_greets : (spot : Spot) (n : CapabilityFlags) {A : Type 0} → is_greeting spot ≡ false → is_known spot (kinds.Greets n) ≡ true → A
+no_greets spot n past e = let no : true ≡ false = sym (greets_first spot n e) ∙ past in cc
+
+whole_breaks : (t : Task) (spot : Spot) → is_greeting spot ≡ false → (k : Kind) → is_known spot k ≡ true → is_breaking (react_whole t k) ≡ true → is_bad k ≡ true
+whole_breaks t spot past (kinds.Greets n) e b = no_greets spot n past e
+whole_breaks t spot past (kinds.Good status) e b = cc
+whole_breaks t spot past kinds.Failed e b = cc
+whole_breaks t spot past (kinds.Count n) e b = cc
+whole_breaks t spot past kinds.Column e b = cc
+whole_breaks t spot past kinds.ColumnsDone e b = cc
+whole_breaks t spot past kinds.Row e b = cc
+whole_breaks t spot past (kinds.End status) e b = cc
+whole_breaks t spot past kinds.Bad e b = refl
+
+reading_breaks : (spot : Spot) → is_greeting spot ≡ false → (k : Kind) → is_known spot k ≡ true → is_breaking (react Reading k) ≡ true → is_bad k ≡ true
+reading_breaks spot past (kinds.Greets n) e b = no_greets spot n past e
+reading_breaks spot past (kinds.Good status) e b = cc
+reading_breaks spot past kinds.Failed e b = cc
+reading_breaks spot past (kinds.Count n) e b = cc
+reading_breaks spot past kinds.Column e b = cc
+reading_breaks spot past kinds.ColumnsDone e b = cc
+reading_breaks spot past kinds.Row e b = cc
+reading_breaks spot past (kinds.End status) e b = cc
+reading_breaks spot past kinds.Bad e b = refl
+
+dropping_breaks : (spot : Spot) → is_greeting spot ≡ false → (k : Kind) → is_known spot k ≡ true → is_breaking (react Dropping k) ≡ true → is_bad k ≡ true
+dropping_breaks spot past (kinds.Greets n) e b = no_greets spot n past e
+dropping_breaks spot past (kinds.Good status) e b = cc
+dropping_breaks spot past kinds.Failed e b = cc
+dropping_breaks spot past (kinds.Count n) e b = cc
+dropping_breaks spot past kinds.Column e b = cc
+dropping_breaks spot past kinds.ColumnsDone e b = cc
+dropping_breaks spot past kinds.Row e b = cc
+dropping_breaks spot past (kinds.End status) e b = cc
+dropping_breaks spot past kinds.Bad e b = refl
+
+greeting_breaks : (k : Kind) → is_greeting_kind k ≡ true → is_breaking (react_connect k) ≡ true → is_bad k ≡ true
+greeting_breaks (kinds.Greets n) e b = cc
+greeting_breaks (kinds.Good status) e b = cc
+greeting_breaks kinds.Failed e b = cc
+greeting_breaks (kinds.Count n) e b = cc
+greeting_breaks kinds.Column e b = cc
+greeting_breaks kinds.ColumnsDone e b = cc
+greeting_breaks kinds.Row e b = cc
+greeting_breaks (kinds.End status) e b = cc
+greeting_breaks kinds.Bad e b = refl
+
+-- one OK or ERR is awaited
+single_breaks : (k : Kind) → is_single_kind k ≡ true → is_breaking (react_connect k) ≡ true → is_bad k ≡ true
+single_breaks (kinds.Greets n) e b = cc
+single_breaks (kinds.Good status) e b = cc
+single_breaks kinds.Failed e b = cc
+single_breaks (kinds.Count n) e b = cc
+single_breaks kinds.Column e b = cc
+single_breaks kinds.ColumnsDone e b = cc
+single_breaks kinds.Row e b = cc
+single_breaks (kinds.End status) e b = cc
+single_breaks kinds.Bad e b = refl
+
+ping_breaks : (k : Kind) → is_single_kind k ≡ true → is_breaking (react_ping k) ≡ true → is_bad k ≡ true
+ping_breaks (kinds.Greets n) e b = cc
+ping_breaks (kinds.Good status) e b = cc
+ping_breaks kinds.Failed e b = cc
+ping_breaks (kinds.Count n) e b = cc
+ping_breaks kinds.Column e b = cc
+ping_breaks kinds.ColumnsDone e b = cc
+ping_breaks kinds.Row e b = cc
+ping_breaks (kinds.End status) e b = cc
+ping_breaks kinds.Bad e b = refl
+
+-- a set's head is awaited, or a part of it
+head_breaks : (k : Kind) → is_head_kind k ≡ true → is_breaking (react_query k) ≡ true → is_bad k ≡ true
+head_breaks (kinds.Greets n) e b = cc
+head_breaks (kinds.Good status) e b = cc
+head_breaks kinds.Failed e b = cc
+head_breaks (kinds.Count n) e b = cc
+head_breaks kinds.Column e b = cc
+head_breaks kinds.ColumnsDone e b = cc
+head_breaks kinds.Row e b = cc
+head_breaks (kinds.End status) e b = cc
+head_breaks kinds.Bad e b = refl
+
+column_breaks : (k : Kind) → is_column_kind k ≡ true → is_breaking (react_query k) ≡ true → is_bad k ≡ true
+column_breaks (kinds.Greets n) e b = cc
+column_breaks (kinds.Good status) e b = cc
+column_breaks kinds.Failed e b = cc
+column_breaks (kinds.Count n) e b = cc
+column_breaks kinds.Column e b = cc
+column_breaks kinds.ColumnsDone e b = cc
+column_breaks kinds.Row e b = cc
+column_breaks (kinds.End status) e b = cc
+column_breaks kinds.Bad e b = refl
+
+close_breaks : (k : Kind) → is_close_kind k ≡ true → is_breaking (react_query k) ≡ true → is_bad k ≡ true
+close_breaks (kinds.Greets n) e b = cc
+close_breaks (kinds.Good status) e b = cc
+close_breaks kinds.Failed e b = cc
+close_breaks (kinds.Count n) e b = cc
+close_breaks kinds.Column e b = cc
+close_breaks kinds.ColumnsDone e b = cc
+close_breaks kinds.Row e b = cc
+close_breaks (kinds.End status) e b = cc
+close_breaks kinds.Bad e b = refl
+
+pub cleaning_awaits : (c : CallKind) (spot : Spot) → is_idle spot ≡ false → is_greeting spot ≡ false → Awaits (Cleaning c) spot
+cleaning_awaits c spot waits past = record { waits = waits; breaks = whole_breaks (Cleaning c) spot past }
+
+pub arranging_awaits : (n : ℕ) (spot : Spot) → is_idle spot ≡ false → is_greeting spot ≡ false → Awaits (Arranging n) spot
+arranging_awaits n spot waits past = record { waits = waits; breaks = whole_breaks (Arranging n) spot past }
+
+pub reading_awaits : (spot : Spot) → is_idle spot ≡ false → is_greeting spot ≡ false → Awaits Reading spot
+reading_awaits spot waits past = record { waits = waits; breaks = reading_breaks spot past }
+
+pub dropping_awaits : (spot : Spot) → is_idle spot ≡ false → is_greeting spot ≡ false → Awaits Dropping spot
+dropping_awaits spot waits past = record { waits = waits; breaks = dropping_breaks spot past }
+
+pub ping_awaits : Awaits (Own Ping) spots.Single
+ping_awaits = record { waits = refl; breaks = ping_breaks }
+
+pub connect_awaits : (spot : Spot) → is_shaking spot ≡ true → Awaits (Own Connect) spot
+connect_awaits spots.Idle e = cc
+connect_awaits spots.Greeting e = record { waits = refl; breaks = greeting_breaks }
+connect_awaits spots.Authentication e = record { waits = refl; breaks = single_breaks }
+connect_awaits spots.Single e = cc
+connect_awaits spots.Head e = cc
+connect_awaits spots.Further e = cc
+connect_awaits (spots.Columns left) e = cc
+connect_awaits spots.ColumnsEnd e = cc
+connect_awaits spots.Rows e = cc
+
+-- where the head of a query's first set is awaited, or is whole
+abbrev pub is_heading : Spot → Bool
+is_heading spots.Head = true
+is_heading (spots.Columns left) = true
+is_heading spots.ColumnsEnd = true
+is_heading spots.Rows = true
+is_heading s = false
+
+heading_sets : (x : Sets) → is_first x ≡ true → is_heading (spot_in x) ≡ true
+heading_sets NoSets e = refl
+heading_sets (Lone older p status) e = cc
+heading_sets (Failed older p) e = cc
+heading_sets (Heading older head left) e = refl
+heading_sets (Headed older head) e = refl
+heading_sets (BegunSet older head rows) e = refl
+heading_sets (Ended older head rows last status) e = cc
+heading_sets (Broken older head rows last) e = cc
+
+pub heading_spot : (t : Talk) → is_queried t ≡ true → is_first (sets_of t) ≡ true → is_heading (context_of t).spot ≡ true
+heading_spot (Start login) q e = cc
+heading_spot (Unwelcome login p) q e = cc
+heading_spot (Greeted login p c) q e = cc
+heading_spot (Settled login p c last kind) q e = cc
+heading_spot (Asked terms c) q e = cc
+heading_spot (Replied terms c last kind) q e = cc
+heading_spot (Queried terms c x) q e = heading_sets x e
+heading_spot (Silent terms c) q e = cc
+
+pub head_awaits : Awaits (Own Query) spots.Head
+head_awaits = record { waits = refl; breaks = head_breaks }
+
+pub column_awaits : (left : ℕ) → Awaits (Own Query) (spots.Columns left)
+column_awaits left = record { waits = refl; breaks = column_breaks }
+
+pub close_awaits : Awaits (Own Query) spots.ColumnsEnd
+close_awaits = record { waits = refl; breaks = close_breaks }

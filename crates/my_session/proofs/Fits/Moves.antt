@@ -1,0 +1,87 @@
+-- What a move of a call leaves: the call goes on as what it is, or returns what it may.
+use Rattle.std.proofs.Common.{◌≡◌, ◌||◌, Bool, true, false, Option, Some, None, refl, ◌∙◌}
+use Rattle.my_session.specs.declared.call.CallKind.{CallKind}
+use Rattle.my_session.specs.declared.call.Task.{Task}
+use Rattle.my_session.specs.declared.call.Task.TheVariants.{Nothing, Begun, Cleaning, Own, Arranging, Reading, Dropping, Leaving, Failing}
+use Rattle.my_session.specs.declared.error.Error.{Error}
+use Rattle.my_session.specs.Calls.{kind_in, fault_in, asks, is_connect}
+use Rattle.my_session.specs.Fits.{may_be_told, OwnError, is_begun}
+use Rattle.my_session.specs.History.{Told, ToldReady, ToldRow, ToldEnd, ToldNone, ToldError, Dropped}
+use Rattle.my_session.specs.Machine.{Doing, Goes, Passes, Sends, Needs, Tells, Move, fell, with_task, failed_by}
+use Rattle.my_session.specs.Seen.{Seen}
+
+-- only a call that sends a command cleans, and only such a call or the handshake has an exchange of its own
+abbrev pub is_proper : Task → Bool
+is_proper Nothing = true
+is_proper (Begun c) = true
+is_proper (Cleaning c) = asks c
+is_proper (Own c) = asks c || is_connect c
+is_proper (Arranging n) = true
+is_proper Reading = true
+is_proper Dropping = true
+is_proper Leaving = true
+is_proper (Failing c fault) = true
+
+-- a call that goes on was stepped, and is what it was
+pub record GoesOn (c : Option CallKind) (t : Task) : Type 0 where
+  pub proper : is_proper t ≡ true
+  pub kind : kind_in t ≡ c
+  pub stepped : is_begun t ≡ false
+  pub sound : fault_in t ≡ None
+
+-- the call goes on as what it is, or returns what it may
+abbrev pub DoingFits : Option CallKind → Task → Doing → Type 0
+DoingFits c t Goes = GoesOn c t
+DoingFits c t (Passes x) = GoesOn c t
+DoingFits c t Sends = (is_begun t ≡ false) × (fault_in t ≡ None)
+DoingFits c t Needs = (is_begun t ≡ false) × (fault_in t ≡ None)
+DoingFits c t (Tells x) = may_be_told c x ≡ true
+
+pub going : (c : Option CallKind) (t : Task) → is_proper t ≡ true → kind_in t ≡ c → is_begun t ≡ false → fault_in t ≡ None → GoesOn c t
+going c t p k b f = record { proper = p; kind = k; stepped = b; sound = f }
+
+-- what no move changes
+pub record IsOn (s n : Seen) : Type 0 where
+  pub login : n.login ≡ s.login
+  pub ended : n.ended ≡ s.ended
+  pub alive : n.closed ≡ false → s.closed ≡ false
+
+pub on_here : (s : Seen) → IsOn s s
+on_here s = record { login = refl; ended = refl; alive = λ e. e }
+
+pub on_task : (s n : Seen) (t : Task) (untold : Bool) → IsOn s n → IsOn s (with_task n t untold)
+on_task s n t untold w = record { login = w.login; ended = w.ended; alive = w.alive }
+
+pub on_fell : (s n : Seen) → IsOn s n → IsOn s (fell n)
+on_fell s n w = record { login = w.login; ended = w.ended; alive = λ e. let no : true ≡ false = e in cc }
+
+pub on_more : (s n m : Seen) → IsOn s n → IsOn n m → IsOn s m
+on_more s n m v w = record { login = w.login ∙ v.login; ended = w.ended ∙ v.ended; alive = λ e. v.alive (w.alive e) }
+
+-- an error is one of the session's own
+abbrev OwnTold : Bool → Told → Type 0
+OwnTold ended ToldReady = Unit {0}
+OwnTold ended (ToldRow row) = Unit {0}
+OwnTold ended ToldEnd = Unit {0}
+OwnTold ended ToldNone = Unit {0}
+OwnTold ended (ToldError e) = OwnError ended e
+OwnTold ended (Dropped closing) = Unit {0}
+
+abbrev pub OwnDoing : Bool → Doing → Type 0
+OwnDoing ended Goes = Unit {0}
+OwnDoing ended (Passes t) = Unit {0}
+OwnDoing ended Sends = Unit {0}
+OwnDoing ended Needs = Unit {0}
+OwnDoing ended (Tells t) = OwnTold ended t
+
+pub record MoveFits (c : Option CallKind) (s : Seen) (m : Move) : Type 0 where
+  pub fits : DoingFits c m.seen.task m.does
+  pub is_on : IsOn s m.seen
+  pub own : fault_in s.task ≡ None → OwnDoing s.ended m.does
+
+pub any_error : (c : Option CallKind) (e : Error) → may_be_told c (ToldError e) ≡ true
+any_error None e = refl
+any_error (Some c) e = refl
+
+pub failed_fits : (s : Seen) (e : Error) (c : Option CallKind) → (fault_in s.task ≡ None → OwnError s.ended e) → MoveFits c s (failed_by s e)
+failed_fits s e c own = record { fits = any_error c e; is_on = on_fell s s (on_here s); own = own }

@@ -1,0 +1,169 @@
+-- What a payload makes of a call fits it.
+use Rattle.std.proofs.Common.{◌≡◌, ℕ, List, Bool, true, false, cond, Option, Some, None, refl, ap, ◌∙◌}
+use Rattle.my_reply.specs.declared.err.ErrPacket.{ErrPacket}
+use Rattle.my_reply.specs.ErrPacket.{err_at}
+use Rattle.my_frame.specs.Front.{Front, Waiting, Broken, Whole}
+use Rattle.my_value.specs.RowParts.{RowParts}
+use Rattle.my_grammar.specs.declared.spot.Kind.{Kind}
+use Rattle.my_grammar.specs.declared.spot.Kind.TheVariants as kinds
+use Rattle.my_grammar.specs.Kinds.{kind_there}
+use Rattle.my_session.specs.declared.call.CallKind.{CallKind}
+use Rattle.my_session.specs.declared.call.CallKind.TheVariants.{Connect, Query, NextRow, DropResult, Ping, Quit}
+use Rattle.my_session.specs.declared.call.Task.{Task}
+use Rattle.my_session.specs.declared.call.Task.TheVariants.{Nothing, Begun, Cleaning, Own, Arranging, Reading, Dropping, Leaving, Failing}
+use Rattle.my_session.specs.declared.tables.Reaction.{Reaction}
+use Rattle.my_session.specs.declared.tables.Reaction.TheVariants as reactions
+use Rattle.my_session.specs.Calls.{kind_in, fault_in}
+use Rattle.my_session.specs.Errors.{invalid_data, unexpected_eof}
+use Rattle.my_session.specs.Fits.{may_be_told, is_begun}
+use Rattle.my_session.specs.History.{ToldReady, ToldRow, ToldEnd}
+use Rattle.my_session.specs.Machine.{Needs, Move, fell, advanced, with_task, failed_by, reply_to, above, unless_above, refused, gave, passed, reacted, read_by, reading}
+use Rattle.my_session.specs.Rows.{row_at}
+use Rattle.my_session.specs.Seen.{Seen}
+use Rattle.my_session.specs.Tables.{react, react_whole, is_breaking, is_connecting}
+use Rattle.my_session.proofs.Fits.Moves.{is_proper, GoesOn, going, IsOn, on_here, on_task, on_fell, MoveFits, any_error, failed_fits}
+
+-- what a reaction may be to a payload
+abbrev ReactionFits : Task → Option CallKind → Reaction → Type 0
+ReactionFits t c (reactions.Goes u) = GoesOn c u
+ReactionFits t c (reactions.Readies untold) = may_be_told c ToldReady ≡ true
+ReactionFits t c reactions.Gives = (row : RowParts) → may_be_told c (ToldRow row) ≡ true
+ReactionFits t c reactions.Ends = may_be_told c ToldEnd ≡ true
+ReactionFits t c reactions.PassesRow = (is_begun t ≡ false) × (fault_in t ≡ None)
+ReactionFits t c reactions.PassesEnd = (is_begun t ≡ false) × (fault_in t ≡ None)
+ReactionFits t c reactions.Refuses = Unit {0}
+ReactionFits t c reactions.Breaks = Unit {0}
+
+whole_react : (t : Task) (k : Kind) → is_proper t ≡ true → is_begun t ≡ false → fault_in t ≡ None → ReactionFits t (kind_in t) (react_whole t k)
+whole_react t (kinds.Greets n) a b f = tt
+whole_react t (kinds.Good status) a b f = going (kind_in t) t a refl b f
+whole_react t kinds.Failed a b f = tt
+whole_react t (kinds.Count n) a b f = going (kind_in t) t a refl b f
+whole_react t kinds.Column a b f = going (kind_in t) t a refl b f
+whole_react t kinds.ColumnsDone a b f = going (kind_in t) t a refl b f
+whole_react t kinds.Row a b f = going (kind_in t) t a refl b f
+whole_react t (kinds.End status) a b f = going (kind_in t) t a refl b f
+whole_react t kinds.Bad a b f = tt
+
+connect_react : (k : Kind) → ReactionFits (Own Connect) (Some Connect) (react (Own Connect) k)
+connect_react (kinds.Greets n) = going (Some Connect) (Own Connect) refl refl refl refl
+connect_react (kinds.Good status) = going (Some Connect) (Arranging 0) refl refl refl refl
+connect_react kinds.Failed = tt
+connect_react (kinds.Count n) = tt
+connect_react kinds.Column = tt
+connect_react kinds.ColumnsDone = tt
+connect_react kinds.Row = tt
+connect_react (kinds.End status) = tt
+connect_react kinds.Bad = tt
+
+query_react : (k : Kind) → ReactionFits (Own Query) (Some Query) (react (Own Query) k)
+query_react (kinds.Greets n) = tt
+query_react (kinds.Good status) = refl
+query_react kinds.Failed = tt
+query_react (kinds.Count n) = going (Some Query) (Own Query) refl refl refl refl
+query_react kinds.Column = going (Some Query) (Own Query) refl refl refl refl
+query_react kinds.ColumnsDone = going (Some Query) (Own Query) refl refl refl refl
+query_react kinds.Row = tt
+query_react (kinds.End status) = tt
+query_react kinds.Bad = tt
+
+ping_react : (k : Kind) → ReactionFits (Own Ping) (Some Ping) (react (Own Ping) k)
+ping_react (kinds.Greets n) = tt
+ping_react (kinds.Good status) = refl
+ping_react kinds.Failed = tt
+ping_react (kinds.Count n) = tt
+ping_react kinds.Column = tt
+ping_react kinds.ColumnsDone = tt
+ping_react kinds.Row = tt
+ping_react (kinds.End status) = tt
+ping_react kinds.Bad = tt
+
+reading_react : (k : Kind) → ReactionFits Reading (Some NextRow) (react Reading k)
+reading_react (kinds.Greets n) = tt
+reading_react (kinds.Good status) = refl
+reading_react kinds.Failed = tt
+reading_react (kinds.Count n) = going (Some NextRow) Reading refl refl refl refl
+reading_react kinds.Column = going (Some NextRow) Reading refl refl refl refl
+reading_react kinds.ColumnsDone = going (Some NextRow) Reading refl refl refl refl
+reading_react kinds.Row = λ row. refl
+reading_react (kinds.End status) = refl
+reading_react kinds.Bad = tt
+
+dropping_react : (k : Kind) → ReactionFits Dropping (Some DropResult) (react Dropping k)
+dropping_react (kinds.Greets n) = tt
+dropping_react (kinds.Good status) = (refl, refl)
+dropping_react kinds.Failed = tt
+dropping_react (kinds.Count n) = going (Some DropResult) Dropping refl refl refl refl
+dropping_react kinds.Column = going (Some DropResult) Dropping refl refl refl refl
+dropping_react kinds.ColumnsDone = going (Some DropResult) Dropping refl refl refl refl
+dropping_react kinds.Row = (refl, refl)
+dropping_react (kinds.End status) = (refl, refl)
+dropping_react kinds.Bad = tt
+
+own_react : (c : CallKind) (k : Kind) → ReactionFits (Own c) (Some c) (react (Own c) k)
+own_react Connect k = connect_react k
+own_react Query k = query_react k
+own_react NextRow k = tt
+own_react DropResult k = tt
+own_react Ping k = ping_react k
+own_react Quit k = tt
+
+react_fits : (t : Task) (k : Kind) → is_proper t ≡ true → ReactionFits t (kind_in t) (react t k)
+react_fits Nothing k a = tt
+react_fits (Begun c) k a = tt
+react_fits (Cleaning c) k a = whole_react (Cleaning c) k a refl refl
+react_fits (Own c) k a = own_react c k
+react_fits (Arranging n) k a = whole_react (Arranging n) k a refl refl
+react_fits Reading k a = reading_react k
+react_fits Dropping k a = dropping_react k
+react_fits Leaving k a = tt
+react_fits (Failing c fault) k a = tt
+
+gave_fits : (s n : Seen) (c : Option CallKind) (x : Option RowParts) → IsOn s n → ((row : RowParts) → may_be_told c (ToldRow row) ≡ true) → MoveFits c s (gave s n x)
+gave_fits s n c None l f = failed_fits s (invalid_data s.facts.place) c (λ _. tt)
+gave_fits s n c (Some row) l f = record { fits = f row; is_on = on_task s n Nothing n.untold l; own = λ _. tt }
+
+abbrev IsSteady : Task → Type 0
+IsSteady t = (is_begun t ≡ false) × (fault_in t ≡ None)
+
+same_task : (s n : Seen) → n.task ≡ s.task → is_proper s.task ≡ true → IsSteady s.task → GoesOn (kind_in s.task) n.task
+same_task s n t a b = going (kind_in s.task) n.task (ap is_proper t ∙ a) (ap kind_in t) (ap is_begun t ∙ b.0) (ap fault_in t ∙ b.1)
+
+passed_fits : (s n : Seen) (x : Option RowParts) → IsOn s n → n.task ≡ s.task → is_proper s.task ≡ true → IsSteady s.task → MoveFits (kind_in s.task) s (passed s n x)
+passed_fits s n None l t a b = failed_fits s (invalid_data s.facts.place) (kind_in s.task) (λ _. tt)
+passed_fits s n (Some row) l t a b = record { fits = same_task s n t a b; is_on = l; own = λ _. tt }
+
+on_either : (s n m : Seen) (b : Bool) → IsOn s n → IsOn s m → IsOn s (cond {A = Seen} b n m)
+on_either s n m true e f = e
+on_either s n m false e f = f
+
+refused_fits : (s n : Seen) (c : Option CallKind) (x : Option ErrPacket) → IsOn s n → MoveFits c s (refused s n x)
+refused_fits s n c None l = failed_fits s (invalid_data s.facts.place) c (λ _. tt)
+refused_fits s n c (Some e) l = record { fits = any_error c _; is_on = on_either s (fell n) (with_task n Nothing n.untold) (is_connecting s.task) (on_fell s n l) (on_task s n Nothing n.untold l); own = λ _. tt }
+
+reacted_fits : (s n : Seen) (p : List ℕ) (r : Reaction) → IsOn s n → n.task ≡ s.task → is_proper s.task ≡ true → ReactionFits s.task (kind_in s.task) r → MoveFits (kind_in s.task) s (reacted s n p r)
+reacted_fits s n p (reactions.Goes t) l e a f = record { fits = f; is_on = on_task s n t n.untold l; own = λ _. tt }
+reacted_fits s n p (reactions.Readies untold) l e a f = record { fits = f; is_on = on_task s n Nothing untold l; own = λ _. tt }
+reacted_fits s n p reactions.Gives l e a f = gave_fits s n (kind_in s.task) (row_at s.facts.columns p) l f
+reacted_fits s n p reactions.Ends l e a f = record { fits = f; is_on = on_task s n Nothing n.untold l; own = λ _. tt }
+reacted_fits s n p reactions.PassesRow l e a f = passed_fits s n (row_at s.facts.columns p) l e a f
+reacted_fits s n p reactions.PassesEnd l e a f = record { fits = same_task s n e a f; is_on = l; own = λ _. tt }
+reacted_fits s n p reactions.Refuses l e a f = refused_fits s n (kind_in s.task) (err_at _ p) l
+reacted_fits s n p reactions.Breaks l e a f = failed_fits s (invalid_data s.facts.place) (kind_in s.task) (λ _. tt)
+
+unless_fits : (s : Seen) (c : Option CallKind) (x : Option ℕ) (m : Move) → MoveFits c s m → MoveFits c s (unless_above s x m)
+unless_fits s c None m f = f
+unless_fits s c (Some len) m f = failed_fits s _ c (λ _. tt)
+
+kind_fits : (s : Seen) (p rest : List ℕ) (next : ℕ) (k : Kind) (b : Bool) → is_proper s.task ≡ true → MoveFits (kind_in s.task) s (cond {A = Move} b (failed_by s (invalid_data s.facts.place)) (read_by s (advanced s k p rest next) p (react s.task k) (reply_to s.login k p)))
+kind_fits s p rest next k true a = failed_fits s (invalid_data s.facts.place) (kind_in s.task) (λ _. tt)
+kind_fits s p rest next k false a = unless_fits s (kind_in s.task) (above s.context.terms.limit (reply_to s.login k p)) _ (reacted_fits s (advanced s k p rest next) p (react s.task k) (record { login = refl; ended = refl; alive = λ e. e }) refl a (react_fits s.task k a))
+
+waiting_fits : (s : Seen) (b : Bool) (c : Option CallKind) → s.ended ≡ b → is_begun s.task ≡ false → fault_in s.task ≡ None → MoveFits c s (cond {A = Move} b (failed_by s (unexpected_eof s.facts.place)) (record { seen = s; does = Needs }))
+waiting_fits s true c ended n e = failed_fits s (unexpected_eof s.facts.place) c (λ _. ended)
+waiting_fits s false c ended n e = record { fits = (n, e); is_on = on_here s; own = λ _. tt }
+
+pub reading_fits : (s : Seen) (f : Front) → is_proper s.task ≡ true → is_begun s.task ≡ false → fault_in s.task ≡ None → MoveFits (kind_in s.task) s (reading s f)
+reading_fits s Waiting a n e = waiting_fits s s.ended (kind_in s.task) refl n e
+reading_fits s (Broken fault) a n e = failed_fits s _ (kind_in s.task) (λ _. tt)
+reading_fits s (Whole p rest next) a n e = kind_fits s p rest next (kind_there s.context p) (is_breaking (react s.task (kind_there s.context p))) a

@@ -1,0 +1,104 @@
+-- Each error of the server is returned once, in order.
+use Rattle.std.proofs.Common.{◌≡◌, ℕ, suc, zero, List, [], ◌∷◌, ◌++◌, length, false, Option, Some, None, refl, sym, ap, ◌∙◌, subst}
+use Rattle.std.proofs.lemmas.List.{append_assoc, append-nil}
+use Rattle.my_reply.specs.declared.err.ErrPacket.{ErrPacket}
+use Rattle.my_reply.specs.ErrPacket.{err_at}
+use Rattle.my_frame.specs.Front.{Front, Waiting, Broken, Whole}
+use Rattle.my_grammar.specs.declared.spot.Kind.{Kind}
+use Rattle.my_grammar.specs.declared.spot.Kind.TheVariants as kinds
+use Rattle.my_grammar.specs.Cut.{Read, front_of, kind_of, read_payload, read_front, read_within, read_from}
+use Rattle.my_grammar.specs.Growth.{grow}
+use Rattle.my_grammar.specs.Talk.{Talk, context_of}
+use Rattle.my_session.specs.declared.error.ServerError.{ServerError}
+use Rattle.my_session.specs.Entries.{Entry}
+use Rattle.my_session.specs.Errors.{server_error}
+use Rattle.my_session.specs.Law.{in_order, talks, at_most_one, errors_along}
+use Rattle.my_session.specs.Machine.{is_greeting}
+use Rattle.my_session.specs.ServerErrors.{error_onto, errors_in, errors_of}
+use Rattle.my_session.proofs.Stands.Blames.{is_failed, calm_blames, failed_blames}
+use Rattle.my_grammar.proofs.Cutting.{stopped_within}
+use Rattle.my_session.proofs.History.Stopping.{failed_over}
+use Rattle.my_grammar.proofs.Staying.{over_stops}
+
+-- of what is read on at most one error is new
+record Adds (t u : Talk) : Type 0 where
+  new : Option ServerError
+  errors : errors_in u ≡ at_most_one new ++ errors_in t
+
+none_new : (t : Talk) → Adds t t
+none_new t = record { new = None; errors = refl }
+
+one_new : (t u : Talk) (o : Option ErrPacket) → errors_in u ≡ error_onto o (errors_in t) → Adds t u
+one_new t u None e = record { new = None; errors = e }
+one_new t u (Some x) e = record { new = Some (server_error x); errors = e }
+
+same_new : (t u v : Talk) → errors_in u ≡ errors_in t → Adds u v → Adds t v
+same_new t u v e w = record { new = w.new; errors = w.errors ∙ ap (λ es. at_most_one w.new ++ es) e }
+
+later_within : (most : ℕ) (t : Talk) (bytes : List ℕ) → Adds t (read_within most t bytes).talk
+unfolding read_within
+later_within zero t bytes = none_new t
+later_within (suc most) t bytes = by_front (λ u bs. later_within most u bs) (front_of t bytes)
+  where
+    calm : ((u : Talk) (bs : List ℕ) → Adds u (read_within most u bs).talk) → (p rest : List ℕ) (k : Kind) → is_failed k ≡ false → Adds t (read_within most (grow k t p) rest).talk
+    calm go p rest k e = same_new t (grow k t p) _ (calm_blames k t p e) (go (grow k t p) rest)
+
+    by_kind : ((u : Talk) (bs : List ℕ) → Adds u (read_within most u bs).talk) → (p rest : List ℕ) (k : Kind) → kind_of t p ≡ k → Adds t (read_payload t bytes p rest k (read_within most)).talk
+    by_kind go p rest (kinds.Greets n) e = calm go p rest (kinds.Greets n) refl
+    by_kind go p rest (kinds.Good status) e = calm go p rest (kinds.Good status) refl
+    by_kind go p rest kinds.Failed e =
+        let u = grow kinds.Failed t p in
+        let last : read_within most u rest ≡ record { talk = u; rest = rest } = stopped_within most u rest (over_stops u (front_of u rest) (failed_over t p)) in
+        subst (λ (r : Read). Adds t r.talk) (sym last) (one_new t u (err_at (is_greeting (context_of t).spot) p) (failed_blames t p e))
+    by_kind go p rest (kinds.Count n) e = calm go p rest (kinds.Count n) refl
+    by_kind go p rest kinds.Column e = calm go p rest kinds.Column refl
+    by_kind go p rest kinds.ColumnsDone e = calm go p rest kinds.ColumnsDone refl
+    by_kind go p rest kinds.Row e = calm go p rest kinds.Row refl
+    by_kind go p rest (kinds.End status) e = calm go p rest (kinds.End status) refl
+    by_kind go p rest kinds.Bad e = none_new t
+
+    by_front : ((u : Talk) (bs : List ℕ) → Adds u (read_within most u bs).talk) → (f : Front) → Adds t (read_front t bytes f (read_within most)).talk
+    by_front go Waiting = none_new t
+    by_front go (Broken fault) = none_new t
+    by_front go (Whole p rest next) = by_kind go p rest (kind_of t p) refl
+
+later : (t : Talk) (bytes : List ℕ) → Adds t (read_from t bytes).talk
+unfolding read_from
+later t bytes = later_within (length bytes) t bytes
+
+errors_after : (ts : List Talk) (t : Talk) → errors_along (ts ++ t ∷ []) ≡ errors_along ts ++ in_order (errors_in t)
+errors_after [] t = append-nil (in_order (errors_in t))
+errors_after (u ∷ ts) t = ap (λ es. in_order (errors_in u) ++ es) (errors_after ts t) ∙ sym (append_assoc (in_order (errors_in u)) (errors_along ts) (in_order (errors_in t)))
+
+in_order-append : (xs ys : List ServerError) → in_order (xs ++ ys) ≡ in_order ys ++ in_order xs
+in_order-append [] ys = sym (append-nil (in_order ys))
+in_order-append (x ∷ xs) ys = ap (λ es. es ++ x ∷ []) (in_order-append xs ys) ∙ append_assoc (in_order ys) (in_order xs) (x ∷ [])
+
+along_all : (es : List Entry) → errors_along (in_order (talks es)) ≡ in_order (errors_of es)
+along_all [] = refl
+along_all (e ∷ es) = errors_after (in_order (talks es)) e.talk ∙ ap (λ xs. xs ++ in_order (errors_in e.talk)) (along_all es) ∙ sym (in_order-append (errors_in e.talk) (errors_of es))
+
+one_in_order : (o : Option ServerError) → in_order (at_most_one o) ≡ at_most_one o
+one_in_order None = refl
+one_in_order (Some x) = refl
+
+-- the errors in what is found, beside those of what was read
+pub record Unheard (e : Entry) (es : List Entry) (unread : List ℕ) : Type 0 where
+  pub new : Option ServerError
+  pub errors : errors_along (in_order (talks es) ++ (read_from e.talk unread).talk ∷ []) ≡ in_order (errors_of (e ∷ es)) ++ at_most_one new
+
+pub unheard : (e : Entry) (es : List Entry) (unread : List ℕ) → Unheard e es unread
+unheard e es unread =
+    let now = (read_from e.talk unread).talk in
+    let w = later e.talk unread in
+    let here : in_order (errors_in now) ≡ in_order (errors_in e.talk) ++ at_most_one w.new =
+    ap (λ (xs : List ServerError). in_order xs) w.errors ∙ in_order-append (at_most_one w.new) (errors_in e.talk) ∙ ap (λ xs. in_order (errors_in e.talk) ++ xs) (one_in_order w.new) in
+    record {
+      new = w.new;
+      errors =
+          errors_after (in_order (talks es)) now
+          ∙ ap (λ xs. xs ++ in_order (errors_in now)) (along_all es)
+          ∙ ap (λ xs. in_order (errors_of es) ++ xs) here
+          ∙ sym (append_assoc (in_order (errors_of es)) (in_order (errors_in e.talk)) (at_most_one w.new))
+          ∙ ap (λ xs. xs ++ at_most_one w.new) (sym (in_order-append (errors_in e.talk) (errors_of es)));
+    }

@@ -1,0 +1,145 @@
+-- What a payload more does to the server's errors.
+use Rattle.std.proofs.Common.{◌≡◌, ℕ, List, [], Bool, true, false, cond, leb, ◌-◌, refl, sym, ap, ◌∙◌}
+use Rattle.my_flags.specs.declared.flags.StatusFlags.{StatusFlags}
+use Rattle.my_flags.specs.Sets.{deprecates_eof, has_more_results}
+use Rattle.my_reply.specs.ErrPacket.{err_at}
+use Rattle.my_grammar.specs.declared.login.Login.{Login}
+use Rattle.my_grammar.specs.declared.spot.Kind.{Kind}
+use Rattle.my_grammar.specs.declared.spot.Kind.TheVariants as kinds
+use Rattle.my_grammar.specs.declared.spot.Spot.TheVariants as spots
+use Rattle.my_grammar.specs.Cut.{kind_of}
+use Rattle.my_grammar.specs.Growth.{grow}
+use Rattle.my_grammar.specs.Sets.{SetHead, Sets, NoSets, Lone, Failed, Heading, Headed, Begun, Ended, Broken, grow_sets, with_column, with_column_of, with_close, with_row, with_end, spot_in}
+use Rattle.my_grammar.specs.Sets as sets
+use Rattle.my_grammar.specs.Talk.{Talk, Start, Unwelcome, Greeted, Settled, Asked, Replied, Queried, Silent, context_of}
+use Rattle.my_session.specs.Machine.{is_greeting}
+use Rattle.my_session.specs.ServerErrors.{error_onto, error_of, errors_in_sets, errors_in}
+
+abbrev pub is_failed : Kind → Bool
+is_failed kinds.Failed = true
+is_failed k = false
+
+column_blames_if : (d last : Bool) (older : Sets) (head : SetHead) (left : ℕ) (p : List ℕ) → errors_in_sets (cond last (cond d (Begun older (with_column_of head p) []) (Headed older (with_column_of head p))) (Heading older (with_column_of head p) left)) ≡ errors_in_sets older
+column_blames_if true true older head left p = refl
+column_blames_if false true older head left p = refl
+column_blames_if d false older head left p = refl
+
+column_blames : (d : Bool) (x : Sets) (p : List ℕ) → errors_in_sets (with_column d x p) ≡ errors_in_sets x
+column_blames d NoSets p = refl
+column_blames d (Lone older q status) p = refl
+column_blames d (Failed older q) p = refl
+column_blames d (Heading older head left) p = column_blames_if d (leb left 1) older head (left - 1) p
+column_blames d (Headed older head) p = refl
+column_blames d (Begun older head rows) p = refl
+column_blames d (Ended older head rows last status) p = refl
+column_blames d (Broken older head rows last) p = refl
+
+close_blames : (x : Sets) (p : List ℕ) → errors_in_sets (with_close x p) ≡ errors_in_sets x
+close_blames NoSets p = refl
+close_blames (Lone older q status) p = refl
+close_blames (Failed older q) p = refl
+close_blames (Heading older head left) p = refl
+close_blames (Headed older head) p = refl
+close_blames (Begun older head rows) p = refl
+close_blames (Ended older head rows last status) p = refl
+close_blames (Broken older head rows last) p = refl
+
+row_blames : (x : Sets) (p : List ℕ) → errors_in_sets (with_row x p) ≡ errors_in_sets x
+row_blames NoSets p = refl
+row_blames (Lone older q status) p = refl
+row_blames (Failed older q) p = refl
+row_blames (Heading older head left) p = refl
+row_blames (Headed older head) p = refl
+row_blames (Begun older head rows) p = refl
+row_blames (Ended older head rows last status) p = refl
+row_blames (Broken older head rows last) p = refl
+
+end_blames : (x : Sets) (p : List ℕ) (status : StatusFlags) → errors_in_sets (with_end x p status) ≡ errors_in_sets x
+end_blames NoSets p status = refl
+end_blames (Lone older q s) p status = refl
+end_blames (Failed older q) p status = refl
+end_blames (Heading older head left) p status = refl
+end_blames (Headed older head) p status = refl
+end_blames (Begun older head rows) p status = refl
+end_blames (Ended older head rows last s) p status = refl
+end_blames (Broken older head rows last) p status = refl
+
+sets_blame : (k : Kind) (d : Bool) (x : Sets) (p : List ℕ) → is_failed k ≡ false → errors_in_sets (grow_sets d k x p) ≡ errors_in_sets x
+sets_blame (kinds.Greets c) d x p e = refl
+sets_blame (kinds.Good status) d x p e = refl
+sets_blame kinds.Failed d x p e = cc
+sets_blame (kinds.Count n) d x p e = refl
+sets_blame kinds.Column d x p e = column_blames d x p
+sets_blame kinds.ColumnsDone d x p e = close_blames x p
+sets_blame kinds.Row d x p e = row_blames x p
+sets_blame (kinds.End status) d x p e = end_blames x p status
+sets_blame kinds.Bad d x p e = refl
+
+one_blames : (k : Kind) (p : List ℕ) → is_failed k ≡ false → error_of k p ≡ []
+one_blames (kinds.Greets c) p e = refl
+one_blames (kinds.Good status) p e = refl
+one_blames kinds.Failed p e = cc
+one_blames (kinds.Count n) p e = refl
+one_blames kinds.Column p e = refl
+one_blames kinds.ColumnsDone p e = refl
+one_blames kinds.Row p e = refl
+one_blames (kinds.End status) p e = refl
+one_blames kinds.Bad p e = refl
+
+start_blames : (k : Kind) (login : Login) (p : List ℕ) → is_failed k ≡ false → errors_in (grow k (Start login) p) ≡ []
+start_blames (kinds.Greets c) login p e = refl
+start_blames (kinds.Good status) login p e = refl
+start_blames kinds.Failed login p e = cc
+start_blames (kinds.Count n) login p e = refl
+start_blames kinds.Column login p e = refl
+start_blames kinds.ColumnsDone login p e = refl
+start_blames kinds.Row login p e = refl
+start_blames (kinds.End status) login p e = refl
+start_blames kinds.Bad login p e = refl
+
+-- another payload than an ERR has none
+pub calm_blames : (k : Kind) (t : Talk) (p : List ℕ) → is_failed k ≡ false → errors_in (grow k t p) ≡ errors_in t
+calm_blames k (Start login) p e = start_blames k login p e
+calm_blames k (Unwelcome login q) p e = refl
+calm_blames k (Greeted login q c) p e = one_blames k p e
+calm_blames k (Settled login q c last kind) p e = refl
+calm_blames k (Asked terms c) p e = one_blames k p e
+calm_blames k (Replied terms c last kind) p e = refl
+calm_blames k (Queried terms c x) p e = sets_blame k (deprecates_eof terms.kept) x p e
+calm_blames k (Silent terms c) p e = refl
+
+-- an ERR among sets
+failed_sets : (x : Sets) (p : List ℕ) → errors_in_sets (sets.with_error x p) ≡ error_onto (err_at false p) (errors_in_sets x)
+failed_sets NoSets p = refl
+failed_sets (Lone older q status) p = refl
+failed_sets (Failed older q) p = refl
+failed_sets (Heading older head left) p = refl
+failed_sets (Headed older head) p = refl
+failed_sets (Begun older head rows) p = refl
+failed_sets (Ended older head rows last status) p = refl
+failed_sets (Broken older head rows last) p = refl
+
+not_greeting_if : (t : Bool) → is_greeting (cond t spots.Further spots.Idle) ≡ false
+not_greeting_if true = refl
+not_greeting_if false = refl
+
+sets_greet : (x : Sets) → is_greeting (spot_in x) ≡ false
+sets_greet NoSets = refl
+sets_greet (Lone older q status) = not_greeting_if (has_more_results status)
+sets_greet (Failed older q) = refl
+sets_greet (Heading older head left) = refl
+sets_greet (Headed older head) = refl
+sets_greet (Begun older head rows) = refl
+sets_greet (Ended older head rows last status) = not_greeting_if (has_more_results status)
+sets_greet (Broken older head rows last) = refl
+
+-- an ERR has its error
+pub failed_blames : (t : Talk) (p : List ℕ) → kind_of t p ≡ kinds.Failed → errors_in (grow kinds.Failed t p) ≡ error_onto (err_at (is_greeting (context_of t).spot) p) (errors_in t)
+failed_blames (Start login) p e = refl
+failed_blames (Unwelcome login q) p e = cc
+failed_blames (Greeted login q c) p e = refl
+failed_blames (Settled login q c last kind) p e = cc
+failed_blames (Asked terms c) p e = refl
+failed_blames (Replied terms c last kind) p e = cc
+failed_blames (Queried terms c x) p e = failed_sets x p ∙ ap (λ b. error_onto (err_at b p) (errors_in_sets x)) (sym (sets_greet x))
+failed_blames (Silent terms c) p e = cc

@@ -1,0 +1,253 @@
+-- Each move keeps the relation to histories.
+use Rattle.std.proofs.Common.{◌≡◌, ℕ, List, [], ◌∷◌, Bool, true, false, cond, Option, Some, None, inl, refl, sym, ap, ◌∙◌, subst}
+use Rattle.my_flags.specs.declared.flags.StatusFlags.{StatusFlags}
+use Rattle.my_flags.specs.Sets.{deprecates_eof}
+use Rattle.my_reply.specs.declared.err.ErrPacket.{ErrPacket}
+use Rattle.my_reply.specs.ErrPacket.{err_at}
+use Rattle.my_frame.specs.FrontLaws.{IsWhole}
+use Rattle.my_value.specs.RowParts.{RowParts}
+use Rattle.my_grammar.specs.declared.spot.Context.{Context}
+use Rattle.my_grammar.specs.declared.spot.Kind.{Kind}
+use Rattle.my_grammar.specs.declared.spot.Kind.TheVariants as kinds
+use Rattle.my_grammar.specs.declared.spot.Spot.{Spot}
+use Rattle.my_grammar.specs.declared.spot.Spot.TheVariants as spots
+use Rattle.my_grammar.specs.Contexts.{is_bad, spot_after}
+use Rattle.my_grammar.specs.Growth.{grow, not_greets}
+use Rattle.my_grammar.specs.Kinds.{kind_there}
+use Rattle.my_session.specs.declared.call.Call.TheVariants as calls
+use Rattle.my_session.specs.declared.call.CallKind.{CallKind}
+use Rattle.my_session.specs.declared.call.CallKind.TheVariants.{Connect, Query, NextRow, DropResult, Ping, Quit}
+use Rattle.my_session.specs.declared.call.Task.{Task}
+use Rattle.my_session.specs.declared.call.Task.TheVariants.{Nothing, Begun, Cleaning, Own, Arranging, Reading, Dropping, Leaving, Failing}
+use Rattle.my_session.specs.declared.error.Error.TheVariants as errors
+use Rattle.my_session.specs.Calls.{kind_of, call_of, kind_in, is_open, is_connect}
+use Rattle.my_session.specs.Entries.{calls_in, connecting_in, givens, may_lack, has_connected, IsTied}
+use Rattle.my_session.specs.Errors.{invalid_data, server_error}
+use Rattle.my_session.specs.History.{History, Made, Told, ToldRow, ToldEnd, ToldError, answered, noted}
+use Rattle.my_session.specs.Machine.{Move, fell, advanced, with_task, failed_by, refused, gave, passed, reacted, after_doing, is_greeting}
+use Rattle.my_session.specs.Rows.{row_at}
+use Rattle.my_session.specs.Seen.{Seen}
+use Rattle.my_session.specs.ServerErrors.{error_onto, errors_in}
+use Rattle.my_session.specs.Stands.{Stands, Heard, TaskIs, TieIs, begun_of, is_reading, is_shaking, keeps}
+use Rattle.my_session.specs.Steps.{is_settled}
+use Rattle.my_session.specs.Tables.{react, react_whole, react_connect, react_query, react_ping, react_own, react_reading, react_dropping, is_breaking, is_connecting}
+use Rattle.my_session.proofs.Stands.Blames.{is_failed, failed_blames}
+use Rattle.my_session.proofs.Stands.Reacts.{fell_stands, goes, refuses, refuses_connect, newest_by, answers, pongs, readies, first_parts, shows, heads, row_gives, end_gives, good_gives, knows, tied_on, tied_now}
+use Rattle.my_session.proofs.Stands.Spots.{row_spot, end_spot, good_spot, not_greeting, settled_more, greets_on, settled_not_greeting, reading_after}
+use Rattle.my_session.proofs.Stands.Ties.{answered_stands, noted_stands, closed_tie, all_begun, none_waits, quiet_more, asks_not}
+use Rattle.my_session.proofs.Stands.Views.{is_part}
+
+-- what a move leads to
+abbrev pub Keeps : Move → History → Type 0
+Keeps m h = Stands m.seen (after_doing h m.does)
+
+-- tasks that read what is left
+abbrev pub is_reader : Task → Bool
+is_reader Nothing = false
+is_reader (Begun c) = false
+is_reader (Cleaning c) = false
+is_reader (Own c) = false
+is_reader (Arranging n) = false
+is_reader Reading = true
+is_reader Dropping = true
+is_reader Leaving = false
+is_reader (Failing c fault) = false
+
+module _ (s : Seen) (h : History) (st : Stands s h) (open_still : s.closed ≡ false) (nothing : s.owed ≡ []) (op : is_open s.task ≡ true) (p rest : List ℕ) (next : ℕ) (whole : IsWhole s.number s.context.terms.limit s.unread p rest next) where
+  abbrev HeardAs : Task → Type 0
+  HeardAs t = Heard t s.text s.context.spot s.untold s.closed h.lost h.calls h.pending st.newest st.older
+
+  abbrev after : Kind → Seen
+  after k = advanced s k p rest next
+
+  invalid : Keeps (failed_by s (invalid_data s.facts.place)) h
+  invalid = fell_stands s h (invalid_data s.facts.place) (λ c. refl) op st
+
+  -- the ERR in front is one more of the server's errors
+  blames : (x : ErrPacket) → kind_there s.context p ≡ kinds.Failed → err_at (is_greeting s.context.spot) p ≡ Some x → server_error x ∷ errors_in st.newest.talk ≡ errors_in (grow kinds.Failed st.newest.talk p)
+  blames x e is =
+      ap (λ o. error_onto o (errors_in st.newest.talk)) (sym is)
+      ∙ ap (λ (c : Context). error_onto (err_at (is_greeting c.spot) p) (errors_in st.newest.talk)) st.wire.context_is
+      ∙ sym (failed_blames st.newest.talk p (ap (λ (c : Context). kind_there c p) (sym st.wire.context_is) ∙ e))
+
+  refuse : (t : Task) (c : CallKind) (x : Option ErrPacket) → err_at (is_greeting s.context.spot) p ≡ x → HeardAs t → kind_there s.context p ≡ kinds.Failed → kind_in t ≡ Some c → is_connecting s.task ≡ false → is_connect (kind_of (call_of c s.text)) ≡ false → has_connected h.calls ≡ true → ((y : Told) → may_lack y (kind_of (call_of c s.text)) ≡ true → IsTied (record { call = call_of c s.text; what = y } ∷ h.calls) (begun_of (spot_after (deprecates_eof s.context.terms.kept) s.context.spot kinds.Failed) st.newest.call st.older)) → Keeps (refused s (after kinds.Failed) x) h
+  refuse t c None is hd e call off not made tie = invalid
+  refuse t c (Some x) is hd e call off not made tie =
+      subst (λ (b : Bool). Stands (cond b (fell (after kinds.Failed)) (with_task (after kinds.Failed) Nothing false)) (answered h (ToldError (errors.Server (server_error x))))) (sym off)
+      (refuses s h st open_still nothing p rest next whole t c (server_error x) e (blames x e is) call not made hd (tie (ToldError (errors.Server (server_error x))) refl))
+
+  refuse_connect : (t : Task) (x : Option ErrPacket) → err_at (is_greeting s.context.spot) p ≡ x → HeardAs t → kind_there s.context p ≡ kinds.Failed → kind_in t ≡ Some Connect → is_connecting s.task ≡ true → ((y : Told) → may_lack y Connect ≡ true → IsTied (record { call = calls.Connect; what = y } ∷ h.calls) (begun_of (spot_after (deprecates_eof s.context.terms.kept) s.context.spot kinds.Failed) st.newest.call st.older)) → Keeps (refused s (after kinds.Failed) x) h
+  refuse_connect t None is hd e call on tie = invalid
+  refuse_connect t (Some x) is hd e call on tie =
+      subst (λ (b : Bool). Stands (cond b (fell (after kinds.Failed)) (with_task (after kinds.Failed) Nothing false)) (answered h (ToldError (errors.Server (server_error x))))) (sym on)
+      (refuses_connect s h st open_still nothing p rest next whole t (server_error x) e (blames x e is) call hd (tie (ToldError (errors.Server (server_error x))) refl))
+
+  -- the tie of a call that reads after other exchanges
+  tied_after : (k : Kind) (c : CallKind) → is_greeting s.context.spot ≡ false → IsTied h.calls (begun_of s.context.spot st.newest.call st.older) → (y : Told) → may_lack y (kind_of (call_of c s.text)) ≡ true → IsTied (record { call = call_of c s.text; what = y } ∷ h.calls) (begun_of (spot_after (deprecates_eof s.context.terms.kept) s.context.spot k) st.newest.call st.older)
+  tied_after k c past t y lack =
+      none_waits (spot_after (deprecates_eof s.context.terms.kept) s.context.spot k) (record { call = call_of c s.text; what = y } ∷ h.calls) st.newest.call st.older (not_greeting s.context.spot (deprecates_eof s.context.terms.kept) k)
+      (quiet_more (record { call = call_of c s.text; what = y }) h.calls (st.newest.call ∷ calls_in st.older) lack (all_begun s.context.spot h.calls st.newest.call st.older past t))
+
+  tied_own : (k : Kind) (t : Task) (c : CallKind) → kind_in t ≡ Some c → TieIs t s.text (spot_after (deprecates_eof s.context.terms.kept) s.context.spot k) h.calls st.newest.call st.older → (y : Told) → may_lack y (kind_of (call_of c s.text)) ≡ true → IsTied (record { call = call_of c s.text; what = y } ∷ h.calls) (begun_of (spot_after (deprecates_eof s.context.terms.kept) s.context.spot k) st.newest.call st.older)
+  tied_own k t c call tie y lack = closed_tie t c s.text (spot_after (deprecates_eof s.context.terms.kept) s.context.spot k) h.calls st.newest.call st.older (record { call = call_of c s.text; what = y }) call refl lack tie
+
+  -- a response that is read whole
+  module _ (t : Task) (lost : keeps t ≡ false) (hd : HeardAs t) (at : (k : Kind) → kind_there s.context p ≡ k → is_bad k ≡ false → not_greets k ≡ true → TaskIs t (spot_after (deprecates_eof s.context.terms.kept) s.context.spot k) s.closed (has_connected h.calls) (connecting_in (st.newest ∷ st.older)) (newest_by s h st open_still nothing p rest next whole k st.newest.given)) (tie : (k : Kind) → TieIs t s.text (spot_after (deprecates_eof s.context.terms.kept) s.context.spot k) h.calls st.newest.call st.older) (fails : kind_there s.context p ≡ kinds.Failed → Keeps (refused s (after kinds.Failed) (err_at (is_greeting s.context.spot) p)) h) where
+    whole_goes : (k : Kind) → kind_there s.context p ≡ k → is_bad k ≡ false → is_failed k ≡ false → not_greets k ≡ true → Stands (with_task (after k) t false) h
+    whole_goes k e good calm quiet = goes s h st open_still nothing p rest next whole t t k e good calm lost refl hd (at k e good quiet) (tie k) (λ _. quiet) (λ _. quiet)
+
+    whole_keeps : (k : Kind) → kind_there s.context p ≡ k → is_breaking (react_whole t k) ≡ false → Keeps (reacted s (after k) p (react_whole t k)) h
+    whole_keeps (kinds.Greets n) e b = cc
+    whole_keeps (kinds.Good status) e b = whole_goes (kinds.Good status) e refl refl refl
+    whole_keeps kinds.Failed e b = fails e
+    whole_keeps (kinds.Count n) e b = whole_goes (kinds.Count n) e refl refl refl
+    whole_keeps kinds.Column e b = whole_goes kinds.Column e refl refl refl
+    whole_keeps kinds.ColumnsDone e b = whole_goes kinds.ColumnsDone e refl refl refl
+    whole_keeps kinds.Row e b = whole_goes kinds.Row e refl refl refl
+    whole_keeps (kinds.End status) e b = whole_goes (kinds.End status) e refl refl refl
+    whole_keeps kinds.Bad e b = cc
+
+  cleaning_keeps : (c : CallKind) (k : Kind) → HeardAs (Cleaning c) → is_connecting s.task ≡ false → kind_there s.context p ≡ k → is_breaking (react_whole (Cleaning c) k) ≡ false → Keeps (reacted s (after k) p (react_whole (Cleaning c) k)) h
+  cleaning_keeps c k hd off e b =
+      let following = λ (x : Kind). not_greeting s.context.spot (deprecates_eof s.context.terms.kept) x in
+      whole_keeps (Cleaning c) refl hd (λ x _ _ _. (hd.at.0, hd.at.1, following x))
+      (λ x. none_waits (spot_after (deprecates_eof s.context.terms.kept) s.context.spot x) h.calls st.newest.call st.older (following x) (all_begun s.context.spot h.calls st.newest.call st.older hd.at.2 hd.tie))
+      (λ f. refuse (Cleaning c) c (err_at (is_greeting s.context.spot) p) refl hd f refl off (asks_not c s.text hd.at.0) hd.at.1 (tied_after kinds.Failed c hd.at.2 hd.tie)) k e b
+
+  arranging_keeps : (n : ℕ) (k : Kind) → HeardAs (Arranging n) → is_connecting s.task ≡ true → kind_there s.context p ≡ k → is_breaking (react_whole (Arranging n) k) ≡ false → Keeps (reacted s (after k) p (react_whole (Arranging n) k)) h
+  arranging_keeps n k hd on e b =
+      whole_keeps (Arranging n) refl hd (λ x is good quiet. (hd.at.0, hd.at.1, not_greeting s.context.spot (deprecates_eof s.context.terms.kept) x, λ _. answers s h st open_still nothing p rest next whole x is good quiet)) (λ x. hd.tie)
+      (λ f. refuse_connect (Arranging n) (err_at (is_greeting s.context.spot) p) refl hd f refl on (tied_own kinds.Failed (Arranging n) Connect refl hd.tie)) k e b
+
+  connect_keeps : (k : Kind) → HeardAs (Own Connect) → is_connecting s.task ≡ true → kind_there s.context p ≡ k → is_breaking (react_connect k) ≡ false → Keeps (reacted s (after k) p (react_connect k)) h
+  connect_keeps (kinds.Greets n) hd on e b =
+      let spot : spot_after (deprecates_eof s.context.terms.kept) s.context.spot (kinds.Greets n) ≡ spots.Authentication = greets_on s.context.spot (deprecates_eof s.context.terms.kept) n (knows s h st open_still nothing p rest next whole (kinds.Greets n) e) in
+      goes s h st open_still nothing p rest next whole (Own Connect) (Own Connect) (kinds.Greets n) e refl refl refl refl hd (hd.at.0, ap is_shaking spot, hd.at.2) hd.tie (λ made. let no : true ≡ false = sym made ∙ hd.at.0 in cc) (λ no. cc)
+  connect_keeps (kinds.Good status) hd on e b =
+      goes s h st open_still nothing p rest next whole (Own Connect) (Arranging 0) (kinds.Good status) e refl refl refl refl hd
+      (hd.at.0, hd.at.2, not_greeting s.context.spot (deprecates_eof s.context.terms.kept) (kinds.Good status), λ _. answers s h st open_still nothing p rest next whole (kinds.Good status) e refl refl) (sym hd.tie.0, inl hd.tie.1) (λ _. refl) (λ no. cc)
+  connect_keeps kinds.Failed hd on e b = refuse_connect (Own Connect) (err_at (is_greeting s.context.spot) p) refl hd e refl on (tied_own kinds.Failed (Own Connect) Connect refl hd.tie)
+  connect_keeps (kinds.Count n) hd on e b = cc
+  connect_keeps kinds.Column hd on e b = cc
+  connect_keeps kinds.ColumnsDone hd on e b = cc
+  connect_keeps kinds.Row hd on e b = cc
+  connect_keeps (kinds.End status) hd on e b = cc
+  connect_keeps kinds.Bad hd on e b = cc
+
+  query_keeps : (k : Kind) → HeardAs (Own Query) → is_connecting s.task ≡ false → kind_there s.context p ≡ k → is_breaking (react_query k) ≡ false → Keeps (reacted s (after k) p (react_query k)) h
+  query_keeps (kinds.Greets n) hd off e b = cc
+  query_keeps (kinds.Good status) hd off e b = readies s h st open_still nothing p rest next whole status e hd
+  query_keeps kinds.Failed hd off e b = refuse (Own Query) Query (err_at (is_greeting s.context.spot) p) refl hd e refl off refl hd.at.0 (tied_own kinds.Failed (Own Query) Query refl hd.tie)
+  query_keeps (kinds.Count n) hd off e b = first_parts s h st open_still nothing p rest next whole (kinds.Count n) e refl refl refl hd
+  query_keeps kinds.Column hd off e b = first_parts s h st open_still nothing p rest next whole kinds.Column e refl refl refl hd
+  query_keeps kinds.ColumnsDone hd off e b = first_parts s h st open_still nothing p rest next whole kinds.ColumnsDone e refl refl refl hd
+  query_keeps kinds.Row hd off e b = cc
+  query_keeps (kinds.End status) hd off e b = cc
+  query_keeps kinds.Bad hd off e b = cc
+
+  ping_keeps : (k : Kind) → HeardAs (Own Ping) → is_connecting s.task ≡ false → kind_there s.context p ≡ k → is_breaking (react_ping k) ≡ false → Keeps (reacted s (after k) p (react_ping k)) h
+  ping_keeps (kinds.Greets n) hd off e b = cc
+  ping_keeps (kinds.Good status) hd off e b = pongs s h st open_still nothing p rest next whole status e hd
+  ping_keeps kinds.Failed hd off e b = refuse (Own Ping) Ping (err_at (is_greeting s.context.spot) p) refl hd e refl off refl hd.at.0 (tied_own kinds.Failed (Own Ping) Ping refl hd.tie)
+  ping_keeps (kinds.Count n) hd off e b = cc
+  ping_keeps kinds.Column hd off e b = cc
+  ping_keeps kinds.ColumnsDone hd off e b = cc
+  ping_keeps kinds.Row hd off e b = cc
+  ping_keeps (kinds.End status) hd off e b = cc
+  ping_keeps kinds.Bad hd off e b = cc
+
+  own_keeps : (c : CallKind) (k : Kind) → s.task ≡ Own c → HeardAs (Own c) → kind_there s.context p ≡ k → is_breaking (react_own c k) ≡ false → Keeps (reacted s (after k) p (react_own c k)) h
+  own_keeps Connect k task hd e b = connect_keeps k hd (ap is_connecting task) e b
+  own_keeps Query k task hd e b = query_keeps k hd (ap is_connecting task) e b
+  own_keeps NextRow k task hd e b = cc
+  own_keeps DropResult k task hd e b = cc
+  own_keeps Ping k task hd e b = ping_keeps k hd (ap is_connecting task) e b
+  own_keeps Quit k task hd e b = cc
+
+  rests : (k : Kind) (m : List Made) → has_connected m ≡ true → is_settled (spot_after (deprecates_eof s.context.terms.kept) s.context.spot k) ≡ true → s.closed ≡ false → cond (has_connected m) (is_settled (spot_after (deprecates_eof s.context.terms.kept) s.context.spot k)) (is_greeting (spot_after (deprecates_eof s.context.terms.kept) s.context.spot k)) ≡ true
+  rests k m made e _ = subst (λ b. cond b (is_settled (spot_after (deprecates_eof s.context.terms.kept) s.context.spot k)) (is_greeting (spot_after (deprecates_eof s.context.terms.kept) s.context.spot k)) ≡ true) (sym made) e
+
+  row_rests : kind_there s.context p ≡ kinds.Row → is_settled (spot_after (deprecates_eof s.context.terms.kept) s.context.spot kinds.Row) ≡ true
+  row_rests e = ap (λ (x : Spot). is_settled (spot_after (deprecates_eof s.context.terms.kept) x kinds.Row)) (row_spot s.context.spot (knows s h st open_still nothing p rest next whole kinds.Row e))
+
+  end_rests : (status : StatusFlags) → kind_there s.context p ≡ kinds.End status → is_settled (spot_after (deprecates_eof s.context.terms.kept) s.context.spot (kinds.End status)) ≡ true
+  end_rests status e = ap (λ (x : Spot). is_settled (spot_after (deprecates_eof s.context.terms.kept) x (kinds.End status))) (end_spot s.context.spot status (knows s h st open_still nothing p rest next whole (kinds.End status) e)) ∙ settled_more status
+
+  good_rests : (status : StatusFlags) → is_reading s.context.spot ≡ true → kind_there s.context p ≡ kinds.Good status → is_settled (spot_after (deprecates_eof s.context.terms.kept) s.context.spot (kinds.Good status)) ≡ true
+  good_rests status reads e = ap (λ (x : Spot). is_settled (spot_after (deprecates_eof s.context.terms.kept) x (kinds.Good status))) (good_spot s.context.spot status reads (knows s h st open_still nothing p rest next whole (kinds.Good status) e)) ∙ settled_more status
+
+  -- a read
+  module _ (told : s.untold ≡ false) (task : s.task ≡ Reading) (hd : HeardAs Reading) where
+    give : (x : Option RowParts) → kind_there s.context p ≡ kinds.Row → row_at s.facts.columns p ≡ x → Keeps (gave s (after kinds.Row) x) h
+    give None e is = invalid
+    give (Some row) e is = answered_stands (with_task (after kinds.Row) Nothing false) h calls.NextRow (ToldRow row) hd.pending_is
+        (shows s h st open_still nothing told p rest next whole Reading NextRow refl refl hd.at.1 hd.at.0 hd hd.tie Nothing kinds.Row (ToldRow row) e refl refl refl refl refl refl refl hd.at.0
+        (ap (λ gs. gs ∷ givens st.older) (sym (row_gives s h st open_still nothing told p rest next whole Reading NextRow refl refl hd.at.1 hd.at.0 hd hd.tie row e is)))
+        (λ m made. rests kinds.Row m made (row_rests e)) (λ m t. t))
+
+    read_head : (k : Kind) → kind_there s.context p ≡ k → is_part k ≡ true → is_bad k ≡ false → not_greets k ≡ true → Stands (with_task (after k) Reading false) h
+    read_head k e part good quiet = heads s h st open_still nothing told p rest next whole Reading NextRow refl refl hd.at.1 hd.at.0 hd hd.tie k e part good quiet refl
+        (hd.at.0, reading_after s.context.spot (deprecates_eof s.context.terms.kept) k hd.at.1)
+        (tied_on s h st open_still nothing told p rest next whole Reading NextRow refl refl hd.at.1 hd.at.0 hd hd.tie k h.calls (tied_now s h st open_still nothing told p rest next whole Reading NextRow refl refl hd.at.1 hd.at.0 hd hd.tie))
+
+    reading_keeps : (k : Kind) → kind_there s.context p ≡ k → is_breaking (react_reading k) ≡ false → Keeps (reacted s (after k) p (react_reading k)) h
+    reading_keeps (kinds.Greets n) e b = cc
+    reading_keeps (kinds.Good status) e b = answered_stands (with_task (after (kinds.Good status)) Nothing false) h calls.NextRow ToldEnd hd.pending_is
+        (shows s h st open_still nothing told p rest next whole Reading NextRow refl refl hd.at.1 hd.at.0 hd hd.tie Nothing (kinds.Good status) ToldEnd e refl refl refl refl refl refl refl hd.at.0
+        (ap (λ gs. gs ∷ givens st.older) (sym (good_gives s h st open_still nothing told p rest next whole Reading NextRow refl refl hd.at.1 hd.at.0 hd hd.tie status e)))
+        (λ m made. rests (kinds.Good status) m made (good_rests status hd.at.1 e)) (λ m t. t))
+    reading_keeps kinds.Failed e b = refuse Reading NextRow (err_at (is_greeting s.context.spot) p) refl hd e refl (ap is_connecting task) refl hd.at.0 (tied_after kinds.Failed NextRow (settled_not_greeting s.context.spot hd.at.1) hd.tie)
+    reading_keeps (kinds.Count n) e b = read_head (kinds.Count n) e refl refl refl
+    reading_keeps kinds.Column e b = read_head kinds.Column e refl refl refl
+    reading_keeps kinds.ColumnsDone e b = read_head kinds.ColumnsDone e refl refl refl
+    reading_keeps kinds.Row e b = give (row_at s.facts.columns p) e refl
+    reading_keeps (kinds.End status) e b = answered_stands (with_task (after (kinds.End status)) Nothing false) h calls.NextRow ToldEnd hd.pending_is
+        (shows s h st open_still nothing told p rest next whole Reading NextRow refl refl hd.at.1 hd.at.0 hd hd.tie Nothing (kinds.End status) ToldEnd e refl refl refl refl refl refl refl hd.at.0
+        (ap (λ gs. gs ∷ givens st.older) (sym (end_gives s h st open_still nothing told p rest next whole Reading NextRow refl refl hd.at.1 hd.at.0 hd hd.tie status e)))
+        (λ m made. rests (kinds.End status) m made (end_rests status e)) (λ m t. t))
+    reading_keeps kinds.Bad e b = cc
+
+  -- a passing over what is left
+  module _ (told : s.untold ≡ false) (task : s.task ≡ Dropping) (hd : HeardAs Dropping) where
+    same_task : (k : Kind) (g : History) → Stands (with_task (after k) Dropping false) g → Stands (after k) g
+    same_task k g w = subst (λ (t : Task). Stands (with_task (after k) t false) g) (sym task) w
+
+    pass : (x : Option RowParts) → kind_there s.context p ≡ kinds.Row → row_at s.facts.columns p ≡ x → Keeps (passed s (after kinds.Row) x) h
+    pass None e is = invalid
+    pass (Some row) e is = same_task kinds.Row (noted h (ToldRow row)) (noted_stands (with_task (after kinds.Row) Dropping false) h calls.DropResult (ToldRow row) hd.pending_is
+        (shows s h st open_still nothing told p rest next whole Dropping DropResult refl refl hd.at.1 hd.at.0 hd hd.tie Dropping kinds.Row (ToldRow row) e refl refl refl refl refl refl refl hd.at.0
+        (ap (λ gs. gs ∷ givens st.older) (sym (row_gives s h st open_still nothing told p rest next whole Dropping DropResult refl refl hd.at.1 hd.at.0 hd hd.tie row e is)))
+        (λ m made. (made, reading_after s.context.spot (deprecates_eof s.context.terms.kept) kinds.Row hd.at.1)) (λ m t. t)))
+
+    drop_head : (k : Kind) → kind_there s.context p ≡ k → is_part k ≡ true → is_bad k ≡ false → not_greets k ≡ true → Stands (with_task (after k) Dropping false) h
+    drop_head k e part good quiet = heads s h st open_still nothing told p rest next whole Dropping DropResult refl refl hd.at.1 hd.at.0 hd hd.tie k e part good quiet refl
+        (hd.at.0, reading_after s.context.spot (deprecates_eof s.context.terms.kept) k hd.at.1)
+        (tied_on s h st open_still nothing told p rest next whole Dropping DropResult refl refl hd.at.1 hd.at.0 hd hd.tie k h.calls (tied_now s h st open_still nothing told p rest next whole Dropping DropResult refl refl hd.at.1 hd.at.0 hd hd.tie))
+
+    dropping_keeps : (k : Kind) → kind_there s.context p ≡ k → is_breaking (react_dropping k) ≡ false → Keeps (reacted s (after k) p (react_dropping k)) h
+    dropping_keeps (kinds.Greets n) e b = cc
+    dropping_keeps (kinds.Good status) e b = same_task (kinds.Good status) (noted h ToldEnd) (noted_stands (with_task (after (kinds.Good status)) Dropping false) h calls.DropResult ToldEnd hd.pending_is
+        (shows s h st open_still nothing told p rest next whole Dropping DropResult refl refl hd.at.1 hd.at.0 hd hd.tie Dropping (kinds.Good status) ToldEnd e refl refl refl refl refl refl refl hd.at.0
+        (ap (λ gs. gs ∷ givens st.older) (sym (good_gives s h st open_still nothing told p rest next whole Dropping DropResult refl refl hd.at.1 hd.at.0 hd hd.tie status e)))
+        (λ m made. (made, reading_after s.context.spot (deprecates_eof s.context.terms.kept) (kinds.Good status) hd.at.1)) (λ m t. t)))
+    dropping_keeps kinds.Failed e b = refuse Dropping DropResult (err_at (is_greeting s.context.spot) p) refl hd e refl (ap is_connecting task) refl hd.at.0 (tied_after kinds.Failed DropResult (settled_not_greeting s.context.spot hd.at.1) hd.tie)
+    dropping_keeps (kinds.Count n) e b = drop_head (kinds.Count n) e refl refl refl
+    dropping_keeps kinds.Column e b = drop_head kinds.Column e refl refl refl
+    dropping_keeps kinds.ColumnsDone e b = drop_head kinds.ColumnsDone e refl refl refl
+    dropping_keeps kinds.Row e b = pass (row_at s.facts.columns p) e refl
+    dropping_keeps (kinds.End status) e b = same_task (kinds.End status) (noted h ToldEnd) (noted_stands (with_task (after (kinds.End status)) Dropping false) h calls.DropResult ToldEnd hd.pending_is
+        (shows s h st open_still nothing told p rest next whole Dropping DropResult refl refl hd.at.1 hd.at.0 hd hd.tie Dropping (kinds.End status) ToldEnd e refl refl refl refl refl refl refl hd.at.0
+        (ap (λ gs. gs ∷ givens st.older) (sym (end_gives s h st open_still nothing told p rest next whole Dropping DropResult refl refl hd.at.1 hd.at.0 hd hd.tie status e)))
+        (λ m made. (made, reading_after s.context.spot (deprecates_eof s.context.terms.kept) (kinds.End status) hd.at.1)) (λ m t. t)))
+    dropping_keeps kinds.Bad e b = cc
+
+  pub react_keeps : (t : Task) → s.task ≡ t → HeardAs t → (is_reader t ≡ true → s.untold ≡ false) → (k : Kind) → kind_there s.context p ≡ k → is_breaking (react t k) ≡ false → Keeps (reacted s (after k) p (react t k)) h
+  react_keeps Nothing task hd told k e b = cc
+  react_keeps (Begun c) task hd told k e b = cc
+  react_keeps (Cleaning c) task hd told k e b = cleaning_keeps c k hd (ap is_connecting task) e b
+  react_keeps (Own c) task hd told k e b = own_keeps c k task hd e b
+  react_keeps (Arranging n) task hd told k e b = arranging_keeps n k hd (ap is_connecting task) e b
+  react_keeps Reading task hd told k e b = reading_keeps (told refl) task hd k e b
+  react_keeps Dropping task hd told k e b = dropping_keeps (told refl) task hd k e b
+  react_keeps Leaving task hd told k e b = cc
+  react_keeps (Failing c fault) task hd told k e b = cc

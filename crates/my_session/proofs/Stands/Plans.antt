@@ -1,0 +1,355 @@
+-- What is done where no payload is read keeps the relation to histories, and so does each move.
+use Rattle.std.proofs.Common.{◌≡◌, ℕ, List, [], ◌∷◌, ◌||◌, Bool, true, false, cond, Option, Some, None, ◌⊎◌, inl, inr, refl, sym, ap, ◌∙◌, subst}
+use Rattle.my_flags.specs.Sets.{has_more_results}
+use Rattle.my_frame.specs.Front.{Front, Waiting, Broken, Whole, front_at}
+use Rattle.my_frame.specs.FrontLaws.{AreBytes, IsWhole}
+use Rattle.my_frame.proofs.Meanings.{whole_stands}
+use Rattle.my_grammar.specs.declared.spot.Kind.{Kind}
+use Rattle.my_grammar.specs.declared.spot.Spot.{Spot}
+use Rattle.my_grammar.specs.declared.spot.Spot.TheVariants as spots
+use Rattle.my_grammar.specs.Kinds.{kind_there}
+use Rattle.my_grammar.specs.Sets.{context_in, Sets, NoSets, Lone, Failed, Heading, Headed, Ended, Broken as BrokenSet, Begun as BegunSet}
+use Rattle.my_grammar.specs.declared.spot.Context.{Context}
+use Rattle.my_grammar.specs.declared.spot.Terms.{Terms}
+use Rattle.my_grammar.specs.Talk.{Talk, Start, Unwelcome, Greeted, Settled, Asked, Replied, Queried, Silent, context_of}
+use Rattle.my_session.specs.declared.call.Call.TheVariants as calls
+use Rattle.my_session.specs.declared.call.CallKind.{CallKind}
+use Rattle.my_session.specs.declared.call.CallKind.TheVariants.{Connect, Query, NextRow, DropResult, Ping, Quit}
+use Rattle.my_session.specs.declared.call.LinkFault.{LinkFault}
+use Rattle.my_session.specs.declared.call.LinkFault.TheVariants as faults
+use Rattle.my_session.specs.declared.call.Task.{Task}
+use Rattle.my_session.specs.declared.call.Task.TheVariants.{Nothing, Begun, Cleaning, Own, Arranging, Reading, Dropping, Leaving, Failing}
+use Rattle.my_session.specs.declared.error.Error.{Error}
+use Rattle.my_session.specs.declared.tables.Plan.{Plan}
+use Rattle.my_session.specs.declared.tables.Plan.TheVariants as plans
+use Rattle.my_session.specs.Calls.{kind_of, call_of, kind_in, fault_in, is_open}
+use Rattle.my_session.specs.Entries.{givens, onto, sets_of, may_lack, connects, has_connected, connecting_in, IsTied}
+use Rattle.my_session.specs.Errors.{invalid_data, unexpected_eof, codec_error, link_error}
+use Rattle.my_session.specs.Groups.{groups, with_stop, stop_given, given, given_after}
+use Rattle.my_session.specs.History.{History, Made, Told, ToldReady, ToldEnd, ToldNone, answered, noted, closes, closes_by, has_closed}
+use Rattle.my_session.specs.Machine.{Move, Needs, advanced, with_task, failed_by, reply_to, above, unless_above, reacted, read_by, reading, planned, when_owed, next_by, next, is_greeting}
+use Rattle.my_session.specs.Seen.{Seen}
+use Rattle.my_session.specs.ServerErrors.{errors_told, with_told}
+use Rattle.my_session.specs.Stands.{Stands, Heard, TaskIs, TieIs, call_with, begun_of, is_left, is_shaking, is_lone, keeps, known_part, is_alive, owes}
+use Rattle.my_session.specs.Steps.{is_settled}
+use Rattle.my_session.specs.Tables.{react, is_breaking, plan_of, clean_plan, own_plan, query_plan, read_plan, drop_plan, first_task}
+use Rattle.my_session.proofs.Stands.Asking.{asks_keep, arranges_keep}
+use Rattle.my_session.proofs.Stands.Keeps.{Keeps, is_reader, react_keeps}
+use Rattle.my_session.proofs.Stands.Reacts.{falls, fell_stands}
+use Rattle.my_session.proofs.Stands.Spots.{settled_reads, settled_not_greeting}
+use Rattle.my_session.proofs.Stands.Ties.{answered_stands, noted_stands, own_after, at_greeting, quiet_more, arranged_more, first_count}
+use Rattle.my_session.proofs.Stands.Firsts.{given_first, first_groups}
+use Rattle.my_session.proofs.Stands.Views.{given_all}
+
+-- the end of a lone OK is all that wasn't given
+lone_groups : (x : Sets) → is_lone x ≡ true → with_stop (groups (known_part true x)) ≡ groups x
+lone_groups NoSets e = cc
+lone_groups (Lone older p status) e = refl
+lone_groups (Failed older p) e = cc
+lone_groups (Heading older head left) e = cc
+lone_groups (Headed older head) e = cc
+lone_groups (BegunSet older head rows) e = cc
+lone_groups (Ended older head rows last status) e = cc
+lone_groups (BrokenSet older head rows last) e = cc
+
+lone_if : (t : Bool) → is_settled (cond t spots.Further spots.Idle) ≡ true
+lone_if true = refl
+lone_if false = refl
+
+lone_sets : (terms : Terms) (x : Sets) → is_lone x ≡ true → is_settled (context_in terms x).spot ≡ true
+lone_sets terms NoSets e = cc
+lone_sets terms (Lone older p status) e = lone_if (has_more_results status)
+lone_sets terms (Failed older p) e = cc
+lone_sets terms (Heading older head left) e = cc
+lone_sets terms (Headed older head) e = cc
+lone_sets terms (BegunSet older head rows) e = cc
+lone_sets terms (Ended older head rows last status) e = cc
+lone_sets terms (BrokenSet older head rows last) e = cc
+
+lone_settled : (t : Talk) → is_lone (sets_of t) ≡ true → is_settled (context_of t).spot ≡ true
+lone_settled (Start login) e = cc
+lone_settled (Unwelcome login q) e = cc
+lone_settled (Greeted login q c) e = cc
+lone_settled (Settled login q c last kind) e = cc
+lone_settled (Asked terms c) e = cc
+lone_settled (Replied terms c last kind) e = cc
+lone_settled (Queried terms c x) e = lone_sets terms x e
+lone_settled (Silent terms c) e = cc
+
+link_closes : (fault : LinkFault) (place : ℕ) (c : CallKind) → closes_by (link_error fault place) c ≡ true
+link_closes faults.Link place c = refl
+link_closes faults.TooLong place c = refl
+link_closes faults.NoMemory place c = refl
+
+module _ (s : Seen) (h : History) (st : Stands s h) (open_still : s.closed ≡ false) (nothing : s.owed ≡ []) (op : is_open s.task ≡ true) where
+  abbrev HeardAs : Task → Type 0
+  HeardAs t = Heard t s.text s.context.spot s.untold s.closed h.lost h.calls h.pending st.newest st.older
+
+  fails : (e : Error) → ((c : CallKind) → closes_by e c ≡ true) → Keeps (failed_by s e) h
+  fails e fatal = fell_stands s h e fatal op st
+
+  -- the payload in front is read
+  waits : (ended : Bool) → Keeps (cond ended (failed_by s (unexpected_eof s.facts.place)) (record { seen = s; does = Needs })) h
+  waits true = fails (unexpected_eof s.facts.place) (λ c. refl)
+  waits false = st
+
+  by_length : (len : Option ℕ) (m : Move) → Keeps m h → Keeps (unless_above s len m) h
+  by_length None m k = k
+  by_length (Some len) m k = fails (codec_error _) (λ c. refl)
+
+  by_kind : (p rest : List ℕ) (n : ℕ) → IsWhole s.number s.context.terms.limit s.unread p rest n → (is_reader s.task ≡ true → s.untold ≡ false) → (k : Kind) → kind_there s.context p ≡ k → (breaks : Bool) → is_breaking (react s.task k) ≡ breaks → Keeps (cond breaks (failed_by s (invalid_data s.facts.place)) (read_by s (advanced s k p rest n) p (react s.task k) (reply_to s.login k p))) h
+  by_kind p rest n whole told k e true b = fails (invalid_data s.facts.place) (λ c. refl)
+  by_kind p rest n whole told k e false b = by_length (above s.context.terms.limit (reply_to s.login k p)) (reacted s (advanced s k p rest n) p (react s.task k)) (react_keeps s h st open_still nothing op p rest n whole s.task refl st.heard told k e b)
+
+  by_front : AreBytes s.unread → (is_reader s.task ≡ true → s.untold ≡ false) → (f : Front) → front_at s.number s.context.terms.limit s.unread ≡ f → Keeps (reading s f) h
+  by_front bytes told Waiting e = waits s.ended
+  by_front bytes told (Broken fault) e = fails (codec_error fault) (λ c. refl)
+  by_front bytes told (Whole p rest n) e = by_kind p rest n (whole_stands s.number s.context.terms.limit s.unread p rest n bytes e) told (kind_there s.context p) refl (is_breaking (react s.task (kind_there s.context p))) refl
+
+  reads : AreBytes s.unread → (is_reader s.task ≡ true → s.untold ≡ false) → Keeps (planned s plans.Reads) h
+  reads bytes told = by_front bytes told (front_at s.number s.context.terms.limit s.unread) refl
+
+  not_reader : (t : Task) → s.task ≡ t → is_reader t ≡ false → is_reader s.task ≡ true → s.untold ≡ false
+  not_reader t task off on = let stop : true ≡ false = sym on ∙ ap is_reader task ∙ off in cc
+
+  -- the first task of a call
+  starts : (c : CallKind) (u : Task) → HeardAs (Begun c) → kind_in u ≡ Some c → owes u ≡ owes u → TaskIs u s.context.spot s.closed (has_connected h.calls) (connecting_in (st.newest ∷ st.older)) st.newest → TieIs u s.text s.context.spot h.calls st.newest.call st.older → Keeps (planned s (plans.Starts u)) h
+  starts c u hd same _ at tie = record {
+    newest = st.newest;
+    older = st.older;
+    wire = st.wire;
+    heard = record {
+      pending_is = hd.pending_is ∙ ap (λ k. call_with k s.text) (sym same);
+      closed_is = hd.closed_is;
+      alive = λ _. open_still;
+      given_is = hd.given_is;
+      errors = hd.errors;
+      each = hd.each;
+      lone = hd.lone;
+      fresh = λ e _ left. hd.fresh e refl left;
+      at = at;
+      first = hd.first;
+      tie = tie;
+    };
+    arranged = st.arranged;
+    ended_is = st.ended_is;
+    settled = λ _. nothing;
+  }
+
+  first_keeps : (c : CallKind) → HeardAs (Begun c) → Keeps (planned s (plans.Starts (first_task c))) h
+  first_keeps Connect hd = starts Connect (Own Connect) hd refl refl (hd.at.0, ap is_shaking hd.at.1, first_count st.newest st.older (hd.first (ap is_greeting hd.at.1)).0 (hd.first (ap is_greeting hd.at.1)).1) ((hd.first (ap is_greeting hd.at.1)).0, at_greeting s.context.spot h.calls st.newest.call st.older (ap is_greeting hd.at.1) hd.tie)
+  first_keeps Query hd = starts Query (Cleaning Query) hd refl refl (refl, hd.at.0, settled_not_greeting s.context.spot (settled_reads s.context.spot hd.at.1)) hd.tie
+  first_keeps NextRow hd = starts NextRow Reading hd refl refl (hd.at.0, settled_reads s.context.spot hd.at.1) hd.tie
+  first_keeps DropResult hd = starts DropResult Dropping hd refl refl (hd.at.0, settled_reads s.context.spot hd.at.1) hd.tie
+  first_keeps Ping hd = starts Ping (Cleaning Ping) hd refl refl (refl, hd.at.0, settled_not_greeting s.context.spot (settled_reads s.context.spot hd.at.1)) hd.tie
+  first_keeps Quit hd = starts Quit (Cleaning Quit) hd refl refl (refl, hd.at.0, settled_not_greeting s.context.spot (settled_reads s.context.spot hd.at.1)) hd.tie
+
+  -- the end of a lone OK is dropped
+  hears : (t : Task) → s.task ≡ t → keeps t ≡ false → Keeps (planned s plans.Hears) h
+  hears t task lost = record {
+    newest = st.newest;
+    older = st.older;
+    wire = st.wire;
+    heard = record {
+      pending_is = st.heard.pending_is;
+      closed_is = st.heard.closed_is;
+      alive = λ _. open_still;
+      given_is = st.heard.given_is;
+      errors = st.heard.errors;
+      each = st.heard.each;
+      lone = λ no. cc;
+      fresh = λ _ kept _. let stop : true ≡ false = sym kept ∙ ap keeps task ∙ lost in cc;
+      at = st.heard.at;
+      first = st.heard.first;
+      tie = st.heard.tie;
+    };
+    arranged = st.arranged;
+    ended_is = st.ended_is;
+    settled = λ _. nothing;
+  }
+
+  cleans : AreBytes s.unread → (t : Task) → s.task ≡ t → is_reader t ≡ false → keeps t ≡ false → (p : Plan) → (s.untold ≡ false → s.context.spot ≡ spots.Idle → Keeps (planned s p) h) → (spot : Spot) → s.context.spot ≡ spot → (untold : Bool) → s.untold ≡ untold → Keeps (planned s (clean_plan p spot untold)) h
+  cleans bytes t task off lost p go spots.Idle idle true e = hears t task lost
+  cleans bytes t task off lost p go spots.Idle idle false e = go e idle
+  cleans bytes t task off lost p go spots.Greeting at untold e = reads bytes (not_reader t task off)
+  cleans bytes t task off lost p go spots.Authentication at untold e = reads bytes (not_reader t task off)
+  cleans bytes t task off lost p go spots.Single at untold e = reads bytes (not_reader t task off)
+  cleans bytes t task off lost p go spots.Head at untold e = reads bytes (not_reader t task off)
+  cleans bytes t task off lost p go spots.Further at untold e = reads bytes (not_reader t task off)
+  cleans bytes t task off lost p go (spots.Columns left) at untold e = reads bytes (not_reader t task off)
+  cleans bytes t task off lost p go spots.ColumnsEnd at untold e = reads bytes (not_reader t task off)
+  cleans bytes t task off lost p go spots.Rows at untold e = reads bytes (not_reader t task off)
+
+  rest_at : has_connected h.calls ≡ true → is_settled s.context.spot ≡ true → s.closed ≡ false → cond (has_connected h.calls) (is_settled s.context.spot) (is_greeting s.context.spot) ≡ true
+  rest_at made e _ = subst (λ b. cond b (is_settled s.context.spot) (is_greeting s.context.spot) ≡ true) (sym made) e
+
+  -- a query is answered, after the head of its first set
+  readied : HeardAs (Own Query) → s.context.spot ≡ spots.Rows → Keeps (planned s plans.Readies) h
+  readied hd rows = answered_stands (with_task s Nothing s.untold) h (call_of Query s.text) ToldReady hd.pending_is (record {
+    newest = record { call = st.newest.call; talk = st.newest.talk; given = Some [] };
+    older = st.older;
+    wire = st.wire;
+    heard = record {
+      pending_is = refl;
+      closed_is = hd.closed_is;
+      alive = λ no. cc;
+      given_is = ap (λ gs. [] ∷ gs) (hd.given_is ∙ ap (λ o. onto o (givens st.older)) hd.at.1);
+      errors = hd.errors;
+      each = (given_first st.newest.talk st.wire.fits hd.at.2, hd.each.1);
+      lone = hd.lone;
+      fresh = λ _ _ _. ap Some (sym (first_groups s.untold (sets_of st.newest.talk) hd.at.2));
+      at = rest_at hd.at.0 (ap is_settled rows);
+      first = hd.first;
+      tie = own_after s.context.spot h.calls (record { call = call_of Query s.text; what = ToldReady }) st.newest.call st.older (ap is_greeting rows) (sym hd.tie.0) hd.tie.1;
+    };
+    arranged = arranged_more s.login (record { call = call_of Query s.text; what = ToldReady }) h.calls st.newest st.older refl st.arranged;
+    ended_is = st.ended_is;
+    settled = λ _. nothing;
+  })
+
+  queries : AreBytes s.unread → s.task ≡ Own Query → HeardAs (Own Query) → (spot : Spot) → s.context.spot ≡ spot → Keeps (planned s (query_plan spot)) h
+  queries bytes task hd spots.Idle at = reads bytes (not_reader (Own Query) task refl)
+  queries bytes task hd spots.Greeting at = reads bytes (not_reader (Own Query) task refl)
+  queries bytes task hd spots.Authentication at = reads bytes (not_reader (Own Query) task refl)
+  queries bytes task hd spots.Single at = reads bytes (not_reader (Own Query) task refl)
+  queries bytes task hd spots.Head at = reads bytes (not_reader (Own Query) task refl)
+  queries bytes task hd spots.Further at = reads bytes (not_reader (Own Query) task refl)
+  queries bytes task hd (spots.Columns left) at = reads bytes (not_reader (Own Query) task refl)
+  queries bytes task hd spots.ColumnsEnd at = reads bytes (not_reader (Own Query) task refl)
+  queries bytes task hd spots.Rows at = readied hd at
+
+  owns : AreBytes s.unread → (c : CallKind) → s.task ≡ Own c → HeardAs (Own c) → Keeps (planned s (own_plan c s.context.spot)) h
+  owns bytes Connect task hd = reads bytes (not_reader (Own Connect) task refl)
+  owns bytes Query task hd = queries bytes task hd s.context.spot refl
+  owns bytes NextRow task hd = absurd hd.at
+  owns bytes DropResult task hd = absurd hd.at
+  owns bytes Ping task hd = reads bytes (not_reader (Own Ping) task refl)
+  owns bytes Quit task hd = falls s h ToldReady Quit (ap kind_in task) refl refl refl refl st
+
+  -- a call ends that gives nothing
+  quiet : (t : Task) (c : CallKind) (w : Told) → HeardAs t → kind_in t ≡ Some c → keeps t ≡ true → closes w (kind_of (call_of c s.text)) ≡ false → may_lack w (kind_of (call_of c s.text)) ≡ true → connects w (kind_of (call_of c s.text)) ≡ false → given_after w (kind_of (call_of c s.text)) (given h.calls) ≡ given h.calls → with_told w (errors_told h.calls) ≡ errors_told h.calls → has_connected h.calls ≡ true → is_settled s.context.spot ≡ true → IsTied h.calls (begun_of s.context.spot st.newest.call st.older) → Stands (with_task s Nothing s.untold) (answered h w)
+  quiet t c w hd call kept still lack quiet_one none silent made settled tie = answered_stands (with_task s Nothing s.untold) h (call_of c s.text) w (hd.pending_is ∙ ap (λ k. call_with k s.text) call) (record {
+    newest = st.newest;
+    older = st.older;
+    wire = st.wire;
+    heard = record {
+      pending_is = refl;
+      closed_is = hd.closed_is ∙ ap (λ b. (b || has_closed h.calls) || h.lost) (sym still);
+      alive = λ no. cc;
+      given_is = none ∙ hd.given_is;
+      errors = silent ∙ hd.errors;
+      each = hd.each;
+      lone = hd.lone;
+      fresh = λ e _ left. hd.fresh e kept left;
+      at = λ e. subst (λ b. cond (b || has_connected h.calls) (is_settled s.context.spot) (is_greeting s.context.spot) ≡ true) (sym quiet_one) (rest_at made settled e);
+      first = hd.first;
+      tie = quiet_more (record { call = call_of c s.text; what = w }) h.calls (begun_of s.context.spot st.newest.call st.older) lack tie;
+    };
+    arranged = arranged_more s.login (record { call = call_of c s.text; what = w }) h.calls st.newest st.older quiet_one st.arranged;
+    ended_is = st.ended_is;
+    settled = λ _. nothing;
+  })
+
+  -- the end of a lone OK is returned, or passed over
+  end_shown : (t u : Task) (c : CallKind) → HeardAs t → s.untold ≡ true → kind_in t ≡ Some c → keeps t ≡ true → closes ToldEnd (kind_of (call_of c s.text)) ≡ false → owes u ≡ owes u → has_connected h.calls ≡ true → IsTied h.calls (begun_of s.context.spot st.newest.call st.older) → TaskIs u s.context.spot s.closed (has_connected h.calls) (connecting_in (st.newest ∷ st.older)) (record { call = st.newest.call; talk = st.newest.talk; given = Some (groups (sets_of st.newest.talk)) }) → ((m : List Made) → IsTied m (begun_of s.context.spot st.newest.call st.older) → TieIs u s.text s.context.spot m st.newest.call st.older) → Stands (with_task s u false) (record { sent = h.sent; taken = h.taken; calls = record { call = call_of c s.text; what = ToldEnd } ∷ h.calls; pending = call_with (kind_in u) s.text; ended = h.ended; lost = h.lost })
+  end_shown t u c hd untold call kept still _ made tie at tied =
+      let x = sets_of st.newest.talk in
+      let now : st.newest.given ≡ Some (groups (known_part true x)) = subst (λ b. b || is_left s.context.spot ≡ true → st.newest.given ≡ Some (groups (known_part b x))) untold (hd.fresh open_still kept) refl in
+      record {
+        newest = record { call = st.newest.call; talk = st.newest.talk; given = Some (groups x) };
+        older = st.older;
+        wire = st.wire;
+        heard = record {
+          pending_is = refl;
+          closed_is = hd.closed_is ∙ ap (λ b. (b || has_closed h.calls) || h.lost) (sym still);
+          alive = λ _. open_still;
+          given_is = ap stop_given (hd.given_is ∙ ap (λ o. onto o (givens st.older)) now) ∙ ap (λ gs. gs ∷ givens st.older) (lone_groups x (hd.lone untold));
+          errors = hd.errors;
+          each = (given_all st.newest.talk st.wire.fits, hd.each.1);
+          lone = λ no. cc;
+          fresh = λ _ _ _. refl;
+          at = at;
+          first = hd.first;
+          tie = tied (record { call = call_of c s.text; what = ToldEnd } ∷ h.calls) (quiet_more (record { call = call_of c s.text; what = ToldEnd }) h.calls (begun_of s.context.spot st.newest.call st.older) refl tie);
+        };
+        arranged = arranged_more s.login (record { call = call_of c s.text; what = ToldEnd }) h.calls st.newest st.older refl st.arranged;
+        ended_is = st.ended_is;
+        settled = λ _. nothing;
+      }
+
+  -- where the end of a lone OK is still to be returned, the session rests
+  lone_rests : s.untold ≡ true → HeardAs s.task → is_settled s.context.spot ≡ true
+  lone_rests untold hd = subst (λ (c : Context). is_settled c.spot ≡ true) (sym st.wire.context_is) (lone_settled st.newest.talk (hd.lone untold))
+
+  reads_rest : AreBytes s.unread → s.task ≡ Reading → HeardAs Reading → s.untold ≡ false → (spot : Spot) → s.context.spot ≡ spot → Keeps (planned s (read_plan spot)) h
+  reads_rest bytes task hd told spots.Idle at = quiet Reading NextRow ToldNone hd refl refl refl refl refl refl refl hd.at.0 (ap is_settled at) hd.tie
+  reads_rest bytes task hd told spots.Greeting at = reads bytes (λ _. told)
+  reads_rest bytes task hd told spots.Authentication at = reads bytes (λ _. told)
+  reads_rest bytes task hd told spots.Single at = reads bytes (λ _. told)
+  reads_rest bytes task hd told spots.Head at = reads bytes (λ _. told)
+  reads_rest bytes task hd told spots.Further at = reads bytes (λ _. told)
+  reads_rest bytes task hd told (spots.Columns left) at = reads bytes (λ _. told)
+  reads_rest bytes task hd told spots.ColumnsEnd at = reads bytes (λ _. told)
+  reads_rest bytes task hd told spots.Rows at = reads bytes (λ _. told)
+
+  drops_rest : AreBytes s.unread → s.task ≡ Dropping → HeardAs Dropping → s.untold ≡ false → (spot : Spot) → s.context.spot ≡ spot → Keeps (planned s (drop_plan spot)) h
+  drops_rest bytes task hd told spots.Idle at = quiet Dropping DropResult ToldReady hd refl refl refl refl refl refl refl hd.at.0 (ap is_settled at) hd.tie
+  drops_rest bytes task hd told spots.Greeting at = reads bytes (λ _. told)
+  drops_rest bytes task hd told spots.Authentication at = reads bytes (λ _. told)
+  drops_rest bytes task hd told spots.Single at = reads bytes (λ _. told)
+  drops_rest bytes task hd told spots.Head at = reads bytes (λ _. told)
+  drops_rest bytes task hd told spots.Further at = reads bytes (λ _. told)
+  drops_rest bytes task hd told (spots.Columns left) at = reads bytes (λ _. told)
+  drops_rest bytes task hd told spots.ColumnsEnd at = reads bytes (λ _. told)
+  drops_rest bytes task hd told spots.Rows at = reads bytes (λ _. told)
+
+  reading_plan : AreBytes s.unread → s.task ≡ Reading → HeardAs Reading → (untold : Bool) → s.untold ≡ untold → Keeps (planned s (cond untold plans.Ends (read_plan s.context.spot))) h
+  reading_plan bytes task hd true e = answered_stands (with_task s Nothing false) h calls.NextRow ToldEnd hd.pending_is
+      (end_shown Reading Nothing NextRow hd e refl refl refl refl hd.at.0 hd.tie (rest_at hd.at.0 (lone_rests e st.heard)) (λ m t. t))
+  reading_plan bytes task hd false e = reads_rest bytes task hd e s.context.spot refl
+
+  dropping_plan : AreBytes s.unread → s.task ≡ Dropping → HeardAs Dropping → (untold : Bool) → s.untold ≡ untold → Keeps (planned s (cond untold plans.Passes (drop_plan s.context.spot))) h
+  dropping_plan bytes task hd true e = subst (λ (t : Task). Stands (with_task s t false) (noted h ToldEnd)) (sym task)
+      (noted_stands (with_task s Dropping false) h calls.DropResult ToldEnd hd.pending_is (end_shown Dropping Dropping DropResult hd e refl refl refl refl hd.at.0 hd.tie hd.at (λ m t. t)))
+  dropping_plan bytes task hd false e = drops_rest bytes task hd e s.context.spot refl
+
+  plan_keeps : AreBytes s.unread → fault_in s.task ≡ None → (t : Task) → s.task ≡ t → HeardAs t → Keeps (planned s (plan_of t s.context.spot s.untold)) h
+  plan_keeps bytes sound Nothing task hd = let no : false ≡ true = sym (ap is_open task) ∙ op in cc
+  plan_keeps bytes sound (Begun c) task hd = first_keeps c hd
+  plan_keeps bytes sound (Cleaning c) task hd = cleans bytes (Cleaning c) task refl refl (plans.Asks c) (asks_keep s h st open_still nothing op c hd) s.context.spot refl s.untold refl
+  plan_keeps bytes sound (Own c) task hd = owns bytes c task hd
+  plan_keeps bytes sound (Arranging n) task hd = cleans bytes (Arranging n) task refl refl (plans.Arranges n) (arranges_keep s h st open_still nothing op n hd) s.context.spot refl s.untold refl
+  plan_keeps bytes sound Reading task hd = reading_plan bytes task hd s.untold refl
+  plan_keeps bytes sound Dropping task hd = dropping_plan bytes task hd s.untold refl
+  plan_keeps bytes sound Leaving task hd = falls s h ToldReady Quit (ap kind_in task) refl refl refl refl st
+  plan_keeps bytes sound (Failing c fault) task hd = let no : Some fault ≡ None = sym (ap fault_in task) ∙ sound in cc
+
+module _ (s : Seen) (h : History) (st : Stands s h) (bytes : AreBytes s.unread) (op : is_open s.task ≡ true) where
+  -- a session that isn't closed
+  open_keeps : s.closed ≡ false → fault_in s.task ≡ None → (owed : List ℕ) → s.owed ≡ owed → Keeps (when_owed owed s) h
+  open_keeps alive sound [] e = plan_keeps s h st alive e op bytes sound s.task refl st.heard
+  open_keeps alive sound (b ∷ more) e = st
+
+  -- a quit on a closed session, which owes nothing
+  leaving_keeps : s.task ≡ Leaving → (owed : List ℕ) → s.owed ≡ owed → Keeps (when_owed owed s) h
+  leaving_keeps task [] e = subst (λ (t : Task). Keeps (planned s (plan_of t s.context.spot s.untold)) h) (sym task) (falls s h ToldReady Quit (ap kind_in task) refl refl refl refl st)
+  leaving_keeps task (b ∷ more) e = st
+
+  alive_or : (t : Task) → s.task ≡ t → fault_in t ≡ None → (s.closed ≡ false) ⊎ (s.task ≡ Leaving)
+  alive_or Nothing task sound = let no : false ≡ true = sym (ap is_open task) ∙ op in cc
+  alive_or (Begun c) task sound = inl (st.heard.alive (ap is_alive task))
+  alive_or (Cleaning c) task sound = inl (st.heard.alive (ap is_alive task))
+  alive_or (Own c) task sound = inl (st.heard.alive (ap is_alive task))
+  alive_or (Arranging n) task sound = inl (st.heard.alive (ap is_alive task))
+  alive_or Reading task sound = inl (st.heard.alive (ap is_alive task))
+  alive_or Dropping task sound = inl (st.heard.alive (ap is_alive task))
+  alive_or Leaving task sound = inr task
+  alive_or (Failing c fault) task sound = cc
+
+  by_fault : (fault : Option LinkFault) → fault_in s.task ≡ fault → Keeps (next_by fault s) h
+  by_fault (Some fault) e = fell_stands s h (link_error fault s.facts.place) (link_closes fault s.facts.place) op st
+  by_fault None e = elim (alive_or s.task refl e) as (λ _. Keeps (when_owed s.owed s) h) [ inl alive ↦ open_keeps alive e s.owed refl | inr task ↦ leaving_keeps task s.owed refl ]
+
+-- Each move of an open call keeps the relation to histories.
+pub next_keeps : (s : Seen) (h : History) → AreBytes s.unread → is_open s.task ≡ true → Stands s h → Keeps (next s) h
+next_keeps s h bytes op st = by_fault s h st bytes op (fault_in s.task) refl

@@ -1,0 +1,360 @@
+-- Moves that go on come to an end, and each move leaves what it says.
+use Rattle.std.proofs.Common.{◌≡◌, ◌≢◌, ℕ, zero, suc, ◌+◌, ◌/◌, ◌<◌, ◌≤◌, List, [], ◌∷◌, ◌++◌, length, Bool, true, false, cond, Option, Some, None, refl, sym, ap, ◌∙◌, subst, arith}
+use Rattle.std.specs.List.{slice_get}
+use Rattle.my_frame.specs.Chunks.{full_length, numbered, split_full, parts_of, chunks}
+use Rattle.my_frame.specs.Front.{Front, Waiting, Broken, Whole, front_at}
+use Rattle.my_reply.specs.declared.err.ErrPacket.{ErrPacket}
+use Rattle.my_value.specs.RowParts.{RowParts}
+use Rattle.my_command.specs.declared.client.ClientPacket.TheVariants as packets
+use Rattle.my_command.specs.Client.Packet.{client_bytes as packet_bytes}
+use Rattle.my_grammar.specs.declared.spot.Spot.{Spot}
+use Rattle.my_grammar.specs.declared.spot.Spot.TheVariants as spots
+use Rattle.my_grammar.specs.declared.spot.Kind.{Kind}
+use Rattle.my_grammar.specs.declared.spot.Kind.TheVariants as kinds
+use Rattle.my_grammar.specs.Kinds.{kind_there}
+use Rattle.my_grammar.specs.Sets.{NoSets}
+use Rattle.my_grammar.specs.Talk.{Talk, Asked, Queried, Silent, turns, client_bytes}
+use Rattle.my_grammar.proofs.Fronts.{takes_whole}
+use Rattle.my_session.specs.declared.call.CallKind.{CallKind}
+use Rattle.my_session.specs.declared.call.CallKind.TheVariants.{Connect, Query, NextRow, DropResult, Ping, Quit}
+use Rattle.my_session.specs.declared.call.LinkFault.{LinkFault}
+use Rattle.my_session.specs.declared.call.Task.{Task}
+use Rattle.my_session.specs.declared.call.Task.TheVariants.{Nothing, Begun, Cleaning, Own, Arranging, Reading, Dropping, Leaving, Failing}
+use Rattle.my_session.specs.declared.error.Error.{Error}
+use Rattle.my_session.specs.declared.error.Error.TheVariants as errors
+use Rattle.my_session.specs.declared.tables.Plan.{Plan}
+use Rattle.my_session.specs.declared.tables.Plan.TheVariants as plans
+use Rattle.my_session.specs.declared.tables.Reaction.{Reaction}
+use Rattle.my_session.specs.declared.tables.Reaction.TheVariants as reactions
+use Rattle.my_session.specs.declared.answer.Tick.{Tick}
+use Rattle.my_session.specs.declared.answer.Tick.TheVariants as ticks
+use Rattle.my_session.specs.Calls.{is_open, fault_in, call_of}
+use Rattle.my_session.specs.Commands.{command_of, query_of, arranging_texts, command_in}
+use Rattle.my_session.specs.Errors.{invalid_data, unexpected_eof}
+use Rattle.my_session.specs.Machine as machine
+use Rattle.my_session.specs.Machine.{Move, Doing, Goes, Sends, Needs, Tells, Did, Does, FaultIs, fell, with_task, advanced, reply_to, above, unless_above, refused, gave, passed, reacted, read_by, read_kind, reading, next_terms, asked, arranged, planned, when_owed, next_by, next, doing}
+use Rattle.my_session.specs.Rows.{row_at}
+use Rattle.my_session.specs.Seen.{Seen}
+use Rattle.my_session.specs.Steps.{rank, left_to_do, TickIs}
+use Rattle.my_session.specs.Tables.{plan_of, react, react_whole, react_connect, react_query, react_ping, react_own, is_breaking, is_connecting, first_task, clean_plan, own_plan, query_plan, read_plan, drop_plan}
+
+-- what a move leaves
+abbrev pub MoveIs : Seen → Seen → Doing → Type 0
+MoveIs old new Goes = (is_open new.task ≡ true) × (left_to_do new < left_to_do old)
+MoveIs old new (machine.Passes t) = (is_open new.task ≡ true) × (left_to_do new < left_to_do old)
+MoveIs old new Sends = (is_open new.task ≡ true) × (new.owed ≢ [])
+MoveIs old new Needs = (is_open new.task ≡ true) × (new.owed ≡ []) × (new.ended ≡ false) × (front_at new.number new.context.terms.limit new.unread ≡ Waiting)
+MoveIs old new (Tells t) = new.task ≡ Nothing
+
+-- the tasks that a reaction goes on to
+abbrev GoesOn : Reaction → Type 0
+GoesOn (reactions.Goes u) = (is_open u ≡ true) × (rank u false ≤ 1)
+GoesOn r = Unit {0}
+
+connect_goes : (k : Kind) → GoesOn (react_connect k)
+connect_goes (kinds.Greets n) = (refl, omega arith)
+connect_goes (kinds.Good status) = (refl, omega arith)
+connect_goes kinds.Failed = tt
+connect_goes (kinds.Count n) = tt
+connect_goes kinds.Column = tt
+connect_goes kinds.ColumnsDone = tt
+connect_goes kinds.Row = tt
+connect_goes (kinds.End status) = tt
+connect_goes kinds.Bad = tt
+
+query_goes : (k : Kind) → GoesOn (react_query k)
+query_goes (kinds.Greets n) = tt
+query_goes (kinds.Good status) = tt
+query_goes kinds.Failed = tt
+query_goes (kinds.Count n) = (refl, omega arith)
+query_goes kinds.Column = (refl, omega arith)
+query_goes kinds.ColumnsDone = (refl, omega arith)
+query_goes kinds.Row = tt
+query_goes (kinds.End status) = tt
+query_goes kinds.Bad = tt
+
+ping_goes : (k : Kind) → GoesOn (react_ping k)
+ping_goes (kinds.Greets n) = tt
+ping_goes (kinds.Good status) = tt
+ping_goes kinds.Failed = tt
+ping_goes (kinds.Count n) = tt
+ping_goes kinds.Column = tt
+ping_goes kinds.ColumnsDone = tt
+ping_goes kinds.Row = tt
+ping_goes (kinds.End status) = tt
+ping_goes kinds.Bad = tt
+
+own_goes : (c : CallKind) (k : Kind) → GoesOn (react_own c k)
+own_goes Connect k = connect_goes k
+own_goes Query k = query_goes k
+own_goes NextRow k = tt
+own_goes DropResult k = tt
+own_goes Ping k = ping_goes k
+own_goes Quit k = tt
+
+whole_goes : (t : Task) → is_open t ≡ true → rank t false ≤ 1 → (k : Kind) → GoesOn (react_whole t k)
+whole_goes t op low (kinds.Greets n) = tt
+whole_goes t op low (kinds.Good status) = (op, low)
+whole_goes t op low kinds.Failed = tt
+whole_goes t op low (kinds.Count n) = (op, low)
+whole_goes t op low kinds.Column = (op, low)
+whole_goes t op low kinds.ColumnsDone = (op, low)
+whole_goes t op low kinds.Row = (op, low)
+whole_goes t op low (kinds.End status) = (op, low)
+whole_goes t op low kinds.Bad = tt
+
+react_goes : (t : Task) (k : Kind) → GoesOn (react t k)
+react_goes Nothing k = tt
+react_goes (Begun c) k = tt
+react_goes (Cleaning c) k = whole_goes (Cleaning c) refl (omega arith) k
+react_goes (Own c) k = own_goes c k
+react_goes (Arranging n) k = whole_goes (Arranging n) refl (omega arith) k
+react_goes Reading (kinds.Greets n) = tt
+react_goes Reading (kinds.Good status) = tt
+react_goes Reading kinds.Failed = tt
+react_goes Reading (kinds.Count n) = (refl, omega arith)
+react_goes Reading kinds.Column = (refl, omega arith)
+react_goes Reading kinds.ColumnsDone = (refl, omega arith)
+react_goes Reading kinds.Row = tt
+react_goes Reading (kinds.End status) = tt
+react_goes Reading kinds.Bad = tt
+react_goes Dropping (kinds.Greets n) = tt
+react_goes Dropping (kinds.Good status) = tt
+react_goes Dropping kinds.Failed = tt
+react_goes Dropping (kinds.Count n) = (refl, omega arith)
+react_goes Dropping kinds.Column = (refl, omega arith)
+react_goes Dropping kinds.ColumnsDone = (refl, omega arith)
+react_goes Dropping kinds.Row = tt
+react_goes Dropping (kinds.End status) = tt
+react_goes Dropping kinds.Bad = tt
+react_goes Leaving k = tt
+react_goes (Failing c fault) k = tt
+
+rank_false : (t : Task) (untold : Bool) → rank t false ≤ rank t untold + 3
+rank_false Nothing untold = omega arith
+rank_false (Begun c) untold = omega arith
+rank_false (Cleaning c) untold = omega arith
+rank_false (Own c) untold = omega arith
+rank_false (Arranging n) untold = omega arith
+rank_false Reading untold = omega arith
+rank_false Dropping untold = omega arith
+rank_false Leaving untold = omega arith
+rank_false (Failing c fault) untold = omega arith
+
+-- the session after a payload
+record IsPassedOn (s n : Seen) : Type 0 where
+  task_is : n.task ≡ s.task
+  told : n.untold ≡ false
+  less : length n.unread < length s.unread
+
+fell_or : (b : Bool) (n : Seen) → (cond b (fell n) (with_task n Nothing n.untold)).task ≡ Nothing
+fell_or true n = refl
+fell_or false n = refl
+
+refused_is : (s n : Seen) (e : Option ErrPacket) → MoveIs s (refused s n e).seen (refused s n e).does
+refused_is s n None = refl
+refused_is s n (Some e) = fell_or (is_connecting s.task) n
+
+gave_is : (s n : Seen) (row : Option RowParts) → MoveIs s (gave s n row).seen (gave s n row).does
+gave_is s n None = refl
+gave_is s n (Some row) = refl
+
+same_task : (s n : Seen) → is_open s.task ≡ true → IsPassedOn s n → (is_open n.task ≡ true) × (left_to_do n < left_to_do s)
+same_task s n op b =
+    let less = b.less in
+    let bound = rank_false s.task s.untold in
+    let same : rank n.task n.untold ≡ rank s.task false = ap (λ t. rank t n.untold) b.task_is ∙ ap (rank s.task) b.told in
+    (ap is_open b.task_is ∙ op, omega arith)
+
+passed_is : (s n : Seen) (row : Option RowParts) → is_open s.task ≡ true → IsPassedOn s n → MoveIs s (passed s n row).seen (passed s n row).does
+passed_is s n None op b = refl
+passed_is s n (Some row) op b = same_task s n op b
+
+reacted_is : (s n : Seen) (p : List ℕ) (r : Reaction) → is_open s.task ≡ true → IsPassedOn s n → GoesOn r → MoveIs s (reacted s n p r).seen (reacted s n p r).does
+reacted_is s n p (reactions.Goes u) op b g =
+    let less = b.less in
+    let bound = g.1 in
+    let same : rank u n.untold ≡ rank u false = ap (rank u) b.told in
+    (g.0, omega arith)
+reacted_is s n p (reactions.Readies untold) op b g = refl
+reacted_is s n p reactions.Gives op b g = gave_is s n (row_at s.facts.columns p)
+reacted_is s n p reactions.Ends op b g = refl
+reacted_is s n p reactions.PassesRow op b g = passed_is s n (row_at s.facts.columns p) op b
+reacted_is s n p reactions.PassesEnd op b g = same_task s n op b
+reacted_is s n p reactions.Refuses op b g = refused_is s n _
+reacted_is s n p reactions.Breaks op b g = refl
+
+unless_is : (s : Seen) (len : Option ℕ) (m : Move) → MoveIs s m.seen m.does → MoveIs s (unless_above s len m).seen (unless_above s len m).does
+unless_is s None m i = i
+unless_is s (Some len) m i = refl
+
+kind_is : (s : Seen) (p rest : List ℕ) (next : ℕ) (k : Kind) (breaks : Bool) → is_open s.task ≡ true → length rest < length s.unread → MoveIs s (cond breaks (machine.failed_by s (invalid_data s.facts.place)) (read_by s (advanced s k p rest next) p (react s.task k) (reply_to s.login k p))).seen (cond breaks (machine.failed_by s (invalid_data s.facts.place)) (read_by s (advanced s k p rest next) p (react s.task k) (reply_to s.login k p))).does
+kind_is s p rest next k true op less = refl
+kind_is s p rest next k false op less =
+    unless_is s (above s.context.terms.limit (reply_to s.login k p)) (reacted s (advanced s k p rest next) p (react s.task k))
+    (reacted_is s (advanced s k p rest next) p (react s.task k) op (record { task_is = refl; told = refl; less = less }) (react_goes s.task k))
+
+waiting_is : (s : Seen) (ended : Bool) → s.ended ≡ ended → is_open s.task ≡ true → s.owed ≡ [] → front_at s.number s.context.terms.limit s.unread ≡ Waiting → MoveIs s (cond ended (machine.failed_by s (unexpected_eof s.facts.place)) (record { seen = s; does = Needs })).seen (cond ended (machine.failed_by s (unexpected_eof s.facts.place)) (record { seen = s; does = Needs })).does
+waiting_is s true e op none at = refl
+waiting_is s false e op none at = (op, none, e, at)
+
+front_is : (s : Seen) (f : Front) → is_open s.task ≡ true → s.owed ≡ [] → front_at s.number s.context.terms.limit s.unread ≡ f → MoveIs s (reading s f).seen (reading s f).does
+front_is s Waiting op none at = waiting_is s s.ended refl op none at
+front_is s (Broken fault) op none at = refl
+front_is s (Whole p rest next) op none at = kind_is s p rest next (kind_there s.context p) (is_breaking (react s.task (kind_there s.context p))) op (takes_whole s.number s.context.terms.limit s.unread p rest next at).shorter
+
+-- the plans that fit a task
+abbrev FitsTask : Task → Bool → Plan → Type 0
+FitsTask t untold (plans.Starts u) = (is_open u ≡ true) × (rank u untold < rank t untold)
+FitsTask t untold plans.Hears = rank t false < rank t untold
+FitsTask t untold plans.Passes = rank t false < rank t untold
+FitsTask t untold p = Unit {0}
+
+-- a payload's packets are some bytes
+some_parts : (count : ℕ) (p : List ℕ) (n : ℕ) → numbered (split_full count p) n ≢ []
+some_parts zero p n e = cc
+some_parts (suc count) p n e = cc
+
+some_bytes : (p : List ℕ) (n : ℕ) → chunks p n ≢ []
+unfolding chunks parts_of
+some_bytes p n e = some_parts (length p / full_length) p n e
+
+begins_if : (s : Seen) (u : Task) (talk : Talk) (long : Bool) → s.owed ≡ [] → is_open u ≡ true → client_bytes (turns talk) ≢ [] → MoveIs s (cond long (machine.too_large s s.facts.settings.limit (length (command_in talk))) (record { seen = machine.queued s u talk; does = Sends })).seen (cond long (machine.too_large s s.facts.settings.limit (length (command_in talk))) (record { seen = machine.queued s u talk; does = Sends })).does
+begins_if s u talk true none op some = refl
+begins_if s u talk false none op some = (op, λ e. some (sym (ap (λ bs. bs ++ client_bytes (turns talk)) none) ∙ e))
+
+asked_is : (s : Seen) (c : CallKind) (text : List ℕ) → s.owed ≡ [] → MoveIs s (asked s c (command_of (next_terms s) (call_of c text))).seen (asked s c (command_of (next_terms s) (call_of c text))).does
+asked_is s Connect text none = refl
+asked_is s Query text none = begins_if s (Own Query) (Queried (next_terms s) (packet_bytes (packets.Query text)) NoSets) _ none refl (some_bytes (packet_bytes (packets.Query text)) 0)
+asked_is s NextRow text none = refl
+asked_is s DropResult text none = refl
+asked_is s Ping text none = begins_if s (Own Ping) (Asked (next_terms s) (packet_bytes packets.Ping)) _ none refl (some_bytes (packet_bytes packets.Ping) 0)
+asked_is s Quit text none = begins_if s (Own Quit) (Silent (next_terms s) (packet_bytes packets.Quit)) _ none refl (some_bytes (packet_bytes packets.Quit) 0)
+
+arranged_is : (s : Seen) (n : ℕ) (text : Option (List ℕ)) → s.owed ≡ [] → MoveIs s (arranged s n (query_of (next_terms s) text)).seen (arranged s n (query_of (next_terms s) text)).does
+arranged_is s n None none = refl
+arranged_is s n (Some text) none = begins_if s (Arranging (suc n)) (Queried (next_terms s) (packet_bytes (packets.Query text)) NoSets) _ none refl (some_bytes (packet_bytes (packets.Query text)) 0)
+
+plan_is : (s : Seen) (plan : Plan) → is_open s.task ≡ true → s.owed ≡ [] → FitsTask s.task s.untold plan → MoveIs s (planned s plan).seen (planned s plan).does
+plan_is s plans.Reads op none f = front_is s _ op none refl
+plan_is s (plans.Starts u) op none f = let less = f.1 in (f.0, omega arith)
+plan_is s plans.Hears op none f = (op, omega arith)
+plan_is s (plans.Asks c) op none f = asked_is s c s.text none
+plan_is s (plans.Arranges n) op none f = arranged_is s n (slice_get (arranging_texts s.login) n) none
+plan_is s plans.Readies op none f = refl
+plan_is s plans.Quits op none f = refl
+plan_is s plans.Passes op none f = (op, omega arith)
+plan_is s plans.Dropped op none f = refl
+plan_is s plans.Ends op none f = refl
+plan_is s plans.NoMore op none f = refl
+
+cleaning_fits : (t : Task) (p : Plan) → rank t false < rank t true → FitsTask t false p → (spot : Spot) (untold : Bool) → FitsTask t untold (clean_plan p spot untold)
+cleaning_fits t p less f spots.Idle true = less
+cleaning_fits t p less f spots.Idle false = f
+cleaning_fits t p less f spots.Greeting untold = tt
+cleaning_fits t p less f spots.Authentication untold = tt
+cleaning_fits t p less f spots.Single untold = tt
+cleaning_fits t p less f spots.Head untold = tt
+cleaning_fits t p less f spots.Further untold = tt
+cleaning_fits t p less f (spots.Columns left) untold = tt
+cleaning_fits t p less f spots.ColumnsEnd untold = tt
+cleaning_fits t p less f spots.Rows untold = tt
+
+rank_cleaning : (c : CallKind) (untold : Bool) → rank (Cleaning c) untold < 3
+rank_cleaning c true = omega arith
+rank_cleaning c false = omega arith
+
+rank_dropping : (untold : Bool) → rank Dropping untold < 3
+rank_dropping true = omega arith
+rank_dropping false = omega arith
+
+first_fits : (c : CallKind) (untold : Bool) → FitsTask (Begun c) untold (plans.Starts (first_task c))
+first_fits Connect untold = (refl, omega arith)
+first_fits Query untold = (refl, rank_cleaning Query untold)
+first_fits NextRow untold = (refl, omega arith)
+first_fits DropResult untold = (refl, rank_dropping untold)
+first_fits Ping untold = (refl, rank_cleaning Ping untold)
+first_fits Quit untold = (refl, rank_cleaning Quit untold)
+
+query_fits : (spot : Spot) (untold : Bool) → FitsTask (Own Query) untold (query_plan spot)
+query_fits spots.Idle untold = tt
+query_fits spots.Greeting untold = tt
+query_fits spots.Authentication untold = tt
+query_fits spots.Single untold = tt
+query_fits spots.Head untold = tt
+query_fits spots.Further untold = tt
+query_fits (spots.Columns left) untold = tt
+query_fits spots.ColumnsEnd untold = tt
+query_fits spots.Rows untold = tt
+
+own_fits : (c : CallKind) (spot : Spot) (untold : Bool) → FitsTask (Own c) untold (own_plan c spot)
+own_fits Connect spot untold = tt
+own_fits Query spot untold = query_fits spot untold
+own_fits NextRow spot untold = tt
+own_fits DropResult spot untold = tt
+own_fits Ping spot untold = tt
+own_fits Quit spot untold = tt
+
+read_fits : (spot : Spot) → FitsTask Reading false (read_plan spot)
+read_fits spots.Idle = tt
+read_fits spots.Greeting = tt
+read_fits spots.Authentication = tt
+read_fits spots.Single = tt
+read_fits spots.Head = tt
+read_fits spots.Further = tt
+read_fits (spots.Columns left) = tt
+read_fits spots.ColumnsEnd = tt
+read_fits spots.Rows = tt
+
+drop_fits : (spot : Spot) → FitsTask Dropping false (drop_plan spot)
+drop_fits spots.Idle = tt
+drop_fits spots.Greeting = tt
+drop_fits spots.Authentication = tt
+drop_fits spots.Single = tt
+drop_fits spots.Head = tt
+drop_fits spots.Further = tt
+drop_fits (spots.Columns left) = tt
+drop_fits spots.ColumnsEnd = tt
+drop_fits spots.Rows = tt
+
+plan_fits : (t : Task) (spot : Spot) (untold : Bool) → FitsTask t untold (plan_of t spot untold)
+plan_fits Nothing spot untold = tt
+plan_fits (Begun c) spot untold = first_fits c untold
+plan_fits (Cleaning c) spot untold = cleaning_fits (Cleaning c) (plans.Asks c) (omega arith) tt spot untold
+plan_fits (Own c) spot untold = own_fits c spot untold
+plan_fits (Arranging n) spot untold = cleaning_fits (Arranging n) (plans.Arranges n) (omega arith) tt spot untold
+plan_fits Reading spot true = tt
+plan_fits Reading spot false = read_fits spot
+plan_fits Dropping spot true = omega arith
+plan_fits Dropping spot false = drop_fits spot
+plan_fits Leaving spot untold = tt
+plan_fits (Failing c fault) spot untold = tt
+
+owed_is : (s : Seen) (owed : List ℕ) → s.owed ≡ owed → is_open s.task ≡ true → MoveIs s (when_owed owed s).seen (when_owed owed s).does
+owed_is s [] e op = plan_is s (plan_of s.task s.context.spot s.untold) op e (plan_fits s.task s.context.spot s.untold)
+owed_is s (b ∷ bytes) e op = (op, λ none. let no : [] ≡ b ∷ bytes = sym none ∙ e in cc)
+
+by_fault : (s : Seen) (fault : Option LinkFault) → is_open s.task ≡ true → MoveIs s (next_by fault s).seen (next_by fault s).does
+by_fault s (Some fault) op = refl
+by_fault s None op = owed_is s s.owed refl op
+
+pub next_is : (s : Seen) → is_open s.task ≡ true → MoveIs s (next s).seen (next s).does
+next_is s op = by_fault s (fault_in s.task) op
+
+did_is : (s new : Seen) (t : Tick) → is_open s.task ≡ true → Did (next s) new t → MoveIs s new (doing t)
+did_is s new t op d = subst (λ (n : Seen). MoveIs s n (doing t)) (sym d.seen) (subst (λ (w : Doing). MoveIs s (next s).seen w) d.does (next_is s op))
+
+fault_is : (s new : Seen) (e : Error) → is_open s.task ≡ true → FaultIs (next s) s new e → new.task ≡ Nothing
+fault_is s new (errors.Driver e) op d = did_is s new (ticks.Fault (errors.Driver e)) op d
+fault_is s new (errors.Io e) op d = did_is s new (ticks.Fault (errors.Io e)) op d
+fault_is s new (errors.Server e) op d = did_is s new (ticks.Fault (errors.Server e)) op d
+fault_is s new errors.NoMemory op d = ap (λ (n : Seen). n.task) d
+
+pub tick_is : (s new : Seen) (t : Tick) → is_open s.task ≡ true → Does (next s) s new t → TickIs s new t
+tick_is s new ticks.Goes op d = did_is s new ticks.Goes op d
+tick_is s new (ticks.PassedRow row) op d = did_is s new (ticks.PassedRow row) op d
+tick_is s new ticks.PassedEnd op d = did_is s new ticks.PassedEnd op d
+tick_is s new ticks.Sends op d = did_is s new ticks.Sends op d
+tick_is s new ticks.Needs op d = did_is s new ticks.Needs op d
+tick_is s new (ticks.Done a) op d = did_is s new (ticks.Done a) op d
+tick_is s new (ticks.Fault e) op d = fault_is s new e op d

@@ -1,0 +1,331 @@
+-- Moves that go on are of one call, and DropResult alone passes over anything.
+use Rattle.std.proofs.Common.{◌≡◌, ℕ, suc, List, [], ◌∷◌, length, Bool, true, false, cond, Option, Some, None, refl, sym, ap, ◌∙◌, subst}
+use Rattle.my_frame.specs.Front.{Front, Waiting, Broken, Whole}
+use Rattle.my_value.specs.RowParts.{RowParts}
+use Rattle.my_reply.specs.declared.err.ErrPacket.{ErrPacket}
+use Rattle.my_grammar.specs.declared.spot.Spot.{Spot}
+use Rattle.my_grammar.specs.declared.spot.Spot.TheVariants as spots
+use Rattle.my_grammar.specs.declared.spot.Kind.{Kind}
+use Rattle.my_grammar.specs.declared.spot.Kind.TheVariants as kinds
+use Rattle.my_grammar.specs.Kinds.{kind_there}
+use Rattle.my_grammar.specs.Talk.{Talk}
+use Rattle.my_session.specs.declared.call.CallKind.{CallKind}
+use Rattle.my_session.specs.declared.call.CallKind.TheVariants.{Connect, Query, NextRow, DropResult, Ping, Quit}
+use Rattle.my_session.specs.declared.call.LinkFault.{LinkFault}
+use Rattle.my_session.specs.declared.call.Task.{Task}
+use Rattle.my_session.specs.declared.call.Task.TheVariants.{Nothing, Begun, Cleaning, Own, Arranging, Reading, Dropping, Leaving, Failing}
+use Rattle.my_session.specs.declared.tables.Plan.{Plan}
+use Rattle.my_session.specs.declared.tables.Plan.TheVariants as plans
+use Rattle.my_session.specs.declared.tables.Reaction.{Reaction}
+use Rattle.my_session.specs.declared.tables.Reaction.TheVariants as reactions
+use Rattle.my_session.specs.declared.error.Error.{Error}
+use Rattle.my_session.specs.declared.error.Error.TheVariants as errors
+use Rattle.my_session.specs.declared.answer.Tick.{Tick}
+use Rattle.my_session.specs.declared.answer.Tick.TheVariants as ticks
+use Rattle.my_session.specs.Calls.{kind_in, fault_in}
+use Rattle.my_session.specs.Commands.{command_in}
+use Rattle.my_session.specs.Errors.{invalid_data, unexpected_eof}
+use Rattle.my_session.specs.Machine as machine
+use Rattle.my_session.specs.Machine.{Move, Doing, Goes, Sends, Needs, Tells, Did, Does, FaultIs, advanced, reply_to, above, unless_above, refused, gave, passed, reacted, read_by, reading, asked, arranged, planned, when_owed, next_by, next, doing}
+use Rattle.my_session.specs.Passed.{IsItem}
+use Rattle.my_session.specs.Rows.{row_at}
+use Rattle.my_session.specs.Seen.{Seen}
+use Rattle.my_session.specs.Steps.{goes_on}
+use Rattle.my_session.specs.Tables.{plan_of, react, react_whole, react_connect, react_query, react_ping, react_own, is_breaking, is_connecting, first_task, clean_plan, own_plan, query_plan, read_plan, drop_plan}
+
+-- A move that goes on stays with the call, which wasn't made to fail, and passes over a row or an end only for DropResult.
+abbrev pub MovesOn : Option CallKind → Seen → Doing → Type 0
+MovesOn kind new Goes = (kind_in new.task ≡ kind) × (fault_in new.task ≡ None)
+MovesOn kind new (machine.Passes t) = (kind_in new.task ≡ kind) × (fault_in new.task ≡ None) × (kind ≡ Some DropResult) × IsItem t
+MovesOn kind new Sends = Unit {0}
+MovesOn kind new Needs = Unit {0}
+MovesOn kind new (Tells t) = Unit {0}
+
+-- reactions of one call
+abbrev StaysIn : Option CallKind → Reaction → Type 0
+StaysIn kind (reactions.Goes u) = (kind_in u ≡ kind) × (fault_in u ≡ None)
+StaysIn kind reactions.PassesRow = kind ≡ Some DropResult
+StaysIn kind reactions.PassesEnd = kind ≡ Some DropResult
+StaysIn kind r = Unit {0}
+
+connect_stays : (k : Kind) → StaysIn (Some Connect) (react_connect k)
+connect_stays (kinds.Greets n) = (refl, refl)
+connect_stays (kinds.Good status) = (refl, refl)
+connect_stays kinds.Failed = tt
+connect_stays (kinds.Count n) = tt
+connect_stays kinds.Column = tt
+connect_stays kinds.ColumnsDone = tt
+connect_stays kinds.Row = tt
+connect_stays (kinds.End status) = tt
+connect_stays kinds.Bad = tt
+
+query_stays : (k : Kind) → StaysIn (Some Query) (react_query k)
+query_stays (kinds.Greets n) = tt
+query_stays (kinds.Good status) = tt
+query_stays kinds.Failed = tt
+query_stays (kinds.Count n) = (refl, refl)
+query_stays kinds.Column = (refl, refl)
+query_stays kinds.ColumnsDone = (refl, refl)
+query_stays kinds.Row = tt
+query_stays (kinds.End status) = tt
+query_stays kinds.Bad = tt
+
+ping_stays : (k : Kind) → StaysIn (Some Ping) (react_ping k)
+ping_stays (kinds.Greets n) = tt
+ping_stays (kinds.Good status) = tt
+ping_stays kinds.Failed = tt
+ping_stays (kinds.Count n) = tt
+ping_stays kinds.Column = tt
+ping_stays kinds.ColumnsDone = tt
+ping_stays kinds.Row = tt
+ping_stays (kinds.End status) = tt
+ping_stays kinds.Bad = tt
+
+own_stays : (c : CallKind) (k : Kind) → StaysIn (Some c) (react_own c k)
+own_stays Connect k = connect_stays k
+own_stays Query k = query_stays k
+own_stays NextRow k = tt
+own_stays DropResult k = tt
+own_stays Ping k = ping_stays k
+own_stays Quit k = tt
+
+whole_stays : (t : Task) → fault_in t ≡ None → (k : Kind) → StaysIn (kind_in t) (react_whole t k)
+whole_stays t sound (kinds.Greets n) = tt
+whole_stays t sound (kinds.Good status) = (refl, sound)
+whole_stays t sound kinds.Failed = tt
+whole_stays t sound (kinds.Count n) = (refl, sound)
+whole_stays t sound kinds.Column = (refl, sound)
+whole_stays t sound kinds.ColumnsDone = (refl, sound)
+whole_stays t sound kinds.Row = (refl, sound)
+whole_stays t sound (kinds.End status) = (refl, sound)
+whole_stays t sound kinds.Bad = tt
+
+react_stays : (t : Task) (k : Kind) → StaysIn (kind_in t) (react t k)
+react_stays Nothing k = tt
+react_stays (Begun c) k = tt
+react_stays (Cleaning c) k = whole_stays (Cleaning c) refl k
+react_stays (Own c) k = own_stays c k
+react_stays (Arranging n) k = whole_stays (Arranging n) refl k
+react_stays Reading (kinds.Greets n) = tt
+react_stays Reading (kinds.Good status) = tt
+react_stays Reading kinds.Failed = tt
+react_stays Reading (kinds.Count n) = (refl, refl)
+react_stays Reading kinds.Column = (refl, refl)
+react_stays Reading kinds.ColumnsDone = (refl, refl)
+react_stays Reading kinds.Row = tt
+react_stays Reading (kinds.End status) = tt
+react_stays Reading kinds.Bad = tt
+react_stays Dropping (kinds.Greets n) = tt
+react_stays Dropping (kinds.Good status) = refl
+react_stays Dropping kinds.Failed = tt
+react_stays Dropping (kinds.Count n) = (refl, refl)
+react_stays Dropping kinds.Column = (refl, refl)
+react_stays Dropping kinds.ColumnsDone = (refl, refl)
+react_stays Dropping kinds.Row = refl
+react_stays Dropping (kinds.End status) = refl
+react_stays Dropping kinds.Bad = tt
+react_stays Leaving k = tt
+react_stays (Failing c fault) k = tt
+
+-- plans of one call
+abbrev Suits : Option CallKind → Plan → Type 0
+Suits kind (plans.Starts u) = (kind_in u ≡ kind) × (fault_in u ≡ None)
+Suits kind plans.Passes = kind ≡ Some DropResult
+Suits kind p = Unit {0}
+
+first_suits : (c : CallKind) → (kind_in (first_task c) ≡ Some c) × (fault_in (first_task c) ≡ None)
+first_suits Connect = (refl, refl)
+first_suits Query = (refl, refl)
+first_suits NextRow = (refl, refl)
+first_suits DropResult = (refl, refl)
+first_suits Ping = (refl, refl)
+first_suits Quit = (refl, refl)
+
+cleaning_suits : (kind : Option CallKind) (p : Plan) → Suits kind p → (spot : Spot) (untold : Bool) → Suits kind (clean_plan p spot untold)
+cleaning_suits kind p suit spots.Idle true = tt
+cleaning_suits kind p suit spots.Idle false = suit
+cleaning_suits kind p suit spots.Greeting untold = tt
+cleaning_suits kind p suit spots.Authentication untold = tt
+cleaning_suits kind p suit spots.Single untold = tt
+cleaning_suits kind p suit spots.Head untold = tt
+cleaning_suits kind p suit spots.Further untold = tt
+cleaning_suits kind p suit (spots.Columns left) untold = tt
+cleaning_suits kind p suit spots.ColumnsEnd untold = tt
+cleaning_suits kind p suit spots.Rows untold = tt
+
+query_suits : (spot : Spot) → Suits (Some Query) (query_plan spot)
+query_suits spots.Idle = tt
+query_suits spots.Greeting = tt
+query_suits spots.Authentication = tt
+query_suits spots.Single = tt
+query_suits spots.Head = tt
+query_suits spots.Further = tt
+query_suits (spots.Columns left) = tt
+query_suits spots.ColumnsEnd = tt
+query_suits spots.Rows = tt
+
+own_suits : (c : CallKind) (spot : Spot) → Suits (Some c) (own_plan c spot)
+own_suits Connect spot = tt
+own_suits Query spot = query_suits spot
+own_suits NextRow spot = tt
+own_suits DropResult spot = tt
+own_suits Ping spot = tt
+own_suits Quit spot = tt
+
+read_suits : (spot : Spot) → Suits (Some NextRow) (read_plan spot)
+read_suits spots.Idle = tt
+read_suits spots.Greeting = tt
+read_suits spots.Authentication = tt
+read_suits spots.Single = tt
+read_suits spots.Head = tt
+read_suits spots.Further = tt
+read_suits (spots.Columns left) = tt
+read_suits spots.ColumnsEnd = tt
+read_suits spots.Rows = tt
+
+drop_suits : (spot : Spot) → Suits (Some DropResult) (drop_plan spot)
+drop_suits spots.Idle = tt
+drop_suits spots.Greeting = tt
+drop_suits spots.Authentication = tt
+drop_suits spots.Single = tt
+drop_suits spots.Head = tt
+drop_suits spots.Further = tt
+drop_suits (spots.Columns left) = tt
+drop_suits spots.ColumnsEnd = tt
+drop_suits spots.Rows = tt
+
+plan_suits : (t : Task) (spot : Spot) (untold : Bool) → Suits (kind_in t) (plan_of t spot untold)
+plan_suits Nothing spot untold = tt
+plan_suits (Begun c) spot untold = first_suits c
+plan_suits (Cleaning c) spot untold = cleaning_suits (Some c) (plans.Asks c) tt spot untold
+plan_suits (Own c) spot untold = own_suits c spot
+plan_suits (Arranging n) spot untold = cleaning_suits (Some Connect) (plans.Arranges n) tt spot untold
+plan_suits Reading spot true = tt
+plan_suits Reading spot false = read_suits spot
+plan_suits Dropping spot true = refl
+plan_suits Dropping spot false = drop_suits spot
+plan_suits Leaving spot untold = tt
+plan_suits (Failing c fault) spot untold = tt
+
+module _ (s : Seen) (sound : fault_in s.task ≡ None) where
+  -- the move stays with the open call, and with the login
+  abbrev Stays : Move → Type 0
+  Stays m = MovesOn (kind_in s.task) m.seen m.does × (m.seen.login ≡ s.login)
+
+  refused_if : (b : Bool) (n : Seen) → n.login ≡ s.login → (cond b (machine.fell n) (machine.with_task n Nothing n.untold)).login ≡ s.login
+  refused_if true n same = same
+  refused_if false n same = same
+
+  refused_stays : (n : Seen) (e : Option ErrPacket) → n.login ≡ s.login → Stays (refused s n e)
+  refused_stays n None same = (tt, refl)
+  refused_stays n (Some e) same = (tt, refused_if (is_connecting s.task) n same)
+
+  gave_stays : (n : Seen) (row : Option RowParts) → n.login ≡ s.login → Stays (gave s n row)
+  gave_stays n None same = (tt, refl)
+  gave_stays n (Some row) same = (tt, same)
+
+  -- the session after a payload
+  record IsPassedOn (n : Seen) : Type 0 where
+    task_is : n.task ≡ s.task
+    login_is : n.login ≡ s.login
+
+  passed_stays : (n : Seen) (row : Option RowParts) → IsPassedOn n → kind_in s.task ≡ Some DropResult → Stays (passed s n row)
+  passed_stays n None same drops = (tt, refl)
+  passed_stays n (Some row) same drops = ((ap kind_in same.task_is, ap fault_in same.task_is ∙ sound, drops, tt), same.login_is)
+
+  reacted_stays : (n : Seen) (p : List ℕ) (r : Reaction) → IsPassedOn n → StaysIn (kind_in s.task) r → Stays (reacted s n p r)
+  reacted_stays n p (reactions.Goes u) same i = (i, same.login_is)
+  reacted_stays n p (reactions.Readies untold) same i = (tt, same.login_is)
+  reacted_stays n p reactions.Gives same i = gave_stays n (row_at s.facts.columns p) same.login_is
+  reacted_stays n p reactions.Ends same i = (tt, same.login_is)
+  reacted_stays n p reactions.PassesRow same i = passed_stays n (row_at s.facts.columns p) same i
+  reacted_stays n p reactions.PassesEnd same i = ((ap kind_in same.task_is, ap fault_in same.task_is ∙ sound, i, tt), same.login_is)
+  reacted_stays n p reactions.Refuses same i = refused_stays n _ same.login_is
+  reacted_stays n p reactions.Breaks same i = (tt, refl)
+
+  unless_stays : (len : Option ℕ) (m : Move) → Stays m → Stays (unless_above s len m)
+  unless_stays None m i = i
+  unless_stays (Some len) m i = (tt, refl)
+
+  kind_stays : (p rest : List ℕ) (next : ℕ) (k : Kind) (breaks : Bool) → Stays (cond breaks (machine.failed_by s (invalid_data s.facts.place)) (read_by s (advanced s k p rest next) p (react s.task k) (reply_to s.login k p)))
+  kind_stays p rest next k true = (tt, refl)
+  kind_stays p rest next k false =
+      unless_stays (above s.context.terms.limit (reply_to s.login k p)) (reacted s (advanced s k p rest next) p (react s.task k))
+      (reacted_stays (advanced s k p rest next) p (react s.task k) (record { task_is = refl; login_is = refl }) (react_stays s.task k))
+
+  waiting_stays : (ended : Bool) → Stays (cond ended (machine.failed_by s (unexpected_eof s.facts.place)) (record { seen = s; does = Needs }))
+  waiting_stays true = (tt, refl)
+  waiting_stays false = (tt, refl)
+
+  front_stays : (f : Front) → Stays (reading s f)
+  front_stays Waiting = waiting_stays s.ended
+  front_stays (Broken fault) = (tt, refl)
+  front_stays (Whole p rest next) = kind_stays p rest next (kind_there s.context p) (is_breaking (react s.task (kind_there s.context p)))
+
+  begins_if : (u : Task) (talk : Talk) (long : Bool) → Stays (cond long (machine.too_large s s.facts.settings.limit (length (command_in talk))) (record { seen = machine.queued s u talk; does = Sends }))
+  begins_if u talk true = (tt, refl)
+  begins_if u talk false = (tt, refl)
+
+  asked_stays : (c : CallKind) (talk : Option Talk) → Stays (asked s c talk)
+  asked_stays c None = (tt, refl)
+  asked_stays c (Some talk) = begins_if (Own c) talk _
+
+  arranged_stays : (n : ℕ) (talk : Option Talk) → Stays (arranged s n talk)
+  arranged_stays n None = (tt, refl)
+  arranged_stays n (Some talk) = begins_if (Arranging (suc n)) talk _
+
+  plan_stays : (plan : Plan) → Suits (kind_in s.task) plan → Stays (planned s plan)
+  plan_stays plans.Reads i = front_stays _
+  plan_stays (plans.Starts u) i = (i, refl)
+  plan_stays plans.Hears i = ((refl, sound), refl)
+  plan_stays (plans.Asks c) i = asked_stays c _
+  plan_stays (plans.Arranges n) i = arranged_stays n _
+  plan_stays plans.Readies i = (tt, refl)
+  plan_stays plans.Quits i = (tt, refl)
+  plan_stays plans.Passes i = ((refl, sound, i, tt), refl)
+  plan_stays plans.Dropped i = (tt, refl)
+  plan_stays plans.Ends i = (tt, refl)
+  plan_stays plans.NoMore i = (tt, refl)
+
+  owed_stays : (owed : List ℕ) → Stays (when_owed owed s)
+  owed_stays [] = plan_stays (plan_of s.task s.context.spot s.untold) (plan_suits s.task s.context.spot s.untold)
+  owed_stays (b ∷ bytes) = (tt, refl)
+
+by_fault : (s : Seen) (fault : Option LinkFault) → fault_in s.task ≡ fault → MovesOn (kind_in s.task) (next_by fault s).seen (next_by fault s).does × ((next_by fault s).seen.login ≡ s.login)
+by_fault s (Some fault) e = (tt, refl)
+by_fault s None e = owed_stays s e s.owed
+
+-- a move keeps the login
+pub next_login : (s : Seen) → (next s).seen.login ≡ s.login
+next_login s = (by_fault s (fault_in s.task) refl).1
+
+-- what the code did stays with the open call
+pub did_stay : (s new : Seen) (t : Tick) → Did (next s) new t → MovesOn (kind_in s.task) new (doing t)
+did_stay s new t d = subst (λ (n : Seen). MovesOn (kind_in s.task) n (doing t)) (sym d.seen) (subst (λ (w : Doing). MovesOn (kind_in s.task) (next s).seen w) d.does (by_fault s (fault_in s.task) refl).0)
+
+-- a call that goes on wasn't made to fail
+sound_by : (s : Seen) (fault : Option LinkFault) → goes_on (next_by fault s).does ≡ true → fault ≡ None
+sound_by s (Some fault) e = cc
+sound_by s None e = refl
+
+pub goes_sound : (s new : Seen) (t : Tick) → goes_on (doing t) ≡ true → Did (next s) new t → fault_in s.task ≡ None
+goes_sound s new t e d = sound_by s (fault_in s.task) (ap goes_on d.does ∙ e)
+
+-- what the code did keeps the login
+did_login : (s new : Seen) (t : Tick) → Did (next s) new t → new.login ≡ s.login
+did_login s new t d = ap (λ (n : Seen). n.login) d.seen ∙ next_login s
+
+fault_login : (s new : Seen) (e : Error) → FaultIs (next s) s new e → new.login ≡ s.login
+fault_login s new (errors.Driver e) d = did_login s new (ticks.Fault (errors.Driver e)) d
+fault_login s new (errors.Io e) d = did_login s new (ticks.Fault (errors.Io e)) d
+fault_login s new (errors.Server e) d = did_login s new (ticks.Fault (errors.Server e)) d
+fault_login s new errors.NoMemory d = ap (λ (n : Seen). n.login) d
+
+pub does_login : (s new : Seen) (t : Tick) → Does (next s) s new t → new.login ≡ s.login
+does_login s new ticks.Goes d = did_login s new ticks.Goes d
+does_login s new (ticks.PassedRow row) d = did_login s new (ticks.PassedRow row) d
+does_login s new ticks.PassedEnd d = did_login s new ticks.PassedEnd d
+does_login s new ticks.Sends d = did_login s new ticks.Sends d
+does_login s new ticks.Needs d = did_login s new ticks.Needs d
+does_login s new (ticks.Done a) d = did_login s new (ticks.Done a) d
+does_login s new (ticks.Fault e) d = fault_login s new e d

@@ -1,0 +1,322 @@
+//! What a session makes of the bytes that it received: the payload in front is read, and the open call reacts to it.
+
+ghost use Rattle.std.specs.Prelude.{◌≡◌, ◌≤◌, ◌++◌, length, drop, IfOk, OnOk, OnErr, Some};
+ghost use Rattle.my_session.specs.Errors.{server_error};
+ghost use Rattle.my_session.specs.Machine.{above};
+
+use super::Session;
+use crate::answer::{Answer, Tick};
+use crate::call::Task;
+use crate::error::{Error, IoKind, ServerError};
+use crate::tables::{Reaction, is_breaking, is_connecting, react_to};
+use my_frame::{
+    Blob, CodecError, CodecFault, FramedPayload, NoMemory, ReadError, Span, Text, payload_in_front,
+};
+use my_grammar::{Kind, Spot, kind_at, login_response};
+use my_reply::{ErrPacket, read_err};
+use my_value::{Row, read_text_row};
+use std::alloc::Global;
+
+/// A payload with its place in the bytes, its kind, and what the client sends at once after it.
+#[derive(Drop)]
+pub struct Arrival {
+    pub payload: Blob,
+    pub span: Span,
+    pub kind: Kind,
+    pub reply: Option<Blob>,
+}
+
+// The length of a payload that is to be sent and is above the limit.
+fn length_above(limit: u64, reply: &Option<Blob>) -> Option<u64>
+    ensures { result ≡ above limit reply.now }
+{
+    match reply {
+        None => None,
+        Some(reply) => {
+            let length = reply.len() as u64;
+            if length > limit { Some(length) } else { None }
+        }
+    }
+}
+
+// The error that the packet is.
+fn server_error(alloc: Global, packet: ErrPacket) -> Result<ServerError, NoMemory>
+    ensures { IfOk result (λ e. e ≡ server_error packet) }
+{
+    let state = Text::from_utf8_lossy(alloc, &packet.state)?;
+    Ok(ServerError {
+        code: packet.code,
+        state,
+        message: packet.message,
+    })
+}
+
+impl Session {
+    ghost use Rattle.my_frame.specs.Front.{front_at, Waiting};
+    ghost use Rattle.my_reply.specs.ErrPacket.{err_at};
+    ghost use Rattle.my_grammar.specs.Kinds.{kind_there};
+    ghost use Rattle.my_session.specs.Machine.{Does, IsArrival, Lands, ReadsRow, fell, following, gave, is_greeting, passed, reacted, read_by, read_kind, reading, refused, reply_bytes, reply_number, reply_to, with_task};
+    ghost use Rattle.my_session.specs.Rows.{row_at};
+
+    // What the client sends at once after the payload.
+    fn reply(&self, alloc: Global, kind: Kind, payload: &[u8]) -> Result<Option<Blob>, NoMemory>
+        ensures { IfOk result (λ r. r ≡ reply_to self.now.seen.login kind payload.now) }
+    {
+        match kind {
+            Kind::Greets(_) => Ok(Some(login_response(alloc, &self.login, payload)?)),
+            Kind::Good(_)
+            | Kind::Failed
+            | Kind::Count(_)
+            | Kind::Column
+            | Kind::ColumnsDone
+            | Kind::Row
+            | Kind::End(_)
+            | Kind::Bad => Ok(None),
+        }
+    }
+
+    // The reply is owed; the next sequence id is returned.
+    fn owe(&mut self, reply: &Option<Blob>, number: u8) -> Result<u8, NoMemory>
+        ensures number { IfOk result (λ next. next ≡ reply_number reply.now number) }
+        ensures ok { let s = self.old.seen in
+            OnOk result (self.new.seen ≡ record s { owed = s.owed ++ reply_bytes reply.now number }) }
+        ensures err { OnErr result (self.new.seen ≡ self.old.seen) }
+    {
+        match reply {
+            None => Ok(number),
+            Some(reply) => self.owed.push_payload(reply.as_slice(), number),
+        }
+    }
+
+    // The payload is read. Where it fails, what it owed already is dropped: the caller closes the session.
+    fn advance(&mut self, alloc: Global, arrival: &Arrival) -> Result<(), NoMemory>
+        requires { IsArrival self.old.seen arrival.now }
+        ensures ok { OnOk result (self.new.seen ≡ following self.old.seen arrival.now) }
+        ensures err { OnErr result (fell self.new.seen ≡ fell self.old.seen) }
+    {
+        let number = self.owe(&arrival.reply, arrival.span.next)?;
+        self.facts
+            .learn(alloc, arrival.kind, arrival.payload.as_slice())?;
+        self.number = number;
+        self.context = self.context.after(arrival.kind);
+        self.untold = false;
+        self.unread.skip(arrival.span.len);
+        Ok(())
+    }
+
+    // The payload is read, and `tick` is what comes of it.
+    fn land(
+        &mut self,
+        alloc: Global,
+        arrival: &Arrival,
+        task: Task,
+        untold: bool,
+        tick: Tick,
+    ) -> Tick
+        requires { IsArrival self.old.seen arrival.now }
+        ensures { let s = self.old.seen in
+            Lands (with_task (following s arrival.now) task untold) tick s self.new.seen result }
+    {
+        match self.advance(alloc, arrival) {
+            Ok(()) => {
+                self.task = task;
+                self.untold = untold;
+                tick
+            }
+            Err(NoMemory) => self.fault(Error::NoMemory),
+        }
+    }
+
+    // The payload with its kind, and what the client sends after it.
+    fn arrival(&self, alloc: Global, kind: Kind, found: FramedPayload) -> Result<Arrival, NoMemory>
+        requires { found.span.len ≤ length self.now.seen.unread }
+        ensures arrives { IfOk result (λ a. IsArrival self.now.seen a) }
+        ensures same { IfOk result (λ a. (a.payload ≡ found.payload) × (a.span ≡ found.span) × (a.kind ≡ kind)) }
+    {
+        let FramedPayload { payload, span } = found;
+        let reply = self.reply(alloc, kind, payload.as_slice())?;
+        Ok(Arrival {
+            payload,
+            span,
+            kind,
+            reply,
+        })
+    }
+
+    // Whether the server's greeting is still awaited.
+    fn awaits_greeting(&self) -> bool
+        ensures { result ≡ is_greeting self.now.seen.context.spot }
+    {
+        match self.context.spot {
+            Spot::Greeting => true,
+            _ => false,
+        }
+    }
+
+    // The server's error ends the call, and a session that isn't connected.
+    fn end_refused(&mut self, alloc: Global, arrival: &Arrival, packet: ErrPacket) -> Tick
+        requires { IsArrival self.old.seen arrival.now }
+        ensures { let s = self.old.seen in
+            Does (refused s (following s arrival.now) (Some packet)) s self.new.seen result }
+    {
+        let connecting = is_connecting(self.task);
+        let error = match server_error(alloc, packet) {
+            Ok(error) => Error::Server(error),
+            Err(NoMemory) => return self.fault(Error::NoMemory),
+        };
+        if self.advance(alloc, arrival).is_err() {
+            return self.fault(Error::NoMemory);
+        }
+        if connecting {
+            return self.fault(error);
+        }
+        self.task = Task::Nothing;
+        Tick::Fault(error)
+    }
+
+    fn refuse(&mut self, alloc: Global, arrival: &Arrival) -> Tick
+        requires { IsArrival self.old.seen arrival.now }
+        ensures { let s = self.old.seen in
+            let packet = err_at (is_greeting s.context.spot) arrival.now.payload in
+            Does (refused s (following s arrival.now) packet) s self.new.seen result }
+    {
+        match read_err(alloc, arrival.payload.as_slice(), self.awaits_greeting()) {
+            Ok(packet) => self.end_refused(alloc, arrival, packet),
+            Err(ReadError::Malformed) => self.io_fault(IoKind::InvalidData),
+            Err(ReadError::NoMemory) => self.fault(Error::NoMemory),
+        }
+    }
+
+    // The row that the payload is.
+    fn row(&self, alloc: Global, arrival: &Arrival) -> Result<Row, ReadError>
+        ensures { ReadsRow (row_at self.now.seen.facts.columns arrival.now.payload) result }
+    {
+        read_text_row(
+            alloc,
+            arrival.payload.as_slice(),
+            self.facts.columns.shared(),
+        )
+    }
+
+    fn give(&mut self, alloc: Global, arrival: &Arrival) -> Tick
+        requires { IsArrival self.old.seen arrival.now }
+        ensures { let s = self.old.seen in
+            let row = row_at s.facts.columns arrival.now.payload in
+            Does (gave s (following s arrival.now) row) s self.new.seen result }
+    {
+        match self.row(alloc, arrival) {
+            Ok(row) => self.land(
+                alloc,
+                arrival,
+                Task::Nothing,
+                false,
+                Tick::Done(Answer::Row(row)),
+            ),
+            Err(ReadError::Malformed) => self.io_fault(IoKind::InvalidData),
+            Err(ReadError::NoMemory) => self.fault(Error::NoMemory),
+        }
+    }
+
+    fn pass(&mut self, alloc: Global, arrival: &Arrival) -> Tick
+        requires { IsArrival self.old.seen arrival.now }
+        ensures { let s = self.old.seen in
+            let row = row_at s.facts.columns arrival.now.payload in
+            Does (passed s (following s arrival.now) row) s self.new.seen result }
+    {
+        let task = self.task;
+        match self.row(alloc, arrival) {
+            Ok(row) => self.land(alloc, arrival, task, false, Tick::PassedRow(row)),
+            Err(ReadError::Malformed) => self.io_fault(IoKind::InvalidData),
+            Err(ReadError::NoMemory) => self.fault(Error::NoMemory),
+        }
+    }
+
+    // What the reaction makes of the payload.
+    fn react(&mut self, alloc: Global, reaction: Reaction, arrival: &Arrival) -> Tick
+        requires { IsArrival self.old.seen arrival.now }
+        ensures { let s = self.old.seen in
+            Does (reacted s (following s arrival.now) arrival.now.payload reaction) s self.new.seen result }
+    {
+        let same = self.task;
+        match reaction {
+            Reaction::Goes(task) => self.land(alloc, arrival, task, false, Tick::Goes),
+            Reaction::Readies(untold) => self.land(
+                alloc,
+                arrival,
+                Task::Nothing,
+                untold,
+                Tick::Done(Answer::Ready),
+            ),
+            Reaction::Gives => self.give(alloc, arrival),
+            Reaction::Ends => {
+                self.land(
+                    alloc,
+                    arrival,
+                    Task::Nothing,
+                    false,
+                    Tick::Done(Answer::SetEnd),
+                )
+            }
+            Reaction::PassesRow => self.pass(alloc, arrival),
+            Reaction::PassesEnd => self.land(alloc, arrival, same, false, Tick::PassedEnd),
+            Reaction::Refuses => self.refuse(alloc, arrival),
+            Reaction::Breaks => self.io_fault(IoKind::InvalidData),
+        }
+    }
+
+    // The payload is read, unless what the client sends after it is too long.
+    fn arrive(&mut self, alloc: Global, reaction: Reaction, arrival: &Arrival) -> Tick
+        requires { IsArrival self.old.seen arrival.now }
+        ensures { let s = self.old.seen in
+            let a = arrival.now in
+            Does (read_by s (following s a) a.payload reaction a.reply) s self.new.seen result }
+    {
+        let limit = self.context.terms.limit;
+        match length_above(limit, &arrival.reply) {
+            Some(length) => self.codec_fault(CodecFault::TooLarge { length, limit }),
+            None => self.react(alloc, reaction, arrival),
+        }
+    }
+
+    fn read_payload(&mut self, alloc: Global, found: FramedPayload) -> Tick
+        requires { found.span.len ≤ length self.old.seen.unread }
+        ensures { let s = self.old.seen in
+            let rest = drop found.span.len s.unread in
+            let kind = kind_there s.context found.payload in
+            Does (read_kind s found.payload rest found.span.next kind) s self.new.seen result }
+    {
+        let kind = kind_at(self.context, found.payload.as_slice());
+        let reaction = react_to(self.task, kind);
+        if is_breaking(reaction) {
+            return self.io_fault(IoKind::InvalidData);
+        }
+        match self.arrival(alloc, kind, found) {
+            Ok(arrival) => self.arrive(alloc, reaction, &arrival),
+            Err(NoMemory) => self.fault(Error::NoMemory),
+        }
+    }
+
+    // More bytes are awaited, unless the link reported its end.
+    fn wait(&mut self) -> Tick
+        ensures { Does (reading self.old.seen Waiting) self.old.seen self.new.seen result }
+    {
+        if self.ended {
+            return self.io_fault(IoKind::UnexpectedEof);
+        }
+        Tick::Needs
+    }
+
+    // The payload in front is read.
+    pub(super) fn read(&mut self, alloc: Global) -> Tick
+        ensures { let s = self.old.seen in
+            Does (reading s (front_at s.number s.context.terms.limit s.unread)) s self.new.seen result }
+    {
+        let limit = self.context.terms.limit;
+        match payload_in_front(alloc, self.unread.as_slice(), self.number, limit) {
+            Ok(None) => self.wait(),
+            Ok(Some(found)) => self.read_payload(alloc, found),
+            Err(CodecError::Fault(fault)) => self.codec_fault(fault),
+            Err(CodecError::NoMemory) => self.fault(Error::NoMemory),
+        }
+    }
+}

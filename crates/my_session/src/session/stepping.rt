@@ -1,0 +1,175 @@
+//! The steps of an open call: moves until it asks for something or ends.
+
+ghost use Rattle.std.specs.Prelude.{◌≡◌, List, true};
+ghost use Rattle.my_session.specs.Calls.{fault_in};
+
+use super::Session;
+use crate::answer::{Answer, SessionStep, Tick};
+use crate::call::{LinkFault, Task};
+use crate::error::{DriverError, Error, IoError, IoFault, IoKind};
+use crate::tables::{Plan, plan_for};
+use my_frame::CodecFault;
+use std::alloc::Global;
+
+// The fault of a call that was made to fail.
+fn fault_in(task: Task) -> Option<LinkFault>
+    ensures { result ≡ fault_in task }
+{
+    match task {
+        Task::Failing(_, fault) => Some(fault),
+        Task::Nothing
+        | Task::Begun(_)
+        | Task::Cleaning(_)
+        | Task::Own(_)
+        | Task::Arranging(_)
+        | Task::Reading
+        | Task::Dropping
+        | Task::Leaving => None,
+    }
+}
+
+impl Session {
+    ghost use Rattle.my_session.specs.Calls.{is_open, kind_in};
+    ghost use Rattle.my_session.specs.Causes.{HasCause};
+    ghost use Rattle.my_session.specs.Errors.{codec_error, io_error, link_error};
+    ghost use Rattle.my_session.specs.History.{History, Told, passing};
+    ghost use Rattle.my_session.specs.Machine.{Does, failed_by, fell, next, planned, when_owed, with_task};
+    ghost use Rattle.my_session.specs.Passed.{ArePassed};
+    ghost use Rattle.my_session.specs.Stands.{Stands};
+    ghost use Rattle.my_session.specs.Steps.{StepIs, Steps, TickIs, after_step, after_tick};
+
+    pub(super) fn fault(&mut self, error: Error) -> Tick
+        ensures fell { self.new.seen ≡ fell self.old.seen }
+        ensures value { result ≡ Tick.Fault error }
+    {
+        self.fall();
+        Tick::Fault(error)
+    }
+
+    // A fault of the link, or of the payload that was received.
+    pub(super) fn io_fault(&mut self, kind: IoKind) -> Tick
+        ensures fell { self.new.seen ≡ fell self.old.seen }
+        ensures value { result ≡ Tick.Fault (io_error kind self.old.seen.facts.place) }
+    {
+        let place = self.facts.place;
+        self.fault(Error::Io(IoError::Io(IoFault { kind, place })))
+    }
+
+    // A fault of the bytes that carry payloads.
+    pub(super) fn codec_fault(&mut self, fault: CodecFault) -> Tick
+        ensures fell { self.new.seen ≡ fell self.old.seen }
+        ensures value { result ≡ Tick.Fault (codec_error fault) }
+    {
+        self.fault(Error::Io(IoError::Codec(fault)))
+    }
+
+    pub(super) fn answer(&mut self, answer: Answer) -> Tick
+        ensures task { self.new.seen ≡ with_task self.old.seen Task.Nothing self.old.seen.untold }
+        ensures value { result ≡ Tick.Done answer }
+    {
+        self.task = Task::Nothing;
+        Tick::Done(answer)
+    }
+
+    // The call was made to fail.
+    fn fail_by(&mut self, fault: LinkFault) -> Tick
+        ensures { let s = self.old.seen in
+            Does (failed_by s (link_error fault s.facts.place)) s self.new.seen result }
+    {
+        match fault {
+            LinkFault::Link => self.io_fault(IoKind::Link),
+            LinkFault::TooLong => self.fault(Error::Driver(DriverError::TooLong)),
+            LinkFault::NoMemory => self.fault(Error::NoMemory),
+        }
+    }
+
+    fn carry_out(&mut self, alloc: Global, plan: Plan) -> Tick
+        ensures { Does (planned self.old.seen plan) self.old.seen self.new.seen result }
+    {
+        match plan {
+            Plan::Reads => self.read(alloc),
+            Plan::Asks(call) => self.ask(alloc, call),
+            Plan::Arranges(sent) => self.arrange(alloc, sent),
+            Plan::Starts(task) => {
+                self.task = task;
+                Tick::Goes
+            }
+            Plan::Hears => {
+                self.untold = false;
+                Tick::Goes
+            }
+            Plan::Passes => {
+                self.untold = false;
+                Tick::PassedEnd
+            }
+            Plan::Quits => {
+                self.fall();
+                Tick::Done(Answer::Ready)
+            }
+            Plan::Ends => {
+                self.untold = false;
+                self.answer(Answer::SetEnd)
+            }
+            Plan::Readies | Plan::Dropped => self.answer(Answer::Ready),
+            Plan::NoMore => self.answer(Answer::NoSet),
+        }
+    }
+
+    // The call goes on, once nothing is owed.
+    fn go_on(&mut self, alloc: Global) -> Tick
+        ensures { Does (when_owed self.old.seen.owed self.old.seen) self.old.seen self.new.seen result }
+    {
+        if !self.owed.is_empty() {
+            return Tick::Sends;
+        }
+        let plan = plan_for(self.task, self.context.spot, self.untold);
+        self.carry_out(alloc, plan)
+    }
+
+    // One move of the open call, exact on what clauses see.
+    fn move_on(&mut self, alloc: Global) -> Tick
+        ensures { Does (next self.old.seen) self.old.seen self.new.seen result }
+    {
+        match fault_in(self.task) {
+            Some(fault) => self.fail_by(fault),
+            None => self.go_on(alloc),
+        }
+    }
+
+    // One move of the open call, with what it does to each history.
+    fn tick(&mut self, alloc: Global) -> Tick
+        requires { is_open self.old.seen.task ≡ true }
+        ensures does { Does (next self.old.seen) self.old.seen self.new.seen result }
+        ensures leaves { TickIs self.old.seen self.new.seen result }
+        ensures stands { (h : History) → Stands self.old.seen h → Stands self.new.seen (after_tick h result) }
+    {
+        // Each element of the queue is a byte, by the session's invariant.
+        let _ = &self.unread;
+        self.move_on(alloc)
+    }
+
+    /// The next step of the open call. Only `DropResult` passes over rows and ends. Each error, and the answer that
+    /// nothing is left, has its cause in the history after what was passed over.
+    pub fn step(&mut self, alloc: Global) -> SessionStep
+        requires { is_open self.old.seen.task ≡ true }
+        ensures steps { Steps self.old.seen self.new.seen result }
+        ensures leaves { StepIs self.new.seen result }
+        ensures login { self.new.seen.login ≡ self.old.seen.login }
+        ensures stands { (h : History) → Stands self.old.seen h
+            → (passed : List Told) × ArePassed (kind_in self.old.seen.task) passed
+            × Stands self.new.seen (after_step (passing h passed) result)
+            × HasCause self.old.seen (passing h passed) result }
+    {
+        'moves: loop {
+            match self.tick(alloc) {
+                Tick::Goes => continue,
+                Tick::PassedEnd => continue,
+                Tick::PassedRow(_) => continue,
+                Tick::Sends => return SessionStep::Send,
+                Tick::Needs => return SessionStep::Need,
+                Tick::Done(answer) => return SessionStep::Done(answer),
+                Tick::Fault(error) => return SessionStep::Fault(error),
+            }
+        }
+    }
+}
