@@ -53,7 +53,9 @@ impl ClientPacket {
     {
         match self {
             ClientPacket::Response(response) => Ok(ClientPacket::Response(response.copy(alloc)?)),
-            ClientPacket::SwitchAnswer(answer) => Ok(ClientPacket::SwitchAnswer(answer.copy(alloc)?)),
+            ClientPacket::SwitchAnswer(answer) => Ok(ClientPacket::SwitchAnswer(answer.copy(
+                alloc,
+            )?)),
             ClientPacket::Quit => Ok(ClientPacket::Quit),
             ClientPacket::Ping => Ok(ClientPacket::Ping),
             ClientPacket::ResetConnection => Ok(ClientPacket::ResetConnection),
@@ -73,7 +75,9 @@ impl ClientPacket {
             }),
             ClientPacket::BulkExecute(bulk) => Ok(ClientPacket::BulkExecute(bulk.copy(alloc)?)),
             ClientPacket::CloseStatement(statement) => Ok(ClientPacket::CloseStatement(*statement)),
-            ClientPacket::RegisterSlave(slave) => Ok(ClientPacket::RegisterSlave(slave.copy(alloc)?)),
+            ClientPacket::RegisterSlave(slave) => Ok(ClientPacket::RegisterSlave(slave.copy(
+                alloc,
+            )?)),
             ClientPacket::Dump(dump) => Ok(ClientPacket::Dump(dump.copy(alloc)?)),
             ClientPacket::DumpGtid(dump) => Ok(ClientPacket::DumpGtid(dump.copy(alloc)?)),
         }

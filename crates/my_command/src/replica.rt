@@ -4,8 +4,8 @@ ghost use Rattle.std.specs.Prelude.{◌≡◌, ◌<◌, ◌^◌, ◌++◌, IfOk,
 ghost use Rattle.std.specs.List.{flat_map};
 ghost use Rattle.my_command.specs.Client.Replica.{FitsDump, FitsSlave, dump_bytes, dump_gtid_bytes, gtid_block, intervals_bytes, long_bytes, sid_bytes, slave_bytes};
 
-use my_frame::{Blob, Copied, Listed, NoMemory};
 use my_frame::writing::{put_short, put_u8, put_u16, put_u32, put_u64};
+use my_frame::{Blob, Copied, Listed, NoMemory};
 use std::alloc::Global;
 use std::marker::Model;
 
@@ -208,7 +208,11 @@ fn put_long(out: &mut Vec<u8>, bytes: &[u8]) -> Result<(), NoMemory>
     Ok(())
 }
 
-pub(crate) fn put_dump_gtid(alloc: Global, out: &mut Vec<u8>, dump: &DumpGtid) -> Result<(), NoMemory>
+pub(crate) fn put_dump_gtid(
+    alloc: Global,
+    out: &mut Vec<u8>,
+    dump: &DumpGtid,
+) -> Result<(), NoMemory>
     requires { FitsDump dump.now }
     ensures { OnOk result (out.new.items ≡ out.old.items ++ dump_gtid_bytes dump.now) }
 {
