@@ -63,7 +63,7 @@ fn put_packet(alloc: Global, out: &mut Vec<u8>, packet: &ClientPacket) -> Result
         ClientPacket::Query(text) => put_headed(out, 0x03, text.as_slice()),
         ClientPacket::InfilePiece(piece) => put_bytes(out, piece.as_slice()),
         ClientPacket::Prepare(text) => put_headed(out, 0x16, text.as_slice()),
-        ClientPacket::Execute(execute) => put_execute(out, execute),
+        ClientPacket::Execute(execute) => put_execute(alloc, out, execute),
         ClientPacket::LongData {
             statement,
             parameter,

@@ -30,7 +30,8 @@ set_number PoolMin n opts = set_bounds (record opts.pool_opts.constraints { min 
 set_number PoolMax n opts = set_bounds (record opts.pool_opts.constraints { max = n }) opts
 set_number PoolMaxWaiting n opts = set_pool (record opts.pool_opts { max_waiting = Some n }) opts
 set_number InactiveConnectionTtl n opts = set_pool (record opts.pool_opts { inactive_connection_ttl = 1000 * n }) opts
-set_number TtlCheckInterval n opts = set_pool (record opts.pool_opts { ttl_check_interval = interval_of (1000 * n) }) opts
+set_number TtlCheckInterval n opts =
+    set_pool (record opts.pool_opts { ttl_check_interval = interval_of (1000 * n) }) opts
 set_number AbsConnTtl n opts = set_pool (record opts.pool_opts { abs_conn_ttl = Some (1000 * n) }) opts
 set_number AbsConnTtlJitter n opts = set_pool (record opts.pool_opts { abs_conn_ttl_jitter = Some (1000 * n) }) opts
 set_number ConnTtl n opts = record opts { conn_ttl = Some (1000 * n) }

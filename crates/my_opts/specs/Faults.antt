@@ -1,16 +1,16 @@
--- What a call that reads a URL answers: what its text says, or want of memory.
+-- What a call that reads a URL returns: the result of reading its text, unless memory ran out.
 use Rattle.std.specs.Prelude.{◌≡◌, Result, Ok, Err}
 use Rattle.my_opts.specs.declared.error.UrlError.{UrlError}
 use Rattle.my_opts.specs.declared.error.UrlFault.{UrlFault}
 use Rattle.my_opts.specs.declared.error.UrlFault.TheVariants.{Url, NoMemory}
 
--- the answer is what is told, or want of memory
+-- the result is that of reading, unless memory ran out
 abbrev pub Tells : {A : Type 0} → Result A UrlFault → Result A UrlError → Type 0
 Tells (Ok x) told = told ≡ Ok x
 Tells (Err (Url e)) told = told ≡ Err e
 Tells (Err NoMemory) told = Unit {0}
 
--- the fault is this error, or want of memory
+-- the fault is this error, or memory ran out
 abbrev pub IsFault : UrlFault → UrlError → Type 0
 IsFault (Url e) error = error ≡ e
 IsFault NoMemory error = Unit {0}

@@ -2,6 +2,8 @@
 use Rattle.std.specs.Prelude.{ℕ, ◌≤◌, min, max, Bool, true, false, List, [], codes, Option, None}
 use Rattle.std.specs.Option.{ForSome}
 use Rattle.std.specs.declared.net.ip_addr.IpAddr.{IpAddr}
+use Rattle.my_frame.specs.declared.limits.TheConstants.{GREATEST_MAX_ALLOWED_PACKET, LEAST_MAX_ALLOWED_PACKET}
+use Rattle.my_opts.specs.declared.limits.TheConstants.{LONGEST_WAIT_TIMEOUT}
 use Rattle.my_opts.specs.Pool.{PoolView, default_pool}
 
 -- the options of a connection, and those of a pool of such connections
@@ -28,7 +30,7 @@ pub record OptsView : Type 0 where
   pub connect_attributes : Option (List (List ℕ × List ℕ))
   pub pool_opts : PoolView
 
--- what options are where nothing is said
+-- the options where nothing is set
 abbrev pub default_opts : OptsView
 default_opts = record {
   ip_or_hostname = codes "127.0.0.1";
@@ -54,18 +56,18 @@ default_opts = record {
   pool_opts = default_pool;
 }
 
--- a packet's limit stays within 1,024 and 1,073,741,824 bytes
+-- a packet's limit within 1,024 to 1,073,741,824 bytes
 abbrev pub packet_limit : ℕ → ℕ
-packet_limit bytes = max 1024 (min bytes 1073741824)
+packet_limit bytes = max LEAST_MAX_ALLOWED_PACKET (min bytes GREATEST_MAX_ALLOWED_PACKET)
 
 -- a waiting time is at most 31,536,000 seconds, a year
 abbrev pub waiting_limit : ℕ → ℕ
-waiting_limit seconds = min seconds 31536000
+waiting_limit seconds = min seconds LONGEST_WAIT_TIMEOUT
 
 -- a packet's limit, where there is one, is within its bounds
 abbrev pub IsPacketLimit : Option ℕ → Type 0
-IsPacketLimit limit = ForSome limit (λ n. (1024 ≤ n) × (n ≤ 1073741824))
+IsPacketLimit limit = ForSome limit (λ n. (LEAST_MAX_ALLOWED_PACKET ≤ n) × (n ≤ GREATEST_MAX_ALLOWED_PACKET))
 
 -- a waiting time, where there is one, is within its bound
 abbrev pub IsWaitingLimit : Option ℕ → Type 0
-IsWaitingLimit limit = ForSome limit (λ n. n ≤ 31536000)
+IsWaitingLimit limit = ForSome limit (λ n. n ≤ LONGEST_WAIT_TIMEOUT)

@@ -28,7 +28,7 @@ default_pool = record {
   max_waiting = None;
 }
 
--- an interval below one second stands for the default
+-- an interval below one second means the default
 abbrev pub interval_of : ℕ → ℕ
 interval_of interval = if nat_lt interval 1000 then 30000 else interval
 

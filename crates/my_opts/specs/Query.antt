@@ -16,7 +16,7 @@ use Rattle.my_opts.specs.Pool.{interval_of}
 use Rattle.my_frame.specs.Numeral.{whole_number}
 use Rattle.my_opts.specs.Values.{truth, is_compression}
 
--- each name with how its value reads and which option it sets
+-- each name with how its value is parsed and which option it sets
 abbrev pub table : List (List ℕ × Row)
 table =
     (codes "pool_min", Whole64 PoolMin)
@@ -82,12 +82,13 @@ put_truth BuiltInRoots b g = g
 abbrev pub put_socket : List ℕ → Gathered → Gathered
 put_socket path g = record g { builder = record g.builder { socket = Some path } }
 
--- what a value that reads sets, or the refusal of one that doesn't
-abbrev pub set_or_refused : {A : Type 0} → List ℕ → List ℕ → Option A → (A → Gathered → Gathered) → Gathered → Result Gathered UrlError
+-- what a value sets, or the refusal of one that can't be parsed
+abbrev pub set_or_refused : {A : Type 0} → List ℕ → List ℕ → Option A → (A → Gathered → Gathered) → Gathered
+    → Result Gathered UrlError
 set_or_refused name value (Some x) put g = Ok (put x g)
 set_or_refused name value None put g = Err (InvalidParamValue name value)
 
--- compression is refused, whether its strength reads or not
+-- compression is refused, whether its strength can be parsed or not
 abbrev pub compression_error : List ℕ → List ℕ → UrlError
 compression_error name value =
     if is_compression value then FeatureRequired (codes "compression") (codes "compression")

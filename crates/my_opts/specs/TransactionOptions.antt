@@ -8,6 +8,6 @@ pub record TxView : Type 0 where
   pub isolation_level : Option IsolationLevel
   pub readonly : Option Bool
 
--- nothing is asked for
+-- nothing is set
 abbrev pub default_tx : TxView
 default_tx = record { consistent_snapshot = false; isolation_level = None; readonly = None }

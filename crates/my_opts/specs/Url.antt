@@ -1,4 +1,4 @@
--- What a text says of options, by the definitions of URLs (the URL Standard): its host, port, user,
+-- The options of a text, by the definitions of URLs (the URL Standard): its host, port, user,
 -- password, first segment of the path, and query.
 use Rattle.std.specs.Prelude.{ℕ, ◌==◌, ◌||◌, Bool, false, not, List, [], take, drop, codes, bytes_eq, nat_lt, slice_index, Option, Some, None, unwrap_or, option_map, Result, Ok, Err, if◌then◌else◌}
 use Rattle.std.specs.List.{position_or_len}
@@ -24,7 +24,7 @@ decoded bytes = utf8_lossy (percent_decode bytes)
 abbrev pub unless_empty : List ℕ → Option (List ℕ)
 unless_empty bytes = if is_empty bytes then None else Some bytes
 
--- what stands before the next slash
+-- the text before the next slash
 abbrev pub before_slash : List ℕ → List ℕ
 before_slash rest = take (position_or_len (λ b. b == 47) rest) rest
 
@@ -47,7 +47,7 @@ usable_parsed (Err e) = Err Parse
 abbrev pub url_of : List ℕ → Result Parts UrlError
 url_of text = usable_parsed (parse_url None text)
 
--- what a URL says before its query is read
+-- what a URL sets before its query is read
 abbrev pub begun : Parts → Gathered
 begun url = record {
   builder = record default_opts {

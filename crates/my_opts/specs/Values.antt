@@ -1,4 +1,4 @@
--- How the value of an option reads in a URL's query.
+-- How the value of an option is parsed in a URL's query.
 use Rattle.std.specs.Prelude.{ℕ, ◌||◌, ◌&&◌, ◌==◌, Bool, true, false, List, codes, bytes_eq, length, slice_index, Option, Some, None, if◌then◌else◌}
 use Rattle.std.specs.Char.{is_digit}
 

@@ -237,12 +237,13 @@ impl OptsBuilder {
         self
     }
 
-    /// Names and values that the server is told of a connection.
+    /// Names and values of a connection that are sent to the server.
     pub fn connect_attributes(
         mut self,
         connect_attributes: Option<BTreeMap<String, String>>,
     ) -> OptsBuilder
-        ensures { result ≡ record self { connect_attributes = option_map (λ attributes. map pair_bytes attributes.entries) connect_attributes } }
+        ensures { let pairs = option_map (λ attributes. map pair_bytes attributes.entries) connect_attributes
+            in result ≡ record self { connect_attributes = pairs } }
     {
         self.opts.connect_attributes = attributes_of(connect_attributes);
         self
@@ -263,9 +264,9 @@ impl OptsBuilder {
         key: String,
         value: String,
     ) -> Result<OptsBuilder, NoMemory>
-        ensures { IfOk result (λ b. b ≡ record self {
-          connect_attributes = Some (with_attribute (unwrap_or self.connect_attributes []) (string_bytes key) (string_bytes value));
-        }) }
+        ensures { let before = unwrap_or self.connect_attributes []
+            in let pairs = with_attribute before (string_bytes key) (string_bytes value)
+            in IfOk result (λ b. b ≡ record self { connect_attributes = Some pairs }) }
     {
         let attributes = self.opts.connect_attributes.take();
         self.opts.connect_attributes = Some(with_one(alloc, attributes, key, value)?);

@@ -1,4 +1,4 @@
-//! What a client says that it can do.
+//! The capabilities of a client.
 
 ghost use Rattle.std.specs.Prelude.{◌≡◌, ◌+◌, sum};
 ghost use Rattle.my_opts.specs.Capabilities.{client_bits, database_bit, found_rows_bit};
@@ -6,7 +6,7 @@ ghost use Rattle.my_opts.specs.Capabilities.{client_bits, database_bit, found_ro
 use bitflags::Flags;
 use my_flags::CapabilityFlags;
 
-/// What a client can do that names a database or not, and asks for found rows or not.
+/// The capabilities of a client whose login names a database or not, and that asks for found rows or not.
 pub(crate) fn client_capabilities(database: bool, found_rows: bool) -> CapabilityFlags
     ensures { result.0 ≡ sum client_bits + database_bit database + found_rows_bit found_rows }
 {
@@ -20,7 +20,7 @@ pub(crate) fn client_capabilities(database: bool, found_rows: bool) -> Capabilit
     flags
 }
 
-/// What each client can do.
+/// The capabilities of each client.
 fn always() -> CapabilityFlags
     ensures { result.0 ≡ sum client_bits }
 {

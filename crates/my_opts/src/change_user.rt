@@ -4,8 +4,8 @@ ghost use Rattle.std.specs.Prelude.{◌≡◌, ◌↔◌, IsFalse, IfOk, Some, s
 ghost use Rattle.my_opts.specs.ChangeUser.{no_change, changed_opts, IsUnchangedBy};
 
 use crate::opts::Opts;
-use crate::text::{copied, shown, text_of};
-use my_frame::{NoMemory, Text};
+use crate::text::{shown, text_of};
+use my_frame::{Copied, NoMemory, Text};
 use std::alloc::Global;
 use std::marker::Model;
 
@@ -111,9 +111,9 @@ impl ChangeUserOpts {
         ensures { IfOk result (λ c. c ≡ self.now) }
     {
         Ok(ChangeUserOpts {
-            user: both_copied(alloc, &self.user)?,
-            pass: both_copied(alloc, &self.pass)?,
-            db_name: both_copied(alloc, &self.db_name)?,
+            user: self.user.copy(alloc)?,
+            pass: self.pass.copy(alloc)?,
+            db_name: self.db_name.copy(alloc)?,
         })
     }
 }
@@ -135,15 +135,6 @@ fn both_shown(part: &Option<Option<Text>>) -> Option<Option<&str>>
     match part {
         Some(text) => Some(shown(text)),
         None => None,
-    }
-}
-
-fn both_copied(alloc: Global, part: &Option<Option<Text>>) -> Result<Option<Option<Text>>, NoMemory>
-    ensures { IfOk result (λ p. p ≡ part.now) }
-{
-    match part {
-        Some(text) => Ok(Some(copied(alloc, text)?)),
-        None => Ok(None),
     }
 }
 

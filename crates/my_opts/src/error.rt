@@ -2,6 +2,8 @@
 
 ghost use Rattle.std.specs.Prelude.{◌≡◌, IfOk};
 
+use crate::query::other_than_wanted;
+use crate::text::OneLine;
 use my_frame::{NoMemory, Text};
 use std::alloc::{AllocError, Global};
 use std::fmt;
@@ -9,11 +11,11 @@ use std::fmt;
 /// Why a URL gives no options.
 #[derive(Debug, Drop, PartialEq, Eq)]
 pub enum UrlError {
-    /// The URL asks for what this client lacks.
+    /// The URL asks for a feature that this client lacks.
     FeatureRequired { feature: Text, param: Text },
     /// The URL names no host, or a file.
     Invalid,
-    /// An option's value doesn't read.
+    /// An option's value can't be parsed.
     InvalidParamValue { param: Text, value: Text },
     /// The lower bound of a pool is above the upper one, or the upper one is 0.
     InvalidPoolConstraints { min: u64, max: u64 },
@@ -55,31 +57,33 @@ impl UrlError {
     }
 }
 
+// One line that names the parameter and the cause.
 impl fmt::Display for UrlError {
     fn fmt<W: fmt::Write>(&self, f: &mut fmt::Formatter<W>) -> fmt::Result {
         match self {
             UrlError::FeatureRequired { feature, param } => write!(
                 f,
-                "the parameter {} needs the feature {}",
-                param.as_str(),
-                feature.as_str()
+                "{} needs {}, which this client lacks",
+                OneLine(param.as_str()),
+                OneLine(feature.as_str())
             ),
-            UrlError::Invalid => f.write_str("the URL names no server"),
-            UrlError::InvalidParamValue { param, value } => write!(
+            UrlError::Invalid => f.write_str("no host"),
+            UrlError::InvalidParamValue { param, .. } => write!(
                 f,
-                "{} is no value of the parameter {}",
-                value.as_str(),
-                param.as_str()
+                "the value of {} is {}",
+                OneLine(param.as_str()),
+                other_than_wanted(param.as_str())
             ),
+            UrlError::InvalidPoolConstraints { max: 0, .. } => f.write_str("pool_max is 0"),
             UrlError::InvalidPoolConstraints { min, max } => {
-                write!(f, "a pool of {min} to {max} connections can't be")
+                write!(f, "pool_min {min} is above pool_max {max}")
             }
-            UrlError::Parse => f.write_str("the text is no URL"),
+            UrlError::Parse => f.write_str("no URL"),
             UrlError::UnknownParameter { param } => {
-                write!(f, "there is no parameter {}", param.as_str())
+                write!(f, "unknown parameter {}", OneLine(param.as_str()))
             }
             UrlError::UnsupportedScheme { scheme } => {
-                write!(f, "the scheme {} isn't supported", scheme.as_str())
+                write!(f, "unsupported scheme {}", OneLine(scheme.as_str()))
             }
         }
     }
@@ -87,13 +91,24 @@ impl fmt::Display for UrlError {
 
 impl std::error::Error for UrlError {}
 
-/// What a call that reads a URL answers in place of options.
+/// What a call that reads a URL returns in place of options.
 #[derive(Debug, Drop, PartialEq, Eq)]
 pub enum UrlFault {
     /// The URL gives none.
     Url(UrlError),
-    /// There was no memory.
     NoMemory,
+}
+
+impl UrlFault {
+    /// A second value of the same error.
+    pub fn copy(&self, alloc: Global) -> Result<UrlFault, NoMemory>
+        ensures { IfOk result (λ e. e ≡ self.now) }
+    {
+        match self {
+            UrlFault::Url(error) => Ok(UrlFault::Url(error.copy(alloc)?)),
+            UrlFault::NoMemory => Ok(UrlFault::NoMemory),
+        }
+    }
 }
 
 impl fmt::Display for UrlFault {

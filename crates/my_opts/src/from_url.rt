@@ -82,7 +82,7 @@ fn gather(alloc: Global, url: &Url) -> Result<Gathered, UrlFault>
     Ok(gathered)
 }
 
-/// What the URL says before its query is read.
+/// What the URL sets before its query is read.
 fn begin(alloc: Global, url: &Url) -> Result<Gathered, NoMemory>
     ensures { IfOk result (λ g. g ≡ begun url.now) }
 {
@@ -101,7 +101,7 @@ fn begin(alloc: Global, url: &Url) -> Result<Gathered, NoMemory>
     })
 }
 
-/// What a URL says of its user.
+/// The user, password and database of a URL.
 #[derive(Drop)]
 struct Login {
     user: Option<String>,
@@ -124,11 +124,14 @@ impl Login {
     }
 }
 
-/// What the URL says of its user.
+/// The user, password and database of a URL.
 fn login_of(alloc: Global, url: &Url) -> Result<Login, NoMemory>
-    ensures user { IfOk result (λ l. option_map string_bytes l.user ≡ option_map decoded (unless_empty url.now.username)) }
-    ensures pass { IfOk result (λ l. option_map string_bytes l.pass ≡ option_map decoded (unless_empty url.now.password)) }
-    ensures db_name { IfOk result (λ l. option_map string_bytes l.db_name ≡ option_map decoded (first_segment url.now.path)) }
+    ensures user { IfOk result (λ l.
+        option_map string_bytes l.user ≡ option_map decoded (unless_empty url.now.username)) }
+    ensures pass { IfOk result (λ l.
+        option_map string_bytes l.pass ≡ option_map decoded (unless_empty url.now.password)) }
+    ensures db_name { IfOk result (λ l.
+        option_map string_bytes l.db_name ≡ option_map decoded (first_segment url.now.path)) }
 {
     let user = text_unless_empty(alloc, url.username())?;
     let pass = text_unless_empty(alloc, url.password().unwrap_or(""))?;
@@ -178,7 +181,7 @@ fn segment(url: &Url) -> &str
     }
 }
 
-/// What stands before the next slash.
+/// The text before the next slash.
 fn up_to_slash(rest: &str) -> &str
     ensures { result.now ≡ before_slash rest.now }
 {

@@ -3,11 +3,18 @@
 ghost use Rattle.std.specs.Prelude.{◌≡◌, option_map};
 ghost use Rattle.my_opts.specs.Opts.{packet_limit, waiting_limit};
 
+use my_frame::limits::{GREATEST_MAX_ALLOWED_PACKET, LEAST_MAX_ALLOWED_PACKET};
+
+/// The longest waiting time in seconds: a year.
+pub const LONGEST_WAIT_TIMEOUT: u64 = 31_536_000;
+
 /// A packet's limit in bytes, within its bounds.
 fn within_packets(bytes: u64) -> u64
     ensures { result ≡ packet_limit bytes }
 {
-    bytes.min(1_073_741_824).max(1024)
+    bytes
+        .min(GREATEST_MAX_ALLOWED_PACKET)
+        .max(LEAST_MAX_ALLOWED_PACKET)
 }
 
 /// A packet's limit, where there is one, within its bounds.
@@ -25,7 +32,7 @@ pub(crate) fn limited_wait(limit: Option<u64>) -> Option<u64>
     ensures { result ≡ option_map waiting_limit limit }
 {
     match limit {
-        Some(seconds) => Some(seconds.min(31_536_000)),
+        Some(seconds) => Some(seconds.min(LONGEST_WAIT_TIMEOUT)),
         None => None,
     }
 }

@@ -3,13 +3,13 @@
 ghost use Rattle.std.specs.Prelude.{◌≡◌, [], ◌∷◌, map, IfOk, IfErr, string_bytes, option_map, option_copied, unwrap_or};
 ghost use Rattle.my_opts.specs.Lists.{pair_bytes, with_attribute};
 
-use my_frame::{Listed, NoMemory};
+use my_frame::{Copied, Listed, NoMemory};
 use std::alloc::Global;
 use std::collections::BTreeMap;
 use std::marker::Model;
 use std::net::IpAddr;
 
-/// Texts in order, which contracts see as the list of their bytes.
+/// Texts in order, which contracts see as the list of their bytes. They stay `String`s, which getters lend.
 #[derive(Drop)]
 pub(crate) struct Texts {
     texts: Vec<String>,
@@ -21,6 +21,12 @@ impl Model for Texts {
     ghost Value = { List (List ℕ) };
 
     ghost view = { λ t. map string_bytes t.texts.items };
+}
+
+impl Copied for Texts {
+    fn copy(&self, _alloc: Global) -> Result<Texts, NoMemory> {
+        Texts::copy(self)
+    }
 }
 
 impl Texts {
@@ -37,7 +43,7 @@ impl Texts {
     }
 
     /// A second value of the same texts.
-    pub(crate) fn copy(&self) -> Result<Texts, NoMemory>
+    fn copy(&self) -> Result<Texts, NoMemory>
         ensures { IfOk result (λ t. t ≡ self.now) }
     {
         Ok(Texts {
@@ -82,6 +88,12 @@ impl Model for Attributes {
     ghost view = { λ a. map pair_bytes a.pairs.entries };
 }
 
+impl Copied for Attributes {
+    fn copy(&self, _alloc: Global) -> Result<Attributes, NoMemory> {
+        Attributes::copy(self)
+    }
+}
+
 impl Attributes {
     pub(crate) fn new(pairs: BTreeMap<String, String>) -> Attributes
         ensures { result ≡ map pair_bytes pairs.entries }
@@ -114,7 +126,7 @@ impl Attributes {
     }
 
     /// A second value of the same names with their values.
-    pub(crate) fn copy(&self) -> Result<Attributes, NoMemory>
+    fn copy(&self) -> Result<Attributes, NoMemory>
         ensures { IfOk result (λ a. a ≡ self.now) }
     {
         Ok(Attributes {
@@ -152,19 +164,6 @@ pub(crate) fn list_of(ips: Option<Vec<IpAddr>>) -> Option<Listed<IpAddr>>
     }
 }
 
-/// A second value of the same addresses, where there are some.
-pub(crate) fn copied_ips(
-    alloc: Global,
-    ips: &Option<Listed<IpAddr>>,
-) -> Result<Option<Listed<IpAddr>>, NoMemory>
-    ensures { IfOk result (λ copy. copy ≡ ips.now) }
-{
-    match ips {
-        Some(ips) => Ok(Some(ips.copy(alloc)?)),
-        None => Ok(None),
-    }
-}
-
 /// The names with their values, where there are some.
 pub(crate) fn attributes_of(pairs: Option<BTreeMap<String, String>>) -> Option<Attributes>
     ensures { result ≡ option_map (λ pairs. map pair_bytes pairs.entries) pairs }
@@ -182,22 +181,11 @@ pub(crate) fn with_one(
     name: String,
     value: String,
 ) -> Result<Attributes, NoMemory>
-    ensures { IfOk result (λ a. a ≡ with_attribute (unwrap_or attributes []) (string_bytes name) (string_bytes value)) }
+    ensures { let before = unwrap_or attributes []
+        in IfOk result (λ a. a ≡ with_attribute before (string_bytes name) (string_bytes value)) }
 {
     match attributes {
         Some(attributes) => attributes.with(name, value),
         None => Attributes::empty(alloc).with(name, value),
-    }
-}
-
-/// A second value of the same names with their values, where there are some.
-pub(crate) fn copied_attributes(
-    attributes: &Option<Attributes>,
-) -> Result<Option<Attributes>, NoMemory>
-    ensures { IfOk result (λ copy. copy ≡ attributes.now) }
-{
-    match attributes {
-        Some(attributes) => Ok(Some(attributes.copy()?)),
-        None => Ok(None),
     }
 }

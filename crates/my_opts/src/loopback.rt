@@ -45,7 +45,8 @@ fn is_loopback_v4(host: &str) -> bool
 }
 
 fn is_loopback_v6(host: &str) -> bool
-    ensures { MatchBool result (Writes IsIpv6Text (unbracketed host.now) IsLoopbackV6) (WritesNo IsIpv6Text (unbracketed host.now) IsLoopbackV6) }
+    ensures { let text = unbracketed host.now
+        in MatchBool result (Writes IsIpv6Text text IsLoopbackV6) (WritesNo IsIpv6Text text IsLoopbackV6) }
 {
     match Ipv6Addr::parse_ascii(unbracketed(host.as_bytes())) {
         Ok(ip) => ip.is_loopback(),

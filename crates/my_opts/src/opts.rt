@@ -1,6 +1,8 @@
 //! Options of a connection.
 
 ghost use Rattle.std.specs.Prelude.{◌≡◌, ◌≤◌, IfOk, IfSome, MatchBool, map, string_bytes, option_map, option_copied};
+ghost use Rattle.my_frame.specs.declared.limits.TheConstants.{GREATEST_MAX_ALLOWED_PACKET, LEAST_MAX_ALLOWED_PACKET};
+ghost use Rattle.my_opts.specs.declared.limits.TheConstants.{LONGEST_WAIT_TIMEOUT};
 ghost use Rattle.my_opts.specs.Capabilities.{capabilities_of};
 ghost use Rattle.my_opts.specs.Lists.{pair_bytes};
 ghost use Rattle.my_opts.specs.Loopback.{IsLoopback, IsElsewhere};
@@ -8,23 +10,23 @@ ghost use Rattle.my_opts.specs.Target.{target_of};
 
 use crate::builder::OptsBuilder;
 use crate::capabilities::client_capabilities;
-use crate::lists::{Attributes, Texts, copied_attributes, copied_ips};
+use crate::lists::{Attributes, Texts};
 use crate::loopback::{any_loopback, is_loopback_host};
 use crate::millis::Millis;
 use crate::pool::PoolOpts;
 use crate::target::Target;
-use crate::text::{copied, shown};
+use crate::text::shown;
 use my_flags::CapabilityFlags;
-use my_frame::{Listed, NoMemory, Text};
+use my_frame::{Copied, Listed, NoMemory, Text};
 use std::alloc::Global;
 use std::collections::BTreeMap;
 use std::marker::Model;
 use std::net::IpAddr;
 
-/// The port of a server that says nothing of it.
+/// The port of a server where none is set.
 pub const DEFAULT_PORT: u16 = 3306;
 
-/// How many prepared statements a connection keeps where nothing is said.
+/// How many prepared statements a connection keeps where no number is set.
 pub const DEFAULT_STMT_CACHE_SIZE: u64 = 32;
 
 /// The options of a connection, and those of a pool of such connections.
@@ -224,7 +226,7 @@ impl Opts {
     /// The longest payload in bytes; a set value is moved into 1,024 to 1,073,741,824.
     pub fn max_allowed_packet(&self) -> Option<u64>
         ensures value { result ≡ self.now.max_allowed_packet }
-        ensures limited { IfSome result (λ n. (1024 ≤ n) × (n ≤ 1073741824)) }
+        ensures limited { IfSome result (λ n. (LEAST_MAX_ALLOWED_PACKET ≤ n) × (n ≤ GREATEST_MAX_ALLOWED_PACKET)) }
     {
         self.max_allowed_packet
     }
@@ -233,7 +235,7 @@ impl Opts {
     /// 31,536,000.
     pub fn wait_timeout(&self) -> Option<u64>
         ensures value { result ≡ self.now.wait_timeout }
-        ensures limited { IfSome result (λ n. n ≤ 31536000) }
+        ensures limited { IfSome result (λ n. n ≤ LONGEST_WAIT_TIMEOUT) }
     {
         self.wait_timeout
     }
@@ -259,9 +261,10 @@ impl Opts {
         self.enable_cleartext_plugin
     }
 
-    /// Names and values that the server is told of a connection.
+    /// Names and values of a connection that are sent to the server.
     pub fn connect_attributes(&self) -> Option<&BTreeMap<String, String>>
-        ensures { option_map (λ attributes. map pair_bytes attributes.now.entries) result ≡ self.now.connect_attributes }
+        ensures { option_map (λ attributes. map pair_bytes attributes.now.entries) result
+            ≡ self.now.connect_attributes }
     {
         match &self.connect_attributes {
             Some(attributes) => Some(attributes.as_map()),
@@ -314,12 +317,12 @@ impl Opts {
             None => Ok(Target::Tcp {
                 host: self.ip_or_hostname.copy(alloc)?,
                 port: self.tcp_port,
-                ips: copied_ips(alloc, &self.resolved_ips)?,
+                ips: self.resolved_ips.copy(alloc)?,
             }),
         }
     }
 
-    /// What a client with these options says that it can do.
+    /// The capabilities of a client with these options.
     pub fn get_capabilities(&self) -> CapabilityFlags
         ensures { result.0 ≡ capabilities_of self.now }
     {
@@ -333,24 +336,24 @@ impl Opts {
         Ok(Opts {
             ip_or_hostname: self.ip_or_hostname.copy(alloc)?,
             tcp_port: self.tcp_port,
-            resolved_ips: copied_ips(alloc, &self.resolved_ips)?,
-            user: copied(alloc, &self.user)?,
-            pass: copied(alloc, &self.pass)?,
-            db_name: copied(alloc, &self.db_name)?,
-            init: self.init.copy()?,
-            setup: self.setup.copy()?,
+            resolved_ips: self.resolved_ips.copy(alloc)?,
+            user: self.user.copy(alloc)?,
+            pass: self.pass.copy(alloc)?,
+            db_name: self.db_name.copy(alloc)?,
+            init: self.init.copy(alloc)?,
+            setup: self.setup.copy(alloc)?,
             tcp_keepalive: self.tcp_keepalive,
             tcp_nodelay: self.tcp_nodelay,
             conn_ttl: self.conn_ttl,
             stmt_cache_size: self.stmt_cache_size,
             prefer_socket: self.prefer_socket,
-            socket: copied(alloc, &self.socket)?,
+            socket: self.socket.copy(alloc)?,
             max_allowed_packet: self.max_allowed_packet,
             wait_timeout: self.wait_timeout,
             secure_auth: self.secure_auth,
             client_found_rows: self.client_found_rows,
             enable_cleartext_plugin: self.enable_cleartext_plugin,
-            connect_attributes: copied_attributes(&self.connect_attributes)?,
+            connect_attributes: self.connect_attributes.copy(alloc)?,
             pool_opts: self.pool_opts.copy(),
         })
     }

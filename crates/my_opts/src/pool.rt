@@ -176,7 +176,7 @@ impl PoolOpts {
         self.inactive_connection_ttl
     }
 
-    /// How often idle connections are looked through; below one second stands for 30 seconds.
+    /// How often idle connections are looked through; below one second means 30 seconds.
     pub fn with_ttl_check_interval(mut self, interval: Millis) -> PoolOpts
         ensures { result ≡ record self { ttl_check_interval = interval_of interval } }
     {

@@ -46,7 +46,7 @@ pub(crate) enum NumberOption {
     WaitTimeout,
 }
 
-/// How the value of a name reads, and which option it sets.
+/// How the value of a name is parsed, and which option it sets.
 #[derive(Clone, Copy)]
 pub(crate) enum Row {
     Truth(TruthOption),
@@ -97,6 +97,16 @@ fn row_named(name: &str) -> Option<Row>
         "compression" => Row::Compression,
         _ => return None,
     })
+}
+
+/// Why a value of this name was refused, as the end of a sentence.
+pub(crate) fn other_than_wanted(name: &str) -> &'static str {
+    match row_named(name) {
+        Some(Row::Truth(_)) => "neither true nor false",
+        Some(Row::Whole32(_)) => "no number up to 4294967295",
+        Some(Row::Whole64(_)) => "no number up to 18446744073709551615",
+        _ => "none of its values",
+    }
 }
 
 impl Gathered {

@@ -1,9 +1,9 @@
-//! Texts that may be absent.
+//! Texts that may be absent, and texts as they are printed.
 
-ghost use Rattle.std.specs.Prelude.{◌≡◌, IfOk, string_bytes, option_map, option_copied};
+ghost use Rattle.std.specs.Prelude.{◌≡◌, string_bytes, option_map, option_copied};
 
-use my_frame::{NoMemory, Text};
-use std::alloc::Global;
+use my_frame::Text;
+use std::fmt;
 
 /// The text, where there is one.
 pub(crate) fn text_of(text: Option<String>) -> Option<Text>
@@ -25,12 +25,15 @@ pub(crate) fn shown(text: &Option<Text>) -> Option<&str>
     }
 }
 
-/// A second value of the same text, where there is one.
-pub(crate) fn copied(alloc: Global, text: &Option<Text>) -> Result<Option<Text>, NoMemory>
-    ensures { IfOk result (λ t. t ≡ text.now) }
-{
-    match text {
-        Some(text) => Ok(Some(text.copy(alloc)?)),
-        None => Ok(None),
+/// A text that is printed on one line, with U+FFFD in place of each control character.
+#[derive(Clone, Copy)]
+pub(crate) struct OneLine<'a>(pub(crate) &'a str);
+
+impl fmt::Display for OneLine<'_> {
+    fn fmt<W: fmt::Write>(&self, f: &mut fmt::Formatter<W>) -> fmt::Result {
+        for c in self.0.chars() {
+            f.write_char(if c.is_control() { '\u{fffd}' } else { c })?;
+        }
+        Ok(())
     }
 }

@@ -7,7 +7,7 @@ use crate::transaction::IsolationLevel;
 use std::marker::Model;
 
 /// How a transaction begins.
-#[derive(Debug, Clone, Drop, PartialEq, Eq, Hash)]
+#[derive(Debug, Clone, Copy, PartialEq, Eq, Hash)]
 pub struct TxOpts {
     consistent_snapshot: bool,
     isolation_level: Option<IsolationLevel>,
@@ -33,7 +33,7 @@ impl Model for TxOpts {
 }
 
 impl TxOpts {
-    /// Nothing is asked for.
+    /// Nothing is set.
     pub fn new() -> TxOpts
         ensures { result ≡ default_tx }
     {
@@ -62,7 +62,7 @@ impl TxOpts {
         self
     }
 
-    /// Whether the transaction only reads; None says nothing.
+    /// Whether the transaction only reads, where it is set.
     pub fn with_readonly(&mut self, value: Option<bool>) -> &mut TxOpts
         ensures same { result.ghost_name ≡ self.entry.ghost_name }
         ensures value { result.now ≡ record self.old { readonly = value } }
@@ -85,7 +85,7 @@ impl TxOpts {
         self.isolation_level
     }
 
-    /// Whether the transaction only reads; None says nothing.
+    /// Whether the transaction only reads, where it is set.
     pub fn readonly(&self) -> Option<bool>
         ensures { result ≡ self.now.readonly }
     {

@@ -1,4 +1,4 @@
-//! How the value of an option reads in a URL's query.
+//! How the value of an option is parsed in a URL's query.
 
 ghost use Rattle.std.specs.Prelude.{◌≡◌};
 ghost use Rattle.my_frame.specs.Numeral.{whole_number};

@@ -119,12 +119,3 @@ pub binary_row_again : (columns : List Column) (payload : List ℕ) (cells : Lis
 binary_row_again columns payload cells w =
     let read : bytes_at (bitmap_len (length columns)) (w.bitmap ++ w.values) ≡ Some (w.bitmap, w.values) = bytes_again (bitmap_len (length columns)) (w.bitmap ++ w.values) w.bitmap w.values (record { count_is = w.bitmap_is; spelled = refl }) in
     rw (w.spelled, read, cells_again 0 w.bitmap columns cells w.values w.stand) refl
-
-pub read_found : (columns : List Column) (payload : List ℕ) (cells read : List Value) → Some read ≡ binary_row_at columns payload → cells ≡ read → IsBinaryRow columns payload cells
-read_found columns payload cells read e same = rw same (binary_row_found columns payload read (sym e))
-
-pub read_only : (columns : List Column) (payload : List ℕ) (found read : List Value) → Some read ≡ binary_row_at columns payload → found ≡ read → (cells : List Value) → IsBinaryRow columns payload cells → found ≡ cells
-read_only columns payload found read e same cells w = let a = binary_row_again columns payload cells w in cc
-
-pub read_none : {P : Type 0} (columns : List Column) (payload : List ℕ) → None ≡ binary_row_at columns payload → (cells : List Value) → IsBinaryRow columns payload cells → P
-read_none columns payload e cells w = let a = binary_row_again columns payload cells w in absurd cc

@@ -1,5 +1,5 @@
 -- A date or a time that was sent is read back.
-use Rattle.std.proofs.Common.{◌≡◌, ℕ, ◌+◌, ◌^◌, ◌<◌, ◌≤◌, inl, inr, List, [], ◌∷◌, ◌++◌, length, take, Bool, true, false, not, cond, eqb, ◌&&◌, Option, Some, None, refl, sym, ap, subst, ◌∙◌, arith, length-take-le}
+use Rattle.std.proofs.Common.{◌≡◌, ℕ, ◌^◌, ◌<◌, ◌≤◌, inl, inr, List, ◌∷◌, ◌++◌, length, take, Bool, true, false, not, cond, eqb, ◌&&◌, Option, Some, refl, sym, ap, subst, ◌∙◌, arith, length-take-le}
 use Rattle.std.proofs.lemmas.Bool.Decides.{nat_tests}
 use Rattle.my_frame.specs.Numbers.{le_value}
 use Rattle.my_frame.specs.Writing.{le_bytes}
@@ -7,7 +7,7 @@ use Rattle.my_frame.proofs.NumberLaws.{chosen}
 use Rattle.my_value.specs.declared.value.Value.{Value}
 use Rattle.my_value.specs.declared.value.Value.TheVariants.{Date, Time}
 use Rattle.my_value.specs.BinaryCell.{date_of, time_of, sized_at}
-use Rattle.my_value.specs.Sending.{date_len, date_parts, time_len, time_parts, sign_number, sized_bytes}
+use Rattle.my_value.specs.Sending.{date_len, date_parts, time_len, time_parts, sized_bytes}
 use Rattle.my_value.proofs.BinaryRowLaws.{sized_again}
 
 value_2 : (n : ℕ) → n < 2 ^ 16 → le_value (le_bytes 2 n) ≡ n

@@ -1,11 +1,11 @@
 pub mod BinaryRowLaws
-pub mod BitmapLaws
 pub mod BulkLaws
 pub mod DateLaws
 pub mod DecimalLaws
 pub mod FillLaws
 pub mod GatherLaws
 pub mod OneCellLaws
+pub mod ParameterLaws
 pub mod RowLaws
 pub mod SqlTextLaws
 pub mod TextRowLaws

@@ -1,5 +1,5 @@
 -- A text falls into pieces in one way.
-use Rattle.std.proofs.Common.{◌≡◌, ℕ, zero, suc, ◌+◌, ◌-◌, ◌≤◌, ◌<◌, inl, inr, List, [], ◌∷◌, ◌++◌, length, take, drop, Bool, true, false, cond, ltb, eqb, ◌&&◌, Option, Some, None, refl, sym, ap, subst, ◌∙◌, arith, length-drop}
+use Rattle.std.proofs.Common.{◌≡◌, ℕ, zero, suc, ◌≤◌, ◌<◌, inl, inr, List, [], ◌∷◌, length, take, drop, Bool, true, false, cond, ltb, eqb, ◌&&◌, Option, Some, None, refl, sym, ap, subst, ◌∙◌, arith, length-drop}
 use Rattle.std.proofs.lemmas.Bool.Decides.{nat_tests}
 use Rattle.my_frame.proofs.NumberLaws.{chosen, same_pair}
 use Rattle.my_value.specs.SqlText.{SqlPiece, kept, name, mark, skip_len, name_len, outside_at, piece_at, IsSplit, match_piece, split_in, split}

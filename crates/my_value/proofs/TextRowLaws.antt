@@ -1,5 +1,5 @@
 -- The cells of a text row, as a relation and as what is read.
-use Rattle.std.proofs.Common.{◌≡◌, ℕ, zero, suc, inl, inr, List, [], ◌∷◌, length, true, false, cond, eqb, Some, None, refl, sym, ap, subst, ◌∙◌, arith}
+use Rattle.std.proofs.Common.{◌≡◌, ℕ, zero, suc, inl, inr, List, [], ◌∷◌, length, true, false, cond, eqb, Some, refl, sym, ap, subst, ◌∙◌, arith}
 use Rattle.std.proofs.lemmas.Bool.Decides.{nat_tests}
 use Rattle.my_frame.specs.Numbers.{IsText, text_at}
 use Rattle.my_frame.proofs.NumberLaws.{bind_then, chosen, same_pair, text_found, text_again}
@@ -89,12 +89,3 @@ text_row_again count [] cells w = absurd (w.is_there refl)
 text_row_again count (b ∷ bytes) cells w =
     let e : text_cells_at count (b ∷ bytes) ≡ Some (cells, []) = subst (λ k. text_cells_at k (b ∷ bytes) ≡ Some (cells, [])) w.count_is (cells_again cells (b ∷ bytes) w.stands) in
     rw e refl
-
-pub read_found : (count : ℕ) (payload : List ℕ) (cells read : List Value) → Some read ≡ text_row_at count payload → cells ≡ read → IsTextRow count payload cells
-read_found count payload cells read e same = rw same (text_row_found count payload read (sym e))
-
-pub read_only : (count : ℕ) (payload : List ℕ) (found read : List Value) → Some read ≡ text_row_at count payload → found ≡ read → (cells : List Value) → IsTextRow count payload cells → found ≡ cells
-read_only count payload found read e same cells w = let a = text_row_again count payload cells w in cc
-
-pub read_none : {P : Type 0} (count : ℕ) (payload : List ℕ) → None ≡ text_row_at count payload → (cells : List Value) → IsTextRow count payload cells → P
-read_none count payload e cells w = let a = text_row_again count payload cells w in absurd cc

@@ -1,5 +1,5 @@
 -- A row that a server wrote is read back.
-use Rattle.std.proofs.Common.{◌≡◌, ℕ, ◌<◌, ◌^◌, List, [], ◌∷◌, ◌++◌, length, map, suc, Option, Some, None, refl, sym, ap, subst, ◌∙◌, arith}
+use Rattle.std.proofs.Common.{◌≡◌, ℕ, ◌<◌, ◌^◌, List, [], ◌∷◌, ◌++◌, length, map, suc, Option, Some, None, refl, sym, ap, subst, arith}
 use Rattle.std.proofs.lemmas.List.Concat.{flat_map-cons}
 use Rattle.std.specs.List.{flat_map}
 use Rattle.my_frame.specs.Numbers.{IsLen, IsText}
@@ -7,7 +7,7 @@ use Rattle.my_frame.specs.Writing.{le_bytes, text_bytes}
 use Rattle.my_reply.specs.Server.{cell_bytes}
 use Rattle.my_frame.proofs.NumberLaws.{text_found}
 use Rattle.my_frame.proofs.WritingLaws.{text_read_back}
-use Rattle.my_value.specs.TextRow.{AreTextCells, IsTextRow, text_row_at}
+use Rattle.my_value.specs.TextRow.{AreTextCells, text_row_at}
 use Rattle.my_value.specs.WrittenRow.{TextsFit, sent_value}
 use Rattle.my_value.proofs.TextRowLaws.{text_row_again}
 

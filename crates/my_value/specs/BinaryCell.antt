@@ -17,22 +17,26 @@ integer w unsigned n = values.Int (if unsigned then pos n else cast_signed w n)
 abbrev pub long_integer : Bool → ℕ → Value
 long_integer unsigned n = if unsigned then values.UInt n else values.Int (cast_signed w64 n)
 
--- the microseconds that stand from a place on
+-- the number of four bytes from a place on
 abbrev pub micros_at : List ℕ → ℕ → ℕ
-micros_at parts k = le_value (slice_index parts k ∷ slice_index parts (k + 1) ∷ slice_index parts (k + 2) ∷ slice_index parts (k + 3) ∷ [])
+micros_at parts k =
+    le_value (slice_index parts k ∷ slice_index parts (k + 1) ∷ slice_index parts (k + 2)
+    ∷ slice_index parts (k + 3) ∷ [])
 
--- Year, month and day, then hour, minute and second, then microseconds may stand there; what is missing is 0.
+-- Year, month and day, then hour, minute and second, then microseconds may be there; what is missing is 0.
 abbrev pub date_of : List ℕ → Option Value
 date_of parts =
     if ((length parts == 0) || (length parts == 4)) || ((length parts == 7) || (length parts == 11))
-    then Some (values.Date (le_value (slice_index parts 0 ∷ slice_index parts 1 ∷ [])) (slice_index parts 2) (slice_index parts 3) (slice_index parts 4) (slice_index parts 5) (slice_index parts 6) (micros_at parts 7))
+    then Some (values.Date (le_value (slice_index parts 0 ∷ slice_index parts 1 ∷ [])) (slice_index parts 2)
+    (slice_index parts 3) (slice_index parts 4) (slice_index parts 5) (slice_index parts 6) (micros_at parts 7))
     else None
 
--- A sign, days, hour, minute and second, then microseconds may stand there; what is missing is 0, and a sign is 0 or 1.
+-- A sign, days, hour, minute and second, then microseconds may be there; what is missing is 0, and a sign is 0 or 1.
 abbrev pub time_of : List ℕ → Option Value
 time_of parts =
     if ((length parts == 0) || ((length parts == 8) || (length parts == 12))) && nat_le (slice_index parts 0) 1
-    then Some (values.Time (slice_index parts 0 == 1) (micros_at parts 1) (slice_index parts 5) (slice_index parts 6) (slice_index parts 7) (micros_at parts 8))
+    then Some (values.Time (slice_index parts 0 == 1) (micros_at parts 1) (slice_index parts 5) (slice_index parts 6)
+    (slice_index parts 7) (micros_at parts 8))
     else None
 
 -- The bytes begin with the parts of a value after their length in one byte.
@@ -61,7 +65,7 @@ parts_at (len ∷ bytes) = bytes_at len bytes
 abbrev pub sized_at : (List ℕ → Option Value) → List ℕ → Option (Value × List ℕ)
 sized_at value_of bytes = parts_at bytes >>= λ x. (value_of x.0 >>= λ v. Some (v, x.1))
 
--- the number in so many bytes, as a value, and the bytes after it
+-- the number in `count` bytes, as a value, and the bytes after it
 abbrev pub numeric_at : (ℕ → Value) → ℕ → List ℕ → Option (Value × List ℕ)
 numeric_at value_of count bytes = number_at count bytes >>= λ x. Some (value_of x.0, x.1)
 

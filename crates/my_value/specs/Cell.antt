@@ -1,4 +1,4 @@
--- A cell as it stands in a payload, before memory is taken for it.
+-- A cell of a payload, before memory is allocated for it.
 use Rattle.my_value.specs.declared.value.Value.{Value}
 use Rattle.my_value.specs.declared.value.Value.TheVariants.{Bytes}
 use Rattle.my_value.specs.declared.cell.Cell.{Cell}

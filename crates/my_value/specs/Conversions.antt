@@ -1,12 +1,11 @@
 -- What a value converts to.
-use Rattle.std.specs.Prelude.{◌≡◌, ◌≢◌, ℕ, ℤ, pos, ◌^◌, ◌<◌, ◌⊎◌, Bool, if◌then◌else◌, List, [], ◌∷◌, Option, Some, None, IsUtf8, FitsSigned}
-use Rattle.std.proofs.Common.{inl, inr}
+use Rattle.std.specs.Prelude.{◌≡◌, ◌≢◌, ℕ, ℤ, pos, ◌^◌, ◌<◌, Bool, if◌then◌else◌, List, [], ◌∷◌, Option, Some, None, IsUtf8, FitsSigned}
 use Rattle.std.specs.Int.{Width}
 use Rattle.std.specs.Str.Parse.{IsNumeral, without_leading_sign, signed_digits_value}
 use Rattle.my_value.specs.declared.value.Value.{Value}
 use Rattle.my_value.specs.declared.value.Value.TheVariants.{NULL, Bytes, Int, UInt}
 
--- The text is a whole number: a plus or a minus may stand first, then one decimal digit or more, and nothing else.
+-- The text is a whole number: a plus or a minus, or none, then one decimal digit or more, and nothing else.
 pub record IsDecimal (text : List ℕ) (z : ℤ) : Type 0 where
   pub numeral : IsNumeral 10 (without_leading_sign text)
   pub value : signed_digits_value 10 text ≡ z
@@ -22,7 +21,7 @@ IsWhole v z = ⊥
 abbrev pub Becomes : {T : Type 0} → (Value → T → Type 0) → Value → Type 0
 Becomes {T} becomes v = (x : T) × becomes v x
 
--- The value is this whole number, which has no sign and fits so many bits.
+-- The value is this whole number, which has no sign and fits `bits` bits.
 abbrev pub IsUnsigned : ℕ → Value → ℕ → Type 0
 IsUnsigned bits v n = (n < 2 ^ bits) × IsWhole v (pos n)
 
@@ -52,8 +51,3 @@ HoldsText v text = (v ≡ Bytes text) × IsUtf8 text
 abbrev pub IsOptional : {T : Type 0} → (Value → T → Type 0) → Value → Option T → Type 0
 IsOptional becomes v None = v ≡ NULL
 IsOptional becomes v (Some x) = (v ≢ NULL) × becomes v x
-
--- what becomes something converts
-pub optional_converts : {T : Type 0} (converts : Value → Type 0) (becomes : Value → T → Type 0) → ((v : Value) (x : T) → becomes v x → converts v) → (v : Value) (x : Option T) → IsOptional becomes v x → (v ≡ NULL) ⊎ converts v
-optional_converts converts becomes law v None h = inl h
-optional_converts converts becomes law v (Some x) h = inr (law v x h.1)

@@ -3,10 +3,11 @@ pub mod BinaryRow
 pub mod BulkBody
 pub mod Cell
 pub mod CellForm
+pub mod ConversionLaws
 pub mod Conversions
-pub mod ExecuteBody
 pub mod NamedParams
 pub mod ParamValues
+pub mod Parameters
 pub mod Refusals
 pub mod RowConversions
 pub mod RowParts

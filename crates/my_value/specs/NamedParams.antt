@@ -47,7 +47,8 @@ named_by pieces = record { query = all_sent pieces; names = all_names pieces }
 abbrev pub is_mixed : List SqlPiece → Bool
 is_mixed pieces = has_mark pieces && not (length (all_names pieces) == 0)
 
--- The answer to a text of these pieces: names and marks together are refused, exactly; want of memory may come at any time.
+-- What parsing a text of these pieces returns: names and marks together are refused, exactly; out of memory may come at
+-- any time.
 abbrev pub ParsesTo : Result Named ParseFault → List SqlPiece → Type 0
 ParsesTo (Ok named) pieces = (named ≡ named_by pieces) × (is_mixed pieces ≡ false)
 ParsesTo (Err MixedParams) pieces = is_mixed pieces ≡ true

@@ -3,11 +3,18 @@ use Rattle.std.specs.Prelude.{◌≡◌, ℕ, Bool, true, false, List, [], ◌�
 use Rattle.std.specs.Cmp.Lexicographic.{pointwise}
 use Rattle.std.specs.List.{list_any}
 use Rattle.my_value.specs.declared.value.Value.{Value}
-use Rattle.my_value.specs.declared.value.Value.TheVariants.{NULL, Bytes, Int, UInt, FloatBits, DoubleBits, Date, Time}
+use Rattle.my_value.specs.declared.value.Value.TheVariants.{FloatBits, DoubleBits}
 use Rattle.my_value.specs.declared.params.Params.{Params}
 use Rattle.my_value.specs.declared.params.Params.TheVariants.{Empty, Positional, Named}
 use Rattle.my_value.specs.declared.params.ParamsError.{ParamsError}
 use Rattle.my_value.specs.declared.params.ParamsError.TheVariants.{Missing, Kind, NoMemory}
+
+-- The second parameters have the values of the first.
+abbrev pub HasValuesOf : Params → Params → Type 0
+HasValuesOf Empty Empty = Unit {0}
+HasValuesOf (Positional values) (Positional copies) = copies.items ≡ values.items
+HasValuesOf (Named pairs) (Named copies) = copies.items ≡ pairs.items
+HasValuesOf params copy = ⊥
 
 -- the first that is there
 abbrev pub first_of : {T : Type 0} → Option T → Option T → Option T
@@ -43,7 +50,8 @@ abbrev pub sendable_if_filled : Result (List Value) (List ℕ) → Result (List 
 sendable_if_filled (Ok vs) = sendable vs
 sendable_if_filled (Err name) = Err (Missing name)
 
--- The values that are sent, or why none are: a name has no value, the kinds of parameters and text don't fit together, or a value is a float.
+-- The values that are sent, or why none are: a name has no value, the kinds of parameters and text don't fit together,
+-- or a value is a float.
 abbrev pub resolved : Params → List (List ℕ) → Result (List Value) ParamsError
 resolved Empty [] = Ok []
 resolved Empty (name ∷ names) = Err (Missing name)
@@ -52,14 +60,14 @@ resolved (Positional values) (name ∷ names) = Err Kind
 resolved (Named pairs) [] = if length pairs.items == 0 then Ok [] else Err Kind
 resolved (Named pairs) (name ∷ names) = sendable_if_filled (filled (name ∷ names) pairs.items)
 
--- The answer is that one; only want of memory is free.
+-- The result is that one, unless memory ran out.
 abbrev pub ResolvesTo : {A : Type 0} → Result (Vec Value A) ParamsError → Result (List Value) ParamsError → Type 0
 ResolvesTo (Ok v) expected = expected ≡ Ok v.items
 ResolvesTo (Err (Missing name)) expected = expected ≡ Err (Missing name)
 ResolvesTo (Err Kind) expected = expected ≡ Err Kind
 ResolvesTo (Err NoMemory) expected = ⊤
 
--- The answer is each name's value, or the first name without one; only want of memory is free.
+-- The result is each name's value, or the first name without one, unless memory ran out.
 abbrev pub FillsTo : {A : Type 0} → Result (Vec Value A) ParamsError → Result (List Value) (List ℕ) → Type 0
 FillsTo (Ok v) expected = expected ≡ Ok v.items
 FillsTo (Err (Missing name)) expected = expected ≡ Err name

@@ -16,7 +16,7 @@ abbrev pub AreTextCells : List Value → List ℕ → Type 0
 AreTextCells [] bytes = bytes ≡ []
 AreTextCells (v ∷ vs) bytes = (rest : List ℕ) × IsTextCell bytes v rest × AreTextCells vs rest
 
--- The payload, which isn't empty, is a row of so many cells.
+-- The payload, which isn't empty, is a row of `count` cells.
 pub record IsTextRow (count : ℕ) (payload : List ℕ) (cells : List Value) : Type 0 where
   pub count_is : length cells ≡ count
   pub stands : AreTextCells cells payload
@@ -31,7 +31,7 @@ abbrev pub text_cell_at : List ℕ → Option (Value × List ℕ)
 text_cell_at [] = None
 text_cell_at (head ∷ bytes) = if head == 0xFB then Some (NULL, bytes) else text_value_at (head ∷ bytes)
 
--- so many cells, and the bytes after them
+-- the first `count` cells, and the bytes after them
 abbrev pub text_cells_at : ℕ → List ℕ → Option (List Value × List ℕ)
 text_cells_at zero bytes = Some ([], bytes)
 text_cells_at (suc count) bytes = text_cell_at bytes >>= λ x. (text_cells_at count x.1 >>= λ y. Some (x.0 ∷ y.0, y.1))

@@ -1,6 +1,6 @@
 //! Rows of the binary protocol.
 
-ghost use Rattle.std.specs.Prelude.{◌≡◌, ◌↔◌, ◌<◌, ◌^◌, ℕ, IfOk, MatchResult, List, Option, Some, is_some, length};
+ghost use Rattle.std.specs.Prelude.{◌≡◌, ◌<◌, ◌^◌, ℕ, IfOk, MatchResult, List, Option, is_some, length};
 ghost use Rattle.std.specs.Option.{option_map};
 ghost use Rattle.my_frame.specs.Reading.{GivesAs};
 ghost use Rattle.my_reply.specs.declared.column.Column.{Column};
@@ -13,13 +13,12 @@ ghost use Rattle.my_value.specs.BinaryRow.{IsBinaryRow, binary_cells_at, binary_
 use crate::binary_cell::binary_cell;
 use crate::cell::{Cell, own};
 use crate::form::{form_of, has_no_sign};
-use crate::row::{Columns, Row, column_list};
+use crate::row::{Columns, Row, column_list, row_or_error};
 use crate::value::Value;
 use my_frame::numbers::take_bytes;
 use my_frame::{NoMemory, ReadError};
 use my_reply::Column;
 use std::alloc::Global;
-use std::sync::Arc;
 
 // Whether the cell at a place is NULL by the bitmap.
 fn is_null(bitmap: &[u8], place: usize) -> bool
@@ -48,7 +47,8 @@ fn binary_cells<'a>(
     columns: &[Column],
     bytes: &'a [u8],
 ) -> Result<Option<(Vec<Value>, &'a [u8])>, NoMemory>
-    ensures { IfOk result (λ o. option_map (λ x. (x.0.items, x.1.now)) o ≡ binary_cells_at 0 bitmap.now columns.now bytes.now) }
+    ensures { IfOk result (λ o. option_map (λ x. (x.0.items, x.1.now)) o
+        ≡ binary_cells_at 0 bitmap.now columns.now bytes.now) }
 {
     let mut values = Vec::new(alloc);
     let mut rest = bytes;
@@ -78,7 +78,7 @@ fn after_binary_cells<'a>(bitmap: &[u8], columns: &[Column], bytes: &'a [u8]) ->
     Some(rest)
 }
 
-// The bitmap of so many cells after the head of a row, and the bytes after it.
+// The bitmap of `count` cells after the head of a row, and the bytes after it.
 fn bitmap_of(count: usize, payload: &[u8]) -> Option<(&[u8], &[u8])>
     requires { count < 2 ^ 63 }
     ensures { option_map (λ x. (x.0.now, x.1.now)) result ≡ bitmap_at count payload.now }
@@ -89,7 +89,7 @@ fn bitmap_of(count: usize, payload: &[u8]) -> Option<(&[u8], &[u8])>
     }
 }
 
-// The cells of a row, or `None` where the payload is none.
+// The cells of a row, or `None` where the payload isn't one.
 fn binary_row(
     alloc: Global,
     columns: &[Column],
@@ -114,22 +114,8 @@ pub fn read_binary_row(alloc: Global, payload: &[u8], columns: &Columns) -> Resu
         → MatchResult result (λ r. r.cells ≡ cells) (λ e. e ≡ ReadError.NoMemory) }
     ensures columns { IfOk result (λ r. r.columns ≡ columns_of columns.now) }
 {
-    match binary_row(alloc, column_list(columns), payload) {
-        Ok(Some(values)) => {
-            let Ok(columns) = Arc::try_clone(columns) else {
-                return Err(ReadError::NoMemory);
-            };
-            Ok(Row::new(values, columns))
-        }
-        Ok(None) => Err(ReadError::Malformed),
-        Err(NoMemory) => Err(ReadError::NoMemory),
-    }
+    row_or_error(binary_row(alloc, column_list(columns), payload), columns)
 }
-
-/// A payload has at most one list of cells, and it is the one that reading gives.
-pub fn binary_rows_are_read()
-    ensures { (columns : List Column) (payload : List ℕ) (cells : List Value) → (binary_row_at columns payload ≡ Some cells) ↔ IsBinaryRow columns payload cells }
-{}
 
 /// Whether the payload is a row of these columns of the binary protocol.
 pub fn is_binary_row(columns: &[Column], payload: &[u8]) -> bool

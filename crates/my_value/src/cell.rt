@@ -1,4 +1,4 @@
-//! A cell as it stands in a payload.
+//! A cell of a payload, before memory is allocated for it.
 
 ghost use Rattle.std.specs.Prelude.{◌≡◌, IfOk};
 ghost use Rattle.my_value.specs.Cell.{value_of};
@@ -7,7 +7,7 @@ use crate::value::Value;
 use my_frame::{Blob, NoMemory};
 use std::alloc::Global;
 
-/// A value that is still in the payload, or takes no memory.
+/// A value that is still in the payload, or needs no memory.
 #[derive(Drop)]
 pub enum Cell<'a> {
     Lent(&'a [u8]),

@@ -3,18 +3,44 @@
 ghost use Rattle.std.specs.Prelude.{◌≡◌, IfOk, IfErr};
 ghost use Rattle.my_value.specs.Refusals.{Refuses};
 
+use crate::shown::Lossy;
 use crate::value::Value;
+use my_frame::NoMemory;
 use std::alloc::Global;
-use thiserror::Error;
+use std::fmt;
 
 /// Why a value wasn't converted.
-#[derive(Debug, Drop, Error)]
+#[derive(Debug, Drop, PartialEq, Eq)]
 pub enum FromValueError {
     /// The value, which doesn't convert to the type that was asked for.
-    #[error("the value doesn't convert: {0:?}")]
     Value(Value),
-    #[error("out of memory")]
     NoMemory,
+}
+
+impl fmt::Display for FromValueError {
+    fn fmt<W: fmt::Write>(&self, f: &mut fmt::Formatter<W>) -> fmt::Result {
+        match self {
+            FromValueError::Value(Value::Bytes(bytes)) => {
+                write!(f, "the value doesn't convert: {}", Lossy(bytes.as_slice()))
+            }
+            FromValueError::Value(value) => write!(f, "the value doesn't convert: {value:?}"),
+            FromValueError::NoMemory => f.write_str("out of memory"),
+        }
+    }
+}
+
+impl std::error::Error for FromValueError {}
+
+impl FromValueError {
+    /// A second value of the same error.
+    pub fn copy(&self, alloc: Global) -> Result<FromValueError, NoMemory>
+        ensures { IfOk result (λ copy. copy ≡ self.now) }
+    {
+        match self {
+            FromValueError::Value(value) => Ok(FromValueError::Value(value.copy(alloc)?)),
+            FromValueError::NoMemory => Ok(FromValueError::NoMemory),
+        }
+    }
 }
 
 /// A type that values of cells convert to.

@@ -5,7 +5,7 @@ ghost use Rattle.my_value.specs.SqlText.{IsSplit, SqlPiece, seen, split};
 ghost use Rattle.my_value.specs.NamedParams.{ParsesTo, all_names, all_sent, has_mark, is_mark, names_of, sent_of};
 
 use crate::sql_text::{Piece, front_piece};
-use my_frame::{Blob, NoMemory};
+use my_frame::{Blob, NoMemory, copy_items};
 use std::alloc::Global;
 use std::marker::Model;
 use thiserror::Error;
@@ -22,7 +22,7 @@ pub enum ParseFault {
 
 /// A text that can be prepared, and the names of its parameters.
 ///
-/// A name is `:` and a word of `_`, `a` to `z` and digits that begins with no digit. It stands outside of
+/// A name is `:` and a word of `_`, `a` to `z` and digits that begins with no digit. It is outside of
 /// `'..'`, `".."` and backtick quotes and of comments (`#` and `-- ` to the line's end, `/* .. */`). A
 /// backslash inside `'` and `"` skips one byte; what isn't closed runs to the end. `/*!` and `/*+` begin no
 /// comment. Each name is replaced by `?`.
@@ -51,7 +51,8 @@ struct Gathered {
 // Adds a piece.
 fn add(alloc: Global, gathered: &mut Gathered, piece: Piece<'_>) -> Result<(), NoMemory>
     ensures query { OnOk result (gathered.new.query.items ≡ gathered.old.query.items ++ sent_of (seen piece.entry)) }
-    ensures params { OnOk result (gathered.new.params.items ≡ gathered.old.params.items ++ names_of (seen piece.entry)) }
+    ensures params { OnOk result (gathered.new.params.items
+        ≡ gathered.old.params.items ++ names_of (seen piece.entry)) }
     ensures marked { OnOk result (gathered.new.marked ≡ (gathered.old.marked || is_mark (seen piece.entry))) }
 {
     match piece {
@@ -69,7 +70,7 @@ fn add(alloc: Global, gathered: &mut Gathered, piece: Piece<'_>) -> Result<(), N
     Ok(())
 }
 
-// What stands in a text.
+// What is in a text.
 fn gather(alloc: Global, text: &[u8]) -> Result<Gathered, NoMemory>
     ensures query { IfOk result (λ g. g.query.items ≡ all_sent (split text.now)) }
     ensures params { IfOk result (λ g. g.params.items ≡ all_names (split text.now)) }
@@ -110,6 +111,16 @@ impl ParsedNamedParams {
         })
     }
 
+    /// A second value of the same text and names.
+    pub fn copy(&self, alloc: Global) -> Result<ParsedNamedParams, NoMemory>
+        ensures { IfOk result (λ copy. copy ≡ self.now) }
+    {
+        Ok(ParsedNamedParams {
+            query: self.query.copy(alloc)?,
+            params: copy_items(alloc, self.params.as_slice())?,
+        })
+    }
+
     /// The text with `?` in the place of each name.
     pub fn query(&self) -> &[u8]
         ensures { result.now ≡ self.now.query }
@@ -124,8 +135,3 @@ impl ParsedNamedParams {
         self.params.as_slice()
     }
 }
-
-/// Each text falls into pieces in one way.
-pub fn texts_are_split()
-    ensures { (text : List ℕ) (pieces : List SqlPiece) → IsSplit pieces text ↔ (split text ≡ pieces) }
-{}

@@ -1,18 +1,19 @@
 //! Parameters of a statement.
 
-ghost use Rattle.std.specs.Prelude.{◌≡◌, [], ◌∷◌, ◌++◌, OnOk, Option, nat_eq, length};
+ghost use Rattle.std.specs.Prelude.{◌≡◌, [], ◌∷◌, ◌++◌, OnOk, IfOk, Option, nat_eq, length};
 ghost use Rattle.std.specs.Option.{option_copied};
 ghost use Rattle.std.specs.Cmp.Lexicographic.{pointwise};
 ghost use Rattle.std.specs.List.{list_any};
-ghost use Rattle.my_value.specs.ParamValues.{FillsTo, MissesOrFails, ResolvesTo, filled, is_float, last_value, resolved, sendable};
+ghost use Rattle.my_value.specs.ParamValues.{FillsTo, HasValuesOf, MissesOrFails, ResolvesTo, filled, is_float, last_value, resolved, sendable};
 
+use crate::shown::Lossy;
 use crate::value::Value;
-use my_frame::{Blob, NoMemory};
+use my_frame::{Blob, NoMemory, copy_items};
 use std::alloc::Global;
-use thiserror::Error;
+use std::fmt;
 
-/// The parameters that a caller hands over with a statement.
-#[derive(Debug, Drop)]
+/// The parameters that a caller gives with a statement.
+#[derive(Debug, Drop, PartialEq, Eq)]
 pub enum Params {
     Empty,
     /// One value for each `?`.
@@ -21,17 +22,67 @@ pub enum Params {
     Named(Vec<(Blob, Value)>),
 }
 
+// A second list of these pairs.
+fn copy_pairs(alloc: Global, pairs: &[(Blob, Value)]) -> Result<Vec<(Blob, Value)>, NoMemory>
+    ensures { IfOk result (λ copies. copies.items ≡ pairs.now) }
+{
+    let mut copies = Vec::new(alloc);
+    for (name, value) in pairs {
+        copies.push((name.copy(alloc)?, value.copy(alloc)?))?;
+    }
+    Ok(copies)
+}
+
+impl Params {
+    /// Second parameters with the same values.
+    pub fn copy(&self, alloc: Global) -> Result<Params, NoMemory>
+        ensures { IfOk result (HasValuesOf self.now) }
+    {
+        match self {
+            Params::Empty => Ok(Params::Empty),
+            Params::Positional(values) => {
+                Ok(Params::Positional(copy_items(alloc, values.as_slice())?))
+            }
+            Params::Named(pairs) => Ok(Params::Named(copy_pairs(alloc, pairs.as_slice())?)),
+        }
+    }
+}
+
 /// Why parameters aren't sent.
-#[derive(Debug, Drop, Error)]
+#[derive(Debug, Drop, PartialEq, Eq)]
 pub enum ParamsError {
     /// The first name of the text that has no value.
-    #[error("no value for the parameter {0:?}")]
     Missing(Blob),
     /// Parameters by place for a text with names, or the other way round, or a float.
-    #[error("parameters of another kind than the text's")]
     Kind,
-    #[error("out of memory")]
     NoMemory,
+}
+
+impl fmt::Display for ParamsError {
+    fn fmt<W: fmt::Write>(&self, f: &mut fmt::Formatter<W>) -> fmt::Result {
+        match self {
+            ParamsError::Missing(name) => {
+                write!(f, "no value for the parameter {}", Lossy(name.as_slice()))
+            }
+            ParamsError::Kind => f.write_str("parameters of another kind than the text's"),
+            ParamsError::NoMemory => f.write_str("out of memory"),
+        }
+    }
+}
+
+impl std::error::Error for ParamsError {}
+
+impl ParamsError {
+    /// A second value of the same error.
+    pub fn copy(&self, alloc: Global) -> Result<ParamsError, NoMemory>
+        ensures { IfOk result (λ copy. copy ≡ self.now) }
+    {
+        match self {
+            ParamsError::Missing(name) => Ok(ParamsError::Missing(name.copy(alloc)?)),
+            ParamsError::Kind => Ok(ParamsError::Kind),
+            ParamsError::NoMemory => Ok(ParamsError::NoMemory),
+        }
+    }
 }
 
 // Whether a value is a float, which isn't sent.

@@ -1,7 +1,8 @@
 //! Conversion to truth values, text, bytes, and to what may be missing.
 
 ghost use Rattle.std.specs.Prelude.{◌≡◌, ◌⊎◌, Option, IsUtf8, string_bytes};
-ghost use Rattle.my_value.specs.Conversions.{Becomes, HoldsBytes, HoldsText, IsOptional, IsTruth, optional_converts};
+ghost use Rattle.my_value.specs.Conversions.{Becomes, HoldsBytes, HoldsText, IsOptional, IsTruth};
+ghost use Rattle.my_value.specs.ConversionLaws.{optional_converts};
 ghost use Rattle.my_value.specs.declared.value.Value.TheVariants as values;
 
 use crate::conversion::{FromValue, FromValueError};

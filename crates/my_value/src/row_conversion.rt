@@ -9,13 +9,25 @@ use std::alloc::Global;
 use thiserror::Error;
 
 /// Why a row wasn't converted.
-#[derive(Debug, Drop, Error)]
+#[derive(Debug, Drop, PartialEq, Eq, Error)]
 pub enum FromRowError {
     /// The row, which doesn't convert to the type that was asked for.
     #[error("the row doesn't convert: {0:?}")]
     Row(Row),
     #[error("out of memory")]
     NoMemory,
+}
+
+impl FromRowError {
+    /// A second value of the same error.
+    pub fn copy(&self, alloc: Global) -> Result<FromRowError, NoMemory>
+        ensures { IfOk result (λ copy. copy ≡ self.now) }
+    {
+        match self {
+            FromRowError::Row(row) => Ok(FromRowError::Row(row.copy(alloc)?)),
+            FromRowError::NoMemory => Ok(FromRowError::NoMemory),
+        }
+    }
 }
 
 /// A type that rows convert to.

@@ -2,21 +2,15 @@
 
 ghost use Rattle.std.specs.Prelude.{◌≡◌, ◌+◌, ◌-◌, ◌<◌, ◌≤◌, ◌^◌, ◌++◌, [], ◌∷◌, List, OnOk, length, min};
 ghost use Rattle.my_frame.specs.Writing.{len_bytes};
-ghost use Rattle.my_value.specs.Sending.{date_len, date_parts, sized_bytes, time_len, time_parts, type_bytes, type_of, value_bytes, values_len};
+ghost use Rattle.my_value.specs.Sending.{date_len, date_parts, sized_bytes, time_len, time_parts, type_of, value_bytes, values_len};
 
 use crate::value::Value;
+use my_command::statement::ParameterType;
 use my_frame::NoMemory;
 use my_frame::writing::{put_text, put_u32, put_u64};
 
-/// The type of a parameter: the number of the type, and 0x80 where a number has no sign, else 0.
-#[derive(Clone, Copy, Debug, PartialEq, Eq)]
-pub struct ParamType {
-    pub kind: u8,
-    pub flag: u8,
-}
-
 /// The type that a value is sent with.
-pub fn type_of(value: &Value) -> ParamType
+pub fn type_of(value: &Value) -> ParameterType
     ensures { result ≡ type_of value.now }
 {
     let (kind, flag) = match value {
@@ -29,19 +23,10 @@ pub fn type_of(value: &Value) -> ParamType
         Value::Date(..) => (12, 0),
         Value::Time(..) => (11, 0),
     };
-    ParamType { kind, flag }
+    ParameterType { kind, flag }
 }
 
-/// Writes a parameter's type.
-pub fn put_type(out: &mut Vec<u8>, param_type: ParamType) -> Result<(), NoMemory>
-    ensures { OnOk result (out.new.items ≡ out.old.items ++ type_bytes param_type) }
-{
-    out.push(param_type.kind)?;
-    out.push(param_type.flag)?;
-    Ok(())
-}
-
-// So many bytes of the parts, after their number.
+// Writes the first `len` parts after their number.
 fn put_parts(out: &mut Vec<u8>, parts: &[u8], len: usize) -> Result<(), NoMemory>
     requires small { len < 256 }
     requires within { len ≤ length parts.now }
@@ -202,7 +187,7 @@ fn value_len(value: &Value) -> u64
     }
 }
 
-/// How many bytes the values take; at most 2^64 - 1, where it stands still.
+/// How many bytes the values take, or 2^64 - 1 where they take more.
 pub fn values_len(values: &[Value]) -> u64
     ensures { result ≡ min (values_len values.now) (2 ^ 64 - 1) }
 {

@@ -2,8 +2,9 @@
 
 ghost use Rattle.std.specs.Prelude.{◌≡◌, ◌⊎◌, string_bytes};
 ghost use Rattle.std.specs.Int.{w8, w16, w32, w64};
-ghost use Rattle.my_value.specs.Conversions.{Becomes, HoldsBytes, HoldsText, IsOptional, IsSigned, IsTruth, IsUnsigned, optional_converts};
-ghost use Rattle.my_value.specs.RowConversions.{OneCell, one_becomes, one_converts};
+ghost use Rattle.my_value.specs.Conversions.{Becomes, HoldsBytes, HoldsText, IsOptional, IsSigned, IsTruth, IsUnsigned};
+ghost use Rattle.my_value.specs.ConversionLaws.{one_becomes, one_converts, optional_converts};
+ghost use Rattle.my_value.specs.RowConversions.{OneCell};
 ghost use Rattle.my_value.specs.declared.value.Value.TheVariants as values;
 
 use crate::conversion::FromValue;
@@ -162,7 +163,8 @@ impl<T: FromValue> FromRow for Option<T> {
 
     ghost row_becomes = { λ r x. OneCell (λ v. IsOptional T.becomes v x) r.cells };
 
-    ghost only_what_converts = { λ r x h. one_converts (λ v. (v ≡ values.NULL) ⊎ T.converts v) (IsOptional T.becomes) (optional_converts T.converts T.becomes T.only_what_converts) r.cells x h };
+    ghost only_what_converts = { λ r x h. one_converts (λ v. (v ≡ values.NULL) ⊎ T.converts v) (IsOptional T.becomes)
+        (optional_converts T.converts T.becomes T.only_what_converts) r.cells x h };
 
     fn from_row_opt(alloc: Global, row: Row) -> Result<Option<T>, FromRowError> {
         one_cell(alloc, row)

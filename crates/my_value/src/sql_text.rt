@@ -7,7 +7,7 @@ ghost use Rattle.my_value.specs.SqlText.{block_len, comment_len, dashes_len, is_
 /// A piece of an SQL text.
 #[derive(Clone, Copy)]
 pub enum Piece<'a> {
-    /// A quote or a comment, which is sent as it stands.
+    /// A quote or a comment, which is sent as it is.
     Kept(&'a [u8]),
     /// A byte outside quotes and comments.
     Plain(u8),
@@ -107,7 +107,7 @@ fn slash_len(bytes: &[u8]) -> usize
     }
 }
 
-// The length of the quote or comment at the front, 0 where none stands there.
+// The length of the quote or comment at the front, 0 where there is none.
 fn skip_len(text: &[u8]) -> usize
     ensures len { result ≡ skip_len text.now }
     ensures within { result ≤ length text.now }
@@ -141,7 +141,7 @@ fn name_end(bytes: &[u8]) -> Option<usize>
     bytes.iter().position(|b| !continues_name(*b))
 }
 
-// The length of the name at the front, 0 where none stands there.
+// The length of the name at the front, 0 where there is none.
 fn name_len(bytes: &[u8]) -> usize
     ensures len { result ≡ name_len bytes.now }
     ensures within { result ≤ length bytes.now }
@@ -160,7 +160,7 @@ fn name_len(bytes: &[u8]) -> usize
     }
 }
 
-// What stands outside quotes and comments.
+// What is outside quotes and comments.
 fn outside(first: u8, bytes: &[u8]) -> (Piece<'_>, &[u8])
     ensures piece { seen result.0 ≡ (outside_at first bytes.now).0 }
     ensures rest { result.1.now ≡ (outside_at first bytes.now).1 }

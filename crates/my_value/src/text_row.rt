@@ -1,6 +1,6 @@
 //! Rows of the text protocol.
 
-ghost use Rattle.std.specs.Prelude.{◌≡◌, ◌↔◌, ℕ, IfOk, MatchResult, List, Option, Some, is_some, length};
+ghost use Rattle.std.specs.Prelude.{◌≡◌, ℕ, IfOk, MatchResult, List, Option, is_some, length};
 ghost use Rattle.std.specs.Option.{option_map};
 ghost use Rattle.my_value.specs.RowParts.{columns_of};
 ghost use Rattle.my_value.specs.declared.value.Value.{Value};
@@ -9,12 +9,11 @@ ghost use Rattle.my_value.specs.Cell.{value_of};
 ghost use Rattle.my_value.specs.TextRow.{IsTextRow, following, text_cell_at, text_cells_at, text_row_at};
 
 use crate::cell::{Cell, own};
-use crate::row::{Columns, Row, column_count};
+use crate::row::{Columns, Row, column_count, row_or_error};
 use crate::value::Value;
 use my_frame::numbers::take_text;
 use my_frame::{NoMemory, ReadError};
 use std::alloc::Global;
-use std::sync::Arc;
 
 // The cell at the front, and the bytes after it.
 fn text_cell(bytes: &[u8]) -> Option<(Cell<'_>, &[u8])>
@@ -30,7 +29,7 @@ fn text_cell(bytes: &[u8]) -> Option<(Cell<'_>, &[u8])>
     }
 }
 
-// So many cells, and the bytes after them.
+// The first `count` cells, and the bytes after them.
 fn text_cells(
     alloc: Global,
     count: usize,
@@ -52,7 +51,7 @@ fn text_cells(
     Ok(Some((values, rest)))
 }
 
-// The bytes after so many cells.
+// The bytes after `count` cells.
 fn after_text_cells(count: usize, bytes: &[u8]) -> Option<&[u8]>
     ensures { option_map (λ x. x.now) result ≡ following (text_cells_at count bytes.now) }
 {
@@ -64,7 +63,7 @@ fn after_text_cells(count: usize, bytes: &[u8]) -> Option<&[u8]>
     Some(rest)
 }
 
-// The cells of a row, or `None` where the payload is none.
+// The cells of a row, or `None` where the payload isn't one.
 fn text_row(alloc: Global, count: usize, payload: &[u8]) -> Result<Option<Vec<Value>>, NoMemory>
     ensures { IfOk result (λ o. option_map (λ v. v.items) o ≡ text_row_at count payload.now) }
 {
@@ -85,24 +84,10 @@ pub fn read_text_row(alloc: Global, payload: &[u8], columns: &Columns) -> Result
         → MatchResult result (λ r. r.cells ≡ cells) (λ e. e ≡ ReadError.NoMemory) }
     ensures columns { IfOk result (λ r. r.columns ≡ columns_of columns.now) }
 {
-    match text_row(alloc, column_count(columns), payload) {
-        Ok(Some(values)) => {
-            let Ok(columns) = Arc::try_clone(columns) else {
-                return Err(ReadError::NoMemory);
-            };
-            Ok(Row::new(values, columns))
-        }
-        Ok(None) => Err(ReadError::Malformed),
-        Err(NoMemory) => Err(ReadError::NoMemory),
-    }
+    row_or_error(text_row(alloc, column_count(columns), payload), columns)
 }
 
-/// A payload has at most one list of cells, and it is the one that reading gives.
-pub fn text_rows_are_read()
-    ensures { (count : ℕ) (payload : List ℕ) (cells : List Value) → (text_row_at count payload ≡ Some cells) ↔ IsTextRow count payload cells }
-{}
-
-/// Whether the payload is a row of so many cells of the text protocol.
+/// Whether the payload is a row of `count` cells of the text protocol.
 pub fn is_text_row(count: usize, payload: &[u8]) -> bool
     ensures { result ≡ is_some (text_row_at count payload.now) }
 {

@@ -1,7 +1,8 @@
 //! Conversion of rows of one cell, and to tuples.
 
 ghost use Rattle.std.specs.Prelude.{◌≡◌, ◌<◌, IfOk, IfErr, MatchOption, Option, slice_get, Some};
-ghost use Rattle.my_value.specs.RowConversions.{FourCells, OneCell, RefusesRow, ThreeCells, TwoCells, four_convert, one_converts, three_convert, two_convert};
+ghost use Rattle.my_value.specs.RowConversions.{FourCells, OneCell, RefusesRow, ThreeCells, TwoCells};
+ghost use Rattle.my_value.specs.ConversionLaws.{four_convert, one_converts, three_convert, two_convert};
 
 use crate::conversion::{FromValue, FromValueError};
 use crate::row::Row;
@@ -82,7 +83,8 @@ impl<A: FromValue + Drop, B: FromValue> FromRow for (A, B) {
 
     ghost row_becomes = { λ r x. TwoCells (λ v. A.becomes v x.0) (λ v. B.becomes v x.1) r.cells };
 
-    ghost only_what_converts = { λ r x h. two_convert A.converts A.becomes A.only_what_converts B.converts B.becomes B.only_what_converts r.cells x.0 x.1 h };
+    ghost only_what_converts = { λ r x h. two_convert A.converts A.becomes A.only_what_converts
+        B.converts B.becomes B.only_what_converts r.cells x.0 x.1 h };
 
     fn from_row_opt(alloc: Global, row: Row) -> Result<(A, B), FromRowError> {
         match two_cells(alloc, row.cells()) {
@@ -118,9 +120,12 @@ fn three_cells<A: FromValue + Drop, B: FromValue + Drop, C: FromValue>(
 impl<A: FromValue + Drop, B: FromValue + Drop, C: FromValue> FromRow for (A, B, C) {
     ghost row_converts = { λ r. ThreeCells A.converts B.converts C.converts r.cells };
 
-    ghost row_becomes = { λ r x. ThreeCells (λ v. A.becomes v x.0) (λ v. B.becomes v x.1) (λ v. C.becomes v x.2) r.cells };
+    ghost row_becomes = { λ r x. ThreeCells (λ v. A.becomes v x.0) (λ v. B.becomes v x.1) (λ v. C.becomes v x.2)
+        r.cells };
 
-    ghost only_what_converts = { λ r x h. three_convert A.converts A.becomes A.only_what_converts B.converts B.becomes B.only_what_converts C.converts C.becomes C.only_what_converts r.cells x.0 x.1 x.2 h };
+    ghost only_what_converts = { λ r x h. three_convert A.converts A.becomes A.only_what_converts
+        B.converts B.becomes B.only_what_converts C.converts C.becomes C.only_what_converts
+        r.cells x.0 x.1 x.2 h };
 
     fn from_row_opt(alloc: Global, row: Row) -> Result<(A, B, C), FromRowError> {
         match three_cells(alloc, row.cells()) {
@@ -136,7 +141,8 @@ fn four_cells<A: FromValue + Drop, B: FromValue + Drop, C: FromValue + Drop, D: 
     cells: &[Value],
 ) -> Result<Option<(A, B, C, D)>, NoMemory>
     ensures { IfOk result (λ o. MatchOption o (FourCells A.converts B.converts C.converts D.converts cells.now → ⊥)
-        (λ x. FourCells (λ v. A.becomes v x.0) (λ v. B.becomes v x.1) (λ v. C.becomes v x.2) (λ v. D.becomes v x.3) cells.now)) }
+        (λ x. FourCells (λ v. A.becomes v x.0) (λ v. B.becomes v x.1) (λ v. C.becomes v x.2)
+        (λ v. D.becomes v x.3) cells.now)) }
 {
     let [a, b, c, d] = cells else {
         return Ok(None);
@@ -160,9 +166,12 @@ impl<A: FromValue + Drop, B: FromValue + Drop, C: FromValue + Drop, D: FromValue
     for (A, B, C, D) {
     ghost row_converts = { λ r. FourCells A.converts B.converts C.converts D.converts r.cells };
 
-    ghost row_becomes = { λ r x. FourCells (λ v. A.becomes v x.0) (λ v. B.becomes v x.1) (λ v. C.becomes v x.2) (λ v. D.becomes v x.3) r.cells };
+    ghost row_becomes = { λ r x. FourCells (λ v. A.becomes v x.0) (λ v. B.becomes v x.1) (λ v. C.becomes v x.2)
+        (λ v. D.becomes v x.3) r.cells };
 
-    ghost only_what_converts = { λ r x h. four_convert A.converts A.becomes A.only_what_converts B.converts B.becomes B.only_what_converts C.converts C.becomes C.only_what_converts D.converts D.becomes D.only_what_converts r.cells x.0 x.1 x.2 x.3 h };
+    ghost only_what_converts = { λ r x h. four_convert A.converts A.becomes A.only_what_converts
+        B.converts B.becomes B.only_what_converts C.converts C.becomes C.only_what_converts
+        D.converts D.becomes D.only_what_converts r.cells x.0 x.1 x.2 x.3 h };
 
     fn from_row_opt(alloc: Global, row: Row) -> Result<(A, B, C, D), FromRowError> {
         match four_cells(alloc, row.cells()) {

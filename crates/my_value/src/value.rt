@@ -2,14 +2,14 @@
 
 ghost use Rattle.std.specs.Prelude.{◌≡◌, IfOk};
 
-use my_frame::{Blob, NoMemory};
+use my_frame::{Blob, Copied, NoMemory};
 use std::alloc::Global;
 
-/// A value as the server and the client hand it over.
-#[derive(Debug, Drop)]
+/// A value as the server and the client send it. Floats are kept and compared by their bits.
+#[derive(Debug, Drop, PartialEq, Eq)]
 pub enum Value {
     NULL,
-    /// Bytes, text among them, as they stand.
+    /// Bytes, text among them, as they were received.
     Bytes(Blob),
     Int(i64),
     UInt(u64),
@@ -42,5 +42,11 @@ impl Value {
                 *negative, *days, *hours, *minutes, *seconds, *micros,
             )),
         }
+    }
+}
+
+impl Copied for Value {
+    fn copy(&self, alloc: Global) -> Result<Value, NoMemory> {
+        Value::copy(self, alloc)
     }
 }

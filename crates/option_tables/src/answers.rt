@@ -1,4 +1,4 @@
-//! What options answer: whether their host is the machine itself, what a client says that it can do, when a
+//! What getters return: whether the host is the machine itself, the capabilities of a client, when a
 //! connection of a pool ends, and what a transaction begins with.
 
 use my_opts::{

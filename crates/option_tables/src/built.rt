@@ -1,4 +1,4 @@
-//! Options that are built by calls, with what is told of them and where they lead.
+//! Options that are built by calls, each as a line, with their target.
 
 use crate::line::line_of_owned;
 use my_frame::NoMemory;
@@ -29,13 +29,13 @@ enum Case {
     Pool,
     /// A URL's, with numbers past their limits.
     Limited,
-    /// With what a URL sets too: its line stands beside that URL.
+    /// With what a URL sets too: its line is beside that URL.
     Mixed,
     /// With addresses of which the last is the machine itself.
     Known,
 }
 
-/// Options, what is told of them, and their target.
+/// Options, their line, and their target.
 const BUILT: &[(Case, &str, &str)] = &[
     (
         Case::Default,

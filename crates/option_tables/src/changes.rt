@@ -20,7 +20,7 @@ const NO_CHANGE: Change = Change {
     db_name: None,
 };
 
-/// Changes of `mysql://u@h/d`, whether each changes something, and what is told of the options then.
+/// Changes of `mysql://u@h/d`, whether each changes something, and the line of the options then.
 const CHANGES: &[(Change, bool, &str)] = &[
     (NO_CHANGE, false, "h 3306 user=u db=d"),
     (

@@ -1,5 +1,5 @@
-//! Tables of options: what URLs and builders give, and what is told of it. The expected values stand in worked
-//! examples and in the public pages of the protocol. This crate has tests alone.
+//! Tables of options: what URLs and builders give, and what options return. The expected values are worked examples and
+//! those of the public pages of the protocol. This crate has tests alone.
 #![tactic(auto)]
 
 #[cfg(test)]
@@ -10,5 +10,7 @@ mod built;
 mod changes;
 #[cfg(test)]
 mod line;
+#[cfg(test)]
+mod refusals;
 #[cfg(test)]
 mod urls;

@@ -7,7 +7,7 @@ use std::alloc::Global;
 use std::process::Abort;
 use std::test::Fail;
 
-/// A line for each URL: the URL, and what is told of it.
+/// A line for each URL: the URL, and the line of its options or of its refusal.
 const URLS: &str = "\
 mysql://localhost/db?pool_max=5 -> InvalidPoolConstraints 10 5
 mysql://localhost/foo?bar=baz -> UnknownParameter bar
@@ -171,7 +171,7 @@ fn told_refusal(rt: &impl Abort, alloc: Global, error: UrlError) -> Result<Strin
     Ok(refusal(alloc, &error)?)
 }
 
-/// What is told of a URL.
+/// The line of a URL's options, or of its refusal.
 fn told(rt: &impl Abort, alloc: Global, url: &str) -> Result<String, Fail> {
     assert!(rt; url.len() <= 1000);
     match Opts::from_url(alloc, url) {

@@ -3,4 +3,4 @@ use Rattle.my_command.specs.Client.Statement.{null_bytes}
 use Rattle.my_command.proofs.statement.put_bitmap.Given as goal
 
 abbrev pub invariant-loop : goal.invariant-loop
-invariant-loop l = (l.out.items ≡ l.fn.out.items ++ null_bytes l.parameters l.counter) × (l.rest ≡ drop (8 * l.counter) l.parameters)
+invariant-loop l = (l.out.items ≡ l.fn.out.items ++ null_bytes l.heads l.counter) × (l.rest ≡ drop (8 * l.counter) l.heads)

@@ -1,7 +1,6 @@
 use Rattle.std.proofs.Common.{◌≡◌, ◌++◌, take}
-use Rattle.std.specs.List.{flat_map}
-use Rattle.my_command.specs.Client.Statement.{cell_bytes}
+use Rattle.my_command.specs.Client.Statement.{row_bytes}
 use Rattle.my_command.proofs.statement.put_cells.Given as goal
 
 abbrev pub invariant-loop-cell : goal.invariant-loop-cell
-invariant-loop-cell l = l.out.items ≡ l.fn.out.items ++ flat_map (cell_bytes) (take l.cell-index l.cells)
+invariant-loop-cell l = l.out.items ≡ l.fn.out.items ++ row_bytes (take l.cell-index l.cells)

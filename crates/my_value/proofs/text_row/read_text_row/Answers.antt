@@ -1,11 +1,20 @@
-use Rattle.my_value.proofs.TextRowLaws.{read_found, read_only, read_none}
+use Rattle.std.proofs.Common.{List, length}
+use Rattle.my_value.specs.declared.value.Value.{Value}
+use Rattle.my_value.specs.RowParts.{columns_of}
+use Rattle.my_value.specs.TextRow.{IsTextRow}
+use Rattle.my_value.proofs.RowLaws.{row_exact, row_found, row_only}
+use Rattle.my_value.proofs.TextRowLaws.{text_row_found, text_row_again}
 use Rattle.my_value.proofs.text_row.read_text_row.Goals as goal
 
-pub returns-in-Ok-clause-found : goal.returns-in-Ok-clause-found
-returns-in-Ok-clause-found c = read_found _ _ _ _ (rw (c.in-Ok-Some.field-0-is, c.column_count.ensures) at c.in-Ok-Some.ensures) c.new.ensures.cells
+pub returns-clause-exact : goal.returns-clause-exact
+returns-clause-exact c = row_exact _ _ _ (rw c.column_count.ensures at c.text_row.ensures) c.row_or_error.ensures.cells
 
-pub returns-in-Ok-clause-only : goal.returns-in-Ok-clause-only
-returns-in-Ok-clause-only c = read_only _ _ _ _ (rw (c.in-Ok-Some.field-0-is, c.column_count.ensures) at c.in-Ok-Some.ensures) c.new.ensures.cells
+pub returns-clause-found : goal.returns-clause-found
+returns-clause-found c =
+    let Is : List Value → Type 0 = λ cells. IsTextRow (length (columns_of c.args.columns.now)) c.args.payload.now cells in
+    row_found Is _ (text_row_found (length (columns_of c.args.columns.now)) c.args.payload.now) _ (returns-clause-exact c)
 
-pub returns-in-Ok-None-clause-only : goal.returns-in-Ok-None-clause-only
-returns-in-Ok-None-clause-only c = read_none _ _ (rw (c.in-Ok-None.field-0-is, c.column_count.ensures) at c.in-Ok-None.ensures)
+pub returns-clause-only : goal.returns-clause-only
+returns-clause-only c =
+    let Is : List Value → Type 0 = λ cells. IsTextRow (length (columns_of c.args.columns.now)) c.args.payload.now cells in
+    row_only Is _ (text_row_again (length (columns_of c.args.columns.now)) c.args.payload.now) _ (returns-clause-exact c)

@@ -1,5 +1,0 @@
-use Rattle.my_value.proofs.WrittenRowLaws.{text_row_read_back}
-use Rattle.my_value.proofs.written_row.written_text_rows_are_read.Goals as goal
-
-pub returns : goal.returns
-returns c = text_row_read_back

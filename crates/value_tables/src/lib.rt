@@ -1,0 +1,15 @@
+//! Tables of values: rows, conversions and parameters by the protocol's worked examples. This crate has tests alone.
+#![tactic(auto)]
+
+#[cfg(test)]
+mod conversions;
+#[cfg(test)]
+mod made;
+#[cfg(test)]
+mod names;
+#[cfg(test)]
+mod parameters;
+#[cfg(test)]
+mod rows;
+#[cfg(test)]
+mod texts;
