@@ -8,7 +8,7 @@ use Rattle.my_pool_core.specs.State.{State}
 use Rattle.my_pool_core.specs.Events.{new_pool}
 use Rattle.my_pool_core.specs.Steps.{may, step, AllMay, after}
 use Rattle.my_pool_core.specs.Sound.{IsSound, IsCovered}
-use Rattle.my_pool_core.proofs.Opening.{sound-request, sound-close}
+use Rattle.my_pool_core.proofs.Kept.Opening.{sound-request, sound-close}
 use Rattle.my_pool_core.proofs.Kept.{sound-poll-request, sound-cancel, sound-ready, sound-failed, sound-give-back, sound-detach, sound-take-returned, sound-decide, sound-done, sound-check-ttl}
 use Rattle.my_pool_core.proofs.Covering.{covered-request, covered-poll-request, covered-cancel, covered-ready, covered-failed, covered-give-back, covered-detach, covered-take-returned, covered-decide, covered-done, covered-check-ttl}
 

@@ -1,4 +1,5 @@
 -- Each event of an open pool leaves it covered.
+pub mod Fronts
 use Rattle.std.proofs.Common.{◌≡◌, ℕ, ◌+◌, ◌-◌, ◌≤◌, ◌<◌, Bool, true, false, cond, Option, Some, None, List, [], ◌∷◌, ◌++◌, length, refl, sym, ap, ◌∙◌, arith, subst, length-append, max, inl, inr, ◌⊎◌}
 use Rattle.std.specs.Prelude.{find, ◌==◌, ◌&&◌, ◌||◌, not, nat_le, nat_lt, if◌then◌else◌}
 use Rattle.std.specs.List.{list_any}
@@ -19,15 +20,15 @@ use Rattle.my_pool_core.specs.State.{State}
 use Rattle.my_pool_core.specs.Events.{Polled, Decided, is_at_end, request, may_poll, queued, sought, poll_request, is_full, has_waited, is_live, may_cancel, cancel_standing, cancel_found, cancel, creation_failed, may_settle, ready, let_go, failed, may_give_back, give_back, detach, found_next, take_returned, may_decide, resting, keep, decide, may_done, done, check_ttl, above_min, unestablished, dirty_return, outlived, being_reset, superfluous, cleanup_failed}
 use Rattle.my_pool_core.specs.Sound.{IsSound, IsCovered, woken_first, is_unmarked}
 use Rattle.my_pool_core.proofs.Finding.{one, count-without-le, count-change, count-found, count-push, count-append}
-use Rattle.my_pool_core.proofs.Fewer.{move-count}
-use Rattle.my_pool_core.proofs.Quiet.{IsAt, req}
-use Rattle.my_pool_core.proofs.Moving.{both, not-true, sound-retire, retire-same, retire-idle, none-expired-idle, swept, swept-same, swept-idle, all-count}
-use Rattle.my_pool_core.proofs.Holding.{connecting-found, checking-found, ended-less, wake-waiting}
+use Rattle.my_pool_core.proofs.Kept.Fewer.{move-count}
+use Rattle.my_pool_core.proofs.Kept.Quiet.{IsAt, req}
+use Rattle.my_pool_core.proofs.Kept.Moving.{both, not-true, sound-retire, retire-same, retire-idle, none-expired-idle, swept, swept-same, swept-idle, all-count}
+use Rattle.my_pool_core.proofs.Kept.Holding.{connecting-found, checking-found, ended-less, wake-waiting}
 use Rattle.my_pool_core.proofs.Kept.{if-keeps, found-req, retired-there, next-place}
 use Rattle.my_pool_core.proofs.Keeping.{moved-length, found-there, movable-there, decide-moves, done-moves, held-there}
 use Rattle.my_pool_core.proofs.Finding.{found-any, shorter-where-any}
 use Rattle.my_pool_core.specs.Connections.{is_leased}
-use Rattle.my_pool_core.proofs.Fronts.{front-wake, front-ended, front-change, front-push, front-late}
+use Rattle.my_pool_core.proofs.Covering.Fronts.{front-wake, front-ended, front-change, front-push, front-late}
 
 -- not more idle ones, and as many connections
 pub covered-same : (s : State) (ds : List Connection) (counts : Counts) (settled : Bool) → IsCovered s → how_many is_idle ds ≤ how_many is_idle s.connections → length s.connections ≤ length ds

@@ -18,13 +18,13 @@ use Rattle.my_pool_core.specs.Requests.{asking, has_age, holds, holds_number, is
 use Rattle.my_pool_core.specs.State.{State}
 use Rattle.my_pool_core.specs.Events.{is_at_end, request, with_last, dialed, taken, above_min, may_move, freed, moved, resting, kept, is_unheld, may_poll, may_cancel, cancel, cancel_found, cancel_standing, may_settle, ready, failed, may_give_back, give_back, close, check_ttl, may_decide, may_finish, may_done}
 use Rattle.my_pool_core.specs.Sound.{IsSound, IsKept, IsRising, is_dialer}
-use Rattle.my_pool_core.proofs.Waking.{rising-awake, wake-all-last}
+use Rattle.my_pool_core.proofs.Queue.Waking.{rising-awake, wake-all-last}
 use Rattle.my_pool_core.proofs.Finding.{one, count-found, found-any, found-passes, shorter-where-any}
-use Rattle.my_pool_core.proofs.Opening.{sound-close, sound-request, sound-ended, sound-waits, sound-takes, sound-dials, open-not-last, free-dialer}
-use Rattle.my_pool_core.proofs.Moving.{retire-fewer, sound-retire, swept-fewer}
+use Rattle.my_pool_core.proofs.Kept.Opening.{sound-close, sound-request, sound-ended, sound-waits, sound-takes, sound-dials, open-not-last, free-dialer}
+use Rattle.my_pool_core.proofs.Kept.Moving.{retire-fewer, sound-retire, swept-fewer}
 use Rattle.my_pool_core.proofs.Kept.{sound-cancel, sound-ready, sound-failed, sound-give-back, sound-freed, sound-move-on, sound-rested, IsUnheld, sound-check-ttl, sound-found-next, next-place, none-ended, retired-there, found-req, found-at}
-use Rattle.my_pool_core.proofs.Holding.{connecting-found, checking-found}
-use Rattle.my_pool_core.proofs.Quiet.{IsAt, req}
+use Rattle.my_pool_core.proofs.Kept.Holding.{connecting-found, checking-found}
+use Rattle.my_pool_core.proofs.Kept.Quiet.{IsAt, req}
 
 -- the connection of a number moves
 pub moved-length : (n : ℕ) (p : Place) (cs : List Connection) → list_any (has_number n) cs ≡ true → length (move_to n p cs) ≡ length cs

@@ -1,4 +1,9 @@
 -- Each event leaves a sound state sound.
+pub mod Fewer
+pub mod Quiet
+pub mod Moving
+pub mod Holding
+pub mod Opening
 use Rattle.std.proofs.Common.{◌≡◌, ℕ, ◌+◌, ◌<◌, Bool, true, false, Option, Some, None, List, [], ◌∷◌, length, refl, sym, ap, ◌∙◌, arith, subst}
 use Rattle.std.specs.Prelude.{find, ◌==◌, ◌&&◌, ◌||◌, not, nat_le, nat_lt, if◌then◌else◌}
 use Rattle.std.specs.List.{list_any}
@@ -19,11 +24,11 @@ use Rattle.my_pool_core.specs.State.{State}
 use Rattle.my_pool_core.specs.Events.{Polled, Decided, creation_failed, unestablished, dirty_return, outlived, being_reset, superfluous, kept, cleanup_failed, may_poll, queued, sought, poll_request, is_full, has_waited, is_live, may_cancel, cancel_standing, cancel_found, cancel, may_settle, ready, failed, may_give_back, give_back, detach, found_next, take_returned, may_decide, keep, decide, may_done, done, above_min, check_ttl, moved, resting}
 use Rattle.my_pool_core.specs.Sound.{IsSound}
 use Rattle.my_pool_core.proofs.Finding.{one, count-found, found-passes, found-once}
-use Rattle.my_pool_core.proofs.Fewer.{sound_after, same-connections, found-placed, move-count}
-use Rattle.my_pool_core.proofs.Quiet.{IsAt, req, quiet-same, quiet-quiet, wake-quiet, ended-quiet}
-use Rattle.my_pool_core.proofs.Moving.{sound-move, sound-free, sound-retire, sound-swept, retire-same}
-use Rattle.my_pool_core.proofs.Holding.{connecting-found, checking-found, ended-less, wake-waiting, sound-drop-held, sound-hand-out, sound-unchecked}
-use Rattle.my_pool_core.proofs.Opening.{sound-ended, sound-waits, sound-takes, sound-dials}
+use Rattle.my_pool_core.proofs.Kept.Fewer.{sound_after, same-connections, found-placed, move-count}
+use Rattle.my_pool_core.proofs.Kept.Quiet.{IsAt, req, quiet-same, quiet-quiet, wake-quiet, ended-quiet}
+use Rattle.my_pool_core.proofs.Kept.Moving.{sound-move, sound-free, sound-retire, sound-swept, retire-same}
+use Rattle.my_pool_core.proofs.Kept.Holding.{connecting-found, checking-found, ended-less, wake-waiting, sound-drop-held, sound-hand-out, sound-unchecked}
+use Rattle.my_pool_core.proofs.Kept.Opening.{sound-ended, sound-waits, sound-takes, sound-dials}
 
 -- a choice has what both parts have
 pub if-keeps : {A : Type 0} (P : A → Type 0) (b : Bool) (x y : A) → (b ≡ true → P x) → (b ≡ false → P y) → P (if b then x else y)

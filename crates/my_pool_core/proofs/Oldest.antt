@@ -9,7 +9,7 @@ use Rattle.my_pool_core.specs.Lists.{how_many, found_is}
 use Rattle.my_pool_core.specs.Requests.{has_age, is_waiting, is_queued, waits_up_to}
 use Rattle.my_pool_core.specs.State.{State}
 use Rattle.my_pool_core.specs.Events.{Polled, queued, poll_request, takes_place, is_full, full_answer, has_waited, is_gone}
-use Rattle.my_pool_core.proofs.Moving.{both}
+use Rattle.my_pool_core.proofs.Kept.Moving.{both}
 use Rattle.my_pool_core.proofs.Kept.{if-keeps}
 
 full-takes-none : (limit : Option ℕ) (n : ℕ) → takes_place (full_answer limit n) ≡ false

@@ -1,4 +1,8 @@
 -- The slots of the requests beside those of the heap, on plain lists.
+pub mod Searching
+pub mod Lived
+pub mod Waking
+pub mod Costs
 use Rattle.std.proofs.Common.{◌≡◌, ℕ, ◌+◌, ◌-◌, ◌<◌, ◌≤◌, ◌⊎◌, ◌++◌, Option, Some, None, List, [], ◌∷◌, length, get_or, set, take, drop, length-set, length-append, get_or-set_same, get_or-set_other, zero, suc, refl, sym, ap, ◌∙◌, subst, arith, inl, inr}
 use Rattle.std.specs.Prelude.{replicate, remove}
 use Rattle.std.proofs.lemmas.Bool.{cases_eq, cases_lt}

@@ -1,4 +1,5 @@
 -- Idle connections are returned one after another, from the latest on.
+pub mod Sweeping
 use Rattle.std.proofs.Common.{◌≡◌, ℕ, ◌+◌, ◌-◌, ◌≤◌, ◌<◌, Bool, true, false, cond, Some, None, List, [], ◌∷◌, ◌++◌, length, refl, sym, ap, ◌∙◌, arith, take, drop, get_or, append_assoc}
 use Rattle.std.proofs.lemmas.List.{drop_more, take_more, take-append-drop, get_or_at, length-take-le}
 use Rattle.std.specs.Prelude.{◌&&◌, ◌||◌, not}

@@ -1,5 +1,5 @@
 -- The counted connections: each with its place, in the order in which they came to their places.
--- So the idle ones stand from the one that is idle longest to the latest, and the returned ones in the order of their return.
+-- So idle ones go from the one that is idle longest to the latest, and returned ones are in the order of their return.
 use Rattle.std.specs.Prelude.{ℕ, ◌+◌, ◌-◌, Bool, true, false, ◌||◌, ◌&&◌, ◌==◌, not, nat_lt, Option, Some, None, List, [], ◌∷◌, ◌++◌, if◌then◌else◌, find}
 use Rattle.std.specs.List.{list_any}
 use Rattle.my_pool_core.specs.declared.connection.Connection.{Connection}

@@ -1,4 +1,4 @@
--- What each event makes of a pool's state, and what is answered.
+-- What each event makes of a pool's state, and what it returns.
 use Rattle.std.specs.Prelude.{ℕ, ◌+◌, ◌-◌, Bool, true, false, ◌||◌, ◌&&◌, ◌==◌, not, nat_lt, nat_le, max, Option, Some, None, List, [], ◌∷◌, ◌++◌, length, find, if◌then◌else◌}
 use Rattle.std.specs.List.{list_any}
 use Rattle.my_pool_core.specs.declared.connection.Connection.{Connection}
@@ -47,7 +47,7 @@ new_pool limits first = record {
   counts = no_counts;
 }
 
--- ---- a state and an answer ----
+-- ---- a state and what an event returns ----
 
 pub record Polled : Type 0 where
   pub state : State
@@ -113,7 +113,7 @@ may_move number s = found_is is_unheld (find (has_number number) s.connections)
 
 -- ---- the events of a request ----
 
--- whether ages or numbers stand at their last one: a number is left for each request that may still dial
+-- whether ages or numbers have reached their last one: a number is left for each request that may still dial
 abbrev pub is_at_end : State → Bool
 is_at_end s =
     s.next_age == last_age || list_any (has_age last_age) s.requests
@@ -150,7 +150,7 @@ request_age s = if is_at_end s then last_age else s.next_age
 abbrev pub may_poll : ℕ → State → Bool
 may_poll age s = found_is is_free (find (has_age age) s.requests)
 
--- whether so many wait that none that never waited may
+-- whether the requests that wait are as many as may, so that one that never waited may not
 abbrev pub is_full : Option ℕ → ℕ → Bool
 is_full None queued = false
 is_full (Some limit) queued = nat_le limit queued
@@ -165,7 +165,8 @@ has_waited r = r.waited
 -- a polled request waits; one that never waited ends where too many do
 abbrev pub queued : ℕ → State → Polled
 queued age s =
-    if not (found_is has_waited (find (has_age age) s.requests)) && is_full s.limits.waiting (how_many is_queued s.requests)
+    if not (found_is has_waited (find (has_age age) s.requests))
+    && is_full s.limits.waiting (how_many is_queued s.requests)
     then record {
       state = record s { requests = ended age s.requests };
       answer = full_answer s.limits.waiting (how_many is_queued s.requests);
@@ -218,8 +219,10 @@ abbrev pub cancel_standing : Standing → ℕ → State → State
 cancel_standing Asks age s = record s { requests = ended age s.requests }
 cancel_standing Waits age s = record s { requests = ended age s.requests }
 cancel_standing Woken age s = record s { requests = wake (ended age s.requests) }
-cancel_standing (Dials number) age s = freed number (ended age s.requests) (record s { counts = creation_failed s.counts })
-cancel_standing (Checks number) age s = freed number (ended age s.requests) (record s { counts = creation_failed s.counts })
+cancel_standing (Dials number) age s =
+    freed number (ended age s.requests) (record s { counts = creation_failed s.counts })
+cancel_standing (Checks number) age s =
+    freed number (ended age s.requests) (record s { counts = creation_failed s.counts })
 
 abbrev pub cancel_found : Option Request → ℕ → State → State
 cancel_found None age s = s
@@ -232,7 +235,7 @@ cancel age s = cancel_found (find (has_age age) s.requests) age s
 abbrev pub may_settle : ℕ → ℕ → State → Bool
 may_settle age number s = found_is (holds number) (find (has_age age) s.requests)
 
--- its connection is good: it is handed out, and the request ends
+-- its connection is good: it is leased, and the request ends
 abbrev pub ready : ℕ → ℕ → State → State
 ready age number s = record s {
   connections = move_to number Leased s.connections;
@@ -345,7 +348,7 @@ check_ttl_moved now s = length (outdated now s.limits.inactive (above_min s) 0 s
 abbrev pub is_gone : State → Bool
 is_gone s = s.closed && length s.connections == 0 && s.settled
 
--- whether an answer gives a request a connection or a number
+-- whether a poll gives a request a connection or a number
 abbrev pub takes_place : PollAnswer → Bool
 takes_place (Take number) = true
 takes_place (Dial number) = true

@@ -58,14 +58,14 @@ is_free r = not (is_dialing r || is_checking r)
 abbrev pub holds : ℕ → Request → Bool
 holds number r = holds_number number r.standing
 
--- a request with another standing; one that waits has waited from then on
+-- a request with another standing; one that waits counts as having waited from then on
 abbrev pub standing_as : Standing → Request → Request
 standing_as standing r = record { age = r.age; waited = r.waited; standing = standing }
 
 abbrev pub now_waiting : Request → Request
 now_waiting r = record { age = r.age; waited = true; standing = Waits }
 
--- the request of this age gets another standing
+-- the request of this age with another standing
 abbrev pub set_standing : ℕ → Standing → List Request → List Request
 set_standing age standing rs = change_first (has_age age) (standing_as standing) rs
 

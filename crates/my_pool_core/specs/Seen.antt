@@ -1,4 +1,4 @@
--- What a pool tells of itself.
+-- What a pool shows of itself.
 use Rattle.std.specs.Prelude.{length}
 use Rattle.my_pool_core.specs.declared.limits.Metrics.{Metrics}
 use Rattle.my_pool_core.specs.Lists.{how_many}

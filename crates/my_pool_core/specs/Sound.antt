@@ -58,7 +58,7 @@ abbrev pub IsRising : ℕ → List Request → Type 0
 IsRising low [] = Unit {0}
 IsRising low (r ∷ rs) = (low ≤ r.age) × IsRising (r.age + 1) rs
 
--- A state is sound. Each number and each age stands once. Each connection that is being made or looked at has one
+-- A state is sound. Each number and each age occurs once. Each connection that is being made or looked at has one
 -- request that does it, and each such request has that connection. There are no more connections and no more idle
 -- ones than may be, and there are numbers and room for those that may still be made.
 pub record IsSound (s : State) : Type 0 where
@@ -87,7 +87,7 @@ pub record IsSound (s : State) : Type 0 where
   pub last_closes : 0 < how_many (has_age last_age) s.requests → s.closed ≡ true
   pub last_is_free : how_many is_last_holder s.requests ≡ 0
 
--- the woken requests that stand before the first waiting one: those that are older than each that waits
+-- the woken requests before the first waiting one: those that are older than each that waits
 abbrev pub woken_first : List Request → ℕ
 woken_first [] = 0
 woken_first (r ∷ rs) = if is_waiting r then 0 else (if is_woken r then 1 else 0) + woken_first rs

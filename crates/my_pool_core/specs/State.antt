@@ -19,6 +19,6 @@ pub record State : Type 0 where
   pub spare : ℕ
   pub counts : Counts
 
--- one more, but for a number that stands at its type's end
+-- one more, except at the greatest value of the type
 abbrev pub one_more : ℕ → ℕ
 one_more n = if nat_lt n (2 ^ 64 - 1) then n + 1 else n

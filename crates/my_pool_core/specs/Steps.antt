@@ -39,7 +39,7 @@ step s (CheckTtl now) = check_ttl now s
 step s Close = close s
 step s PollDisconnect = s
 
--- what it is answered
+-- what it returns
 abbrev pub answer : State → PoolEvent → Answer
 answer s Request = Age (request_age s)
 answer s (PollRequest age now) = Poll ((poll_request age now s).answer)

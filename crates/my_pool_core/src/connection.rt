@@ -22,15 +22,15 @@ pub struct Times {
 /// Where a counted connection is.
 #[derive(Clone, Copy, Debug, PartialEq, Eq)]
 pub enum Place {
-    /// It waits in the pool, clean, to be handed out.
+    /// It is clean, in the pool, and can be leased.
     Idle(Times),
-    /// It is handed out.
+    /// It is leased.
     Leased,
     /// A request makes it.
     Connecting,
-    /// A request looks whether it still answers.
+    /// A request checks whether it is still alive.
     Checking,
-    /// It came back and waits for its turn; marked where its time as an idle one was over.
+    /// It came back and waits to be cleaned; marked where it was idle for too long.
     Returned { marked: bool },
     /// What is left of its last use is being read.
     Cleaning { marked: bool },
@@ -111,7 +111,7 @@ impl Connection {
         matches!(self.place, Place::Idle(_))
     }
 
-    /// Whether it is handed out.
+    /// Whether it is leased.
     pub fn is_leased(&self) -> bool
         ensures { result ≡ is_leased self.now }
     {
@@ -157,7 +157,7 @@ pub(crate) fn connection_of(connections: &[Connection], number: u64) -> Option<C
     }
 }
 
-/// Whether the connection of a number is handed out.
+/// Whether the connection of a number is leased.
 pub(crate) fn is_leased(connections: &[Connection], number: u64) -> bool
     ensures { result ≡ found_is is_leased (find (has_number number) connections.now) }
 {
@@ -218,7 +218,7 @@ pub(crate) fn count_idle(connections: &[Connection]) -> usize
     connections.iter().filter(|c| c.is_idle()).count()
 }
 
-/// How many are handed out.
+/// How many are leased.
 pub(crate) fn count_leased(connections: &[Connection]) -> usize
     ensures { result ≡ how_many is_leased connections.now }
 {
@@ -286,7 +286,8 @@ pub(crate) fn move_to(connections: &mut Vec<Connection>, number: u64, place: Pla
 /// The connection at an index is returned, and goes to the end.
 fn return_at(connections: &mut Vec<Connection>, index: usize, marked: bool)
     requires { index < vec_len connections.old }
-    ensures items { (d : Connection) → connections.new.items ≡ remove connections.old.items index ++ placed (slice_index_or connections.old.items index d).number (returned marked) ∷ [] }
+    ensures items { (d : Connection) → let moved = (slice_index_or connections.old.items index d).number
+        in connections.new.items ≡ remove connections.old.items index ++ placed moved (returned marked) ∷ [] }
     ensures capacity { vec_capacity connections.old ≤ vec_capacity connections.new }
 {
     let number = connections.remove(index).number;
@@ -298,7 +299,7 @@ fn return_at(connections: &mut Vec<Connection>, index: usize, marked: bool)
         .unwrap();
 }
 
-/// The idle connections from the latest on, up to one that isn't expired, are returned; answers that one.
+/// The idle connections from the latest on, up to one that isn't expired, are returned; returns that one.
 pub(crate) fn retire(connections: &mut Vec<Connection>, now: u64) -> Option<u64>
     ensures items { connections.new.items ≡ retire now connections.old.items }
     ensures latest { result ≡ latest_usable now connections.old.items }
@@ -318,14 +319,15 @@ pub(crate) fn retire(connections: &mut Vec<Connection>, now: u64) -> Option<u64>
     None
 }
 
-/// The idle connections that don't stay are returned and marked, those that are idle longest first; answers how many.
+/// The idle connections that don't stay are returned and marked, those that are idle longest first; returns how many.
 pub(crate) fn sweep(
     connections: &mut Vec<Connection>,
     now: u64,
     inactive: u128,
     many: usize,
 ) -> usize
-    ensures items { connections.new.items ≡ lasting now inactive many 0 connections.old.items ++ outdated now inactive many 0 connections.old.items }
+    ensures items { let all = connections.old.items
+        in connections.new.items ≡ lasting now inactive many 0 all ++ outdated now inactive many 0 all }
     ensures moved { result ≡ length (outdated now inactive many 0 connections.old.items) }
     ensures capacity { vec_capacity connections.old ≤ vec_capacity connections.new }
 {

@@ -1,4 +1,4 @@
-//! What happens to a pool, and what it answers.
+//! The events of a pool, and what they return.
 
 ghost use Rattle.std.specs.Prelude.{◌≡◌};
 ghost use Rattle.my_pool_core.specs.Events.{times_of};
@@ -43,7 +43,7 @@ impl Facts {
 pub enum PollAnswer {
     /// It waits.
     Wait,
-    /// It has this connection, and looks whether it still answers.
+    /// It has this connection, and checks whether it is still alive.
     Take(u64),
     /// It has this number, and makes the connection.
     Dial(u64),
@@ -68,10 +68,10 @@ pub enum Verdict {
     Keep,
 }
 
-/// What happens to a pool.
+/// An event of a pool.
 #[derive(Clone, Copy, Debug, PartialEq, Eq)]
 pub enum PoolEvent {
-    /// Somebody asks for a connection.
+    /// A connection is asked for.
     Request,
     /// A request looks for a connection.
     PollRequest {
@@ -82,7 +82,7 @@ pub enum PoolEvent {
     Cancel {
         age: u64,
     },
-    /// A request's connection is good, and is handed out.
+    /// A request's connection is good, and is leased.
     Ready {
         age: u64,
         conn: u64,
@@ -121,11 +121,11 @@ pub enum PoolEvent {
     },
     /// The pool is closed.
     Close,
-    /// Somebody asks whether the pool is gone.
+    /// It is asked whether the pool is gone.
     PollDisconnect,
 }
 
-/// What an event is answered.
+/// What an event returns.
 #[derive(Clone, Copy, Debug, PartialEq, Eq)]
 pub enum Answer {
     /// Nothing.

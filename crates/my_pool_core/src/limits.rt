@@ -19,7 +19,7 @@ pub struct Limits {
     pub waiting: Option<u64>,
 }
 
-/// How often each thing happened. A count that stands at its type's end stays there.
+/// How often each thing happened. A count at the greatest value of its type stays there.
 #[derive(Clone, Copy, Debug, PartialEq, Eq)]
 pub struct Counts {
     pub create_failed: u64,
@@ -61,7 +61,7 @@ pub struct Metrics {
     pub discarded_error_during_cleanup: u64,
 }
 
-/// One more, but for a number that stands at its type's end.
+/// One more, except at the greatest value of the type.
 pub(crate) const fn one_more(n: u64) -> u64
     ensures { result ≡ one_more n }
 {

@@ -46,7 +46,8 @@ fn first_from<C: Ledger>(requests: &[Request], age: u64, steps: &mut C) -> usize
     requires { IsRising 0 requests.now }
     ensures within { result ≤ length requests.now }
     ensures before { (k : ℕ) (d : Request) → k < result → (slice_index_or requests.now k d).age < age }
-    ensures following { (k : ℕ) (d : Request) → result ≤ k → k < length requests.now → age ≤ (slice_index_or requests.now k d).age }
+    ensures following { (k : ℕ) (d : Request) → result ≤ k → k < length requests.now
+        → age ≤ (slice_index_or requests.now k d).age }
     ensures cost { (d : ℕ) → length requests.now < 2 ^ d → C.noted steps.new ≤ C.noted steps.old + d }
 {
     let mut low = 0;
@@ -113,10 +114,11 @@ fn set_held<C: Ledger>(heap: &mut WaitHeap, slot: usize, age: u64, holds: bool, 
     }
 }
 
-/// There is a free slot beside those of so many requests. Without memory the slots that were given stay.
+/// Afterwards there is a free slot beside those of `count` requests. Out of memory, the slots stay as they are.
 fn have_slot(slots: &mut Vec<usize>, heap: &mut WaitHeap, count: usize) -> Result<(), NoMemory>
     requires { count ≤ length slots.old.items }
-    ensures queue { (ages : List (Option ℕ)) → IsQueue ages slots.old.items heap.old → IsQueue ages slots.new.items heap.new }
+    ensures queue { (ages : List (Option ℕ)) → IsQueue ages slots.old.items heap.old
+        → IsQueue ages slots.new.items heap.new }
     ensures room { OnOk result (count < length slots.new.items) }
 {
     if count < slots.len() {
@@ -188,7 +190,7 @@ impl Live {
         self.slots.push(slot).unwrap();
     }
 
-    /// There is one more request, which is younger than each. Without memory nothing changes.
+    /// There is one more request, which is younger than each. Out of memory, nothing changes.
     pub fn add(&mut self, age: u64) -> Result<(), NoMemory>
         requires { IsRising 0 (self.old ++ asking age ∷ []) }
         ensures ok { OnOk result (self.new ≡ self.old ++ asking age ∷ []) }
@@ -258,7 +260,7 @@ impl Live {
         }
     }
 
-    /// The request of an age gets another standing.
+    /// Sets the standing of the request of an age.
     pub fn set_standing<C: Ledger>(&mut self, age: u64, standing: Standing, steps: &mut C)
         ensures requests { self.new ≡ set_standing age standing self.old }
         ensures cost { (d : ℕ) → length self.old < 2 ^ d → C.noted steps.new ≤ C.noted steps.old + 3 * d + 2 }
@@ -322,7 +324,8 @@ impl Live {
     /// Each waiting request is woken.
     pub fn wake_all<C: Ledger>(&mut self, steps: &mut C)
         ensures requests { self.new ≡ wake_all self.old }
-        ensures cost { (d : ℕ) → length self.old < 2 ^ d → C.noted steps.new ≤ C.noted steps.old + how_many is_waiting self.old * (3 * d + 2) }
+        ensures cost { (d : ℕ) → length self.old < 2 ^ d
+            → C.noted steps.new ≤ C.noted steps.old + how_many is_waiting self.old * (3 * d + 2) }
     {
         while self.count_waiting() > 0 {
             self.wake(steps);
@@ -351,7 +354,7 @@ impl Live {
         self.index_of(LAST, steps).is_some()
     }
 
-    /// The request of the last age is live from now on. Without memory nothing changes.
+    /// The request of the last age is live from now on. Out of memory, nothing changes.
     pub fn add_last<C: Ledger>(&mut self, steps: &mut C) -> Result<(), NoMemory>
         requires { IsRising 0 (with_last self.old) }
         ensures ok { OnOk result (self.new ≡ with_last self.old) }

@@ -20,7 +20,7 @@ pub enum Standing {
     Woken,
     /// It makes the connection of this number.
     Dials(u64),
-    /// It looks whether the connection of this number still answers.
+    /// It checks whether the connection of this number is still alive.
     Checks(u64),
 }
 

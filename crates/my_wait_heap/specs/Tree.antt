@@ -7,7 +7,7 @@ use Rattle.my_wait_heap.specs.Ages.{age_of, how_many, AreDistinct}
 abbrev pub entry : ℕ → ℕ → Entry
 entry slot age = record { slot = slot; age = age }
 
--- what stands where no entry does
+-- what is read where there is no entry
 abbrev pub nobody : Entry
 nobody = entry 0 0
 
@@ -21,8 +21,8 @@ slot_at es i = (entry_at es i).slot
 abbrev pub age_at : List Entry → ℕ → ℕ
 age_at es i = (entry_at es i).age
 
--- Each entry's slot is held by its age, and has the entry's index for its place. Each held slot has a place in the tree,
--- where its entry stands. So there are as many entries as held slots.
+-- Each entry's slot is held by its age, and has the entry's index for its place. Each held slot has a place in
+-- the tree, where its entry is. So there are as many entries as held slots.
 pub record IsLinked (ages : List (Option ℕ)) (places : List ℕ) (entries : List Entry) : Type 0 where
   pub sizes : length places ≡ length ages
   pub held : (i : ℕ) → i < length entries → age_of ages (slot_at entries i) ≡ Some (age_at entries i)

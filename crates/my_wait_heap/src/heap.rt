@@ -43,7 +43,7 @@ impl WaitHeap {
         }
     }
 
-    /// There are at least so many slots; those that are new aren't held. Where there is no memory nothing changes.
+    /// Afterwards there are at least `slots` slots, and new ones are free. Out of memory, nothing changes.
     pub fn reserve(&mut self, slots: usize) -> Result<(), NoMemory>
         ensures ok { OnOk result (self.new ≡ self.old ++ replicate (slots - length self.old) None) }
         ensures err { OnErr result (self.new ≡ self.old) }
@@ -51,7 +51,7 @@ impl WaitHeap {
         self.tree.reserve(slots)
     }
 
-    /// A free slot is held by an age from now on.
+    /// Gives a free slot to an age.
     pub fn push<C: Ledger>(&mut self, slot: usize, age: u64, steps: &mut C)
         requires reserved { slot < length self.old }
         requires free { age_of self.old slot ≡ None }
@@ -64,7 +64,7 @@ impl WaitHeap {
         self.tree.sift_up(last, steps);
     }
 
-    /// A held slot is free from now on.
+    /// Frees a held slot.
     pub fn remove<C: Ledger>(&mut self, slot: usize, steps: &mut C)
         requires { IsSome (age_of self.old slot) }
         ensures ages { self.new ≡ slice_set self.old slot None }
@@ -74,7 +74,7 @@ impl WaitHeap {
         self.tree.remove_at(place, steps);
     }
 
-    /// The slot that the least age holds is free from now on; answers both. None where no slot is held.
+    /// Frees the slot of the least age; returns both, or `None` where no slot is held.
     pub fn pop_least<C: Ledger>(&mut self, steps: &mut C) -> Option<Entry>
         ensures entry { MatchOption result (how_many self.old ≡ 0) (λ e. IsLeast self.old e.slot e.age) }
         ensures ages { MatchOption result (self.new ≡ self.old) (λ e. self.new ≡ slice_set self.old e.slot None) }
@@ -86,7 +86,7 @@ impl WaitHeap {
         Some(self.tree.remove_at(0, steps))
     }
 
-    /// The least age. None where no slot is held.
+    /// The least age, or `None` where no slot is held.
     pub fn least(&self) -> Option<u64>
         ensures { MatchOption result (how_many self.now ≡ 0) (λ age. (slot : ℕ) × IsLeast self.now slot age) }
     {

@@ -1,18 +1,18 @@
-//! What notes the steps that a heap takes.
+//! Counts of the steps that a heap takes.
 
 ghost use Rattle.std.specs.Prelude.{◌≡◌, ℕ, ◌+◌, ◌-◌, ◌^◌, ◌≤◌, min};
 
-/// Something that steps are noted in.
+/// Something that counts steps.
 pub trait Ledger {
-    /// How many steps it holds.
+    /// How many steps it has counted.
     ghost noted: { Self → ℕ };
 
-    /// Notes a step: it holds at most one more.
+    /// Counts a step: at most one more.
     fn step(&mut self)
         ensures { noted self.new ≤ noted self.old + 1 };
 }
 
-/// A ledger that holds nothing and costs nothing.
+/// A ledger that counts nothing and costs nothing.
 #[derive(Clone, Copy, Debug, PartialEq, Eq)]
 pub struct Uncounted;
 
@@ -22,19 +22,19 @@ impl Ledger for Uncounted {
     fn step(&mut self) {}
 }
 
-/// A ledger that counts. At its type's end the count stays.
+/// A ledger that counts. At the greatest value of its type the count stays.
 #[derive(Clone, Copy, Debug, PartialEq, Eq)]
 pub struct Counted(u64);
 
 impl Counted {
-    /// No step was noted yet.
+    /// No step was counted yet.
     pub fn new() -> Counted
         ensures { result.0 ≡ 0 }
     {
         Counted(0)
     }
 
-    /// How many steps were noted.
+    /// How many steps were counted.
     pub fn count(&self) -> u64
         ensures { result ≡ self.now.0 }
     {

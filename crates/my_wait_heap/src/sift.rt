@@ -1,4 +1,4 @@
-//! Entries go to where they belong in the order of the ages.
+//! Moves entries to where they belong in the order of the ages.
 
 ghost use Rattle.std.specs.Prelude.{◌≡◌, ℕ, ◌+◌, ◌*◌, ◌^◌, ◌<◌, ◌≤◌, None, slice_set, vec_len, vec_capacity};
 ghost use Rattle.my_wait_heap.specs.Tree.{entry_at, age_at, slot_at, IsTree, IsOrdered, IsOrderedBut, IsAbove, IsBelow};
@@ -37,7 +37,8 @@ impl Tree {
         ensures low { 2 * i + 1 ≤ result }
         ensures high { result ≤ 2 * i + 2 }
         ensures within { result < vec_len self.now.entries }
-        ensures least { (c : ℕ) → 2 * i + 1 ≤ c → c ≤ 2 * i + 2 → c < vec_len self.now.entries → age_at self.now.entries.items result ≤ age_at self.now.entries.items c }
+        ensures least { (c : ℕ) → 2 * i + 1 ≤ c → c ≤ 2 * i + 2 → c < vec_len self.now.entries
+            → age_at self.now.entries.items result ≤ age_at self.now.entries.items c }
         ensures cost { C.noted steps.new ≤ C.noted steps.old + 1 }
     {
         let left = 2 * i + 1;

@@ -1,4 +1,4 @@
-//! The tree of entries, and where in it each slot stands.
+//! The tree of entries, and the place of each slot in it.
 
 ghost use Rattle.std.specs.Prelude.{◌≡◌, ◌+◌, ◌-◌, ◌<◌, ◌≤◌, ◌++◌, [], ◌∷◌, None, Some, OnOk, OnErr, replicate, take, slice_set, vec_len, vec_capacity, nat_lt};
 ghost use Rattle.my_wait_heap.specs.Ages.{age_of};
@@ -8,12 +8,12 @@ use crate::entry::Entry;
 use crate::ledger::Ledger;
 use my_frame::NoMemory;
 
-/// A tree of entries in a list: after the one at index `i` stand those at `2 * i + 1` and `2 * i + 2`.
+/// A tree of entries in a list: below the one at index `i` are those at `2 * i + 1` and `2 * i + 2`.
 #[derive(Debug, Drop)]
 pub(crate) struct Tree {
     /// The age that holds each slot.
     pub ages: Vec<Option<u64>>,
-    /// Where each held slot stands in the tree.
+    /// The place of each held slot in the tree.
     pub places: Vec<usize>,
     pub entries: Vec<Entry>,
 }
@@ -47,7 +47,7 @@ impl Tree {
         self.places[first.slot] = j;
     }
 
-    /// A slot that isn't held gets an age, whose entry stands last.
+    /// A slot that isn't held gets an age, whose entry is last.
     pub(crate) fn add(&mut self, slot: usize, age: u64)
         requires linked { IsTree self.old }
         requires reserved { slot < vec_len self.old.ages }
@@ -68,7 +68,8 @@ impl Tree {
         requires linked { IsTree self.old }
         requires some { 0 < vec_len self.old.entries }
         ensures linked { IsTree self.new }
-        ensures ages { self.new.ages.items ≡ slice_set self.old.ages.items (slot_at self.old.entries.items (vec_len self.old.entries - 1)) None }
+        ensures ages { let last = slot_at self.old.entries.items (vec_len self.old.entries - 1)
+            in self.new.ages.items ≡ slice_set self.old.ages.items last None }
         ensures entries { self.new.entries.items ≡ take (vec_len self.old.entries - 1) self.old.entries.items }
         ensures capacity { vec_capacity self.old.entries ≤ vec_capacity self.new.entries }
     {
@@ -77,12 +78,13 @@ impl Tree {
         self.entries.truncate(last);
     }
 
-    /// There are at least so many slots, and room for an entry of each. Without memory the slots stay as many.
+    /// Afterwards there are at least `slots` slots, and room for an entry of each. Out of memory, their number stays.
     pub(crate) fn reserve(&mut self, slots: usize) -> Result<(), NoMemory>
         requires { IsTree self.old }
         ensures linked { IsTree self.new }
         ensures entries { self.new.entries.items ≡ self.old.entries.items }
-        ensures ok { OnOk result (self.new.ages.items ≡ self.old.ages.items ++ replicate (slots - vec_len self.old.ages) None) }
+        ensures ok { OnOk result (self.new.ages.items
+            ≡ self.old.ages.items ++ replicate (slots - vec_len self.old.ages) None) }
         ensures err { OnErr result (self.new.ages.items ≡ self.old.ages.items) }
         ensures room { OnOk result (slots ≤ vec_capacity self.new.entries) }
         ensures capacity { vec_capacity self.old.entries ≤ vec_capacity self.new.entries }

@@ -1,4 +1,4 @@
-//! Tables over my_pool_core: lists of events with what each is answered, and many events from a seed. This crate has
+//! Tables over my_pool_core: lists of events with what each returns, and many events from a seed. This crate has
 //! tests alone.
 #![tactic(auto)]
 

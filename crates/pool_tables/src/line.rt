@@ -1,5 +1,5 @@
 //! A list of events as lines: the word of an event with its numbers, or a word for what is seen of the pool; and after
-//! " = " what is answered, or seen.
+//! " = " what it returns, or what is seen.
 
 use my_pool_core::{Core, Facts, Limits, PoolEvent};
 use std::alloc::{AllocError, Global};
@@ -30,7 +30,7 @@ pub fn clean(ttl: u64, expired: bool) -> Facts {
     }
 }
 
-/// Four numbers; those that don't stand there are 0.
+/// Four numbers; missing ones are 0.
 fn numbers(text: &str) -> Result<[u64; 4], Fail> {
     let mut numbers = [0u64; 4];
     let mut index = 0usize;
@@ -102,7 +102,7 @@ fn seen(alloc: Global, core: &Core, word: &str) -> Result<String, AllocError> {
     }
 }
 
-/// What an event is answered, or what is seen.
+/// What an event returns, or what is seen.
 fn told(alloc: Global, core: &mut Core, line: &str) -> Result<String, Fail> {
     let (word, rest) = line.split_once(' ').unwrap_or((line, ""));
     let Some(event) = event_of(word, numbers(rest)?) else {

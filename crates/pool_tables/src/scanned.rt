@@ -27,7 +27,7 @@ fn scanned_set(plain: &mut Vec<Request>, age: u64, standing: Option<Standing>) {
     }
 }
 
-/// What an event with its answer makes of a scanned list of requests.
+/// A scanned list of requests after an event and what it returned.
 pub fn scanned(plain: &mut Vec<Request>, event: PoolEvent, answer: Answer) -> Result<(), Fail> {
     match (event, answer) {
         (PoolEvent::Request, Answer::Age(age)) => {

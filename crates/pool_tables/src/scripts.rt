@@ -55,7 +55,7 @@ counted = 0
 queue = [] [2]",
 );
 
-/// An idle connection whose time is over isn't handed out.
+/// An expired idle connection isn't leased.
 const EXPIRED: Script = (
     1,
     1,

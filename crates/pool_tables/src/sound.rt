@@ -16,7 +16,7 @@ fn holders(core: &Core, connection: Connection) -> usize {
         .count()
 }
 
-/// Whether each connection stands once, and with the request that holds it.
+/// Whether each connection occurs once, and with the request that holds it.
 pub fn connections_are_sound(core: &Core) -> bool {
     for connection in core.connections() {
         let number = connection.number;

@@ -20,8 +20,8 @@ fn digits(n: u64) -> u64 {
     count
 }
 
-/// A request waits as the last one of so many, and the first one of them is handed the connection that came back: how
-/// many ages are compared from the request to `ready`.
+/// `waiting` requests wait, and the oldest gets the connection that came back: how many ages are compared from the
+/// last request to `ready`.
 fn steps_to_ready(rt: &impl Abort, alloc: Global, waiting: u64) -> Result<u64, Fail> {
     let mut core = Core::with_limits(alloc, limits(1, 1, None), 1000);
     let lease = "ask = Age(0)\npoll 0 0 = Poll(Dial(1000))\nready 0 1000 = Done";

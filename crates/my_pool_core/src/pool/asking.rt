@@ -15,7 +15,7 @@ use my_frame::NoMemory;
 use my_wait_heap::{Ledger, Uncounted};
 
 impl Core {
-    /// Whether ages or numbers stand at their last one.
+    /// Whether ages or numbers have reached their last one.
     fn is_at_end<C: Ledger>(&self, steps: &mut C) -> bool
         ensures answer { result ≡ is_at_end self.now }
         ensures cost { (d : ℕ) → length self.now.requests < 2 ^ d → C.noted steps.new ≤ C.noted steps.old + d + 1 }
@@ -25,10 +25,10 @@ impl Core {
             || LAST - self.next_number <= self.requests.count_may_dial() as u64
     }
 
-    /// Somebody asks for a connection; answers the age of the new request.
+    /// A connection is asked for; returns the age of the new request.
     ///
-    /// Where ages or numbers are at their end the pool is closed, and the request has the last age. Where there is no
-    /// memory nothing changes.
+    /// Where ages or numbers are at their end the pool is closed, and the request has the last age. Out of
+    /// memory, nothing changes.
     pub fn request(&mut self) -> Result<u64, NoMemory>
         ensures ok { OnOk result (self.new ≡ request self.old) }
         ensures age { IfOk result (λ age. age ≡ request_age self.old) }
@@ -37,13 +37,14 @@ impl Core {
         self.request_noting(&mut Uncounted)
     }
 
-    /// The same, where each comparison of two ages is a step in a ledger: at the end of ages or numbers there are some for
-    /// each waiting request.
+    /// The same, where `steps` counts each comparison of two ages: at the end of ages or numbers there are some
+    /// for each waiting request.
     pub fn request_noting<C: Ledger>(&mut self, steps: &mut C) -> Result<u64, NoMemory>
         ensures ok { OnOk result (self.new ≡ request self.old) }
         ensures age { IfOk result (λ age. age ≡ request_age self.old) }
         ensures err { OnErr result (self.new ≡ self.old) }
-        ensures cost { (d : ℕ) → length self.old.requests < 2 ^ d → C.noted steps.new ≤ C.noted steps.old + 2 * d + 2 + how_many is_waiting self.old.requests * (3 * d + 5) }
+        ensures cost { (d : ℕ) → length self.old.requests < 2 ^ d → let waiting = how_many is_waiting self.old.requests
+            in C.noted steps.new ≤ C.noted steps.old + 2 * d + 2 + waiting * (3 * d + 5) }
     {
         let at_end = self.is_at_end(steps);
         let room = self.requests.len() + 1;
@@ -137,7 +138,7 @@ impl Core {
         self.poll_request_noting(age, now, &mut Uncounted)
     }
 
-    /// The same, where each comparison of two ages is a step in a ledger.
+    /// The same, where `steps` counts each comparison of two ages.
     pub fn poll_request_noting<C: Ledger>(
         &mut self,
         age: u64,
@@ -168,7 +169,7 @@ impl Core {
         self.cancel_noting(age, &mut Uncounted);
     }
 
-    /// The same, where each comparison of two ages is a step in a ledger.
+    /// The same, where `steps` counts each comparison of two ages.
     pub fn cancel_noting<C: Ledger>(&mut self, age: u64, steps: &mut C)
         requires { IsTrue (may_cancel age self.old) }
         ensures state { self.new ≡ cancel age self.old }
@@ -190,7 +191,7 @@ impl Core {
         }
     }
 
-    /// A request's connection is good: it is handed out, and the request ends.
+    /// A request's connection is good: it is leased, and the request ends.
     pub fn ready(&mut self, age: u64, conn: u64)
         requires { IsTrue (may_settle age conn self.old) }
         ensures { self.new ≡ ready age conn self.old }
@@ -198,7 +199,7 @@ impl Core {
         self.ready_noting(age, conn, &mut Uncounted);
     }
 
-    /// The same, where each comparison of two ages is a step in a ledger.
+    /// The same, where `steps` counts each comparison of two ages.
     pub fn ready_noting<C: Ledger>(&mut self, age: u64, conn: u64, steps: &mut C)
         requires { IsTrue (may_settle age conn self.old) }
         ensures state { self.new ≡ ready age conn self.old }
@@ -208,8 +209,8 @@ impl Core {
         self.requests.end(age, steps);
     }
 
-    /// A request's connection isn't good: it is freed. A request that was making it ends, one that was looking at it has
-    /// no connection again.
+    /// A request's connection isn't good: it is freed. A request that was making it ends, one that was checking it
+    /// has no connection again.
     pub fn failed(&mut self, age: u64, conn: u64)
         requires { IsTrue (may_settle age conn self.old) }
         ensures { self.new ≡ failed age conn self.old }
@@ -217,7 +218,7 @@ impl Core {
         self.failed_noting(age, conn, &mut Uncounted);
     }
 
-    /// The same, where each comparison of two ages is a step in a ledger.
+    /// The same, where `steps` counts each comparison of two ages.
     pub fn failed_noting<C: Ledger>(&mut self, age: u64, conn: u64, steps: &mut C)
         requires { IsTrue (may_settle age conn self.old) }
         ensures state { self.new ≡ failed age conn self.old }

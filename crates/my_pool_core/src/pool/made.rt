@@ -13,7 +13,7 @@ use std::alloc::Global;
 impl Core {
     /// A pool with no connection, by these options; its first connection will have the number `first`.
     ///
-    /// It takes no memory as yet.
+    /// It takes no memory yet.
     pub fn new(alloc: Global, opts: &PoolOpts, first: u64) -> Result<Core, NoMemory>
         ensures { IsOkAnd result (λ core. core ≡ new_pool (limits_of opts.now) first) }
     {

@@ -32,7 +32,7 @@ impl Core {
         }
     }
 
-    /// An event happens. Only that somebody asks takes memory, and where there is none nothing changes.
+    /// An event happens. Only `Request` takes memory; out of memory, nothing changes.
     pub fn apply(&mut self, event: PoolEvent) -> Result<Answer, NoMemory>
         requires { may self.old event ≡ true }
         ensures state { OnOk result (self.new ≡ step self.old event) }

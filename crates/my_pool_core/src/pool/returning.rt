@@ -1,4 +1,4 @@
-//! The events of a connection that is handed out or came back.
+//! The events of a connection that is leased or came back.
 
 ghost use Rattle.std.specs.Prelude.{◌≡◌, ℕ, ◌+◌, ◌*◌, ◌^◌, ◌≤◌, ◌<◌, IsTrue, length};
 ghost use Rattle.my_pool_core.specs.Events.{may_move, freed, may_give_back, give_back, detach, take_returned, may_decide, keep, decide, may_done, done};
@@ -42,7 +42,7 @@ impl Core {
         self.detach_noting(conn, &mut Uncounted);
     }
 
-    /// The same, where each comparison of two ages is a step in a ledger.
+    /// The same, where `steps` counts each comparison of two ages.
     pub fn detach_noting<C: Ledger>(&mut self, conn: u64, steps: &mut C)
         requires { IsTrue (may_give_back conn self.old) }
         ensures state { self.new ≡ detach conn self.old }
@@ -107,7 +107,7 @@ impl Core {
         self.decide_noting(conn, facts, now, &mut Uncounted)
     }
 
-    /// The same, where each comparison of two ages is a step in a ledger.
+    /// The same, where `steps` counts each comparison of two ages.
     pub fn decide_noting<C: Ledger>(
         &mut self,
         conn: u64,
@@ -151,7 +151,7 @@ impl Core {
         self.done_noting(conn, ok, facts, now, &mut Uncounted)
     }
 
-    /// The same, where each comparison of two ages is a step in a ledger.
+    /// The same, where `steps` counts each comparison of two ages.
     pub fn done_noting<C: Ledger>(
         &mut self,
         conn: u64,

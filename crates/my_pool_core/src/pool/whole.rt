@@ -13,9 +13,10 @@ use crate::request::Request;
 use my_wait_heap::{Ledger, Uncounted};
 
 impl Core {
-    /// Idle connections whose time is over are marked and returned; answers how many.
+    /// Idle connections whose time is over are marked and returned; returns how many.
     ///
-    /// Each above its deadline is, and while more are idle than the lower bound asks for, each that is idle for too long.
+    /// Each past its deadline is, and while more are idle than the lower bound asks for, each that was idle for too
+    /// long.
     pub fn check_ttl(&mut self, now: u64) -> u64
         ensures state { self.new ≡ check_ttl now self.old }
         ensures moved { result ≡ check_ttl_moved now self.old }
@@ -33,10 +34,11 @@ impl Core {
         self.close_noting(&mut Uncounted);
     }
 
-    /// The same, where each comparison of two ages is a step in a ledger: there are some for each waiting request.
+    /// The same, where `steps` counts each comparison of two ages: there are some for each waiting request.
     pub fn close_noting<C: Ledger>(&mut self, steps: &mut C)
         ensures state { self.new ≡ close self.old }
-        ensures cost { (d : ℕ) → length self.old.requests < 2 ^ d → C.noted steps.new ≤ C.noted steps.old + how_many is_waiting self.old.requests * (3 * d + 2) }
+        ensures cost { (d : ℕ) → length self.old.requests < 2 ^ d
+            → C.noted steps.new ≤ C.noted steps.old + how_many is_waiting self.old.requests * (3 * d + 2) }
     {
         self.closed = true;
         self.requests.wake_all(steps);

@@ -1,5 +1,5 @@
 use Rattle.std.proofs.Common.{sym, ◌∙◌}
-use Rattle.my_pool_core.proofs.Places.{next-returned, next-open, next-idle, next-none}
+use Rattle.my_pool_core.proofs.Finding.Places.{next-returned, next-open, next-idle, next-none}
 use Rattle.my_pool_core.proofs.connection.next_to_clean.Goals as goal
 
 pub returns-in-Some : goal.returns-in-Some

@@ -1,6 +1,6 @@
 use Rattle.std.proofs.Common.{◌<◌, ◌+◌, ◌∙◌, ap, sym, arith, refl, length}
 use Rattle.std.specs.Vec.{vec_capacity}
-use Rattle.my_pool_core.proofs.Sweeping.{swept-begins, swept-length, swept-stays, swept-goes, swept-ends, swept-as}
+use Rattle.my_pool_core.proofs.Retiring.Sweeping.{swept-begins, swept-length, swept-stays, swept-goes, swept-ends, swept-as}
 use Rattle.my_pool_core.proofs.connection.sweep.Goals as goal
 use Rattle.my_pool_core.proofs.connection.sweep.Goals.{then-is_outdated, else-is_outdated}
 

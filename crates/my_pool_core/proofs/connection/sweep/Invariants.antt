@@ -1,6 +1,6 @@
 use Rattle.std.proofs.Common.{◌≡◌, ◌≤◌, ◌+◌, length}
 use Rattle.std.specs.Vec.{vec_capacity}
-use Rattle.my_pool_core.proofs.Sweeping.{IsSwept}
+use Rattle.my_pool_core.proofs.Retiring.Sweeping.{IsSwept}
 use Rattle.my_pool_core.proofs.connection.sweep.Given as goal
 
 abbrev pub invariant-turns : goal.invariant-turns

@@ -1,5 +1,5 @@
 use Rattle.std.proofs.Common.{◌+◌, ◌-◌, ◌/◌, ◌<◌, length, arith}
-use Rattle.my_pool_core.proofs.Searching.{below-from, above-from, halved}
+use Rattle.my_pool_core.proofs.Queue.Searching.{below-from, above-from, halved}
 use Rattle.my_pool_core.proofs.live.first_from.Goals as goal
 
 pub loop-low-preserved-then-requests-middle : goal.loop-low-preserved-then-requests-middle

@@ -1,7 +1,7 @@
 use Rattle.std.proofs.Common.{◌∙◌, ◌<◌, ap, get_or, length, sym, arith}
 use Rattle.std.proofs.lemmas.Bool.{cases_eq, cases_lt}
 use Rattle.my_pool_core.specs.Requests.{asking}
-use Rattle.my_pool_core.proofs.Searching.{rising-at, position-at, position-none}
+use Rattle.my_pool_core.proofs.Queue.Searching.{rising-at, position-at, position-none}
 use Rattle.std.proofs.Common.{inl, inr}
 use Rattle.my_pool_core.proofs.live.index_of.Goals as goal
 

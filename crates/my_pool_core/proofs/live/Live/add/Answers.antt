@@ -3,7 +3,7 @@ use Rattle.std.specs.Prelude.{is_ok, if◌then◌else◌}
 use Rattle.my_pool_core.specs.Requests.{asking}
 use Rattle.my_pool_core.specs.Live.{age_if}
 use Rattle.my_pool_core.specs.Sound.{IsRising}
-use Rattle.my_pool_core.proofs.Lived.{live-added, live-queue, live-as}
+use Rattle.my_pool_core.proofs.Queue.Lived.{live-added, live-queue, live-as}
 use Rattle.my_pool_core.proofs.live.Live.add.Goals as goal
 
 pub invariant_of-self-in_err-have_slot : goal.invariant_of-self-in_err-have_slot

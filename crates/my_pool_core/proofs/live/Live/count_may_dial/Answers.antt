@@ -1,7 +1,7 @@
 use Rattle.std.proofs.Common.{ap, arith}
 use Rattle.my_pool_core.specs.Lists.{how_many}
 use Rattle.my_pool_core.specs.Requests.{may_dial}
-use Rattle.my_pool_core.proofs.Waking.{count-may-dial}
+use Rattle.my_pool_core.proofs.Queue.Waking.{count-may-dial}
 use Rattle.my_pool_core.proofs.live.Live.count_may_dial.Goals as goal
 
 pub overflow_sub-result : goal.overflow_sub-result

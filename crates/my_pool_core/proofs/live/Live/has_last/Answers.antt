@@ -1,7 +1,7 @@
 use Rattle.std.proofs.Common.{ap, ◌∙◌}
 use Rattle.std.specs.Prelude.{is_some}
 use Rattle.my_pool_core.specs.Requests.{has_age, last_age}
-use Rattle.my_pool_core.proofs.Waking.{any-is-some}
+use Rattle.my_pool_core.proofs.Queue.Waking.{any-is-some}
 use Rattle.my_pool_core.proofs.live.Live.has_last.Goals as goal
 
 pub returns-clause-answer : goal.returns-clause-answer

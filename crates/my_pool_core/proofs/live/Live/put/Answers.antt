@@ -2,7 +2,7 @@ use Rattle.std.proofs.Common.{Some, None, cond, get_or, set, sym, ap, ◌∙◌,
 use Rattle.my_pool_core.specs.declared.request.Request.{Request}
 use Rattle.my_pool_core.specs.Live.{age_if}
 use Rattle.my_pool_core.specs.Requests.{is_dialing, is_queued}
-use Rattle.my_pool_core.proofs.Lived.{read-at, live-counted, live-few, live-set, held-few}
+use Rattle.my_pool_core.proofs.Queue.Lived.{read-at, live-counted, live-few, live-set, held-few}
 use Rattle.my_pool_core.proofs.live.Live.put.Goals as goal
 
 pub set_held-requires-clause-alone : goal.set_held-requires-clause-alone

@@ -1,7 +1,7 @@
 use Rattle.std.proofs.Common.{◌++◌, ◌∷◌, [], None, false, set, refl, sym, ap, ◌∙◌, arith}
 use Rattle.std.specs.Prelude.{is_ok, if◌then◌else◌, remove}
 use Rattle.my_pool_core.specs.Requests.{asking, is_dialing, is_queued}
-use Rattle.my_pool_core.proofs.Lived.{read-at, live-counted, live-few, live-removed, live-as, held-few}
+use Rattle.my_pool_core.proofs.Queue.Lived.{read-at, live-counted, live-few, live-removed, live-as, held-few}
 use Rattle.my_pool_core.proofs.live.Live.remove_at.Goals as goal
 
 pub set_held-requires-clause-alone : goal.set_held-requires-clause-alone

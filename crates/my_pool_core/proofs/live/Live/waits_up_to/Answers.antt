@@ -1,7 +1,7 @@
 use Rattle.std.proofs.Common.{◌≡◌, sym, ap, ◌∙◌}
 use Rattle.my_pool_core.specs.Lists.{how_many}
 use Rattle.my_pool_core.specs.Requests.{is_waiting, waits_up_to}
-use Rattle.my_pool_core.proofs.Waking.{oldest, waits-oldest, waits-none, count-waiting}
+use Rattle.my_pool_core.proofs.Queue.Waking.{oldest, waits-oldest, waits-none, count-waiting}
 use Rattle.my_pool_core.proofs.live.Live.waits_up_to.Goals as goal
 
 pub returns-in-Some-clause-answer : goal.returns-in-Some-clause-answer

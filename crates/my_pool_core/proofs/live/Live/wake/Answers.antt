@@ -2,7 +2,7 @@ use Rattle.std.proofs.Common.{◌≡◌, sym, ◌∙◌, subst}
 use Rattle.my_pool_core.specs.declared.request.Standing.TheVariants.{Woken}
 use Rattle.my_pool_core.specs.Lists.{how_many}
 use Rattle.my_pool_core.specs.Requests.{is_waiting, standing_as, wake, set_standing}
-use Rattle.my_pool_core.proofs.Waking.{oldest, wakes-oldest, wakes-none, count-waiting}
+use Rattle.my_pool_core.proofs.Queue.Waking.{oldest, wakes-oldest, wakes-none, count-waiting}
 use Rattle.my_pool_core.proofs.live.Live.wake.Goals as goal
 
 pub returns-in-Some-clause-requests : goal.returns-in-Some-clause-requests

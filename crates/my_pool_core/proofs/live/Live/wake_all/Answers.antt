@@ -1,8 +1,8 @@
 use Rattle.std.proofs.Common.{◌+◌, ◌*◌, ◌<◌, length, sym, ap, ◌∙◌, arith}
 use Rattle.my_pool_core.specs.Lists.{how_many}
 use Rattle.my_pool_core.specs.Requests.{is_waiting, wake_all}
-use Rattle.my_pool_core.proofs.Waking.{wake-fewer, wake-all-wake, all-awake}
-use Rattle.my_pool_core.proofs.Costs.{wake-long, woken-once}
+use Rattle.my_pool_core.proofs.Queue.Waking.{wake-fewer, wake-all-wake, all-awake}
+use Rattle.my_pool_core.proofs.Queue.Costs.{wake-long, woken-once}
 use Rattle.my_pool_core.proofs.live.Live.wake_all.Goals as goal
 
 pub loop-self-smaller : goal.loop-self-smaller

@@ -8,7 +8,7 @@ use Rattle.my_pool_core.specs.Lists.{without, how_many}
 use Rattle.my_pool_core.specs.Requests.{last_age, has_age, is_waiting, is_waiting_standing, standing_as, ended, wake}
 use Rattle.my_pool_core.specs.Sound.{dials, checks, is_unmarked, is_dialer}
 use Rattle.my_pool_core.proofs.Finding.{one, count-without, count-change-same}
-use Rattle.my_pool_core.proofs.Fewer.{FewerRequests, same-requests, fewer-requests, ended-fewer, changed-fewer}
+use Rattle.my_pool_core.proofs.Kept.Fewer.{FewerRequests, same-requests, fewer-requests, ended-fewer, changed-fewer}
 
 pub record QuietRequests (rs qs : List Request) : Type 0 where
   pub fewer : FewerRequests rs qs

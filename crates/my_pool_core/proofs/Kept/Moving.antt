@@ -14,8 +14,8 @@ use Rattle.my_pool_core.specs.Requests.{is_waiting}
 use Rattle.my_pool_core.specs.State.{State}
 use Rattle.my_pool_core.specs.Sound.{IsSound, connects, is_checked}
 use Rattle.my_pool_core.proofs.Finding.{one, count-without-le, count-append, count-push}
-use Rattle.my_pool_core.proofs.Fewer.{FewerConnections, same-requests, sound_after, move-fewer, move-same, freed-fewer, freed-same}
-use Rattle.my_pool_core.proofs.Quiet.{QuietRequests}
+use Rattle.my_pool_core.proofs.Kept.Fewer.{FewerConnections, same-requests, sound_after, move-fewer, move-same, freed-fewer, freed-same}
+use Rattle.my_pool_core.proofs.Kept.Quiet.{QuietRequests}
 
 -- a connection that nobody holds changes its place
 pub sound-move : (s : State) (n : ℕ) (p p0 : Place) (qs : List Request) (counts : Counts)

@@ -11,7 +11,7 @@ use Rattle.my_pool_core.specs.Requests.{last_age, has_age, is_waiting, ended}
 use Rattle.my_pool_core.specs.State.{State}
 use Rattle.my_pool_core.specs.Sound.{IsRising, IsSound, dials, checks, connects, is_checked, is_unmarked, is_dialer, is_last_holder}
 use Rattle.my_pool_core.proofs.Finding.{one, count-without, count-without-le, count-change-less, count-push, length-without, shorter-without, found-passes}
-use Rattle.my_pool_core.proofs.Rising.{rising-without, rising-change}
+use Rattle.my_pool_core.proofs.Finding.Rising.{rising-without, rising-change}
 use Rattle.std.proofs.Common.{length-append}
 use Rattle.std.proofs.lemmas.Bool.{eqb-true}
 

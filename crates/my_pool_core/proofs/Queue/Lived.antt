@@ -10,7 +10,7 @@ use Rattle.my_pool_core.specs.Requests.{asking, is_waiting, is_dialing, is_queue
 use Rattle.my_pool_core.specs.Sound.{IsRising}
 use Rattle.my_pool_core.specs.Live.{age_if, IsQueue, IsLive}
 use Rattle.my_pool_core.proofs.Finding.{one, count-le-length, count-push}
-use Rattle.my_pool_core.proofs.Searching.{rising-at}
+use Rattle.my_pool_core.proofs.Queue.Searching.{rising-at}
 use Rattle.my_pool_core.proofs.Queue.{queue-set, queue-removed, queue-pushed}
 
 -- ---- counts at a place ----

@@ -15,9 +15,9 @@ use Rattle.my_pool_core.specs.Requests.{last_age, has_age, is_waiting, is_waitin
 use Rattle.my_pool_core.specs.State.{State}
 use Rattle.my_pool_core.specs.Sound.{IsSound, dials, checks, connects, is_checked, is_unmarked, is_dialer, is_last_holder}
 use Rattle.my_pool_core.proofs.Finding.{one, count-without, count-without-le, count-change, count-change-less, count-found, found-once}
-use Rattle.my_pool_core.proofs.Fewer.{FewerConnections, FewerRequests, sound_after, found-placed, move-fewer, move-count, freed-fewer, fewer-requests, ended-fewer}
-use Rattle.my_pool_core.proofs.Rising.{rising-change}
-use Rattle.my_pool_core.proofs.Quiet.{IsAt, req, wake-quiet}
+use Rattle.my_pool_core.proofs.Kept.Fewer.{FewerConnections, FewerRequests, sound_after, found-placed, move-fewer, move-count, freed-fewer, fewer-requests, ended-fewer}
+use Rattle.my_pool_core.proofs.Finding.Rising.{rising-change}
+use Rattle.my_pool_core.proofs.Kept.Quiet.{IsAt, req, wake-quiet}
 
 -- ---- what is known of a request that holds a connection ----
 

@@ -16,10 +16,10 @@ use Rattle.my_pool_core.specs.State.{State, one_more}
 use Rattle.my_pool_core.specs.Events.{is_at_end, close, with_last, request}
 use Rattle.my_pool_core.specs.Sound.{IsSound, dials, checks, connects, is_checked, is_unnumbered, is_unborn, is_unmarked, is_dialer, is_last_holder}
 use Rattle.my_pool_core.proofs.Finding.{one, count-change, count-found, count-push, count-map-same, count-either, count-implies, count-le-length, none-counted}
-use Rattle.my_pool_core.proofs.Fewer.{sound_after, same-connections, move-fewer, move-count}
-use Rattle.my_pool_core.proofs.Rising.{rising-map, rising-push}
-use Rattle.my_pool_core.proofs.Quiet.{req, ended-quiet}
-use Rattle.my_pool_core.proofs.Holding.{found-change-fewer}
+use Rattle.my_pool_core.proofs.Kept.Fewer.{sound_after, same-connections, move-fewer, move-count}
+use Rattle.my_pool_core.proofs.Finding.Rising.{rising-map, rising-push}
+use Rattle.my_pool_core.proofs.Kept.Quiet.{req, ended-quiet}
+use Rattle.my_pool_core.proofs.Kept.Holding.{found-change-fewer}
 
 -- ---- what is known of a request without a connection ----
 
