@@ -7,6 +7,8 @@ mod connects;
 #[cfg(test)]
 mod hex;
 #[cfg(test)]
+mod library;
+#[cfg(test)]
 mod play;
 #[cfg(test)]
 mod streams;
