@@ -22,7 +22,7 @@ use Rattle.my_session.specs.History.{History, ToldReady, ToldError, ending}
 use Rattle.my_session.specs.Seen.{Seen}
 use Rattle.my_session.specs.Stands.{Stands, is_alive, owes}
 use Rattle.my_session.specs.Steps.{Steps, AllGo, goes_on, moved, with_end, with_failing, failing}
-use Rattle.my_session.proofs.Ending.{first_goes}
+use Rattle.my_session.proofs.Ends.{first_goes}
 use Rattle.my_client.specs.declared.tape.DoneCall.{DoneCall}
 use Rattle.my_client.specs.Causes.{KindBy, IoBy, ErrorBy}
 use Rattle.my_client.specs.Kept.{Asked, Kept, IsHeard}

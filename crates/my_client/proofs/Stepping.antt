@@ -19,9 +19,9 @@ use Rattle.my_session.specs.Passed.{ArePassed}
 use Rattle.my_session.specs.Seen.{Seen}
 use Rattle.my_session.specs.Stands.{Stands, call_with}
 use Rattle.my_session.specs.Steps.{Steps, after_step, with_owed, with_unread}
-use Rattle.my_session.proofs.Completing.{each_whole_call}
-use Rattle.my_session.proofs.Ending.{each_end}
-use Rattle.my_session.proofs.Fitting.{each_answer_fits}
+use Rattle.my_session.proofs.Whole.{each_whole_call}
+use Rattle.my_session.proofs.Ends.{each_end}
+use Rattle.my_session.proofs.Fits.{each_answer_fits}
 use Rattle.my_client.specs.declared.tape.Said.TheVariants as says
 use Rattle.my_client.specs.Kept.{Asked, Kept, IsOf, IsHeard, call_in, ended_by}
 use Rattle.my_client.specs.Rests.{IsAsked, IsHeld, IsAnswered, FailsNow, AwaitsBytes}

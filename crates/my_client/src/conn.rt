@@ -9,7 +9,6 @@ ghost use Rattle.my_client.specs.Kept.{Asked, nothing_kept, first_asked, first_k
 ghost use Rattle.my_client.specs.Login.{login_of};
 ghost use Rattle.my_client.specs.Rests.{IsAsked};
 
-use crate::copy::copy_ok;
 use crate::login::login_for;
 use crate::tape::{DoneCall, OpenCall, ask};
 use my_frame::NoMemory;
@@ -95,6 +94,6 @@ pub fn last_ok<L>(alloc: Global, conn: &Conn<L>) -> Result<Option<OkPacket>, NoM
 {
     match conn.session.last_ok() {
         None => Ok(None),
-        Some(packet) => Ok(Some(copy_ok(alloc, packet)?)),
+        Some(packet) => Ok(Some(packet.copy(alloc)?)),
     }
 }

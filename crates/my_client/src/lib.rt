@@ -2,14 +2,12 @@
 #![tactic(auto)]
 
 mod conn;
-mod copy;
 mod driver;
 mod login;
 mod poll;
 mod tape;
 
 pub use conn::{Conn, begin_conn, is_connecting, is_gathering, last_ok};
-pub use copy::{copy_call, copy_error};
 pub use driver::drive;
 pub use login::login_for;
 pub use poll::{After, MOST_TAKEN, poll_conn};

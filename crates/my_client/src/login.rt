@@ -2,14 +2,12 @@
 ghost use Rattle.std.specs.Prelude.{◌≡◌, IfOk, map, option_map, string_bytes};
 ghost use Rattle.my_client.specs.Login.{login_of};
 
-use my_frame::{Blob, NoMemory};
-use my_grammar::{Login, Texts};
+use my_frame::limits::DEFAULT_MAX_ALLOWED_PACKET;
+use my_frame::{Blob, Listed, NoMemory};
+use my_grammar::Login;
 use my_handshake::Attributes;
 use my_opts::Opts;
 use std::alloc::Global;
-
-// The longest payload where the options don't say it, in bytes.
-const DEFAULT_PACKET: u64 = 4194304;
 
 fn blob(alloc: Global, text: Option<&str>) -> Result<Option<Blob>, NoMemory>
     ensures { IfOk result (λ b. b ≡ option_map (λ t. t.now) text.entry) }
@@ -20,10 +18,10 @@ fn blob(alloc: Global, text: Option<&str>) -> Result<Option<Blob>, NoMemory>
     }
 }
 
-fn copied(alloc: Global, queries: &[String]) -> Result<Texts, NoMemory>
+fn copied(alloc: Global, queries: &[String]) -> Result<Listed<Blob>, NoMemory>
     ensures { IfOk result (λ t. t ≡ map string_bytes queries.now) }
 {
-    let mut texts = Texts::new(alloc);
+    let mut texts = Listed::new(alloc);
     for query in queries {
         texts.push(Blob::from_slice(alloc, query.as_bytes())?)?;
     }
@@ -38,7 +36,7 @@ pub fn login_for(alloc: Global, opts: &Opts) -> Result<Login, NoMemory>
     let password = blob(alloc, opts.pass())?;
     let database = blob(alloc, opts.db_name())?;
     let max_packet = match opts.max_allowed_packet() {
-        None => DEFAULT_PACKET as u32,
+        None => DEFAULT_MAX_ALLOWED_PACKET as u32,
         Some(bytes) => bytes as u32,
     };
     let capabilities = opts.get_capabilities();
@@ -48,7 +46,7 @@ pub fn login_for(alloc: Global, opts: &Opts) -> Result<Login, NoMemory>
         database,
         max_packet,
         attributes: Attributes::new(alloc),
-        capabilities: capabilities.0,
+        capabilities,
         packet_limit: opts.max_allowed_packet(),
         wait_timeout: opts.wait_timeout(),
         init: copied(alloc, opts.init())?,

@@ -8,7 +8,6 @@ ghost use Rattle.my_client.specs.Kept.{asking};
 ghost use Rattle.my_client.specs.declared.tape.Said.TheVariants as says;
 
 use crate::conn::Conn;
-use crate::copy::{copy_answer, copy_error};
 use crate::poll::After;
 use my_frame::NoMemory;
 use my_session::{Answer, Call, Error};
@@ -91,11 +90,11 @@ pub(crate) fn keep<L>(
     match after {
         After::Pending => Ok(None),
         After::Answered(answer) => {
-            let copy = copy_answer(alloc, answer)?;
+            let copy = answer.copy(alloc)?;
             note(conn, Said::Answered(copy))
         }
         After::Failed(error) => {
-            let copy = copy_error(alloc, error)?;
+            let copy = error.copy(alloc)?;
             note(conn, Said::Failed(copy))
         }
     }

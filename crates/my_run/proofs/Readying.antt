@@ -9,7 +9,7 @@ use Rattle.my_session.specs.History.{History, began}
 use Rattle.my_session.specs.Seen.{Seen}
 use Rattle.my_session.specs.Stands.{Stands}
 use Rattle.my_session.specs.Steps.{begun, is_refused, is_settled, AtBegun}
-use Rattle.my_session.proofs.Plain.{no_task}
+use Rattle.my_session.proofs.Stands.Plain.{no_task}
 use Rattle.my_run.specs.declared.gather.Gathering.TheVariants.{On}
 use Rattle.my_client.specs.declared.poll.After.{After}
 use Rattle.my_client.specs.declared.poll.After.TheVariants as after

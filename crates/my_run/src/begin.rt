@@ -9,7 +9,7 @@ ghost use Rattle.my_run.specs.declared.slot.Slot.TheVariants.{There as ThereAt};
 ghost use Rattle.my_run.specs.declared.work.Work.TheVariants.{Begin as BeginWork};
 
 use crate::outcome::{StepResult, shown, unused, used_once};
-use my_client::{Conn, Said, ask, copy_call, copy_error, drive, note};
+use my_client::{Conn, Said, ask, drive, note};
 use my_frame::NoMemory;
 use my_link::Link;
 use my_script::{Outcome, Use};
@@ -41,7 +41,7 @@ pub(crate) fn refused_call<L>(
     ensures session { conn.new.session ≡ conn.old.session }
     ensures link { conn.new.link ≡ conn.old.link }
 {
-    let copy = copy_error(alloc, &error)?;
+    let copy = error.copy(alloc)?;
     let _ = note(conn, Said::Failed(copy))?;
     Ok(unused(alloc, Outcome::Failed(error)))
 }
@@ -60,7 +60,7 @@ pub(crate) fn begin_call<L: Link>(
     if conn.session.is_open() {
         return Ok(unused(alloc, Outcome::NoSuchHandle));
     }
-    let copy = copy_call(alloc, &call)?;
+    let copy = call.copy(alloc)?;
     ask(conn, copy, None);
     match conn.session.begin(call) {
         Ok(()) => poll_open(alloc, conn, number),

@@ -62,7 +62,7 @@ fn one(alloc: Global, item: ReadItem) -> Result<Addition, AllocError>
 }
 
 // Each byte by itself; after it the next read isn't ready, once.
-fn drip(alloc: Global, bytes: &[u8]) -> Result<Addition, AllocError>
+fn drip(alloc: Global, bytes: &[u8]) -> Result<Addition, NoMemory>
     ensures added { IfOk result (λ a. added a ≡ record { reads = dripped bytes.now; writes = [] }) }
     ensures lawful { IfOk result (λ a. is_lawful a ≡ true) }
 {
@@ -74,14 +74,14 @@ fn drip(alloc: Global, bytes: &[u8]) -> Result<Addition, AllocError>
     Ok(Addition::Reads(items))
 }
 
-fn read_bytes(alloc: Global, bytes: &Blob) -> Result<Addition, AllocError>
+fn read_bytes(alloc: Global, bytes: &Blob) -> Result<Addition, NoMemory>
     ensures added { IfOk result (λ a. added a ≡ record { reads = bytes_item bytes.now; writes = [] }) }
     ensures lawful { IfOk result (λ a. is_lawful a ≡ true) }
 {
     if bytes.is_empty() {
         return Ok(Addition::Nothing);
     }
-    one(alloc, ReadItem::Bytes(bytes.copy(alloc)?))
+    Ok(one(alloc, ReadItem::Bytes(bytes.copy(alloc)?))?)
 }
 
 fn accept(count: u64) -> Addition
@@ -94,24 +94,24 @@ fn accept(count: u64) -> Addition
     Addition::Write(WriteItem::Accept(count))
 }
 
-fn addition(alloc: Global, line: &WorldLine) -> Result<Addition, AllocError>
+fn addition(alloc: Global, line: &WorldLine) -> Result<Addition, NoMemory>
     ensures added { IfOk result (λ a. added a ≡ given_by line.now) }
     ensures lawful { IfOk result (λ a. is_lawful a ≡ true) }
 {
     match line {
         WorldLine::Packet(_, number, payload) => {
             let bytes = packet_bytes(alloc, *number, payload.as_slice())?;
-            one(alloc, ReadItem::Bytes(Blob::from(bytes)))
+            Ok(one(alloc, ReadItem::Bytes(Blob::from(bytes)))?)
         }
         WorldLine::Drip(_, number, payload) => {
             let bytes = packet_bytes(alloc, *number, payload.as_slice())?;
             drip(alloc, &bytes)
         }
         WorldLine::Bytes(_, bytes) => read_bytes(alloc, bytes),
-        WorldLine::Turn(_) => one(alloc, ReadItem::Turn),
-        WorldLine::Wait(_) => one(alloc, ReadItem::Wait),
-        WorldLine::Fail(_) => one(alloc, ReadItem::Fail),
-        WorldLine::End(_) => one(alloc, ReadItem::End),
+        WorldLine::Turn(_) => Ok(one(alloc, ReadItem::Turn)?),
+        WorldLine::Wait(_) => Ok(one(alloc, ReadItem::Wait)?),
+        WorldLine::Fail(_) => Ok(one(alloc, ReadItem::Fail)?),
+        WorldLine::End(_) => Ok(one(alloc, ReadItem::End)?),
         WorldLine::Accept(_, count) => Ok(accept(*count)),
         WorldLine::WriteWait(_) => Ok(Addition::Write(WriteItem::Wait)),
         WorldLine::WriteFail(_) => Ok(Addition::Write(WriteItem::Fail)),

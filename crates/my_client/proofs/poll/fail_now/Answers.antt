@@ -1,4 +1,4 @@
-use Rattle.my_session.proofs.Ending.{only_fails}
+use Rattle.my_session.proofs.Ends.{only_fails}
 use Rattle.my_client.specs.Conn.{asked_in, kept_of}
 use Rattle.my_client.proofs.Stepping.{fails_now}
 use Rattle.my_client.proofs.Failing.{fails_ok}

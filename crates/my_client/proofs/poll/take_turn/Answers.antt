@@ -1,4 +1,4 @@
-use Rattle.my_session.proofs.Ending.{ended_fails}
+use Rattle.my_session.proofs.Ends.{ended_fails}
 use Rattle.my_client.specs.Conn.{kept_of}
 use Rattle.std.proofs.lemmas.Result.{IfOk-weaker}
 use Rattle.my_client.proofs.Stepping.{held_send, held_need, awaits, is_answered}
