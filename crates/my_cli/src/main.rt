@@ -1,6 +1,8 @@
 //! Runs scripts of steps over MySQL connections.
 #![tactic(auto)]
 
+ghost use Rattle.my_cli.specs.Page.{page_text, PageEnds};
+
 mod help;
 mod message;
 #[cfg(test)]
@@ -16,7 +18,7 @@ use help::{Page, asked_page};
 use message::message;
 use my_frame::{Sink, StdSink, StdSource};
 use my_run::{Status, run_tool, write_all};
-use my_world::memory::world::MemWorld;
+use my_world::MemWorld;
 use std::alloc::AllocError;
 use std::io::Eprint;
 use std::process::ExitCode;
@@ -33,7 +35,9 @@ fn command_words<R: Env + AllocGlobal>(rt: &R) -> io::Result<Vec<String>> {
 }
 
 // Writes a page, and returns how that ended.
-fn print_page<W: Sink>(out: &mut W, page: Page) -> Status {
+fn print_page<W: Sink>(out: &mut W, page: Page) -> Status
+    ensures { PageEnds (page_text page) (W.took out.old) (W.took out.new) (W.faults out.old) (W.faults out.new) result }
+{
     if write_all(out, page.text().as_bytes()) {
         Status::Done
     } else {

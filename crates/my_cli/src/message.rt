@@ -1,34 +1,57 @@
 //! Why a run ended, in one line for standard error.
+ghost use Rattle.std.specs.Prelude.{◌≡◌, ◌++◌, ◌∷◌, [], encode_utf8, map, option_map, string_bytes, OnOk, IfOk};
+ghost use Rattle.my_cli.specs.Message.{printable, printed, words_text, no_command_text, bad_line_text, MessageIs};
 
 use my_run::Status;
 use std::alloc::{AllocError, Global};
 
-// The bytes as text, with `?` in place of what can't be printed.
-fn push_printable(text: &mut String, bytes: &[u8]) -> Result<(), AllocError> {
+fn printable_char(byte: u8) -> char
+    ensures { encode_utf8 result ≡ printable byte ∷ [] }
+{
+    if byte.is_ascii_graphic() || byte == b' ' {
+        byte as char
+    } else {
+        '?'
+    }
+}
+
+// Appends the bytes, with `?` in place of what can't be printed.
+fn push_printed(text: &mut String, bytes: &[u8]) -> Result<(), AllocError>
+    ensures { OnOk result (string_bytes text.new ≡ string_bytes text.old ++ printed bytes.now) }
+{
     for byte in bytes {
-        let printed = if byte.is_ascii_graphic() || *byte == b' ' {
-            *byte as char
-        } else {
-            '?'
-        };
-        text.push(printed)?;
+        text.push(printable_char(*byte))?;
     }
     Ok(())
 }
 
-fn no_command(alloc: Global, words: &[String]) -> Result<String, AllocError> {
-    let mut text = String::from_str(alloc, "no such command:")?;
+// Appends each word after a blank.
+fn push_words(text: &mut String, words: &[String]) -> Result<(), AllocError>
+    ensures { OnOk result (string_bytes text.new ≡ string_bytes text.old ++ words_text (map string_bytes words.now)) }
+{
     for word in words {
         text.push(' ')?;
-        push_printable(&mut text, word.as_bytes())?;
+        push_printed(text, word.as_bytes())?;
     }
+    Ok(())
+}
+
+fn no_command(alloc: Global, words: &[String]) -> Result<String, AllocError>
+    ensures { IfOk result (λ text. string_bytes text ≡ no_command_text (map string_bytes words.now)) }
+{
+    let mut text = String::from_str(alloc, "no such command:")?;
+    push_words(&mut text, words)?;
     text.push_str("; --help teaches the words")?;
     Ok(text)
 }
 
-fn bad_line(alloc: Global, number: u64, line: &[u8]) -> Result<String, AllocError> {
-    let mut text = format!(in alloc; "line {number} doesn't read: ")?;
-    push_printable(&mut text, line)?;
+fn bad_line(alloc: Global, number: u64, line: &[u8]) -> Result<String, AllocError>
+    ensures { IfOk result (λ text. string_bytes text ≡ bad_line_text number line.now) }
+{
+    let mut text = String::from_str(alloc, "line ")?;
+    text.push_str(number.to_string(alloc)?.as_str())?;
+    text.push_str(" doesn't read: ")?;
+    push_printed(&mut text, line)?;
     Ok(text)
 }
 
@@ -37,7 +60,9 @@ pub fn message(
     alloc: Global,
     words: &[String],
     status: &Status,
-) -> Result<Option<String>, AllocError> {
+) -> Result<Option<String>, AllocError>
+    ensures { IfOk result (λ m. MessageIs (map string_bytes words.now) status.now (option_map string_bytes m)) }
+{
     let text = match status {
         Status::Done => return Ok(None),
         Status::NoCommand => no_command(alloc, words)?,

@@ -5,7 +5,7 @@ ghost use Rattle.std.specs.Prelude.{None};
 use crate::message::message;
 use my_frame::{MemSink, MemSource, NoMemory, Source, SourceStep};
 use my_run::run_tool;
-use my_world::memory::world::MemWorld;
+use my_world::MemWorld;
 use std::alloc::Global;
 use std::test::Fail;
 

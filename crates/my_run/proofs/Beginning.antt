@@ -1,148 +1,50 @@
 -- How a call begins on a connection.
-use Rattle.std.proofs.Common.{◌≡◌, ◌≢◌, ℕ, List, [], ◌∷◌, length, ◌||◌, Bool, true, false, cond, Option, Some, None, refl, sym, ap, ◌∙◌, subst, arith}
+use Rattle.my_client.proofs.Beginning.{begins, closed_kept, is_asked, is_idle, refuses}
+use Rattle.std.proofs.Common.{ℕ, ◌≡◌, ◌≢◌, List, [], ◌∷◌, Bool, true, false, Option, Some, None, refl, sym, ap, ◌∙◌, subst, arith}
 use Rattle.std.proofs.lemmas.Bool.Decides.{nat_tests}
 use Rattle.my_grammar.specs.declared.login.Login.{Login}
-use Rattle.my_value.specs.RowParts.{RowParts}
 use Rattle.my_session.specs.declared.call.Call.{Call}
-use Rattle.my_session.specs.declared.call.CallKind.{CallKind}
-use Rattle.my_session.specs.declared.call.CallKind.TheVariants.{Connect, Query, NextRow, DropResult, Ping, Quit}
-use Rattle.my_session.specs.declared.call.Task.{Task}
-use Rattle.my_session.specs.declared.call.Task.TheVariants.{Nothing, Begun, Cleaning, Own, Arranging, Reading, Dropping, Leaving, Failing}
 use Rattle.my_session.specs.declared.error.Error.{Error}
-use Rattle.my_session.specs.Calls.{kind_of, kind_in, call_of, fault_in, is_open}
+use Rattle.my_session.specs.Calls.{kind_of, is_open}
 use Rattle.my_session.specs.Errors.{connection_closed}
 use Rattle.my_session.specs.Fits.{is_begun}
-use Rattle.my_session.specs.History.{History, Made, Told, ToldReady, ToldRow, ToldEnd, ToldNone, ToldError, Dropped, began, answered, closes, has_closed}
+use Rattle.my_session.specs.History.{History, ToldError, began, answered, has_closed}
 use Rattle.my_session.specs.Seen.{Seen}
-use Rattle.my_session.specs.Stands.{Stands, call_with}
+use Rattle.my_session.specs.Stands.{Stands}
 use Rattle.my_session.specs.Steps.{begun, is_refused}
-use Rattle.my_run.specs.declared.poll.Polled.{Polled}
-use Rattle.my_run.specs.declared.tape.Said.TheVariants as says
+use Rattle.my_client.specs.declared.poll.After.{After}
+use Rattle.my_link.specs.declared.met.Met.{Met}
+use Rattle.my_run.specs.Sums.{use_of, IsSilent}
+use Rattle.my_client.specs.declared.tape.Said.TheVariants as says
 use Rattle.my_script.specs.declared.transcript.Outcome.{Outcome}
 use Rattle.my_script.specs.declared.transcript.Use.{Use}
-use Rattle.my_run.specs.declared.slot.Conn.{Conn}
+use Rattle.my_client.specs.declared.conn.Conn.{Conn}
 use Rattle.my_run.specs.declared.slot.Slot.TheVariants.{There}
 use Rattle.my_script.specs.declared.transcript.Outcome.TheVariants.{NoSuchHandle, Failed}
 use Rattle.my_run.specs.Did.{Did, OpenPolled}
-use Rattle.my_run.specs.Slot.{kept_of}
-use Rattle.my_run.specs.Drives.{Drives}
-use Rattle.my_run.specs.Grows.{Begins, BeginsOn, Calls, asked_by, shown}
+use Rattle.my_client.specs.Conn.{kept_of}
+use Rattle.my_client.specs.Drives.{Drives}
+use Rattle.my_run.specs.Grows.{Begins, BeginsOn, Calls, shown}
+use Rattle.my_client.specs.Kept.{asked_by, Asked, Kept, made_of, asking, ended_by}
 use Rattle.my_run.specs.Handle.{Joined}
-use Rattle.my_run.specs.Keeps.{StandsBy, LinkSpent}
-use Rattle.my_run.specs.Kept.{Asked, Kept, IsHeard, made_of, is_note, answers_in, call_in, asking, ended_by}
-use Rattle.my_world.specs.Looks.{Looks}
-use Rattle.my_run.specs.Rests.{Rests, IsAsked}
-use Rattle.my_run.specs.Sums.{IsSilent}
-use Rattle.my_run.proofs.Hearing.{answer_counts, ended_of}
+use Rattle.my_client.specs.Ready.{StandsBy}
+use Rattle.my_run.specs.Keeps.{LinkSpent}
+use Rattle.my_link.specs.Looks.{Looks}
+use Rattle.my_client.specs.Rests.{Rests, IsAsked}
 use Rattle.my_run.proofs.Playing.{plays_end, there_plays, slot_rests}
-
--- notes close nothing
-note_keeps : (c : CallKind) (t : Told) → is_note c t ≡ true → closes t c ≡ false
-note_keeps Connect t n = cc
-note_keeps Query t n = cc
-note_keeps NextRow t n = cc
-note_keeps DropResult ToldReady n = cc
-note_keeps DropResult (ToldRow row) n = refl
-note_keeps DropResult ToldEnd n = refl
-note_keeps DropResult ToldNone n = cc
-note_keeps DropResult (ToldError e) n = cc
-note_keeps DropResult (Dropped closing) n = cc
-note_keeps Ping t n = cc
-note_keeps Quit t n = cc
-
-closed_if : (m : Made) (ms : List Made) (b : Bool) → is_note (kind_of m.call) m.what ≡ b → has_closed ms ≡ has_closed (answers_in ms) → has_closed (m ∷ ms) ≡ has_closed (cond b (answers_in ms) (m ∷ answers_in ms))
-closed_if m ms true n e = ap (λ (b : Bool). b || has_closed ms) (note_keeps (kind_of m.call) m.what n) ∙ e
-closed_if m ms false n e = ap (λ (b : Bool). closes m.what (kind_of m.call) || b) e
-
-closed_answers : (ms : List Made) → has_closed ms ≡ has_closed (answers_in ms)
-closed_answers [] = refl
-closed_answers (m ∷ ms) = closed_if m ms (is_note (kind_of m.call) m.what) refl (closed_answers ms)
-
-or_none : (b c : Bool) → c ≡ false → b || c ≡ b
-or_none true c e = refl
-or_none false c e = e
-
--- whether the session is closed stands in the calls that were kept
-pub closed_kept : (login : Login) (s : Seen) (k : Kept) → IsHeard login s k → s.closed ≡ has_closed (made_of k.calls)
-closed_kept login s k w = w.stands.heard.closed_is ∙ or_none (has_closed w.history.calls) w.history.lost w.kept.lost_is ∙ closed_answers w.history.calls ∙ ap has_closed w.kept.calls_are
-
--- where the session has an open call, the connection keeps one, and where it has none, none
-open_call : (t : Task) (text : List ℕ) (p : Option Call) (q : Option Asked) → is_open t ≡ true → p ≡ call_with (kind_in t) text → p ≡ call_in q → (a : Asked) × (q ≡ Some a)
-open_call t text p (Some a) o e f = (a, refl)
-open_call Nothing text p None o e f = cc
-open_call (Begun c) text p None o e f = let no : Some (call_of c text) ≡ None = sym e ∙ f in cc
-open_call (Cleaning c) text p None o e f = let no : Some (call_of c text) ≡ None = sym e ∙ f in cc
-open_call (Own c) text p None o e f = let no : Some (call_of c text) ≡ None = sym e ∙ f in cc
-open_call (Arranging n) text p None o e f = let no : Some (call_of Connect text) ≡ None = sym e ∙ f in cc
-open_call Reading text p None o e f = let no : Some (call_of NextRow text) ≡ None = sym e ∙ f in cc
-open_call Dropping text p None o e f = let no : Some (call_of DropResult text) ≡ None = sym e ∙ f in cc
-open_call Leaving text p None o e f = let no : Some (call_of Quit text) ≡ None = sym e ∙ f in cc
-open_call (Failing c fault) text p None o e f = let no : Some (call_of c text) ≡ None = sym e ∙ f in cc
-
-pub is_asked : (login : Login) (s : Seen) (k : Kept) → is_open s.task ≡ true → IsHeard login s k → (a : Asked) × (k.pending ≡ Some a)
-is_asked login s k o w = open_call s.task s.text w.history.pending k.pending o w.stands.heard.pending_is w.kept.pending_is
-
-no_call : (t : Task) (text : List ℕ) (p : Option Call) (q : Option Asked) → is_open t ≡ false → p ≡ call_with (kind_in t) text → p ≡ call_in q → q ≡ None
-no_call t text p None o e f = refl
-no_call Nothing text p (Some a) o e f = let no : None ≡ Some a.call = sym e ∙ f in cc
-no_call (Begun c) text p (Some a) o e f = cc
-no_call (Cleaning c) text p (Some a) o e f = cc
-no_call (Own c) text p (Some a) o e f = cc
-no_call (Arranging n) text p (Some a) o e f = cc
-no_call Reading text p (Some a) o e f = cc
-no_call Dropping text p (Some a) o e f = cc
-no_call Leaving text p (Some a) o e f = cc
-no_call (Failing c fault) text p (Some a) o e f = cc
-
-pub is_idle : (login : Login) (s : Seen) (k : Kept) → is_open s.task ≡ false → IsHeard login s k → k.pending ≡ None
-is_idle login s k o w = no_call s.task s.text w.history.pending k.pending o w.stands.heard.pending_is w.kept.pending_is
-
--- the call begins
-begun_fault : (b : Bool) (c : CallKind) → fault_in (cond b Leaving (Begun c)) ≡ None
-begun_fault true c = refl
-begun_fault false c = refl
-
-pub begins : (login : Login) (s t : Seen) (k : Kept) (call : Call) (rows : Option (List RowParts)) → t ≡ begun s call → ((h : History) → Stands s h → Stands t (began h call)) → Rests login s k → IsAsked login t (asking k call rows) (record { call = call; sent_from = length k.sent; rows = rows })
-begins login s t k call rows e st w = record {
-  rests = record {
-    heard = record {
-      history = began w.heard.history call;
-      stands = st w.heard.history w.heard.stands;
-      login_is = ap (λ (s : Seen). s.login) e ∙ w.heard.login_is;
-      kept = record { sent_is = w.heard.kept.sent_is; taken_is = w.heard.kept.taken_is; calls_are = w.heard.kept.calls_are; pending_is = refl; lost_is = w.heard.kept.lost_is };
-    };
-    sound = ap (λ (s : Seen). fault_in s.task) e ∙ begun_fault s.closed (kind_of call);
-    alive = λ c. ap (λ (s : Seen). s.ended) e ∙ w.alive (sym (ap (λ (s : Seen). s.closed) e) ∙ c);
-  };
-  asked = refl;
-}
-
--- the closed session refuses it
-pub refuses : (login : Login) (s t : Seen) (k : Kept) (call : Call) → t ≡ s → ((h : History) → Stands s h → Stands t (answered (began h call) (ToldError connection_closed))) → Rests login s k → Rests login t (ended_by (asking k call None) (asked_by k call) (says.Failed connection_closed))
-refuses login s t k call e st w = record {
-  heard = record {
-    history = answered (began w.heard.history call) (ToldError connection_closed);
-    stands = st w.heard.history w.heard.stands;
-    login_is = ap (λ (s : Seen). s.login) e ∙ w.heard.login_is;
-    kept = ended_of (asking k call None) (asked_by k call) (began w.heard.history call) (says.Failed connection_closed) refl (answer_counts (kind_of call) (ToldError connection_closed) refl)
-        (record { sent_is = w.heard.kept.sent_is; taken_is = w.heard.kept.taken_is; calls_are = w.heard.kept.calls_are; pending_is = refl; lost_is = w.heard.kept.lost_is });
-  };
-  sound = ap (λ (s : Seen). fault_in s.task) e ∙ w.sound;
-  alive = λ c. ap (λ (s : Seen). s.ended) e ∙ w.alive (sym (ap (λ (s : Seen). s.closed) e) ∙ c);
-}
 
 -- the use of one poll
 pub silent_elsewhere : (u : Use) (us : List Use) (n m : ℕ) → us ≡ u ∷ [] → u.number ≡ n → m ≢ n → IsSilent m us
 silent_elsewhere u us n m e f ne = subst (IsSilent m) (sym e) (record { faults = grind (arith, nat_tests, f, ne); holds = grind (arith, nat_tests, f, ne); ends = grind (arith, nat_tests, f, ne) })
 
 -- a poll of the open call, as a step shows it
-pub open_polled : (login : Login) (n : ℕ) (a : Asked) (t : Seen) (x y : Looks) (k end : Kept) (p : Polled) (o : Outcome) (us : List Use) → Drives login n a t x y k end p → o ≡ shown p.after → us ≡ p.used ∷ [] → OpenPolled login n a t x y k end o us
-open_polled login n a t x y k end p o us w e f = record {
-  once = record { used = p.used; uses = f; after = p.after; end = end; polled = w.polled; outcome = e; left = refl };
+pub open_polled : (login : Login) (n : ℕ) (a : Asked) (t : Seen) (x y : Looks) (k end : Kept) (met : Met) (p : After) (o : Outcome) (us : List Use) → Drives login a t x y k end met p → o ≡ shown p → us ≡ use_of n met ∷ [] → OpenPolled login n a t x y k end o us
+open_polled login n a t x y k end met p o us w e f = record {
+  once = record { used = use_of n met; uses = f; number = refl; after = p; end = end; polled = w.polled; outcome = e; left = refl };
   rests = w.rests;
   stepped = w.stepped;
-  spent = λ plans all before s. plays_end login n a t x y k end p [] us plans all before f w s refl;
-  silent = λ m ne. silent_elsewhere p.used us n m f w.polled.of_call.number ne;
+  spent = λ plans all before s. plays_end login n a t x y k end met p [] us plans all before f w s refl;
+  silent = λ m ne. silent_elsewhere (use_of n met) us n m f refl ne;
 }
 
 -- the step finds an open call

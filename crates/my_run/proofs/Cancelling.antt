@@ -1,5 +1,5 @@
 -- How an open call is cancelled, and what tells without a call.
-use Rattle.std.proofs.Common.{◌≡◌, ◌⊎◌, inl, inr, ℕ, List, [], ◌&&◌, not, Bool, true, false, cond, Option, Some, refl, sym, ap, ◌∙◌, subst}
+use Rattle.std.proofs.Common.{ℕ, ◌≡◌, ◌⊎◌, inl, inr, List, [], ◌&&◌, not, Bool, true, false, cond, Option, Some, refl, sym, ap, ◌∙◌, subst}
 use Rattle.my_grammar.specs.declared.login.Login.{Login}
 use Rattle.my_reply.specs.declared.ok.OkPacket.{OkPacket}
 use Rattle.my_session.specs.declared.call.Task.{Task}
@@ -11,25 +11,28 @@ use Rattle.my_session.specs.Machine.{dropped, fell, with_task}
 use Rattle.my_session.specs.Seen.{Seen}
 use Rattle.my_session.specs.Stands.{Stands}
 use Rattle.my_session.specs.Tables.{closes_when_cancelled}
-use Rattle.my_run.specs.declared.slot.Conn.{Conn}
+use Rattle.my_client.specs.declared.conn.Conn.{Conn}
 use Rattle.my_run.specs.declared.slot.Slot.{Slot}
 use Rattle.my_run.specs.declared.slot.Slot.TheVariants.{Gone, Held, There, Ended}
-use Rattle.my_run.specs.declared.tape.Said.TheVariants as says
+use Rattle.my_client.specs.declared.tape.Said.TheVariants as says
 use Rattle.my_script.specs.declared.transcript.Outcome.{Outcome}
 use Rattle.my_script.specs.declared.transcript.Outcome.TheVariants.{Done, Fields, NoSuchHandle}
 use Rattle.my_script.specs.declared.transcript.Use.{Use}
 use Rattle.my_run.specs.Did.{Did}
 use Rattle.my_run.specs.Grows.{OnConnection, CollectsAt, CollectsOn, Cancels, CancelsWith, TellsFields, TellsWith}
 use Rattle.my_run.specs.Handle.{Handle, Joined}
-use Rattle.my_run.specs.Keeps.{Plans, StandsBy, LinkSpent, IsStood, IsPlayed}
-use Rattle.my_run.specs.Kept.{Asked, Kept, ended_by}
-use Rattle.my_world.specs.Looks.{Looks}
-use Rattle.my_run.specs.Rests.{Rests}
-use Rattle.my_run.specs.Slot.{handle_of, kept_of}
+use Rattle.my_world.specs.World.{Plans}
+use Rattle.my_client.specs.Ready.{StandsBy}
+use Rattle.my_run.specs.Keeps.{LinkSpent, IsStood, IsPlayed}
+use Rattle.my_client.specs.Kept.{Asked, Kept, ended_by}
+use Rattle.my_link.specs.Looks.{Looks}
+use Rattle.my_client.specs.Rests.{Rests}
+use Rattle.my_run.specs.Slot.{handle_of}
+use Rattle.my_client.specs.Conn.{kept_of}
 use Rattle.my_run.specs.Sums.{IsSilent}
-use Rattle.my_run.proofs.Beginning.{is_asked, is_idle}
-use Rattle.my_run.proofs.Hearing.{answer_counts, ended_of}
-use Rattle.my_run.proofs.Failing.{is_leaving}
+use Rattle.my_client.proofs.Beginning.{is_asked, is_idle}
+use Rattle.my_client.proofs.Hearing.{answer_counts, ended_of}
+use Rattle.my_client.proofs.Failing.{is_leaving}
 use Rattle.my_run.proofs.Playing.{slot_rests}
 
 -- where a step has no uses, nothing was met
@@ -174,6 +177,10 @@ collect_refused look login n c o us op e f w = same_did look login n (CollectsAt
 pub fields_did : {L : Type 0} (look : L → Looks) (login : Login) (n : ℕ) (c : Conn L) (fields : Option OkPacket) (us : List Use) → is_open c.session.seen.task ≡ false → fields ≡ c.session.seen.facts.ok → us ≡ [] → StandsBy login c → Did look login n (TellsFields login) (Fields fields) us (There c) (There c)
 fields_did look login n c fields us idle e f w = same_did look login n (TellsFields login) (Fields fields) us (There c) f w
     (subst (λ (p : Option Asked). TellsWith p login (kept_of c) (Fields fields) us (Joined true (kept_of c))) (sym (is_idle login c.session.seen (kept_of c) idle w.rests.heard)) (record { session = c.session.seen; heard = w.rests.heard; outcome = ap Fields e; uses = f; left = refl }))
+
+-- as the step shows it
+pub fields_so : {L : Type 0} (look : L → Looks) (login : Login) (n : ℕ) (c : Conn L) (fields : Option OkPacket) (o : Outcome) (us : List Use) → is_open c.session.seen.task ≡ false → fields ≡ c.session.seen.facts.ok → o ≡ Fields fields → us ≡ [] → StandsBy login c → Did look login n (TellsFields login) o us (There c) (There c)
+fields_so {L} look login n c fields o us idle e shown f w = subst (λ (x : Outcome). Did look login n (TellsFields login) x us (There c) (There c)) (sym shown) (fields_did look login n c fields us idle e f w)
 
 pub no_fields : {L : Type 0} (look : L → Looks) (login : Login) (n : ℕ) (c : Conn L) (o : Outcome) (us : List Use) → is_open c.session.seen.task ≡ true → o ≡ NoSuchHandle → us ≡ [] → StandsBy login c → Did look login n (TellsFields login) o us (There c) (There c)
 no_fields look login n c o us op e f w = same_did look login n (TellsFields login) o us (There c) f w

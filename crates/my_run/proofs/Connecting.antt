@@ -1,23 +1,18 @@
 -- How a connection is dialed and connects.
-use Rattle.std.proofs.Common.{◌≡◌, ◌≢◌, inl, ℕ, ◌+◌, suc, List, [], ◌∷◌, ◌++◌, length, map, Option, Some, None, true, false, refl, sym, ap, ◌∙◌, subst, arith}
+use Rattle.std.proofs.Common.{ℕ, ◌≡◌, ◌≢◌, inl, ◌+◌, suc, List, [], ◌∷◌, ◌++◌, length, map, Option, Some, None, true, false, refl, sym, ap, ◌∙◌, subst, arith}
 use Rattle.std.proofs.lemmas.Bool.Decides.{nat_tests}
 use Rattle.std.proofs.lemmas.List.{length-append, length-map, map-append}
 use Rattle.my_grammar.specs.declared.login.Login.{Login}
-use Rattle.my_world.specs.declared.link.ReadItem.{ReadItem}
-use Rattle.my_world.specs.declared.link.WriteItem.{WriteItem}
-use Rattle.my_world.specs.Spent.{ReadsSpent, AllSpent, IsSpent, Whole}
-use Rattle.my_session.specs.declared.call.Call.TheVariants.{Connect}
-use Rattle.my_session.specs.Calls.{fault_in}
+use Rattle.my_link.specs.declared.link.ReadItem.{ReadItem}
+use Rattle.my_link.specs.declared.link.WriteItem.{WriteItem}
+use Rattle.my_link.specs.Spent.{ReadsSpent, AllSpent, IsSpent, Whole}
 use Rattle.my_session.specs.Errors.{io_error}
 use Rattle.my_session.specs.declared.error.IoKind.TheVariants.{Dial}
-use Rattle.my_session.specs.History.{History, beginning, began}
-use Rattle.my_session.specs.Seen.{Seen}
-use Rattle.my_session.specs.Stands.{Stands}
-use Rattle.my_session.specs.Steps.{fresh, begun}
-use Rattle.my_run.specs.declared.poll.After.{After}
-use Rattle.my_run.specs.declared.poll.After.TheVariants as after
-use Rattle.my_run.specs.declared.poll.Polled.{Polled}
-use Rattle.my_run.specs.declared.slot.Conn.{Conn}
+use Rattle.my_client.specs.declared.poll.After.{After}
+use Rattle.my_client.specs.declared.poll.After.TheVariants as after
+use Rattle.my_link.specs.declared.met.Met.{Met}
+use Rattle.my_run.specs.Sums.{use_of, quiet, held_use, failed_use, faults_for, holds_for, ends_for, IsSilent}
+use Rattle.my_client.specs.declared.conn.Conn.{Conn}
 use Rattle.my_run.specs.declared.slot.Slot.{Slot}
 use Rattle.my_run.specs.declared.slot.Slot.TheVariants.{Gone, Held, There, Ended}
 use Rattle.my_script.specs.declared.transcript.Outcome.{Outcome}
@@ -25,33 +20,21 @@ use Rattle.my_script.specs.declared.transcript.Outcome.TheVariants.{Pending, Fai
 use Rattle.my_script.specs.declared.transcript.Use.{Use}
 use Rattle.my_run.specs.Connecting.{Settles, Joins, Dialed}
 use Rattle.my_run.specs.Did.{Stepped}
-use Rattle.my_run.specs.Drives.{Drives}
-use Rattle.my_run.specs.Grows.{ConnectShows, Dials, Holds, Fails, Links, DialsNext, asked_by}
+use Rattle.my_client.specs.Drives.{Drives}
+use Rattle.my_run.specs.Grows.{ConnectShows, Dials, Holds, Fails, Links, DialsNext}
+use Rattle.my_client.specs.Kept.{Asked, Kept, first_asked, first_kept}
 use Rattle.my_run.specs.Handle.{Handle, Joined, at_number}
 use Rattle.my_run.specs.Held.{HeldBy}
-use Rattle.my_run.specs.Keeps.{Plans, StandsBy, LinkSpent, LinkPlays, IsStood, AreStood, IsPlayed, ArePlayed, SlotPlays}
-use Rattle.my_run.specs.Kept.{Asked, Kept, nothing_kept, asking}
-use Rattle.my_run.specs.Poll.{quiet}
-use Rattle.my_world.specs.Looks.{Looks}
-use Rattle.my_run.specs.Rests.{Rests, IsAsked}
-use Rattle.my_run.specs.Slot.{kept_of, handle_of}
-use Rattle.my_run.specs.Sums.{faults_for, holds_for, ends_for, IsSilent}
-use Rattle.my_run.proofs.Beginning.{begins, silent_elsewhere}
+use Rattle.my_world.specs.World.{Plans, SameAt, SameFrom}
+use Rattle.my_client.specs.Ready.{StandsBy}
+use Rattle.my_run.specs.Keeps.{LinkSpent, LinkPlays, IsStood, AreStood, IsPlayed, ArePlayed, SlotPlays}
+use Rattle.my_link.specs.Looks.{Looks}
+use Rattle.my_client.specs.Rests.{Rests, IsAsked}
+use Rattle.my_client.specs.Conn.{kept_of}
+use Rattle.my_run.specs.Slot.{handle_of}
+use Rattle.my_run.proofs.Beginning.{silent_elsewhere}
 use Rattle.my_run.proofs.Numbers.{played_elsewhere, put_count, put_here, put_there, held_put}
 use Rattle.my_run.proofs.Playing.{plays_end, there_plays, ended_plays}
-
--- a new session stands for nothing
-pub fresh_rests : (login : Login) (s : Seen) → s ≡ fresh login → Stands s beginning → Rests login s nothing_kept
-fresh_rests login s e st = record {
-  heard = record {
-    history = beginning;
-    stands = st;
-    login_is = ap (λ (s : Seen). s.login) e;
-    kept = record { sent_is = refl; taken_is = refl; calls_are = refl; pending_is = refl; lost_is = refl };
-  };
-  sound = ap (λ (s : Seen). fault_in s.task) e;
-  alive = λ c. ap (λ (s : Seen). s.ended) e;
-}
 
 -- a link of which nothing was used
 pub fresh_spent : (plans : Plans) (n : ℕ) (x : Looks) (all : List Use) → x.items ≡ plans.reads n → x.writes ≡ plans.writes n → IsSilent n all → LinkSpent plans n x [] all 0
@@ -76,27 +59,31 @@ pub untold_spent : (plans : Plans) (n : ℕ) (x : Looks) (taken : List ℕ) (all
 untold_spent plans n x taken all planned e = subst (λ (plan : Option (List ReadItem)). IsSpent plan x.items (plans.writes n) x.writes taken (faults_for n all) planned (ends_for n all)) (sym e) (record { reads = tt; counts = tt })
 
 -- the handshake was polled
-shows : {L : Type 0} (login : Login) (n : ℕ) (a : Asked) (k end : Kept) (u : Use) (c : Conn L) (after : After) (slot : Slot L) (o : Outcome) → kept_of c ≡ end → Rests login c.session.seen end → Settles c n after slot o → ConnectShows login n after end o (handle_of slot)
-shows login n a k end u c after.Pending slot o e w s = (s.1, ap handle_of s.0 ∙ ap (Joined true) e)
-shows login n a k end u c (after.Answered answer) slot o e w s = (record { session = c.session.seen; heard = w.heard; outcome = s.1 }, ap handle_of s.0 ∙ ap (Joined true) e)
-shows login n a k end u c (after.Failed x) slot o e w s = (s.1, ap handle_of s.0 ∙ ap (Joined false) e)
+shows : {L : Type 0} (login : Login) (n : ℕ) (a : Asked) (k end : Kept) (c : Conn L) (after : After) (slot : Slot L) (o : Outcome) → kept_of c ≡ end → Rests login c.session.seen end → Settles c n after slot o → ConnectShows login n after end o (handle_of slot)
+shows login n a k end c after.Pending slot o e w s = (s.1, ap handle_of s.0 ∙ ap (Joined true) e)
+shows login n a k end c (after.Answered answer) slot o e w s = (record { session = c.session.seen; heard = w.heard; outcome = s.1 }, ap handle_of s.0 ∙ ap (Joined true) e)
+shows login n a k end c (after.Failed x) slot o e w s = (s.1, ap handle_of s.0 ∙ ap (Joined false) e)
 
 slot_is : {L : Type 0} (P : Slot L → Type 0) (c : Conn L) (n : ℕ) (after : After) (slot : Slot L) (o : Outcome) → Settles c n after slot o → P (There c) → P (Ended c) → P slot
 slot_is P c n after.Pending slot o s p q = subst P (sym s.0) p
 slot_is P c n (after.Answered answer) slot o s p q = subst P (sym s.0) p
 slot_is P c n (after.Failed e) slot o s p q = subst P (sym s.0) q
 
-pub joins : {L : Type 0} (look : L → Looks) (login : Login) (n : ℕ) (a : Asked) (k : Kept) (x : Looks) (c : Conn L) (p : Polled) (slot : Slot L) (o : Outcome) → Drives login n a c.session.seen x (look c.link) k (kept_of c) p → Settles c n p.after slot o → Joins look login n a k x slot o p.used
-joins {L} look login n a k x c p slot o w s =
+pub joins : {L : Type 0} (look : L → Looks) (login : Login) (n : ℕ) (a : Asked) (k : Kept) (x : Looks) (c : Conn L) (met : Met) (p : After) (slot : Slot L) (o : Outcome) → Drives login a c.session.seen x (look c.link) k (kept_of c) met p → Settles c n p slot o → Joins look login n a k x slot o (use_of n met)
+joins {L} look login n a k x c met p slot o w s =
     let stands : StandsBy login c = record { rests = w.rests; stepped = w.stepped } in
     record {
-      stood = slot_is (IsStood login) c n p.after slot o s stands stands;
+      stood = slot_is (IsStood login) c n p slot o s stands stands;
       played = λ plans all before v.
-          let u : LinkPlays login plans n (look c.link) (kept_of c) (p.used ∷ []) all before = plays_end login n a c.session.seen x (look c.link) k (kept_of c) p [] (p.used ∷ []) plans all before refl w v refl in
-          slot_is (SlotPlays look login plans n (p.used ∷ []) all before) c n p.after slot o s (there_plays look login plans n (p.used ∷ []) all before c u) (ended_plays look login plans n (p.used ∷ []) all before c u);
-      number = w.polled.of_call.number;
-      does = record { after = p.after; end = kept_of c; polled = w.polled; shows = shows login n a k (kept_of c) p.used c p.after slot o refl w.rests s };
+          let u : LinkPlays login plans n (look c.link) (kept_of c) (use_of n met ∷ []) all before = plays_end login n a c.session.seen x (look c.link) k (kept_of c) met p [] (use_of n met ∷ []) plans all before refl w v refl in
+          slot_is (SlotPlays look login plans n (use_of n met ∷ []) all before) c n p slot o s (there_plays look login plans n (use_of n met ∷ []) all before c u) (ended_plays look login plans n (use_of n met ∷ []) all before c u);
+      number = refl;
+      does = record { number = refl; after = p; end = kept_of c; polled = w.polled; shows = shows login n a k (kept_of c) c p slot o refl w.rests s };
     }
+
+-- as the step shows it
+pub joins_so : {L : Type 0} (look : L → Looks) (login : Login) (n : ℕ) (a : Asked) (k : Kept) (x : Looks) (c : Conn L) (met : Met) (p : After) (slot : Slot L) (o shown : Outcome) → Drives login a c.session.seen x (look c.link) k (kept_of c) met p → Settles c n p slot o → shown ≡ o → Joins look login n a k x slot shown (use_of n met)
+joins_so look login n a k x c met p slot o shown w s e = subst (λ (v : Outcome). Joins look login n a k x slot v (use_of n met)) (sym e) (joins look login n a k x c met p slot o w s)
 
 -- a slot more
 stood_push : {L : Type 0} (login : Login) (ss : List (Slot L)) (s : Slot L) → AreStood login ss → IsStood login s → AreStood login (ss ++ s ∷ [])
@@ -151,44 +138,43 @@ pub dialed_silent : (n m : ℕ) (u : Use) (us : List Use) → us ≡ quiet n ∷
 dialed_silent n m u us e f ne = subst (IsSilent m) (sym e) (record { faults = grind (arith, nat_tests, f, ne); holds = grind (arith, nat_tests, f, ne); ends = grind (arith, nat_tests, f, ne) })
 
 -- the dial gave a link, over which the handshake was polled
-pub linked : {L : Type 0} (look : L → Looks) (login : Login) (n : ℕ) (l : L) (reads : Option (List ReadItem)) (writes : Option (List WriteItem)) (slot : Slot L) (o : Outcome) (us : List Use) (u : Use) → (look l).items ≡ reads → (look l).writes ≡ writes → us ≡ quiet n ∷ u ∷ [] → Joins look login n (asked_by nothing_kept Connect) (asking nothing_kept Connect None) (look l) slot o u → Dialed look login n reads writes slot o us
-linked look login n l reads writes slot o us u e f is w = record {
+pub linked : {L : Type 0} (look : L → Looks) (login : Login) (n : ℕ) (l : L) (told : Plans) (slot : Slot L) (o : Outcome) (us : List Use) (u : Use) → (look l).items ≡ told.reads n → (look l).writes ≡ told.writes n → us ≡ quiet n ∷ u ∷ [] → Joins look login n first_asked first_kept (look l) slot o u → Dialed look login n told slot o us
+linked look login n l told slot o us u e f is w = record {
   stood = w.stood;
-  played = λ plans all p q s. dialed_spent look login plans n slot u us all 0 is w.number (w.played plans all 0 (fresh_spent plans n (look l) all (e ∙ sym p) (f ∙ sym q) s));
+  played = λ plans all same s. dialed_spent look login plans n slot u us all 0 is w.number (w.played plans all 0 (fresh_spent plans n (look l) all (e ∙ sym same.reads) (f ∙ sym same.writes) s));
   untold = λ plans all before p. dialed_spent look login plans n slot u us all before is w.number (w.played plans all before (untold_spent plans n (look l) [] all before p));
   silent = λ m ne. dialed_silent n m u us is w.number ne;
   does = Links u is w.does;
 }
 
-pub dial_held : {L : Type 0} (look : L → Looks) (login : Login) (n : ℕ) (reads : Option (List ReadItem)) (writes : Option (List WriteItem)) (o : Outcome) (us : List Use) → reads ≡ None → o ≡ Pending → us ≡ record (quiet n) { holds = 1 } ∷ [] → Dialed look login n reads writes Held o us
-dial_held look login n reads writes o us none e f = record {
+pub dial_held : {L : Type 0} (look : L → Looks) (login : Login) (n : ℕ) (told : Plans) (o : Outcome) (us : List Use) → told.reads n ≡ None → o ≡ Pending → us ≡ held_use n ∷ [] → Dialed look login n told Held o us
+dial_held look login n told o us none e f = record {
   stood = tt;
-  played = λ plans all p q s. record { planned = 0 + holds_for n us; played = p ∙ none; held = inl refl };
+  played = λ plans all same s. record { planned = 0 + holds_for n us; played = same.reads ∙ none; held = inl refl };
   untold = λ plans all before p. record { planned = before + holds_for n us; played = p; held = inl refl };
-  silent = λ m ne. silent_elsewhere (record (quiet n) { holds = 1 }) us n m f refl ne;
+  silent = λ m ne. silent_elsewhere (held_use n) us n m f refl ne;
   does = Holds e f refl;
 }
 
-pub dial_failed : {L : Type 0} (look : L → Looks) (login : Login) (n : ℕ) (reads : Option (List ReadItem)) (writes : Option (List WriteItem)) (o : Outcome) (us : List Use) → o ≡ Failed (io_error Dial 0) → us ≡ record (quiet n) { faults = 1 } ∷ [] → Dialed look login n reads writes Gone o us
-dial_failed look login n reads writes o us e f = record {
+pub dial_failed : {L : Type 0} (look : L → Looks) (login : Login) (n : ℕ) (told : Plans) (o : Outcome) (us : List Use) → o ≡ Failed (io_error Dial 0) → us ≡ failed_use n ∷ [] → Dialed look login n told Gone o us
+dial_failed look login n told o us e f = record {
   stood = tt;
-  played = λ plans all p q s. record { planned = 0 + holds_for n us; played = tt; held = inl refl };
+  played = λ plans all same s. record { planned = 0 + holds_for n us; played = tt; held = inl refl };
   untold = λ plans all before p. record { planned = before + holds_for n us; played = tt; held = inl refl };
-  silent = λ m ne. silent_elsewhere (record (quiet n) { faults = 1 }) us n m f refl ne;
+  silent = λ m ne. silent_elsewhere (failed_use n) us n m f refl ne;
   does = Fails e f refl;
 }
 
 -- the connection's first call
-pub joins_first : {L : Type 0} (look : L → Looks) (login : Login) (n : ℕ) (l : L) (c b d : Conn L) (t : Seen) (p : Polled) (slot : Slot L) (o : Outcome) → c.session.seen ≡ fresh login → Stands c.session.seen beginning → kept_of c ≡ nothing_kept → c.link ≡ l → kept_of b ≡ asking (kept_of c) Connect None → b.session ≡ c.session → b.link ≡ c.link → t ≡ begun b.session.seen Connect → ((h : History) → Stands b.session.seen h → Stands t (began h Connect)) → ((login : Login) (a : Asked) → IsAsked login t (kept_of b) a → Drives login n a d.session.seen (look b.link) (look d.link) (kept_of b) (kept_of d) p) → Settles d n p.after slot o → Joins look login n (asked_by nothing_kept Connect) (asking nothing_kept Connect None) (look l) slot o p.used
-joins_first look login n l c b d t p slot o seen st kept link bkept bsession blink is begun_st drives settles =
-    let here : kept_of b ≡ asking nothing_kept Connect None = bkept ∙ ap (λ (k : Kept). asking k Connect None) kept in
-    let same : b.session.seen ≡ c.session.seen = ap (λ s. s.seen) bsession in
-    let rests : Rests login b.session.seen nothing_kept = fresh_rests login b.session.seen (same ∙ seen) (subst (λ (s : Seen). Stands s beginning) (sym same) st) in
-    let asked : IsAsked login t (kept_of b) (asked_by nothing_kept Connect) = subst (λ (k : Kept). IsAsked login t k (asked_by nothing_kept Connect)) (sym here) (begins login b.session.seen t nothing_kept Connect None is begun_st rests) in
-    let w : Drives login n (asked_by nothing_kept Connect) d.session.seen (look l) (look d.link) (asking nothing_kept Connect None) (kept_of d) p =
-    subst (λ (x : _). Drives login n (asked_by nothing_kept Connect) d.session.seen (look x) (look d.link) (asking nothing_kept Connect None) (kept_of d) p) (blink ∙ link)
-    (subst (λ (k : Kept). Drives login n (asked_by nothing_kept Connect) d.session.seen (look b.link) (look d.link) k (kept_of d) p) here (drives login (asked_by nothing_kept Connect) asked)) in
-    joins look login n (asked_by nothing_kept Connect) (asking nothing_kept Connect None) (look l) d p slot o w settles
+pub joins_first : {L : Type 0} (look : L → Looks) (login : Login) (n : ℕ) (l : L) (c d : Conn L) (met : Met) (p : After) (slot : Slot L) (o : Outcome) → IsAsked login c.session.seen (kept_of c) first_asked → kept_of c ≡ first_kept → c.link ≡ l → ((login : Login) (a : Asked) → IsAsked login c.session.seen (kept_of c) a → Drives login a d.session.seen (look c.link) (look d.link) (kept_of c) (kept_of d) met p) → Settles d n p slot o → Joins look login n first_asked first_kept (look l) slot o (use_of n met)
+joins_first look login n l c d met p slot o asked kept link drives settles =
+    let w : Drives login first_asked d.session.seen (look l) (look d.link) first_kept (kept_of d) met p =
+    subst (λ (x : _). Drives login first_asked d.session.seen (look x) (look d.link) first_kept (kept_of d) met p) link
+    (subst (λ (k : Kept). Drives login first_asked d.session.seen (look c.link) (look d.link) k (kept_of d) met p) kept (drives login first_asked asked)) in
+    joins look login n first_asked first_kept (look l) d met p slot o w settles
 
-pub stepped_dialed : {L : Type 0} (look : L → Looks) (login : Login) (plans : Plans) (n : ℕ) (reads : Option (List ReadItem)) (writes : Option (List WriteItem)) (o : Outcome) (us : List Use) (ss ts : List (Slot L)) (s : Slot L) → ts ≡ ss ++ s ∷ [] → n ≡ length ss → Dialed look login n reads writes s o us → plans.reads n ≡ reads → plans.writes n ≡ writes → AreStood login ss → Stepped look login plans us ss ts (DialsNext login (map handle_of ss) o us (map handle_of ts))
-stepped_dialed look login plans n reads writes o us ss ts s e is w p q st = stepped_new look login plans n o us ss ts s e is w.stood w.silent (λ all none. w.played plans all p q none) w.does st
+pub at_end : (told plans : Plans) (n k : ℕ) → n ≡ k → SameFrom k told plans → SameAt told plans n
+at_end told plans n k is same = same n (omega (arith, is))
+
+pub stepped_dialed : {L : Type 0} (look : L → Looks) (login : Login) (plans : Plans) (n : ℕ) (told : Plans) (o : Outcome) (us : List Use) (ss ts : List (Slot L)) (s : Slot L) → ts ≡ ss ++ s ∷ [] → n ≡ length ss → Dialed look login n told s o us → SameAt told plans n → AreStood login ss → Stepped look login plans us ss ts (DialsNext login (map handle_of ss) o us (map handle_of ts))
+stepped_dialed look login plans n told o us ss ts s e is w same st = stepped_new look login plans n o us ss ts s e is w.stood w.silent (λ all none. w.played plans all same none) w.does st

@@ -1,5 +1,5 @@
 -- A gathering, row by row.
-use Rattle.std.proofs.Common.{if◌then◌else◌, ◌≡◌, ◌≢◌, ℕ, List, [], ◌∷◌, ◌++◌, length, Option, Some, None, unwrap_or, Bool, true, false, refl, sym, ap, ◌∙◌, subst, arith}
+use Rattle.std.proofs.Common.{ℕ, if◌then◌else◌, ◌≡◌, ◌≢◌, List, [], ◌∷◌, ◌++◌, length, Option, Some, None, unwrap_or, Bool, true, false, refl, sym, ap, ◌∙◌, subst, arith}
 use Rattle.std.proofs.lemmas.Bool.Decides.{nat_tests}
 use Rattle.std.proofs.lemmas.List.{append_assoc, append-nil}
 use Rattle.my_value.specs.RowParts.{RowParts}
@@ -17,28 +17,30 @@ use Rattle.my_session.specs.Seen.{Seen}
 use Rattle.my_session.specs.Stands.{Stands}
 use Rattle.my_session.specs.Steps.{begun, is_refused}
 use Rattle.my_run.specs.declared.gather.Gathering.TheVariants.{On, Over}
-use Rattle.my_run.specs.declared.poll.After.{After}
-use Rattle.my_run.specs.declared.poll.After.TheVariants as after
-use Rattle.my_run.specs.declared.poll.Polled.{Polled}
-use Rattle.my_run.specs.declared.slot.Conn.{Conn}
+use Rattle.my_client.specs.declared.poll.After.{After}
+use Rattle.my_client.specs.declared.poll.After.TheVariants as after
+use Rattle.my_link.specs.declared.met.Met.{Met}
+use Rattle.my_run.specs.Sums.{use_of, holds_for, IsSilent}
+use Rattle.my_client.specs.declared.conn.Conn.{Conn}
 use Rattle.my_run.specs.declared.slot.Slot.TheVariants.{There}
-use Rattle.my_run.specs.declared.tape.Said.TheVariants as says
+use Rattle.my_client.specs.declared.tape.Said.TheVariants as says
 use Rattle.my_script.specs.declared.transcript.Outcome.{Outcome}
 use Rattle.my_script.specs.declared.transcript.Outcome.TheVariants.{Failed}
 use Rattle.my_script.specs.declared.transcript.Use.{Use}
-use Rattle.my_run.specs.Causes.{PollEnds}
+use Rattle.my_client.specs.Causes.{PollEnds}
 use Rattle.my_run.specs.Did.{Did}
-use Rattle.my_run.specs.Drives.{Drives, RowsOf}
+use Rattle.my_client.specs.Drives.{Drives, RowsOf}
 use Rattle.my_run.specs.Gathering.{Shows, AsksNext, GoesNext, Goes, GatherDid, GatherSoFar}
-use Rattle.my_run.specs.Grows.{Calls, Begins, BeginsOn, CollectsAt, CollectsOn, Collects, Gathers, GathersOn, gathered, asked_by}
+use Rattle.my_run.specs.Grows.{Calls, Begins, BeginsOn, CollectsAt, CollectsOn, Collects, Gathers, GathersOn, gathered}
+use Rattle.my_client.specs.Kept.{asked_by, Asked, Kept, made_of, asking, ended_by}
 use Rattle.my_run.specs.Handle.{Handle, Joined}
-use Rattle.my_run.specs.Keeps.{StandsBy, LinkSpent}
-use Rattle.my_run.specs.Kept.{Asked, Kept, made_of, asking, ended_by}
-use Rattle.my_world.specs.Looks.{Looks}
-use Rattle.my_run.specs.Rests.{Rests, IsAsked}
-use Rattle.my_run.specs.Slot.{kept_of}
-use Rattle.my_run.specs.Sums.{holds_for, IsSilent}
-use Rattle.my_run.proofs.Beginning.{begins, refuses, closed_did, closed_kept, is_idle}
+use Rattle.my_client.specs.Ready.{StandsBy}
+use Rattle.my_run.specs.Keeps.{LinkSpent}
+use Rattle.my_link.specs.Looks.{Looks}
+use Rattle.my_client.specs.Rests.{Rests, IsAsked}
+use Rattle.my_client.specs.Conn.{kept_of}
+use Rattle.my_client.proofs.Beginning.{begins, refuses, closed_kept, is_idle}
+use Rattle.my_run.proofs.Beginning.{closed_did}
 use Rattle.my_run.proofs.Playing.{plays_on, plays_end, holds_after, there_plays}
 
 -- nothing was gathered yet
@@ -59,7 +61,7 @@ silent_end m n (v ∷ us) u e ne q =
     record { faults = omega (arith, r.faults, q.faults); holds = omega (arith, r.holds, q.holds); ends = omega (arith, r.ends, q.ends) }
 
 -- a poll that was answered didn't hold
-answered_quiet : (login : Login) (a : Asked) (k end : Kept) (u : Use) (p : After) (answer : Answer) → p ≡ after.Answered answer → PollEnds login a k u p end → u.holds ≡ 0
+answered_quiet : (login : Login) (a : Asked) (k end : Kept) (u : Met) (p : After) (answer : Answer) → p ≡ after.Answered answer → PollEnds login a k u p end → u.holds ≡ 0
 answered_quiet login a k end u after.Pending answer e w = cc
 answered_quiet login a k end u (after.Answered other) answer e w = w.3.holds
 answered_quiet login a k end u (after.Failed x) answer e w = w.3
@@ -73,32 +75,32 @@ next_row e f rows (after.Answered answers.SetEnd) g = absurd g
 next_row e f rows (after.Answered answers.NoSet) g = absurd g
 next_row e f rows (after.Failed x) g = absurd g
 
-module _ {L : Type 0} (look : L → Looks) (login : Login) (n : ℕ) (a : Asked) (c d e f : Conn L) (us more : List Use) (p : Polled) (rows : Option (List RowParts)) (so : GatherSoFar look login n a c d us) (w : Drives login n so.now e.session.seen (look d.link) (look e.link) (kept_of d) (kept_of e) p) (r : RowsOf so.now p.after rows) (is : more ≡ us ++ p.used ∷ []) where
+module _ {L : Type 0} (look : L → Looks) (login : Login) (n : ℕ) (a : Asked) (c d e f : Conn L) (us more : List Use) (met : Met) (p : After) (rows : Option (List RowParts)) (so : GatherSoFar look login n a c d us) (w : Drives login so.now e.session.seen (look d.link) (look e.link) (kept_of d) (kept_of e) met p) (r : RowsOf so.now p rows) (is : more ≡ us ++ use_of n met ∷ []) where
   silent_more : (m : ℕ) → m ≢ n → IsSilent m more
-  silent_more m ne = subst (IsSilent m) (sym is) (silent_end m n us p.used w.polled.of_call.number ne (so.silent m ne))
+  silent_more m ne = subst (IsSilent m) (sym is) (silent_end m n us (use_of n met) refl ne (so.silent m ne))
 
-  onto_more : (vs : List Use) (o : Outcome) (t : Handle) → GathersOn (Gathers login n vs) so.now p.after (kept_of e) o vs t → Gathers login n (more ++ vs) a (kept_of c) o t
+  onto_more : (vs : List Use) (o : Outcome) (t : Handle) → GathersOn (Gathers login n vs) so.now p (kept_of e) o vs t → Gathers login n (more ++ vs) a (kept_of c) o t
   onto_more vs o t g =
-      let whole : Gathers login n (us ++ p.used ∷ vs) a (kept_of c) o t = so.onto (p.used ∷ vs) o t (p.after, kept_of e, w.polled, g) in
-      let same : us ++ p.used ∷ vs ≡ more ++ vs = sym (append_assoc us (p.used ∷ []) vs) ∙ ap (λ xs. xs ++ vs) (sym is) in
+      let whole : Gathers login n (us ++ use_of n met ∷ vs) a (kept_of c) o t = so.onto (use_of n met ∷ vs) o t (p, kept_of e, w.polled, g, refl) in
+      let same : us ++ use_of n met ∷ vs ≡ more ++ vs = sym (append_assoc us (use_of n met ∷ []) vs) ∙ ap (λ xs. xs ++ vs) (sym is) in
       subst (λ (xs : List Use). Gathers login n xs a (kept_of c) o t) same whole
 
-  pub gather_on : GoesNext e f rows p.after → GatherSoFar look login n a c f more
+  pub gather_on : GoesNext e f rows p → GatherSoFar look login n a c f more
   gather_on g =
-      let next = next_row e f rows p.after g in
+      let next = next_row e f rows p g in
       let row = next.0 in
       let asks = next.2 in
       let rows_are : rows ≡ so.now.rows = subst (λ (x : After). RowsOf so.now x rows) next.1 r in
       let all : unwrap_or rows [] ++ row ∷ [] ≡ gathered so.now ++ row ∷ [] = ap (λ (x : Option (List RowParts)). unwrap_or x [] ++ row ∷ []) rows_are in
       let kept : kept_of f ≡ asking (kept_of e) NextRow (Some (gathered so.now ++ row ∷ [])) = asks.kept ∙ ap (λ xs. asking (kept_of e) NextRow (Some xs)) all in
-      let quiet : p.used.holds ≡ 0 = answered_quiet login so.now w.polled.following (kept_of e) p.used p.after (answers.Row row) next.1 w.polled.ends in
+      let quiet : met.holds ≡ 0 = answered_quiet login so.now w.polled.following (kept_of e) met p (answers.Row row) next.1 w.polled.ends in
       let now : Asked = record { call = NextRow; sent_from = length (kept_of e).sent; rows = Some (gathered so.now ++ row ∷ []) } in
       record {
         now = now;
         asked = subst (λ (k : Kept). IsAsked login f.session.seen k now) (sym kept) (begins login e.session.seen f.session.seen (kept_of e) NextRow (Some (gathered so.now ++ row ∷ [])) asks.seen asks.stands w.rests);
         onto = λ vs o t h. onto_more vs o t (subst (λ (x : After). GathersOn (Gathers login n vs) so.now x (kept_of e) o vs t) (sym next.1) (subst (λ (k : Kept). Gathers login n vs now k o t) kept h));
-        spent = λ plans xs before s. subst (λ l. LinkSpent plans n (look l) f.taken.items (more ++ xs) before) (sym asks.link) (subst (λ (bytes : List ℕ). LinkSpent plans n (look e.link) bytes (more ++ xs) before) (sym (ap (λ (k : Kept). k.taken) kept)) (plays_on login n so.now e.session.seen (look d.link) (look e.link) (kept_of d) (kept_of e) p us more plans xs before is w (so.spent plans xs before s) quiet));
-        no_hold = holds_after n us more p.used is w.polled.of_call.number so.no_hold ∙ quiet;
+        spent = λ plans xs before s. subst (λ l. LinkSpent plans n (look l) f.taken.items (more ++ xs) before) (sym asks.link) (subst (λ (bytes : List ℕ). LinkSpent plans n (look e.link) bytes (more ++ xs) before) (sym (ap (λ (k : Kept). k.taken) kept)) (plays_on login n so.now e.session.seen (look d.link) (look e.link) (kept_of d) (kept_of e) met p us more plans xs before is w (so.spent plans xs before s) quiet));
+        no_hold = holds_after n us more (use_of n met) is refl so.no_hold ∙ quiet;
         silent = silent_more;
       }
 
@@ -110,13 +112,13 @@ module _ {L : Type 0} (look : L → Looks) (login : Login) (n : ℕ) (a : Asked)
   shows_on (after.Answered answers.NoSet) o q s = (s ∙ ap (λ (x : Option (List RowParts)). Some (unwrap_or x [])) q, refl, refl)
   shows_on (after.Failed x) o q s = (s, refl, refl)
 
-  pub gather_over : (o : Outcome) → f ≡ e → Shows rows p.after o → GatherDid look login n a c f o more
+  pub gather_over : (o : Outcome) → f ≡ e → Shows rows p o → GatherDid look login n a c f o more
   gather_over o same s =
       let done : GatherDid look login n a c e o more = record {
-        gathers = subst (λ (xs : List Use). Gathers login n xs a (kept_of c) o (Joined true (kept_of e))) (append-nil more) (onto_more [] o (Joined true (kept_of e)) (shows_on p.after o r s));
+        gathers = subst (λ (xs : List Use). Gathers login n xs a (kept_of c) o (Joined true (kept_of e))) (append-nil more) (onto_more [] o (Joined true (kept_of e)) (shows_on p o r s));
         rests = w.rests;
         stepped = w.stepped;
-        spent = λ plans all before s. plays_end login n so.now e.session.seen (look d.link) (look e.link) (kept_of d) (kept_of e) p us more plans all before is w (so.spent plans all before s) so.no_hold;
+        spent = λ plans all before s. plays_end login n so.now e.session.seen (look d.link) (look e.link) (kept_of d) (kept_of e) met p us more plans all before is w (so.spent plans all before s) so.no_hold;
         silent = silent_more;
       } in
       subst (λ (x : Conn L). GatherDid look login n a c x o more) (sym same) done
@@ -171,8 +173,8 @@ pub goes_on_open : {L : Type 0} (e f : Conn L) (rows : Option (List RowParts)) (
 goes_on_open e f rows p g = let asks = (next_row e f rows p g).2 in ap (λ (s : Seen). is_open s.task) asks.seen ∙ task_open e.session.seen.closed (kind_of NextRow)
 
 -- the steps of the loop, by what follows each poll
-pub gather_next : {L : Type 0} (look : L → Looks) (login : Login) (n : ℕ) (a : Asked) (c d e f : Conn L) (us more : List Use) (p : Polled) (rows : Option (List RowParts)) → GatherSoFar look login n a c d us → ((login : Login) (a : Asked) → IsAsked login d.session.seen (kept_of d) a → Drives login n a e.session.seen (look d.link) (look e.link) (kept_of d) (kept_of e) p) → ((a : Asked) → (kept_of d).pending ≡ Some a → RowsOf a p.after rows) → more ≡ us ++ p.used ∷ [] → Goes e f rows p.after On → GatherSoFar look login n a c f more
-gather_next look login n a c d e f us more p rows so w r is g = gather_on look login n a c d e f us more p rows so (w login so.now so.asked) (r so.now so.asked.asked) is g
+pub gather_next : {L : Type 0} (look : L → Looks) (login : Login) (n : ℕ) (a : Asked) (c d e f : Conn L) (us more : List Use) (met : Met) (p : After) (rows : Option (List RowParts)) → GatherSoFar look login n a c d us → ((login : Login) (a : Asked) → IsAsked login d.session.seen (kept_of d) a → Drives login a e.session.seen (look d.link) (look e.link) (kept_of d) (kept_of e) met p) → ((a : Asked) → (kept_of d).pending ≡ Some a → RowsOf a p rows) → more ≡ us ++ use_of n met ∷ [] → Goes e f rows p On → GatherSoFar look login n a c f more
+gather_next look login n a c d e f us more met p rows so w r is g = gather_on look login n a c d e f us more met p rows so (w login so.now so.asked) (r so.now so.asked.asked) is g
 
-pub gather_done : {L : Type 0} (look : L → Looks) (login : Login) (n : ℕ) (a : Asked) (c d e f : Conn L) (us more : List Use) (p : Polled) (rows : Option (List RowParts)) (o : Outcome) → GatherSoFar look login n a c d us → ((login : Login) (a : Asked) → IsAsked login d.session.seen (kept_of d) a → Drives login n a e.session.seen (look d.link) (look e.link) (kept_of d) (kept_of e) p) → ((a : Asked) → (kept_of d).pending ≡ Some a → RowsOf a p.after rows) → more ≡ us ++ p.used ∷ [] → Goes e f rows p.after (Over o) → GatherDid look login n a c f o more
-gather_done look login n a c d e f us more p rows o so w r is g = gather_over look login n a c d e f us more p rows so (w login so.now so.asked) (r so.now so.asked.asked) is o g.0 g.1
+pub gather_done : {L : Type 0} (look : L → Looks) (login : Login) (n : ℕ) (a : Asked) (c d e f : Conn L) (us more : List Use) (met : Met) (p : After) (rows : Option (List RowParts)) (o : Outcome) → GatherSoFar look login n a c d us → ((login : Login) (a : Asked) → IsAsked login d.session.seen (kept_of d) a → Drives login a e.session.seen (look d.link) (look e.link) (kept_of d) (kept_of e) met p) → ((a : Asked) → (kept_of d).pending ≡ Some a → RowsOf a p rows) → more ≡ us ++ use_of n met ∷ [] → Goes e f rows p (Over o) → GatherDid look login n a c f o more
+gather_done look login n a c d e f us more met p rows o so w r is g = gather_over look login n a c d e f us more met p rows so (w login so.now so.asked) (r so.now so.asked.asked) is o g.0 g.1

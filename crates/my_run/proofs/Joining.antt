@@ -1,5 +1,5 @@
 -- A connection that is there was connected, unless its handshake is open or its session is closed.
-use Rattle.std.proofs.Common.{◌≡◌, ℕ, zero, suc, List, [], ◌∷◌, ◌++◌, ◌||◌, Bool, true, false, cond, not, Option, Some, None, is_some, refl, sym, ap, ◌∙◌, subst}
+use Rattle.std.proofs.Common.{ℕ, ◌≡◌, zero, suc, List, [], ◌∷◌, ◌++◌, ◌||◌, Bool, true, false, not, Option, Some, None, is_some, refl, sym, ap, ◌∙◌, subst}
 use Rattle.my_value.specs.RowParts.{RowParts}
 use Rattle.my_grammar.specs.declared.login.Login.{Login}
 use Rattle.my_session.specs.declared.answer.Answer.{Answer}
@@ -8,31 +8,26 @@ use Rattle.my_session.specs.declared.call.Call.{Call}
 use Rattle.my_session.specs.declared.call.Call.TheVariants as calls
 use Rattle.my_session.specs.declared.call.CallKind.{CallKind}
 use Rattle.my_session.specs.declared.call.CallKind.TheVariants.{Connect, Query, NextRow, DropResult, Ping, Quit}
-use Rattle.my_session.specs.declared.call.Task.{Task}
-use Rattle.my_session.specs.declared.call.Task.TheVariants.{Nothing}
-use Rattle.my_session.specs.Calls.{kind_of, is_connect, is_open}
-use Rattle.my_session.specs.Entries.{connects, connecting_in, has_connected}
+use Rattle.my_session.specs.Calls.{kind_of, is_connect}
+use Rattle.my_session.specs.Entries.{connects, has_connected}
 use Rattle.my_session.specs.Fits.{may_be}
-use Rattle.my_session.specs.History.{Made, Told, ToldReady, ToldRow, ToldEnd, ToldNone, ToldError, Dropped, told, closes, has_closed}
-use Rattle.my_session.specs.Seen.{Seen}
-use Rattle.my_session.specs.Stands.{TaskIs}
-use Rattle.my_session.specs.Steps.{AtBegun, is_settled}
-use Rattle.my_grammar.specs.declared.spot.Spot.{Spot}
-use Rattle.my_run.specs.declared.poll.After.{After}
-use Rattle.my_run.specs.declared.poll.After.TheVariants as after
+use Rattle.my_session.specs.History.{Made, told, closes, has_closed}
+use Rattle.my_client.specs.declared.poll.After.{After}
+use Rattle.my_client.specs.declared.poll.After.TheVariants as after
 use Rattle.my_script.specs.declared.step.Step.{Step}
 use Rattle.my_script.specs.declared.step.Step.TheVariants as steps
-use Rattle.my_run.specs.declared.tape.Said.{Said}
-use Rattle.my_run.specs.declared.tape.Said.TheVariants as says
+use Rattle.my_client.specs.declared.tape.Said.{Said}
+use Rattle.my_client.specs.declared.tape.Said.TheVariants as says
 use Rattle.my_script.specs.declared.transcript.Outcome.{Outcome}
 use Rattle.my_script.specs.declared.transcript.Use.{Use}
-use Rattle.my_run.specs.Causes.{IsPolled, PollEnds}
-use Rattle.my_run.specs.Grows.{IsRefused, OnConnection, PolledOnce, IsClosed, Begins, BeginsOn, Calls, asked_by, ConnectShows, Connects, Dials, Holds, Fails, Links, Gathers, GathersOn, Collects, CollectsOn, CollectsAt, PollsOn, GoesOnWith, GoesOn, CancelsWith, Cancels, TellsWith, TellsFields, At, StepGrows, Line, AreGrown, handles_after}
+use Rattle.my_link.specs.declared.met.Met.{Met}
+use Rattle.my_client.specs.Causes.{IsPolled, PollEnds}
+use Rattle.my_run.specs.Grows.{IsRefused, OnConnection, PolledOnce, IsClosed, Begins, BeginsOn, Calls, ConnectShows, Connects, Dials, Holds, Fails, Links, Gathers, GathersOn, Collects, CollectsOn, CollectsAt, PollsOn, GoesOnWith, GoesOn, CancelsWith, Cancels, TellsWith, TellsFields, At, StepGrows, Line, AreGrown, handles_after}
+use Rattle.my_client.specs.Kept.{asked_by, Asked, Kept, nothing_kept, told_by, made_of, asking, ended_by, first_asked, first_kept}
 use Rattle.my_run.specs.Handle.{Handle, Absent, Dialing, Joined, at_number, put_at}
-use Rattle.my_run.specs.Kept.{Asked, Kept, IsHeard, nothing_kept, told_by, made_of, is_note, answers_in, asking, ended_by}
-use Rattle.my_run.specs.Ready.{IsReady, WereJoined, WasJoined, IsOpen, JoinedBy, IsJoined, AllJoined}
-use Rattle.my_run.proofs.Beginning.{closed_kept, is_idle}
-use Rattle.my_run.proofs.Hearing.{made_more}
+use Rattle.my_client.specs.Ready.{WereJoined, WasJoined, IsOpen, JoinedBy}
+use Rattle.my_run.specs.Ready.{IsJoined, AllJoined}
+use Rattle.my_client.proofs.Hearing.{made_more}
 
 -- at rest
 rested_joined : (k : Kept) → k.pending ≡ None → WasJoined k → IsJoined (Joined true k)
@@ -73,13 +68,13 @@ connect_ready Ping answer e m = cc
 connect_ready Quit answer e m = cc
 
 -- a poll of another call
-poll_joined : (login : Login) (a : Asked) (k b end : Kept) (u : Use) (p : After) → b.calls ≡ k.calls → WasJoined k → PollEnds login a b u p end → WasJoined end
+poll_joined : (login : Login) (a : Asked) (k b end : Kept) (u : Met) (p : After) → b.calls ≡ k.calls → WasJoined k → PollEnds login a b u p end → WasJoined end
 poll_joined login a k b end u after.Pending e w r = subst WasJoined (sym r.0) (same_joined k b e w)
 poll_joined login a k b end u (after.Answered answer) e w r = subst WasJoined (sym r.0) (ended_joined b a _ (same_joined k b e w))
 poll_joined login a k b end u (after.Failed x) e w r = subst WasJoined (sym r.0) (ended_joined b a _ (same_joined k b e w))
 
-pub polled_joined : (login : Login) (n : ℕ) (a : Asked) (k end : Kept) (u : Use) (p : After) → WasJoined k → IsPolled login n a k u p end → WasJoined end
-polled_joined login n a k end u p w r = poll_joined login a k r.following end u p r.calls w r.ends
+pub polled_joined : (login : Login) (a : Asked) (k end : Kept) (u : Met) (p : After) → WasJoined k → IsPolled login a k u p end → WasJoined end
+polled_joined login a k end u p w r = poll_joined login a k r.following end u p r.calls w r.ends
 
 -- rows are gathered only on an open session
 abbrev GathersOpen : Asked → Kept → Type 0
@@ -88,7 +83,7 @@ GathersOpen a k = is_some a.rows ≡ true → IsOpen k
 same_open : (k m : Kept) → m.calls ≡ k.calls → IsOpen k → IsOpen m
 same_open k m e w = subst (λ cs. has_closed (made_of cs) ≡ false) (sym e) w
 
-left_open : (login : Login) (a : Asked) (k b end : Kept) (u : Use) (p : After) → b.calls ≡ k.calls → b.pending ≡ Some a → WasJoined k → GathersOpen a k → PollEnds login a b u p end → IsJoined (Joined true end)
+left_open : (login : Login) (a : Asked) (k b end : Kept) (u : Met) (p : After) → b.calls ≡ k.calls → b.pending ≡ Some a → WasJoined k → GathersOpen a k → PollEnds login a b u p end → IsJoined (Joined true end)
 left_open login a k b end u after.Pending e f w g r =
     let still : end.pending ≡ Some a = ap (λ (k : Kept). k.pending) r.0 ∙ f in
     subst (λ (q : Option Asked). JoinedBy q end) (sym still) (λ _. subst WasJoined (sym r.0) (same_joined k b e w), λ some. subst IsOpen (sym r.0) (same_open k b e (g some)))
@@ -96,14 +91,14 @@ left_open login a k b end u (after.Answered answer) e f w g r = rested_joined en
 left_open login a k b end u (after.Failed x) e f w g r = rested_joined end (ap (λ (k : Kept). k.pending) r.0) (subst WasJoined (sym r.0) (ended_joined b a _ (same_joined k b e w)))
 
 once_joined : (login : Login) (n : ℕ) (a : Asked) (k : Kept) (o : Outcome) (us : List Use) (t : Handle) → WasJoined k → GathersOpen a k → PolledOnce login n a k o us t → IsJoined t
-once_joined login n a k o us t w g r = subst IsJoined (sym r.left) (left_open login a k r.polled.following r.end r.used r.after r.polled.calls r.polled.pending w g r.polled.ends)
+once_joined login n a k o us t w g r = subst IsJoined (sym r.left) (left_open login a k r.polled.following r.end r.used.met r.after r.polled.calls r.polled.pending w g r.polled.ends)
 
 -- a poll of the handshake
 no_connect : (b : Bool) → b ≡ true → b ≡ false → ⊥
 no_connect true e f = cc
 no_connect false e f = cc
 
-shown_joined : (login : Login) (n : ℕ) (a : Asked) (k b end : Kept) (u : Use) (o : Outcome) (t : Handle) (p : After) → is_connect (kind_of a.call) ≡ true → b.calls ≡ k.calls → b.pending ≡ Some a → GathersOpen a k → PollEnds login a b u p end → ConnectShows login n p end o t → IsJoined t
+shown_joined : (login : Login) (n : ℕ) (a : Asked) (k b end : Kept) (u : Met) (o : Outcome) (t : Handle) (p : After) → is_connect (kind_of a.call) ≡ true → b.calls ≡ k.calls → b.pending ≡ Some a → GathersOpen a k → PollEnds login a b u p end → ConnectShows login n p end o t → IsJoined t
 shown_joined login n a k b end u o t after.Pending c calls e g r s =
     let still : end.pending ≡ Some a = ap (λ (k : Kept). k.pending) r.0 ∙ e in
     subst IsJoined (sym s.1) (subst (λ (q : Option Asked). JoinedBy q end) (sym still) (λ f. absurd (no_connect (is_connect (kind_of a.call)) c f), λ some. subst IsOpen (sym r.0) (same_open k b calls (g some))))
@@ -113,7 +108,7 @@ shown_joined login n a k b end u o t (after.Answered answer) c calls e g r s =
 shown_joined login n a k b end u o t (after.Failed x) c calls e g r s = subst IsJoined (sym s.1) tt
 
 connects_joined : (login : Login) (n : ℕ) (a : Asked) (k : Kept) (o : Outcome) (u : Use) (t : Handle) → is_connect (kind_of a.call) ≡ true → GathersOpen a k → Connects login n a k o u t → IsJoined t
-connects_joined login n a k o u t c g r = shown_joined login n a k r.polled.following r.end u o t r.after c r.polled.calls r.polled.pending g r.polled.ends r.shows
+connects_joined login n a k o u t c g r = shown_joined login n a k r.polled.following r.end u.met o t r.after c r.polled.calls r.polled.pending g r.polled.ends r.shows
 
 none_gathers : (k : Kept) (call : Call) (m : Kept) → GathersOpen (asked_by k call) m
 none_gathers k call m e = cc
@@ -121,10 +116,10 @@ none_gathers k call m e = cc
 dials_joined : (login : Login) (n : ℕ) (o : Outcome) (us : List Use) (t : Handle) → Dials login n o us t → IsJoined t
 dials_joined login n o us t (Holds e f g) = subst IsJoined (sym g) tt
 dials_joined login n o us t (Fails e f g) = subst IsJoined (sym g) tt
-dials_joined login n o us t (Links u e r) = connects_joined login n (asked_by nothing_kept calls.Connect) (asking nothing_kept calls.Connect None) o u t refl (none_gathers nothing_kept calls.Connect (asking nothing_kept calls.Connect None)) r
+dials_joined login n o us t (Links u e r) = connects_joined login n first_asked first_kept o u t refl (none_gathers nothing_kept calls.Connect first_kept) r
 
 -- after a row the session isn't closed
-pub row_open : (login : Login) (a : Asked) (k b end : Kept) (u : Use) (p : After) (row : RowParts) → p ≡ after.Answered (answers.Row row) → b.calls ≡ k.calls → IsOpen k → PollEnds login a b u p end → IsOpen end
+pub row_open : (login : Login) (a : Asked) (k b end : Kept) (u : Met) (p : After) (row : RowParts) → p ≡ after.Answered (answers.Row row) → b.calls ≡ k.calls → IsOpen k → PollEnds login a b u p end → IsOpen end
 row_open login a k b end u p row is e w r =
     let now = subst (λ (x : After). PollEnds login a b u x end) is r in
     ap (λ (m : Kept). has_closed (made_of m.calls)) now.0 ∙ ap has_closed (made_more b.calls (record { call = a.call; sent_from = a.sent_from; said = says.Answered (answers.Row row) })) ∙ same_open k b e w
@@ -142,7 +137,7 @@ gathers_joined : (login : Login) (n : ℕ) (us : List Use) (a : Asked) (k : Kept
 gathers_joined login n [] a k o t w alive r = absurd r
 gathers_joined login n (u ∷ us) a k o t w alive r =
     let polled = r.2 in
-    gathers_on (Gathers login n us) us a r.1 o t r.0 (λ b m v x y. gathers_joined login n us b m o t v x y) (polled_joined login n a k r.1 u r.0 w polled) (left_open login a k polled.following r.1 u r.0 polled.calls polled.pending w (λ _. alive) polled.ends) (λ row is. row_open login a k polled.following r.1 u r.0 row is polled.calls alive polled.ends) r.3
+    gathers_on (Gathers login n us) us a r.1 o t r.0 (λ b m v x y. gathers_joined login n us b m o t v x y) (polled_joined login a k r.1 u.met r.0 w polled) (left_open login a k polled.following r.1 u.met r.0 polled.calls polled.pending w (λ _. alive) polled.ends) (λ row is. row_open login a k polled.following r.1 u.met r.0 row is polled.calls alive polled.ends) r.3
 
 -- what each step leaves at its number
 kept_joined : (h : Handle) (o : Outcome) (us : List Use) (t : Handle) → IsJoined h → IsRefused h o us t → IsJoined t
@@ -249,47 +244,3 @@ step_joined login hs (steps.Cancel n) o us ts w r = at_step n _ hs ts o us (λ h
 pub grown_joined : (login : Login) (ls : List Line) → AreGrown login ls → AllJoined (handles_after ls)
 grown_joined login [] w = tt
 grown_joined login (l ∷ ls) w = step_joined login (handles_after ls) l.step l.outcome l.uses l.handles (grown_joined login ls w.1) w.0.answer
-
--- so a call may begin there
-note_joins : (c : CallKind) (t : Told) → is_note c t ≡ true → connects t c ≡ false
-note_joins Connect t n = cc
-note_joins Query t n = cc
-note_joins NextRow t n = cc
-note_joins DropResult ToldReady n = cc
-note_joins DropResult (ToldRow row) n = refl
-note_joins DropResult ToldEnd n = refl
-note_joins DropResult ToldNone n = cc
-note_joins DropResult (ToldError e) n = cc
-note_joins DropResult (Dropped closing) n = cc
-note_joins Ping t n = cc
-note_joins Quit t n = cc
-
-connected_if : (m : Made) (ms : List Made) (b : Bool) → is_note (kind_of m.call) m.what ≡ b → has_connected ms ≡ has_connected (answers_in ms) → has_connected (m ∷ ms) ≡ has_connected (cond b (answers_in ms) (m ∷ answers_in ms))
-connected_if m ms true n e = ap (λ (b : Bool). b || has_connected ms) (note_joins (kind_of m.call) m.what n) ∙ e
-connected_if m ms false n e = ap (λ (b : Bool). connects m.what (kind_of m.call) || b) e
-
-connected_answers : (ms : List Made) → has_connected ms ≡ has_connected (answers_in ms)
-connected_answers [] = refl
-connected_answers (m ∷ ms) = connected_if m ms (is_note (kind_of m.call) m.what) refl (connected_answers ms)
-
-settled_by : (b : Bool) (x y : Bool) → b ≡ true → cond b x y ≡ true → x ≡ true
-settled_by true x y e f = f
-settled_by false x y e f = cc
-
-pub is_ready : (login : Login) (s : Seen) (k : Kept) → IsHeard login s k → (k.pending ≡ None → WasJoined k) → IsReady s
-is_ready login s k heard was idle still =
-    let none : k.pending ≡ None = is_idle login s k (ap is_open idle) heard in
-    let kept : has_connected (made_of k.calls) ≡ true = was none (sym (closed_kept login s k heard) ∙ still) in
-    let made : has_connected heard.history.calls ≡ true = connected_answers heard.history.calls ∙ ap has_connected heard.kept.calls_are ∙ kept in
-    let count = connecting_in (heard.stands.newest ∷ heard.stands.older) in
-    let at : TaskIs Nothing s.context.spot s.closed (has_connected heard.history.calls) count heard.stands.newest = subst (λ (t : Task). TaskIs t s.context.spot s.closed (has_connected heard.history.calls) count heard.stands.newest) idle heard.stands.heard.at in
-    settled_by (has_connected heard.history.calls) (is_settled s.context.spot) _ made (at still)
-
--- a call other than the handshake begins where the session rests
-pub at_begun : (c : CallKind) (spot : Spot) → is_connect c ≡ false → is_settled spot ≡ true → AtBegun c spot
-at_begun Connect spot e s = cc
-at_begun Query spot e s = s
-at_begun NextRow spot e s = s
-at_begun DropResult spot e s = s
-at_begun Ping spot e s = s
-at_begun Quit spot e s = s

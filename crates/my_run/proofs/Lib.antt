@@ -1,10 +1,4 @@
 pub mod Outputs
-pub mod Spends
-pub mod Hearing
-pub mod Stepping
-pub mod Failing
-pub mod Rounds
-pub mod Driving
 pub mod Playing
 pub mod Beginning
 pub mod Numbers
@@ -16,3 +10,4 @@ pub mod Taping
 pub mod Resuming
 pub mod Gathered
 pub mod Readying
+pub mod Working

@@ -1,11 +1,11 @@
 -- What a step at one number does to all numbers.
-use Rattle.std.proofs.Common.{◌≡◌, ◌≢◌, inl, Bool, true, false, if◌then◌else◌, ◌==◌, ℕ, ◌+◌, ◌<◌, ◌≤◌, zero, suc, List, [], ◌∷◌, ◌++◌, length, map, get_or, slice_set, Result, Ok, Err, IfOk, OnOk, refl, sym, ap, ◌∙◌, subst, arith}
+use Rattle.std.proofs.Common.{ℕ, ◌≡◌, ◌≢◌, inl, Bool, true, false, if◌then◌else◌, ◌==◌, ◌+◌, ◌<◌, ◌≤◌, zero, suc, List, [], ◌∷◌, ◌++◌, length, map, get_or, slice_set, Result, Ok, Err, IfOk, OnOk, refl, sym, ap, ◌∙◌, subst, arith}
 use Rattle.std.specs.List.{insert, remove}
 use Rattle.std.proofs.lemmas.Bool.Decides.{nat_tests}
 use Rattle.std.proofs.lemmas.List.{length-map}
 use Rattle.my_grammar.specs.declared.login.Login.{Login}
-use Rattle.my_world.specs.Spent.{IsSpent}
-use Rattle.my_run.specs.declared.slot.Conn.{Conn}
+use Rattle.my_link.specs.Spent.{IsSpent}
+use Rattle.my_client.specs.declared.conn.Conn.{Conn}
 use Rattle.my_run.specs.declared.slot.Slot.{Slot}
 use Rattle.my_run.specs.declared.slot.Slot.TheVariants.{Gone, Held, There, Ended}
 use Rattle.my_script.specs.declared.transcript.Outcome.{Outcome}
@@ -14,8 +14,10 @@ use Rattle.my_run.specs.Did.{Did, Stepped}
 use Rattle.my_run.specs.Grows.{At}
 use Rattle.my_run.specs.Handle.{Handle, Absent, at_number, put_at}
 use Rattle.my_run.specs.Held.{HeldBy}
-use Rattle.my_run.specs.Keeps.{Plans, StandsBy, LinkSpent, IsStood, AreStood, IsPlayed, ArePlayed}
-use Rattle.my_world.specs.Looks.{Looks}
+use Rattle.my_world.specs.World.{Plans}
+use Rattle.my_client.specs.Ready.{StandsBy}
+use Rattle.my_run.specs.Keeps.{LinkSpent, IsStood, AreStood, IsPlayed, ArePlayed}
+use Rattle.my_link.specs.Looks.{Looks}
 use Rattle.my_run.specs.Slot.{handle_of}
 use Rattle.my_run.specs.Sums.{faults_for, holds_for, ends_for, IsSilent}
 

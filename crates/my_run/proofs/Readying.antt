@@ -1,5 +1,5 @@
 -- Where a call may begin, number by number.
-use Rattle.std.proofs.Common.{◌≡◌, ◌<◌, ℕ, List, [], ◌∷◌, ◌++◌, unwrap_or, length, map, get_or, Option, Some, None, is_some, Bool, true, false, refl, sym, ap, ◌∙◌, subst}
+use Rattle.std.proofs.Common.{ℕ, ◌≡◌, ◌<◌, List, [], ◌∷◌, ◌++◌, unwrap_or, length, map, get_or, Option, Some, None, is_some, Bool, true, false, refl, sym, ap, ◌∙◌, subst}
 use Rattle.my_grammar.specs.declared.login.Login.{Login}
 use Rattle.my_session.specs.declared.answer.Answer.TheVariants as answers
 use Rattle.my_session.specs.declared.call.Call.{Call}
@@ -9,25 +9,28 @@ use Rattle.my_session.specs.History.{History, began}
 use Rattle.my_session.specs.Seen.{Seen}
 use Rattle.my_session.specs.Stands.{Stands}
 use Rattle.my_session.specs.Steps.{begun, is_refused, is_settled, AtBegun}
-use Rattle.my_session.proofs.Plain.{no_task}
+use Rattle.my_session.proofs.Stands.Plain.{no_task}
 use Rattle.my_run.specs.declared.gather.Gathering.TheVariants.{On}
-use Rattle.my_run.specs.declared.poll.After.{After}
-use Rattle.my_run.specs.declared.poll.After.TheVariants as after
-use Rattle.my_run.specs.declared.poll.Polled.{Polled}
-use Rattle.my_run.specs.declared.slot.Conn.{Conn}
+use Rattle.my_client.specs.declared.poll.After.{After}
+use Rattle.my_client.specs.declared.poll.After.TheVariants as after
+use Rattle.my_link.specs.declared.met.Met.{Met}
+use Rattle.my_client.specs.declared.conn.Conn.{Conn}
 use Rattle.my_run.specs.declared.slot.Slot.{Slot}
 use Rattle.my_run.specs.declared.slot.Slot.TheVariants.{There}
-use Rattle.my_run.specs.Drives.{Drives}
+use Rattle.my_client.specs.Drives.{Drives}
 use Rattle.my_run.specs.Gathering.{Goes}
-use Rattle.my_run.specs.Kept.{Asked, Kept, asking}
-use Rattle.my_world.specs.Looks.{Looks}
-use Rattle.my_run.specs.Ready.{IsReady, WasJoined, IsOpen, JoinedBy, IsJoined, StaysOpen, ConnReady, SlotReady, AreReady, AskedReady}
-use Rattle.my_run.specs.Rests.{Rests, IsAsked}
-use Rattle.my_run.specs.Slot.{kept_of, handle_of}
+use Rattle.my_client.specs.Kept.{Asked, Kept, asking}
+use Rattle.my_link.specs.Looks.{Looks}
+use Rattle.my_client.specs.Ready.{IsReady, WasJoined, IsOpen, JoinedBy, StaysOpen, ConnReady, AskedReady}
+use Rattle.my_run.specs.Ready.{IsJoined, SlotReady, AreReady}
+use Rattle.my_client.specs.Rests.{Rests, IsAsked}
+use Rattle.my_client.specs.Conn.{kept_of}
+use Rattle.my_run.specs.Slot.{handle_of}
 use Rattle.my_value.specs.RowParts.{RowParts}
-use Rattle.my_run.proofs.Beginning.{begins, closed_kept, is_idle}
+use Rattle.my_client.proofs.Beginning.{begins, closed_kept, is_idle}
 use Rattle.my_run.proofs.Gathered.{next_row}
-use Rattle.my_run.proofs.Joining.{polled_joined, row_open, at_joined, is_ready, at_begun}
+use Rattle.my_run.proofs.Joining.{polled_joined, row_open, at_joined}
+use Rattle.my_client.proofs.Readying.{is_ready, at_begun}
 use Rattle.my_run.proofs.Numbers.{stood_here, handle_got}
 use Rattle.my_run.proofs.Resuming.{open_asked}
 
@@ -65,23 +68,23 @@ asked_again c connecting gathering r op kind other rows some =
     let j : JoinedBy (Some a.0) (kept_of c) = subst (λ (q : Option Asked). JoinedBy q (kept_of c)) a.1.asked r.2 in
     (r.0, a.0, a.1, j.0 (sym (kind a.0 a.1.asked) ∙ other), j.1 (sym (rows a.0 a.1.asked) ∙ some))
 
-module _ {L : Type 0} (n : ℕ) (x y : Looks) (d e : Conn L) (p : Polled) (r : AskedReady d) (drives : (login : Login) (a : Asked) → IsAsked login d.session.seen (kept_of d) a → Drives login n a e.session.seen x y (kept_of d) (kept_of e) p) where
-  following : Drives r.0 n r.1 e.session.seen x y (kept_of d) (kept_of e) p
+module _ {L : Type 0} (x y : Looks) (d e : Conn L) (met : Met) (p : After) (r : AskedReady d) (drives : (login : Login) (a : Asked) → IsAsked login d.session.seen (kept_of d) a → Drives login a e.session.seen x y (kept_of d) (kept_of e) met p) where
+  following : Drives r.0 r.1 e.session.seen x y (kept_of d) (kept_of e) met p
   following = drives r.0 r.1 r.2
 
   joined_after : WasJoined (kept_of e)
-  joined_after = polled_joined r.0 n r.1 (kept_of d) (kept_of e) p.used p.after r.3 following.polled
+  joined_after = polled_joined r.0 r.1 (kept_of d) (kept_of e) met p r.3 following.polled
 
-  open_after : (row : RowParts) → p.after ≡ after.Answered (answers.Row row) → IsOpen (kept_of e)
-  open_after row is = row_open r.0 r.1 (kept_of d) following.polled.following (kept_of e) p.used p.after row is following.polled.calls r.4 following.polled.ends
+  open_after : (row : RowParts) → p ≡ after.Answered (answers.Row row) → IsOpen (kept_of e)
+  open_after row is = row_open r.0 r.1 (kept_of d) following.polled.following (kept_of e) met p row is following.polled.calls r.4 following.polled.ends
 
   pub polled_ready : IsReady e.session.seen
   polled_ready = is_ready r.0 e.session.seen (kept_of e) following.rests.heard (λ _. joined_after)
 
-  pub polled_open : StaysOpen p.after e.session.seen
-  polled_open = by_after p.after refl
+  pub polled_open : StaysOpen p e.session.seen
+  polled_open = by_after p refl
     where
-      by_after : (q : After) → p.after ≡ q → StaysOpen q e.session.seen
+      by_after : (q : After) → p ≡ q → StaysOpen q e.session.seen
       by_after after.Pending is = tt
       by_after (after.Answered answers.Ready) is = tt
       by_after (after.Answered (answers.Row row)) is = closed_kept r.0 e.session.seen (kept_of e) following.rests.heard ∙ open_after row is
@@ -89,9 +92,9 @@ module _ {L : Type 0} (n : ℕ) (x y : Looks) (d e : Conn L) (p : Polled) (r : A
       by_after (after.Answered answers.NoSet) is = tt
       by_after (after.Failed error) is = tt
 
-  pub asked_next : (f : Conn L) (rows : Option (List RowParts)) → Goes e f rows p.after On → AskedReady f
+  pub asked_next : (f : Conn L) (rows : Option (List RowParts)) → Goes e f rows p On → AskedReady f
   asked_next f rows g =
-      let next = next_row e f rows p.after g in
+      let next = next_row e f rows p g in
       let asks = next.2 in
       let more : Option (List RowParts) = Some (unwrap_or rows [] ++ next.0 ∷ []) in
       let a : Asked = record { call = NextRow; sent_from = length (kept_of e).sent; rows = more } in

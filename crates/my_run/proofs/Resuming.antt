@@ -1,11 +1,9 @@
 -- How what is open at a number is polled.
-use Rattle.std.proofs.Common.{◌≡◌, ℕ, List, [], ◌∷◌, Option, Some, None, is_some, Bool, true, false, refl, sym, subst}
+use Rattle.std.proofs.Common.{ℕ, ◌≡◌, List, [], ◌∷◌, Option, Some, None, is_some, Bool, true, false, refl, sym, subst}
 use Rattle.my_value.specs.RowParts.{RowParts}
 use Rattle.my_grammar.specs.declared.login.Login.{Login}
 use Rattle.my_session.specs.Calls.{kind_of, is_open, is_connect}
-use Rattle.my_world.specs.declared.link.ReadItem.{ReadItem}
-use Rattle.my_world.specs.declared.link.WriteItem.{WriteItem}
-use Rattle.my_run.specs.declared.slot.Conn.{Conn}
+use Rattle.my_client.specs.declared.conn.Conn.{Conn}
 use Rattle.my_run.specs.declared.slot.Slot.{Slot}
 use Rattle.my_run.specs.declared.slot.Slot.TheVariants.{Held, There}
 use Rattle.my_script.specs.declared.transcript.Outcome.{Outcome}
@@ -16,12 +14,16 @@ use Rattle.my_run.specs.Did.{Did, Resumed}
 use Rattle.my_run.specs.Gathering.{GatheredOn}
 use Rattle.my_run.specs.Grows.{GoesOn, GoesOnWith, PollsOn}
 use Rattle.my_run.specs.Handle.{Joined}
-use Rattle.my_run.specs.Keeps.{StandsBy, SlotPlays}
-use Rattle.my_run.specs.Kept.{Asked}
-use Rattle.my_world.specs.Looks.{Looks}
-use Rattle.my_run.specs.Rests.{IsAsked}
-use Rattle.my_run.specs.Slot.{handle_of, kept_of}
-use Rattle.my_run.proofs.Beginning.{is_asked, is_idle, silent_elsewhere}
+use Rattle.my_client.specs.Ready.{StandsBy}
+use Rattle.my_run.specs.Keeps.{SlotPlays}
+use Rattle.my_client.specs.Kept.{Asked}
+use Rattle.my_link.specs.Looks.{Looks}
+use Rattle.my_world.specs.World.{Plans}
+use Rattle.my_client.specs.Rests.{IsAsked}
+use Rattle.my_run.specs.Slot.{handle_of}
+use Rattle.my_client.specs.Conn.{kept_of}
+use Rattle.my_client.proofs.Beginning.{is_asked, is_idle}
+use Rattle.my_run.proofs.Beginning.{silent_elsewhere}
 use Rattle.my_run.proofs.Cancelling.{same_did}
 use Rattle.my_run.proofs.Playing.{there_plays}
 
@@ -60,11 +62,11 @@ call_resumed {L} look login n c a slot o us kind rows asked w =
     subst (λ (x : Slot L). Did look login n (GoesOn login n) o us (There c) x) (sym w.slot_is) polled
 
 -- a held dial is tried again
-pub dial_resumed : {L : Type 0} (look : L → Looks) (login : Login) (n : ℕ) (reads : Option (List ReadItem)) (writes : Option (List WriteItem)) (slot : Slot L) (o : Outcome) (us : List Use) → Dialed look login n reads writes slot o us → Did look login n (GoesOn login n) o us Held slot
-dial_resumed look login n reads writes slot o us w = record { stood = w.stood; played = λ plans all before v. w.untold plans all before v; silent = w.silent; does = w.does }
+pub dial_resumed : {L : Type 0} (look : L → Looks) (login : Login) (n : ℕ) (told : Plans) (slot : Slot L) (o : Outcome) (us : List Use) → Dialed look login n told slot o us → Did look login n (GoesOn login n) o us Held slot
+dial_resumed look login n told slot o us w = record { stood = w.stood; played = λ plans all before v. w.untold plans all before v; silent = w.silent; does = w.does }
 
-pub held_resumed : {L : Type 0} (look : L → Looks) (login : Login) (n : ℕ) (reads : Option (List ReadItem)) (writes : Option (List WriteItem)) (s slot : Slot L) (o : Outcome) (us : List Use) → s ≡ Held → Dialed look login n reads writes slot o us → Did look login n (GoesOn login n) o us s slot
-held_resumed {L} look login n reads writes s slot o us e w = subst (λ (x : Slot L). Did look login n (GoesOn login n) o us x slot) (sym e) (dial_resumed look login n reads writes slot o us w)
+pub held_resumed : {L : Type 0} (look : L → Looks) (login : Login) (n : ℕ) (told : Plans) (s slot : Slot L) (o : Outcome) (us : List Use) → s ≡ Held → Dialed look login n told slot o us → Did look login n (GoesOn login n) o us s slot
+held_resumed {L} look login n told s slot o us e w = subst (λ (x : Slot L). Did look login n (GoesOn login n) o us x slot) (sym e) (dial_resumed look login n told slot o us w)
 
 some_rows : (rows : Option (List RowParts)) → is_some rows ≡ true → (r : List RowParts) × (rows ≡ Some r)
 some_rows None e = cc

@@ -1,27 +1,29 @@
 -- The run, step by step.
-use Rattle.std.proofs.Common.{◌≡◌, ℕ, ◌+◌, ◌<◌, suc, zero, List, [], ◌∷◌, ◌++◌, length, map, take, Option, Some, None, true, refl, sym, ap, ◌∙◌, subst, arith}
+use Rattle.std.proofs.Common.{◌≤◌, ℕ, ◌≡◌, ◌+◌, ◌<◌, suc, zero, List, [], ◌∷◌, ◌++◌, length, map, take, Option, Some, None, true, refl, sym, ap, ◌∙◌, subst, arith}
 use Rattle.std.proofs.lemmas.List.{length-append, map-append}
 use Rattle.my_grammar.specs.declared.login.Login.{Login}
-use Rattle.my_session.proofs.LawOf.{each_history}
-use Rattle.my_world.specs.declared.link.ReadItem.{ReadItem}
-use Rattle.my_world.specs.declared.link.ReadItem.TheVariants.{Bytes, Turn, Wait, Fail, End}
-use Rattle.my_world.specs.declared.link.WriteItem.{WriteItem}
-use Rattle.my_world.specs.Spent.{ReadsSpent, AllSpent, spelled, has_end, is_at_end}
-use Rattle.my_run.specs.declared.slot.Conn.{Conn}
+use Rattle.my_session.proofs.History.{each_history}
+use Rattle.my_link.specs.declared.link.ReadItem.{ReadItem}
+use Rattle.my_link.specs.declared.link.ReadItem.TheVariants.{Bytes, Turn, Wait, Fail, End}
+use Rattle.my_link.specs.declared.link.WriteItem.{WriteItem}
+use Rattle.my_link.specs.Spent.{ReadsSpent, AllSpent, spelled, has_end, is_at_end}
+use Rattle.my_client.specs.declared.conn.Conn.{Conn}
 use Rattle.my_run.specs.declared.slot.Slot.{Slot}
 use Rattle.my_run.specs.declared.slot.Slot.TheVariants.{Gone, Held, There, Ended}
 use Rattle.my_script.specs.declared.step.Step.{Step}
-use Rattle.my_script.specs.declared.transcript.Outcome.{Outcome}
 use Rattle.my_script.specs.declared.transcript.StepAnswer.{StepAnswer}
 use Rattle.my_script.specs.declared.transcript.Tape.{Tape}
 use Rattle.my_script.specs.declared.transcript.Use.{Use}
 use Rattle.my_run.specs.Did.{Stepped}
-use Rattle.my_run.specs.Grows.{At, TellsFields, Line, StepGrows}
+use Rattle.my_run.specs.Grows.{Line, StepGrows}
 use Rattle.my_run.specs.Handle.{Handle}
 use Rattle.my_run.specs.Headline.{AnswerView, answer_view, steps_of, uses_of, IsSaid, FewFaults, PlaysReads, Plays, HoldsAre, ArePlanned, FewHolds, IsExplained, AreExplained, Headline, SoFar}
-use Rattle.my_run.specs.Keeps.{Plans, StandsBy, LinkSpent, IsStood, AreStood, IsPlayed, ArePlayed}
-use Rattle.my_world.specs.Looks.{Looks}
-use Rattle.my_run.specs.Slot.{kept_of, handle_of}
+use Rattle.my_world.specs.World.{Plans, SamePlans, SameFrom}
+use Rattle.my_client.specs.Ready.{StandsBy}
+use Rattle.my_run.specs.Keeps.{LinkSpent, IsStood, AreStood, IsPlayed, ArePlayed}
+use Rattle.my_link.specs.Looks.{Looks}
+use Rattle.my_client.specs.Conn.{kept_of}
+use Rattle.my_run.specs.Slot.{handle_of}
 use Rattle.my_run.specs.Sums.{faults_for, ends_for, IsSilent}
 use Rattle.my_run.specs.Tapes.{tape_view, tapes_in}
 
@@ -139,9 +141,18 @@ count_up zero xs h = refl
 count_up (suc i) [] h = absurd (omega (arith, h))
 count_up (suc i) (x ∷ xs) h = let r : i + 1 ≡ length (take i xs) + 1 = count_up i xs (omega (arith, h)) in omega (arith, r)
 
--- a step by what it is
-pub stepped_as : {L : Type 0} (look : L → Looks) (login : Login) (plans : Plans) (o : Outcome) (us : List Use) (ss ts : List (Slot L)) (step known : Step) → step ≡ known → Stepped look login plans us ss ts (StepGrows login (map handle_of ss) known o us (map handle_of ts)) → Stepped look login plans us ss ts (StepGrows login (map handle_of ss) step o us (map handle_of ts))
-stepped_as look login plans o us ss ts step known e w = subst (λ (s : Step). Stepped look login plans us ss ts (StepGrows login (map handle_of ss) s o us (map handle_of ts))) (sym e) w
+-- plans that are the told ones, of which these are the same as now
+pub same_between : (told now plans : Plans) (k : ℕ) → SamePlans told plans → SameFrom k told now → SameFrom k now plans
+same_between told now plans k same others m h = record {
+  reads = (same m).reads ∙ sym (others m h).reads;
+  writes = (same m).writes ∙ sym (others m h).writes;
+}
 
-pub fields_here : {L : Type 0} (look : L → Looks) (login : Login) (plans : Plans) (n : ℕ) (o : Outcome) (us : List Use) (read ss : List (Slot L)) → read ≡ ss → (AreStood login read → Stepped look login plans us read read (At n (TellsFields login) (map handle_of read) o us (map handle_of read))) → AreStood login ss → Stepped look login plans us ss ss (At n (TellsFields login) (map handle_of ss) o us (map handle_of ss))
-fields_here {L} look login plans n o us read ss e = subst (λ (xs : List (Slot L)). (AreStood login xs → Stepped look login plans us xs xs (At n (TellsFields login) (map handle_of xs) o us (map handle_of xs))) → AreStood login ss → Stepped look login plans us ss ss (At n (TellsFields login) (map handle_of ss) o us (map handle_of ss))) (sym e) (λ f. f)
+-- from a later number on, over two changes
+pub same_through : (told now next : Plans) (k l : ℕ) → k ≤ l → SameFrom k told now → SameFrom l now next → SameFrom l told next
+same_through told now next k l longer p q m h =
+    let before : k ≤ m = omega (arith, longer, h) in
+    record {
+      reads = (q m h).reads ∙ (p m before).reads;
+      writes = (q m h).writes ∙ (p m before).writes;
+    }

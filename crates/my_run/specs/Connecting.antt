@@ -1,42 +1,60 @@
 -- What dialing a connection and polling its handshake does.
-use Rattle.std.specs.Prelude.{◌≡◌, ◌≢◌, ℕ, List, [], ◌∷◌, Option, None}
+use Rattle.std.specs.Prelude.{ℕ, ◌≡◌, ◌≢◌, List, [], ◌∷◌, None}
 use Rattle.my_handshake.specs.Version.{version_of}
 use Rattle.my_grammar.specs.declared.login.Login.{Login}
-use Rattle.my_run.specs.declared.poll.After.{After}
-use Rattle.my_run.specs.declared.poll.After.TheVariants as after
-use Rattle.my_run.specs.declared.slot.Conn.{Conn}
+use Rattle.my_client.specs.declared.poll.After.{After}
+use Rattle.my_client.specs.declared.poll.After.TheVariants as after
+use Rattle.my_client.specs.declared.conn.Conn.{Conn}
 use Rattle.my_run.specs.declared.slot.Slot.{Slot}
 use Rattle.my_run.specs.declared.slot.Slot.TheVariants.{There, Ended}
 use Rattle.my_script.specs.declared.transcript.Outcome.{Outcome}
 use Rattle.my_script.specs.declared.transcript.Outcome.TheVariants.{Pending, Connected, Failed}
 use Rattle.my_script.specs.declared.transcript.Use.{Use}
 use Rattle.my_run.specs.Grows.{Connects, Dials}
-use Rattle.my_run.specs.Keeps.{Plans, IsStood, LinkSpent, SlotPlays}
-use Rattle.my_run.specs.Kept.{Asked, Kept}
-use Rattle.my_world.specs.Looks.{Looks}
+use Rattle.my_world.specs.World.{Plans, SameAt}
+use Rattle.my_run.specs.Keeps.{IsStood, LinkSpent, SlotPlays}
+use Rattle.my_client.specs.Kept.{Asked, Kept, first_asked, first_kept}
+use Rattle.my_link.specs.Looks.{Looks}
 use Rattle.my_run.specs.Slot.{handle_of}
-use Rattle.my_run.specs.Sums.{IsSilent}
-use Rattle.my_world.specs.declared.link.ReadItem.{ReadItem}
-use Rattle.my_world.specs.declared.link.WriteItem.{WriteItem}
+use Rattle.my_run.specs.Sums.{IsSilent, quiet}
+use Rattle.my_run.specs.declared.outcome.StepResult.{StepResult}
+use Rattle.my_client.specs.Conn.{kept_of}
+use Rattle.my_client.specs.Rests.{IsAsked}
 
 -- where the connection stands once its handshake was polled, and what the step shows
 abbrev pub Settles : {L : Type 0} → Conn L → ℕ → After → Slot L → Outcome → Type 0
 Settles c n after.Pending slot o = (slot ≡ There c) × (o ≡ Pending)
-Settles c n (after.Answered answer) slot o = (slot ≡ There c) × (o ≡ Connected n c.session.seen.facts.connection (version_of c.session.seen.facts.version))
+Settles c n (after.Answered answer) slot o = (slot ≡ There c)
+    × (o ≡ Connected n c.session.seen.facts.connection (version_of c.session.seen.facts.version))
 Settles c n (after.Failed e) slot o = (slot ≡ Ended c) × (o ≡ Failed e)
 
 -- a poll of the handshake: what stands at the number after it, and what was used of the link's plan
-pub record Joins {L : Type 0} (look : L → Looks) (login : Login) (n : ℕ) (a : Asked) (k : Kept) (x : Looks) (slot : Slot L) (o : Outcome) (used : Use) : Type 0 where
+pub record Joins {L : Type 0} (look : L → Looks) (login : Login) (n : ℕ) (a : Asked) (k : Kept) (x : Looks)
+    (slot : Slot L) (o : Outcome) (used : Use) : Type 0 where
   pub stood : IsStood login slot
-  pub played : (plans : Plans) (all : List Use) (before : ℕ) → LinkSpent plans n x k.taken all before → SlotPlays look login plans n (used ∷ []) all before slot
+  pub played : (plans : Plans) (all : List Use) (before : ℕ) → LinkSpent plans n x k.taken all before
+      → SlotPlays look login plans n (used ∷ []) all before slot
   pub number : used.number ≡ n
   pub does : Connects login n a k o used (handle_of slot)
 
--- A dial of a number for which the world told this: what stands there after it. Where the plan is what was told, and nothing was used
--- of it yet, it is kept; where none was told, there is none to be kept.
-pub record Dialed {L : Type 0} (look : L → Looks) (login : Login) (n : ℕ) (reads : Option (List ReadItem)) (writes : Option (List WriteItem)) (slot : Slot L) (o : Outcome) (us : List Use) : Type 0 where
+-- A dial of number n in a world that told these plans, and what is there after it. Where the link's plan is what was told,
+-- and nothing was used of it yet, it is kept; where none was told, there is none to be kept.
+pub record Dialed {L : Type 0} (look : L → Looks) (login : Login) (n : ℕ) (told : Plans) (slot : Slot L)
+    (o : Outcome) (us : List Use) : Type 0 where
   pub stood : IsStood login slot
-  pub played : (plans : Plans) (all : List Use) → plans.reads n ≡ reads → plans.writes n ≡ writes → IsSilent n all → SlotPlays look login plans n us all 0 slot
-  pub untold : (plans : Plans) (all : List Use) (before : ℕ) → plans.reads n ≡ None → SlotPlays look login plans n us all before slot
+  pub played : (plans : Plans) (all : List Use) → SameAt told plans n → IsSilent n all
+      → SlotPlays look login plans n us all 0 slot
+  pub untold : (plans : Plans) (all : List Use) (before : ℕ) → plans.reads n ≡ None
+      → SlotPlays look login plans n us all before slot
   pub silent : (m : ℕ) → m ≢ n → IsSilent m us
   pub does : Dials login n o us (handle_of slot)
+
+-- the poll of a connection's first call, after the dial that gave its link
+abbrev pub JoinsFirst : {L : Type 0} → (L → Looks) → Login → ℕ → Looks → Slot L → StepResult → Type 0
+JoinsFirst look login n x slot r = (used : Use) × (r.uses.items ≡ quiet n ∷ used ∷ [])
+    × Joins look login n first_asked first_kept x slot r.outcome used
+
+-- of each call that may be open on the connection: the poll of a handshake
+abbrev pub EachJoins : {L : Type 0} → (L → Looks) → ℕ → Conn L → Slot L → StepResult → Type 0
+EachJoins look n c slot r = (login : Login) (a : Asked) → IsAsked login c.session.seen (kept_of c) a
+    → (used : Use) × (r.uses.items ≡ used ∷ []) × Joins look login n a (kept_of c) (look c.link) slot r.outcome used

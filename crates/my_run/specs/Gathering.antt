@@ -1,18 +1,19 @@
 -- How the rows of a set are gathered.
-use Rattle.std.specs.Prelude.{◌≡◌, ◌≢◌, ℕ, List, [], ◌∷◌, ◌++◌, Option, Some, unwrap_or, true, false}
+use Rattle.std.specs.Prelude.{ℕ, ◌≡◌, ◌≢◌, List, [], ◌∷◌, ◌++◌, Option, Some, unwrap_or, true, false}
 use Rattle.my_value.specs.RowParts.{RowParts}
 use Rattle.my_grammar.specs.declared.login.Login.{Login}
 use Rattle.my_session.specs.declared.answer.Answer.TheVariants as answers
 use Rattle.my_session.specs.declared.call.Call.TheVariants.{NextRow}
 use Rattle.my_session.specs.Fits.{is_begun}
 use Rattle.my_session.specs.History.{History, began}
+use Rattle.my_session.specs.Seen.{Seen}
 use Rattle.my_session.specs.Stands.{Stands}
 use Rattle.my_session.specs.Steps.{begun}
 use Rattle.my_run.specs.declared.gather.Gathering.{Gathering}
 use Rattle.my_run.specs.declared.gather.Gathering.TheVariants.{On, Over}
-use Rattle.my_run.specs.declared.poll.After.{After}
-use Rattle.my_run.specs.declared.poll.After.TheVariants as after
-use Rattle.my_run.specs.declared.slot.Conn.{Conn}
+use Rattle.my_client.specs.declared.poll.After.{After}
+use Rattle.my_client.specs.declared.poll.After.TheVariants as after
+use Rattle.my_client.specs.declared.conn.Conn.{Conn}
 use Rattle.my_run.specs.declared.slot.Slot.{Slot}
 use Rattle.my_run.specs.declared.slot.Slot.TheVariants.{There}
 use Rattle.my_script.specs.declared.transcript.Outcome.{Outcome}
@@ -20,11 +21,13 @@ use Rattle.my_script.specs.declared.transcript.Outcome.TheVariants.{Done, Pendin
 use Rattle.my_script.specs.declared.transcript.Use.{Use}
 use Rattle.my_run.specs.Grows.{Gathers, rows_shown}
 use Rattle.my_run.specs.Handle.{Handle, Joined}
-use Rattle.my_run.specs.Keeps.{Plans, LinkSpent, LinkPlays}
-use Rattle.my_run.specs.Kept.{Asked, asking}
-use Rattle.my_world.specs.Looks.{Looks}
-use Rattle.my_run.specs.Rests.{Rests, IsAsked}
-use Rattle.my_run.specs.Slot.{kept_of}
+use Rattle.my_world.specs.World.{Plans}
+use Rattle.my_run.specs.Keeps.{LinkSpent, LinkPlays}
+use Rattle.my_client.specs.Kept.{Asked, Kept, asking}
+use Rattle.my_run.specs.declared.outcome.StepResult.{StepResult}
+use Rattle.my_link.specs.Looks.{Looks}
+use Rattle.my_client.specs.Rests.{Rests, IsAsked}
+use Rattle.my_client.specs.Conn.{kept_of}
 use Rattle.my_run.specs.Sums.{holds_for, IsSilent}
 
 -- what a gathering that ends shows, of the rows that came before
@@ -36,7 +39,14 @@ Shows rows (after.Answered answers.SetEnd) o = rows_shown o ≡ Some (unwrap_or 
 Shows rows (after.Answered answers.NoSet) o = rows_shown o ≡ Some (unwrap_or rows [])
 Shows rows (after.Failed e) o = o ≡ Failed e
 
--- the next row is asked for, after one more
+-- the next row is asked for, with one row more
+abbrev pub asking_on : Kept → Option (List RowParts) → RowParts → Kept
+asking_on k rows row = asking k NextRow (Some (unwrap_or rows [] ++ row ∷ []))
+
+-- the session stands for each history that it stood for, with this call begun
+abbrev pub BeginStands : Seen → Seen → Type 0
+BeginStands s t = (h : History) → Stands s h → Stands t (began h NextRow)
+
 pub record AsksNext {L : Type 0} (c d : Conn L) (rows : List RowParts) : Type 0 where
   pub kept : kept_of d ≡ asking (kept_of c) NextRow (Some rows)
   pub seen : d.session.seen ≡ begun c.session.seen NextRow
@@ -56,24 +66,41 @@ Goes c d rows after On = GoesNext c d rows after
 Goes c d rows after (Over o) = (d ≡ c) × Shows rows after o
 
 -- what a gathering did, from a connection on
-pub record GatherDid {L : Type 0} (look : L → Looks) (login : Login) (n : ℕ) (a : Asked) (c d : Conn L) (o : Outcome) (us : List Use) : Type 0 where
+pub record GatherDid {L : Type 0} (look : L → Looks) (login : Login) (n : ℕ) (a : Asked) (c d : Conn L)
+    (o : Outcome) (us : List Use) : Type 0 where
   pub gathers : Gathers login n us a (kept_of c) o (Joined true (kept_of d))
   pub rests : Rests login d.session.seen (kept_of d)
   pub stepped : is_begun d.session.seen.task ≡ false
-  pub spent : (plans : Plans) (all : List Use) (before : ℕ) → LinkSpent plans n (look c.link) c.taken.items all before → LinkPlays login plans n (look d.link) (kept_of d) us all before
+  pub spent : (plans : Plans) (all : List Use) (before : ℕ)
+      → LinkSpent plans n (look c.link) c.taken.items all before
+      → LinkPlays login plans n (look d.link) (kept_of d) us all before
   pub silent : (m : ℕ) → m ≢ n → IsSilent m us
 
 -- so far in a gathering
-pub record GatherSoFar {L : Type 0} (look : L → Looks) (login : Login) (n : ℕ) (a : Asked) (c d : Conn L) (us : List Use) : Type 0 where
+pub record GatherSoFar {L : Type 0} (look : L → Looks) (login : Login) (n : ℕ) (a : Asked) (c d : Conn L)
+    (us : List Use) : Type 0 where
   pub now : Asked
   pub asked : IsAsked login d.session.seen (kept_of d) now
-  pub onto : (vs : List Use) (o : Outcome) (t : Handle) → Gathers login n vs now (kept_of d) o t → Gathers login n (us ++ vs) a (kept_of c) o t
-  pub spent : (plans : Plans) (all : List Use) (before : ℕ) → LinkSpent plans n (look c.link) c.taken.items all before → LinkSpent plans n (look d.link) d.taken.items (us ++ all) before
+  pub onto : (vs : List Use) (o : Outcome) (t : Handle) → Gathers login n vs now (kept_of d) o t
+      → Gathers login n (us ++ vs) a (kept_of c) o t
+  pub spent : (plans : Plans) (all : List Use) (before : ℕ)
+      → LinkSpent plans n (look c.link) c.taken.items all before
+      → LinkSpent plans n (look d.link) d.taken.items (us ++ all) before
   pub no_hold : holds_for n us ≡ 0
   pub silent : (m : ℕ) → m ≢ n → IsSilent m us
 
 -- what going on with a gathering leaves of a connection that was taken out of its number
-pub record GatheredOn {L : Type 0} (look : L → Looks) (login : Login) (n : ℕ) (a : Asked) (c : Conn L) (slot : Slot L) (o : Outcome) (us : List Use) : Type 0 where
+pub record GatheredOn {L : Type 0} (look : L → Looks) (login : Login) (n : ℕ) (a : Asked) (c : Conn L)
+    (slot : Slot L) (o : Outcome) (us : List Use) : Type 0 where
   pub following : Conn L
   pub slot_is : slot ≡ There following
   pub did : GatherDid look login n a c following o us
+
+-- of each call that may be open on the connection
+abbrev pub EachGathers : {L : Type 0} → (L → Looks) → ℕ → Conn L → Conn L → StepResult → Type 0
+EachGathers look n c d r = (login : Login) (a : Asked) → IsAsked login c.session.seen (kept_of c) a
+    → GatherDid look login n a c d r.outcome r.uses.items
+
+abbrev pub EachGatheredOn : {L : Type 0} → (L → Looks) → ℕ → Conn L → Slot L → StepResult → Type 0
+EachGatheredOn look n c slot r = (login : Login) (a : Asked) → IsAsked login c.session.seen (kept_of c) a
+    → GatheredOn look login n a c slot r.outcome r.uses.items

@@ -1,12 +1,12 @@
 -- How a transcript grows by a step.
-use Rattle.std.specs.Prelude.{◌≡◌, ℕ, ◌+◌, List, [], ◌∷◌, ◌++◌, length, Option, Some, None, Bool, true, false, not, unwrap_or}
+use Rattle.std.specs.Prelude.{ℕ, ◌≡◌, ◌+◌, List, [], ◌∷◌, ◌++◌, length, Option, Some, None, Bool, true, false, not, unwrap_or}
 use Rattle.my_handshake.specs.Version.{version_of}
 use Rattle.my_value.specs.RowParts.{RowParts}
 use Rattle.my_grammar.specs.declared.login.Login.{Login}
 use Rattle.my_session.specs.declared.answer.Answer.{Answer}
 use Rattle.my_session.specs.declared.answer.Answer.TheVariants as answers
 use Rattle.my_session.specs.declared.call.Call.{Call}
-use Rattle.my_session.specs.declared.call.Call.TheVariants.{Connect, Query, NextRow, DropResult, Ping, Quit}
+use Rattle.my_session.specs.declared.call.Call.TheVariants.{Query, NextRow, DropResult, Ping, Quit}
 use Rattle.my_session.specs.Calls.{kind_of, is_connect}
 use Rattle.my_session.specs.Errors.{connection_closed, io_error}
 use Rattle.my_session.specs.Fits.{is_begun}
@@ -15,18 +15,18 @@ use Rattle.my_session.specs.Seen.{Seen}
 use Rattle.my_session.specs.Steps.{is_refused}
 use Rattle.my_session.specs.Tables.{closes_when_cancelled}
 use Rattle.my_session.specs.declared.error.IoKind.TheVariants.{Dial}
-use Rattle.my_run.specs.declared.poll.After.{After}
-use Rattle.my_run.specs.declared.poll.After.TheVariants as after
+use Rattle.my_client.specs.declared.poll.After.{After}
+use Rattle.my_client.specs.declared.poll.After.TheVariants as after
 use Rattle.my_script.specs.declared.step.Step.{Step}
 use Rattle.my_script.specs.declared.step.Step.TheVariants as steps
-use Rattle.my_run.specs.declared.tape.Said.TheVariants as says
+use Rattle.my_client.specs.declared.tape.Said.TheVariants as says
 use Rattle.my_script.specs.declared.transcript.Outcome.{Outcome}
 use Rattle.my_script.specs.declared.transcript.Outcome.TheVariants.{Done, Pending, SetEnd, NoSet, Row, Rows, Fields, Connected, Failed, NoSuchHandle}
 use Rattle.my_script.specs.declared.transcript.Use.{Use}
-use Rattle.my_run.specs.Causes.{IsPolled}
+use Rattle.my_client.specs.Causes.{IsPolled}
 use Rattle.my_run.specs.Handle.{Handle, Absent, Dialing, Joined, at_number, put_at}
-use Rattle.my_run.specs.Kept.{Asked, Kept, IsHeard, nothing_kept, made_of, asking, ended_by}
-use Rattle.my_run.specs.Poll.{quiet}
+use Rattle.my_client.specs.Kept.{Asked, Kept, IsHeard, made_of, asking, ended_by, asked_by, first_asked, first_kept}
+use Rattle.my_run.specs.Sums.{quiet, held_use, failed_use}
 
 -- the step names a number at which it finds nothing to do: it is refused, and changes nothing
 pub record IsRefused (h : Handle) (o : Outcome) (us : List Use) (t : Handle) : Type 0 where
@@ -35,7 +35,8 @@ pub record IsRefused (h : Handle) (o : Outcome) (us : List Use) (t : Handle) : T
   pub same : t ≡ h
 
 -- a step that needs a connection which steps may name: elsewhere it is refused
-abbrev pub OnConnection : (Kept → Outcome → List Use → Handle → Type 0) → Handle → Outcome → List Use → Handle → Type 0
+abbrev pub OnConnection : (Kept → Outcome → List Use → Handle → Type 0) → Handle → Outcome → List Use → Handle
+    → Type 0
 OnConnection R Absent o us t = IsRefused Absent o us t
 OnConnection R Dialing o us t = IsRefused Dialing o us t
 OnConnection R (Joined false k) o us t = IsRefused (Joined false k) o us t
@@ -54,17 +55,16 @@ shown (after.Answered answer) = answer_shown answer
 shown (after.Failed e) = Failed e
 
 -- the open call was polled once, and the step shows what it came to
-pub record PolledOnce (login : Login) (n : ℕ) (a : Asked) (k : Kept) (o : Outcome) (us : List Use) (t : Handle) : Type 0 where
+pub record PolledOnce (login : Login) (n : ℕ) (a : Asked) (k : Kept) (o : Outcome) (us : List Use) (t : Handle)
+    : Type 0 where
   pub used : Use
   pub uses : us ≡ used ∷ []
+  pub number : used.number ≡ n
   pub after : After
   pub end : Kept
-  pub polled : IsPolled login n a k used after end
+  pub polled : IsPolled login a k used.met after end
   pub outcome : o ≡ shown after
   pub left : t ≡ Joined true end
-
-abbrev pub asked_by : Kept → Call → Asked
-asked_by k call = record { call = call; sent_from = length k.sent; rows = None }
 
 -- a closed session refuses the call at once, and it stands on the tape with that answer
 pub record IsClosed (k : Kept) (call : Call) (o : Outcome) (us : List Use) (t : Handle) : Type 0 where
@@ -77,7 +77,8 @@ Begins true login n call k o us t = IsClosed k call o us t
 Begins false login n call k o us t = PolledOnce login n (asked_by k call) (asking k call None) o us t
 
 abbrev pub BeginsOn : Option Asked → Login → ℕ → Call → Kept → Outcome → List Use → Handle → Type 0
-BeginsOn None login n call k o us t = Begins (is_refused (has_closed (made_of k.calls)) (kind_of call)) login n call k o us t
+BeginsOn None login n call k o us t =
+    Begins (is_refused (has_closed (made_of k.calls)) (kind_of call)) login n call k o us t
 BeginsOn (Some a) login n call k o us t = IsRefused (Joined true k) o us t
 
 -- a step that begins a call on connection n: refused where no connection is there or another call is open
@@ -97,17 +98,20 @@ ConnectShows login n (after.Answered answer) end o t = IsGreeted login n end o �
 ConnectShows login n (after.Failed e) end o t = (o ≡ Failed e) × (t ≡ Joined false end)
 
 -- the handshake was polled once
-pub record Connects (login : Login) (n : ℕ) (a : Asked) (k : Kept) (o : Outcome) (used : Use) (t : Handle) : Type 0 where
+pub record Connects (login : Login) (n : ℕ) (a : Asked) (k : Kept) (o : Outcome) (used : Use) (t : Handle)
+    : Type 0 where
+  pub number : used.number ≡ n
   pub after : After
   pub end : Kept
-  pub polled : IsPolled login n a k used after end
+  pub polled : IsPolled login a k used.met after end
   pub shows : ConnectShows login n after end o t
 
--- the dial holds, once; it failed, once; or it gave a link, over which the handshake was polled
+-- the dial wasn't ready; it failed; or it gave a link, over which the handshake was polled
 pub data Dials (login : Login) (n : ℕ) (o : Outcome) (us : List Use) (t : Handle) : Type 0 where
-  Holds : o ≡ Pending → us ≡ record (quiet n) { holds = 1 } ∷ [] → t ≡ Dialing → Dials login n o us t
-  Fails : o ≡ Failed (io_error Dial 0) → us ≡ record (quiet n) { faults = 1 } ∷ [] → t ≡ Absent → Dials login n o us t
-  Links : (used : Use) → us ≡ quiet n ∷ used ∷ [] → Connects login n (asked_by nothing_kept Connect) (asking nothing_kept Connect None) o used t → Dials login n o us t
+  Holds : o ≡ Pending → us ≡ held_use n ∷ [] → t ≡ Dialing → Dials login n o us t
+  Fails : o ≡ Failed (io_error Dial 0) → us ≡ failed_use n ∷ [] → t ≡ Absent → Dials login n o us t
+  Links : (used : Use) → us ≡ quiet n ∷ used ∷ [] → Connects login n first_asked first_kept o used t
+      → Dials login n o us t
 
 -- the rows of a set, as a step shows them
 abbrev pub rows_shown : Outcome → Option (List RowParts)
@@ -126,24 +130,34 @@ rows_shown NoSuchHandle = None
 abbrev pub gathered : Asked → List RowParts
 gathered a = unwrap_or a.rows []
 
--- after a row the next one is asked for; after anything else the gathering ends, or holds
-abbrev pub GathersOn : (Asked → Kept → Outcome → Handle → Type 0) → Asked → After → Kept → Outcome → List Use → Handle → Type 0
+-- the next row is asked for, after these rows
+abbrev pub next_asked : Kept → List RowParts → Asked
+next_asked k rows = record { call = NextRow; sent_from = length k.sent; rows = Some rows }
+
+-- after a row the next one is asked for; after anything else the gathering ends, or waits
+abbrev pub GathersOn : (Asked → Kept → Outcome → Handle → Type 0) → Asked → After → Kept → Outcome → List Use
+    → Handle → Type 0
 GathersOn more a after.Pending end o us t = (o ≡ Pending) × (us ≡ []) × (t ≡ Joined true end)
 GathersOn more a (after.Answered answers.Ready) end o us t = (o ≡ Done) × (us ≡ []) × (t ≡ Joined true end)
-GathersOn more a (after.Answered (answers.Row row)) end o us t = more (record { call = NextRow; sent_from = length end.sent; rows = Some (gathered a ++ row ∷ []) }) (asking end NextRow (Some (gathered a ++ row ∷ []))) o t
-GathersOn more a (after.Answered answers.SetEnd) end o us t = (rows_shown o ≡ Some (gathered a)) × (us ≡ []) × (t ≡ Joined true end)
-GathersOn more a (after.Answered answers.NoSet) end o us t = (rows_shown o ≡ Some (gathered a)) × (us ≡ []) × (t ≡ Joined true end)
+GathersOn more a (after.Answered (answers.Row row)) end o us t =
+    more (next_asked end (gathered a ++ row ∷ [])) (asking end NextRow (Some (gathered a ++ row ∷ []))) o t
+GathersOn more a (after.Answered answers.SetEnd) end o us t = (rows_shown o ≡ Some (gathered a)) × (us ≡ [])
+    × (t ≡ Joined true end)
+GathersOn more a (after.Answered answers.NoSet) end o us t = (rows_shown o ≡ Some (gathered a)) × (us ≡ [])
+    × (t ≡ Joined true end)
 GathersOn more a (after.Failed e) end o us t = (o ≡ Failed e) × (us ≡ []) × (t ≡ Joined true end)
 
 -- one poll for each use, row by row
 abbrev pub Gathers : Login → ℕ → List Use → Asked → Kept → Outcome → Handle → Type 0
 Gathers login n [] a k o t = ⊥
-Gathers login n (u ∷ us) a k o t = (after : After) × (end : Kept) × IsPolled login n a k u after end × GathersOn (Gathers login n us) a after end o us t
+Gathers login n (u ∷ us) a k o t = (after : After) × (end : Kept) × IsPolled login a k u.met after end
+    × GathersOn (Gathers login n us) a after end o us t × (u.number ≡ n)
 
 -- a step that gathers a set's rows
 abbrev pub Collects : Bool → Login → ℕ → Kept → Outcome → List Use → Handle → Type 0
 Collects true login n k o us t = IsClosed k NextRow o us t
-Collects false login n k o us t = Gathers login n us (record { call = NextRow; sent_from = length k.sent; rows = Some [] }) (asking k NextRow (Some [])) o t
+Collects false login n k o us t =
+    Gathers login n us (next_asked k []) (asking k NextRow (Some [])) o t
 
 abbrev pub CollectsOn : Option Asked → Login → ℕ → Kept → Outcome → List Use → Handle → Type 0
 CollectsOn None login n k o us t = Collects (has_closed (made_of k.calls)) login n k o us t
@@ -168,14 +182,17 @@ GoesOn login n Dialing o us t = Dials login n o us t
 GoesOn login n (Joined false k) o us t = IsRefused (Joined false k) o us t
 GoesOn login n (Joined true k) o us t = GoesOnWith k.pending login n k o us t
 
--- The open call was cancelled, which closed the session by the table of its task and place. A connection whose handshake was cancelled isn't there any more.
-pub record IsCancelled (login : Login) (a : Asked) (k : Kept) (o : Outcome) (us : List Use) (t : Handle) : Type 0 where
+-- The open call was cancelled, which closed the session by the table of its task and place. A connection whose handshake was
+-- cancelled isn't there any more.
+pub record IsCancelled (login : Login) (a : Asked) (k : Kept) (o : Outcome) (us : List Use) (t : Handle)
+    : Type 0 where
   pub session : Seen
   pub heard : IsHeard login session k
   pub stepped : is_begun session.task ≡ false
   pub outcome : o ≡ Done
   pub uses : us ≡ []
-  pub left : t ≡ Joined (not (is_connect (kind_of a.call))) (ended_by k a (says.Cancelled (closes_when_cancelled session.task session.context.spot)))
+  pub left : t ≡ Joined (not (is_connect (kind_of a.call)))
+      (ended_by k a (says.Cancelled (closes_when_cancelled session.task session.context.spot)))
 
 -- the held dial was dropped
 pub record IsDropped (o : Outcome) (us : List Use) (t : Handle) : Type 0 where
@@ -209,13 +226,15 @@ abbrev pub TellsFields : Login → Handle → Outcome → List Use → Handle �
 TellsFields login h o us t = OnConnection (λ k. TellsWith k.pending login k) h o us t
 
 -- the connection of the next number
-pub record DialsNext (login : Login) (hs : List Handle) (o : Outcome) (us : List Use) (ts : List Handle) : Type 0 where
+pub record DialsNext (login : Login) (hs : List Handle) (o : Outcome) (us : List Use) (ts : List Handle)
+    : Type 0 where
   pub made : Handle
   pub dials : Dials login (length hs) o us made
   pub others : ts ≡ hs ++ made ∷ []
 
 -- a step at a number changes nothing at the others
-pub record At (n : ℕ) (R : Handle → Outcome → List Use → Handle → Type 0) (hs : List Handle) (o : Outcome) (us : List Use) (ts : List Handle) : Type 0 where
+pub record At (n : ℕ) (R : Handle → Outcome → List Use → Handle → Type 0) (hs : List Handle) (o : Outcome)
+    (us : List Use) (ts : List Handle) : Type 0 where
   pub made : Handle
   pub does : R (at_number hs n) o us made
   pub others : ts ≡ put_at n made hs

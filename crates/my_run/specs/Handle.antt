@@ -1,8 +1,8 @@
 -- What the steps so far made of a connection's number.
 use Rattle.std.specs.Prelude.{ℕ, zero, suc, List, [], ◌∷◌, Bool}
-use Rattle.my_run.specs.Kept.{Kept}
+use Rattle.my_client.specs.Kept.{Kept}
 
--- no connection, and none that began; one whose dial holds; or one that was linked, with whether steps may still name it
+-- no connection, or one whose dial failed; one whose dial wasn't ready; and one that has a link, and whether steps may still name it
 pub data Handle : Type 0 where
   Absent : Handle
   Dialing : Handle

@@ -1,12 +1,12 @@
 -- The theorem on a run.
-use Rattle.std.specs.Prelude.{◌≡◌, ℕ, ◌+◌, ◌<◌, ◌≤◌, suc, List, [], ◌∷◌, ◌++◌, length, map, Option, Some, None, true}
+use Rattle.std.specs.Prelude.{ℕ, ◌≡◌, ◌+◌, ◌<◌, ◌≤◌, suc, List, [], ◌∷◌, ◌++◌, length, map, Option, Some, None, true}
 use Rattle.my_grammar.specs.declared.login.Login.{Login}
 use Rattle.my_session.specs.History.{History}
 use Rattle.my_session.specs.Law.{Says}
 use Rattle.my_session.specs.Seen.{Seen}
-use Rattle.my_world.specs.declared.link.ReadItem.{ReadItem}
-use Rattle.my_world.specs.declared.link.WriteItem.{WriteItem}
-use Rattle.my_world.specs.Spent.{spelled, fails_in, write_fails_in, waits_in, write_waits_in, has_end}
+use Rattle.my_link.specs.declared.link.ReadItem.{ReadItem}
+use Rattle.my_link.specs.declared.link.WriteItem.{WriteItem}
+use Rattle.my_link.specs.Spent.{spelled, fails_in, write_fails_in, waits_in, write_waits_in, has_end}
 use Rattle.my_run.specs.declared.slot.Slot.{Slot}
 use Rattle.my_script.specs.declared.step.Step.{Step}
 use Rattle.my_script.specs.declared.transcript.Outcome.{Outcome}
@@ -16,9 +16,10 @@ use Rattle.my_script.specs.declared.transcript.Use.{Use}
 use Rattle.my_run.specs.Grows.{Line, AreGrown, handles_after}
 use Rattle.my_run.specs.Handle.{Handle, Absent, Dialing, Joined, at_number}
 use Rattle.my_run.specs.Held.{HeldBy}
-use Rattle.my_run.specs.Kept.{Kept, IsOf}
-use Rattle.my_run.specs.Keeps.{Plans, AreStood, ArePlayed}
-use Rattle.my_world.specs.Looks.{Looks}
+use Rattle.my_client.specs.Kept.{Kept, IsOf}
+use Rattle.my_world.specs.World.{Plans, SamePlans}
+use Rattle.my_run.specs.Keeps.{AreStood, ArePlayed}
+use Rattle.my_link.specs.Looks.{Looks}
 use Rattle.my_run.specs.Slot.{handle_of}
 use Rattle.my_run.specs.Sums.{faults_for, holds_for, ends_for, IsSilent}
 use Rattle.my_run.specs.Tapes.{tape_view, tapes_in}
@@ -46,8 +47,9 @@ abbrev pub uses_of : List Line → List Use
 uses_of [] = []
 uses_of (l ∷ ls) = l.uses ++ uses_of ls
 
--- The tape is explained: some history is what was kept, and of it the session's law holds: the calls' commands by the table were
--- sent, the last perhaps cut, the grammar finds in the bytes taken the responses, and of each set callers were given a beginning.
+-- The tape is explained: some history is what was kept, and the session's law holds of it: the calls' commands by the table
+-- were sent, the last perhaps cut, the grammar finds the responses in the bytes taken, and of each set callers were given
+-- a beginning.
 pub record IsSaid (login : Login) (k : Kept) : Type 0 where
   pub session : Seen
   pub history : History
@@ -55,8 +57,8 @@ pub record IsSaid (login : Login) (k : Kept) : Type 0 where
   pub kept : IsOf k history
   pub says : Says session history
 
--- over a world that told its plan, the bytes taken are the beginning of the planned ones, the link failed no more often than the
--- plan says, and it told its end only where the plan has one
+-- over a world that told its plan, the bytes taken are the beginning of the planned ones, the link failed no more often than
+-- the plan says, and it ended only where the plan has an end
 pub record FitsPlan (plan : List ReadItem) (taken : List ℕ) (ends : ℕ) : Type 0 where
   pub rest : List ℕ
   pub bytes : spelled plan ≡ taken ++ rest
@@ -75,13 +77,14 @@ pub record Plays (plans : Plans) (n : ℕ) (taken : List ℕ) (all : List Use) :
   pub reads : PlaysReads (plans.reads n) taken (ends_for n all)
   pub faults : FewFaults (plans.reads n) (plans.writes n) (faults_for n all)
 
--- So many of the holds of connection n were planned: in each line all of them were, or the last came where the call asked for bytes
--- and nothing could be read.
+-- `planned` of the holds of connection n were planned: in each line all of them were, or the last came where the call asked
+-- for bytes and nothing could be read.
 abbrev pub HoldsAre : Login → Option (List ReadItem) → ℕ → List Line → ℕ → Type 0
 HoldsAre login plan n [] planned = planned ≡ 0
-HoldsAre login plan n (l ∷ ls) planned = (before : ℕ) × HoldsAre login plan n ls before × HeldBy login plan (at_number l.handles n) (holds_for n l.uses) before planned
+HoldsAre login plan n (l ∷ ls) planned = (before : ℕ) × HoldsAre login plan n ls before
+    × HeldBy login plan (at_number l.handles n) (holds_for n l.uses) before planned
 
--- so many are at most the plan's
+-- they are no more than the plan's
 abbrev pub ArePlanned : Option (List ReadItem) → Option (List WriteItem) → ℕ → Type 0
 ArePlanned None rules planned = Unit {0}
 ArePlanned (Some plan) None planned = Unit {0}
@@ -96,11 +99,13 @@ pub record FewHolds (login : Login) (plans : Plans) (n : ℕ) (lines : List Line
 abbrev pub IsExplained : Login → Plans → ℕ → List Line → Handle → Type 0
 IsExplained login plans n lines Absent = Unit {0}
 IsExplained login plans n lines Dialing = plans.reads n ≡ None
-IsExplained login plans n lines (Joined there k) = IsSaid login k × Plays plans n k.taken (uses_of lines) × FewHolds login plans n lines
+IsExplained login plans n lines (Joined there k) = IsSaid login k × Plays plans n k.taken (uses_of lines)
+    × FewHolds login plans n lines
 
 abbrev pub AreExplained : Login → Plans → List Line → ℕ → List Handle → Type 0
 AreExplained login plans lines n [] = Unit {0}
-AreExplained login plans lines n (h ∷ hs) = IsExplained login plans n lines h × AreExplained login plans lines (suc n) hs
+AreExplained login plans lines n (h ∷ hs) = IsExplained login plans n lines h
+    × AreExplained login plans lines (suc n) hs
 
 -- so it holds after each line
 abbrev pub EachExplained : Login → Plans → List Line → Type 0
@@ -108,7 +113,8 @@ EachExplained login plans [] = Unit {0}
 EachExplained login plans (l ∷ ls) = AreExplained login plans (l ∷ ls) 0 l.handles × EachExplained login plans ls
 
 -- What the steps came to, over a world with these plans.
-pub record Headline (login : Login) (plans : Plans) (steps : List Step) (answers : List StepAnswer) (tapes : List Tape) : Type 0 where
+pub record Headline (login : Login) (plans : Plans) (steps : List Step) (answers : List StepAnswer)
+    (tapes : List Tape) : Type 0 where
   -- the transcript's lines, the newest first: one answer for each step
   pub lines : List Line
   pub steps_are : steps_of lines ≡ steps
@@ -121,7 +127,8 @@ pub record Headline (login : Login) (plans : Plans) (steps : List Step) (answers
   pub tapes_are : map tape_view tapes ≡ tapes_in 0 (handles_after lines)
 
 -- so far in a run
-pub record SoFar {L : Type 0} (look : L → Looks) (login : Login) (plans : Plans) (done : List Step) (slots : List (Slot L)) (answers : List StepAnswer) : Type 0 where
+pub record SoFar {L : Type 0} (look : L → Looks) (login : Login) (plans : Plans) (done : List Step)
+    (slots : List (Slot L)) (answers : List StepAnswer) : Type 0 where
   pub lines : List Line
   pub steps_are : steps_of lines ≡ done
   pub answered : map answer_view answers ≡ answers_of lines
@@ -133,3 +140,13 @@ pub record SoFar {L : Type 0} (look : L → Looks) (login : Login) (plans : Plan
   pub silent : (m : ℕ) → length slots ≤ m → IsSilent m (uses_of lines) × (planned m ≡ 0)
   pub grown : AreGrown login lines
   pub explained : EachExplained login plans lines
+
+-- so it is for all plans that are those which the world told
+abbrev pub RunSoFar : {L : Type 0} → (L → Looks) → Login → Plans → List Step → List (Slot L) → List StepAnswer
+    → Type 0
+RunSoFar look login told done slots answers = (plans : Plans) → SamePlans told plans
+    → SoFar look login plans done slots answers
+
+abbrev pub RunsTo : Login → Plans → List Step → List StepAnswer → List Tape → Type 0
+RunsTo login told steps answers tapes = (plans : Plans) → SamePlans told plans
+    → Headline login plans steps answers tapes

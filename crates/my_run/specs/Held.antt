@@ -1,13 +1,13 @@
 -- Which holds of a link were planned.
-use Rattle.std.specs.Prelude.{◌≡◌, ℕ, suc, ◌+◌, ◌⊎◌, List, ◌++◌, Option, Some, None}
+use Rattle.std.specs.Prelude.{ℕ, ◌≡◌, suc, ◌+◌, ◌⊎◌, List, ◌++◌, Option, Some, None}
 use Rattle.my_grammar.specs.declared.login.Login.{Login}
 use Rattle.my_session.specs.declared.answer.SessionStep.TheVariants.{Need}
 use Rattle.my_session.specs.Seen.{Seen}
 use Rattle.my_session.specs.Steps.{StepIs}
-use Rattle.my_world.specs.declared.link.ReadItem.{ReadItem}
-use Rattle.my_world.specs.Spent.{spelled, IsDry, IsLeft}
+use Rattle.my_link.specs.declared.link.ReadItem.{ReadItem}
+use Rattle.my_link.specs.Spent.{spelled, IsDry, IsLeft}
 use Rattle.my_run.specs.Handle.{Handle, Absent, Dialing, Joined}
-use Rattle.my_run.specs.Kept.{Kept, IsHeard}
+use Rattle.my_client.specs.Kept.{Kept, IsHeard}
 
 -- the open call asks for bytes, and of what the plan has left neither a byte nor the end can be read
 pub record FindsNothing (login : Login) (plan : List ReadItem) (k : Kept) : Type 0 where
@@ -29,6 +29,7 @@ FindsNothingAt login plan Absent = ⊥
 FindsNothingAt login plan Dialing = ⊥
 FindsNothingAt login plan (Joined there k) = FindsNothingIn login plan k
 
--- A step in which the link held so often left this at its number: each hold was planned, or all but the last, at which nothing could be read.
+-- `holds` holds of the link came in this step: each was planned, or all but the last, at which nothing could be read.
 abbrev pub HeldBy : Login → Option (List ReadItem) → Handle → ℕ → ℕ → ℕ → Type 0
-HeldBy login plan h holds before planned = (planned ≡ before + holds) ⊎ ((suc planned ≡ before + holds) × FindsNothingAt login plan h)
+HeldBy login plan h holds before planned = (planned ≡ before + holds)
+    ⊎ ((suc planned ≡ before + holds) × FindsNothingAt login plan h)

@@ -1,5 +1,5 @@
 -- What came of a source that was read.
-use Rattle.std.specs.Prelude.{◌≡◌, ℕ, ◌<◌, ◌≤◌, List, length, Option}
+use Rattle.std.specs.Prelude.{ℕ, ◌≡◌, ◌<◌, ◌≤◌, List, length, Option}
 use Rattle.my_frame.specs.Outside.{Rose, Leaves, IsOver}
 use Rattle.my_run.specs.declared.input.Came.{Came}
 use Rattle.my_run.specs.declared.input.Came.TheVariants.{Whole, Broken, TooLong}

@@ -1,14 +1,8 @@
 pub mod Input
 pub mod Output
-pub mod Login
-pub mod Uses
-pub mod Kept
-pub mod Causes
-pub mod Rests
 pub mod Handle
 pub mod Held
 pub mod Slot
-pub mod Drives
 pub mod Tapes
 pub mod Sums
 pub mod Keeps
@@ -18,5 +12,4 @@ pub mod Did
 pub mod Connecting
 pub mod Gathering
 pub mod Headline
-pub mod Poll
 pub mod Tool

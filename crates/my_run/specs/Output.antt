@@ -1,5 +1,5 @@
 -- What was written to a sink.
-use Rattle.std.specs.Prelude.{◌≡◌, ℕ, List, ◌++◌, Option, Bool, true, false}
+use Rattle.std.specs.Prelude.{ℕ, ◌≡◌, List, ◌++◌, Option, Bool, true, false}
 use Rattle.my_frame.specs.Outside.{Rose, Comes}
 
 -- all bytes went out

@@ -1,18 +1,9 @@
 -- What stands at a connection's number.
-use Rattle.std.specs.Prelude.{Option, Some, None, option_map, true, false}
-use Rattle.my_run.specs.declared.slot.Conn.{Conn}
+use Rattle.std.specs.Prelude.{true, false}
 use Rattle.my_run.specs.declared.slot.Slot.{Slot}
 use Rattle.my_run.specs.declared.slot.Slot.TheVariants.{Gone, Held, There, Ended}
-use Rattle.my_run.specs.declared.tape.OpenCall.{OpenCall}
 use Rattle.my_run.specs.Handle.{Handle, Absent, Dialing, Joined}
-use Rattle.my_run.specs.Kept.{Asked, Kept}
-
-abbrev pub asked_in : Option OpenCall → Option Asked
-asked_in None = None
-asked_in (Some o) = Some (record { call = o.call; sent_from = o.sent_from; rows = option_map (λ rows. rows.items) o.rows })
-
-abbrev pub kept_of : {L : Type 0} → Conn L → Kept
-kept_of c = record { sent = c.sent.items; taken = c.taken.items; calls = c.calls.items; pending = asked_in c.pending }
+use Rattle.my_client.specs.Conn.{kept_of}
 
 -- a connection whose dial failed has no tape, and one that couldn't connect isn't there any more
 abbrev pub handle_of : {L : Type 0} → Slot L → Handle

@@ -2,13 +2,13 @@
 use Rattle.std.specs.Prelude.{ℕ, suc, List, [], ◌∷◌, ◌++◌, map, Option, Some, None, Result, Ok, Err}
 use Rattle.my_session.specs.declared.answer.Answer.{Answer}
 use Rattle.my_session.specs.declared.error.Error.{Error}
-use Rattle.my_run.specs.declared.tape.DoneCall.{DoneCall}
-use Rattle.my_run.specs.declared.tape.Said.{Said}
-use Rattle.my_run.specs.declared.tape.Said.TheVariants.{Answered, Failed, Cancelled}
+use Rattle.my_client.specs.declared.tape.DoneCall.{DoneCall}
+use Rattle.my_client.specs.declared.tape.Said.{Said}
+use Rattle.my_client.specs.declared.tape.Said.TheVariants.{Answered, Failed, Cancelled}
 use Rattle.my_script.specs.declared.transcript.Tape.{Tape}
 use Rattle.my_script.specs.declared.transcript.TapeCall.{TapeCall}
 use Rattle.my_run.specs.Handle.{Handle, Absent, Dialing, Joined}
-use Rattle.my_run.specs.Kept.{Asked, Kept}
+use Rattle.my_client.specs.Kept.{Asked, Kept}
 
 -- a call that was cancelled has no answer
 abbrev pub answer_in : Said → Option (Result Answer Error)
@@ -35,7 +35,8 @@ abbrev pub tape_view : Tape → TapeView
 tape_view t = record { number = t.number; sent = t.sent.items; taken = t.taken.items; calls = t.calls.items }
 
 abbrev pub tape_of : ℕ → Kept → TapeView
-tape_of n k = record { number = n; sent = k.sent; taken = k.taken; calls = map tape_call k.calls ++ open_call k.pending }
+tape_of n k =
+    record { number = n; sent = k.sent; taken = k.taken; calls = map tape_call k.calls ++ open_call k.pending }
 
 -- a number whose dial didn't give a link has no tape
 abbrev pub tape_at : ℕ → Handle → List TapeView

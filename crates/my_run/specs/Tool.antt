@@ -1,9 +1,7 @@
 -- The theorem on the top call: what it means that a run ended with a status.
-use Rattle.std.specs.Prelude.{◌≡◌, ℕ, List, [], Bool, Option, Some, None, Ok, Err, if◌then◌else◌}
+use Rattle.std.specs.Prelude.{◌≡◌, ℕ, List, [], Option, Some, None, Ok, Err, if◌then◌else◌}
 use Rattle.my_grammar.specs.declared.login.Login.{Login}
 use Rattle.my_opts.specs.Opts.{OptsView}
-use Rattle.my_world.specs.declared.link.ReadItem.{ReadItem}
-use Rattle.my_world.specs.declared.link.WriteItem.{WriteItem}
 use Rattle.my_world.specs.Plan.{planned_lines, written_lines}
 use Rattle.my_script.specs.declared.step.Step.{Step}
 use Rattle.my_world.specs.declared.line.WorldLine.{WorldLine}
@@ -16,8 +14,8 @@ use Rattle.my_run.specs.declared.tool.Status.TheVariants.{Done, NoCommand, Unrea
 use Rattle.my_run.specs.Input.{IsRead, IsTooLong, IsBroken}
 use Rattle.my_run.specs.Output.{WroteAll, WrotePart}
 use Rattle.my_run.specs.Headline.{Headline}
-use Rattle.my_run.specs.Keeps.{Plans}
-use Rattle.my_run.specs.Login.{login_of}
+use Rattle.my_world.specs.World.{Plans, WorldSeen}
+use Rattle.my_client.specs.Login.{login_of}
 use Rattle.my_script.specs.Script.{Script, Good, Bad, script_of}
 use Rattle.my_script.specs.Text.{text_of}
 use Rattle.my_script.specs.Words.{script_word_of, word_opts}
@@ -32,6 +30,12 @@ pub record SinkSeen : Type 0 where
   pub took : Option (List ℕ)
   pub faults : ℕ
 
+abbrev pub source_seen : Option (List ℕ) → ℕ → SourceSeen
+source_seen left faults = record { left = left; faults = faults }
+
+abbrev pub sink_seen : Option (List ℕ) → ℕ → SinkSeen
+sink_seen took faults = record { took = took; faults = faults }
+
 pub record IsEmpty (t : Transcript) : Type 0 where
   pub answers : t.answers.items ≡ []
   pub tapes : t.tapes.items ≡ []
@@ -41,17 +45,11 @@ pub record IsBlank (w v : SinkSeen) (t : Transcript) : Type 0 where
   pub written : v ≡ w
   pub empty : IsEmpty t
 
--- what is known of the world before the run: whether it takes a plan, and what it told of its links
-pub record WorldSeen : Type 0 where
-  pub takes : Bool
-  pub reads : ℕ → Option (List ReadItem)
-  pub writes : ℕ → Option (List WriteItem)
-
 -- the plan of the world once it was handed the script's lines; a world that takes no plan is handed none
 abbrev pub plans_with : WorldSeen → List WorldLine → Plans
 plans_with world lines = record {
-  reads = λ n. if world.takes then planned_lines n lines (world.reads n) else world.reads n;
-  writes = λ n. if world.takes then written_lines n lines (world.writes n) else world.writes n;
+  reads = λ n. if world.takes then planned_lines n lines (world.plans.reads n) else world.plans.reads n;
+  writes = λ n. if world.takes then written_lines n lines (world.plans.writes n) else world.plans.writes n;
 }
 
 -- all steps were run, and their whole text went out
@@ -71,7 +69,8 @@ ScriptEnds login plans steps w v t NoMemory = IsBlank w v t
 ScriptEnds login plans steps w v t _ = ⊥
 
 -- the script was read
-pub record IsGood (login : Login) (world : WorldSeen) (script : Script) (w v : SinkSeen) (t : Transcript) (status : Status) : Type 0 where
+pub record IsGood (login : Login) (world : WorldSeen) (script : Script) (w v : SinkSeen) (t : Transcript)
+    (status : Status) : Type 0 where
   pub lines : List WorldLine
   pub steps : List Step
   pub good : script ≡ Good lines steps
@@ -90,13 +89,15 @@ TextEnds login world script w v t NoMemory = IsBlank w v t
 TextEnds login world script w v t _ = ⊥
 
 -- all bytes of the source were read, and are no more than they may be
-pub record IsWhole (login : Login) (world : WorldSeen) (s r : SourceSeen) (w v : SinkSeen) (t : Transcript) (status : Status) : Type 0 where
+pub record IsWhole (login : Login) (world : WorldSeen) (s r : SourceSeen) (w v : SinkSeen) (t : Transcript)
+    (status : Status) : Type 0 where
   pub bytes : List ℕ
   pub read : IsRead 67108864 s.left r.left bytes
   pub no_fault : r.faults ≡ s.faults
   pub ends : TextEnds login world (script_of world.takes bytes) w v t status
 
-abbrev pub InputEnds : Login → WorldSeen → SourceSeen → SourceSeen → SinkSeen → SinkSeen → Transcript → Status → Type 0
+abbrev pub InputEnds : Login → WorldSeen → SourceSeen → SourceSeen → SinkSeen → SinkSeen → Transcript → Status
+    → Type 0
 InputEnds login world s r w v t Done = IsWhole login world s r w v t Done
 InputEnds login world s r w v t (Unread line) = IsWhole login world s r w v t (Unread line)
 InputEnds login world s r w v t SourceFailed = IsBroken 67108864 s.left r.left s.faults r.faults × IsBlank w v t
@@ -106,18 +107,21 @@ InputEnds login world s r w v t NoMemory = IsBlank w v t
 InputEnds login world s r w v t _ = ⊥
 
 -- the second word stands for options
-pub record IsWord (word : List ℕ) (world : WorldSeen) (s r : SourceSeen) (w v : SinkSeen) (t : Transcript) (status : Status) : Type 0 where
+pub record IsWord (word : List ℕ) (world : WorldSeen) (s r : SourceSeen) (w v : SinkSeen) (t : Transcript)
+    (status : Status) : Type 0 where
   pub opts : OptsView
   pub read : word_opts word ≡ Ok opts
   pub ends : InputEnds (login_of opts) world s r w v t status
 
 -- the second word is refused for this cause, and nothing was read or written
-pub record IsRefusedWord (word : List ℕ) (s r : SourceSeen) (w v : SinkSeen) (t : Transcript) (fault : WordFault) : Type 0 where
+pub record IsRefusedWord (word : List ℕ) (s r : SourceSeen) (w v : SinkSeen) (t : Transcript) (fault : WordFault)
+    : Type 0 where
   pub refused : word_opts word ≡ Err fault
   pub unread : r ≡ s
   pub blank : IsBlank w v t
 
-abbrev pub WordEnds : List ℕ → WorldSeen → SourceSeen → SourceSeen → SinkSeen → SinkSeen → Transcript → Status → Type 0
+abbrev pub WordEnds : List ℕ → WorldSeen → SourceSeen → SourceSeen → SinkSeen → SinkSeen → Transcript → Status
+    → Type 0
 WordEnds word world s r w v t Done = IsWord word world s r w v t Done
 WordEnds word world s r w v t (Unread line) = IsWord word world s r w v t (Unread line)
 WordEnds word world s r w v t SourceFailed = IsWord word world s r w v t SourceFailed
@@ -128,12 +132,14 @@ WordEnds word world s r w v t NoMemory = IsBlank w v t
 WordEnds word world s r w v t NoCommand = ⊥
 
 -- the words are a command
-pub record IsCommand (words : List (List ℕ)) (world : WorldSeen) (s r : SourceSeen) (w v : SinkSeen) (t : Transcript) (status : Status) : Type 0 where
+pub record IsCommand (words : List (List ℕ)) (world : WorldSeen) (s r : SourceSeen) (w v : SinkSeen)
+    (t : Transcript) (status : Status) : Type 0 where
   pub word : List ℕ
   pub read : script_word_of words ≡ Some word
   pub ends : WordEnds word world s r w v t status
 
-abbrev pub ToolEnds : List (List ℕ) → WorldSeen → SourceSeen → SourceSeen → SinkSeen → SinkSeen → Transcript → Status → Type 0
+abbrev pub ToolEnds : List (List ℕ) → WorldSeen → SourceSeen → SourceSeen → SinkSeen → SinkSeen → Transcript
+    → Status → Type 0
 ToolEnds words world s r w v t Done = IsCommand words world s r w v t Done
 ToolEnds words world s r w v t NoCommand = (script_word_of words ≡ None) × (r ≡ s) × IsBlank w v t
 ToolEnds words world s r w v t (Unread line) = IsCommand words world s r w v t (Unread line)
@@ -154,7 +160,7 @@ code_of (Refused fault) = 6
 code_of TooLong = 7
 code_of NoMemory = 12
 
--- The report tells how the run ended. Each status comes exactly where its case says, in this order: the words, the second word, the
--- source, its bytes' number, its lines, the sink; out of memory may come at any place.
+-- The report says how the run ended. Each status comes exactly where its case says, in this order: the words, the second
+-- word, the source, its bytes' number, its lines, the sink; out of memory may come at any place.
 abbrev pub IsReport : List (List ℕ) → WorldSeen → SourceSeen → SourceSeen → SinkSeen → SinkSeen → Report → Type 0
 IsReport words world s r w v report = ToolEnds words world s r w v report.transcript report.status

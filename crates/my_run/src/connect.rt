@@ -1,31 +1,23 @@
-//! Dials the next connection, and connects it.
-ghost use Rattle.std.specs.Prelude.{◌≡◌, ◌≢◌, ◌∷◌, [], ℕ, suc, None, length, map, IfOk, OnOk};
-ghost use Rattle.my_session.specs.declared.call.Call.TheVariants.{Connect as ConnectCall};
+//! Dials a connection, and connects it.
+ghost use Rattle.std.specs.Prelude.{◌≡◌, ◌∷◌, [], suc, length, IfOk, OnOk};
 ghost use Rattle.my_session.specs.Errors.{io_error};
-ghost use Rattle.my_session.specs.History.{beginning};
-ghost use Rattle.my_session.specs.Stands.{Stands};
-ghost use Rattle.my_session.specs.Steps.{fresh};
-ghost use Rattle.my_run.specs.Connecting.{Settles, Joins, Dialed};
-ghost use Rattle.my_run.specs.Did.{Stepped};
-ghost use Rattle.my_run.specs.Grows.{DialsNext, asked_by};
-ghost use Rattle.my_run.specs.Keeps.{Plans, AreStood};
-ghost use Rattle.my_run.specs.Kept.{asking, nothing_kept};
-ghost use Rattle.my_run.specs.Login.{login_of};
-ghost use Rattle.my_run.specs.Poll.{quiet};
-ghost use Rattle.my_run.specs.Slot.{handle_of, kept_of};
+ghost use Rattle.my_client.specs.Login.{login_of};
+ghost use Rattle.my_world.specs.World.{SameBut};
+ghost use Rattle.my_run.specs.Connecting.{Settles, JoinsFirst, Dialed};
+ghost use Rattle.my_run.specs.Did.{StepsOn};
+ghost use Rattle.my_run.specs.Grows.{DialsNext};
+ghost use Rattle.my_run.specs.Sums.{quiet};
 
-use crate::call::{Did, ask, did_once};
-use crate::drive::drive;
-use crate::login::login_for;
-use crate::poll::{After, quiet_use};
-use crate::slot::{Conn, Slot};
+use crate::outcome::{StepResult, used_once};
+use crate::slot::Slot;
+use my_client::{After, Conn, begin_conn, drive};
 use my_frame::NoMemory;
 use my_handshake::server_version;
+use my_link::{Link, Met};
 use my_opts::Opts;
 use my_script::{Outcome, Use};
-use my_session::{Call, Error, IoError, IoFault, IoKind, Session};
-use my_world::link::Link;
-use my_world::world::{DialStep, World};
+use my_session::{Error, IoError, IoFault, IoKind};
+use my_world::{DialStep, World};
 use std::alloc::Global;
 
 fn dial_error() -> Error
@@ -37,63 +29,18 @@ fn dial_error() -> Error
     }))
 }
 
-// A connection that didn't begin to connect.
-fn new_conn<L: Link + Drop>(alloc: Global, opts: &Opts, link: L) -> Result<Conn<L>, NoMemory>
-    ensures seen { IfOk result (λ c. c.session.seen ≡ fresh (login_of opts.now)) }
-    ensures stands { IfOk result (λ c. Stands c.session.seen beginning) }
-    ensures kept { IfOk result (λ c. kept_of c ≡ nothing_kept) }
-    ensures link { IfOk result (λ c. c.link ≡ link) }
-{
-    let login = login_for(alloc, opts)?;
-    let session = Session::new(alloc, login)?;
-    Ok(Conn {
-        session,
-        link,
-        sent: Vec::new(alloc),
-        taken: Vec::new(alloc),
-        calls: Vec::new(alloc),
-        pending: None,
-    })
-}
-
-/// What stands at a connection's number, and what its step came to.
-#[derive(Drop)]
-pub struct Connected<L> {
-    pub slot: Slot<L>,
-    pub did: Did,
-}
-
-// The handshake was polled.
-pub fn settle<L>(conn: Conn<L>, number: u64, after: After, uses: Vec<Use>) -> Connected<L>
-    ensures settles { Settles conn number after result.slot result.did.outcome }
-    ensures uses { result.did.uses ≡ uses }
+/// The handshake was polled: what stands at the number, and what the step shows.
+pub(crate) fn settle<L>(conn: Conn<L>, number: u64, after: After) -> (Slot<L>, Outcome)
+    ensures { Settles conn number after result.0 result.1 }
 {
     match after {
-        After::Pending => Connected {
-            slot: Slot::There(conn),
-            did: Did {
-                outcome: Outcome::Pending,
-                uses,
-            },
-        },
+        After::Pending => (Slot::There(conn), Outcome::Pending),
         After::Answered(_) => {
             let id = conn.session.connection_id();
             let version = server_version(conn.session.version());
-            Connected {
-                slot: Slot::There(conn),
-                did: Did {
-                    outcome: Outcome::Connected(number, id, version),
-                    uses,
-                },
-            }
+            (Slot::There(conn), Outcome::Connected(number, id, version))
         }
-        After::Failed(error) => Connected {
-            slot: Slot::Ended(conn),
-            did: Did {
-                outcome: Outcome::Failed(error),
-                uses,
-            },
-        },
+        After::Failed(error) => (Slot::Ended(conn), Outcome::Failed(error)),
     }
 }
 
@@ -102,7 +49,10 @@ fn dial_uses(alloc: Global, number: u64, used: Use) -> Result<Vec<Use>, NoMemory
     ensures { IfOk result (λ us. us.items ≡ quiet number ∷ used ∷ []) }
 {
     let mut uses = Vec::new(alloc);
-    uses.push(quiet_use(number))?;
+    uses.push(Use {
+        number,
+        met: Met::nothing(),
+    })?;
     uses.push(used)?;
     Ok(uses)
 }
@@ -113,73 +63,63 @@ fn first_call<L: Link + Drop>(
     opts: &Opts,
     link: L,
     number: u64,
-) -> Result<Connected<L>, NoMemory>
-    ensures { IfOk result (λ c. (used : Use) × (c.did.uses.items ≡ quiet number ∷ used ∷ []) × Joins L.looks (login_of opts.now) number (asked_by nothing_kept ConnectCall) (asking nothing_kept ConnectCall None) (L.looks link) c.slot c.did.outcome used) }
+) -> Result<(Slot<L>, StepResult), NoMemory>
+    ensures { IfOk result (λ r. JoinsFirst L.looks (login_of opts.now) number (L.looks link) r.0 r.1) }
 {
-    let mut conn = new_conn(alloc, opts, link)?;
-    ask(&mut conn, Call::Connect, None);
-    match conn.session.begin(Call::Connect) {
-        Ok(()) => {
-            let driven = drive(alloc, &mut conn, number)?;
-            let uses = dial_uses(alloc, number, driven.polled.used)?;
-            Ok(settle(conn, number, driven.polled.after, uses))
-        }
-        Err(_) => unreachable!(),
-    }
+    let mut conn = begin_conn(alloc, opts, link)?;
+    let (after, met, _rows) = drive(alloc, &mut conn)?;
+    let uses = dial_uses(alloc, number, Use { number, met })?;
+    let (slot, outcome) = settle(conn, number, after);
+    Ok((slot, StepResult { outcome, uses }))
 }
 
 /// Dials the link of this number, and connects over it.
-pub fn dial_at<N: World>(
+pub(crate) fn dial_at<N: World>(
     alloc: Global,
     opts: &Opts,
     world: &mut N,
     number: u64,
-) -> Result<Connected<N::L>, NoMemory>
-    ensures reads { (m : ℕ) → m ≢ number → N.plan world.new m ≡ N.plan world.old m }
-    ensures writes { (m : ℕ) → m ≢ number → N.write_plan world.new m ≡ N.write_plan world.old m }
-    ensures dialed { IfOk result (λ c. Dialed N.L.looks (login_of opts.now) number (N.plan world.old number) (N.write_plan world.old number) c.slot c.did.outcome c.did.uses.items) }
+) -> Result<(Slot<N::L>, StepResult), NoMemory>
+    ensures others { SameBut number (N.seen world.old).plans (N.seen world.new).plans }
+    ensures dialed { IfOk result (λ r.
+        Dialed N.L.looks (login_of opts.now) number (N.seen world.old).plans r.0 r.1.outcome r.1.uses.items) }
 {
     match world.dial(number) {
         DialStep::Link(link) => first_call(alloc, opts, link, number),
         DialStep::NotYet => {
-            let used = Use {
+            let met = Met {
                 holds: 1,
-                ..quiet_use(number)
+                ..Met::nothing()
             };
-            let did = did_once(alloc, Outcome::Pending, used)?;
-            Ok(Connected {
-                slot: Slot::Held,
-                did,
-            })
+            let did = used_once(alloc, Outcome::Pending, Use { number, met })?;
+            Ok((Slot::Held, did))
         }
         DialStep::Failed => {
-            let used = Use {
+            let met = Met {
                 faults: 1,
-                ..quiet_use(number)
+                ..Met::nothing()
             };
-            let did = did_once(alloc, Outcome::Failed(dial_error()), used)?;
-            Ok(Connected {
-                slot: Slot::Gone,
-                did,
-            })
+            let did = used_once(alloc, Outcome::Failed(dial_error()), Use { number, met })?;
+            Ok((Slot::Gone, did))
         }
     }
 }
 
 /// Dials the link of the next number, and connects over it.
-pub fn connect<N: World>(
+pub(crate) fn connect<N: World>(
     alloc: Global,
     opts: &Opts,
     world: &mut N,
     slots: &mut Vec<Slot<N::L>>,
-) -> Result<Did, NoMemory>
-    ensures reads { (m : ℕ) → m ≢ length slots.old.items → N.plan world.new m ≡ N.plan world.old m }
-    ensures writes { (m : ℕ) → m ≢ length slots.old.items → N.write_plan world.new m ≡ N.write_plan world.old m }
+) -> Result<StepResult, NoMemory>
+    ensures others { SameBut (length slots.old.items) (N.seen world.old).plans (N.seen world.new).plans }
     ensures count { OnOk result (length slots.new.items ≡ suc (length slots.old.items)) }
-    ensures steps { IfOk result (λ d. (plans : Plans) → plans.reads (length slots.old.items) ≡ N.plan world.old (length slots.old.items) → plans.writes (length slots.old.items) ≡ N.write_plan world.old (length slots.old.items) → AreStood (login_of opts.now) slots.old.items → Stepped N.L.looks (login_of opts.now) plans d.uses.items slots.old.items slots.new.items (DialsNext (login_of opts.now) (map handle_of slots.old.items) d.outcome d.uses.items (map handle_of slots.new.items))) }
+    ensures steps { IfOk result (λ d.
+        StepsOn N.L.looks (login_of opts.now) (N.seen world.old).plans slots.old.items slots.new.items
+        (DialsNext (login_of opts.now)) d) }
 {
     let number = slots.len() as u64;
-    let connected = dial_at(alloc, opts, world, number)?;
-    slots.push(connected.slot)?;
-    Ok(connected.did)
+    let (slot, did) = dial_at(alloc, opts, world, number)?;
+    slots.push(slot)?;
+    Ok(did)
 }

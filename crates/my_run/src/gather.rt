@@ -1,36 +1,30 @@
 //! A step that gathers the rows of a set.
-ghost use Rattle.std.specs.Prelude.{◌≡◌, ◌++◌, ◌∷◌, [], None, Some, option_map, unwrap_or, true, false, length, map, IfOk, OnOk};
-ghost use Rattle.my_grammar.specs.declared.login.Login.{Login as LoginOf};
+ghost use Rattle.std.specs.Prelude.{◌≡◌, [], Some, option_map, unwrap_or, true, false, IfOk, OnOk};
 ghost use Rattle.my_session.specs.Calls.{is_open};
 ghost use Rattle.my_session.specs.declared.call.Call.TheVariants.{NextRow as NextRowOf};
 ghost use Rattle.my_session.specs.declared.call.Task.TheVariants.{Nothing};
-ghost use Rattle.my_session.specs.History.{History, began};
-ghost use Rattle.my_session.specs.Stands.{Stands};
 ghost use Rattle.my_session.specs.Steps.{begun};
-ghost use Rattle.my_run.specs.Did.{Did as DidAt, Stepped};
-ghost use Rattle.my_run.specs.Gathering.{Goes, GatherDid};
-ghost use Rattle.my_run.specs.Grows.{At, CollectsAt};
-ghost use Rattle.my_run.specs.Keeps.{Plans, StandsBy, IsStood, AreStood};
-ghost use Rattle.my_run.specs.Kept.{Asked, asking};
-ghost use Rattle.my_run.specs.Ready.{IsReady, ConnReady, SlotReady, AreReady, AskedReady, RestsBy, StaysOpen};
-ghost use Rattle.my_run.specs.Rests.{IsAsked};
-ghost use Rattle.my_run.specs.Slot.{handle_of, kept_of};
+ghost use Rattle.my_client.specs.Conn.{kept_of};
+ghost use Rattle.my_client.specs.Kept.{asking};
+ghost use Rattle.my_client.specs.Ready.{IsReady, ConnReady, AskedReady, RestsBy, StaysOpen};
+ghost use Rattle.my_run.specs.Did.{EachDid};
+ghost use Rattle.my_run.specs.Gathering.{asking_on, BeginStands, Goes, EachGathers};
 ghost use Rattle.my_run.specs.declared.slot.Slot.TheVariants.{There as ThereAt};
+ghost use Rattle.my_run.specs.declared.work.Work.TheVariants.{Collect as CollectWork};
 
-use crate::call::{Did, ask, refused, refused_call};
-use crate::drive::drive;
-use crate::poll::After;
-use crate::slot::{Conn, Slot};
+use crate::begin::refused_call;
+use crate::outcome::{StepResult, unused};
+use my_client::{After, Conn, ask, drive};
 use my_frame::NoMemory;
-use my_script::Outcome;
+use my_link::Link;
+use my_script::{Outcome, Use};
 use my_session::{Answer, Call};
 use my_value::Row;
-use my_world::link::Link;
 use std::alloc::Global;
 
 /// Whether a gathering goes on with the next row, or what it came to.
 #[derive(Drop)]
-pub enum Gathering {
+enum Gathering {
     On,
     Over(Outcome),
 }
@@ -51,7 +45,7 @@ fn ask_next<L>(conn: &mut Conn<L>, rows: Vec<Row>)
     requires open { conn.old.session.seen.closed ≡ false }
     ensures kept { kept_of conn.new ≡ asking (kept_of conn.old) NextRowOf (Some rows.items) }
     ensures seen { conn.new.session.seen ≡ begun conn.old.session.seen NextRowOf }
-    ensures stands { (h : History) → Stands conn.old.session.seen h → Stands conn.new.session.seen (began h NextRowOf) }
+    ensures stands { BeginStands conn.old.session.seen conn.new.session.seen }
     ensures link { conn.new.link ≡ conn.old.link }
 {
     ask(conn, Call::NextRow, Some(rows));
@@ -71,9 +65,10 @@ fn add_row<L>(
     requires idle { conn.old.session.seen.task ≡ Nothing }
     requires ready { IsReady conn.old.session.seen }
     requires open { conn.old.session.seen.closed ≡ false }
-    ensures kept { OnOk result (kept_of conn.new ≡ asking (kept_of conn.old) NextRowOf (Some (unwrap_or (option_map (λ rows. rows.items) rows) [] ++ row ∷ []))) }
+    ensures kept { OnOk result (
+        kept_of conn.new ≡ asking_on (kept_of conn.old) (option_map (λ rows. rows.items) rows) row) }
     ensures seen { OnOk result (conn.new.session.seen ≡ begun conn.old.session.seen NextRowOf) }
-    ensures stands { OnOk result ((h : History) → Stands conn.old.session.seen h → Stands conn.new.session.seen (began h NextRowOf)) }
+    ensures stands { OnOk result (BeginStands conn.old.session.seen conn.new.session.seen) }
     ensures link { OnOk result (conn.new.link ≡ conn.old.link) }
 {
     let mut all = rows_so_far(alloc, rows);
@@ -111,60 +106,43 @@ fn go_on<L>(
 }
 
 /// Polls the open call, and after each row the next one, until something else comes.
-pub fn gather<L: Link>(alloc: Global, conn: &mut Conn<L>, number: u64) -> Result<Did, NoMemory>
+pub(crate) fn gather<L: Link>(
+    alloc: Global,
+    conn: &mut Conn<L>,
+    number: u64,
+) -> Result<StepResult, NoMemory>
     requires is_on { is_open conn.old.session.seen.task ≡ true }
     requires asked { AskedReady conn.old }
-    ensures { IfOk result (λ d. (login : LoginOf) (a : Asked) → IsAsked login conn.old.session.seen (kept_of conn.old) a → GatherDid L.looks login number a conn.old conn.new d.outcome d.uses.items) }
+    ensures { IfOk result (λ d. EachGathers L.looks number conn.old conn.new d) }
 {
     let mut uses = Vec::new(alloc);
     'rows: loop {
-        let driven = drive(alloc, conn, number)?;
-        uses.push(driven.polled.used)?;
+        let (after, met, rows) = drive(alloc, conn)?;
+        uses.push(Use { number, met })?;
         // What each poll met is kept, and fits into memory.
         prove!(uses.len() <= usize::MAX);
-        match go_on(alloc, conn, driven.polled.after, driven.rows)? {
+        match go_on(alloc, conn, after, rows)? {
             Gathering::On => {}
-            Gathering::Over(outcome) => return Ok(Did { outcome, uses }),
+            Gathering::Over(outcome) => return Ok(StepResult { outcome, uses }),
         }
     }
 }
 
-fn collect_call<L: Link>(alloc: Global, conn: &mut Conn<L>, number: u64) -> Result<Did, NoMemory>
+/// Gathers the rows of the set that is read.
+pub(crate) fn collect_call<L: Link>(
+    alloc: Global,
+    conn: &mut Conn<L>,
+    number: u64,
+) -> Result<StepResult, NoMemory>
     requires { ConnReady conn.old }
-    ensures { IfOk result (λ d. (login : LoginOf) → StandsBy login conn.old → DidAt L.looks login number (CollectsAt login number) d.outcome d.uses.items (ThereAt conn.old) (ThereAt conn.new)) }
+    ensures { IfOk result (λ d. EachDid L.looks number CollectWork conn.old (ThereAt conn.new) d) }
 {
     if conn.session.is_open() {
-        return Ok(refused(alloc));
+        return Ok(unused(alloc, Outcome::NoSuchHandle));
     }
     ask(conn, Call::NextRow, Some(Vec::new(alloc)));
     match conn.session.begin(Call::NextRow) {
         Ok(()) => gather(alloc, conn, number),
         Err(error) => refused_call(alloc, conn, error),
     }
-}
-
-fn collect_at<L: Link>(alloc: Global, slot: &mut Slot<L>, number: u64) -> Result<Did, NoMemory>
-    requires { SlotReady slot.old }
-    ensures { IfOk result (λ d. (login : LoginOf) → IsStood login slot.old → DidAt L.looks login number (CollectsAt login number) d.outcome d.uses.items slot.old slot.new) }
-{
-    match slot {
-        Slot::There(conn) => collect_call(alloc, conn, number),
-        Slot::Gone | Slot::Held | Slot::Ended(_) => Ok(refused(alloc)),
-    }
-}
-
-/// Gathers the rows of the set that is read, on the connection of this number.
-pub fn collect_in<L: Link>(
-    alloc: Global,
-    slots: &mut Vec<Slot<L>>,
-    number: u64,
-) -> Result<Did, NoMemory>
-    requires { AreReady slots.old.items }
-    ensures count { length slots.new.items ≡ length slots.old.items }
-    ensures steps { IfOk result (λ d. (login : LoginOf) (plans : Plans) → AreStood login slots.old.items → Stepped L.looks login plans d.uses.items slots.old.items slots.new.items (At number (CollectsAt login number) (map handle_of slots.old.items) d.outcome d.uses.items (map handle_of slots.new.items))) }
-{
-    if number >= slots.len() as u64 {
-        return Ok(refused(alloc));
-    }
-    collect_at(alloc, &mut slots[number as usize], number)
 }

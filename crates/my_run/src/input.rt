@@ -1,24 +1,25 @@
 //! Reads all bytes of a source.
-ghost use Rattle.std.specs.Prelude.{◌≡◌, IfOk};
+ghost use Rattle.std.specs.Prelude.{IfOk};
 ghost use Rattle.my_run.specs.Input.{CameIs};
 
 use my_frame::{NoMemory, Source, SourceStep};
 use std::alloc::Global;
 
 /// The most bytes that a source may give.
-pub const MOST_INPUT: usize = 67108864;
+pub(crate) const MOST_INPUT: usize = 67108864;
 
 /// What came of a source: all its bytes, a fault, or more bytes than it may give.
 #[derive(Drop)]
-pub enum Came {
+pub(crate) enum Came {
     Whole(Vec<u8>),
     Broken,
     TooLong,
 }
 
 /// Reads a source to its end.
-pub fn read_all<S: Source>(alloc: Global, src: &mut S) -> Result<Came, NoMemory>
-    ensures { IfOk result (λ came. CameIs MOST_INPUT (S.left src.old) (S.left src.new) (S.faults src.old) (S.faults src.new) came) }
+pub(crate) fn read_all<S: Source>(alloc: Global, src: &mut S) -> Result<Came, NoMemory>
+    ensures { IfOk result (λ came.
+        CameIs MOST_INPUT (S.left src.old) (S.left src.new) (S.faults src.old) (S.faults src.new) came) }
 {
     let mut bytes = Vec::new(alloc);
     'more: while bytes.len() <= MOST_INPUT {

@@ -11,7 +11,7 @@ fn following(bytes: &[u8], from: usize) -> &[u8]
     &bytes[from..]
 }
 
-/// Writes all bytes, or tells that the sink failed.
+/// Writes all bytes, or returns false where the sink failed.
 pub fn write_all<W: Sink>(out: &mut W, bytes: &[u8]) -> bool
     ensures { Wrote (W.took out.old) bytes.now (W.took out.new) (W.faults out.old) (W.faults out.new) result }
 {

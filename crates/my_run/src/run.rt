@@ -1,29 +1,47 @@
 //! Runs steps in order.
-ghost use Rattle.std.specs.Prelude.{◌≡◌, ◌≤◌, ◌++◌, [], ℕ, length, map, IfOk, OnOk};
-ghost use Rattle.my_run.specs.Slot.{kept_of, handle_of};
-ghost use Rattle.my_run.specs.Tapes.{tape_view, tape_of, tape_at, tapes_in};
-ghost use Rattle.my_run.specs.Did.{Stepped};
+ghost use Rattle.std.specs.Prelude.{◌≡◌, ◌≤◌, ◌++◌, [], length, map, IfOk, OnOk};
+ghost use Rattle.my_client.specs.Conn.{kept_of};
+ghost use Rattle.my_client.specs.Login.{login_of};
+ghost use Rattle.my_world.specs.World.{SameFrom};
+ghost use Rattle.my_run.specs.Did.{StepsOn, errand_of};
 ghost use Rattle.my_run.specs.Grows.{StepGrows};
-ghost use Rattle.my_run.specs.Headline.{SoFar, Headline};
-ghost use Rattle.my_run.specs.Keeps.{Plans, AreStood};
-ghost use Rattle.my_run.specs.Login.{login_of};
+ghost use Rattle.my_run.specs.Headline.{RunSoFar, RunsTo};
 ghost use Rattle.my_run.specs.Ready.{AreReady};
+ghost use Rattle.my_run.specs.Slot.{handle_of};
+ghost use Rattle.my_run.specs.Tapes.{tape_view, tape_of, tape_at, tapes_in};
 
-use crate::call::{Did, begin_in};
-use crate::cancel::cancel_in;
 use crate::connect::connect;
-use crate::fields::fields_in;
-use crate::gather::collect_in;
-use crate::resume::resume_in;
-use crate::slot::{Conn, Slot};
+use crate::outcome::StepResult;
+use crate::slot::Slot;
 use crate::tape::tape_calls;
+use crate::work::{Errand, Work, work_at};
+use my_client::Conn;
 use my_frame::NoMemory;
+use my_link::Link;
 use my_opts::Opts;
 use my_script::{Step, StepAnswer, Tape, Transcript};
 use my_session::Call;
-use my_world::link::Link;
-use my_world::world::World;
+use my_world::World;
 use std::alloc::Global;
+
+// What a step does at the number that it names; none where it names no number.
+fn errand(alloc: Global, step: &Step) -> Result<Option<Errand>, NoMemory>
+    ensures { IfOk result (λ e. e ≡ errand_of step.now) }
+{
+    let (number, work) = match step {
+        Step::Conn => return Ok(None),
+        Step::Query(number, text) => (*number, Work::Begin(Call::Query(text.copy(alloc)?))),
+        Step::Next(number) => (*number, Work::Begin(Call::NextRow)),
+        Step::Drop(number) => (*number, Work::Begin(Call::DropResult)),
+        Step::Ping(number) => (*number, Work::Begin(Call::Ping)),
+        Step::Quit(number) => (*number, Work::Begin(Call::Quit)),
+        Step::Fields(number) => (*number, Work::Fields),
+        Step::Cancel(number) => (*number, Work::Cancel),
+        Step::Collect(number) => (*number, Work::Collect),
+        Step::Poll(number) => (*number, Work::Poll),
+    };
+    Ok(Some(Errand { number, work }))
+}
 
 fn run_step<N: World>(
     alloc: Global,
@@ -31,27 +49,17 @@ fn run_step<N: World>(
     world: &mut N,
     slots: &mut Vec<Slot<N::L>>,
     step: &Step,
-) -> Result<Did, NoMemory>
+) -> Result<StepResult, NoMemory>
     requires { AreReady slots.old.items }
     ensures longer { OnOk result (length slots.old.items ≤ length slots.new.items) }
-    ensures reads { OnOk result ((m : ℕ) → length slots.new.items ≤ m → N.plan world.new m ≡ N.plan world.old m) }
-    ensures writes { OnOk result ((m : ℕ) → length slots.new.items ≤ m → N.write_plan world.new m ≡ N.write_plan world.old m) }
-    ensures steps { IfOk result (λ d. (plans : Plans) → ((m : ℕ) → length slots.old.items ≤ m → plans.reads m ≡ N.plan world.old m) → ((m : ℕ) → length slots.old.items ≤ m → plans.writes m ≡ N.write_plan world.old m) → AreStood (login_of opts.now) slots.old.items → Stepped N.L.looks (login_of opts.now) plans d.uses.items slots.old.items slots.new.items (StepGrows (login_of opts.now) (map handle_of slots.old.items) step.now d.outcome d.uses.items (map handle_of slots.new.items))) }
+    ensures others { OnOk result (SameFrom (length slots.new.items) (N.seen world.old).plans (N.seen world.new).plans) }
+    ensures steps { IfOk result (λ d.
+        StepsOn N.L.looks (login_of opts.now) (N.seen world.old).plans slots.old.items slots.new.items
+        (λ hs o us ts. StepGrows (login_of opts.now) hs step.now o us ts) d) }
 {
-    match step {
-        Step::Conn => connect(alloc, opts, world, slots),
-        Step::Query(number, text) => {
-            let text = text.copy(alloc)?;
-            begin_in(alloc, slots, *number, Call::Query(text))
-        }
-        Step::Next(number) => begin_in(alloc, slots, *number, Call::NextRow),
-        Step::Drop(number) => begin_in(alloc, slots, *number, Call::DropResult),
-        Step::Ping(number) => begin_in(alloc, slots, *number, Call::Ping),
-        Step::Quit(number) => begin_in(alloc, slots, *number, Call::Quit),
-        Step::Fields(number) => fields_in(alloc, slots, *number),
-        Step::Cancel(number) => cancel_in(alloc, slots, *number),
-        Step::Collect(number) => collect_in(alloc, slots, *number),
-        Step::Poll(number) => resume_in(alloc, opts, world, slots, *number),
+    match errand(alloc, step)? {
+        None => connect(alloc, opts, world, slots),
+        Some(Errand { number, work }) => work_at(alloc, opts, world, slots, number, work),
     }
 }
 
@@ -65,7 +73,8 @@ fn run_each<N: World>(
 ) -> Result<(), NoMemory>
     requires no_slots { slots.old.items ≡ [] }
     requires no_answers { answers.old.items ≡ [] }
-    ensures { OnOk result ((plans : Plans) → ((n : ℕ) → plans.reads n ≡ N.plan world.old n) → ((n : ℕ) → plans.writes n ≡ N.write_plan world.old n) → SoFar N.L.looks (login_of opts.now) plans steps.now slots.new.items answers.new.items) }
+    ensures { OnOk result (RunSoFar N.L.looks (login_of opts.now) (N.seen world.old).plans steps.now slots.new.items
+        answers.new.items) }
 {
     for (i, step) in steps.iter().enumerate() {
         let did = run_step(alloc, opts, world, slots, step)?;
@@ -105,7 +114,8 @@ fn keep_tape<L: Drop>(
     slot: Slot<L>,
     number: u64,
 ) -> Result<(), NoMemory>
-    ensures { OnOk result (map tape_view tapes.new.items ≡ map tape_view tapes.old.items ++ tape_at number (handle_of slot)) }
+    ensures { OnOk result (
+        map tape_view tapes.new.items ≡ map tape_view tapes.old.items ++ tape_at number (handle_of slot)) }
 {
     match slot {
         Slot::Gone | Slot::Held => Ok(()),
@@ -129,14 +139,15 @@ fn tapes_of<L: Link + Drop>(alloc: Global, mut slots: Vec<Slot<L>>) -> Result<Ve
     Ok(tapes)
 }
 
-/// Runs the steps, and hands back what they came to.
-pub fn run_steps<N: World>(
+/// Runs the steps, and returns what they came to.
+pub(crate) fn run_steps<N: World>(
     alloc: Global,
     opts: &Opts,
     world: &mut N,
     steps: &[Step],
 ) -> Result<Transcript, NoMemory>
-    ensures { IfOk result (λ t. (plans : Plans) → ((n : ℕ) → plans.reads n ≡ N.plan world.old n) → ((n : ℕ) → plans.writes n ≡ N.write_plan world.old n) → Headline (login_of opts.now) plans steps.now t.answers.items t.tapes.items) }
+    ensures { IfOk result (λ t.
+        RunsTo (login_of opts.now) (N.seen world.old).plans steps.now t.answers.items t.tapes.items) }
 {
     let mut slots = Vec::new(alloc);
     let mut answers = Vec::new(alloc);

@@ -1,29 +1,15 @@
-//! What stands at a connection's number.
+//! What is at a connection's number.
 
-use crate::tape::{DoneCall, OpenCall};
-use my_session::Session;
+use my_client::Conn;
 
-/// A connection: a session on its link, with what it did so far.
+/// What is at a number that a `conn` took.
 #[derive(Drop)]
-pub struct Conn<L> {
-    pub session: Session,
-    pub link: L,
-    /// The bytes that were sent and taken.
-    pub sent: Vec<u8>,
-    pub taken: Vec<u8>,
-    /// The calls that ended, the oldest first.
-    pub calls: Vec<DoneCall>,
-    pub pending: Option<OpenCall>,
-}
-
-/// What stands at a number that a `conn` took.
-#[derive(Drop)]
-pub enum Slot<L> {
+pub(crate) enum Slot<L> {
     /// Its dial failed.
     Gone,
-    /// Its dial holds.
+    /// Its dial wasn't ready.
     Held,
     There(Conn<L>),
-    /// It couldn't connect.
+    /// Its handshake failed, or was cancelled.
     Ended(Conn<L>),
 }

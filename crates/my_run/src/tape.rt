@@ -1,42 +1,14 @@
-//! What a connection keeps of what it did.
+//! The calls of a connection as a transcript shows them.
 
 ghost use Rattle.std.specs.Prelude.{◌≡◌, ◌++◌, map, IfOk};
-ghost use Rattle.my_run.specs.Slot.{asked_in};
+ghost use Rattle.my_client.specs.Conn.{asked_in};
 ghost use Rattle.my_run.specs.Tapes.{answer_in as answer_of, tape_call as call_of, open_call as open_of};
 
+use my_client::{DoneCall, OpenCall, Said};
 use my_frame::NoMemory;
 use my_script::TapeCall;
-use my_session::{Answer, Call, Error};
-use my_value::Row;
+use my_session::{Answer, Error};
 use std::alloc::Global;
-
-/// How a call ended.
-#[derive(Drop)]
-pub enum Said {
-    Answered(Answer),
-    Failed(Error),
-    /// It was cancelled, which closed the session or not.
-    Cancelled(bool),
-}
-
-/// A call that ended.
-#[derive(Drop)]
-pub struct DoneCall {
-    pub call: Call,
-    /// How many bytes were sent when it began.
-    pub sent_from: u64,
-    pub said: Said,
-}
-
-/// A call that has no answer yet.
-#[derive(Drop)]
-pub struct OpenCall {
-    pub call: Call,
-    /// How many bytes were sent when it began.
-    pub sent_from: u64,
-    /// The rows that came so far, where it gathers a set's rows.
-    pub rows: Option<Vec<Row>>,
-}
 
 // A call that was cancelled has no answer.
 fn answer_in(said: Said) -> Option<Result<Answer, Error>>
@@ -59,7 +31,7 @@ fn tape_call(call: DoneCall) -> TapeCall
     }
 }
 
-// Nor has one that is open.
+// Nor has an open call.
 fn open_call(alloc: Global, pending: Option<OpenCall>) -> Result<Vec<TapeCall>, NoMemory>
     ensures { IfOk result (λ tape. tape.items ≡ open_of (asked_in pending)) }
 {
@@ -75,7 +47,7 @@ fn open_call(alloc: Global, pending: Option<OpenCall>) -> Result<Vec<TapeCall>, 
 }
 
 /// The calls of a connection as a transcript shows them, the oldest first.
-pub fn tape_calls(
+pub(crate) fn tape_calls(
     alloc: Global,
     mut calls: Vec<DoneCall>,
     pending: Option<OpenCall>,

@@ -1,11 +1,12 @@
 //! The top call.
-ghost use Rattle.std.specs.Prelude.{◌≡◌, ℕ, OnOk, IfOk, true, map, string_bytes};
-ghost use Rattle.my_world.specs.Plan.{planned_lines, written_lines};
+ghost use Rattle.std.specs.Prelude.{◌≡◌, OnOk, IfOk, true, map, string_bytes};
+ghost use Rattle.my_world.specs.Plan.{plans_after};
+ghost use Rattle.my_world.specs.World.{SamePlans};
 ghost use Rattle.my_run.specs.Headline.{Headline};
-ghost use Rattle.my_run.specs.Login.{login_of};
+ghost use Rattle.my_client.specs.Login.{login_of};
 ghost use Rattle.my_script.specs.Script.{script_of};
 ghost use Rattle.my_script.specs.Text.{text_of};
-ghost use Rattle.my_run.specs.Tool.{IsEmpty, plans_with, ScriptEnds, TextEnds, InputEnds, WordEnds, IsReport, code_of};
+ghost use Rattle.my_run.specs.Tool.{IsEmpty, source_seen, sink_seen, plans_with, code_of, ScriptEnds, TextEnds, InputEnds, WordEnds, IsReport};
 
 use crate::input::{Came, MOST_INPUT, read_all};
 use crate::output::write_all;
@@ -15,8 +16,7 @@ use my_opts::Opts;
 use my_script::{
     BadLine, Read, Script, Transcript, WordFault, read_script, read_word, script_word, text_of,
 };
-use my_world::WorldLine;
-use my_world::world::World;
+use my_world::{World, WorldLine};
 use std::alloc::Global;
 
 /// How a run ended, with its cause.
@@ -78,9 +78,8 @@ fn blank(alloc: Global, status: Status) -> Report
 }
 
 fn prepare_each<N: World>(world: &mut N, plan: &[WorldLine]) -> Result<(), NoMemory>
-    requires { N.takes_plan world.old ≡ true }
-    ensures reads { OnOk result ((n : ℕ) → N.plan world.new n ≡ planned_lines n plan.now (N.plan world.old n)) }
-    ensures writes { OnOk result ((n : ℕ) → N.write_plan world.new n ≡ written_lines n plan.now (N.write_plan world.old n)) }
+    requires { (N.seen world.old).takes ≡ true }
+    ensures { OnOk result (SamePlans (plans_after plan.now (N.seen world.old).plans) (N.seen world.new).plans) }
 {
     for line in plan {
         world.prepare(line)?;
@@ -90,8 +89,7 @@ fn prepare_each<N: World>(world: &mut N, plan: &[WorldLine]) -> Result<(), NoMem
 
 // Hands the world the lines of its plan, if it takes one.
 fn prepare_all<N: World>(world: &mut N, plan: &[WorldLine]) -> Result<(), NoMemory>
-    ensures reads { OnOk result ((n : ℕ) → (plans_with (record { takes = N.takes_plan world.old; reads = N.plan world.old; writes = N.write_plan world.old }) plan.now).reads n ≡ N.plan world.new n) }
-    ensures writes { OnOk result ((n : ℕ) → (plans_with (record { takes = N.takes_plan world.old; reads = N.plan world.old; writes = N.write_plan world.old }) plan.now).writes n ≡ N.write_plan world.new n) }
+    ensures { OnOk result (SamePlans (N.seen world.new).plans (plans_with (N.seen world.old) plan.now)) }
 {
     if world.plans() {
         prepare_each(world, plan)?;
@@ -106,7 +104,9 @@ fn run_script<N: World>(
     script: &Script,
     world: &mut N,
 ) -> Result<(Transcript, Vec<u8>), NoMemory>
-    ensures { IfOk result (λ r. Headline (login_of opts.now) (plans_with (record { takes = N.takes_plan world.old; reads = N.plan world.old; writes = N.write_plan world.old }) script.now.plan.items) script.now.steps.items r.0.answers.items r.0.tapes.items × (r.1.items ≡ text_of r.0.answers.items r.0.tapes.items)) }
+    ensures run { IfOk result (λ r. Headline (login_of opts.now) (plans_with (N.seen world.old) script.now.plan.items)
+        script.now.steps.items r.0.answers.items r.0.tapes.items) }
+    ensures text { IfOk result (λ r. r.1.items ≡ text_of r.0.answers.items r.0.tapes.items) }
 {
     prepare_all(world, &script.plan)?;
     let transcript = run_steps(alloc, opts, world, &script.steps)?;
@@ -121,7 +121,10 @@ fn run_good<W: Sink, N: World>(
     out: &mut W,
     world: &mut N,
 ) -> Report
-    ensures { ScriptEnds (login_of opts.now) (plans_with (record { takes = N.takes_plan world.old; reads = N.plan world.old; writes = N.write_plan world.old }) script.now.plan.items) script.now.steps.items (record { took = W.took out.old; faults = W.faults out.old }) (record { took = W.took out.new; faults = W.faults out.new }) result.transcript result.status }
+    ensures { ScriptEnds (login_of opts.now) (plans_with (N.seen world.old) script.now.plan.items)
+        script.now.steps.items
+        (sink_seen (W.took out.old) (W.faults out.old)) (sink_seen (W.took out.new) (W.faults out.new))
+        result.transcript result.status }
 {
     match run_script(alloc, opts, script, world) {
         Err(_) => blank(alloc, Status::NoMemory),
@@ -148,7 +151,9 @@ fn run_text<W: Sink, N: World>(
     out: &mut W,
     world: &mut N,
 ) -> Report
-    ensures { TextEnds (login_of opts.now) (record { takes = N.takes_plan world.old; reads = N.plan world.old; writes = N.write_plan world.old }) (script_of (N.takes_plan world.old) bytes.now) (record { took = W.took out.old; faults = W.faults out.old }) (record { took = W.took out.new; faults = W.faults out.new }) result.transcript result.status }
+    ensures { TextEnds (login_of opts.now) (N.seen world.old) (script_of (N.seen world.old).takes bytes.now)
+        (sink_seen (W.took out.old) (W.faults out.old)) (sink_seen (W.took out.new) (W.faults out.new))
+        result.transcript result.status }
 {
     match read_script(alloc, world.plans(), bytes) {
         Err(_) => blank(alloc, Status::NoMemory),
@@ -164,7 +169,10 @@ fn run_input<S: Source, W: Sink, N: World>(
     out: &mut W,
     world: &mut N,
 ) -> Report
-    ensures { InputEnds (login_of opts.now) (record { takes = N.takes_plan world.old; reads = N.plan world.old; writes = N.write_plan world.old }) (record { left = S.left src.old; faults = S.faults src.old }) (record { left = S.left src.new; faults = S.faults src.new }) (record { took = W.took out.old; faults = W.faults out.old }) (record { took = W.took out.new; faults = W.faults out.new }) result.transcript result.status }
+    ensures { InputEnds (login_of opts.now) (N.seen world.old)
+        (source_seen (S.left src.old) (S.faults src.old)) (source_seen (S.left src.new) (S.faults src.new))
+        (sink_seen (W.took out.old) (W.faults out.old)) (sink_seen (W.took out.new) (W.faults out.new))
+        result.transcript result.status }
 {
     match read_all(alloc, src) {
         Err(_) => blank(alloc, Status::NoMemory),
@@ -181,7 +189,10 @@ fn run_word<S: Source, W: Sink, N: World>(
     out: &mut W,
     world: &mut N,
 ) -> Report
-    ensures { WordEnds word.now (record { takes = N.takes_plan world.old; reads = N.plan world.old; writes = N.write_plan world.old }) (record { left = S.left src.old; faults = S.faults src.old }) (record { left = S.left src.new; faults = S.faults src.new }) (record { took = W.took out.old; faults = W.faults out.old }) (record { took = W.took out.new; faults = W.faults out.new }) result.transcript result.status }
+    ensures { WordEnds word.now (N.seen world.old)
+        (source_seen (S.left src.old) (S.faults src.old)) (source_seen (S.left src.new) (S.faults src.new))
+        (sink_seen (W.took out.old) (W.faults out.old)) (sink_seen (W.took out.new) (W.faults out.new))
+        result.transcript result.status }
 {
     match read_word(alloc, word) {
         Err(_) => blank(alloc, Status::NoMemory),
@@ -192,8 +203,8 @@ fn run_word<S: Source, W: Sink, N: World>(
 
 /// Runs a command: reads the words and the source, runs the steps over the world, and writes their text to the sink.
 ///
-/// The status is 2 where the words are no command, 6 where the second word is refused, 4 where the source failed, 7 where it gave
-/// more than 67,108,864 bytes, 3 where a line doesn't read, 5 where the sink failed, 0 where the run is done, and 12 where it is out of memory.
+/// The status is the first of these that comes: no command, a word that is refused, a source that fails or has more
+/// than 67,108,864 bytes, a line that doesn't read, a sink that fails; out of memory may come at any place.
 pub fn run_tool<S: Source, W: Sink, N: World>(
     alloc: Global,
     words: &[String],
@@ -201,7 +212,10 @@ pub fn run_tool<S: Source, W: Sink, N: World>(
     out: &mut W,
     world: &mut N,
 ) -> Report
-    ensures { IsReport (map string_bytes words.now) (record { takes = N.takes_plan world.old; reads = N.plan world.old; writes = N.write_plan world.old }) (record { left = S.left src.old; faults = S.faults src.old }) (record { left = S.left src.new; faults = S.faults src.new }) (record { took = W.took out.old; faults = W.faults out.old }) (record { took = W.took out.new; faults = W.faults out.new }) result }
+    ensures { IsReport (map string_bytes words.now) (N.seen world.old)
+        (source_seen (S.left src.old) (S.faults src.old)) (source_seen (S.left src.new) (S.faults src.new))
+        (sink_seen (W.took out.old) (W.faults out.old)) (sink_seen (W.took out.new) (W.faults out.new))
+        result }
 {
     match script_word(words) {
         None => blank(alloc, Status::NoCommand),

@@ -21,7 +21,7 @@ changed_text p = codes "ok" ++ named_text (codes " affected=") p.affected ++ ins
 
 -- ` warnings=W status=F`
 unfoldable pub state_text : OkPacket → List ℕ
-state_text p = named_text (codes " warnings=") p.warnings ++ named_text (codes " status=") p.status
+state_text p = named_text (codes " warnings=") p.warnings ++ named_text (codes " status=") p.status.0
 
 -- ` info=b:HEX`
 unfoldable pub info_text : List ℕ → List ℕ

@@ -1,35 +1,17 @@
 //! What a run came to, as data.
 
 use my_handshake::ServerVersion;
+use my_link::Met;
 use my_reply::OkPacket;
 use my_session::{Answer, Call, Error};
 use my_value::Row;
 
-/// How often the outside gave each counted answer to one poll of a call, or to one dial, and how many bytes came.
+/// What one poll of a call, or one dial, met outside.
 #[derive(Clone, Copy, Debug, PartialEq, Eq)]
 pub struct Use {
     /// The connection's number.
     pub number: u64,
-    /// The link's, or the dialer's, faults.
-    pub faults: u64,
-    /// Its holds.
-    pub holds: u64,
-    /// Ends of the link.
-    pub ends: u64,
-    /// Checks that found a dead link.
-    pub deaths: u64,
-    /// Reads of a file that failed.
-    pub broken: u64,
-    /// Files that aren't listed.
-    pub unlisted: u64,
-    /// Requests for a file without a handler.
-    pub absent: u64,
-    /// Refusals after the login.
-    pub refused: u64,
-    /// Bytes taken from the link.
-    pub taken: u64,
-    /// Bytes read from a file.
-    pub fed: u64,
+    pub met: Met,
 }
 
 /// What a step came to: one variant for each kind of answer line.

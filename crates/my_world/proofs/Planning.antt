@@ -1,12 +1,15 @@
 -- How the items of a world in memory change.
-use Rattle.std.proofs.Common.{◌≡◌, ◌≢◌, ◌<◌, ◌≤◌, ◌+◌, ◌==◌, ℕ, suc, List, [], ◌∷◌, ◌++◌, length, drop, get_or, slice_set, Bool, true, false, if◌then◌else◌, refl, sym, ap, ◌∙◌, arith}
+use Rattle.std.proofs.Common.{ℕ, ◌≡◌, ◌≢◌, ◌<◌, ◌≤◌, ◌+◌, ◌==◌, suc, List, [], ◌∷◌, ◌++◌, length, drop, get_or, slice_set, Some, Bool, true, false, if◌then◌else◌, refl, sym, ap, ◌∙◌, arith}
 use Rattle.std.proofs.lemmas.List.{append-nil, drop_all}
 use Rattle.std.specs.List.{list_all}
 use Rattle.std.proofs.lemmas.Bool.Decides.{nat_tests}
-use Rattle.my_world.specs.declared.link.ReadItem.{ReadItem}
-use Rattle.my_world.specs.Memory.{is_filled}
-use Rattle.my_world.specs.Plan.{LinkItems, no_items, grown, dripped}
-use Rattle.my_world.specs.Planned.{PlannedItems, items_at, place_at}
+use Rattle.my_link.specs.declared.link.ReadItem.{ReadItem}
+use Rattle.my_link.specs.Memory.{is_filled}
+use Rattle.my_link.specs.Items.{LinkItems, no_items, grown}
+use Rattle.my_world.specs.Plan.{dripped}
+use Rattle.my_link.specs.Planned.{PlannedItems, items_at, place_at}
+use Rattle.my_world.specs.MemWorld.{plans_of}
+use Rattle.my_world.specs.World.{SameAt}
 
 -- nothing stands for a link without a place
 pub at_end : (n : ℕ) (ps : List PlannedItems) → length ps ≤ place_at n ps → items_at n ps ≡ no_items
@@ -148,3 +151,10 @@ others n place ps p q e h f g m differs =
     let numbered : q.number ≡ n = ap (λ (r : PlannedItems). r.number) g ∙ ap (λ (r : PlannedItems). r.number) at ∙ number_at n ps p h' in
     let apart : (n == m) ≡ false = grind (arith, nat_tests) in
     ap (λ k. items_at m (slice_set ps k q)) e ∙ set_at n m ps q h' numbered ∙ ap (λ t. if t then q.items else items_at m ps) apart
+
+-- the same items are the same plan
+pub same_at : (ps qs : List PlannedItems) (n : ℕ) → items_at n qs ≡ items_at n ps → SameAt (plans_of ps) (plans_of qs) n
+same_at ps qs n e = record {
+  reads = ap (λ (a : LinkItems). Some a.reads) e;
+  writes = ap (λ (a : LinkItems). Some a.writes) e;
+}

@@ -1,9 +1,3 @@
-pub mod Outside
-pub mod Looks
-pub mod Link
-pub mod Memory
 pub mod World
 pub mod Plan
-pub mod Planned
-pub mod MemLink
-pub mod Spent
+pub mod MemWorld

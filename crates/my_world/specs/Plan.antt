@@ -2,22 +2,13 @@
 use Rattle.std.specs.Prelude.{ℕ, ◌/◌, ◌%◌, ◌==◌, List, [], ◌∷◌, ◌++◌, length, Option, option_map, if◌then◌else◌}
 use Rattle.my_world.specs.declared.line.WorldLine.{WorldLine}
 use Rattle.my_world.specs.declared.line.WorldLine.TheVariants as lines
-use Rattle.my_world.specs.declared.link.ReadItem.{ReadItem}
-use Rattle.my_world.specs.declared.link.ReadItem.TheVariants as items
-use Rattle.my_world.specs.declared.link.WriteItem.{WriteItem}
-use Rattle.my_world.specs.declared.link.WriteItem.TheVariants as puts
-use Rattle.my_world.specs.Link.{accept_back}
-
--- what is to be read, and what is to be done with writes
-pub record LinkItems : Type 0 where
-  pub reads : List ReadItem
-  pub writes : List WriteItem
-
-abbrev pub no_items : LinkItems
-no_items = record { reads = []; writes = [] }
-
-abbrev pub grown : LinkItems → LinkItems → LinkItems
-grown a b = record { reads = a.reads ++ b.reads; writes = a.writes ++ b.writes }
+use Rattle.my_link.specs.declared.link.ReadItem.{ReadItem}
+use Rattle.my_link.specs.declared.link.ReadItem.TheVariants as items
+use Rattle.my_link.specs.declared.link.WriteItem.{WriteItem}
+use Rattle.my_link.specs.declared.link.WriteItem.TheVariants as puts
+use Rattle.my_link.specs.Link.{accept_back}
+use Rattle.my_link.specs.Items.{LinkItems}
+use Rattle.my_world.specs.World.{Plans}
 
 -- a packet's header: the payload's length in three bytes, the lowest first, and the packet's number
 -- MySQL internals, "MySQL Packets"
@@ -110,3 +101,17 @@ all_writes_for n (line ∷ rest) = writes_for n line ++ all_writes_for n rest
 
 abbrev pub written_lines : ℕ → List WorldLine → Option (List WriteItem) → Option (List WriteItem)
 written_lines n lines plan = option_map (λ ws. ws ++ all_writes_for n lines) plan
+
+-- each link's plan, with a line more
+abbrev pub plans_on : WorldLine → Plans → Plans
+plans_on line plans = record {
+  reads = λ n. planned_on n line (plans.reads n);
+  writes = λ n. written_on n line (plans.writes n);
+}
+
+-- with these lines more
+abbrev pub plans_after : List WorldLine → Plans → Plans
+plans_after lines plans = record {
+  reads = λ n. planned_lines n lines (plans.reads n);
+  writes = λ n. written_lines n lines (plans.writes n);
+}

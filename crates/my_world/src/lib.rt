@@ -1,9 +1,10 @@
-//! The outside of a run: links to servers, the world that dials them, and both in memory.
+//! The outside of a run: the world that dials links, the lines of its plan, and a world in memory.
 #![tactic(auto)]
 
-pub mod line;
-pub mod link;
-pub mod memory;
-pub mod world;
+mod line;
+mod memory;
+mod world;
 
 pub use line::WorldLine;
+pub use memory::MemWorld;
+pub use world::{DialStep, World};

@@ -1,8 +1,8 @@
-//! What a world is told.
+//! The lines of a world's plan.
 
 use my_frame::Blob;
 
-/// A line of a world's plan. Each names the number of its link, which is the number of the link's connection.
+/// A line of a world's plan. Its first field is the number of its link, which is that of the link's connection.
 #[derive(Drop)]
 pub enum WorldLine {
     /// A packet can be read: a header with this number, then the payload.
@@ -11,17 +11,17 @@ pub enum WorldLine {
     Bytes(u64, Blob),
     /// What follows can be read once a write took a byte while this line is first.
     Turn(u64),
-    /// The next read holds, once.
+    /// The next read isn't ready, once.
     Wait(u64),
     /// The next read fails, once.
     Fail(u64),
-    /// Reading is at its end, for good.
+    /// The end: every read from here on returns it.
     End(u64),
-    /// As a packet, with a hold after each byte, the header's included.
+    /// As a packet, but after each byte, of the header too, the next read isn't ready, once.
     Drip(u64, u8, Blob),
-    /// So many of the next bytes that are written are taken in one piece, or in shorter ones where the writes are shorter.
+    /// That many of the next bytes that are written are taken in one piece, or in shorter ones where the writes are shorter.
     Accept(u64, u64),
-    /// The next write holds, once.
+    /// The next write isn't ready, once.
     WriteWait(u64),
     /// The next write fails, once.
     WriteFail(u64),

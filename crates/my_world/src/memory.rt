@@ -1,163 +1,216 @@
-//! A link in memory, which plays the items that it was made with.
-ghost use Rattle.std.specs.Prelude.{◌≡◌, ◌<◌, ◌≤◌, ◌++◌, [], ℕ, List, Option, Some, None, true, false, length, take, drop};
-ghost use Rattle.std.specs.List.{list_all};
-ghost use Rattle.my_world.specs.Memory.{is_sound, is_filled, CopiesFront};
+//! A world in memory, which plays its plan.
+ghost use Rattle.std.specs.Prelude.{ℕ, ◌≡◌, ◌∷◌, [], true, length, IfOk, OnOk, OnErr, ◌==◌, ◌<◌, if◌then◌else◌};
+ghost use Rattle.my_link.specs.Link.{accept_back};
+ghost use Rattle.my_link.specs.Memory.{is_filled};
+ghost use Rattle.my_link.specs.Items.{no_items};
+ghost use Rattle.my_world.specs.Plan.{given_by, packet_of, dripped, bytes_item, link_of};
+ghost use Rattle.my_link.specs.Planned.{added, is_lawful, items_at, items_with, place_at};
 
-pub mod planned;
-pub mod world;
-pub mod writes;
+use crate::line::WorldLine;
+use crate::world::{DialStep, World};
+use my_frame::{Blob, NoMemory};
+use my_link::{Addition, MemLink, Planned, ReadItem, WriteItem, Writes};
+use std::alloc::{AllocError, Global};
 
-use crate::link::{Link, ReadItem, ReadStep, WriteStep};
-use crate::memory::writes::{Room, Writes};
-use std::alloc::Global;
-
-/// A link in memory.
-///
-/// It keeps what it was sent. A read gives bytes of one item at a time, and a write takes bytes for one.
+/// A world in memory. Each link has the items of the lines with its number, in order, for reads and for writes apart.
+/// No dial fails.
 #[derive(Drop)]
-pub struct MemLink {
-    items: Vec<ReadItem>,
-    // The item that is read, and how many of its bytes were read.
-    place: usize,
-    from: usize,
-    writes: Writes,
-    got: Vec<u8>,
-    faults: u64,
-    holds: u64,
-    ends: u64,
-    ghost sound: { is_sound from (drop place items.items) ≡ true },
+pub struct MemWorld {
+    alloc: Global,
+    links: Vec<Planned>,
 }
 
-fn copy_front(buf: &mut [u8], bytes: &[u8]) -> usize
-    requires room { 0 < length buf.old }
-    requires some { 0 < length bytes.now }
-    ensures { CopiesFront buf.new bytes.now result }
+fn packet_bytes(alloc: Global, number: u8, payload: &[u8]) -> Result<Vec<u8>, AllocError>
+    ensures { IfOk result (λ bytes. bytes.items ≡ packet_of number payload.now) }
 {
-    let n = buf.len().min(bytes.len());
-    buf[..n].copy_from_slice(&bytes[..n]);
-    n
+    let len = payload.len();
+    let mut bytes = Vec::new(alloc);
+    bytes.push((len % 256) as u8)?;
+    bytes.push((len / 256 % 256) as u8)?;
+    bytes.push((len / 65536 % 256) as u8)?;
+    bytes.push(number)?;
+    bytes.extend_from_slice(payload)?;
+    Ok(bytes)
 }
 
-fn following(bytes: &[u8], from: usize) -> &[u8]
-    requires { from < length bytes.now }
-    ensures { result.now ≡ drop from bytes.now }
+fn link_number(line: &WorldLine) -> u64
+    ensures { result ≡ link_of line.now }
 {
-    &bytes[from..]
+    match line {
+        WorldLine::Packet(link, _, _)
+        | WorldLine::Bytes(link, _)
+        | WorldLine::Turn(link)
+        | WorldLine::Wait(link)
+        | WorldLine::Fail(link)
+        | WorldLine::End(link)
+        | WorldLine::Drip(link, _, _)
+        | WorldLine::Accept(link, _)
+        | WorldLine::WriteWait(link)
+        | WorldLine::WriteFail(link) => *link,
+    }
 }
 
-fn front(bytes: &[u8], n: usize) -> &[u8]
-    requires { n ≤ length bytes.now }
-    ensures { result.now ≡ take n bytes.now }
+// One item to be read.
+fn one(alloc: Global, item: ReadItem) -> Result<Addition, AllocError>
+    requires { is_filled item ≡ true }
+    ensures added { IfOk result (λ a. added a ≡ record { reads = item ∷ []; writes = [] }) }
+    ensures lawful { IfOk result (λ a. is_lawful a ≡ true) }
 {
-    &bytes[..n]
+    let mut items = Vec::new(alloc);
+    items.push(item)?;
+    Ok(Addition::Reads(items))
 }
 
-impl MemLink {
-    ghost use Rattle.my_world.specs.MemLink.{unread, unwritten, counted, sent_to, Keeps};
-    ghost use Rattle.my_world.specs.Outside.{no_counts};
+// Each byte by itself; after it the next read isn't ready, once.
+fn drip(alloc: Global, bytes: &[u8]) -> Result<Addition, NoMemory>
+    ensures added { IfOk result (λ a. added a ≡ record { reads = dripped bytes.now; writes = [] }) }
+    ensures lawful { IfOk result (λ a. is_lawful a ≡ true) }
+{
+    let mut items = Vec::new(alloc);
+    for byte in bytes {
+        items.push(ReadItem::Bytes(Blob::from_slice(alloc, &[*byte])?))?;
+        items.push(ReadItem::Wait)?;
+    }
+    Ok(Addition::Reads(items))
+}
 
-    /// A link that has these items to be read, and does so with writes.
-    pub fn new(alloc: Global, items: Vec<ReadItem>, writes: Writes) -> MemLink
-        requires { list_all is_filled items.items ≡ true }
-        ensures items { unread result ≡ items.items }
-        ensures writes { unwritten result ≡ writes }
-        ensures counts { counted result ≡ no_counts }
-        ensures got { sent_to result ≡ [] }
+fn read_bytes(alloc: Global, bytes: &Blob) -> Result<Addition, NoMemory>
+    ensures added { IfOk result (λ a. added a ≡ record { reads = bytes_item bytes.now; writes = [] }) }
+    ensures lawful { IfOk result (λ a. is_lawful a ≡ true) }
+{
+    if bytes.is_empty() {
+        return Ok(Addition::Nothing);
+    }
+    Ok(one(alloc, ReadItem::Bytes(bytes.copy(alloc)?))?)
+}
+
+fn accept(count: u64) -> Addition
+    ensures added { added result ≡ record { reads = []; writes = accept_back count [] } }
+    ensures lawful { is_lawful result ≡ true }
+{
+    if count == 0 {
+        return Addition::Nothing;
+    }
+    Addition::Write(WriteItem::Accept(count))
+}
+
+fn addition(alloc: Global, line: &WorldLine) -> Result<Addition, NoMemory>
+    ensures added { IfOk result (λ a. added a ≡ given_by line.now) }
+    ensures lawful { IfOk result (λ a. is_lawful a ≡ true) }
+{
+    match line {
+        WorldLine::Packet(_, number, payload) => {
+            let bytes = packet_bytes(alloc, *number, payload.as_slice())?;
+            Ok(one(alloc, ReadItem::Bytes(Blob::from(bytes)))?)
+        }
+        WorldLine::Drip(_, number, payload) => {
+            let bytes = packet_bytes(alloc, *number, payload.as_slice())?;
+            drip(alloc, &bytes)
+        }
+        WorldLine::Bytes(_, bytes) => read_bytes(alloc, bytes),
+        WorldLine::Turn(_) => Ok(one(alloc, ReadItem::Turn)?),
+        WorldLine::Wait(_) => Ok(one(alloc, ReadItem::Wait)?),
+        WorldLine::Fail(_) => Ok(one(alloc, ReadItem::Fail)?),
+        WorldLine::End(_) => Ok(one(alloc, ReadItem::End)?),
+        WorldLine::Accept(_, count) => Ok(accept(*count)),
+        WorldLine::WriteWait(_) => Ok(Addition::Write(WriteItem::Wait)),
+        WorldLine::WriteFail(_) => Ok(Addition::Write(WriteItem::Fail)),
+    }
+}
+
+// The place of the entry of this number, or the end.
+fn place_of(links: &[Planned], number: u64) -> usize
+    ensures { result ≡ place_at number links.now }
+{
+    for (i, planned) in links.iter().enumerate() {
+        if planned.number() == number {
+            return i;
+        }
+    }
+    links.len()
+}
+
+impl MemWorld {
+    /// A world whose plan has no lines.
+    pub fn new(alloc: Global) -> MemWorld
+        ensures { (n : ℕ) → items_at n result.links.items ≡ no_items }
     {
-        MemLink {
-            items,
-            place: 0,
-            from: 0,
-            writes,
-            got: Vec::new(alloc),
-            faults: 0,
-            holds: 0,
-            ends: 0,
-        }
-    }
-
-    // These bytes are written whole.
-    fn keep(&mut self, bytes: &[u8]) -> WriteStep
-        requires { 0 < length bytes.now }
-        ensures { Keeps self.old self.new bytes.now result }
-    {
-        match self.got.extend_from_slice(bytes) {
-            Err(_) => WriteStep::NoMemory,
-            Ok(()) => {
-                if let Some(ReadItem::Turn) = self.items.get(self.place) {
-                    self.place += 1;
-                }
-                self.writes.take(bytes.len() as u64);
-                WriteStep::Took(bytes.len())
-            }
+        MemWorld {
+            alloc,
+            links: Vec::new(alloc),
         }
     }
 }
 
-impl Link for MemLink {
-    ghost use Rattle.my_world.specs.MemLink.{unread, unwritten, counted, sent_to};
+// The place of the entry of this number, which is made where there is none.
+fn entry(alloc: Global, links: &mut Vec<Planned>, number: u64) -> Result<usize, AllocError>
+    ensures place { IfOk result (λ place. place ≡ place_at number links.new.items) }
+    ensures within { IfOk result (λ place. place < length links.new.items) }
+    ensures same { (n : ℕ) → items_at n links.new.items ≡ items_at n links.old.items }
+{
+    let place = place_of(links, number);
+    if place >= links.len() {
+        links.push(Planned::new(alloc, number))?;
+    }
+    Ok(place)
+}
 
-    ghost looks = { λ m. record { items = Some (unread m); writes = Some (unwritten m); counts = counted m } };
+fn add(
+    alloc: Global,
+    links: &mut Vec<Planned>,
+    number: u64,
+    addition: Addition,
+) -> Result<(), AllocError>
+    requires { is_lawful addition ≡ true }
+    ensures ok { OnOk result ((n : ℕ) → items_at n links.new.items ≡ items_with number addition n links.old.items) }
+    ensures err { OnErr result ((n : ℕ) → items_at n links.new.items ≡ items_at n links.old.items) }
+{
+    let place = entry(alloc, links, number)?;
+    links[place].add(addition)?;
+    Ok(())
+}
 
-    ghost got = { λ m. Some (sent_to m) };
+impl World for MemWorld {
+    ghost use Rattle.my_world.specs.MemWorld.{world_of};
 
-    ghost socket = { λ m. false };
+    type L = MemLink;
 
-    fn read(&mut self, buf: &mut [u8]) -> ReadStep {
-        match self.items.get(self.place) {
-            None => {
-                self.holds = self.holds.saturating_add(1);
-                ReadStep::NotYet
-            }
-            Some(ReadItem::Bytes(bytes)) => {
-                let n = copy_front(buf, following(bytes.as_slice(), self.from));
-                let from = self.from + n;
-                if from < bytes.len() {
-                    self.from = from;
-                } else {
-                    self.place += 1;
-                    self.from = 0;
-                }
-                ReadStep::Got(n)
-            }
-            Some(ReadItem::Turn) => {
-                self.holds = self.holds.saturating_add(1);
-                ReadStep::NotYet
-            }
-            Some(ReadItem::Wait) => {
-                self.place += 1;
-                self.holds = self.holds.saturating_add(1);
-                ReadStep::NotYet
-            }
-            Some(ReadItem::Fail) => {
-                self.place += 1;
-                self.faults = self.faults.saturating_add(1);
-                ReadStep::Failed
-            }
-            Some(ReadItem::End) => {
-                self.ends = self.ends.saturating_add(1);
-                ReadStep::End
-            }
-        }
+    ghost seen = { λ w. world_of w.links.items };
+
+    fn plans(&self) -> bool {
+        true
     }
 
-    fn write(&mut self, bytes: &[u8]) -> WriteStep {
-        match self.writes.room(bytes.len()) {
-            Room::Take(n) => self.keep(front(bytes, n)),
-            Room::Hold => {
-                self.writes.pass();
-                self.holds = self.holds.saturating_add(1);
-                WriteStep::NotYet
-            }
-            Room::Fail => {
-                self.writes.pass();
-                self.faults = self.faults.saturating_add(1);
-                WriteStep::Failed
-            }
-        }
+    fn prepare(&mut self, line: &WorldLine) -> Result<(), NoMemory> {
+        let addition = addition(self.alloc, line)?;
+        add(self.alloc, &mut self.links, link_number(line), addition)?;
+        Ok(())
     }
 
-    fn is_socket(&self) -> bool {
-        false
+    fn dial(&mut self, number: u64) -> DialStep<MemLink> {
+        let place = place_of(&self.links, number);
+        if place >= self.links.len() {
+            let empty = MemLink::new(self.alloc, Vec::new(self.alloc), Writes::new(self.alloc));
+            return DialStep::Link(empty);
+        }
+        let (reads, writes) = self.links[place].take(self.alloc);
+        let link = MemLink::new(self.alloc, reads, writes);
+        DialStep::Link(link)
+    }
+
+    // The clock stays at 0.
+    fn now(&mut self) -> u64
+        ensures value { result ≡ 0 }
+        ensures same { self.new ≡ self.old }
+    {
+        0
+    }
+
+    // Each random word is 0.
+    fn random(&mut self) -> u64
+        ensures value { result ≡ 0 }
+        ensures same { self.new ≡ self.old }
+    {
+        0
     }
 }

@@ -1,17 +1,15 @@
 //! Where links come from.
-ghost use Rattle.std.specs.Prelude.{◌≡◌, ◌≢◌, ℕ, List, Option, None, Bool, true, OnOk, OnErr};
+ghost use Rattle.std.specs.Prelude.{◌≡◌, None, true, OnOk, OnErr};
 ghost use Rattle.my_frame.specs.Outside.{Rose};
-ghost use Rattle.my_world.specs.Outside.{no_counts};
-ghost use Rattle.my_world.specs.World.{IfLink, OnFailed, OnHeld, IsFresh};
-ghost use Rattle.my_world.specs.Plan.{planned_on, written_on};
-ghost use Rattle.my_world.specs.declared.link.ReadItem.{ReadItem};
-ghost use Rattle.my_world.specs.declared.link.WriteItem.{WriteItem};
+ghost use Rattle.my_link.specs.Outside.{no_counts};
+ghost use Rattle.my_world.specs.World.{WorldSeen, SamePlans, SameBut, IfLink, OnFailed, OnHeld, IsFresh};
+ghost use Rattle.my_world.specs.Plan.{plans_on};
 
 use crate::line::WorldLine;
-use crate::link::Link;
 use my_frame::NoMemory;
+use my_link::Link;
 
-/// What a dial answers.
+/// What a dial returns.
 #[derive(Drop)]
 pub enum DialStep<L> {
     Link(L),
@@ -19,60 +17,43 @@ pub enum DialStep<L> {
     Failed,
 }
 
-/// The outside of a run: it dials links, and knows the moment.
+/// The outside of a run: it dials links, and tells the time.
 pub trait World {
     type L: Link + Drop;
 
-    /// Whether it takes a plan.
-    ghost takes_plan: { Self → Bool };
-
-    /// What the link of a number will have to be read, if it tells.
-    ghost plan: { Self → ℕ → Option (List ReadItem) };
-
-    /// What the link of a number will do with writes, if it tells.
-    ghost write_plan: { Self → ℕ → Option (List WriteItem) };
-
-    /// How often a dial failed.
-    ghost faults: { Self → ℕ };
-
-    /// How often a dial held.
-    ghost holds: { Self → ℕ };
+    /// Whether it takes a plan, the plan of each link where it tells it, and how often a dial failed and held.
+    ghost seen: { Self → WorldSeen };
 
     /// Whether it takes the lines of a plan.
     fn plans(&self) -> bool
-        ensures { result ≡ takes_plan self.now };
+        ensures { result ≡ (seen self.now).takes };
 
     /// Takes a line of its plan.
     fn prepare(&mut self, line: &WorldLine) -> Result<(), NoMemory>
-        requires { takes_plan self.old ≡ true }
-        ensures ok { OnOk result ((n : ℕ) → plan self.new n ≡ planned_on n line.now (plan self.old n)) }
-        ensures ok_writes { OnOk result ((n : ℕ) → write_plan self.new n ≡ written_on n line.now (write_plan self.old n)) }
-        ensures err { OnErr result ((n : ℕ) → plan self.new n ≡ plan self.old n) }
-        ensures err_writes { OnErr result ((n : ℕ) → write_plan self.new n ≡ write_plan self.old n) }
-        ensures takes { takes_plan self.new ≡ takes_plan self.old };
+        requires { (seen self.old).takes ≡ true }
+        ensures ok { OnOk result (SamePlans (plans_on line.now (seen self.old).plans) (seen self.new).plans) }
+        ensures err { OnErr result (SamePlans (seen self.old).plans (seen self.new).plans) }
+        ensures takes { (seen self.new).takes ≡ (seen self.old).takes };
 
-    /// Dials the link of this number. A world that told its plan holds no dial.
+    /// Dials the link of `number`. A world that tells its plan holds no dial.
     fn dial(&mut self, number: u64) -> DialStep<Self::L>
-        ensures items { IfLink result (λ l. (Self.L.looks l).items ≡ plan self.old number) }
-        ensures writes { IfLink result (λ l. (Self.L.looks l).writes ≡ write_plan self.old number) }
+        ensures items { IfLink result (λ l. (Self.L.looks l).items ≡ (seen self.old).plans.reads number) }
+        ensures writes { IfLink result (λ l. (Self.L.looks l).writes ≡ (seen self.old).plans.writes number) }
         ensures got { IfLink result (λ l. IsFresh (Self.L.got l)) }
         ensures counts { IfLink result (λ l. (Self.L.looks l).counts ≡ no_counts) }
-        ensures others { (n : ℕ) → n ≢ number → plan self.new n ≡ plan self.old n }
-        ensures other_writes { (n : ℕ) → n ≢ number → write_plan self.new n ≡ write_plan self.old n }
-        ensures takes { takes_plan self.new ≡ takes_plan self.old }
-        ensures fault { OnFailed result (Rose (faults self.old) (faults self.new)) }
-        ensures told_hold { OnHeld result (plan self.old number ≡ None) }
-        ensures hold { OnHeld result (Rose (holds self.old) (holds self.new)) };
+        ensures others { SameBut number (seen self.old).plans (seen self.new).plans }
+        ensures takes { (seen self.new).takes ≡ (seen self.old).takes }
+        ensures fault { OnFailed result (Rose (seen self.old).faults (seen self.new).faults) }
+        ensures told_hold { OnHeld result ((seen self.old).plans.reads number ≡ None) }
+        ensures hold { OnHeld result (Rose (seen self.old).holds (seen self.new).holds) };
 
-    /// The moment, in milliseconds.
+    /// The time, in milliseconds.
     fn now(&mut self) -> u64
-        ensures plan { (n : ℕ) → plan self.new n ≡ plan self.old n }
-        ensures write_plan { (n : ℕ) → write_plan self.new n ≡ write_plan self.old n }
-        ensures takes { takes_plan self.new ≡ takes_plan self.old };
+        ensures plans { SamePlans (seen self.old).plans (seen self.new).plans }
+        ensures takes { (seen self.new).takes ≡ (seen self.old).takes };
 
     /// The next random word.
     fn random(&mut self) -> u64
-        ensures plan { (n : ℕ) → plan self.new n ≡ plan self.old n }
-        ensures write_plan { (n : ℕ) → write_plan self.new n ≡ write_plan self.old n }
-        ensures takes { takes_plan self.new ≡ takes_plan self.old };
+        ensures plans { SamePlans (seen self.old).plans (seen self.new).plans }
+        ensures takes { (seen self.new).takes ≡ (seen self.old).takes };
 }

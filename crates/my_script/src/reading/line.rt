@@ -6,9 +6,9 @@ use super::cut::cut;
 use super::keyword::{Keyword, known_keyword};
 use super::number::{bytes, number, number_to};
 use crate::Step;
-use my_frame::Blob;
+use my_frame::{Blob, NoMemory};
 use my_world::WorldLine;
-use std::alloc::{AllocError, Global};
+use std::alloc::Global;
 
 /// The largest number of a link in a world's lines.
 pub const LAST_LINK: u64 = 65535;
@@ -141,7 +141,7 @@ fn planned_bytes(link: u64, bytes: Option<Blob>) -> Item
     }
 }
 
-fn packet_line(alloc: Global, keyword: Keyword, rest: &[u8]) -> Result<Item, AllocError>
+fn packet_line(alloc: Global, keyword: Keyword, rest: &[u8]) -> Result<Item, NoMemory>
     ensures { IfOk result (λ item. item ≡ packet_item keyword (packet_parts rest.now)) }
 {
     match packet(rest) {
@@ -153,7 +153,7 @@ fn packet_line(alloc: Global, keyword: Keyword, rest: &[u8]) -> Result<Item, All
     }
 }
 
-fn bytes_line(alloc: Global, rest: &[u8]) -> Result<Item, AllocError>
+fn bytes_line(alloc: Global, rest: &[u8]) -> Result<Item, NoMemory>
     ensures { IfOk result (λ item. item ≡ bytes_item (link_parts rest.now)) }
 {
     match link_and_digits(rest) {
@@ -174,7 +174,7 @@ fn accept_line(rest: &[u8]) -> Item
     }
 }
 
-fn query_line(alloc: Global, rest: &[u8]) -> Result<Item, AllocError>
+fn query_line(alloc: Global, rest: &[u8]) -> Result<Item, NoMemory>
     ensures { IfOk result (λ item. item ≡ query_item (query_parts rest.now)) }
 {
     match connection_and_text(rest) {
@@ -234,7 +234,7 @@ fn bare(keyword: Keyword) -> Item
     }
 }
 
-fn with_arguments(alloc: Global, keyword: Keyword, rest: &[u8]) -> Result<Item, AllocError>
+fn with_arguments(alloc: Global, keyword: Keyword, rest: &[u8]) -> Result<Item, NoMemory>
     ensures { IfOk result (λ item. item ≡ item_with keyword rest.now) }
 {
     match keyword {
@@ -261,7 +261,7 @@ fn with_arguments(alloc: Global, keyword: Keyword, rest: &[u8]) -> Result<Item, 
 }
 
 /// Reads a line, which has no line end.
-pub fn read_line(alloc: Global, line: &[u8]) -> Result<Item, AllocError>
+pub fn read_line(alloc: Global, line: &[u8]) -> Result<Item, NoMemory>
     ensures { IfOk result (λ item. item ≡ line_of line.now) }
 {
     if line.is_empty() || line[0] == b'#' {

@@ -65,14 +65,23 @@ fn admitted_by_step(sofar: Sofar, step: &Step) -> Option<Sofar>
     }
 }
 
+// The beginning of a line that a message shows.
+fn shown(line: &[u8]) -> &[u8]
+    ensures { result.now ≡ take 200 line.now }
+{
+    if line.len() > LONGEST_SHOWN {
+        return &line[..LONGEST_SHOWN];
+    }
+    line
+}
+
 fn bad_line(alloc: Global, number: u64, line: &[u8]) -> Result<BadLine, NoMemory>
     ensures number { IfOk result (λ bad. bad.number ≡ number) }
     ensures text { IfOk result (λ bad. bad.text ≡ take 200 line.now) }
 {
-    let shown = line.len().min(LONGEST_SHOWN);
     Ok(BadLine {
         number,
-        text: Blob::from_slice(alloc, &line[..shown])?,
+        text: Blob::from_slice(alloc, shown(line))?,
     })
 }
 

@@ -46,7 +46,7 @@ fn push_state(alloc: Global, out: &mut Vec<u8>, ok: &OkPacket) -> Result<(), All
     ensures { OnOk result (out.new.items ≡ out.old.items ++ state_text ok.now) }
 {
     push_named(alloc, out, b" warnings=", ok.warnings as u64)?;
-    push_named(alloc, out, b" status=", ok.status as u64)
+    push_named(alloc, out, b" status=", ok.status.0 as u64)
 }
 
 #[tactic(auto, unfolding(crate::specs::OkText::info_text))]

@@ -1,14 +1,14 @@
-use Rattle.std.proofs.Common.{rules, ◌∙◌}
-use Rattle.my_run.specs.Login.{login_of}
-use Rattle.my_run.proofs.Connecting.{linked, dial_held, dial_failed}
+use Rattle.std.proofs.Common.{◌∙◌, rules}
 use Rattle.std.proofs.lemmas.Result.{IfOk-weaker}
+use Rattle.my_client.specs.Login.{login_of}
+use Rattle.my_run.proofs.Connecting.{linked, dial_held, dial_failed}
 use Rattle.my_run.proofs.connect.dial_at.Goals as goal
 
 pub returns-in-Link-clause-dialed : goal.returns-in-Link-clause-dialed
-returns-in-Link-clause-dialed g c = IfOk-weaker c.first_call.result _ _ (λ d f. linked g.N.L.Link.looks (login_of c.args.opts.now) c.args.number c.in-Link.link (g.N.World.plan c.args.world.now c.args.number) (g.N.World.write_plan c.args.world.now c.args.number) d.slot d.did.outcome d.did.uses.items f.0 c.in-Link.ensures.items c.in-Link.ensures.writes f.1 f.2) c.first_call.ensures
+returns-in-Link-clause-dialed g c = IfOk-weaker c.first_call.result _ _ (λ d f. linked g.N.L.Link.looks (login_of c.args.opts.now) c.args.number c.in-Link.link (g.N.World.seen c.args.world.now).plans d.0 d.1.outcome d.1.uses.items f.0 c.in-Link.ensures.items c.in-Link.ensures.writes f.1 f.2) c.first_call.ensures
 
 pub returns-in_ok-did-in-NotYet-clause-dialed : goal.returns-in_ok-did-in-NotYet-clause-dialed
-returns-in_ok-did-in-NotYet-clause-dialed g c = dial_held g.N.L.Link.looks (login_of c.args.opts.now) c.args.number (g.N.World.plan c.args.world.now c.args.number) (g.N.World.write_plan c.args.world.now c.args.number) c.in_ok-did-in-NotYet.did.outcome c.in_ok-did-in-NotYet.did.uses.items (search rules) c.in_ok-did-in-NotYet.ensures.outcome (c.in_ok-did-in-NotYet.ensures.uses ∙ search rules)
+returns-in_ok-did-in-NotYet-clause-dialed g c = dial_held g.N.L.Link.looks (login_of c.args.opts.now) c.args.number (g.N.World.seen c.args.world.now).plans c.in_ok-did-in-NotYet.did.outcome c.in_ok-did-in-NotYet.did.uses.items (search rules) c.in_ok-did-in-NotYet.ensures.outcome (c.in_ok-did-in-NotYet.ensures.uses ∙ search rules)
 
 pub returns-in_ok-did-in-Failed-clause-dialed : goal.returns-in_ok-did-in-Failed-clause-dialed
-returns-in_ok-did-in-Failed-clause-dialed g c = dial_failed g.N.L.Link.looks (login_of c.args.opts.now) c.args.number (g.N.World.plan c.args.world.now c.args.number) (g.N.World.write_plan c.args.world.now c.args.number) c.in_ok-did-in-Failed.did.outcome c.in_ok-did-in-Failed.did.uses.items (c.in_ok-did-in-Failed.ensures.outcome ∙ search rules) (c.in_ok-did-in-Failed.ensures.uses ∙ search rules)
+returns-in_ok-did-in-Failed-clause-dialed g c = dial_failed g.N.L.Link.looks (login_of c.args.opts.now) c.args.number (g.N.World.seen c.args.world.now).plans c.in_ok-did-in-Failed.did.outcome c.in_ok-did-in-Failed.did.uses.items (c.in_ok-did-in-Failed.ensures.outcome ∙ search rules) (c.in_ok-did-in-Failed.ensures.uses ∙ search rules)

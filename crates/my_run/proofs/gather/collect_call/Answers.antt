@@ -24,7 +24,7 @@ returns-in-Err g c =
 pub returns-then-is_open : goal.returns-then-is_open
 returns-then-is_open g c =
     let opened : is_open c.args.conn.now.session.seen.task ≡ true = search rules in
-    λ login w. collect_refused g.L.Link.looks login c.args.number c.args.conn.now c.refused.result.outcome c.refused.result.uses.items opened c.refused.ensures.outcome c.refused.ensures.uses w
+    λ login w. collect_refused g.L.Link.looks login c.args.number c.args.conn.now c.unused.result.outcome c.unused.result.uses.items opened c.unused.ensures.outcome c.unused.ensures.uses w
 
 pub begin-requires-clause-order : goal.begin-requires-clause-order
 begin-requires-clause-order g c =

@@ -2,10 +2,10 @@ use Rattle.std.proofs.Common.{◌≡◌, ◌-◌, ◌^◌, length, true}
 use Rattle.my_grammar.specs.declared.login.Login.{Login}
 use Rattle.my_session.specs.Calls.{is_open}
 use Rattle.my_run.specs.Gathering.{GatherSoFar}
-use Rattle.my_run.specs.Kept.{Asked}
-use Rattle.my_run.specs.Ready.{AskedReady}
-use Rattle.my_run.specs.Rests.{IsAsked}
-use Rattle.my_run.specs.Slot.{kept_of}
+use Rattle.my_client.specs.Kept.{Asked}
+use Rattle.my_client.specs.Ready.{AskedReady}
+use Rattle.my_client.specs.Rests.{IsAsked}
+use Rattle.my_client.specs.Conn.{kept_of}
 use Rattle.my_run.proofs.gather.gather.Given as goal
 
 abbrev pub invariant-rows : goal.invariant-rows

@@ -1,14 +1,14 @@
-use Rattle.std.proofs.Common.{ap, ◌∙◌}
-use Rattle.my_world.specs.Looks.{Looks}
-use Rattle.my_run.specs.Slot.{kept_of}
-use Rattle.my_run.proofs.Connecting.{joins}
+use Rattle.my_client.specs.Conn.{kept_of}
+use Rattle.my_link.specs.Looks.{Looks}
+use Rattle.my_run.specs.Sums.{use_of}
+use Rattle.my_run.proofs.Connecting.{joins_so}
 use Rattle.my_run.proofs.resume.resume_connect.Goals as goal
 
 pub returns : goal.returns
 returns g c =
     let x : Looks = g.L.Link.looks c.args.conn.link in
     λ login a w. (
-      c.in_ok-driven.driven.polled.used,
-      ap (λ us. us.items) c.settle.ensures.uses ∙ c.in_ok-uses.ensures,
-      joins g.L.Link.looks login c.args.number a (kept_of c.args.conn) x c.drive.new.conn c.in_ok-driven.driven.polled c.settle.result.slot c.settle.result.did.outcome (c.in_ok-driven.ensures.drives login a w) c.settle.ensures.settles,
+      use_of c.args.number c.in_ok-after.met,
+      c.in_ok-did.ensures.uses,
+      joins_so g.L.Link.looks login c.args.number a (kept_of c.args.conn) x c.drive.new.conn c.in_ok-after.met c.in_ok-after.after c.settle-slot.result.0 c.settle-slot.result.1 c.in_ok-did.did.outcome (c.in_ok-after.ensures.drives login a w) c.settle-slot.ensures c.in_ok-did.ensures.outcome,
     )

@@ -1,13 +1,13 @@
-use Rattle.my_run.proofs.Joining.{grown_joined}
-use Rattle.my_run.specs.Keeps.{Plans}
-use Rattle.my_run.specs.Ready.{AllJoined}
-use Rattle.std.proofs.Common.{◌≡◌, ◌≤◌, ◌+◌, ◌++◌, ◌∷◌, [], List, length, get_or, take, rules, arith, ap, refl, sym, ◌∙◌, subst}
+use Rattle.std.proofs.Common.{◌≡◌, ◌≤◌, ◌+◌, ◌++◌, ◌∷◌, [], List, length, get_or, take, rules, ap, refl, sym, ◌∙◌, subst}
 use Rattle.std.proofs.lemmas.List.{take_all, take_more}
+use Rattle.my_client.specs.Login.{login_of}
 use Rattle.my_script.specs.declared.step.Step.{Step}
 use Rattle.my_script.specs.declared.transcript.StepAnswer.{StepAnswer}
+use Rattle.my_world.specs.World.{Plans}
 use Rattle.my_run.specs.Headline.{SoFar}
-use Rattle.my_run.specs.Login.{login_of}
-use Rattle.my_run.proofs.Runs.{none_yet, step_on, count_up}
+use Rattle.my_run.specs.Ready.{AllJoined}
+use Rattle.my_run.proofs.Joining.{grown_joined}
+use Rattle.my_run.proofs.Runs.{none_yet, step_on, count_up, same_through, same_between}
 use Rattle.my_run.proofs.run.run_each.Goals as goal
 
 pub loop-i-preserved : goal.loop-i-preserved
@@ -18,25 +18,25 @@ loop-i-preserved g c =
     let next : take (c.loop-i.i + 1) c.args.steps.now ≡ take c.loop-i.i c.args.steps.now ++ c.index-steps-i.result ∷ [] = take_more c.args.steps.now c.loop-i.i c.index-steps-i.result c.loop-i-test.true ∙ ap (λ (s : Step). take c.loop-i.i c.args.steps.now ++ s ∷ []) (sym this) in
     let did = c.in_ok-did.ensures in
     let so = c.loop-i.invariant in
+    let told : Plans = (g.N.World.seen c.args.world.now).plans in
+    let now : Plans = (g.N.World.seen c.loop-i.world).plans in
     record {
-      so_far = λ plans er ew.
-          let u = so.so_far plans er ew in
-          step_on g.N.L.Link.looks (login_of c.args.opts.now) plans (take c.loop-i.i c.args.steps.now) _ c.loop-i.slots.items c.run_step.new.slots.items c.loop-i.answers.items c.push.new.self.items c.index-steps-i.result a u (did.steps plans (λ m h. er m ∙ sym (so.reads m h)) (λ m h. ew m ∙ sym (so.writes m h)) u.stood) (count_up c.loop-i.i c.args.steps.now c.loop-i-test.true) grown next;
-      reads = λ m h. did.reads m h ∙ so.reads m (omega (arith, h, did.longer));
-      writes = λ m h. did.writes m h ∙ so.writes m (omega (arith, h, did.longer));
+      so_far = λ plans same.
+          let u = so.so_far plans same in
+          step_on g.N.L.Link.looks (login_of c.args.opts.now) plans (take c.loop-i.i c.args.steps.now) _ c.loop-i.slots.items c.run_step.new.slots.items c.loop-i.answers.items c.push.new.self.items c.index-steps-i.result a u (did.steps plans (same_between told now plans (length c.loop-i.slots.items) same so.others) u.stood) (count_up c.loop-i.i c.args.steps.now c.loop-i-test.true) grown next;
+      others = same_through told now (g.N.World.seen c.run_step.new.world).plans (length c.loop-i.slots.items) (length c.run_step.new.slots.items) did.longer so.others did.others;
     }
 
 pub returns : goal.returns
 returns g c =
     let past : length c.args.steps.now ≤ c.loop-i.i = search rules in
     let whole : take c.loop-i.i c.args.steps.now ≡ c.args.steps.now = take_all c.loop-i.i c.args.steps.now past in
-    λ plans er ew. subst (λ (xs : List Step). SoFar g.N.L.Link.looks (login_of c.args.opts.now) plans xs c.loop-i.slots.items c.loop-i.answers.items) whole (c.loop-i.invariant.so_far plans er ew)
+    λ plans same. subst (λ (xs : List Step). SoFar g.N.L.Link.looks (login_of c.args.opts.now) plans xs c.loop-i.slots.items c.loop-i.answers.items) whole (c.loop-i.invariant.so_far plans same)
 
 pub loop-i-init : goal.loop-i-init
-loop-i-init g c = record { so_far = λ plans er ew. none_yet g.N.L.Link.looks (login_of c.args.opts.now) plans [] c.args.slots.now.items c.args.answers.now.items refl c.requires.no_slots c.requires.no_answers; reads = λ m h. refl; writes = λ m h. refl }
+loop-i-init g c = record { so_far = λ plans same. none_yet g.N.L.Link.looks (login_of c.args.opts.now) plans [] c.args.slots.now.items c.args.answers.now.items refl c.requires.no_slots c.requires.no_answers; others = λ m h. record { reads = refl; writes = refl } }
 
 pub run_step-requires : goal.run_step-requires
 run_step-requires g c =
-    let plans : Plans = record { reads = g.N.World.plan c.args.world.now; writes = g.N.World.write_plan c.args.world.now } in
-    let u = c.loop-i.invariant.so_far plans (λ n. refl) (λ n. refl) in
+    let u = c.loop-i.invariant.so_far (g.N.World.seen c.args.world.now).plans (λ n. record { reads = refl; writes = refl }) in
     (login_of c.args.opts.now, u.stood, subst AllJoined (sym u.handles_are) (grown_joined (login_of c.args.opts.now) u.lines u.grown))

@@ -1,5 +1,5 @@
 use Rattle.std.proofs.Common.{◌≡◌, ◌++◌, map, reverse, vec_len}
-use Rattle.my_run.specs.Slot.{asked_in}
+use Rattle.my_client.specs.Conn.{asked_in}
 use Rattle.my_run.specs.Tapes.{tape_call, open_call}
 use Rattle.my_run.proofs.tape.tape_calls.Given as goal
 

@@ -1,0 +1,138 @@
+-- How a call begins on a connection.
+use Rattle.std.proofs.Common.{ℕ, ◌≡◌, List, [], ◌∷◌, length, ◌||◌, Bool, true, false, cond, Option, Some, None, refl, sym, ap, ◌∙◌, subst}
+use Rattle.my_grammar.specs.declared.login.Login.{Login}
+use Rattle.my_value.specs.RowParts.{RowParts}
+use Rattle.my_session.specs.declared.call.Call.{Call}
+use Rattle.my_session.specs.declared.call.Call.TheVariants as calls
+use Rattle.my_session.specs.declared.call.CallKind.{CallKind}
+use Rattle.my_session.specs.declared.call.CallKind.TheVariants.{Connect, Query, NextRow, DropResult, Ping, Quit}
+use Rattle.my_session.specs.declared.call.Task.{Task}
+use Rattle.my_session.specs.declared.call.Task.TheVariants.{Nothing, Begun, Cleaning, Own, Arranging, Reading, Dropping, Leaving, Failing}
+use Rattle.my_session.specs.Calls.{kind_of, kind_in, call_of, fault_in, is_open}
+use Rattle.my_session.specs.Errors.{connection_closed}
+use Rattle.my_session.specs.History.{History, Made, Told, ToldReady, ToldRow, ToldEnd, ToldNone, ToldError, Dropped, beginning, began, answered, closes, has_closed}
+use Rattle.my_session.specs.Seen.{Seen}
+use Rattle.my_session.specs.Stands.{Stands, call_with}
+use Rattle.my_session.specs.Steps.{begun, fresh}
+use Rattle.my_client.specs.declared.tape.Said.TheVariants as says
+use Rattle.my_client.specs.Kept.{asked_by, first_asked, first_kept, nothing_kept, Asked, Kept, IsHeard, made_of, is_note, answers_in, call_in, asking, ended_by}
+use Rattle.my_client.specs.declared.conn.Conn.{Conn}
+use Rattle.my_client.specs.Conn.{kept_of}
+use Rattle.my_client.specs.Rests.{Rests, IsAsked}
+use Rattle.my_client.proofs.Hearing.{answer_counts, ended_of}
+
+-- notes close nothing
+note_keeps : (c : CallKind) (t : Told) → is_note c t ≡ true → closes t c ≡ false
+note_keeps Connect t n = cc
+note_keeps Query t n = cc
+note_keeps NextRow t n = cc
+note_keeps DropResult ToldReady n = cc
+note_keeps DropResult (ToldRow row) n = refl
+note_keeps DropResult ToldEnd n = refl
+note_keeps DropResult ToldNone n = cc
+note_keeps DropResult (ToldError e) n = cc
+note_keeps DropResult (Dropped closing) n = cc
+note_keeps Ping t n = cc
+note_keeps Quit t n = cc
+
+closed_if : (m : Made) (ms : List Made) (b : Bool) → is_note (kind_of m.call) m.what ≡ b → has_closed ms ≡ has_closed (answers_in ms) → has_closed (m ∷ ms) ≡ has_closed (cond b (answers_in ms) (m ∷ answers_in ms))
+closed_if m ms true n e = ap (λ (b : Bool). b || has_closed ms) (note_keeps (kind_of m.call) m.what n) ∙ e
+closed_if m ms false n e = ap (λ (b : Bool). closes m.what (kind_of m.call) || b) e
+
+closed_answers : (ms : List Made) → has_closed ms ≡ has_closed (answers_in ms)
+closed_answers [] = refl
+closed_answers (m ∷ ms) = closed_if m ms (is_note (kind_of m.call) m.what) refl (closed_answers ms)
+
+or_none : (b c : Bool) → c ≡ false → b || c ≡ b
+or_none true c e = refl
+or_none false c e = e
+
+-- whether the session is closed stands in the calls that were kept
+pub closed_kept : (login : Login) (s : Seen) (k : Kept) → IsHeard login s k → s.closed ≡ has_closed (made_of k.calls)
+closed_kept login s k w = w.stands.heard.closed_is ∙ or_none (has_closed w.history.calls) w.history.lost w.kept.lost_is ∙ closed_answers w.history.calls ∙ ap has_closed w.kept.calls_are
+
+-- where the session has an open call, the connection keeps one, and where it has none, none
+open_call : (t : Task) (text : List ℕ) (p : Option Call) (q : Option Asked) → is_open t ≡ true → p ≡ call_with (kind_in t) text → p ≡ call_in q → (a : Asked) × (q ≡ Some a)
+open_call t text p (Some a) o e f = (a, refl)
+open_call Nothing text p None o e f = cc
+open_call (Begun c) text p None o e f = let no : Some (call_of c text) ≡ None = sym e ∙ f in cc
+open_call (Cleaning c) text p None o e f = let no : Some (call_of c text) ≡ None = sym e ∙ f in cc
+open_call (Own c) text p None o e f = let no : Some (call_of c text) ≡ None = sym e ∙ f in cc
+open_call (Arranging n) text p None o e f = let no : Some (call_of Connect text) ≡ None = sym e ∙ f in cc
+open_call Reading text p None o e f = let no : Some (call_of NextRow text) ≡ None = sym e ∙ f in cc
+open_call Dropping text p None o e f = let no : Some (call_of DropResult text) ≡ None = sym e ∙ f in cc
+open_call Leaving text p None o e f = let no : Some (call_of Quit text) ≡ None = sym e ∙ f in cc
+open_call (Failing c fault) text p None o e f = let no : Some (call_of c text) ≡ None = sym e ∙ f in cc
+
+pub is_asked : (login : Login) (s : Seen) (k : Kept) → is_open s.task ≡ true → IsHeard login s k → (a : Asked) × (k.pending ≡ Some a)
+is_asked login s k o w = open_call s.task s.text w.history.pending k.pending o w.stands.heard.pending_is w.kept.pending_is
+
+no_call : (t : Task) (text : List ℕ) (p : Option Call) (q : Option Asked) → is_open t ≡ false → p ≡ call_with (kind_in t) text → p ≡ call_in q → q ≡ None
+no_call t text p None o e f = refl
+no_call Nothing text p (Some a) o e f = let no : None ≡ Some a.call = sym e ∙ f in cc
+no_call (Begun c) text p (Some a) o e f = cc
+no_call (Cleaning c) text p (Some a) o e f = cc
+no_call (Own c) text p (Some a) o e f = cc
+no_call (Arranging n) text p (Some a) o e f = cc
+no_call Reading text p (Some a) o e f = cc
+no_call Dropping text p (Some a) o e f = cc
+no_call Leaving text p (Some a) o e f = cc
+no_call (Failing c fault) text p (Some a) o e f = cc
+
+pub is_idle : (login : Login) (s : Seen) (k : Kept) → is_open s.task ≡ false → IsHeard login s k → k.pending ≡ None
+is_idle login s k o w = no_call s.task s.text w.history.pending k.pending o w.stands.heard.pending_is w.kept.pending_is
+
+-- the call begins
+begun_fault : (b : Bool) (c : CallKind) → fault_in (cond b Leaving (Begun c)) ≡ None
+begun_fault true c = refl
+begun_fault false c = refl
+
+pub begins : (login : Login) (s t : Seen) (k : Kept) (call : Call) (rows : Option (List RowParts)) → t ≡ begun s call → ((h : History) → Stands s h → Stands t (began h call)) → Rests login s k → IsAsked login t (asking k call rows) (record { call = call; sent_from = length k.sent; rows = rows })
+begins login s t k call rows e st w = record {
+  rests = record {
+    heard = record {
+      history = began w.heard.history call;
+      stands = st w.heard.history w.heard.stands;
+      login_is = ap (λ (s : Seen). s.login) e ∙ w.heard.login_is;
+      kept = record { sent_is = w.heard.kept.sent_is; taken_is = w.heard.kept.taken_is; calls_are = w.heard.kept.calls_are; pending_is = refl; lost_is = w.heard.kept.lost_is };
+    };
+    sound = ap (λ (s : Seen). fault_in s.task) e ∙ begun_fault s.closed (kind_of call);
+    alive = λ c. ap (λ (s : Seen). s.ended) e ∙ w.alive (sym (ap (λ (s : Seen). s.closed) e) ∙ c);
+  };
+  asked = refl;
+}
+
+-- the closed session refuses it
+pub refuses : (login : Login) (s t : Seen) (k : Kept) (call : Call) → t ≡ s → ((h : History) → Stands s h → Stands t (answered (began h call) (ToldError connection_closed))) → Rests login s k → Rests login t (ended_by (asking k call None) (asked_by k call) (says.Failed connection_closed))
+refuses login s t k call e st w = record {
+  heard = record {
+    history = answered (began w.heard.history call) (ToldError connection_closed);
+    stands = st w.heard.history w.heard.stands;
+    login_is = ap (λ (s : Seen). s.login) e ∙ w.heard.login_is;
+    kept = ended_of (asking k call None) (asked_by k call) (began w.heard.history call) (says.Failed connection_closed) refl (answer_counts (kind_of call) (ToldError connection_closed) refl)
+        (record { sent_is = w.heard.kept.sent_is; taken_is = w.heard.kept.taken_is; calls_are = w.heard.kept.calls_are; pending_is = refl; lost_is = w.heard.kept.lost_is });
+  };
+  sound = ap (λ (s : Seen). fault_in s.task) e ∙ w.sound;
+  alive = λ c. ap (λ (s : Seen). s.ended) e ∙ w.alive (sym (ap (λ (s : Seen). s.closed) e) ∙ c);
+}
+
+-- a new session stands for nothing
+pub fresh_rests : (login : Login) (s : Seen) → s ≡ fresh login → Stands s beginning → Rests login s nothing_kept
+fresh_rests login s e st = record {
+  heard = record {
+    history = beginning;
+    stands = st;
+    login_is = ap (λ (s : Seen). s.login) e;
+    kept = record { sent_is = refl; taken_is = refl; calls_are = refl; pending_is = refl; lost_is = refl };
+  };
+  sound = ap (λ (s : Seen). fault_in s.task) e;
+  alive = λ c. ap (λ (s : Seen). s.ended) e;
+}
+
+-- the handshake of a new connection begins
+pub first_begins : {L : Type 0} (login : Login) (c b : Conn L) (t : Seen) → c.session.seen ≡ fresh login → Stands c.session.seen beginning → kept_of c ≡ nothing_kept → kept_of b ≡ asking (kept_of c) calls.Connect None → b.session ≡ c.session → t ≡ begun b.session.seen calls.Connect → ((h : History) → Stands b.session.seen h → Stands t (began h calls.Connect)) → IsAsked login t (kept_of b) first_asked
+first_begins login c b t seen st kept bkept bsession is begun_st =
+    let here : kept_of b ≡ first_kept = bkept ∙ ap (λ (k : Kept). asking k calls.Connect None) kept in
+    let same : b.session.seen ≡ c.session.seen = ap (λ s. s.seen) bsession in
+    let rests : Rests login b.session.seen nothing_kept = fresh_rests login b.session.seen (same ∙ seen) (subst (λ (s : Seen). Stands s beginning) (sym same) st) in
+    subst (λ (k : Kept). IsAsked login t k first_asked) (sym here) (begins login b.session.seen t nothing_kept calls.Connect None is begun_st rests)

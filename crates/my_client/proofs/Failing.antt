@@ -1,0 +1,162 @@
+-- Why the open call failed: by its own, by the link's fault, or by the link's end.
+use Rattle.std.proofs.Common.{ℕ, ◌≡◌, ◌≢◌, suc, zero, List, [], Bool, true, false, Option, Some, None, Result, Ok, Err, IfOk, inl, inr, refl, sym, ap, ◌∙◌, subst, arith}
+use Rattle.my_grammar.specs.declared.login.Login.{Login}
+use Rattle.my_session.specs.declared.answer.SessionStep.TheVariants as steps
+use Rattle.my_session.specs.declared.call.LinkFault.{LinkFault}
+use Rattle.my_session.specs.declared.call.LinkFault.TheVariants as faults
+use Rattle.my_session.specs.declared.call.Task.{Task}
+use Rattle.my_session.specs.declared.call.Task.TheVariants.{Nothing, Begun, Cleaning, Own, Arranging, Reading, Dropping, Leaving, Failing}
+use Rattle.my_session.specs.declared.answer.Tick.TheVariants as ticks
+use Rattle.my_session.specs.declared.error.IoError.{IoError}
+use Rattle.my_session.specs.declared.error.IoError.TheVariants as ios
+use Rattle.my_session.specs.declared.error.IoKind.{IoKind}
+use Rattle.my_session.specs.declared.error.IoKind.TheVariants as kinds
+use Rattle.my_session.specs.declared.error.Error.{Error}
+use Rattle.my_session.specs.declared.error.Error.TheVariants as errors
+use Rattle.my_session.specs.Calls.{fault_in, is_open}
+use Rattle.my_session.specs.Errors.{unexpected_eof}
+use Rattle.my_session.specs.Fits.{FaultFits, OwnKind, OwnIo, OwnError, IsLinkError}
+use Rattle.my_session.specs.Machine.{Tells, Does, FaultIs, next, next_by, when_owed, planned}
+use Rattle.my_session.specs.Tables.{plan_of}
+use Rattle.my_session.specs.History.{History, ToldReady, ToldError, ending}
+use Rattle.my_session.specs.Seen.{Seen}
+use Rattle.my_session.specs.Stands.{Stands, is_alive, owes}
+use Rattle.my_session.specs.Steps.{Steps, AllGo, goes_on, moved, with_end, with_failing, failing}
+use Rattle.my_session.proofs.Ends.{first_goes}
+use Rattle.my_client.specs.declared.tape.DoneCall.{DoneCall}
+use Rattle.my_client.specs.Causes.{KindBy, IoBy, ErrorBy}
+use Rattle.my_client.specs.Kept.{Asked, Kept, IsHeard}
+use Rattle.my_client.specs.Rests.{IsAsked, IsHeld, FailsNow, HasFailed, AwaitsBytes}
+use Rattle.my_client.proofs.Hearing.{heard_end, heard_failing}
+use Rattle.my_client.proofs.Stepping.{StepStands, fails_now, nothing_faults}
+
+-- a quit of a closed session doesn't fail
+leaving_told : (s : Seen) → s.task ≡ Leaving → s.owed ≡ [] → (next s).does ≡ Tells ToldReady
+leaving_told s e o = ap (λ t. (next_by (fault_in t) s).does) e ∙ ap (λ bytes. (when_owed bytes s).does) o ∙ ap (λ t. (planned s (plan_of t s.context.spot s.untold)).does) e
+
+leaving_now : (s t : Seen) (e : Error) → (next s).does ≡ Tells ToldReady → FaultIs (next s) s t e → e ≡ errors.NoMemory
+leaving_now s t (errors.Driver e) r d = let no : Tells ToldReady ≡ Tells (ToldError (errors.Driver e)) = sym r ∙ d.does in cc
+leaving_now s t (errors.Io e) r d = let no : Tells ToldReady ≡ Tells (ToldError (errors.Io e)) = sym r ∙ d.does in cc
+leaving_now s t (errors.Server e) r d = let no : Tells ToldReady ≡ Tells (ToldError (errors.Server e)) = sym r ∙ d.does in cc
+leaving_now s t errors.NoMemory r d = refl
+
+leaving_from : (s t : Seen) (e : Error) (n : ℕ) → (next s).does ≡ Tells ToldReady → AllGo n s → Does (next (moved n s)) (moved n s) t (ticks.Fault e) → e ≡ errors.NoMemory
+leaving_from s t e zero r g d = leaving_now s t e r d
+leaving_from s t e (suc n) r g d = let no : false ≡ true = sym (ap goes_on r) ∙ first_goes n s g in cc
+
+-- an open call of a session that was told its link's end, and isn't told to fail, is a quit of a closed session
+pub is_leaving : (t : Task) (closed : Bool) → closed ≡ true → is_open t ≡ true → fault_in t ≡ None → (is_alive t ≡ true → closed ≡ false) → t ≡ Leaving
+is_leaving Nothing closed c o f a = cc
+is_leaving (Begun k) closed c o f a = let no : true ≡ false = sym c ∙ a refl in cc
+is_leaving (Cleaning k) closed c o f a = let no : true ≡ false = sym c ∙ a refl in cc
+is_leaving (Own k) closed c o f a = let no : true ≡ false = sym c ∙ a refl in cc
+is_leaving (Arranging n) closed c o f a = let no : true ≡ false = sym c ∙ a refl in cc
+is_leaving Reading closed c o f a = let no : true ≡ false = sym c ∙ a refl in cc
+is_leaving Dropping closed c o f a = let no : true ≡ false = sym c ∙ a refl in cc
+is_leaving Leaving closed c o f a = refl
+is_leaving (Failing k fault) closed c o f a = cc
+
+never_ended : (login : Login) (s t : Seen) (k : Kept) (a : Asked) (e : Error) (closed : Bool) → s.closed ≡ closed → IsAsked login s k a → is_open s.task ≡ true → Steps s t (steps.Fault e) → e ≢ errors.NoMemory → s.ended ≡ true → ⊥
+never_ended login s t k a e false c w op v ne ended = let no : false ≡ true = sym (w.rests.alive c) ∙ ended in cc
+never_ended login s t k a e true c w op v ne ended =
+    let leaving : s.task ≡ Leaving = is_leaving s.task s.closed c op w.rests.sound w.rests.heard.stands.heard.alive in
+    let quiet : s.owed ≡ [] = w.rests.heard.stands.settled (ap owes leaving) in
+    ne (leaving_from s t e v.count (leaving_told s leaving quiet) v.go v.last)
+
+kind_by : (kind : IoKind) (ended : Bool) → (ended ≡ true → ⊥) → OwnKind ended kind → KindBy kind 0 0
+kind_by kinds.Link ended n o = absurd o
+kind_by kinds.Dial ended n o = absurd o
+kind_by kinds.UnexpectedEof ended n o = absurd (n o)
+kind_by kinds.InvalidData ended n o = refl
+
+io_by : (e : IoError) (ended : Bool) → (ended ≡ true → ⊥) → OwnIo ended e → IoBy e 0 0
+io_by (ios.Io fault) ended n o = kind_by fault.kind ended n o
+io_by (ios.Codec fault) ended n o = refl
+
+own_by : (e : Error) (ended : Bool) → e ≢ errors.NoMemory → (ended ≡ true → ⊥) → OwnError ended e → ErrorBy e 0 0
+own_by (errors.Driver e) ended ne n o = absurd o
+own_by (errors.Io e) ended ne n o = io_by e ended n o
+own_by (errors.Server e) ended ne n o = refl
+own_by errors.NoMemory ended ne n o = absurd (ne refl)
+
+-- the step failed the call, and the link had no part in it
+pub faulted : (login : Login) (s t : Seen) (k : Kept) (a : Asked) (e : Error) → e ≢ errors.NoMemory → IsAsked login s k a → is_open s.task ≡ true → Steps s t (steps.Fault e) → t.task ≡ Nothing → StepStands s t (steps.Fault e) → HasFailed login t k a e 0 0
+faulted login s t k a e ne w op v n st =
+    let u = fails_now login s t k a e w.rests.heard w.asked v n st in
+    let own : OwnError s.ended e = subst (λ (f : Option LinkFault). FaultFits f s.ended e) w.rests.sound u.fits in
+    record {
+      rests = record { heard = u.heard; sound = nothing_faults t.task n; alive = λ c. u.ended ∙ w.rests.alive (u.closed c) };
+      why = u.why;
+      by = own_by e s.ended ne (λ ended. never_ended login s t k a e s.closed refl w op v ne ended) own;
+    }
+
+-- the link failed, and the call was told so
+told_to_fail : (t : Task) (fault : LinkFault) → is_open t ≡ true → fault_in (failing t fault) ≡ Some fault
+told_to_fail Nothing fault o = cc
+told_to_fail (Begun c) fault o = refl
+told_to_fail (Cleaning c) fault o = refl
+told_to_fail (Own c) fault o = refl
+told_to_fail (Arranging n) fault o = refl
+told_to_fail Reading fault o = refl
+told_to_fail Dropping fault o = refl
+told_to_fail Leaving fault o = refl
+told_to_fail (Failing c old) fault o = refl
+
+link_by : (e : Error) → e ≢ errors.NoMemory → IsLinkError faults.Link e → ErrorBy e 1 0
+link_by e ne l = elim l.1 as (λ _. ErrorBy e 1 0) [
+  | inl is ↦ subst (λ (x : Error). ErrorBy x 1 0) (sym is) (omega arith)
+  | inr is ↦ absurd (ne is)
+]
+
+pub broke : (login : Login) (s r t : Seen) (k : Kept) (a : Asked) (e : Error) → e ≢ errors.NoMemory → IsHeld login s k a → is_open s.task ≡ true → r ≡ with_failing s faults.Link → FailsNow login r t k a e → HasFailed login t k a e 1 0
+broke login s r t k a e ne w op is u =
+    let fault : fault_in r.task ≡ Some faults.Link = ap (λ (s : Seen). fault_in s.task) is ∙ told_to_fail s.task faults.Link op in
+    let link : IsLinkError faults.Link e = subst (λ (f : Option LinkFault). FaultFits f r.ended e) fault u.fits in
+    record {
+      rests = record {
+        heard = u.heard;
+        sound = nothing_faults t.task u.nothing;
+        alive = λ c. u.ended ∙ ap (λ (s : Seen). s.ended) is ∙ w.asked.rests.alive (sym (ap (λ (s : Seen). s.closed) is) ∙ u.closed c);
+      };
+      why = u.why;
+      by = link_by e ne link;
+    }
+
+-- the link told its end where bytes were awaited
+eof_by : (login : Login) (r t : Seen) (k : Kept) (a : Asked) (e : Error) (place : ℕ) → e ≡ unexpected_eof place → FailsNow login r t k a e → HasFailed login t k a e 0 1
+eof_by login r t k a e place is u =
+    let shut : t.closed ≡ true = u.shut _ is in
+    record {
+      rests = record { heard = u.heard; sound = nothing_faults t.task u.nothing; alive = λ c. let no : true ≡ false = sym shut ∙ c in cc };
+      why = u.why;
+      by = subst (λ (x : Error). ErrorBy x 0 1) (sym is) (refl, omega arith);
+    }
+
+pub ended : (login : Login) (s r t : Seen) (k : Kept) (a : Asked) (e : Error) → e ≢ errors.NoMemory → AwaitsBytes s → r ≡ with_end s → FailsNow login r t k a e → HasFailed login t k a e 0 1
+ended login s r t k a e ne waits is u =
+    elim (waits t e (subst (λ (r : Seen). Steps r t (steps.Fault e)) is u.step)) as (λ _. HasFailed login t k a e 0 1) [
+      | inl eof ↦ eof_by login r t k a e s.facts.place eof u
+      | inr memory ↦ absurd (ne memory)
+    ]
+
+pub fails_ok : {E : Type 0} (r : Result Error E) (error : Error) (s t : Seen) (k : Kept) (p : Option Asked) → IfOk r (λ e. e ≡ error) → ((login : Login) (a : Asked) → IsHeard login s k → p ≡ Some a → FailsNow login s t k a error) → IfOk r (λ e. (login : Login) → (a : Asked) → IsHeard login s k → p ≡ Some a → FailsNow login s t k a e)
+fails_ok (Ok e) error s t k p is f = λ login a w q. subst (λ (x : Error). FailsNow login s t k a x) (sym is) (f login a w q)
+fails_ok (Err e) error s t k p is f = tt
+
+-- a connection that only its link or its session tells apart keeps the same
+same_kept : (k g : Kept) → g.sent ≡ k.sent → g.taken ≡ k.taken → g.calls ≡ k.calls → g.pending ≡ k.pending → g ≡ k
+same_kept k g s t c p = ap (λ (x : List ℕ). record { sent = x; taken = g.taken; calls = g.calls; pending = g.pending }) s ∙ ap (λ (x : List ℕ). record { sent = k.sent; taken = x; calls = g.calls; pending = g.pending }) t ∙ ap (λ (x : List DoneCall). record { sent = k.sent; taken = k.taken; calls = x; pending = g.pending }) c ∙ ap (λ (x : Option Asked). record { sent = k.sent; taken = k.taken; calls = k.calls; pending = x }) p
+
+-- the fault of a link, after which what was kept is the same
+pub broke_so : (login : Login) (s r t : Seen) (k g : Kept) (a : Asked) (e : Error) → e ≢ errors.NoMemory → is_open s.task ≡ true → r ≡ with_failing s faults.Link → ((h : History) → Stands s h → Stands r h) → ((login : Login) (a : Asked) → IsHeard login r k → k.pending ≡ Some a → FailsNow login r t k a e) → g.sent ≡ k.sent → g.taken ≡ k.taken → g.calls ≡ k.calls → g.pending ≡ k.pending → IsHeld login s k a → HasFailed login t g a e 1 0
+broke_so login s r t k g a e ne op is st fails s1 t1 c1 p1 w =
+    subst (λ (x : Kept). HasFailed login t x a e 1 0) (sym (same_kept k g s1 t1 c1 p1))
+    (broke login s r t k a e ne w op is (fails login a (heard_failing login s r k faults.Link is st w.asked.rests.heard) w.asked.asked))
+
+pub ended_so : (login : Login) (s r t : Seen) (k g : Kept) (a : Asked) (e : Error) → e ≢ errors.NoMemory → r ≡ with_end s → ((h : History) → Stands s h → Stands r (ending h)) → ((login : Login) (a : Asked) → IsHeard login r k → k.pending ≡ Some a → FailsNow login r t k a e) → g.sent ≡ k.sent → g.taken ≡ k.taken → g.calls ≡ k.calls → g.pending ≡ k.pending → AwaitsBytes s → IsHeld login s k a → HasFailed login t g a e 0 1
+ended_so login s r t k g a e ne is st fails s1 t1 c1 p1 waits w =
+    subst (λ (x : Kept). HasFailed login t x a e 0 1) (sym (same_kept k g s1 t1 c1 p1))
+    (ended login s r t k a e ne waits is (fails login a (heard_end login s r k is st w.asked.rests.heard) w.asked.asked))
+
+pub faulted_same : (login : Login) (s t : Seen) (k : Kept) (a : Asked) (e x : Error) → x ≡ e → x ≢ errors.NoMemory → IsAsked login s k a → is_open s.task ≡ true → Steps s t (steps.Fault e) → t.task ≡ Nothing → StepStands s t (steps.Fault e) → HasFailed login t k a x 0 0
+faulted_same login s t k a e x is ne w op v n st = subst (λ (y : Error). HasFailed login t k a y 0 0) (sym is) (faulted login s t k a e (λ z. ne (is ∙ z)) w op v n st)

@@ -1,0 +1,127 @@
+-- A connection's session goes on standing for what the connection kept.
+use Rattle.std.proofs.Common.{ℕ, ◌≡◌, List, [], ◌∷◌, ◌++◌, true, false, cond, Option, Some, None, refl, sym, ap, ◌∙◌, subst}
+use Rattle.my_grammar.specs.declared.login.Login.{Login}
+use Rattle.my_session.specs.declared.call.Call.{Call}
+use Rattle.my_session.specs.declared.call.CallKind.{CallKind}
+use Rattle.my_session.specs.declared.call.CallKind.TheVariants.{Connect, Query, NextRow, DropResult, Ping, Quit}
+use Rattle.my_session.specs.declared.call.LinkFault.{LinkFault}
+use Rattle.my_session.specs.Calls.{kind_of, call_of}
+use Rattle.my_session.specs.Fits.{may_be}
+use Rattle.my_session.specs.History.{History, Made, Told, ToldReady, ToldRow, ToldEnd, ToldNone, ToldError, Dropped, answered, noted, passing, gone, took, ending}
+use Rattle.my_session.specs.Passed.{IsItem, ArePassed}
+use Rattle.my_session.specs.Seen.{Seen}
+use Rattle.my_session.specs.Stands.{Stands, call_with}
+use Rattle.my_session.specs.Steps.{with_owed, with_unread, with_end, with_failing}
+use Rattle.my_client.specs.declared.tape.DoneCall.{DoneCall}
+use Rattle.my_client.specs.declared.tape.Said.{Said}
+use Rattle.my_client.specs.Kept.{Asked, Kept, IsOf, IsHeard, told_by, made_of, is_note, answers_in, call_in, ended_by}
+
+-- a call that ended is the newest of the history
+pub made_more : (ds : List DoneCall) (d : DoneCall) → made_of (ds ++ d ∷ []) ≡ record { call = d.call; what = told_by d.said } ∷ made_of ds
+made_more [] d = refl
+made_more (x ∷ ds) d = ap (λ ms. ms ++ record { call = x.call; what = told_by x.said } ∷ []) (made_more ds d)
+
+-- what a dropping passed over is a note
+item_noted : (t : Told) → IsItem t → is_note DropResult t ≡ true
+item_noted ToldReady i = absurd i
+item_noted (ToldRow row) i = refl
+item_noted ToldEnd i = refl
+item_noted ToldNone i = absurd i
+item_noted (ToldError e) i = absurd i
+item_noted (Dropped closing) i = absurd i
+
+-- an answer is no note
+pub answer_counts : (c : CallKind) (t : Told) → may_be c t ≡ true → is_note c t ≡ false
+answer_counts Connect t m = refl
+answer_counts Query t m = refl
+answer_counts NextRow t m = refl
+answer_counts DropResult ToldReady m = refl
+answer_counts DropResult (ToldRow row) m = cc
+answer_counts DropResult ToldEnd m = cc
+answer_counts DropResult ToldNone m = cc
+answer_counts DropResult (ToldError e) m = refl
+answer_counts DropResult (Dropped closing) m = refl
+answer_counts Ping t m = refl
+answer_counts Quit t m = refl
+
+pub pending_passing : (h : History) (ts : List Told) → (passing h ts).pending ≡ h.pending
+pending_passing h [] = refl
+pending_passing h (t ∷ ts) = pending_passing h ts
+
+-- what a call passed over adds nothing to what was kept
+answers_noted : (p : Option Call) (t : Told) (ms : List Made) → p ≡ call_with (Some DropResult) [] → IsItem t → answers_in (noted (record { sent = []; taken = []; calls = ms; pending = p; ended = false; lost = false }) t).calls ≡ answers_in ms
+answers_noted p t ms e i = subst (λ (p : Option Call). answers_in (noted (record { sent = []; taken = []; calls = ms; pending = p; ended = false; lost = false }) t).calls ≡ answers_in ms) (sym e) (ap (λ b. cond b (answers_in ms) (record { call = call_of DropResult []; what = t } ∷ answers_in ms)) (item_noted t i))
+
+pub passing_of : (k : Kept) (h : History) (kind : Option CallKind) (text : List ℕ) (ts : List Told) → h.pending ≡ call_with kind text → ArePassed kind ts → IsOf k h → IsOf k (passing h ts)
+passing_of k h kind text [] p a w = w
+passing_of k h kind text (t ∷ ts) p a w =
+    let u = passing_of k h kind text ts p a.2 w in
+    let dropping : (passing h ts).pending ≡ call_with (Some DropResult) text = pending_passing h ts ∙ p ∙ ap (λ c. call_with c text) a.0 in
+    record {
+      sent_is = u.sent_is;
+      taken_is = u.taken_is;
+      calls_are = answers_noted (passing h ts).pending t (passing h ts).calls dropping a.1 ∙ u.calls_are;
+      pending_is = u.pending_is;
+      lost_is = u.lost_is;
+    }
+
+kind_back : (c : CallKind) (text : List ℕ) → kind_of (call_of c text) ≡ c
+kind_back Connect text = refl
+kind_back Query text = refl
+kind_back NextRow text = refl
+kind_back DropResult text = refl
+kind_back Ping text = refl
+kind_back Quit text = refl
+
+-- the open call's kind is the task's
+pub asked_kind : (call : Call) (kind : Option CallKind) (text : List ℕ) → Some call ≡ call_with kind text → kind ≡ Some (kind_of call)
+asked_kind call None text e = cc
+asked_kind call (Some c) text e = let same : call ≡ call_of c text = cc in sym (ap Some (ap kind_of same ∙ kind_back c text))
+
+-- the open call ends
+pub ended_of : (k : Kept) (a : Asked) (h : History) (said : Said) → k.pending ≡ Some a → is_note (kind_of a.call) (told_by said) ≡ false → IsOf k h → IsOf (ended_by k a said) (answered h (told_by said))
+ended_of k a h said e n w =
+    let open_is : h.pending ≡ Some a.call = w.pending_is ∙ ap call_in e in
+    record {
+      sent_is = w.sent_is;
+      taken_is = w.taken_is;
+      calls_are = answers_more h.pending (told_by said) h.calls a.call open_is n ∙ ap (λ ms. record { call = a.call; what = told_by said } ∷ ms) w.calls_are ∙ sym (made_more k.calls (record { call = a.call; sent_from = a.sent_from; said = said }));
+      pending_is = refl;
+      lost_is = w.lost_is;
+    }
+  where
+    answers_more : (p : Option Call) (t : Told) (ms : List Made) (c : Call) → p ≡ Some c → is_note (kind_of c) t ≡ false → answers_in (answered (record { sent = []; taken = []; calls = ms; pending = p; ended = false; lost = false }) t).calls ≡ record { call = c; what = t } ∷ answers_in ms
+    answers_more p t ms c e n = subst (λ (p : Option Call). answers_in (answered (record { sent = []; taken = []; calls = ms; pending = p; ended = false; lost = false }) t).calls ≡ record { call = c; what = t } ∷ answers_in ms) (sym e) (ap (λ b. cond b (answers_in ms) (record { call = c; what = t } ∷ answers_in ms)) n)
+
+-- the session sent some bytes, took some, was told the link's end, or was told to fail
+pub heard_gone : (login : Login) (s t : Seen) (k : Kept) (owed out : List ℕ) → t ≡ with_owed s owed → ((h : History) → Stands s h → Stands t (gone h out)) → IsHeard login s k → IsHeard login t (record { sent = k.sent ++ out; taken = k.taken; calls = k.calls; pending = k.pending })
+heard_gone login s t k owed out e st w = record {
+  history = gone w.history out;
+  stands = st w.history w.stands;
+  login_is = ap (λ (s : Seen). s.login) e ∙ w.login_is;
+  kept = record { sent_is = ap (λ bytes. bytes ++ out) w.kept.sent_is; taken_is = w.kept.taken_is; calls_are = w.kept.calls_are; pending_is = w.kept.pending_is; lost_is = w.kept.lost_is };
+}
+
+pub heard_took : (login : Login) (s t : Seen) (k : Kept) (unread bytes : List ℕ) → t ≡ with_unread s unread → ((h : History) → Stands s h → Stands t (took h bytes)) → IsHeard login s k → IsHeard login t (record { sent = k.sent; taken = k.taken ++ bytes; calls = k.calls; pending = k.pending })
+heard_took login s t k unread bytes e st w = record {
+  history = took w.history bytes;
+  stands = st w.history w.stands;
+  login_is = ap (λ (s : Seen). s.login) e ∙ w.login_is;
+  kept = record { sent_is = w.kept.sent_is; taken_is = ap (λ bs. bs ++ bytes) w.kept.taken_is; calls_are = w.kept.calls_are; pending_is = w.kept.pending_is; lost_is = w.kept.lost_is };
+}
+
+pub heard_end : (login : Login) (s t : Seen) (k : Kept) → t ≡ with_end s → ((h : History) → Stands s h → Stands t (ending h)) → IsHeard login s k → IsHeard login t k
+heard_end login s t k e st w = record {
+  history = ending w.history;
+  stands = st w.history w.stands;
+  login_is = ap (λ (s : Seen). s.login) e ∙ w.login_is;
+  kept = record { sent_is = w.kept.sent_is; taken_is = w.kept.taken_is; calls_are = w.kept.calls_are; pending_is = w.kept.pending_is; lost_is = w.kept.lost_is };
+}
+
+pub heard_failing : (login : Login) (s t : Seen) (k : Kept) (fault : LinkFault) → t ≡ with_failing s fault → ((h : History) → Stands s h → Stands t h) → IsHeard login s k → IsHeard login t k
+heard_failing login s t k fault e st w = record {
+  history = w.history;
+  stands = st w.history w.stands;
+  login_is = ap (λ (s : Seen). s.login) e ∙ w.login_is;
+  kept = w.kept;
+}

@@ -1,0 +1,61 @@
+-- Where a call may begin.
+use Rattle.std.proofs.Common.{◌≡◌, List, [], ◌∷◌, ◌||◌, Bool, true, false, cond, None, refl, sym, ap, ◌∙◌, subst}
+use Rattle.my_grammar.specs.declared.login.Login.{Login}
+use Rattle.my_session.specs.declared.call.CallKind.{CallKind}
+use Rattle.my_session.specs.declared.call.CallKind.TheVariants.{Connect, Query, NextRow, DropResult, Ping, Quit}
+use Rattle.my_session.specs.declared.call.Task.{Task}
+use Rattle.my_session.specs.declared.call.Task.TheVariants.{Nothing}
+use Rattle.my_session.specs.Calls.{kind_of, is_connect, is_open}
+use Rattle.my_session.specs.Entries.{connects, connecting_in, has_connected}
+use Rattle.my_session.specs.History.{Made, Told, ToldReady, ToldRow, ToldEnd, ToldNone, ToldError, Dropped}
+use Rattle.my_session.specs.Seen.{Seen}
+use Rattle.my_session.specs.Stands.{TaskIs}
+use Rattle.my_session.specs.Steps.{AtBegun, is_settled}
+use Rattle.my_grammar.specs.declared.spot.Spot.{Spot}
+use Rattle.my_client.specs.Kept.{Kept, IsHeard, made_of, is_note, answers_in}
+use Rattle.my_client.specs.Ready.{IsReady, WasJoined}
+use Rattle.my_client.proofs.Beginning.{closed_kept, is_idle}
+
+-- notes connect nothing
+note_joins : (c : CallKind) (t : Told) → is_note c t ≡ true → connects t c ≡ false
+note_joins Connect t n = cc
+note_joins Query t n = cc
+note_joins NextRow t n = cc
+note_joins DropResult ToldReady n = cc
+note_joins DropResult (ToldRow row) n = refl
+note_joins DropResult ToldEnd n = refl
+note_joins DropResult ToldNone n = cc
+note_joins DropResult (ToldError e) n = cc
+note_joins DropResult (Dropped closing) n = cc
+note_joins Ping t n = cc
+note_joins Quit t n = cc
+
+connected_if : (m : Made) (ms : List Made) (b : Bool) → is_note (kind_of m.call) m.what ≡ b → has_connected ms ≡ has_connected (answers_in ms) → has_connected (m ∷ ms) ≡ has_connected (cond b (answers_in ms) (m ∷ answers_in ms))
+connected_if m ms true n e = ap (λ (b : Bool). b || has_connected ms) (note_joins (kind_of m.call) m.what n) ∙ e
+connected_if m ms false n e = ap (λ (b : Bool). connects m.what (kind_of m.call) || b) e
+
+connected_answers : (ms : List Made) → has_connected ms ≡ has_connected (answers_in ms)
+connected_answers [] = refl
+connected_answers (m ∷ ms) = connected_if m ms (is_note (kind_of m.call) m.what) refl (connected_answers ms)
+
+settled_by : (b : Bool) (x y : Bool) → b ≡ true → cond b x y ≡ true → x ≡ true
+settled_by true x y e f = f
+settled_by false x y e f = cc
+
+pub is_ready : (login : Login) (s : Seen) (k : Kept) → IsHeard login s k → (k.pending ≡ None → WasJoined k) → IsReady s
+is_ready login s k heard was idle still =
+    let none : k.pending ≡ None = is_idle login s k (ap is_open idle) heard in
+    let kept : has_connected (made_of k.calls) ≡ true = was none (sym (closed_kept login s k heard) ∙ still) in
+    let made : has_connected heard.history.calls ≡ true = connected_answers heard.history.calls ∙ ap has_connected heard.kept.calls_are ∙ kept in
+    let count = connecting_in (heard.stands.newest ∷ heard.stands.older) in
+    let at : TaskIs Nothing s.context.spot s.closed (has_connected heard.history.calls) count heard.stands.newest = subst (λ (t : Task). TaskIs t s.context.spot s.closed (has_connected heard.history.calls) count heard.stands.newest) idle heard.stands.heard.at in
+    settled_by (has_connected heard.history.calls) (is_settled s.context.spot) _ made (at still)
+
+-- a call other than the handshake begins where the session rests
+pub at_begun : (c : CallKind) (spot : Spot) → is_connect c ≡ false → is_settled spot ≡ true → AtBegun c spot
+at_begun Connect spot e s = cc
+at_begun Query spot e s = s
+at_begun NextRow spot e s = s
+at_begun DropResult spot e s = s
+at_begun Ping spot e s = s
+at_begun Quit spot e s = s

@@ -1,0 +1,25 @@
+-- What clauses see of a connection.
+use Rattle.std.specs.Prelude.{ℕ, List, Option, Some, None, option_map}
+use Rattle.my_link.specs.Looks.{Looks}
+use Rattle.my_session.specs.Seen.{Seen}
+use Rattle.my_client.specs.declared.conn.Conn.{Conn}
+use Rattle.my_client.specs.declared.tape.OpenCall.{OpenCall}
+use Rattle.my_client.specs.Kept.{Asked, Kept}
+
+abbrev pub asked_in : Option OpenCall → Option Asked
+asked_in None = None
+asked_in (Some o) =
+    Some (record { call = o.call; sent_from = o.sent_from; rows = option_map (λ rows. rows.items) o.rows })
+
+abbrev pub kept_of : {L : Type 0} → Conn L → Kept
+kept_of c = record { sent = c.sent.items; taken = c.taken.items; calls = c.calls.items; pending = asked_in c.pending }
+
+-- its session, what its link shows, and the bytes that were sent and taken
+pub record ConnSeen : Type 0 where
+  pub session : Seen
+  pub looks : Looks
+  pub sent : List ℕ
+  pub taken : List ℕ
+
+abbrev pub seen_by : {L : Type 0} → (L → Looks) → Conn L → ConnSeen
+seen_by look c = record { session = c.session.seen; looks = look c.link; sent = c.sent.items; taken = c.taken.items }

@@ -1,0 +1,70 @@
+-- What a poll of the open call does, once what it came to is kept.
+use Rattle.std.specs.Prelude.{◌≡◌, ◌&&◌, List, Option, Some, Bool, false, not}
+use Rattle.my_value.specs.RowParts.{RowParts}
+use Rattle.my_grammar.specs.declared.login.Login.{Login}
+use Rattle.my_session.specs.Fits.{is_begun}
+use Rattle.my_session.specs.Seen.{Seen}
+use Rattle.my_client.specs.declared.poll.After.{After}
+use Rattle.my_client.specs.declared.poll.After.TheVariants.{Pending, Answered, Failed}
+use Rattle.my_client.specs.declared.conn.Conn.{Conn}
+use Rattle.my_link.specs.declared.met.Met.{Met}
+use Rattle.my_client.specs.declared.tape.Said.{Said}
+use Rattle.my_client.specs.declared.tape.Said.TheVariants as says
+use Rattle.my_session.specs.History.{History, Dropped, answered}
+use Rattle.my_session.specs.Stands.{Stands}
+use Rattle.my_session.specs.Tables.{closes_when_cancelled}
+use Rattle.my_client.specs.Causes.{IsPolled}
+use Rattle.my_client.specs.Kept.{Asked, Kept, ended_by}
+use Rattle.my_client.specs.Poll.{SpendsOn}
+use Rattle.my_link.specs.Looks.{Looks}
+use Rattle.my_client.specs.Conn.{kept_of}
+use Rattle.my_client.specs.Rests.{Rests, IsAsked}
+
+-- what a poll came to is kept
+abbrev pub kept_after : Kept → Asked → After → Kept
+kept_after k a Pending = k
+kept_after k a (Answered answer) = ended_by k a (says.Answered answer)
+kept_after k a (Failed e) = ended_by k a (says.Failed e)
+
+-- what the poll came to, the session after it, and what was used of the link's plan
+pub record Drives (login : Login) (a : Asked) (t : Seen) (x y : Looks) (k end : Kept) (m : Met)
+    (after : After) : Type 0 where
+  pub polled : IsPolled login a k m after end
+  pub rests : Rests login t end
+  pub stepped : is_begun t.task ≡ false
+  pub spent : SpendsOn t x y k.taken end.taken m
+
+-- of each call that may be open
+abbrev pub EachDrives : {L : Type 0} → (L → Looks) → Conn L → Conn L → Met → After → Type 0
+EachDrives look c d m after = (login : Login) (a : Asked) → IsAsked login c.session.seen (kept_of c) a
+    → Drives login a d.session.seen (look c.link) (look d.link) (kept_of c) (kept_of d) m after
+
+-- the rows that the call gathered are returned where it ended
+abbrev pub RowsOf : Asked → After → Option (List RowParts) → Type 0
+RowsOf a Pending rows = Unit {0}
+RowsOf a (Answered answer) rows = rows ≡ a.rows
+RowsOf a (Failed e) rows = rows ≡ a.rows
+
+-- of each call that may be open
+abbrev pub EachRows : {L : Type 0} → Conn L → After → Option (List RowParts) → Type 0
+EachRows c after rows = (a : Asked) → (kept_of c).pending ≡ Some a → RowsOf a after rows
+
+-- where a call was open, it is kept as ended so, or as the poll left it
+abbrev pub EachEnded : {L : Type 0} → Conn L → Conn L → Said → Type 0
+EachEnded c d said = (a : Asked) → (kept_of c).pending ≡ Some a → kept_of d ≡ ended_by (kept_of c) a said
+
+abbrev pub EachKept : {L : Type 0} → Conn L → Conn L → After → Type 0
+EachKept c d after = (a : Asked) → (kept_of c).pending ≡ Some a → kept_of d ≡ kept_after (kept_of c) a after
+
+-- the rows that it gathered are returned
+abbrev pub EachGathered : {L : Type 0} → Conn L → Option (List RowParts) → Type 0
+EachGathered c rows = (a : Asked) → (kept_of c).pending ≡ Some a → rows ≡ a.rows
+
+-- a session whose call was cancelled stands for each history that it stood for, with that call dropped
+abbrev pub CancelStands : Seen → Seen → Type 0
+CancelStands s t = (h : History) → Stands s h
+    → Stands t (answered h (Dropped (closes_when_cancelled s.task s.context.spot)))
+
+-- whether a cancelling closed the session
+abbrev pub closed_by : Seen → Seen → Bool
+closed_by s t = t.closed && not s.closed

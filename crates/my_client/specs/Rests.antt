@@ -1,0 +1,110 @@
+-- What holds of a connection's session between and after the turns of a poll.
+use Rattle.std.specs.Prelude.{ℕ, ◌≡◌, ◌⊎◌, Some, None, true, false}
+use Rattle.my_grammar.specs.declared.login.Login.{Login}
+use Rattle.my_session.specs.declared.answer.Answer.{Answer}
+use Rattle.my_session.specs.declared.answer.SessionStep.TheVariants.{Fault}
+use Rattle.my_session.specs.declared.error.Error.{Error}
+use Rattle.my_session.specs.declared.error.Error.TheVariants as errors
+use Rattle.my_session.specs.declared.error.IoError.{IoError}
+use Rattle.my_session.specs.Errors.{unexpected_eof}
+use Rattle.my_session.specs.Steps.{Steps, with_end}
+use Rattle.my_session.specs.declared.call.Task.TheVariants.{Nothing}
+use Rattle.my_session.specs.Calls.{kind_of, fault_in}
+use Rattle.my_session.specs.Fits.{may_be, is_begun, FaultFits}
+use Rattle.my_session.specs.History.{told}
+use Rattle.my_session.specs.Seen.{Seen}
+use Rattle.my_client.specs.declared.poll.After.{After}
+use Rattle.my_client.specs.declared.poll.After.TheVariants as after
+use Rattle.my_client.specs.declared.poll.Turn.{Turn}
+use Rattle.my_client.specs.declared.poll.Turn.TheVariants.{Sent, Took, Ended, Broke, Held, Full, Answered, Faulted}
+use Rattle.my_client.specs.declared.tape.Said.TheVariants as says
+use Rattle.my_link.specs.declared.met.Met.{Met}
+use Rattle.my_client.specs.declared.conn.Conn.{Conn}
+use Rattle.my_client.specs.Conn.{asked_in, kept_of}
+use Rattle.my_client.specs.Causes.{WhyFailed, WhyAnswered, ErrorBy}
+use Rattle.my_client.specs.Kept.{Asked, Kept, IsHeard, ended_by}
+
+-- the session stands for what was kept, wasn't made to fail, and while it isn't closed the link hasn't ended
+pub record Rests (login : Login) (s : Seen) (k : Kept) : Type 0 where
+  pub heard : IsHeard login s k
+  pub sound : fault_in s.task ≡ None
+  pub alive : s.closed ≡ false → s.ended ≡ false
+
+-- so it is while this call is open
+pub record IsAsked (login : Login) (s : Seen) (k : Kept) (a : Asked) : Type 0 where
+  pub rests : Rests login s k
+  pub asked : k.pending ≡ Some a
+
+-- the call was stepped, and is still open
+pub record IsHeld (login : Login) (s : Seen) (k : Kept) (a : Asked) : Type 0 where
+  pub asked : IsAsked login s k a
+  pub stepped : is_begun s.task ≡ false
+
+-- the call was answered as a call of its kind may be
+pub record IsAnswered (login : Login) (s : Seen) (k : Kept) (a : Asked) (answer : Answer) : Type 0 where
+  pub rests : Rests login s (ended_by k a (says.Answered answer))
+  pub why : WhyAnswered login k answer
+  pub fits : may_be (kind_of a.call) (told answer) ≡ true
+
+-- the call failed, in a poll in which the link failed `faults` times and ended `ends` times
+pub record HasFailed (login : Login) (s : Seen) (k : Kept) (a : Asked) (e : Error) (faults ends : ℕ) : Type 0 where
+  pub rests : Rests login s (ended_by k a (says.Failed e))
+  pub why : WhyFailed login k e
+  pub by : ErrorBy e faults ends
+
+-- the session's next step was this error; where it wasn't made to fail, the error is one of its own
+pub record FailsNow (login : Login) (old new : Seen) (k : Kept) (a : Asked) (e : Error) : Type 0 where
+  pub why : WhyFailed login k e
+  pub heard : IsHeard login new (ended_by k a (says.Failed e))
+  pub closed : new.closed ≡ false → old.closed ≡ false
+  pub ended : new.ended ≡ old.ended
+  pub fits : FaultFits (fault_in old.task) old.ended e
+  pub nothing : new.task ≡ Nothing
+  pub step : Steps old new (Fault e)
+  pub shut : (io : IoError) → e ≡ errors.Io io → new.closed ≡ true
+
+-- the session asked for bytes: where the link ends now, it fails by an end that came too early
+abbrev pub AwaitsBytes : Seen → Type 0
+AwaitsBytes s = (following : Seen) (e : Error) → Steps (with_end s) following (Fault e)
+    → (e ≡ unexpected_eof s.facts.place) ⊎ (e ≡ errors.NoMemory)
+
+-- what a turn leaves: the call is open, or it was answered, or it failed
+abbrev pub TurnRests : Login → Seen → Kept → Asked → Turn → Type 0
+TurnRests login s k a Sent = IsAsked login s k a
+TurnRests login s k a (Took n) = IsAsked login s k a
+TurnRests login s k a (Ended e) = HasFailed login s k a e 0 1
+TurnRests login s k a (Broke e) = HasFailed login s k a e 1 0
+TurnRests login s k a Held = IsHeld login s k a
+TurnRests login s k a Full = IsHeld login s k a
+TurnRests login s k a (Answered answer) = IsAnswered login s k a answer
+TurnRests login s k a (Faulted e) = HasFailed login s k a e 0 0
+
+-- what a poll leaves
+abbrev pub PollRests : Login → Seen → Kept → Asked → Met → After → Type 0
+PollRests login s k a u after.Pending = IsHeld login s k a
+PollRests login s k a u (after.Answered answer) = IsAnswered login s k a answer
+PollRests login s k a u (after.Failed e) = HasFailed login s k a e u.faults u.ends
+
+-- The same for each login and call that the connection may have had before: of a call that fails at once, of a turn that
+-- sends, of one that receives, of any turn, and of a poll.
+abbrev pub FailLeaves : {L : Type 0} → Conn L → Conn L → Error → Type 0
+FailLeaves c d e = (login : Login) (a : Asked) → IsHeard login c.session.seen (kept_of c)
+    → asked_in c.pending ≡ Some a
+    → FailsNow login c.session.seen d.session.seen (kept_of c) a e
+
+abbrev pub SendLeaves : {L : Type 0} → Conn L → Conn L → Turn → Type 0
+SendLeaves c d turn = (login : Login) (a : Asked) → IsHeld login c.session.seen (kept_of c) a
+    → TurnRests login d.session.seen (kept_of d) a turn
+
+abbrev pub ReceiveLeaves : {L : Type 0} → Conn L → Conn L → Turn → Type 0
+ReceiveLeaves c d turn = (login : Login) (a : Asked) → IsHeld login c.session.seen (kept_of c) a
+    → AwaitsBytes c.session.seen
+    → TurnRests login d.session.seen (kept_of d) a turn
+
+abbrev pub TurnLeaves : {L : Type 0} → Conn L → Conn L → Turn → Type 0
+TurnLeaves c d turn = (login : Login) (a : Asked) → IsAsked login c.session.seen (kept_of c) a
+    → TurnRests login d.session.seen (kept_of d) a turn
+
+abbrev pub PollLeaves : {L : Type 0} → Conn L → Conn L → Met → After → Type 0
+PollLeaves c d m after = (login : Login) (a : Asked) → IsAsked login c.session.seen (kept_of c) a
+    → PollRests login d.session.seen (kept_of d) a m after

@@ -1,0 +1,30 @@
+//! Polls a connection's open call, and keeps what it came to on the connection's tape.
+ghost use Rattle.std.specs.Prelude.{◌≡◌, option_map, true, IfOk};
+ghost use Rattle.my_session.specs.Calls.{is_open};
+ghost use Rattle.my_client.specs.Drives.{EachDrives, EachRows};
+ghost use Rattle.my_client.specs.Ready.{RestsBy};
+
+use crate::conn::Conn;
+use crate::poll::{After, poll_conn};
+use crate::tape::keep;
+use my_frame::NoMemory;
+use my_link::{Link, Met};
+use my_value::Row;
+use std::alloc::Global;
+
+/// Polls the open call once, and keeps what it came to.
+///
+/// The result is what the poll came to, what it met, and the rows that the call gathered, where it ended.
+pub fn drive<L: Link>(
+    alloc: Global,
+    conn: &mut Conn<L>,
+) -> Result<(After, Met, Option<Vec<Row>>), NoMemory>
+    requires { is_open conn.old.session.seen.task ≡ true }
+    ensures rests { IfOk result (λ d. RestsBy d.0 conn.new.session.seen) }
+    ensures rows { IfOk result (λ d. EachRows conn.old d.0 (option_map (λ v. v.items) d.2)) }
+    ensures drives { IfOk result (λ d. EachDrives L.looks conn.old conn.new d.1 d.0) }
+{
+    let (after, met) = poll_conn(alloc, conn)?;
+    let rows = keep(alloc, conn, &after)?;
+    Ok((after, met, rows))
+}

@@ -1,0 +1,117 @@
+//! What a connection keeps of its calls.
+ghost use Rattle.std.specs.Prelude.{◌≡◌, option_map, true, IfOk, OnOk};
+ghost use Rattle.my_session.specs.Calls.{is_open};
+ghost use Rattle.my_session.specs.Machine.{dropped};
+ghost use Rattle.my_client.specs.Conn.{kept_of};
+ghost use Rattle.my_client.specs.Drives.{EachRows, EachEnded, EachKept, EachGathered, CancelStands, closed_by};
+ghost use Rattle.my_client.specs.Kept.{asking};
+ghost use Rattle.my_client.specs.declared.tape.Said.TheVariants as says;
+
+use crate::conn::Conn;
+use crate::poll::After;
+use my_frame::NoMemory;
+use my_session::{Answer, Call, Error};
+use my_value::Row;
+use std::alloc::Global;
+
+/// How a call ended.
+#[derive(Drop)]
+pub enum Said {
+    Answered(Answer),
+    Failed(Error),
+    /// It was cancelled, and whether that closed the session.
+    Cancelled(bool),
+}
+
+/// A call that ended.
+#[derive(Drop)]
+pub struct DoneCall {
+    pub call: Call,
+    /// How many bytes were sent when it began.
+    pub sent_from: u64,
+    pub said: Said,
+}
+
+/// A call that hasn't returned yet.
+#[derive(Drop)]
+pub struct OpenCall {
+    pub call: Call,
+    /// How many bytes were sent when it began.
+    pub sent_from: u64,
+    /// The rows that came so far, where it gathers a set's rows.
+    pub rows: Option<Vec<Row>>,
+}
+
+/// Keeps that this call is open, and the rows that it gathers, where it gathers any.
+pub fn ask<L>(conn: &mut Conn<L>, call: Call, rows: Option<Vec<Row>>)
+    ensures kept { kept_of conn.new ≡ asking (kept_of conn.old) call (option_map (λ rows. rows.items) rows) }
+    ensures session { conn.new.session ≡ conn.old.session }
+    ensures link { conn.new.link ≡ conn.old.link }
+{
+    let sent_from = conn.sent.len() as u64;
+    conn.pending = Some(OpenCall {
+        call,
+        sent_from,
+        rows,
+    });
+}
+
+/// Keeps how the open call ended, and returns the rows that it gathered.
+pub fn note<L>(conn: &mut Conn<L>, said: Said) -> Result<Option<Vec<Row>>, NoMemory>
+    ensures rows { IfOk result (λ rows. EachGathered conn.old (option_map (λ v. v.items) rows)) }
+    ensures kept { OnOk result (EachEnded conn.old conn.new said) }
+    ensures session { conn.new.session ≡ conn.old.session }
+    ensures link { conn.new.link ≡ conn.old.link }
+{
+    match conn.pending.take() {
+        None => Ok(None),
+        Some(open) => {
+            conn.calls.push(DoneCall {
+                call: open.call,
+                sent_from: open.sent_from,
+                said,
+            })?;
+            Ok(open.rows)
+        }
+    }
+}
+
+/// Keeps what a poll of the open call came to, and returns the rows that the call gathered, where it ended.
+pub(crate) fn keep<L>(
+    alloc: Global,
+    conn: &mut Conn<L>,
+    after: &After,
+) -> Result<Option<Vec<Row>>, NoMemory>
+    ensures rows { IfOk result (λ rows. EachRows conn.old after.now (option_map (λ v. v.items) rows)) }
+    ensures kept { OnOk result (EachKept conn.old conn.new after.now) }
+    ensures session { conn.new.session ≡ conn.old.session }
+    ensures link { conn.new.link ≡ conn.old.link }
+{
+    match after {
+        After::Pending => Ok(None),
+        After::Answered(answer) => {
+            let copy = answer.copy(alloc)?;
+            note(conn, Said::Answered(copy))
+        }
+        After::Failed(error) => {
+            let copy = error.copy(alloc)?;
+            note(conn, Said::Failed(copy))
+        }
+    }
+}
+
+/// Cancels the open call.
+pub fn cancel_call<L>(conn: &mut Conn<L>) -> Result<(), NoMemory>
+    requires { is_open conn.old.session.seen.task ≡ true }
+    ensures seen { conn.new.session.seen ≡ dropped conn.old.session.seen }
+    ensures stands { CancelStands conn.old.session.seen conn.new.session.seen }
+    ensures link { conn.new.link ≡ conn.old.link }
+    ensures kept { OnOk result (EachEnded conn.old conn.new
+        (says.Cancelled (closed_by conn.old.session.seen conn.new.session.seen))) }
+{
+    let was_closed = conn.session.is_closed();
+    conn.session.cancel();
+    let closing = conn.session.is_closed() && !was_closed;
+    let _ = note(conn, Said::Cancelled(closing))?;
+    Ok(())
+}

@@ -1,0 +1,9 @@
+pub mod Outside
+pub mod Looks
+pub mod Link
+pub mod Memory
+pub mod Items
+pub mod Planned
+pub mod MemLink
+pub mod Spent
+pub mod Met

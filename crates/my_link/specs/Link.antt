@@ -1,0 +1,137 @@
+-- What reads and writes of a link do to the items that it has left.
+use Rattle.std.specs.Prelude.{ℕ, ◌≡◌, ◌-◌, ◌<◌, ◌≤◌, ◌==◌, min, List, [], ◌∷◌, ◌++◌, length, take, Option, Some, None, if◌then◌else◌}
+use Rattle.my_link.specs.declared.link.ReadItem.{ReadItem}
+use Rattle.my_link.specs.declared.link.ReadItem.TheVariants as items
+use Rattle.my_link.specs.declared.link.WriteItem.{WriteItem}
+use Rattle.my_link.specs.declared.link.WriteItem.TheVariants as puts
+use Rattle.my_link.specs.declared.link.ReadStep.{ReadStep}
+use Rattle.my_link.specs.declared.link.ReadStep.TheVariants as reads
+use Rattle.my_link.specs.declared.link.WriteStep.{WriteStep}
+use Rattle.my_link.specs.declared.link.WriteStep.TheVariants as writes
+use Rattle.my_frame.specs.Outside.{Comes}
+use Rattle.my_link.specs.Outside.{Counts, FaultRose, HoldRose, EndRose}
+
+-- where a link tells its items, how they change
+abbrev pub Told : {I : Type 0} → Option (List I) → Option (List I) → (List I → List I → Type 0) → Type 0
+Told None new R = new ≡ None
+Told (Some old) None R = ⊥
+Told (Some old) (Some new) R = R old new
+
+-- what is left of an item that was read in part
+abbrev pub put_back : List ℕ → List ReadItem → List ReadItem
+put_back [] more = more
+put_back (b ∷ bytes) more = items.Bytes (b ∷ bytes) ∷ more
+
+-- these bytes were read from the first item
+pub record Gave (bytes : List ℕ) (old new : List ReadItem) : Type 0 where
+  pub rest : List ℕ
+  pub more : List ReadItem
+  pub stood : old ≡ items.Bytes (bytes ++ rest) ∷ more
+  pub stands : new ≡ put_back rest more
+
+-- what is left after a read that isn't ready, where one may: at a wait, at a turn that wasn't met, and with no item left
+abbrev pub after_hold : List ReadItem → Option (List ReadItem)
+after_hold [] = Some []
+after_hold (items.Bytes bytes ∷ more) = None
+after_hold (items.Turn ∷ more) = Some (items.Turn ∷ more)
+after_hold (items.Wait ∷ more) = Some more
+after_hold (items.Fail ∷ more) = None
+after_hold (items.End ∷ more) = None
+
+-- what is left after a read that fails, where one may
+abbrev pub after_fault : List ReadItem → Option (List ReadItem)
+after_fault [] = None
+after_fault (items.Bytes bytes ∷ more) = None
+after_fault (items.Turn ∷ more) = None
+after_fault (items.Wait ∷ more) = None
+after_fault (items.Fail ∷ more) = Some more
+after_fault (items.End ∷ more) = None
+
+-- what is left after a read that returns the end, where one may
+abbrev pub after_end : List ReadItem → Option (List ReadItem)
+after_end [] = None
+after_end (items.Bytes bytes ∷ more) = None
+after_end (items.Turn ∷ more) = None
+after_end (items.Wait ∷ more) = None
+after_end (items.Fail ∷ more) = None
+after_end (items.End ∷ more) = Some (items.End ∷ more)
+
+-- a write that took a byte meets a turn that is first
+abbrev pub after_write : List ReadItem → List ReadItem
+after_write [] = []
+after_write (items.Bytes bytes ∷ more) = items.Bytes bytes ∷ more
+after_write (items.Turn ∷ more) = more
+after_write (items.Wait ∷ more) = items.Wait ∷ more
+after_write (items.Fail ∷ more) = items.Fail ∷ more
+after_write (items.End ∷ more) = items.End ∷ more
+
+abbrev pub Reads : Option (List ReadItem) → List ℕ → Option (List ReadItem) → ReadStep → Type 0
+Reads old buf new (reads.Got n) = (0 < n) × (n ≤ length buf) × Told old new (Gave (take n buf))
+Reads old buf new reads.NotYet = Told old new (λ is js. after_hold is ≡ Some js)
+Reads old buf new reads.End = Told old new (λ is js. after_end is ≡ Some js)
+Reads old buf new reads.Failed = Told old new (λ is js. after_fault is ≡ Some js)
+
+-- a write that isn't ready or fails leaves the items for reads
+abbrev pub Writes : Option (List ReadItem) → Option (List ReadItem) → WriteStep → Type 0
+Writes old new (writes.Took n) = Told old new (λ is js. js ≡ after_write is)
+Writes old new writes.NotYet = new ≡ old
+Writes old new writes.Failed = new ≡ old
+Writes old new writes.NoMemory = new ≡ old
+
+-- how many of `len` bytes a write takes, where it takes any
+abbrev pub taken_of : ℕ → List WriteItem → Option ℕ
+taken_of len [] = Some len
+taken_of len (puts.Accept n ∷ more) = Some (min len n)
+taken_of len (puts.Wait ∷ more) = None
+taken_of len (puts.Fail ∷ more) = None
+
+-- n bytes are still to be taken in one piece
+abbrev pub accept_back : ℕ → List WriteItem → List WriteItem
+accept_back n more = if n == 0 then more else puts.Accept n ∷ more
+
+-- what is left after a write that took n bytes
+abbrev pub after_taken : ℕ → List WriteItem → List WriteItem
+after_taken n [] = []
+after_taken n (puts.Accept k ∷ more) = accept_back (k - n) more
+after_taken n (puts.Wait ∷ more) = puts.Wait ∷ more
+after_taken n (puts.Fail ∷ more) = puts.Fail ∷ more
+
+-- what is left after a write that isn't ready, where one may
+abbrev pub after_write_hold : List WriteItem → Option (List WriteItem)
+after_write_hold [] = None
+after_write_hold (puts.Accept n ∷ more) = None
+after_write_hold (puts.Wait ∷ more) = Some more
+after_write_hold (puts.Fail ∷ more) = None
+
+-- what is left after a write that fails, where one may
+abbrev pub after_write_fault : List WriteItem → Option (List WriteItem)
+after_write_fault [] = None
+after_write_fault (puts.Accept n ∷ more) = None
+after_write_fault (puts.Wait ∷ more) = None
+after_write_fault (puts.Fail ∷ more) = Some more
+
+-- how a write of `len` bytes changes the items for writes
+abbrev pub WritesOut : Option (List WriteItem) → ℕ → Option (List WriteItem) → WriteStep → Type 0
+WritesOut old len new (writes.Took n) = Told old new (λ ws vs. (taken_of len ws ≡ Some n) × (vs ≡ after_taken n ws))
+WritesOut old len new writes.NotYet = Told old new (λ ws vs. after_write_hold ws ≡ Some vs)
+WritesOut old len new writes.Failed = Told old new (λ ws vs. after_write_fault ws ≡ Some vs)
+WritesOut old len new writes.NoMemory = new ≡ old
+
+-- how the bytes that the link was sent change
+abbrev pub TakesIn : Option (List ℕ) → List ℕ → Option (List ℕ) → WriteStep → Type 0
+TakesIn old bytes new (writes.Took n) = (0 < n) × (n ≤ length bytes) × Comes old (take n bytes) new
+TakesIn old bytes new writes.NotYet = new ≡ old
+TakesIn old bytes new writes.Failed = new ≡ old
+TakesIn old bytes new writes.NoMemory = new ≡ old
+
+abbrev pub CountsRead : Counts → Counts → ReadStep → Type 0
+CountsRead c d (reads.Got n) = d ≡ c
+CountsRead c d reads.NotYet = HoldRose c d
+CountsRead c d reads.End = EndRose c d
+CountsRead c d reads.Failed = FaultRose c d
+
+abbrev pub CountsWrite : Counts → Counts → WriteStep → Type 0
+CountsWrite c d (writes.Took n) = d ≡ c
+CountsWrite c d writes.NotYet = HoldRose c d
+CountsWrite c d writes.Failed = FaultRose c d
+CountsWrite c d writes.NoMemory = d ≡ c

@@ -1,9 +1,0 @@
-use Rattle.std.proofs.Common.{◌∙◌}
-use Rattle.my_run.proofs.Beginning.{open_polled}
-use Rattle.my_run.proofs.Numbers.{did_ok}
-use Rattle.my_run.proofs.call.poll_open.Goals as goal
-
-pub returns : goal.returns
-returns g c =
-    did_ok c.did_once.result _ _ _ c.did_once.ensures.outcome c.did_once.ensures.uses
-    (λ d e f login a w. open_polled login c.args.number a _ _ _ _ _ _ d.outcome d.uses.items (c.in_ok-driven.ensures.drives login a w) (e ∙ c.shown.ensures) f)
