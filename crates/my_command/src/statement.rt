@@ -220,7 +220,7 @@ fn put_values(out: &mut Vec<u8>, parameters: &[Parameter]) -> Result<(), NoMemor
     Ok(())
 }
 
-/// Writes the packet at the end of what is there.
+/// Adds the packet at the end of `out`.
 pub fn put_execute(alloc: Global, out: &mut Vec<u8>, execute: &Execute) -> Result<(), NoMemory>
     ensures { OnOk result (out.new.items
         ≡ out.old.items ++ execute_bytes execute.now.statement execute.now.parameters) }
@@ -291,7 +291,7 @@ fn put_rows(out: &mut Vec<u8>, rows: &[Listed<Option<Blob>>]) -> Result<(), NoMe
     Ok(())
 }
 
-/// Writes the packet at the end of what is there.
+/// Adds the packet at the end of `out`.
 pub fn put_bulk(out: &mut Vec<u8>, bulk: &BulkExecute) -> Result<(), NoMemory>
     ensures { OnOk result (out.new.items ≡ out.old.items ++ bulk_bytes bulk.now) }
 {
