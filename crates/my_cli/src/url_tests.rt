@@ -83,30 +83,41 @@ fn settings_by_the_server(rt: HostRuntime) -> Result<(), Fail> {
     Ok(())
 }
 
-// Words that are no URL, or that the option table refuses.
-const REFUSED: [&str; 9] = [
-    "",
-    "plain",
-    "42",
-    "mysql:///shop?max_allowed_packet=4194304&wait_timeout=28800",
-    "postgres://root@localhost?max_allowed_packet=4194304&wait_timeout=28800",
-    "mysql://root@localhost?max_allowed_packet=4194304&wait_timeout=28800&bar=baz",
-    "mysql://root@localhost?max_allowed_packet=4194304&wait_timeout=x",
-    "mysql://root@localhost?max_allowed_packet=4194304&wait_timeout=28800&pool_max=5",
-    "mysql://root@localhost?max_allowed_packet=4194304&wait_timeout=28800&require_ssl=true",
+// Words that give no options, and why.
+const REFUSED: [(&str, &str); 9] = [
+    ("", "no URL"),
+    ("plain", "no URL"),
+    ("42", "no URL"),
+    ("mysql:///shop", "no host"),
+    ("postgres://root@localhost", "unsupported scheme postgres"),
+    ("mysql://root@localhost?bar=baz", "unknown parameter bar"),
+    (
+        "mysql://root@localhost?wait_timeout=x",
+        "the value of wait_timeout is no number up to 18446744073709551615",
+    ),
+    (
+        "mysql://root@localhost?pool_max=5",
+        "pool_min 10 is above pool_max 5",
+    ),
+    (
+        "mysql://root@localhost?require_ssl=true",
+        "require_ssl needs tls, which this client lacks",
+    ),
 ];
 
 #[test]
 fn refused_urls(rt: HostRuntime) -> Result<(), Fail> {
-    for url in REFUSED {
+    for (url, cause) in REFUSED {
         let ended = run_text(rt.alloc(), &["script", url], "conn\n", 64)?;
         assert_eq!(rt; ended.status, 6, "at {url}");
         assert!(rt; ended.text.is_empty(), "at {url}");
+        let cause = format!(in rt.alloc(); "the URL is refused: {cause}")?;
+        assert_eq!(rt; ended.cause.as_str(), cause.as_str(), "at {url}");
     }
     Ok(())
 }
 
-// A lawful URL of so many bytes, most of which are its user's name.
+// A lawful URL of `length` bytes, most of which are its user's name.
 fn url_of_length(alloc: Global, length: usize) -> Result<String, AllocError> {
     let rest = "@localhost?max_allowed_packet=4194304&wait_timeout=28800";
     let mut url = String::from_str(alloc, "mysql://")?;

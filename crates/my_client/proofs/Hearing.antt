@@ -1,4 +1,8 @@
 -- A connection's session goes on standing for what the connection kept.
+pub mod Beginning
+pub mod Failing
+pub mod Readying
+pub mod Stepping
 use Rattle.std.proofs.Common.{ℕ, ◌≡◌, List, [], ◌∷◌, ◌++◌, true, false, cond, Option, Some, None, refl, sym, ap, ◌∙◌, subst}
 use Rattle.my_grammar.specs.declared.login.Login.{Login}
 use Rattle.my_session.specs.declared.call.Call.{Call}

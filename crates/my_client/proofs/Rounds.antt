@@ -1,5 +1,7 @@
 -- How a poll goes on from turn to turn.
+pub mod Spends
 use Rattle.std.proofs.Common.{◌≡◌, inl, inr, ℕ, ◌+◌, ◌-◌, ◌≤◌, List, [], ◌++◌, Option, Some, None, true, refl, sym, ap, ◌∙◌, subst, arith}
+use Rattle.my_frame.specs.declared.limits.TheConstants.{MOST_TAKEN}
 use Rattle.std.proofs.lemmas.List.{append_assoc, append-nil, length-append}
 use Rattle.my_frame.specs.Outside.{Rose}
 use Rattle.my_grammar.specs.declared.login.Login.{Login}
@@ -18,7 +20,7 @@ use Rattle.my_client.specs.Kept.{Asked, Kept}
 use Rattle.my_client.specs.Poll.{CameIn, CameBy, WentOut, Waits, Holds, TurnIs, took_by, is_full, met_by, came_to, Polls, SoFar, SpendsPlan, SpentSoFar}
 use Rattle.my_client.specs.Rests.{IsAsked, HasFailed, TurnRests, PollRests}
 use Rattle.my_client.specs.Uses.{RoseBy, CountsTo}
-use Rattle.my_client.proofs.Spends.{sent_on, took_on, ended_on, held_by, failed_by, rested_by}
+use Rattle.my_client.proofs.Rounds.Spends.{sent_on, took_on, ended_on, held_by, failed_by, rested_by}
 
 -- the poll goes on where it is now, or is over
 abbrev pub IsRound : ConnSeen → ConnSeen → Option After → Met → Type 0
@@ -62,7 +64,7 @@ module _ (x y z : ConnSeen) (u : Met) (so : SoFar x y u) (spent : SpentSoFar x.l
     ends = none_rose x.looks.counts.ends y.looks.counts.ends z.looks.counts.ends u.ends (so.counts.ends.same so.no_end) (ap (λ (c : Counts). c.ends) e) so.no_end;
   }
 
-  on_quiet : (taken_now : ℕ) → z.looks.counts ≡ y.looks.counts → WentOut x.sent z.sent → CameBy x.taken z.taken taken_now → taken_now ≤ 67108864 → SoFar x z (record u { taken = taken_now })
+  on_quiet : (taken_now : ℕ) → z.looks.counts ≡ y.looks.counts → WentOut x.sent z.sent → CameBy x.taken z.taken taken_now → taken_now ≤ MOST_TAKEN → SoFar x z (record u { taken = taken_now })
   on_quiet taken_now e went came within = record {
     of_call = record { deaths = so.of_call.deaths; broken = so.of_call.broken; unlisted = so.of_call.unlisted; absent = so.of_call.absent; refused = so.of_call.refused; fed = so.of_call.fed };
     no_fault = so.no_fault;
@@ -78,7 +80,7 @@ module _ (x y z : ConnSeen) (u : Met) (so : SoFar x y u) (spent : SpentSoFar x.l
   waiting (inl r) = inr r.0
   waiting (inr w) = inl w.0
 
-  pub round_is : (turn : Turn) → TurnIs y z turn → u.taken + took_by turn ≤ 67108864 → (is_full turn ≡ true → 67108864 ≤ u.taken) → IsRound x z (came_to turn) (met_by turn u)
+  pub round_is : (turn : Turn) → TurnIs y z turn → u.taken + took_by turn ≤ MOST_TAKEN → (is_full turn ≡ true → MOST_TAKEN ≤ u.taken) → IsRound x z (came_to turn) (met_by turn u)
   round_is Sent t h full = (t.0, on_quiet u.taken t.1 (went_more x.sent y.sent z.sent so.sent_on t.3) (came_same x.taken y.taken z.taken u.taken so.came t.4) so.within, sent_on x.looks y.looks z.looks x.taken y.taken z.taken 0 spent t.2 t.4)
   round_is (Took m) t h full = (t.0, on_quiet (u.taken + m) t.1 (went_same x.sent y.sent z.sent so.sent_on t.3) (came_more y z x.taken u.taken m so.came t.2) h, took_on x.looks y z x.taken m 0 spent t.2)
   round_is (Ended e) t h full = (
@@ -161,7 +163,7 @@ module _ (x y z : ConnSeen) (u : Met) (so : SoFar x y u) (spent : SpentSoFar x.l
   )
 
 -- a round by what a turn's clauses say of it
-pub round_after : (x y z : ConnSeen) (u : Met) → SoFar x y u → SpentSoFar x.looks y.looks x.taken y.taken 0 → (turn : Turn) → TurnIs y z turn → took_by turn ≤ 67108864 - u.taken → (is_full turn ≡ true → 67108864 - u.taken ≡ 0) → (o : Option After) (m : Met) → o ≡ came_to turn → m ≡ met_by turn u → IsRound x z o m
+pub round_after : (x y z : ConnSeen) (u : Met) → SoFar x y u → SpentSoFar x.looks y.looks x.taken y.taken 0 → (turn : Turn) → TurnIs y z turn → took_by turn ≤ MOST_TAKEN - u.taken → (is_full turn ≡ true → MOST_TAKEN - u.taken ≡ 0) → (o : Option After) (m : Met) → o ≡ came_to turn → m ≡ met_by turn u → IsRound x z o m
 round_after x y z u so spent turn t h full o m e f = subst (λ (p : Option After). IsRound x z p m) (sym e) (subst (IsRound x z (came_to turn)) (sym f) (round_is x y z u so spent turn t (omega (arith, h, so.within)) (λ g. omega (arith, full g, so.within))))
 
 -- a poll begins

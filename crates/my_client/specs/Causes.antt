@@ -1,5 +1,6 @@
 -- Why a poll came to what it came to.
 use Rattle.std.specs.Prelude.{ℕ, ◌≡◌, ◌<◌, ◌≤◌, ◌⊎◌, Some, true}
+use Rattle.my_frame.specs.declared.limits.TheConstants.{MOST_TAKEN}
 use Rattle.my_grammar.specs.declared.login.Login.{Login}
 use Rattle.my_session.specs.declared.answer.SessionStep.TheVariants.{Send, Need}
 use Rattle.my_session.specs.declared.error.Error.{Error}
@@ -74,7 +75,7 @@ pub record Waiting (login : Login) (k : Kept) : Type 0 where
 -- what a poll of the open call came to, and what is kept then
 abbrev pub PollEnds : Login → Asked → Kept → Met → After → Kept → Type 0
 PollEnds login a k u Pending end = (end ≡ k) × Waiting login k × (u.faults ≡ 0)
-    × ((0 < u.holds) ⊎ ((u.holds ≡ 0) × (67108864 ≤ u.taken)))
+    × ((0 < u.holds) ⊎ ((u.holds ≡ 0) × (MOST_TAKEN ≤ u.taken)))
 PollEnds login a k u (Answered answer) end = (end ≡ ended_by k a (says.Answered answer)) × WhyAnswered login k answer
     × (may_be (kind_of a.call) (told answer) ≡ true) × IsQuiet u
 PollEnds login a k u (Failed e) end = (end ≡ ended_by k a (says.Failed e)) × WhyFailed login k e
@@ -83,7 +84,7 @@ PollEnds login a k u (Failed e) end = (end ≡ ended_by k a (says.Failed e)) × 
 -- One poll of the open call: bytes went out and came in, and then it came to this.
 pub record IsPolled (login : Login) (a : Asked) (k : Kept) (u : Met) (after : After) (end : Kept) : Type 0 where
   pub of_call : IsOfCall u
-  pub within : u.taken ≤ 67108864
+  pub within : u.taken ≤ MOST_TAKEN
   pub following : Kept
   pub sent : WentOut k.sent following.sent
   pub taken : CameBy k.taken following.taken u.taken

@@ -1,5 +1,6 @@
 -- What a turn of a poll does.
 use Rattle.std.specs.Prelude.{ℕ, ◌≡◌, ◌+◌, ◌<◌, ◌≤◌, ◌⊎◌, List, ◌++◌, length, Option, Some, None, Bool, true, false}
+use Rattle.my_frame.specs.declared.limits.TheConstants.{MOST_TAKEN}
 use Rattle.my_session.specs.declared.call.Task.TheVariants.{Nothing}
 use Rattle.my_session.specs.declared.answer.SessionStep.TheVariants.{Send, Need}
 use Rattle.my_session.specs.Calls.{is_open}
@@ -119,7 +120,7 @@ pub record IsOfCall (m : Met) : Type 0 where
 -- The cause of what a poll came to. It is pending only where the link wasn't ready, or the poll took all that it may, and
 -- then the session still asks to send or for bytes; it is answered only where the link was ready and didn't fail.
 abbrev pub Causes : Seen → Met → After → Type 0
-Causes t u Pending = Waits t × (u.faults ≡ 0) × ((0 < u.holds) ⊎ ((u.holds ≡ 0) × (67108864 ≤ u.taken)))
+Causes t u Pending = Waits t × (u.faults ≡ 0) × ((0 < u.holds) ⊎ ((u.holds ≡ 0) × (MOST_TAKEN ≤ u.taken)))
 Causes t u (Replied answer) = (t.task ≡ Nothing) × (u.faults ≡ 0) × (u.holds ≡ 0) × (u.ends ≡ 0)
 Causes t u (Refused error) = (t.task ≡ Nothing) × (u.holds ≡ 0)
 
@@ -128,7 +129,7 @@ pub record Polls (x y : ConnSeen) (m : Met) (after : After) : Type 0 where
   pub of_call : IsOfCall m
   pub cause : Causes y.session m after
   pub counts : CountsTo x.looks.counts y.looks.counts m
-  pub within : m.taken ≤ 67108864
+  pub within : m.taken ≤ MOST_TAKEN
   pub came : CameBy x.taken y.taken m.taken
   pub sent_on : WentOut x.sent y.sent
 
@@ -139,7 +140,7 @@ pub record SoFar (x y : ConnSeen) (m : Met) : Type 0 where
   pub no_hold : m.holds ≡ 0
   pub no_end : m.ends ≡ 0
   pub counts : CountsTo x.looks.counts y.looks.counts m
-  pub within : m.taken ≤ 67108864
+  pub within : m.taken ≤ MOST_TAKEN
   pub came : CameBy x.taken y.taken m.taken
   pub sent_on : WentOut x.sent y.sent
 

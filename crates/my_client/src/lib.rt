@@ -10,5 +10,5 @@ mod tape;
 pub use conn::{Conn, begin_conn, is_connecting, is_gathering, last_ok};
 pub use driver::drive;
 pub use login::login_for;
-pub use poll::{After, MOST_TAKEN, poll_conn};
+pub use poll::{After, poll_conn};
 pub use tape::{DoneCall, OpenCall, Said, ask, cancel_call, note};

@@ -10,12 +10,10 @@ ghost use Rattle.my_client.specs.Rests.{FailLeaves, SendLeaves, ReceiveLeaves, T
 
 use crate::conn::Conn;
 use my_frame::NoMemory;
+use my_frame::limits::MOST_TAKEN;
 use my_link::{Link, Met, ReadStep, WriteStep};
 use my_session::{Answer, Error, LinkFault, SessionStep};
 use std::alloc::Global;
-
-/// The most bytes that one poll takes.
-pub const MOST_TAKEN: u64 = 67108864;
 
 /// What a poll came to.
 #[derive(Drop)]
@@ -156,7 +154,7 @@ fn take_turn<L: Link>(alloc: Global, conn: &mut Conn<L>, room: u64) -> Result<Tu
 
 // What the poll met with this turn.
 fn met_after(turn: &Turn, met: Met) -> Met
-    requires { met.taken + took_by turn.now ≤ 67108864 }
+    requires { met.taken + took_by turn.now ≤ MOST_TAKEN }
     ensures { result ≡ met_by turn.now met }
 {
     match turn {

@@ -1,4 +1,7 @@
 -- What was read of an exchange is what the grammar finds in its bytes.
+pub mod CutSteps
+pub mod Fronts
+pub mod InFronts
 use Rattle.std.proofs.Common.{◌≡◌, ℕ, suc, zero, ◌≤◌, ◌<◌, List, [], ◌++◌, length, Bool, true, false, cond, refl, sym, ap, ◌∙◌, arith, append_assoc}
 use Rattle.my_frame.specs.Chunks.{chunks, number_after_payload}
 use Rattle.my_frame.specs.Front.{Front, Waiting, Broken, Whole}
@@ -10,7 +13,7 @@ use Rattle.my_grammar.specs.Talk.{Talk, Fits, turns, number_of, server_bytes, co
 use Rattle.my_grammar.specs.Growth.{grow, Grows}
 use Rattle.my_grammar.specs.Cut.{Read, front_of, kind_of, read_payload, read_front, read_within, read_from}
 use Rattle.my_grammar.specs.CutLaws.{StopsAt}
-use Rattle.my_grammar.proofs.Fronts.{takes_whole}
+use Rattle.my_grammar.proofs.Cutting.Fronts.{takes_whole}
 use Rattle.my_grammar.proofs.Growth.{grows, reads, any_login}
 
 -- how many payloads are read at most doesn't matter, where the bytes can't hold that many

@@ -1,4 +1,6 @@
 -- One payload more in an exchange.
+pub mod Known
+pub mod SetGrowth
 use Rattle.std.proofs.Common.{◌≡◌, ℕ, ◌≤◌, List, [], ◌∷◌, ◌++◌, length, true, false, None, refl, sym, ap, ◌∙◌, subst}
 use Rattle.std.proofs.lemmas.List.{append-nil}
 use Rattle.std.specs.List.{AllByRecursion}
@@ -15,8 +17,8 @@ use Rattle.my_grammar.specs.Kinds.{greeting_kind, single_kind, kind_by, kind_the
 use Rattle.my_grammar.specs.Sets.{Sets, Packet, packets_in, spot_in, columns_in, grow_sets}
 use Rattle.my_grammar.specs.Talk.{Talk, Start, Unwelcome, Greeted, Settled, Asked, Replied, Queried, Silent, Turn, Client, Server, served, packets_of, context_of, Fits, limit_of}
 use Rattle.my_grammar.specs.Growth.{Grows, Reads}
-use Rattle.my_grammar.proofs.Known.{is_greeting_kind, is_single_kind, known_greeting, known_single, is_then}
-use Rattle.my_grammar.proofs.SetGrowth.{grows_sets, no_greeting, none}
+use Rattle.my_grammar.proofs.Growth.Known.{is_greeting_kind, is_single_kind, known_greeting, known_single, is_then}
+use Rattle.my_grammar.proofs.Growth.SetGrowth.{grows_sets, no_greeting, none}
 
 -- the number, and each side's bytes
 pub reads : (login : Login) (k : Kind) (p : List ℕ) (ts : List Turn) → Reads login k p ts

@@ -1,10 +1,4 @@
-pub mod CutSteps
 pub mod Cutting
-pub mod Fronts
 pub mod Growth
-pub mod InFronts
-pub mod Known
-pub mod Reaching
-pub mod SetGrowth
 pub mod Sound
 pub mod Staying

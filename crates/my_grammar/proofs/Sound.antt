@@ -1,4 +1,5 @@
 -- What is read from bytes is in them.
+pub mod Reaching
 use Rattle.std.proofs.Common.{◌≡◌, ℕ, suc, zero, ◌+◌, ◌^◌, ◌≤◌, ◌<◌, List, [], ◌∷◌, ◌++◌, map, length, Bool, true, false, cond, get_or, refl, sym, ap, ◌∙◌, subst, arith, append_assoc}
 use Rattle.std.proofs.Math.Seq.{get_or-append_right}
 use Rattle.my_flags.specs.Sets.{deprecates_eof}
@@ -16,9 +17,9 @@ use Rattle.my_grammar.specs.Talk.{Talk, Start, Unwelcome, Greeted, Settled, Aske
 use Rattle.my_grammar.specs.Growth.{grow, Grows}
 use Rattle.my_grammar.specs.Cut.{Read, Trailing, Cut, front_of, kind_of, read_payload, read_front, read_within, read_from, rest_in_front, is_idle, is_over, rest_of, onto, cut_after, cut}
 use Rattle.my_grammar.specs.CutLaws.{StopsAt, IsRead, bytes_of, AreOver, IsCut}
-use Rattle.my_grammar.proofs.Fronts.{takes_whole}
+use Rattle.my_grammar.proofs.Cutting.Fronts.{takes_whole}
 use Rattle.my_grammar.proofs.Growth.{grows, reads, any_login}
-use Rattle.my_grammar.proofs.Reaching.{reaches}
+use Rattle.my_grammar.proofs.Sound.Reaching.{reaches}
 
 -- bytes after others are bytes
 bytes_after : (a b bytes : List ℕ) → bytes ≡ a ++ b → AreBytes bytes → AreBytes b

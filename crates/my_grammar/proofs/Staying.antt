@@ -12,7 +12,7 @@ use Rattle.my_grammar.specs.Talk.{Talk, turns, number_of, context_of, limit_of}
 use Rattle.my_grammar.specs.Growth.{grow}
 use Rattle.my_grammar.specs.Cut.{Read, Rest, Trailing, Unfinished, Unfit, Blamed, Cut, front_of, kind_of, read_front, read_within, read_from, rest_in_front, is_idle, is_over, onto, cut_after, cut}
 use Rattle.my_grammar.specs.CutLaws.{StopsAt, RestStays, RestGoesOn}
-use Rattle.my_grammar.proofs.Fronts.{takes_whole}
+use Rattle.my_grammar.proofs.Cutting.Fronts.{takes_whole}
 use Rattle.my_grammar.proofs.Cutting.{reads_one, stops_reads_none}
 
 -- reading goes on from where it stopped

@@ -1,13 +1,3 @@
 pub mod Outputs
-pub mod Playing
-pub mod Beginning
-pub mod Numbers
-pub mod Joining
-pub mod Connecting
 pub mod Runs
-pub mod Cancelling
-pub mod Taping
-pub mod Resuming
-pub mod Gathered
-pub mod Readying
 pub mod Working

@@ -1,4 +1,12 @@
 -- What a step's work does at its number.
+pub mod Beginning
+pub mod Cancelling
+pub mod Connecting
+pub mod Gathered
+pub mod Numbers
+pub mod Playing
+pub mod Readying
+pub mod Resuming
 use Rattle.std.proofs.Common.{◌≡◌, ◌<◌, ◌⊎◌, inl, inr, ℕ, zero, suc, List, [], ◌∷◌, Option, Some, None, length, get_or, slice_set, map, false, refl, sym, ap, ◌∙◌, subst, arith}
 use Rattle.my_grammar.specs.declared.login.Login.{Login}
 use Rattle.my_session.specs.declared.call.Call.{Call}
@@ -22,8 +30,8 @@ use Rattle.my_run.specs.Grows.{At, IsRefused, DialsNext, StepGrows}
 use Rattle.my_run.specs.Handle.{Handle, Absent, Dialing, Joined}
 use Rattle.my_run.specs.Keeps.{IsStood, AreStood}
 use Rattle.my_run.specs.Slot.{handle_of}
-use Rattle.my_run.proofs.Cancelling.{back_did, same_did}
-use Rattle.my_run.proofs.Numbers.{stepped_at, stepped_past}
+use Rattle.my_run.proofs.Working.Cancelling.{back_did, same_did}
+use Rattle.my_run.proofs.Working.Numbers.{stepped_at, stepped_past}
 
 -- a work by what it is
 pub work_is : {L : Type 0} (look : L → Looks) (login : Login) (n : ℕ) (work known : Work) (o : Outcome) (us : List Use) (s t : Slot L) → work ≡ known → Did look login n (does_at login n known) o us s t → Did look login n (does_at login n work) o us s t

@@ -1,5 +1,6 @@
 -- The theorem on the top call: what it means that a run ended with a status.
 use Rattle.std.specs.Prelude.{◌≡◌, ℕ, List, [], Option, Some, None, Ok, Err, if◌then◌else◌}
+use Rattle.my_frame.specs.declared.limits.TheConstants.{MOST_INPUT}
 use Rattle.my_grammar.specs.declared.login.Login.{Login}
 use Rattle.my_opts.specs.Opts.{OptsView}
 use Rattle.my_world.specs.Plan.{planned_lines, written_lines}
@@ -92,7 +93,7 @@ TextEnds login world script w v t _ = ⊥
 pub record IsWhole (login : Login) (world : WorldSeen) (s r : SourceSeen) (w v : SinkSeen) (t : Transcript)
     (status : Status) : Type 0 where
   pub bytes : List ℕ
-  pub read : IsRead 67108864 s.left r.left bytes
+  pub read : IsRead MOST_INPUT s.left r.left bytes
   pub no_fault : r.faults ≡ s.faults
   pub ends : TextEnds login world (script_of world.takes bytes) w v t status
 
@@ -100,9 +101,9 @@ abbrev pub InputEnds : Login → WorldSeen → SourceSeen → SourceSeen → Sin
     → Type 0
 InputEnds login world s r w v t Done = IsWhole login world s r w v t Done
 InputEnds login world s r w v t (Unread line) = IsWhole login world s r w v t (Unread line)
-InputEnds login world s r w v t SourceFailed = IsBroken 67108864 s.left r.left s.faults r.faults × IsBlank w v t
+InputEnds login world s r w v t SourceFailed = IsBroken MOST_INPUT s.left r.left s.faults r.faults × IsBlank w v t
 InputEnds login world s r w v t SinkFailed = IsWhole login world s r w v t SinkFailed
-InputEnds login world s r w v t TooLong = IsTooLong 67108864 s.left r.left × (r.faults ≡ s.faults) × IsBlank w v t
+InputEnds login world s r w v t TooLong = IsTooLong MOST_INPUT s.left r.left × (r.faults ≡ s.faults) × IsBlank w v t
 InputEnds login world s r w v t NoMemory = IsBlank w v t
 InputEnds login world s r w v t _ = ⊥
 

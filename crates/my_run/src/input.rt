@@ -2,11 +2,9 @@
 ghost use Rattle.std.specs.Prelude.{IfOk};
 ghost use Rattle.my_run.specs.Input.{CameIs};
 
+use my_frame::limits::MOST_INPUT;
 use my_frame::{NoMemory, Source, SourceStep};
 use std::alloc::Global;
-
-/// The most bytes that a source may give.
-pub(crate) const MOST_INPUT: usize = 67108864;
 
 /// What came of a source: all its bytes, a fault, or more bytes than it may give.
 #[derive(Drop)]

@@ -8,7 +8,7 @@ ghost use Rattle.my_script.specs.Script.{script_of};
 ghost use Rattle.my_script.specs.Text.{text_of};
 ghost use Rattle.my_run.specs.Tool.{IsEmpty, source_seen, sink_seen, plans_with, code_of, ScriptEnds, TextEnds, InputEnds, WordEnds, IsReport};
 
-use crate::input::{Came, MOST_INPUT, read_all};
+use crate::input::{Came, read_all};
 use crate::output::write_all;
 use crate::run::run_steps;
 use my_frame::{NoMemory, Sink, Source};

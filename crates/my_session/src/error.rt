@@ -68,7 +68,7 @@ pub enum IoError {
 
 /// A server's error, after a command that failed.
 #[derive(Debug, Drop, PartialEq, Eq, ThisError)]
-#[error("server error {code} ({})", message.as_str())]
+#[error("ERROR {code} ({}): {}", state.as_str(), message.as_str())]
 pub struct ServerError {
     pub code: u16,
     /// Five characters that name the class of the error.

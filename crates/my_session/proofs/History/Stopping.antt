@@ -11,7 +11,7 @@ use Rattle.my_grammar.specs.Sets.{Sets, NoSets, Lone, Heading, Headed, Begun, En
 use Rattle.my_grammar.specs.Sets as sets
 use Rattle.my_grammar.specs.Talk.{Talk, Start, Unwelcome, Greeted, Settled, Asked, Replied, Queried, Silent, Fits, turns, number_of, server_bytes, limit_of, origin}
 use Rattle.my_grammar.proofs.Cutting.{stopped_within, stops_reads_none}
-use Rattle.my_grammar.proofs.Fronts.{takes_whole}
+use Rattle.my_grammar.proofs.Cutting.Fronts.{takes_whole}
 use Rattle.my_grammar.proofs.Sound.{exchange_is_cut, over_is_cut}
 use Rattle.my_grammar.proofs.Staying.{over_stops}
 use Rattle.my_session.specs.Entries.{Entry, taken_by, AllDone}

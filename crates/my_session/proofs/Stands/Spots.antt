@@ -9,7 +9,7 @@ use Rattle.my_grammar.specs.declared.spot.Spot.{Spot}
 use Rattle.my_grammar.specs.declared.spot.Spot.TheVariants as spots
 use Rattle.my_grammar.specs.Contexts.{is_bad, more, spot_after, after_columns}
 use Rattle.my_grammar.specs.Kinds.{kind_by, greeting_kind, single_kind, head_kind, column_kind, columns_end_kind, row_kind}
-use Rattle.my_grammar.proofs.Known.{is_greeting_kind, is_single_kind, is_head_kind, is_column_kind, is_close_kind, is_row_kind, known_greeting, known_single, known_head, known_column, known_close, known_row, is_then}
+use Rattle.my_grammar.proofs.Growth.Known.{is_greeting_kind, is_single_kind, is_head_kind, is_column_kind, is_close_kind, is_row_kind, known_greeting, known_single, known_head, known_column, known_close, known_row, is_then}
 use Rattle.my_session.specs.Machine.{is_greeting}
 use Rattle.my_session.specs.Stands.{is_left, is_reading, is_shaking}
 use Rattle.my_session.specs.Steps.{is_settled}

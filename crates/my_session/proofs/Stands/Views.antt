@@ -15,7 +15,7 @@ use Rattle.my_grammar.specs.Kinds.{head_kind, described_kind}
 use Rattle.my_grammar.specs.declared.packet.Packet.{Packet}
 use Rattle.my_grammar.specs.Sets.{SetHead, Sets, NoSets, Lone, Failed, Heading, Headed, Begun, Ended, Broken, each, at_most_one, head_packets, packets_in, grow_sets, with_column, with_column_of, with_close}
 use Rattle.my_grammar.specs.Talk.{Talk, Start, Unwelcome, Greeted, Settled, Asked, Replied, Queried, Silent, packets_of, context_of, Fits}
-use Rattle.my_grammar.proofs.Known.{is_head_kind, known_head, is_then}
+use Rattle.my_grammar.proofs.Growth.Known.{is_head_kind, known_head, is_then}
 use Rattle.my_value.specs.RowParts.{RowParts}
 use Rattle.my_session.specs.declared.facts.Facts.{Facts}
 use Rattle.my_session.specs.Entries.{sets_of, ends_with_ok, IsGiven}

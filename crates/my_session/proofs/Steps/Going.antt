@@ -14,7 +14,7 @@ use Rattle.my_grammar.specs.declared.spot.Kind.TheVariants as kinds
 use Rattle.my_grammar.specs.Kinds.{kind_there}
 use Rattle.my_grammar.specs.Sets.{NoSets}
 use Rattle.my_grammar.specs.Talk.{Talk, Asked, Queried, Silent, turns, client_bytes}
-use Rattle.my_grammar.proofs.Fronts.{takes_whole}
+use Rattle.my_grammar.proofs.Cutting.Fronts.{takes_whole}
 use Rattle.my_session.specs.declared.call.CallKind.{CallKind}
 use Rattle.my_session.specs.declared.call.CallKind.TheVariants.{Connect, Query, NextRow, DropResult, Ping, Quit}
 use Rattle.my_session.specs.declared.call.LinkFault.{LinkFault}

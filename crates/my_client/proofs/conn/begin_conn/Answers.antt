@@ -1,5 +1,5 @@
 use Rattle.my_client.specs.Login.{login_of}
-use Rattle.my_client.proofs.Beginning.{first_begins}
+use Rattle.my_client.proofs.Hearing.Beginning.{first_begins}
 use Rattle.my_client.proofs.conn.begin_conn.Goals as goal
 
 pub returns-clause-asked : goal.returns-clause-asked

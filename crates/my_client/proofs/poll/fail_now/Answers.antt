@@ -1,7 +1,7 @@
 use Rattle.my_session.proofs.Ends.{only_fails}
 use Rattle.my_client.specs.Conn.{asked_in, kept_of}
-use Rattle.my_client.proofs.Stepping.{fails_now}
-use Rattle.my_client.proofs.Failing.{fails_ok}
+use Rattle.my_client.proofs.Hearing.Stepping.{fails_now}
+use Rattle.my_client.proofs.Hearing.Failing.{fails_ok}
 use Rattle.my_client.proofs.poll.fail_now.Goals as goal
 
 pub returns-clause-rests : goal.returns-clause-rests

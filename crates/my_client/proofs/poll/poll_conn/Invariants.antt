@@ -1,4 +1,5 @@
 use Rattle.std.proofs.Common.{◌≡◌, ◌+◌, ◌-◌, ◌^◌, length, true}
+use Rattle.my_frame.specs.declared.limits.TheConstants.{MOST_TAKEN}
 use Rattle.my_grammar.specs.declared.login.Login.{Login}
 use Rattle.my_session.specs.Calls.{is_open}
 use Rattle.my_client.specs.Conn.{kept_of, seen_by}
@@ -18,4 +19,4 @@ invariant-turns g l = record {
 }
 
 abbrev pub decreases-turns : goal.decreases-turns
-decreases-turns g l = (2 ^ 64 - length l.conn.sent.items) + (67108864 - l.met.taken)
+decreases-turns g l = (2 ^ 64 - length l.conn.sent.items) + (MOST_TAKEN - l.met.taken)

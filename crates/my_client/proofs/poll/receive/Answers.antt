@@ -3,7 +3,7 @@ use Rattle.my_session.specs.Ends.{Fails}
 use Rattle.my_session.specs.declared.call.LinkFault.TheVariants.{Link}
 use Rattle.my_session.proofs.Ends.{failing_fails}
 use Rattle.my_client.specs.Conn.{asked_in, kept_of}
-use Rattle.my_client.proofs.Failing.{broke_so, ended_so}
+use Rattle.my_client.proofs.Hearing.Failing.{broke_so, ended_so}
 use Rattle.my_client.proofs.poll.receive.Goals as goal
 
 pub returns-in_ok-fail_now-in-End-clause-rests : goal.returns-in_ok-fail_now-in-End-clause-rests

@@ -2,8 +2,8 @@ use Rattle.my_session.specs.declared.call.LinkFault.TheVariants.{Link}
 use Rattle.my_session.proofs.Ends.{failing_fails}
 use Rattle.std.proofs.Common.{◌≡◌, ◌++◌, take, rules, ap}
 use Rattle.my_client.specs.Conn.{asked_in, kept_of}
-use Rattle.my_client.proofs.Stepping.{asked_gone}
-use Rattle.my_client.proofs.Failing.{broke_so}
+use Rattle.my_client.proofs.Hearing.Stepping.{asked_gone}
+use Rattle.my_client.proofs.Hearing.Failing.{broke_so}
 use Rattle.my_client.proofs.poll.send.Goals as goal
 
 pub returns-in_ok-extend_from_slice-in-Took-clause-rests : goal.returns-in_ok-extend_from_slice-in-Took-clause-rests

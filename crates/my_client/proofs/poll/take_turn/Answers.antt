@@ -1,8 +1,8 @@
 use Rattle.my_session.proofs.Ends.{ended_fails}
 use Rattle.my_client.specs.Conn.{kept_of}
 use Rattle.std.proofs.lemmas.Result.{IfOk-weaker}
-use Rattle.my_client.proofs.Stepping.{held_send, held_need, awaits, is_answered}
-use Rattle.my_client.proofs.Failing.{faulted_same}
+use Rattle.my_client.proofs.Hearing.Stepping.{held_send, held_need, awaits, is_answered}
+use Rattle.my_client.proofs.Hearing.Failing.{faulted_same}
 use Rattle.my_client.proofs.poll.take_turn.Goals as goal
 
 pub returns-then-room-eq0-clause-rests : goal.returns-then-room-eq0-clause-rests

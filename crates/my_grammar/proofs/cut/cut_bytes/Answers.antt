@@ -1,6 +1,6 @@
 -- One exchange more, the last one, and the end.
 use Rattle.std.proofs.Common.{arith, ◌+◌, drop, refl, sym, ◌∙◌}
-use Rattle.my_grammar.proofs.CutSteps.{at_end, at_index, cut_all, cut_at_last, cut_one_more}
+use Rattle.my_grammar.proofs.Cutting.CutSteps.{at_end, at_index, cut_all, cut_at_last, cut_one_more}
 use Rattle.my_grammar.proofs.cut.cut_bytes.Goals as goal
 
 pub loop-opening-preserved : goal.loop-opening-preserved

@@ -1,6 +1,6 @@
 -- What is cut so far are the exchanges before the rest.
 use Rattle.std.proofs.Common.{drop}
-use Rattle.my_grammar.proofs.CutSteps.{CutSoFar}
+use Rattle.my_grammar.proofs.Cutting.CutSteps.{CutSoFar}
 use Rattle.my_grammar.proofs.cut.cut_bytes.Given as goal
 
 abbrev pub invariant-loop-opening : goal.invariant-loop-opening

@@ -1,5 +1,5 @@
 -- A payload more, and the end.
-use Rattle.my_grammar.proofs.CutSteps.{read_one_more, read_all}
+use Rattle.my_grammar.proofs.Cutting.CutSteps.{read_one_more, read_all}
 use Rattle.my_grammar.proofs.cut.read_exchange.Goals as goal
 
 pub payloads-preserved : goal.payloads-preserved

@@ -1,5 +1,5 @@
 -- Reading comes to the exchange.
-use Rattle.my_grammar.proofs.Reaching.{reaches}
+use Rattle.my_grammar.proofs.Sound.Reaching.{reaches}
 use Rattle.my_grammar.proofs.laws.exchange_is_reached.Goals as goal
 
 pub returns : goal.returns

@@ -1,5 +1,5 @@
 -- The bytes begin with what was found.
-use Rattle.my_grammar.proofs.InFronts.{found_stands}
+use Rattle.my_grammar.proofs.Cutting.InFronts.{found_stands}
 use Rattle.my_grammar.proofs.progress.whole_in_front.Goals as goal
 
 pub returns-in-Ok : goal.returns-in-Ok

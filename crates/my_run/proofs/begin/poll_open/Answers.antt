@@ -1,6 +1,6 @@
 use Rattle.std.proofs.Common.{◌∙◌}
-use Rattle.my_run.proofs.Beginning.{open_polled}
-use Rattle.my_run.proofs.Numbers.{did_ok}
+use Rattle.my_run.proofs.Working.Beginning.{open_polled}
+use Rattle.my_run.proofs.Working.Numbers.{did_ok}
 use Rattle.my_run.proofs.begin.poll_open.Goals as goal
 
 pub returns : goal.returns

@@ -4,7 +4,7 @@ use Rattle.my_run.specs.declared.slot.Slot.{Slot}
 use Rattle.my_run.specs.declared.slot.Slot.TheVariants.{There}
 use Rattle.my_run.specs.Did.{Did}
 use Rattle.my_run.specs.Grows.{Cancels}
-use Rattle.my_run.proofs.Cancelling.{cancelled, not_cancelled}
+use Rattle.my_run.proofs.Working.Cancelling.{cancelled, not_cancelled}
 use Rattle.my_run.proofs.cancel.cancel_there.Goals as goal
 
 pub returns : goal.returns

@@ -1,6 +1,6 @@
 use Rattle.std.proofs.Common.{◌≡◌, ◌++◌, ◌∷◌, [], length, rules}
 use Rattle.my_client.specs.Login.{login_of}
-use Rattle.my_run.proofs.Connecting.{stepped_dialed, at_end}
+use Rattle.my_run.proofs.Working.Connecting.{stepped_dialed, at_end}
 use Rattle.my_run.proofs.connect.connect.Goals as goal
 
 pub returns-clause-steps : goal.returns-clause-steps

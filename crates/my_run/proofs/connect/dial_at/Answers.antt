@@ -1,7 +1,7 @@
 use Rattle.std.proofs.Common.{◌∙◌, rules}
 use Rattle.std.proofs.lemmas.Result.{IfOk-weaker}
 use Rattle.my_client.specs.Login.{login_of}
-use Rattle.my_run.proofs.Connecting.{linked, dial_held, dial_failed}
+use Rattle.my_run.proofs.Working.Connecting.{linked, dial_held, dial_failed}
 use Rattle.my_run.proofs.connect.dial_at.Goals as goal
 
 pub returns-in-Link-clause-dialed : goal.returns-in-Link-clause-dialed

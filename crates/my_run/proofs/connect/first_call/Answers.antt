@@ -1,6 +1,6 @@
 use Rattle.my_client.specs.Login.{login_of}
 use Rattle.my_run.specs.Sums.{use_of}
-use Rattle.my_run.proofs.Connecting.{joins_first}
+use Rattle.my_run.proofs.Working.Connecting.{joins_first}
 use Rattle.my_run.proofs.connect.first_call.Goals as goal
 
 pub returns : goal.returns

@@ -4,8 +4,8 @@ use Rattle.my_run.specs.declared.gather.Gathering.TheVariants.{On, Over}
 use Rattle.my_run.specs.Gathering.{Goes}
 use Rattle.my_link.specs.Looks.{Looks}
 use Rattle.my_run.specs.Sums.{use_of}
-use Rattle.my_run.proofs.Readying.{asked_next, polled_open, polled_ready}
-use Rattle.my_run.proofs.Gathered.{gather_next, gather_done, goes_on_open}
+use Rattle.my_run.proofs.Working.Readying.{asked_next, polled_open, polled_ready}
+use Rattle.my_run.proofs.Working.Gathered.{gather_next, gather_done, goes_on_open}
 use Rattle.my_run.proofs.gather.gather.Goals as goal
 
 pub returns-in-Over : goal.returns-in-Over

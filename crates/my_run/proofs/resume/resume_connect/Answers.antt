@@ -1,7 +1,7 @@
 use Rattle.my_client.specs.Conn.{kept_of}
 use Rattle.my_link.specs.Looks.{Looks}
 use Rattle.my_run.specs.Sums.{use_of}
-use Rattle.my_run.proofs.Connecting.{joins_so}
+use Rattle.my_run.proofs.Working.Connecting.{joins_so}
 use Rattle.my_run.proofs.resume.resume_connect.Goals as goal
 
 pub returns : goal.returns

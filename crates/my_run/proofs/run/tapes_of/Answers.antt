@@ -1,6 +1,6 @@
 use Rattle.std.proofs.Common.{◌≡◌, ◌<◌, ◌+◌, suc, length, map, vec_len, rules, arith}
 use Rattle.my_run.specs.Tapes.{tape_view}
-use Rattle.my_run.proofs.Taping.{tape_on}
+use Rattle.my_run.proofs.Runs.Taping.{tape_on}
 use Rattle.my_run.proofs.run.tapes_of.Goals as goal
 
 pub slots-preserved : goal.slots-preserved

@@ -1,5 +1,5 @@
 use Rattle.std.proofs.Common.{◌≡◌, ◌++◌, ◌∷◌, [], rules}
-use Rattle.my_run.proofs.Taping.{call_on}
+use Rattle.my_run.proofs.Runs.Taping.{call_on}
 use Rattle.my_run.proofs.tape.tape_calls.Goals as goal
 
 pub calls-preserved : goal.calls-preserved

@@ -1,7 +1,7 @@
 use Rattle.std.proofs.Common.{◌<◌, suc, length, rules}
 use Rattle.my_client.specs.Login.{login_of}
-use Rattle.my_run.proofs.Numbers.{stood_here}
-use Rattle.my_run.proofs.Readying.{ready_here}
+use Rattle.my_run.proofs.Working.Numbers.{stood_here}
+use Rattle.my_run.proofs.Working.Readying.{ready_here}
 use Rattle.my_run.proofs.Working.{work_past, work_put}
 use Rattle.my_run.proofs.work.work_at.Goals as goal
 

@@ -2,8 +2,8 @@ use Rattle.std.proofs.lemmas.Result.{IfOk-weaker}
 use Rattle.my_client.specs.Login.{login_of}
 use Rattle.my_run.specs.declared.slot.Slot.TheVariants.{Gone, Held}
 use Rattle.my_run.specs.declared.work.Work.TheVariants as works
-use Rattle.my_run.proofs.Cancelling.{dropped_did}
-use Rattle.my_run.proofs.Resuming.{dial_resumed}
+use Rattle.my_run.proofs.Working.Cancelling.{dropped_did}
+use Rattle.my_run.proofs.Working.Resuming.{dial_resumed}
 use Rattle.my_run.proofs.Working.{work_is, held_did}
 use Rattle.my_run.proofs.work.work_held.Goals as goal
 

@@ -1,6 +1,6 @@
 use Rattle.std.proofs.lemmas.Result.{IfOk-weaker}
 use Rattle.my_client.specs.Login.{login_of}
-use Rattle.my_run.proofs.Numbers.{put_did}
+use Rattle.my_run.proofs.Working.Numbers.{put_did}
 use Rattle.my_run.proofs.Working.{gone_did, ended_did, in_held}
 use Rattle.my_run.proofs.work.work_on.Goals as goal
 

@@ -13,8 +13,8 @@ use Rattle.my_grammar.specs.Kinds.{head_kind, columns_end_kind, kind_by}
 use Rattle.my_grammar.specs.Sets.{SetHead, Sets, NoSets, Lone, Failed as FailedSet, Heading, Headed, Begun, Ended, Broken, Packet, each, at_most_one, head_packets, packets_in, spot_in, columns_in}
 use Rattle.my_grammar.specs.FitSets.{is_head, IsClose, IsHeading, IsBegun, FitSets}
 use Rattle.my_grammar.specs.Talk.{Talk, Start, Unwelcome, Greeted, Settled, Asked, Replied, Queried, Silent, Fits}
-use Rattle.my_grammar.proofs.Known.{is_head_kind, known_head, is_then, head_kind_is}
-use Rattle.my_grammar.proofs.SetGrowth.{error_is}
+use Rattle.my_grammar.proofs.Growth.Known.{is_head_kind, known_head, is_then, head_kind_is}
+use Rattle.my_grammar.proofs.Growth.SetGrowth.{error_is}
 use Rattle.my_grammar.proofs.Cutting.{Reaches, at_origin, goes_on}
 
 -- each is within the limit

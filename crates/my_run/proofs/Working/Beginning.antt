@@ -1,5 +1,5 @@
 -- How a call begins on a connection.
-use Rattle.my_client.proofs.Beginning.{begins, closed_kept, is_asked, is_idle, refuses}
+use Rattle.my_client.proofs.Hearing.Beginning.{begins, closed_kept, is_asked, is_idle, refuses}
 use Rattle.std.proofs.Common.{ℕ, ◌≡◌, ◌≢◌, List, [], ◌∷◌, Bool, true, false, Option, Some, None, refl, sym, ap, ◌∙◌, subst, arith}
 use Rattle.std.proofs.lemmas.Bool.Decides.{nat_tests}
 use Rattle.my_grammar.specs.declared.login.Login.{Login}
@@ -31,7 +31,7 @@ use Rattle.my_client.specs.Ready.{StandsBy}
 use Rattle.my_run.specs.Keeps.{LinkSpent}
 use Rattle.my_link.specs.Looks.{Looks}
 use Rattle.my_client.specs.Rests.{Rests, IsAsked}
-use Rattle.my_run.proofs.Playing.{plays_end, there_plays, slot_rests}
+use Rattle.my_run.proofs.Working.Playing.{plays_end, there_plays, slot_rests}
 
 -- the use of one poll
 pub silent_elsewhere : (u : Use) (us : List Use) (n m : ℕ) → us ≡ u ∷ [] → u.number ≡ n → m ≢ n → IsSilent m us

@@ -39,9 +39,9 @@ use Rattle.my_run.specs.Keeps.{LinkSpent}
 use Rattle.my_link.specs.Looks.{Looks}
 use Rattle.my_client.specs.Rests.{Rests, IsAsked}
 use Rattle.my_client.specs.Conn.{kept_of}
-use Rattle.my_client.proofs.Beginning.{begins, refuses, closed_kept, is_idle}
-use Rattle.my_run.proofs.Beginning.{closed_did}
-use Rattle.my_run.proofs.Playing.{plays_on, plays_end, holds_after, there_plays}
+use Rattle.my_client.proofs.Hearing.Beginning.{begins, refuses, closed_kept, is_idle}
+use Rattle.my_run.proofs.Working.Beginning.{closed_did}
+use Rattle.my_run.proofs.Working.Playing.{plays_on, plays_end, holds_after, there_plays}
 
 -- nothing was gathered yet
 pub none_gathered : {L : Type 0} (look : L → Looks) (login : Login) (n : ℕ) (a : Asked) (c : Conn L) (us : List Use) → us ≡ [] → IsAsked login c.session.seen (kept_of c) a → GatherSoFar look login n a c c us

@@ -32,9 +32,9 @@ use Rattle.my_link.specs.Looks.{Looks}
 use Rattle.my_client.specs.Rests.{Rests, IsAsked}
 use Rattle.my_client.specs.Conn.{kept_of}
 use Rattle.my_run.specs.Slot.{handle_of}
-use Rattle.my_run.proofs.Beginning.{silent_elsewhere}
-use Rattle.my_run.proofs.Numbers.{played_elsewhere, put_count, put_here, put_there, held_put}
-use Rattle.my_run.proofs.Playing.{plays_end, there_plays, ended_plays}
+use Rattle.my_run.proofs.Working.Beginning.{silent_elsewhere}
+use Rattle.my_run.proofs.Working.Numbers.{played_elsewhere, put_count, put_here, put_there, held_put}
+use Rattle.my_run.proofs.Working.Playing.{plays_end, there_plays, ended_plays}
 
 -- a link of which nothing was used
 pub fresh_spent : (plans : Plans) (n : ℕ) (x : Looks) (all : List Use) → x.items ≡ plans.reads n → x.writes ≡ plans.writes n → IsSilent n all → LinkSpent plans n x [] all 0

@@ -30,10 +30,10 @@ use Rattle.my_client.specs.Rests.{Rests}
 use Rattle.my_run.specs.Slot.{handle_of}
 use Rattle.my_client.specs.Conn.{kept_of}
 use Rattle.my_run.specs.Sums.{IsSilent}
-use Rattle.my_client.proofs.Beginning.{is_asked, is_idle}
+use Rattle.my_client.proofs.Hearing.Beginning.{is_asked, is_idle}
 use Rattle.my_client.proofs.Hearing.{answer_counts, ended_of}
-use Rattle.my_client.proofs.Failing.{is_leaving}
-use Rattle.my_run.proofs.Playing.{slot_rests}
+use Rattle.my_client.proofs.Hearing.Failing.{is_leaving}
+use Rattle.my_run.proofs.Working.Playing.{slot_rests}
 
 -- where a step has no uses, nothing was met
 none_silent : (us : List Use) (m : ℕ) → us ≡ [] → IsSilent m us

@@ -22,10 +22,10 @@ use Rattle.my_world.specs.World.{Plans}
 use Rattle.my_client.specs.Rests.{IsAsked}
 use Rattle.my_run.specs.Slot.{handle_of}
 use Rattle.my_client.specs.Conn.{kept_of}
-use Rattle.my_client.proofs.Beginning.{is_asked, is_idle}
-use Rattle.my_run.proofs.Beginning.{silent_elsewhere}
-use Rattle.my_run.proofs.Cancelling.{same_did}
-use Rattle.my_run.proofs.Playing.{there_plays}
+use Rattle.my_client.proofs.Hearing.Beginning.{is_asked, is_idle}
+use Rattle.my_run.proofs.Working.Beginning.{silent_elsewhere}
+use Rattle.my_run.proofs.Working.Cancelling.{same_did}
+use Rattle.my_run.proofs.Working.Playing.{there_plays}
 
 -- what is open there
 pub open_asked : {L : Type 0} (login : Login) (c : Conn L) → is_open c.session.seen.task ≡ true → StandsBy login c → (a : Asked) × IsAsked login c.session.seen (kept_of c) a

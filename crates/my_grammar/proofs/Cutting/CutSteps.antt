@@ -19,7 +19,7 @@ use Rattle.my_grammar.specs.Cut.{Read, Trailing, Cut, front_of, kind_of, read_fr
 use Rattle.my_grammar.specs.CutLaws.{StopsAt}
 use Rattle.my_grammar.specs.Reading.{Hears, HeardOne, HeardNone, StopsHere}
 use Rattle.my_grammar.specs.Progress.{IsAt, IsReadTo, AreAt, IsFound, talk_of, rest_kind, front_rest}
-use Rattle.my_grammar.proofs.Fronts.{takes_whole}
+use Rattle.my_grammar.proofs.Cutting.Fronts.{takes_whole}
 use Rattle.my_grammar.proofs.Growth.{grows, reads}
 use Rattle.my_grammar.proofs.Cutting.{reads_one, stops_reads_none}
 

@@ -14,7 +14,7 @@ use Rattle.my_session.specs.Steps.{AtBegun, is_settled}
 use Rattle.my_grammar.specs.declared.spot.Spot.{Spot}
 use Rattle.my_client.specs.Kept.{Kept, IsHeard, made_of, is_note, answers_in}
 use Rattle.my_client.specs.Ready.{IsReady, WasJoined}
-use Rattle.my_client.proofs.Beginning.{closed_kept, is_idle}
+use Rattle.my_client.proofs.Hearing.Beginning.{closed_kept, is_idle}
 
 -- notes connect nothing
 note_joins : (c : CallKind) (t : Told) → is_note c t ≡ true → connects t c ≡ false

@@ -28,7 +28,7 @@ use Rattle.my_client.specs.Causes.{KindBy, IoBy, ErrorBy}
 use Rattle.my_client.specs.Kept.{Asked, Kept, IsHeard}
 use Rattle.my_client.specs.Rests.{IsAsked, IsHeld, FailsNow, HasFailed, AwaitsBytes}
 use Rattle.my_client.proofs.Hearing.{heard_end, heard_failing}
-use Rattle.my_client.proofs.Stepping.{StepStands, fails_now, nothing_faults}
+use Rattle.my_client.proofs.Hearing.Stepping.{StepStands, fails_now, nothing_faults}
 
 -- a quit of a closed session doesn't fail
 leaving_told : (s : Seen) → s.task ≡ Leaving → s.owed ≡ [] → (next s).does ≡ Tells ToldReady

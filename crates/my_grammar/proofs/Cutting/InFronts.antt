@@ -7,7 +7,7 @@ use Rattle.my_frame.specs.Front.{Front, Waiting, Broken, Whole, front_at}
 use Rattle.my_frame.specs.FrontLaws.{FrontMeans, IsWhole}
 use Rattle.my_frame.specs.Framed.{IsFramed}
 use Rattle.my_grammar.specs.Reading.{InFront, NoneInFront}
-use Rattle.my_grammar.proofs.Fronts.{takes_whole}
+use Rattle.my_grammar.proofs.Cutting.Fronts.{takes_whole}
 
 -- the span of a whole payload leads after it
 framed_stands : (n limit : ℕ) (bytes p rest : List ℕ) (next : ℕ) → front_at n limit bytes ≡ Whole p rest next → IsWhole n limit bytes p rest next → InFront n limit bytes (record { payload = p; span = record { len = length bytes - length rest; next = next } })

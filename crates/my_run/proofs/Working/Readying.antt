@@ -27,12 +27,12 @@ use Rattle.my_client.specs.Rests.{Rests, IsAsked}
 use Rattle.my_client.specs.Conn.{kept_of}
 use Rattle.my_run.specs.Slot.{handle_of}
 use Rattle.my_value.specs.RowParts.{RowParts}
-use Rattle.my_client.proofs.Beginning.{begins, closed_kept, is_idle}
-use Rattle.my_run.proofs.Gathered.{next_row}
-use Rattle.my_run.proofs.Joining.{polled_joined, row_open, at_joined}
-use Rattle.my_client.proofs.Readying.{is_ready, at_begun}
-use Rattle.my_run.proofs.Numbers.{stood_here, handle_got}
-use Rattle.my_run.proofs.Resuming.{open_asked}
+use Rattle.my_client.proofs.Hearing.Beginning.{begins, closed_kept, is_idle}
+use Rattle.my_run.proofs.Working.Gathered.{next_row}
+use Rattle.my_run.proofs.Runs.Joining.{polled_joined, row_open, at_joined}
+use Rattle.my_client.proofs.Hearing.Readying.{is_ready, at_begun}
+use Rattle.my_run.proofs.Working.Numbers.{stood_here, handle_got}
+use Rattle.my_run.proofs.Working.Resuming.{open_asked}
 
 -- at one number
 pub ready_here : {L : Type 0} (ss : List (Slot L)) (n : ℕ) (v : Slot L) → n < length ss → v ≡ get_or ss n v → AreReady ss → SlotReady v

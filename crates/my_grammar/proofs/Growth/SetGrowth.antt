@@ -13,7 +13,7 @@ use Rattle.my_grammar.specs.Growth.{replies, not_greets}
 use Rattle.my_grammar.specs.Kinds.{head_kind, column_kind, columns_end_kind, row_kind, kind_by}
 use Rattle.my_grammar.specs.Sets.{SetHead, Sets, NoSets, Lone, Failed as FailedSet, Heading, Headed, Begun, Ended, Broken, Packet, each, at_most_one, head_packets, packets_in, spot_in, columns_in, with_column_of, with_error, grow_sets}
 use Rattle.my_grammar.specs.FitSets.{is_head, IsClose, IsHeading, FitSets}
-use Rattle.my_grammar.proofs.Known.{is_head_kind, is_column_kind, is_close_kind, is_row_kind, known_head, known_column, known_close, known_row, is_then, head_kind_is, after_head_is, more_cases, idle_bad}
+use Rattle.my_grammar.proofs.Growth.Known.{is_head_kind, is_column_kind, is_close_kind, is_row_kind, known_head, known_column, known_close, known_row, is_then, head_kind_is, after_head_is, more_cases, idle_bad}
 
 -- The sets y are the sets x with this payload.
 pub record Grown (d : Bool) (x y : Sets) (s : Spot) (n : ℕ) (k : Kind) (p : List ℕ) : Type 0 where
