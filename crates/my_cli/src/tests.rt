@@ -102,10 +102,10 @@ fn statuses_of_words_and_lines(rt: HostRuntime) -> Result<(), Fail> {
             "no such command: script; --help teaches the words",
         ),
         (
-            &["fly", "caf\u{e9}\n"],
+            &["fly", "a\u{1}b"],
             "",
             2,
-            "no such command: fly caf???; --help teaches the words",
+            "no such command: fly a?b; --help teaches the words",
         ),
         (
             &["script", WORD, "more"],

@@ -13,7 +13,8 @@ ghost use Rattle.my_grammar.specs.CutLaws.{IsCut, IsRead, RestGoesOn, RestStays}
 /// A payload within the limit that fits where an exchange awaits one makes it an exchange with one payload more, in each
 /// reading: its place, its payloads, both sides' turns, and that it is as the protocol has it.
 pub fn each_payload_grows()
-    ensures { (t : Talk) (p : List ℕ) → is_bad (kind_of t p) ≡ false → length p ≤ limit_of t → Fits t → Grows t (kind_of t p) p }
+    ensures { (t : Talk) (p : List ℕ) → is_bad (kind_of t p) ≡ false → length p ≤ limit_of t → Fits t
+        → Grows t (kind_of t p) p }
 {}
 
 /// What a payload and the client's answer to it do to the running number and to each side's bytes.
@@ -23,7 +24,8 @@ pub fn each_payload_counts()
 
 /// What was read of an exchange is found again in its bytes: reading from its beginning comes to the same place, whatever follows.
 pub fn exchange_is_reached()
-    ensures { (t : Talk) (rest : List ℕ) → Fits t → read_from (origin t) (server_bytes (turns t) ++ rest) ≡ read_from t rest }
+    ensures { (t : Talk) (rest : List ℕ) → Fits t
+        → read_from (origin t) (server_bytes (turns t) ++ rest) ≡ read_from t rest }
 {}
 
 /// The bytes of an exchange that is over are cut off as that exchange, and what follows is cut by the next ones.
@@ -45,6 +47,8 @@ pub fn cutting_is_sound()
 /// However bytes are cut into exchanges, what was read stays when more bytes come, and so does what can't be read; and further
 /// exchanges are cut after those that are over.
 pub fn cutting_stays()
-    ensures stays { (ts : List Talk) (bytes more : List ℕ) → RestStays more (cut ts bytes).talks (cut ts bytes).rest (cut ts (bytes ++ more)) }
-    ensures goes_on { (ts us : List Talk) (bytes : List ℕ) → RestGoesOn us (cut ts bytes).talks (cut ts bytes).rest (cut (ts ++ us) bytes) }
+    ensures stays { (ts : List Talk) (bytes more : List ℕ)
+        → RestStays more (cut ts bytes).talks (cut ts bytes).rest (cut ts (bytes ++ more)) }
+    ensures goes_on { (ts us : List Talk) (bytes : List ℕ)
+        → RestGoesOn us (cut ts bytes).talks (cut ts bytes).rest (cut (ts ++ us) bytes) }
 {}

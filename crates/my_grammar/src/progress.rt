@@ -64,7 +64,9 @@ pub struct Progress {
 }
 
 fn asked(alloc: Global, spot: Spot, terms: Terms, command: &[u8]) -> Result<Progress, NoMemory>
-    ensures { IfOk result (λ p. (p.context ≡ record { spot = spot; columns = 0; terms = terms }) × (p.number ≡ number_after_payload command.now 0) × (p.packets.items ≡ []) × (p.sent ≡ [] ++ chunks command.now 0)) }
+    ensures { IfOk result (λ p. (p.context ≡ record { spot = spot; columns = 0; terms = terms })
+        × (p.number ≡ number_after_payload command.now 0) × (p.packets.items ≡ [])
+        × (p.sent ≡ [] ++ chunks command.now 0)) }
 {
     let mut sent = Queue::new(alloc);
     let number = sent.push_payload(command, 0)?;
@@ -88,7 +90,8 @@ fn whole_in_front(
     number: u8,
     limit: u64,
 ) -> Result<Option<FramedPayload>, NoMemory>
-    ensures { IfOk result (λ o. MatchOption o (NoneInFront (front_at number limit bytes.now)) (λ framed. InFront number limit bytes.now framed)) }
+    ensures { IfOk result (λ o. MatchOption o (NoneInFront (front_at number limit bytes.now))
+        (λ framed. InFront number limit bytes.now framed)) }
 {
     match payload_in_front(alloc, bytes, number, limit) {
         Ok(found) => Ok(found),
@@ -186,7 +189,8 @@ impl Progress {
         login: &Login,
         bytes: &[u8],
     ) -> Result<Option<usize>, NoMemory>
-        ensures { IfOk result (λ o. MatchOption o (HeardNone bytes.now self.old self.new) (λ len. HeardOne login.now bytes.now self.old self.new len)) }
+        ensures { IfOk result (λ o. MatchOption o (HeardNone bytes.now self.old self.new)
+            (λ len. HeardOne login.now bytes.now self.old self.new len)) }
     {
         let found = whole_in_front(alloc, bytes, self.number, self.context.terms.limit)?;
         let Some(framed) = found else {

@@ -103,7 +103,8 @@ fn admitted(plans: bool, sofar: Sofar, item: &Item) -> Option<Sofar>
 }
 
 fn add(script: &mut Script, item: Item) -> Result<(), NoMemory>
-    ensures { OnOk result ((more : Scripts) → front script.new.plan.items script.new.steps.items more ≡ front script.old.plan.items script.old.steps.items (with_item item more)) }
+    ensures { OnOk result ((more : Scripts) → front script.new.plan.items script.new.steps.items more
+        ≡ front script.old.plan.items script.old.steps.items (with_item item more)) }
 {
     match item {
         Item::Nothing | Item::Wrong => Ok(()),
