@@ -58,13 +58,7 @@ fn tell<R: Eprint + AllocGlobal>(rt: &R, words: &[String], status: &Status) {
     let _ = match message(rt.alloc(), words, status) {
         Ok(None) => Ok(()),
         Ok(Some(text)) => eprintln!(rt; "my_cli: {text}"),
-        Err(_) => match status {
-            Status::NoMemory => eprintln!(rt; "my_cli: out of memory"),
-            _ => eprintln!(rt;
-                "my_cli: no memory to tell the cause of status {}",
-                status.code()
-            ),
-        },
+        Err(_) => eprintln!(rt; "my_cli: out of memory"),
     };
 }
 
