@@ -5,15 +5,10 @@ ghost use Rattle.my_session.specs.Calls.{is_open};
 
 use crate::hex::bytes_of;
 use crate::play::{LOGIN, login};
-use my_frame::{Blob, MemSink, MemSource, Sink, SinkStep, Source, SourceStep};
+use my_frame::{MemSink, MemSource, Sink, SinkStep, Source, SourceStep};
 use my_session::{Answer, Call, Error, LinkFault, Session, SessionStep};
-use my_value::Value;
-use std::alloc::{AllocError, Global};
+use std::alloc::Global;
 use std::test::Fail;
-
-/// A response of one row: a column, the row `1`, and the end.
-const ONE_ROW: &str =
-    "01000001 01 17000002 036465660000000131000c3f0001000000088100000000 02000003 0131 07000004 fe000002000000";
 
 /// Steps the open call until it is done: sends what it owes, and hands it what the server says.
 fn carry<S: Source, K: Sink>(
@@ -58,38 +53,14 @@ fn call<S: Source, K: Sink>(
     Ok(Some(carry(alloc, session, server, out)?))
 }
 
-/// What is shown of an answer.
-fn shown(alloc: Global, answer: Result<Option<Answer>, Error>) -> Result<String, AllocError> {
-    match answer {
-        Ok(Some(Answer::Row(row))) => match row.as_ref(0) {
-            Some(Value::Bytes(cell)) => String::from_utf8_lossy(alloc, cell.as_slice()),
-            _ => String::from_str(alloc, "another row"),
-        },
-        Ok(Some(Answer::Ready)) => String::from_str(alloc, "ready"),
-        Ok(Some(Answer::SetEnd)) => String::from_str(alloc, "end"),
-        Ok(Some(Answer::NoSet)) => String::from_str(alloc, "none"),
-        Ok(None) => String::from_str(alloc, "may not begin"),
-        Err(error) => format!(in alloc; "{error}"),
-    }
-}
-
 #[test]
-fn one_row(rt: HostRuntime) -> Result<(), Fail> {
+fn a_session_connects(rt: HostRuntime) -> Result<(), Fail> {
     let alloc = rt.alloc();
-    let mut bytes = bytes_of(alloc, LOGIN)?;
-    bytes.extend_from_slice(&bytes_of(alloc, ONE_ROW)?)?;
-    let mut server = MemSource::new(bytes);
+    let mut server = MemSource::new(bytes_of(alloc, LOGIN)?);
     let mut out = MemSink::new(alloc, 256)?;
     let mut session = Session::new(alloc, login(alloc, Some(1024), Some(28800))?)?;
-    for want in ["ready", "ready", "1", "end", "none"] {
-        let next = match want {
-            "ready" if out.taken().is_empty() => Call::Connect,
-            "ready" => Call::Query(Blob::from_slice(alloc, b"SELECT 1")?),
-            _ => Call::NextRow,
-        };
-        let answer = call(alloc, &mut session, next, &mut server, &mut out);
-        assert_eq!(rt; shown(alloc, answer)?.as_str(), want);
-    }
-    assert!(rt; out.taken().ends_with(b"SELECT 1".as_slice()));
+    let answer = call(alloc, &mut session, Call::Connect, &mut server, &mut out);
+    assert!(rt; matches!(&answer, Ok(Some(Answer::Ready))));
+    assert!(rt; out.taken().starts_with(b"\x3c\x00\x00\x01".as_slice()));
     Ok(())
 }

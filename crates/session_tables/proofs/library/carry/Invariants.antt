@@ -3,4 +3,4 @@ use Rattle.my_session.specs.Calls.{is_open}
 use Rattle.session_tables.proofs.library.carry.Given as goal
 
 abbrev pub invariant-steps : goal.invariant-steps
-invariant-steps l = is_open l.session.seen.task ≡ true
+invariant-steps g l = is_open l.session.seen.task ≡ true
