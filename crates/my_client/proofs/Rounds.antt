@@ -5,7 +5,7 @@ use Rattle.my_frame.specs.declared.limits.TheConstants.{MOST_TAKEN}
 use Rattle.std.proofs.lemmas.List.{append_assoc, append-nil, length-append}
 use Rattle.my_frame.specs.Outside.{Rose}
 use Rattle.my_grammar.specs.declared.login.Login.{Login}
-use Rattle.my_session.specs.Calls.{is_open}
+use Rattle.my_session.specs.Tasks.{is_open}
 use Rattle.my_session.specs.Seen.{Seen}
 use Rattle.my_link.specs.Looks.{Looks}
 use Rattle.my_link.specs.Met.{nothing_met}
