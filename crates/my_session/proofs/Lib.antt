@@ -2,6 +2,7 @@ pub mod Ends
 pub mod Faults
 pub mod Fits
 pub mod History
+pub mod Mirror
 pub mod SettingsLaw
 pub mod Stands
 pub mod Steps

@@ -8,6 +8,7 @@ pub mod History
 pub mod Law
 pub mod LinkErrors
 pub mod Machine
+pub mod Mirror
 pub mod Passed
 pub mod Prefix
 pub mod Seen

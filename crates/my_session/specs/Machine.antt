@@ -34,6 +34,7 @@ use Rattle.my_session.specs.declared.answer.Tick.TheVariants as ticks
 use Rattle.my_reading.specs.Calls.{call_of}
 use Rattle.my_session.specs.Tasks.{fault_in}
 use Rattle.my_reading.specs.Commands.{command_of, connecting, command_in}
+pub use Rattle.my_reading.specs.Course.{is_greeting}
 use Rattle.my_reading.specs.Errors.{codec_error, invalid_data, unexpected_eof, server_error}
 use Rattle.my_session.specs.LinkErrors.{link_error}
 use Rattle.my_reading.specs.Facts.{facts_after}
@@ -98,11 +99,6 @@ advanced s k p rest next = record {
 -- an exchange begins
 abbrev pub queued : Seen → Task → Talk → Seen
 queued s t talk = record { context = context_of talk; task = t; text = s.text; untold = s.untold; closed = s.closed; ended = s.ended; number = number_of (turns talk); unread = s.unread; owed = s.owed ++ client_bytes (turns talk); facts = s.facts; login = s.login }
-
--- an ERR that comes in place of the greeting has no state
-abbrev pub is_greeting : Spot → Bool
-is_greeting spots.Greeting = true
-is_greeting s = false
 
 -- a server's error ends the call, and a session that isn't connected
 abbrev pub refused : Seen → Seen → Option ErrPacket → Move

@@ -5,6 +5,7 @@ ghost use Rattle.my_session.specs.Complete.{EachWholeCall};
 ghost use Rattle.my_session.specs.Ends.{EachEnd};
 ghost use Rattle.my_session.specs.Fits.{EachAnswerFits};
 ghost use Rattle.my_session.specs.Law.{EachHistory};
+ghost use Rattle.my_session.specs.Mirror.{EachMoveReads};
 ghost use Rattle.my_session.specs.SettingsLaw.{EachSetting};
 
 /// For each session and each history of it: the exchanges are those that the command table has for the
@@ -46,4 +47,11 @@ pub fn each_whole_call()
 /// of the first set that the server answers, and hold from that set's end on; nothing later changes them.
 pub fn each_setting()
     ensures { EachSetting }
+{}
+
+/// Each move of an open call is some steps of the one reading of its connection: the session stands at the place where they
+/// lead, asks to send where the reading owes bytes, asks for bytes where it awaits some, and returns what the call comes to
+/// there; where the link reported its end, an end that came too early where bytes are awaited.
+pub fn each_move_reads()
+    ensures { EachMoveReads }
 {}

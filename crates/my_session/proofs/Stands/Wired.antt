@@ -24,7 +24,7 @@ use Rattle.my_session.specs.Machine.{reply_to, reply_bytes, reply_number}
 use Rattle.my_session.specs.Stands.{Wire}
 
 -- what the client says after a payload
-reply_is : (login : Login) (k : Kind) (p : List ℕ) (n : ℕ) → said login k p n ≡ reply_bytes (reply_to login k p) (number_after_payload p n)
+pub reply_is : (login : Login) (k : Kind) (p : List ℕ) (n : ℕ) → said login k p n ≡ reply_bytes (reply_to login k p) (number_after_payload p n)
 reply_is login (Greets c) p n = refl
 reply_is login (Good status) p n = refl
 reply_is login Failed p n = refl
@@ -35,16 +35,16 @@ reply_is login Row p n = refl
 reply_is login (End status) p n = refl
 reply_is login Bad p n = refl
 
-number_is : (login : Login) (k : Kind) (p : List ℕ) (n : ℕ) → number_next login k p n ≡ reply_number (reply_to login k p) (number_after_payload p n)
-number_is login (Greets c) p n = refl
-number_is login (Good status) p n = refl
-number_is login Failed p n = refl
-number_is login (Count c) p n = refl
-number_is login Column p n = refl
-number_is login ColumnsDone p n = refl
-number_is login Row p n = refl
-number_is login (End status) p n = refl
-number_is login Bad p n = refl
+pub next_is : (login : Login) (k : Kind) (p : List ℕ) (n : ℕ) → number_next login k p n ≡ reply_number (reply_to login k p) (number_after_payload p n)
+next_is login (Greets c) p n = refl
+next_is login (Good status) p n = refl
+next_is login Failed p n = refl
+next_is login (Count c) p n = refl
+next_is login Column p n = refl
+next_is login ColumnsDone p n = refl
+next_is login Row p n = refl
+next_is login (End status) p n = refl
+next_is login Bad p n = refl
 
 -- after another payload than a greeting the client says nothing
 pub silent : (login : Login) (k : Kind) (p : List ℕ) (n : ℕ) → not_greets k ≡ true → reply_bytes (reply_to login k p) n ≡ []
@@ -181,7 +181,7 @@ module _ (login : Login) (taken sent : List ℕ) (call : Call) (talk : Talk) (ol
         owed_is = λ e. ap (λ bs. bs ++ reply_bytes (reply_to login k p) next) (w.owed_is e);
         dropped = λ no. let stop : true ≡ false = sym no ∙ alive in cc;
         answered = λ a. ap (λ bs. bs ++ reply_bytes (reply_to login k p) next) (sym (w.owed_is alive) ∙ nothing) ∙ silent login k p next (sym (ap ends_answered g.packets_are) ∙ a);
-        number_is = ap (reply_number (reply_to login k p)) (sym following) ∙ sym (number_is login k p n) ∙ sym r.number ∙ sym (ap number_of turned);
+        number_is = ap (reply_number (reply_to login k p)) (sym following) ∙ sym (next_is login k p n) ∙ sym r.number ∙ sym (ap number_of turned);
         context_is = ap (λ c. context_after c k) w.context_is ∙ sym g.context;
         login_is = g.login_is login ∙ w.login_is;
         fits = g.fits;

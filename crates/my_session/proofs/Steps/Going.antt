@@ -216,7 +216,7 @@ some_parts : (count : ℕ) (p : List ℕ) (n : ℕ) → numbered (split_full cou
 some_parts zero p n e = cc
 some_parts (suc count) p n e = cc
 
-some_bytes : (p : List ℕ) (n : ℕ) → chunks p n ≢ []
+pub some_bytes : (p : List ℕ) (n : ℕ) → chunks p n ≢ []
 unfolding chunks parts_of
 some_bytes p n e = some_parts (length p / full_length) p n e
 

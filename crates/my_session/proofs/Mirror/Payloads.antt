@@ -1,0 +1,473 @@
+-- A payload that the machine reads is one that the reading reads, and both make the same of it.
+use Rattle.std.proofs.Common.{◌≡◌, ℕ, suc, List, [], ◌∷◌, ◌++◌, length, nat_lt, ◌&&◌, not, Bool, true, false, cond, Option, Some, None, inl, refl, sym, ap, ◌∙◌, subst}
+use Rattle.my_flags.specs.declared.flags.CapabilityFlags.{CapabilityFlags}
+use Rattle.my_flags.specs.declared.flags.StatusFlags.{StatusFlags}
+use Rattle.my_flags.specs.Sets.{deprecates_eof}
+use Rattle.my_frame.specs.declared.fault.CodecFault.TheVariants.{TooLarge}
+use Rattle.my_frame.specs.Front.{Whole, front_at}
+use Rattle.my_frame.specs.FrontLaws.{IsWhole}
+use Rattle.my_reply.specs.declared.err.ErrPacket.{ErrPacket}
+use Rattle.my_reply.specs.ErrPacket.{err_at}
+use Rattle.my_value.specs.RowParts.{RowParts}
+use Rattle.my_grammar.specs.declared.login.Login.{Login}
+use Rattle.my_grammar.specs.declared.spot.Context.{Context}
+use Rattle.my_grammar.specs.declared.spot.Kind.{Kind}
+use Rattle.my_grammar.specs.declared.spot.Kind.TheVariants as kinds
+use Rattle.my_grammar.specs.declared.spot.Spot.{Spot}
+use Rattle.my_grammar.specs.declared.spot.Spot.TheVariants as spots
+use Rattle.my_grammar.specs.Contexts.{is_bad, spot_after}
+use Rattle.my_grammar.specs.Cut.{kind_of, is_over, is_idle}
+use Rattle.my_grammar.specs.Growth.{grow, not_greets}
+use Rattle.my_grammar.specs.Kinds.{kind_there}
+use Rattle.my_grammar.specs.Response.{response}
+use Rattle.my_grammar.specs.Talk.{context_of, limit_of}
+use Rattle.my_reading.specs.declared.call.Call.{Call}
+use Rattle.my_reading.specs.declared.call.CallKind.{CallKind}
+use Rattle.my_reading.specs.declared.call.CallKind.TheVariants.{Connect, Query, NextRow, DropResult, Ping, Quit}
+use Rattle.my_reading.specs.declared.error.Error.{Error}
+use Rattle.my_reading.specs.declared.error.Error.TheVariants as errors
+use Rattle.my_reading.specs.declared.facts.Facts.{Facts}
+use Rattle.my_reading.specs.Calls.{kind_of as call_kind, is_connect}
+use Rattle.my_reading.specs.Commands.{arranging_texts}
+use Rattle.my_reading.specs.Course.{Part, All, Head, Item, Command, Goes, Stops, Returns, Step, step, step_of, failure, unfit, return, with_front, reads, after_payload, parts_of_texts, is_rows, is_greeting}
+use Rattle.my_reading.specs.Errors.{codec_error, invalid_data, server_error}
+use Rattle.my_reading.specs.Leads.{Leads, Here, Then}
+use Rattle.my_reading.specs.Place.{Place, exchanges, facts_at, facts_of, connects_in, with_end, with_talk}
+use Rattle.my_reading.specs.Rows.{row_at, row_or}
+use Rattle.my_reading.specs.Told.{Told, ToldReady, ToldRow, ToldEnd, ToldError, closes, closes_by}
+use Rattle.my_session.specs.declared.tables.Reaction.{Reaction}
+use Rattle.my_session.specs.declared.task.Task.{Task}
+use Rattle.my_session.specs.declared.task.Task.TheVariants as tasks
+use Rattle.my_session.specs.Machine.{Goes as MachineGoes, Passes, Tells, Move, advanced, fell, failed_by, with_task, refused, gave, passed, reacted, above, unless_above, reply_to, reply_bytes}
+use Rattle.my_session.specs.Mirror.{Mirrors, StandsAt, OpenAt, ReturnsAt, MoveReads, TaskStandsAt, own_parts, parts_left, passes_end}
+use Rattle.my_session.specs.Seen.{Seen}
+use Rattle.my_session.specs.Stands.{owes, call_with, is_shaking}
+use Rattle.my_session.specs.Tables.{react, react_whole, react_connect, react_query, react_ping, react_reading, react_dropping, is_breaking, is_connecting}
+use Rattle.my_session.specs.Tasks.{kind_in, fault_in}
+use Rattle.my_session.proofs.Faults.Payloads.{told_columns, row_reads}
+use Rattle.my_session.proofs.Mirror.Fields.{mirrors_fallen, mirrors_read, mirrors_with_end, step_here, front_here, kind_here, place_here}
+use Rattle.my_session.proofs.Stands.Spots.{is_known, known, row_spot, end_spot, not_greeting}
+use Rattle.my_session.proofs.Stands.Wired.{silent, limit_is}
+
+-- a closed session stands where it stood
+pub fallen_at : (s : Seen) (q : Place) (n : Seen) → Mirrors n.context n.number n.unread n.owed n.closed n.facts n.login q → StandsAt (fell n) q
+fallen_at s q n m = record {
+  mirrors = mirrors_fallen n.context n.number n.unread n.owed n.closed n.facts n.login q m;
+  end_is = λ no _. cc;
+  own_end = λ no. cc;
+  task_at = tt;
+  settled = λ _. refl;
+}
+
+-- a greeting comes in its place alone
+greeting_spot : (x : Spot) (c : CapabilityFlags) → is_known x (kinds.Greets c) ≡ true → is_greeting x ≡ true
+greeting_spot spots.Idle c e = cc
+greeting_spot spots.Greeting c e = refl
+greeting_spot spots.Authentication c e = cc
+greeting_spot spots.Single c e = cc
+greeting_spot spots.Head c e = cc
+greeting_spot spots.Further c e = cc
+greeting_spot (spots.Columns left) c e = cc
+greeting_spot spots.ColumnsEnd c e = cc
+greeting_spot spots.Rows c e = cc
+
+-- what may come in a handshake, or as a single answer
+is_simple : Kind → Bool
+is_simple (kinds.Greets c) = true
+is_simple (kinds.Good status) = true
+is_simple kinds.Failed = true
+is_simple kinds.Bad = true
+is_simple k = false
+
+simple_shaking : (x : Spot) (k : Kind) → is_shaking x ≡ true → is_simple k ≡ false → is_known x k ≡ true → ⊥
+unfolding is_simple
+simple_shaking spots.Greeting (kinds.Count n) e f g = cc
+simple_shaking spots.Greeting kinds.Column e f g = cc
+simple_shaking spots.Greeting kinds.ColumnsDone e f g = cc
+simple_shaking spots.Greeting kinds.Row e f g = cc
+simple_shaking spots.Greeting (kinds.End status) e f g = cc
+simple_shaking spots.Authentication (kinds.Count n) e f g = cc
+simple_shaking spots.Authentication kinds.Column e f g = cc
+simple_shaking spots.Authentication kinds.ColumnsDone e f g = cc
+simple_shaking spots.Authentication kinds.Row e f g = cc
+simple_shaking spots.Authentication (kinds.End status) e f g = cc
+simple_shaking spots.Greeting (kinds.Greets c) e f g = cc
+simple_shaking spots.Greeting (kinds.Good status) e f g = cc
+simple_shaking spots.Greeting kinds.Failed e f g = cc
+simple_shaking spots.Greeting kinds.Bad e f g = cc
+simple_shaking spots.Authentication (kinds.Greets c) e f g = cc
+simple_shaking spots.Authentication (kinds.Good status) e f g = cc
+simple_shaking spots.Authentication kinds.Failed e f g = cc
+simple_shaking spots.Authentication kinds.Bad e f g = cc
+simple_shaking spots.Idle k e f g = cc
+simple_shaking spots.Single k e f g = cc
+simple_shaking spots.Head k e f g = cc
+simple_shaking spots.Further k e f g = cc
+simple_shaking (spots.Columns left) k e f g = cc
+simple_shaking spots.ColumnsEnd k e f g = cc
+simple_shaking spots.Rows k e f g = cc
+
+simple_single : (k : Kind) → is_simple k ≡ false → is_known spots.Single k ≡ true → ⊥
+unfolding is_simple
+simple_single (kinds.Greets c) f g = cc
+simple_single (kinds.Good status) f g = cc
+simple_single kinds.Failed f g = cc
+simple_single (kinds.Count n) f g = cc
+simple_single kinds.Column f g = cc
+simple_single kinds.ColumnsDone f g = cc
+simple_single kinds.Row f g = cc
+simple_single (kinds.End status) f g = cc
+simple_single kinds.Bad f g = cc
+
+no_rows : (b : Bool) (x : Spot) → x ≡ spots.Rows → is_rows x ≡ b → b ≡ false → ⊥
+no_rows b x e f g = let h : is_rows x ≡ true = ap is_rows e in let i : true ≡ false = sym h ∙ f ∙ g in cc
+
+module _ (s : Seen) (call : Call) (p : Place) (m : Mirrors s.context s.number s.unread s.owed s.closed s.facts s.login p)
+    (alive : s.closed ≡ false) (nothing : s.owed ≡ []) (call_is : call_with (kind_in s.task) s.text ≡ Some call)
+    (payload rest : List ℕ) (next : ℕ) (at : front_at s.number s.context.terms.limit s.unread ≡ Whole payload rest next)
+    (whole : IsWhole s.number s.context.terms.limit s.unread payload rest next) where
+  -- the place, and the session, after the payload
+  abbrev new : Kind → Place
+  new k = with_talk p (grow k p.talk payload) rest
+
+  abbrev following : Kind → Seen
+  following k = advanced s k payload rest next
+
+  abbrev spot_by : Kind → Spot
+  spot_by k = spot_after (deprecates_eof s.context.terms.kept) s.context.spot k
+
+  knows : (k : Kind) → kind_there s.context payload ≡ k → is_known s.context.spot k ≡ true
+  knows k e = known s.context.spot (deprecates_eof s.context.terms.kept) s.context.columns payload k e
+
+  mirrors_new : (k : Kind) → kind_there s.context payload ≡ k → is_bad k ≡ false
+      → Mirrors (following k).context (following k).number rest (following k).owed s.closed (following k).facts s.login (new k)
+  mirrors_new k e good = mirrors_read s.context s.number s.unread s.owed s.closed s.facts s.login p k payload rest next alive nothing e good whole m
+
+  none_owed : (k : Kind) → not_greets k ≡ true → s.owed ++ reply_bytes (reply_to s.login k payload) next ≡ []
+  none_owed k quiet = ap (λ bs. bs ++ reply_bytes (reply_to s.login k payload) next) nothing ∙ silent s.login k payload next quiet
+
+  -- the step of a part that reads
+  reads_it : (part : Part) (parts : List Part) (k : Kind) → kind_there s.context payload ≡ k
+      → reads s.login part parts p ≡ after_payload s.login part parts p (new k) payload k
+  reads_it part parts k e =
+      ap (with_front s.login part parts p) (front_here s.context s.number s.unread s.owed s.closed s.facts s.login p m ∙ at)
+      ∙ ap (λ x. after_payload s.login part parts p (with_talk p (grow x p.talk payload) rest) payload x)
+           (kind_here s.context s.number s.unread s.owed s.closed s.facts s.login p payload m ∙ e)
+
+  -- the session goes on with this task
+  goes_to : (t : Task) (k : Kind) → kind_there s.context payload ≡ k → is_bad k ≡ false → kind_in t ≡ kind_in s.task → fault_in t ≡ None
+      → TaskStandsAt t (spot_by k) (connects_in (exchanges p)) → (owes t ≡ false → not_greets k ≡ true)
+      → OpenAt (with_task (following k) t false) call (parts_left s.login t) (new k)
+  goes_to t k e good same sound stands quiet = record {
+    at = record { mirrors = mirrors_new k e good; end_is = λ _ _. refl; own_end = λ _. refl; task_at = stands; settled = λ no. none_owed k (quiet no) };
+    alive = alive;
+    sound = sound;
+    call_is = ap (λ c. call_with c s.text) same ∙ call_is;
+    parts_are = refl;
+  }
+
+  -- the session goes on with its task
+  stays : (t : Task) (k : Kind) → s.task ≡ t → kind_there s.context payload ≡ k → is_bad k ≡ false → fault_in t ≡ None
+      → TaskStandsAt t (spot_by k) (connects_in (exchanges p)) → (owes t ≡ false → not_greets k ≡ true)
+      → OpenAt (following k) call (parts_left s.login t) (new k)
+  stays t k task e good sound stands quiet =
+      subst (λ (u : Task). OpenAt (with_task (following k) u false) call (parts_left s.login t) (new k)) (sym task)
+      (goes_to t k e good (ap kind_in (sym task)) sound stands quiet)
+
+  -- the call ends, and the session rests
+  rests_at : (k : Kind) → kind_there s.context payload ≡ k → is_bad k ≡ false → not_greets k ≡ true → StandsAt (with_task (following k) tasks.Nothing false) (new k)
+  rests_at k e good quiet = record { mirrors = mirrors_new k e good; end_is = λ _ _. refl; own_end = λ _. refl; task_at = tt; settled = λ _. none_owed k quiet }
+
+  one : (parts more : List Part) (q : Place) → step s.login call parts p ≡ Goes more q → Leads s.login call parts p more q
+  one parts more q e = Then parts p more q more q e (Here more q)
+
+  module _ (parts : List Part) where
+    -- the payload fits no case
+    unfits : step s.login call parts p ≡ unfit s.login p → MoveReads s call parts p (failed_by s (invalid_data s.facts.place))
+    unfits e = record {
+      rest = parts;
+      place = p;
+      leads = Here parts p;
+      comes = inl (record {
+        place = p;
+        stops = e ∙ ap (λ n. failure p (invalid_data n)) (place_here s.context s.number s.unread s.owed s.closed s.facts s.login p m);
+        at = fallen_at s p s m;
+        closed_is = refl;
+      });
+    }
+
+    -- the call returns what it comes to at the payload
+    returns : (t : Told) (n : Seen) (q : Place) → step s.login call parts p ≡ return q t → StandsAt n q → n.closed ≡ closes t (call_kind call)
+        → MoveReads s call parts p (record { seen = n; does = Tells t })
+    returns t n q e stands closing = record { rest = parts; place = p; leads = Here parts p; comes = inl (record { place = q; stops = e; at = stands; closed_is = closing }) }
+
+    -- an ERR
+    errs : (x : Option ErrPacket) → err_at (is_greeting s.context.spot) payload ≡ x → kind_there s.context payload ≡ kinds.Failed
+        → (b : Bool) → is_connecting s.task ≡ b → is_connect (call_kind call) ≡ b
+        → step s.login call parts p ≡ after_payload s.login All [] p (new kinds.Failed) payload kinds.Failed
+        → MoveReads s call parts p (refused s (following kinds.Failed) x)
+    errs x is k b connecting connect e = by_err x (ap (λ (c : Context). err_at (is_greeting c.spot) payload) (sym m.context_is) ∙ is)
+      where
+        by_err : (x : Option ErrPacket) → err_at (is_greeting (context_of p.talk).spot) payload ≡ x → MoveReads s call parts p (refused s (following kinds.Failed) x)
+        by_err None i = unfits (e ∙ rw i refl)
+        by_err (Some packet) i = closing_by b connecting connect
+          where
+            closing_by : (b : Bool) → is_connecting s.task ≡ b → is_connect (call_kind call) ≡ b → MoveReads s call parts p (refused s (following kinds.Failed) (Some packet))
+            closing_by true on c =
+                rw on (returns (ToldError (errors.Server (server_error packet))) (fell (following kinds.Failed)) (new kinds.Failed) (e ∙ rw i refl)
+                (fallen_at s (new kinds.Failed) (following kinds.Failed) (mirrors_new kinds.Failed k refl)) (sym c))
+            closing_by false off c =
+                rw off (returns (ToldError (errors.Server (server_error packet))) (with_task (following kinds.Failed) tasks.Nothing false) (new kinds.Failed) (e ∙ rw i refl)
+                (rests_at kinds.Failed k refl refl) (alive ∙ sym c))
+
+    -- a greeting where none may come
+    no_greeting : (c : CapabilityFlags) → is_greeting s.context.spot ≡ false → kind_there s.context payload ≡ kinds.Greets c → ⊥
+    no_greeting c past k = let no : true ≡ false = sym (greeting_spot s.context.spot c (knows (kinds.Greets c) k)) ∙ past in cc
+
+  -- what the machine makes of a payload of this kind, at this task
+  abbrev move_at : Task → Kind → Move
+  move_at t k = cond (is_breaking (react t k)) (failed_by s (invalid_data s.facts.place))
+      (unless_above s (above s.context.terms.limit (reply_to s.login k payload)) (reacted s (following k) payload (react t k)))
+
+  module _ (parts : List Part) (reading : step s.login call (All ∷ parts) p ≡ reads s.login All parts p) where
+    all_is : (k : Kind) → kind_there s.context payload ≡ k → step s.login call (All ∷ parts) p ≡ after_payload s.login All parts p (new k) payload k
+    all_is k e = reading ∙ reads_it All parts k e
+
+    all_goes : (t : Task) (k : Kind) → All ∷ parts ≡ parts_left s.login t → kind_there s.context payload ≡ k → is_bad k ≡ false → not_greets k ≡ true → kind_in t ≡ kind_in s.task → fault_in t ≡ None
+        → TaskStandsAt t (spot_by k) (connects_in (exchanges p)) → step s.login call (All ∷ parts) p ≡ Goes (All ∷ parts) (new k)
+        → MoveReads s call (All ∷ parts) p (record { seen = with_task (following k) t false; does = MachineGoes })
+    all_goes t k left e good quiet same sound stands stepped = record {
+      rest = All ∷ parts;
+      place = new k;
+      leads = one (All ∷ parts) (All ∷ parts) (new k) stepped;
+      comes = subst (λ xs. OpenAt (with_task (following k) t false) call xs (new k)) (sym left) (goes_to t k e good same sound stands (λ _. quiet));
+    }
+
+    -- a response that is read whole
+    whole_reads : (t : Task) → All ∷ parts ≡ parts_left s.login t → kind_in t ≡ kind_in s.task → fault_in t ≡ None → is_greeting s.context.spot ≡ false
+        → ((k : Kind) → TaskStandsAt t (spot_by k) (connects_in (exchanges p)))
+        → (b : Bool) → is_connecting s.task ≡ b → is_connect (call_kind call) ≡ b
+        → (k : Kind) → kind_there s.context payload ≡ k
+        → MoveReads s call (All ∷ parts) p (cond (is_breaking (react_whole t k)) (failed_by s (invalid_data s.facts.place))
+            (unless_above s (above s.context.terms.limit (reply_to s.login k payload)) (reacted s (following k) payload (react_whole t k))))
+    whole_reads t left same sound past stands b on c (kinds.Greets n) e = absurd (no_greeting (All ∷ parts) n past e)
+    whole_reads t left same sound past stands b on c (kinds.Good status) e = all_goes t (kinds.Good status) left e refl refl same sound (stands _) (all_is (kinds.Good status) e)
+    whole_reads t left same sound past stands b on c kinds.Failed e = errs (All ∷ parts) (err_at (is_greeting s.context.spot) payload) refl e b on c (all_is kinds.Failed e)
+    whole_reads t left same sound past stands b on c (kinds.Count n) e = all_goes t (kinds.Count n) left e refl refl same sound (stands _) (all_is (kinds.Count n) e)
+    whole_reads t left same sound past stands b on c kinds.Column e = all_goes t kinds.Column left e refl refl same sound (stands _) (all_is kinds.Column e)
+    whole_reads t left same sound past stands b on c kinds.ColumnsDone e = all_goes t kinds.ColumnsDone left e refl refl same sound (stands _) (all_is kinds.ColumnsDone e)
+    whole_reads t left same sound past stands b on c kinds.Row e = all_goes t kinds.Row left e refl refl same sound (stands _) (all_is kinds.Row e)
+    whole_reads t left same sound past stands b on c (kinds.End status) e = all_goes t (kinds.End status) left e refl refl same sound (stands _) (all_is (kinds.End status) e)
+    whole_reads t left same sound past stands b on c kinds.Bad e = unfits (All ∷ parts) (all_is kinds.Bad e)
+
+    -- a drop passes over rows and ends
+    passes : (k : Kind) (t : Told) → s.task ≡ tasks.Dropping → parts ≡ [] → kind_there s.context payload ≡ k → is_bad k ≡ false → not_greets k ≡ true
+        → step s.login call (All ∷ parts) p ≡ Goes (All ∷ parts) (new k)
+        → MoveReads s call (All ∷ parts) p (record { seen = following k; does = Passes t })
+    passes k t task none e good quiet stepped = record {
+      rest = All ∷ parts;
+      place = new k;
+      leads = one (All ∷ parts) (All ∷ parts) (new k) stepped;
+      comes = subst (λ xs. OpenAt (following k) call (All ∷ xs) (new k)) (sym none)
+          (stays tasks.Dropping k task e good refl (not_greeting s.context.spot (deprecates_eof s.context.terms.kept) k) (λ _. quiet));
+    }
+
+  -- a payload that is a row reads as one
+  row_there : kind_there s.context payload ≡ kinds.Row → (row : RowParts) × (row_at s.facts.columns payload ≡ Some row)
+  row_there e =
+      let rows : s.context.spot ≡ spots.Rows = row_spot s.context.spot (knows kinds.Row e) in
+      let there : (context_of p.talk).spot ≡ spots.Rows = ap (λ (c : Context). c.spot) (sym m.context_is) ∙ rows in
+      let same : s.context.columns ≡ length s.facts.columns =
+          ap (λ (c : Context). c.columns) m.context_is ∙ told_columns p.talk (facts_of s.login p.older) m.fits there ∙ ap (λ (f : Facts). length f.columns) (sym m.facts_are) in
+      row_reads s.facts.columns (deprecates_eof s.context.terms.kept) s.context.columns payload same
+      (ap (λ (x : Spot). kind_there (record { spot = x; columns = s.context.columns; terms = s.context.terms }) payload) (sym rows) ∙ e)
+
+  module _ (reading : step s.login call (All ∷ []) p ≡ reads s.login All [] p) (task : s.task ≡ tasks.Dropping)
+      (past : is_greeting s.context.spot ≡ false) (other : is_connect (call_kind call) ≡ false) where
+    passes_row : (x : Option RowParts) → row_at s.facts.columns payload ≡ x → kind_there s.context payload ≡ kinds.Row → MoveReads s call (All ∷ []) p (passed s (following kinds.Row) x)
+    passes_row None is e = let some = row_there e in let no : None ≡ Some some.0 = sym is ∙ some.1 in cc
+    passes_row (Some row) is e = passes [] reading kinds.Row (ToldRow row) task refl e refl refl (all_is [] reading kinds.Row e)
+
+    drop_goes : (k : Kind) → kind_there s.context payload ≡ k → is_bad k ≡ false → not_greets k ≡ true → step s.login call (All ∷ []) p ≡ Goes (All ∷ []) (new k)
+        → MoveReads s call (All ∷ []) p (record { seen = with_task (following k) tasks.Dropping false; does = MachineGoes })
+    drop_goes k e good quiet stepped = all_goes [] reading tasks.Dropping k refl e good quiet (ap kind_in (sym task)) refl (not_greeting s.context.spot (deprecates_eof s.context.terms.kept) k) stepped
+
+    pub dropping_reads : (k : Kind) → kind_there s.context payload ≡ k → MoveReads s call (All ∷ []) p (move_at tasks.Dropping k)
+    dropping_reads (kinds.Greets n) e = absurd (no_greeting [] n past e)
+    dropping_reads (kinds.Good status) e = passes [] reading (kinds.Good status) ToldEnd task refl e refl refl (all_is [] reading (kinds.Good status) e)
+    dropping_reads kinds.Failed e = errs (All ∷ []) (err_at (is_greeting s.context.spot) payload) refl e false (ap is_connecting task) other (all_is [] reading kinds.Failed e)
+    dropping_reads (kinds.Count n) e = drop_goes (kinds.Count n) e refl refl (all_is [] reading (kinds.Count n) e)
+    dropping_reads kinds.Column e = drop_goes kinds.Column e refl refl (all_is [] reading kinds.Column e)
+    dropping_reads kinds.ColumnsDone e = drop_goes kinds.ColumnsDone e refl refl (all_is [] reading kinds.ColumnsDone e)
+    dropping_reads kinds.Row e = passes_row (row_at s.facts.columns payload) refl e
+    dropping_reads (kinds.End status) e = passes [] reading (kinds.End status) ToldEnd task refl e refl refl (all_is [] reading (kinds.End status) e)
+    dropping_reads kinds.Bad e = unfits (All ∷ []) (all_is [] reading kinds.Bad e)
+
+  -- the handshake
+  module _ (reading : step s.login call (own_parts s.login Connect) p ≡ reads s.login All (parts_of_texts (arranging_texts s.login)) p)
+      (task : s.task ≡ tasks.Own Connect) (shaking : is_shaking s.context.spot ≡ true) (first : connects_in (exchanges p) ≡ 1) (connect : is_connect (call_kind call) ≡ true) where
+    abbrev setting_up : List Part
+    setting_up = parts_of_texts (arranging_texts s.login)
+
+    greets : (n : CapabilityFlags) → kind_there s.context payload ≡ kinds.Greets n → (b : Bool) → nat_lt s.context.terms.limit (length (response s.login payload)) ≡ b
+        → MoveReads s call (own_parts s.login Connect) p (move_at (tasks.Own Connect) (kinds.Greets n))
+    greets n e b is = by_length b is
+        (reading ∙ reads_it All setting_up (kinds.Greets n) e
+         ∙ ap (λ l. cond (nat_lt l (length (response s.login payload))) (failure p (codec_error (TooLarge (length (response s.login payload)) l))) (Goes (All ∷ setting_up) (new (kinds.Greets n))))
+              (sym (limit_is p.talk) ∙ ap (λ (c : Context). c.terms.limit) (sym m.context_is)))
+      where
+        by_length : (b : Bool) → nat_lt s.context.terms.limit (length (response s.login payload)) ≡ b
+            → step s.login call (own_parts s.login Connect) p ≡ cond (nat_lt s.context.terms.limit (length (response s.login payload))) (failure p (codec_error (TooLarge (length (response s.login payload)) s.context.terms.limit))) (Goes (All ∷ setting_up) (new (kinds.Greets n)))
+            → MoveReads s call (own_parts s.login Connect) p (move_at (tasks.Own Connect) (kinds.Greets n))
+        by_length true i f = rw i (returns (own_parts s.login Connect) (ToldError (codec_error (TooLarge (length (response s.login payload)) s.context.terms.limit))) (fell s) p (f ∙ rw i refl) (fallen_at s p s m) refl)
+        by_length false i f = rw i (record {
+          rest = own_parts s.login Connect;
+          place = new (kinds.Greets n);
+          leads = one (own_parts s.login Connect) (own_parts s.login Connect) (new (kinds.Greets n)) (f ∙ rw i refl);
+          comes = goes_to (tasks.Own Connect) (kinds.Greets n) e refl (ap kind_in (sym task)) refl (ap is_shaking (authenticates s.context.spot (knows (kinds.Greets n) e)), first) (λ no. cc);
+        })
+          where
+            authenticates : (x : Spot) → is_known x (kinds.Greets n) ≡ true → spot_after (deprecates_eof s.context.terms.kept) x (kinds.Greets n) ≡ spots.Authentication
+            authenticates spots.Idle k = cc
+            authenticates spots.Greeting k = refl
+            authenticates spots.Authentication k = cc
+            authenticates spots.Single k = cc
+            authenticates spots.Head k = cc
+            authenticates spots.Further k = cc
+            authenticates (spots.Columns left) k = cc
+            authenticates spots.ColumnsEnd k = cc
+            authenticates spots.Rows k = cc
+
+    pub connect_reads : (k : Kind) → kind_there s.context payload ≡ k → MoveReads s call (own_parts s.login Connect) p (move_at (tasks.Own Connect) k)
+    unfolding is_simple
+    connect_reads (kinds.Greets n) e = greets n e (nat_lt s.context.terms.limit (length (response s.login payload))) refl
+    connect_reads (kinds.Good status) e = all_goes setting_up reading (tasks.Arranging 0) (kinds.Good status) refl e refl refl (ap kind_in (sym task)) refl
+        (not_greeting s.context.spot (deprecates_eof s.context.terms.kept) (kinds.Good status), first) (all_is setting_up reading (kinds.Good status) e)
+    connect_reads kinds.Failed e = errs (own_parts s.login Connect) (err_at (is_greeting s.context.spot) payload) refl e true (ap is_connecting task) connect (all_is setting_up reading kinds.Failed e)
+    connect_reads (kinds.Count n) e = absurd (simple_shaking s.context.spot (kinds.Count n) shaking refl (knows (kinds.Count n) e))
+    connect_reads kinds.Column e = absurd (simple_shaking s.context.spot kinds.Column shaking refl (knows kinds.Column e))
+    connect_reads kinds.ColumnsDone e = absurd (simple_shaking s.context.spot kinds.ColumnsDone shaking refl (knows kinds.ColumnsDone e))
+    connect_reads kinds.Row e = absurd (simple_shaking s.context.spot kinds.Row shaking refl (knows kinds.Row e))
+    connect_reads (kinds.End status) e = absurd (simple_shaking s.context.spot (kinds.End status) shaking refl (knows (kinds.End status) e))
+    connect_reads kinds.Bad e = unfits (own_parts s.login Connect) (all_is setting_up reading kinds.Bad e)
+
+  -- the answer to a ping
+  module _ (reading : step s.login call (All ∷ []) p ≡ reads s.login All [] p) (task : s.task ≡ tasks.Own Ping) (single : s.context.spot ≡ spots.Single) (ping : call_kind call ≡ Ping) where
+    pongs : (status : StatusFlags) → kind_there s.context payload ≡ kinds.Good status → MoveReads s call (All ∷ []) p (move_at (tasks.Own Ping) (kinds.Good status))
+    pongs status e =
+        let k : Kind = kinds.Good status in
+        let w = mirrors_new k e refl in
+        let owed_none = none_owed k refl in
+        let n = following k in
+        let over : is_over (grow k p.talk payload) ≡ true =
+            ap (λ (c : Context). is_idle c.spot) (sym w.context_is) ∙ ap (λ (x : Spot). is_idle (spot_after (deprecates_eof s.context.terms.kept) x k)) single in
+        let second : step s.login call (All ∷ []) (new k) ≡ Goes [] (new k) =
+            step_here n.context n.number rest n.owed s.closed n.facts s.login (new k) call (All ∷ []) alive w owed_none
+            ∙ ap (λ b. cond b (Goes [] (new k)) (reads s.login All [] (new k))) over in
+        let third : step s.login call [] (new k) ≡ return (new k) ToldReady = step_here n.context n.number rest n.owed s.closed n.facts s.login (new k) call [] alive w owed_none in
+        record {
+          rest = [];
+          place = new k;
+          leads = Then (All ∷ []) p (All ∷ []) (new k) [] (new k) (all_is [] reading k e) (Then (All ∷ []) (new k) [] (new k) [] (new k) second (Here [] (new k)));
+          comes = inl (record { place = new k; stops = third; at = rests_at k e refl refl; closed_is = alive ∙ ap (closes ToldReady) (sym ping) });
+        }
+
+    pub ping_reads : (k : Kind) → kind_there s.context payload ≡ k → MoveReads s call (All ∷ []) p (move_at (tasks.Own Ping) k)
+    unfolding is_simple
+    ping_reads (kinds.Greets n) e = absurd (no_greeting [] n (ap is_greeting single) e)
+    ping_reads (kinds.Good status) e = pongs status e
+    ping_reads kinds.Failed e = errs (All ∷ []) (err_at (is_greeting s.context.spot) payload) refl e false (ap is_connecting task) (ap is_connect ping) (all_is [] reading kinds.Failed e)
+    ping_reads (kinds.Count n) e = absurd (simple_single (kinds.Count n) refl (subst (λ x. is_known x (kinds.Count n) ≡ true) single (knows (kinds.Count n) e)))
+    ping_reads kinds.Column e = absurd (simple_single kinds.Column refl (subst (λ x. is_known x kinds.Column ≡ true) single (knows kinds.Column e)))
+    ping_reads kinds.ColumnsDone e = absurd (simple_single kinds.ColumnsDone refl (subst (λ x. is_known x kinds.ColumnsDone ≡ true) single (knows kinds.ColumnsDone e)))
+    ping_reads kinds.Row e = absurd (simple_single kinds.Row refl (subst (λ x. is_known x kinds.Row ≡ true) single (knows kinds.Row e)))
+    ping_reads (kinds.End status) e = absurd (simple_single (kinds.End status) refl (subst (λ x. is_known x (kinds.End status) ≡ true) single (knows (kinds.End status) e)))
+    ping_reads kinds.Bad e = unfits (All ∷ []) (all_is [] reading kinds.Bad e)
+
+  -- the head of a query's first set
+  module _ (reading : step s.login call (Head ∷ []) p ≡ reads s.login Head [] p) (task : s.task ≡ tasks.Own Query) (past : is_greeting s.context.spot ≡ false)
+      (before : is_rows s.context.spot ≡ false) (query : call_kind call ≡ Query) where
+    head_is : (k : Kind) → kind_there s.context payload ≡ k → step s.login call (Head ∷ []) p ≡ after_payload s.login Head [] p (new k) payload k
+    head_is k e = reading ∙ reads_it Head [] k e
+
+    readies : (status : StatusFlags) → kind_there s.context payload ≡ kinds.Good status → MoveReads s call (Head ∷ []) p (move_at (tasks.Own Query) (kinds.Good status))
+    readies status e =
+        let k : Kind = kinds.Good status in
+        let n = following k in
+        let w = mirrors_with_end n.context n.number rest n.owed s.closed n.facts s.login (new k) (not_greeting s.context.spot (deprecates_eof s.context.terms.kept) k) (mirrors_new k e refl) in
+        let last : step s.login call [] (with_end (new k)) ≡ return (with_end (new k)) ToldReady =
+            step_here n.context n.number rest n.owed s.closed n.facts s.login (with_end (new k)) call [] alive w (none_owed k refl) in
+        record {
+          rest = [];
+          place = with_end (new k);
+          leads = one (Head ∷ []) [] (with_end (new k)) (head_is k e);
+          comes = inl (record {
+            place = with_end (new k);
+            stops = last;
+            at = record { mirrors = w; end_is = λ _ _. refl; own_end = λ no. cc; task_at = tt; settled = λ _. none_owed k refl };
+            closed_is = alive ∙ ap (closes ToldReady) (sym query);
+          });
+        }
+
+    head_goes : (k : Kind) → kind_there s.context payload ≡ k → is_bad k ≡ false → not_greets k ≡ true → step s.login call (Head ∷ []) p ≡ Goes (Head ∷ []) (new k)
+        → MoveReads s call (Head ∷ []) p (record { seen = with_task (following k) (tasks.Own Query) false; does = MachineGoes })
+    head_goes k e good quiet stepped = record {
+      rest = Head ∷ [];
+      place = new k;
+      leads = one (Head ∷ []) (Head ∷ []) (new k) stepped;
+      comes = goes_to (tasks.Own Query) k e good (ap kind_in (sym task)) refl (not_greeting s.context.spot (deprecates_eof s.context.terms.kept) k) (λ _. quiet);
+    }
+
+    pub query_reads : (k : Kind) → kind_there s.context payload ≡ k → MoveReads s call (Head ∷ []) p (move_at (tasks.Own Query) k)
+    query_reads (kinds.Greets n) e = absurd (no_greeting [] n past e)
+    query_reads (kinds.Good status) e = readies status e
+    query_reads kinds.Failed e = errs (Head ∷ []) (err_at (is_greeting s.context.spot) payload) refl e false (ap is_connecting task) (ap is_connect query) (head_is kinds.Failed e)
+    query_reads (kinds.Count n) e = head_goes (kinds.Count n) e refl refl (head_is (kinds.Count n) e)
+    query_reads kinds.Column e = head_goes kinds.Column e refl refl (head_is kinds.Column e)
+    query_reads kinds.ColumnsDone e = head_goes kinds.ColumnsDone e refl refl (head_is kinds.ColumnsDone e)
+    query_reads kinds.Row e = absurd (no_rows _ s.context.spot (row_spot s.context.spot (knows kinds.Row e)) refl before)
+    query_reads (kinds.End status) e = absurd (no_rows _ s.context.spot (end_spot s.context.spot status (knows (kinds.End status) e)) refl before)
+    query_reads kinds.Bad e = unfits (Head ∷ []) (head_is kinds.Bad e)
+
+  -- the next row or end
+  module _ (reading : step s.login call (Item ∷ []) p ≡ reads s.login Item [] p) (task : s.task ≡ tasks.Reading) (past : is_greeting s.context.spot ≡ false) (next_row : call_kind call ≡ NextRow) where
+    item_is : (k : Kind) → kind_there s.context payload ≡ k → step s.login call (Item ∷ []) p ≡ after_payload s.login Item [] p (new k) payload k
+    item_is k e = reading ∙ reads_it Item [] k e
+
+    item_goes : (k : Kind) → kind_there s.context payload ≡ k → is_bad k ≡ false → not_greets k ≡ true → step s.login call (Item ∷ []) p ≡ Goes (Item ∷ []) (new k)
+        → MoveReads s call (Item ∷ []) p (record { seen = with_task (following k) tasks.Reading false; does = MachineGoes })
+    item_goes k e good quiet stepped = record {
+      rest = Item ∷ [];
+      place = new k;
+      leads = one (Item ∷ []) (Item ∷ []) (new k) stepped;
+      comes = goes_to tasks.Reading k e good (ap kind_in (sym task)) refl (not_greeting s.context.spot (deprecates_eof s.context.terms.kept) k) (λ _. quiet);
+    }
+
+    ends : (k : Kind) → kind_there s.context payload ≡ k → is_bad k ≡ false → not_greets k ≡ true → step s.login call (Item ∷ []) p ≡ return (new k) ToldEnd
+        → MoveReads s call (Item ∷ []) p (record { seen = with_task (following k) tasks.Nothing false; does = Tells ToldEnd })
+    ends k e good quiet stepped = returns (Item ∷ []) ToldEnd (with_task (following k) tasks.Nothing false) (new k) stepped (rests_at k e good quiet) alive
+
+    gives : (x : Option RowParts) → row_at s.facts.columns payload ≡ x → kind_there s.context payload ≡ kinds.Row → MoveReads s call (Item ∷ []) p (gave s (following kinds.Row) x)
+    gives None is e = let some = row_there e in let no : None ≡ Some some.0 = sym is ∙ some.1 in cc
+    gives (Some row) is e =
+        let there : row_at (facts_at s.login p).columns payload ≡ Some row = ap (λ (f : Facts). row_at f.columns payload) (sym m.facts_are) ∙ is in
+        returns (Item ∷ []) (ToldRow row) (with_task (following kinds.Row) tasks.Nothing false) (new kinds.Row)
+        (item_is kinds.Row e ∙ ap (λ o. return (new kinds.Row) (ToldRow (row_or (facts_at s.login p).columns o))) there) (rests_at kinds.Row e refl refl) alive
+
+    pub reading_reads : (k : Kind) → kind_there s.context payload ≡ k → MoveReads s call (Item ∷ []) p (move_at tasks.Reading k)
+    reading_reads (kinds.Greets n) e = absurd (no_greeting [] n past e)
+    reading_reads (kinds.Good status) e = ends (kinds.Good status) e refl refl (item_is (kinds.Good status) e)
+    reading_reads kinds.Failed e = errs (Item ∷ []) (err_at (is_greeting s.context.spot) payload) refl e false (ap is_connecting task) (ap is_connect next_row) (item_is kinds.Failed e)
+    reading_reads (kinds.Count n) e = item_goes (kinds.Count n) e refl refl (item_is (kinds.Count n) e)
+    reading_reads kinds.Column e = item_goes kinds.Column e refl refl (item_is kinds.Column e)
+    reading_reads kinds.ColumnsDone e = item_goes kinds.ColumnsDone e refl refl (item_is kinds.ColumnsDone e)
+    reading_reads kinds.Row e = gives (row_at s.facts.columns payload) refl e
+    reading_reads (kinds.End status) e = ends (kinds.End status) e refl refl (item_is (kinds.End status) e)
+    reading_reads kinds.Bad e = unfits (Item ∷ []) (item_is kinds.Bad e)
+
+  pub whole_reads_all : (parts : List Part) → step s.login call (All ∷ parts) p ≡ reads s.login All parts p → (t : Task) → All ∷ parts ≡ parts_left s.login t → kind_in t ≡ kind_in s.task → fault_in t ≡ None
+      → is_greeting s.context.spot ≡ false → ((k : Kind) → TaskStandsAt t (spot_by k) (connects_in (exchanges p))) → (b : Bool) → is_connecting s.task ≡ b → is_connect (call_kind call) ≡ b
+      → (k : Kind) → kind_there s.context payload ≡ k
+      → MoveReads s call (All ∷ parts) p (cond (is_breaking (react_whole t k)) (failed_by s (invalid_data s.facts.place))
+          (unless_above s (above s.context.terms.limit (reply_to s.login k payload)) (reacted s (following k) payload (react_whole t k))))
+  whole_reads_all parts reading = whole_reads parts reading

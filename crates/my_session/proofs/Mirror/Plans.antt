@@ -1,0 +1,442 @@
+-- What a task does next is what the reading does.
+use Rattle.std.proofs.Common.{◌≡◌, ℕ, suc, List, [], ◌∷◌, ◌++◌, length, drop, ◌&&◌, not, Bool, true, false, cond, Option, Some, None, inl, inr, refl, sym, ap, ◌∙◌, subst}
+use Rattle.my_frame.specs.Front.{Front, Waiting, Broken, Whole, front_at}
+use Rattle.my_frame.specs.FrontLaws.{AreBytes, IsWhole}
+use Rattle.my_frame.proofs.Meanings.{whole_stands}
+use Rattle.my_grammar.specs.declared.login.Login.{Login}
+use Rattle.my_grammar.specs.declared.spot.Context.{Context}
+use Rattle.my_grammar.specs.declared.spot.Kind.{Kind}
+use Rattle.my_grammar.specs.declared.spot.Spot.{Spot}
+use Rattle.my_grammar.specs.declared.spot.Spot.TheVariants as spots
+use Rattle.my_grammar.specs.Contexts.{spot_after}
+use Rattle.my_grammar.specs.Cut.{is_over, is_idle}
+use Rattle.my_grammar.specs.Kinds.{kind_there}
+use Rattle.my_grammar.specs.Talk.{context_of}
+use Rattle.my_flags.specs.Sets.{deprecates_eof}
+use Rattle.my_reading.specs.declared.call.Call.{Call}
+use Rattle.my_reading.specs.declared.call.Call.TheVariants as calls
+use Rattle.my_reading.specs.declared.call.CallKind.{CallKind}
+use Rattle.my_reading.specs.declared.call.CallKind.TheVariants.{Connect, Query, NextRow, DropResult, Ping, Quit}
+use Rattle.my_reading.specs.Calls.{kind_of, call_of, asks, is_connect}
+use Rattle.my_reading.specs.Commands.{arranging_texts}
+use Rattle.my_reading.specs.Course.{Part, All, Head, Item, Command, Goes, Stops, Owes, Awaits, Step, step, step_of, failure, return, with_front, reads, parts_of, parts_of_texts, is_rows, is_greeting}
+use Rattle.my_reading.specs.Errors.{codec_error, invalid_data, unexpected_eof}
+use Rattle.my_reading.specs.Leads.{Leads, Here, Then}
+use Rattle.my_reading.specs.Place.{Place, exchanges, facts_at, connects_in, without_end}
+use Rattle.my_reading.specs.Told.{Told, ToldReady, ToldEnd, ToldNone, ToldError, closes}
+use Rattle.my_session.specs.declared.tables.Plan.{Plan}
+use Rattle.my_session.specs.declared.tables.Plan.TheVariants as plans
+use Rattle.my_session.specs.declared.task.LinkFault.{LinkFault}
+use Rattle.my_session.specs.declared.task.Task.{Task}
+use Rattle.my_session.specs.declared.task.Task.TheVariants as tasks
+use Rattle.my_session.specs.Machine.{Goes as MachineGoes, Passes, Needs, Tells, Move, failed_by, fell, with_task, reading, read_by, read_kind, reacted, above, unless_above, reply_to, advanced, planned, when_owed, next_by, next}
+use Rattle.my_session.specs.Mirror.{Mirrors, StandsAt, OpenAt, MoveReads, EachMoveReads, TaskStandsAt, OwnStandsAt, BegunStandsAt, is_own, own_parts, parts_left, passes_end}
+use Rattle.my_session.specs.Seen.{Seen}
+use Rattle.my_session.specs.Stands.{owes, call_with, is_shaking}
+use Rattle.my_session.specs.Tables.{plan_of, clean_plan, read_plan, drop_plan, query_plan, own_plan, first_task, react, react_whole, is_breaking, is_connecting}
+use Rattle.my_session.specs.Tasks.{kind_in, fault_in}
+use Rattle.my_session.proofs.Mirror.Fields.{mirrors_without_end, step_here, owes_here, front_here, place_here}
+use Rattle.my_session.proofs.Mirror.Payloads.{fallen_at, connect_reads, ping_reads, query_reads, reading_reads, dropping_reads, whole_reads_all}
+use Rattle.my_session.proofs.Mirror.Commands.{asks_reads, arranges_reads, passed}
+use Rattle.my_session.proofs.Stands.Spots.{not_greeting}
+
+and_false : (b : Bool) → b && false ≡ false
+and_false true = refl
+and_false false = refl
+
+and_true : (b : Bool) → b && true ≡ b
+and_true true = refl
+and_true false = refl
+
+-- which call it is
+kind_of_call : (c : CallKind) (text : List ℕ) → kind_of (call_of c text) ≡ c
+kind_of_call Connect text = refl
+kind_of_call Query text = refl
+kind_of_call NextRow text = refl
+kind_of_call DropResult text = refl
+kind_of_call Ping text = refl
+kind_of_call Quit text = refl
+
+asks_not : (c : CallKind) → asks c ≡ true → is_connect c ≡ false
+asks_not Connect e = cc
+asks_not Query e = refl
+asks_not NextRow e = refl
+asks_not DropResult e = refl
+asks_not Ping e = refl
+asks_not Quit e = refl
+
+module _ (s : Seen) (call : Call) (p : Place) (o : OpenAt s call (parts_left s.login s.task) p) (nothing : s.owed ≡ []) (bytes : AreBytes s.unread) where
+  abbrev m : Mirrors s.context s.number s.unread s.owed s.closed s.facts s.login p
+  m = o.at.mirrors
+
+  -- the call that is open, by its task
+  call_here : (c : CallKind) → kind_in s.task ≡ Some c → call ≡ call_of c s.text
+  call_here c e = let h : Some call ≡ Some (call_of c s.text) = sym o.call_is ∙ ap (λ k. call_with k s.text) e in cc
+
+  kind_here_is : (c : CallKind) → kind_in s.task ≡ Some c → kind_of call ≡ c
+  kind_here_is c e = ap kind_of (call_here c e) ∙ kind_of_call c s.text
+
+  end_at : (t : Task) → s.task ≡ t → p.end_left ≡ s.untold && not (passes_end t)
+  end_at t e = o.at.end_is o.alive o.sound ∙ ap (λ u. s.untold && not (passes_end u)) e
+
+  -- the session goes on with this task at the same place, or rests there
+  goes_at : (t : Task) (untold : Bool) (q : Place) → (is_own t ≡ true → untold ≡ false) → Mirrors s.context s.number s.unread s.owed s.closed s.facts s.login q → kind_in t ≡ kind_in s.task → fault_in t ≡ None
+      → q.end_left ≡ untold && not (passes_end t) → TaskStandsAt t s.context.spot (connects_in (exchanges q)) → OpenAt (with_task s t untold) call (parts_left s.login t) q
+  goes_at t untold q own w same sound end stands = record {
+    at = record { mirrors = w; end_is = λ _ _. end; own_end = own; task_at = stands; settled = λ _. nothing };
+    alive = o.alive;
+    sound = sound;
+    call_is = ap (λ c. call_with c s.text) same ∙ o.call_is;
+    parts_are = refl;
+  }
+
+  rests_at : (untold : Bool) (q : Place) → Mirrors s.context s.number s.unread s.owed s.closed s.facts s.login q → q.end_left ≡ untold && true → StandsAt (with_task s tasks.Nothing untold) q
+  rests_at untold q w end = record { mirrors = w; end_is = λ _ _. end; own_end = λ no. cc; task_at = tt; settled = λ _. nothing }
+
+  abbrev quiet : Place
+  quiet = without_end p
+
+  quiet_mirrors : Mirrors s.context s.number s.unread s.owed s.closed s.facts s.login quiet
+  quiet_mirrors = mirrors_without_end s.context s.number s.unread s.owed s.closed s.facts s.login p m
+
+  here : (parts : List Part) → step s.login call parts p ≡ step_of s.login call parts p
+  here parts = step_here s.context s.number s.unread s.owed s.closed s.facts s.login p call parts o.alive m nothing
+
+  all_here : (parts : List Part) → p.end_left ≡ false → is_idle s.context.spot ≡ false → step s.login call (All ∷ parts) p ≡ reads s.login All parts p
+  all_here parts none on =
+      here (All ∷ parts)
+      ∙ ap (λ b. cond b (Goes (All ∷ parts) quiet) (cond (is_over p.talk) (Goes parts p) (reads s.login All parts p))) none
+      ∙ ap (λ b. cond b (Goes parts p) (reads s.login All parts p)) (ap (λ (c : Context). is_idle c.spot) (sym m.context_is) ∙ on)
+
+  item_here : p.end_left ≡ false → is_idle s.context.spot ≡ false → step s.login call (Item ∷ []) p ≡ reads s.login Item [] p
+  item_here none on =
+      here (Item ∷ [])
+      ∙ ap (λ b. cond b (return quiet ToldEnd) (cond (is_over p.talk) (return p ToldNone) (reads s.login Item [] p))) none
+      ∙ ap (λ b. cond b (return p ToldNone) (reads s.login Item [] p)) (ap (λ (c : Context). is_idle c.spot) (sym m.context_is) ∙ on)
+
+  head_here : is_rows s.context.spot ≡ false → step s.login call (Head ∷ []) p ≡ reads s.login Head [] p
+  head_here on = here (Head ∷ []) ∙ ap (λ b. cond b (Goes [] p) (reads s.login Head [] p)) (ap (λ (c : Context). is_rows c.spot) (sym m.context_is) ∙ on)
+
+  -- what the machine makes of the payload in front is what the reading makes of it, where it is so for whole payloads
+  module _ (part : Part) (parts : List Part) (t : Task) (task : s.task ≡ t) (it : step s.login call (part ∷ parts) p ≡ reads s.login part parts p)
+      (each : (payload rest : List ℕ) (next : ℕ) → front_at s.number s.context.terms.limit s.unread ≡ Whole payload rest next → IsWhole s.number s.context.terms.limit s.unread payload rest next
+        → (k : Kind) → kind_there s.context payload ≡ k → MoveReads s call (part ∷ parts) p (cond (is_breaking (react t k)) (failed_by s (invalid_data s.facts.place))
+            (unless_above s (above s.context.terms.limit (reply_to s.login k payload)) (reacted s (advanced s k payload rest next) payload (react t k)))))
+      (left : part ∷ parts ≡ parts_left s.login s.task) where
+    at_front : (f : Front) → front_at s.number s.context.terms.limit s.unread ≡ f → step s.login call (part ∷ parts) p ≡ with_front s.login part parts p f
+    at_front f e = it ∙ ap (with_front s.login part parts p) (front_here s.context s.number s.unread s.owed s.closed s.facts s.login p m ∙ e)
+
+    waits : (b : Bool) → s.ended ≡ b → front_at s.number s.context.terms.limit s.unread ≡ Waiting
+        → MoveReads s call (part ∷ parts) p (cond b (failed_by s (unexpected_eof s.facts.place)) (record { seen = s; does = Needs }))
+    waits true e w = record {
+      rest = part ∷ parts;
+      place = p;
+      leads = Here (part ∷ parts) p;
+      comes = inr (e, record {
+        stops = at_front Waiting w;
+        error_is = ap (λ n. ToldError (unexpected_eof n)) (sym (place_here s.context s.number s.unread s.owed s.closed s.facts s.login p m));
+        at = fallen_at s p s m;
+        closed_is = refl;
+      });
+    }
+    waits false e w = record {
+      rest = part ∷ parts;
+      place = p;
+      leads = Here (part ∷ parts) p;
+      comes = (at_front Waiting w, subst (λ xs. OpenAt s call xs p) (sym left) o);
+    }
+
+    by_front : (f : Front) → front_at s.number s.context.terms.limit s.unread ≡ f → MoveReads s call (part ∷ parts) p (reading s f)
+    by_front Waiting e = waits s.ended refl e
+    by_front (Broken fault) e = record {
+      rest = part ∷ parts;
+      place = p;
+      leads = Here (part ∷ parts) p;
+      comes = inl (record { place = p; stops = at_front (Broken fault) e; at = fallen_at s p s m; closed_is = refl });
+    }
+    by_front (Whole payload rest next) e =
+        let whole = whole_stands s.number s.context.terms.limit s.unread payload rest next bytes e in
+        subst (λ (u : Task). MoveReads s call (part ∷ parts) p (cond (is_breaking (react u (kind_there s.context payload))) (failed_by s (invalid_data s.facts.place))
+            (unless_above s (above s.context.terms.limit (reply_to s.login (kind_there s.context payload) payload)) (reacted s (advanced s (kind_there s.context payload) payload rest next) payload (react u (kind_there s.context payload))))))
+        (sym task) (each payload rest next e whole (kind_there s.context payload) refl)
+
+    reads_front : MoveReads s call (part ∷ parts) p (planned s plans.Reads)
+    reads_front = by_front (front_at s.number s.context.terms.limit s.unread) refl
+
+  -- the first task of a call that begins
+  starts : (t : Task) (parts : List Part) → parts ≡ parts_left s.login t → kind_in t ≡ kind_in s.task → fault_in t ≡ None → passes_end t ≡ false → passes_end s.task ≡ false
+      → (is_own t ≡ true → s.untold ≡ false) → TaskStandsAt t s.context.spot (connects_in (exchanges p)) → MoveReads s call parts p (planned s (plans.Starts t))
+  starts t parts left same sound keeps kept own stands = record {
+    rest = parts;
+    place = p;
+    leads = Here parts p;
+    comes = subst (λ xs. OpenAt (with_task s t s.untold) call xs p) (sym left)
+        (goes_at t s.untold p own m same sound (o.at.end_is o.alive o.sound ∙ ap (λ b. s.untold && not b) kept ∙ ap (λ b. s.untold && not b) (sym keeps)) stands);
+  }
+
+  -- before its first command a call passes over an end that is left
+  cleans_first : (c : CallKind) → s.task ≡ tasks.Begun c → asks c ≡ true → parts_of s.login (call_of c []) ≡ All ∷ Command ∷ own_parts s.login c → is_greeting s.context.spot ≡ false
+      → (b : Bool) → s.untold ≡ b → MoveReads s call (parts_of s.login (call_of c [])) p (planned s (plans.Starts (tasks.Cleaning c)))
+  cleans_first c task sends left past true e =
+      let parts = Command ∷ own_parts s.login c in
+      let end : p.end_left ≡ true = end_at (tasks.Begun c) task ∙ and_true s.untold ∙ e in
+      subst (λ xs. MoveReads s call xs p (planned s (plans.Starts (tasks.Cleaning c)))) (sym left) (record {
+        rest = All ∷ parts;
+        place = quiet;
+        leads = Then (All ∷ parts) p (All ∷ parts) quiet (All ∷ parts) quiet
+            (here (All ∷ parts) ∙ ap (λ b. cond b (Goes (All ∷ parts) quiet) (cond (is_over p.talk) (Goes parts p) (reads s.login All parts p))) end) (Here (All ∷ parts) quiet);
+        comes = goes_at (tasks.Cleaning c) s.untold quiet (λ no. cc) quiet_mirrors (ap kind_in (sym task)) refl (sym (and_false s.untold)) (sends, past);
+      })
+  cleans_first c task sends left past false e =
+      let parts = Command ∷ own_parts s.login c in
+      let end : p.end_left ≡ false = end_at (tasks.Begun c) task ∙ and_true s.untold ∙ e in
+      subst (λ xs. MoveReads s call xs p (planned s (plans.Starts (tasks.Cleaning c)))) (sym left) (record {
+        rest = All ∷ parts;
+        place = p;
+        leads = Here (All ∷ parts) p;
+        comes = goes_at (tasks.Cleaning c) s.untold p (λ no. cc) m (ap kind_in (sym task)) refl (end ∙ sym (and_false s.untold)) (sends, past);
+      })
+
+  begun_quiet : s.task ≡ tasks.Begun Connect → s.context.spot ≡ spots.Greeting → s.untold ≡ false
+  begun_quiet task at = sym (and_true s.untold) ∙ sym (end_at (tasks.Begun Connect) task) ∙ (m.first (ap is_greeting at)).2
+
+  begun_reads : (c : CallKind) → s.task ≡ tasks.Begun c → BegunStandsAt c s.context.spot (connects_in (exchanges p)) → MoveReads s call (parts_of s.login (call_of c [])) p (planned s (plans.Starts (first_task c)))
+  begun_reads Connect task at = record {
+    rest = own_parts s.login Connect;
+    place = p;
+    leads = Here (own_parts s.login Connect) p;
+    comes = goes_at (tasks.Own Connect) s.untold p (λ _. begun_quiet task at.0) m (ap kind_in (sym task)) refl (end_at (tasks.Begun Connect) task) (ap is_shaking at.0, at.1);
+  }
+  begun_reads Query task at = cleans_first Query task refl refl at s.untold refl
+  begun_reads NextRow task at = starts tasks.Reading (Item ∷ []) refl (ap kind_in (sym task)) refl refl (ap passes_end task) (λ no. cc) at
+  begun_reads DropResult task at = starts tasks.Dropping (All ∷ []) refl (ap kind_in (sym task)) refl refl (ap passes_end task) (λ no. cc) at
+  begun_reads Ping task at = cleans_first Ping task refl refl at s.untold refl
+  begun_reads Quit task at = cleans_first Quit task refl refl at s.untold refl
+
+  -- a task that reads the rest of an older response, and then does what the plan says
+  module _ (t : Task) (task : s.task ≡ t) (parts : List Part) (left : All ∷ parts ≡ parts_left s.login t) (passing : passes_end t ≡ true) (sound : fault_in t ≡ None) (past : is_greeting s.context.spot ≡ false)
+      (stays : (k : Kind) → TaskStandsAt t (spot_after (deprecates_eof s.context.terms.kept) s.context.spot k) (connects_in (exchanges p)))
+      (now : TaskStandsAt t s.context.spot (connects_in (exchanges p)))
+      (same_react : (k : Kind) → react t k ≡ react_whole t k)
+      (b : Bool) (connecting : is_connecting s.task ≡ b) (connect : is_connect (kind_of call) ≡ b)
+      (plan : Plan) (then_ : s.untold ≡ false → p.end_left ≡ false → is_idle s.context.spot ≡ true → MoveReads s call (All ∷ parts) p (planned s plan)) where
+    none_left : p.end_left ≡ false
+    none_left = end_at t task ∙ ap (λ x. s.untold && not x) passing ∙ and_false s.untold
+
+    cleans_on : is_idle s.context.spot ≡ false → MoveReads s call (All ∷ parts) p (planned s plans.Reads)
+    cleans_on on = reads_front All parts t task (all_here parts none_left on)
+        (λ payload rest next e whole k kind. subst (λ r. MoveReads s call (All ∷ parts) p (cond (is_breaking r) (failed_by s (invalid_data s.facts.place))
+              (unless_above s (above s.context.terms.limit (reply_to s.login k payload)) (reacted s (advanced s k payload rest next) payload r)))) (sym (same_react k))
+            (whole_reads_all s call p m o.alive nothing o.call_is payload rest next e whole parts (all_here parts none_left on) t left (ap kind_in (sym task)) sound past stays b connecting connect k kind))
+        (left ∙ ap (parts_left s.login) (sym task))
+
+    cleans_over : (u : Bool) → s.untold ≡ u → is_idle s.context.spot ≡ true → MoveReads s call (All ∷ parts) p (planned s (cond u plans.Hears plan))
+    cleans_over true e idle = record {
+      rest = All ∷ parts;
+      place = p;
+      leads = Here (All ∷ parts) p;
+      comes = subst (λ xs. OpenAt (with_task s s.task false) call xs p) (sym (left ∙ ap (parts_left s.login) (sym task)))
+          (goes_at s.task false p (λ _. refl) m refl o.sound none_left (subst (λ u. TaskStandsAt u s.context.spot (connects_in (exchanges p))) (sym task) now));
+    }
+    cleans_over false e idle = then_ e none_left idle
+
+    pub cleans : (x : Spot) → s.context.spot ≡ x → MoveReads s call (All ∷ parts) p (planned s (clean_plan plan x s.untold))
+    cleans spots.Idle e = cleans_over s.untold refl (ap is_idle e)
+    cleans spots.Greeting e = cleans_on (ap is_idle e)
+    cleans spots.Authentication e = cleans_on (ap is_idle e)
+    cleans spots.Single e = cleans_on (ap is_idle e)
+    cleans spots.Head e = cleans_on (ap is_idle e)
+    cleans spots.Further e = cleans_on (ap is_idle e)
+    cleans (spots.Columns n) e = cleans_on (ap is_idle e)
+    cleans spots.ColumnsEnd e = cleans_on (ap is_idle e)
+    cleans spots.Rows e = cleans_on (ap is_idle e)
+
+  -- a read
+  module _ (task : s.task ≡ tasks.Reading) (past : is_greeting s.context.spot ≡ false) where
+    end_here : p.end_left ≡ s.untold
+    end_here = end_at tasks.Reading task ∙ and_true s.untold
+
+    item_on : s.untold ≡ false → is_idle s.context.spot ≡ false → MoveReads s call (Item ∷ []) p (planned s plans.Reads)
+    item_on told on = reads_front Item [] tasks.Reading task (item_here (end_here ∙ told) on)
+        (λ payload rest next e whole k kind. reading_reads s call p m o.alive nothing o.call_is payload rest next e whole (item_here (end_here ∙ told) on) task past (kind_here_is NextRow (ap kind_in task)) k kind)
+        (ap (parts_left s.login) (sym task))
+
+    item_by : s.untold ≡ false → (x : Spot) → s.context.spot ≡ x → MoveReads s call (Item ∷ []) p (planned s (read_plan x))
+    item_by told spots.Idle e = record {
+      rest = Item ∷ [];
+      place = p;
+      leads = Here (Item ∷ []) p;
+      comes = inl (record {
+        place = p;
+        stops = here (Item ∷ [])
+            ∙ ap (λ b. cond b (return quiet ToldEnd) (cond (is_over p.talk) (return p ToldNone) (reads s.login Item [] p))) (end_here ∙ told)
+            ∙ ap (λ b. cond b (return p ToldNone) (reads s.login Item [] p)) (ap (λ (c : Context). is_idle c.spot) (sym m.context_is) ∙ ap is_idle e);
+        at = rests_at s.untold p m (end_here ∙ sym (and_true s.untold));
+        closed_is = o.alive;
+      });
+    }
+    item_by told spots.Greeting e = item_on told (ap is_idle e)
+    item_by told spots.Authentication e = item_on told (ap is_idle e)
+    item_by told spots.Single e = item_on told (ap is_idle e)
+    item_by told spots.Head e = item_on told (ap is_idle e)
+    item_by told spots.Further e = item_on told (ap is_idle e)
+    item_by told (spots.Columns n) e = item_on told (ap is_idle e)
+    item_by told spots.ColumnsEnd e = item_on told (ap is_idle e)
+    item_by told spots.Rows e = item_on told (ap is_idle e)
+
+    items : (u : Bool) → s.untold ≡ u → MoveReads s call (Item ∷ []) p (planned s (cond u plans.Ends (read_plan s.context.spot)))
+    items true e = record {
+      rest = Item ∷ [];
+      place = p;
+      leads = Here (Item ∷ []) p;
+      comes = inl (record {
+        place = quiet;
+        stops = here (Item ∷ []) ∙ ap (λ b. cond b (return quiet ToldEnd) (cond (is_over p.talk) (return p ToldNone) (reads s.login Item [] p))) (end_here ∙ e);
+        at = rests_at false quiet quiet_mirrors refl;
+        closed_is = o.alive;
+      });
+    }
+    items false e = item_by e s.context.spot refl
+
+  -- a drop
+  module _ (task : s.task ≡ tasks.Dropping) (past : is_greeting s.context.spot ≡ false) where
+    left_here : p.end_left ≡ s.untold
+    left_here = end_at tasks.Dropping task ∙ and_true s.untold
+
+    drop_on : s.untold ≡ false → is_idle s.context.spot ≡ false → MoveReads s call (All ∷ []) p (planned s plans.Reads)
+    drop_on told on = reads_front All [] tasks.Dropping task (all_here [] (left_here ∙ told) on)
+        (λ payload rest next e whole k kind. dropping_reads s call p m o.alive nothing o.call_is payload rest next e whole (all_here [] (left_here ∙ told) on) task past (ap is_connect (kind_here_is DropResult (ap kind_in task))) k kind)
+        (ap (parts_left s.login) (sym task))
+
+    drop_by : s.untold ≡ false → (x : Spot) → s.context.spot ≡ x → MoveReads s call (All ∷ []) p (planned s (drop_plan x))
+    drop_by told spots.Idle e = record {
+      rest = [];
+      place = p;
+      leads = Then (All ∷ []) p [] p [] p (passed s call p m o.alive nothing o.call_is told (left_here ∙ told) (ap is_idle e) []) (Here [] p);
+      comes = inl (record {
+        place = p;
+        stops = here [];
+        at = rests_at s.untold p m (left_here ∙ sym (and_true s.untold));
+        closed_is = o.alive ∙ ap (closes ToldReady) (sym (kind_here_is DropResult (ap kind_in task)));
+      });
+    }
+    drop_by told spots.Greeting e = drop_on told (ap is_idle e)
+    drop_by told spots.Authentication e = drop_on told (ap is_idle e)
+    drop_by told spots.Single e = drop_on told (ap is_idle e)
+    drop_by told spots.Head e = drop_on told (ap is_idle e)
+    drop_by told spots.Further e = drop_on told (ap is_idle e)
+    drop_by told (spots.Columns n) e = drop_on told (ap is_idle e)
+    drop_by told spots.ColumnsEnd e = drop_on told (ap is_idle e)
+    drop_by told spots.Rows e = drop_on told (ap is_idle e)
+
+    drops : (u : Bool) → s.untold ≡ u → MoveReads s call (All ∷ []) p (planned s (cond u plans.Passes (drop_plan s.context.spot)))
+    drops true e = record {
+      rest = All ∷ [];
+      place = quiet;
+      leads = Then (All ∷ []) p (All ∷ []) quiet (All ∷ []) quiet
+          (here (All ∷ []) ∙ ap (λ b. cond b (Goes (All ∷ []) quiet) (cond (is_over p.talk) (Goes [] p) (reads s.login All [] p))) (left_here ∙ e)) (Here (All ∷ []) quiet);
+      comes = subst (λ (u : Task). OpenAt (with_task s u false) call (All ∷ []) quiet) (sym task) (goes_at tasks.Dropping false quiet (λ no. cc) quiet_mirrors (ap kind_in (sym task)) refl refl past);
+    }
+    drops false e = drop_by e s.context.spot refl
+
+  -- the own exchange of a call
+  query_on : s.task ≡ tasks.Own Query → is_greeting s.context.spot ≡ false → is_rows s.context.spot ≡ false → MoveReads s call (Head ∷ []) p (planned s plans.Reads)
+  query_on task past on = reads_front Head [] (tasks.Own Query) task (head_here on)
+      (λ payload rest next e whole k kind. query_reads s call p m o.alive nothing o.call_is payload rest next e whole (head_here on) task past on (kind_here_is Query (ap kind_in task)) k kind)
+      (ap (parts_left s.login) (sym task))
+
+  query_by : s.task ≡ tasks.Own Query → is_greeting s.context.spot ≡ false → (x : Spot) → s.context.spot ≡ x → MoveReads s call (Head ∷ []) p (planned s (query_plan x))
+  query_by task past spots.Rows e = record {
+    rest = [];
+    place = p;
+    leads = Then (Head ∷ []) p [] p [] p (here (Head ∷ []) ∙ ap (λ b. cond b (Goes [] p) (reads s.login Head [] p)) (ap (λ (c : Context). is_rows c.spot) (sym m.context_is) ∙ ap is_rows e)) (Here [] p);
+    comes = inl (record {
+      place = p;
+      stops = here [];
+      at = rests_at s.untold p m (end_at (tasks.Own Query) task);
+      closed_is = o.alive ∙ ap (closes ToldReady) (sym (kind_here_is Query (ap kind_in task)));
+    });
+  }
+  query_by task past spots.Idle e = query_on task past (ap is_rows e)
+  query_by task past spots.Greeting e = query_on task past (ap is_rows e)
+  query_by task past spots.Authentication e = query_on task past (ap is_rows e)
+  query_by task past spots.Single e = query_on task past (ap is_rows e)
+  query_by task past spots.Head e = query_on task past (ap is_rows e)
+  query_by task past spots.Further e = query_on task past (ap is_rows e)
+  query_by task past (spots.Columns n) e = query_on task past (ap is_rows e)
+  query_by task past spots.ColumnsEnd e = query_on task past (ap is_rows e)
+
+  shaking_on : (x : Spot) → is_shaking x ≡ true → is_idle x ≡ false
+  shaking_on spots.Greeting e = refl
+  shaking_on spots.Authentication e = refl
+  shaking_on spots.Idle e = cc
+  shaking_on spots.Single e = cc
+  shaking_on spots.Head e = cc
+  shaking_on spots.Further e = cc
+  shaking_on (spots.Columns n) e = cc
+  shaking_on spots.ColumnsEnd e = cc
+  shaking_on spots.Rows e = cc
+
+  -- nothing is left to be passed over where the own exchange of connecting, or of a ping, is read
+  own_reads : (c : CallKind) → s.task ≡ tasks.Own c → OwnStandsAt c s.context.spot (connects_in (exchanges p)) → p.end_left ≡ false → MoveReads s call (own_parts s.login c) p (planned s (own_plan c s.context.spot))
+  own_reads Connect task at none =
+      let on = shaking_on s.context.spot at.0 in
+      reads_front All (parts_of_texts (arranging_texts s.login)) (tasks.Own Connect) task (all_here _ none on)
+      (λ payload rest next e whole k kind. connect_reads s call p m o.alive nothing o.call_is payload rest next e whole (all_here _ none on) task at.0 at.1 (ap is_connect (kind_here_is Connect (ap kind_in task))) k kind)
+      (ap (parts_left s.login) (sym task))
+  own_reads Query task at none = query_by task at s.context.spot refl
+  own_reads NextRow task at none = absurd at
+  own_reads DropResult task at none = absurd at
+  own_reads Ping task at none =
+      let on : is_idle s.context.spot ≡ false = ap is_idle at in
+      reads_front All [] (tasks.Own Ping) task (all_here [] none on)
+      (λ payload rest next e whole k kind. ping_reads s call p m o.alive nothing o.call_is payload rest next e whole (all_here [] none on) task at (kind_here_is Ping (ap kind_in task)) k kind)
+      (ap (parts_left s.login) (sym task))
+  own_reads Quit task at none = record {
+    rest = [];
+    place = p;
+    leads = Here [] p;
+    comes = inl (record { place = p; stops = here []; at = fallen_at s p s m; closed_is = ap (closes ToldReady) (sym (kind_here_is Quit (ap kind_in task))) });
+  }
+
+  plan_reads : (t : Task) → s.task ≡ t → TaskStandsAt t s.context.spot (connects_in (exchanges p)) → MoveReads s call (parts_left s.login t) p (planned s (plan_of t s.context.spot s.untold))
+  plan_reads tasks.Nothing task at = let no : None ≡ Some call = sym (ap (λ u. call_with (kind_in u) s.text) task) ∙ o.call_is in cc
+  plan_reads (tasks.Begun c) task at = begun_reads c task at
+  plan_reads (tasks.Cleaning c) task at =
+      cleans (tasks.Cleaning c) task (Command ∷ own_parts s.login c) refl refl refl at.1
+      (λ k. (at.0, not_greeting s.context.spot (deprecates_eof s.context.terms.kept) k)) at (λ _. refl) false (ap is_connecting task)
+      (ap is_connect (kind_here_is c (ap kind_in task)) ∙ asks_not c at.0) (plans.Asks c)
+      (λ told none idle. asks_reads s call p m o.alive nothing o.call_is told none idle c task at.0 (call_here c (ap kind_in task))) s.context.spot refl
+  plan_reads (tasks.Own c) task at = own_reads c task at (end_at (tasks.Own c) task ∙ and_true s.untold ∙ o.at.own_end (ap is_own task))
+  plan_reads (tasks.Arranging n) task at =
+      cleans (tasks.Arranging n) task (parts_of_texts (drop n (arranging_texts s.login))) refl refl refl at.0
+      (λ k. (not_greeting s.context.spot (deprecates_eof s.context.terms.kept) k, at.1)) at (λ _. refl) true (ap is_connecting task)
+      (ap is_connect (kind_here_is Connect (ap kind_in task))) (plans.Arranges n)
+      (λ told none idle. arranges_reads s call p m o.alive nothing o.call_is told none idle n task at.1 (call_here Connect (ap kind_in task))) s.context.spot refl
+  plan_reads tasks.Reading task at = items task at s.untold refl
+  plan_reads tasks.Dropping task at = drops task at s.untold refl
+  plan_reads tasks.Leaving task at = record {
+    rest = [];
+    place = p;
+    leads = Here [] p;
+    comes = inl (record { place = p; stops = here []; at = fallen_at s p s m; closed_is = ap (closes ToldReady) (sym (kind_here_is Quit (ap kind_in task))) });
+  }
+  plan_reads (tasks.Failing c fault) task at = let no : Some fault ≡ None = sym (ap fault_in task) ∙ o.sound in cc
+
+module _ (s : Seen) (call : Call) (p : Place) (o : OpenAt s call (parts_left s.login s.task) p) (bytes : AreBytes s.unread) where
+  by_owed : (owed : List ℕ) → s.owed ≡ owed → MoveReads s call (parts_left s.login s.task) p (when_owed owed s)
+  by_owed [] e = plan_reads s call p o e bytes s.task refl o.at.task_at
+  by_owed (b ∷ more) e = record {
+    rest = parts_left s.login s.task;
+    place = p;
+    leads = Here (parts_left s.login s.task) p;
+    comes = (owes_here s.context s.number s.unread s.owed s.closed s.facts s.login p call (parts_left s.login s.task) b more o.alive o.at.mirrors e, o);
+  }
+
+  move_reads : MoveReads s call (parts_left s.login s.task) p (next s)
+  move_reads = subst (λ f. MoveReads s call (parts_left s.login s.task) p (next_by f s)) (sym o.sound) (by_owed s.owed refl)
+
+pub each_move_reads : EachMoveReads
+each_move_reads s call parts p bytes o =
+    let here : OpenAt s call (parts_left s.login s.task) p = subst (λ xs. OpenAt s call xs p) o.parts_are o in
+    subst (λ xs. MoveReads s call xs p (next s)) (sym o.parts_are) (move_reads s call p here bytes)

@@ -1,0 +1,177 @@
+-- Where a session stands in the reading of its connection.
+use Rattle.std.specs.Prelude.{◌≡◌, ◌⊎◌, ℕ, suc, ◌&&◌, not, List, [], ◌∷◌, ◌++◌, drop, Option, Some, None, Bool, true, false}
+use Rattle.my_frame.specs.FrontLaws.{AreBytes}
+use Rattle.my_grammar.specs.declared.login.Login.{Login}
+use Rattle.my_grammar.specs.declared.spot.Context.{Context}
+use Rattle.my_grammar.specs.declared.spot.Spot.{Spot}
+use Rattle.my_grammar.specs.declared.spot.Spot.TheVariants as spots
+use Rattle.my_grammar.specs.Talk.{turns, number_of, context_of, Fits, login_in}
+use Rattle.my_reading.specs.declared.call.Call.{Call}
+use Rattle.my_reading.specs.declared.call.Call.TheVariants as calls
+use Rattle.my_reading.specs.declared.call.CallKind.{CallKind}
+use Rattle.my_reading.specs.declared.call.CallKind.TheVariants.{Connect, Query, NextRow, DropResult, Ping, Quit}
+use Rattle.my_reading.specs.declared.error.Error.{Error}
+use Rattle.my_reading.specs.declared.error.Error.TheVariants as errors
+use Rattle.my_reading.specs.declared.facts.Facts.{Facts}
+use Rattle.my_reading.specs.Calls.{kind_of, call_of, asks}
+use Rattle.my_reading.specs.Commands.{arranging_texts}
+use Rattle.my_reading.specs.Course.{Part, All, Head, Item, Command, Owes, Awaits, Returns, Stops, step, parts_of, parts_of_texts, is_greeting}
+use Rattle.my_reading.specs.Errors.{unexpected_eof}
+use Rattle.my_reading.specs.Leads.{Leads}
+use Rattle.my_reading.specs.Place.{Place, exchanges, facts_at, client_side, connects_in}
+use Rattle.my_reading.specs.Told.{Told, ToldError, told, closes}
+use Rattle.my_session.specs.declared.answer.SessionStep.{SessionStep}
+use Rattle.my_session.specs.declared.answer.SessionStep.TheVariants as steps
+use Rattle.my_session.specs.declared.task.Task.{Task}
+use Rattle.my_session.specs.declared.task.Task.TheVariants as tasks
+use Rattle.my_session.specs.Machine.{Doing, Goes, Passes, Sends, Needs, Tells, Move, next}
+use Rattle.my_session.specs.Seen.{Seen}
+use Rattle.my_session.specs.Stands.{is_shaking, owes, call_with}
+use Rattle.my_session.specs.Tasks.{kind_in, fault_in}
+
+-- what is left of a call after its own command
+abbrev pub own_parts : Login → CallKind → List Part
+own_parts login Connect = All ∷ parts_of_texts (arranging_texts login)
+own_parts login Query = Head ∷ []
+own_parts login NextRow = Item ∷ []
+own_parts login DropResult = All ∷ []
+own_parts login Ping = All ∷ []
+own_parts login Quit = []
+
+-- what is left of the open call
+abbrev pub parts_left : Login → Task → List Part
+parts_left login tasks.Nothing = []
+parts_left login (tasks.Begun c) = parts_of login (call_of c [])
+parts_left login (tasks.Cleaning c) = All ∷ Command ∷ own_parts login c
+parts_left login (tasks.Own c) = own_parts login c
+parts_left login (tasks.Arranging n) = All ∷ parts_of_texts (drop n (arranging_texts login))
+parts_left login tasks.Reading = Item ∷ []
+parts_left login tasks.Dropping = All ∷ []
+parts_left login tasks.Leaving = []
+parts_left login (tasks.Failing c fault) = []
+
+-- tasks that pass over an end that is left before they read
+abbrev pub passes_end : Task → Bool
+passes_end (tasks.Cleaning c) = true
+passes_end (tasks.Arranging n) = true
+passes_end t = false
+
+-- a call's own exchange
+abbrev pub is_own : Task → Bool
+is_own (tasks.Own c) = true
+is_own t = false
+
+-- where a task is, while `count` exchanges are those of connecting
+abbrev pub OwnStandsAt : CallKind → Spot → ℕ → Type 0
+OwnStandsAt Connect spot count = (is_shaking spot ≡ true) × (count ≡ 1)
+OwnStandsAt Query spot count = is_greeting spot ≡ false
+OwnStandsAt NextRow spot count = ⊥
+OwnStandsAt DropResult spot count = ⊥
+OwnStandsAt Ping spot count = spot ≡ spots.Single
+OwnStandsAt Quit spot count = is_greeting spot ≡ false
+
+abbrev pub BegunStandsAt : CallKind → Spot → ℕ → Type 0
+BegunStandsAt Connect spot count = (spot ≡ spots.Greeting) × (count ≡ 1)
+BegunStandsAt c spot count = is_greeting spot ≡ false
+
+abbrev pub TaskStandsAt : Task → Spot → ℕ → Type 0
+TaskStandsAt tasks.Nothing spot count = Unit {0}
+TaskStandsAt (tasks.Begun c) spot count = BegunStandsAt c spot count
+TaskStandsAt (tasks.Cleaning c) spot count = (asks c ≡ true) × (is_greeting spot ≡ false)
+TaskStandsAt (tasks.Own c) spot count = OwnStandsAt c spot count
+TaskStandsAt (tasks.Arranging n) spot count = (is_greeting spot ≡ false) × (count ≡ suc n)
+TaskStandsAt tasks.Reading spot count = is_greeting spot ≡ false
+TaskStandsAt tasks.Dropping spot count = is_greeting spot ≡ false
+TaskStandsAt tasks.Leaving spot count = Unit {0}
+TaskStandsAt (tasks.Failing c fault) spot count = Unit {0}
+
+-- What a session knows is what the place says: of what the client says in the exchanges some was sent, and the rest is owed, unless the
+-- session is closed. Before the greeting there is one exchange, of connecting.
+pub record Mirrors (context : Context) (number : ℕ) (unread owed : List ℕ) (closed : Bool) (facts : Facts) (login : Login) (p : Place) : Type 0 where
+  pub context_is : context ≡ context_of p.talk
+  pub number_is : number ≡ number_of (turns p.talk)
+  pub unread_is : unread ≡ p.unread
+  pub facts_are : facts ≡ facts_at login p
+  pub login_is : login_in login p.talk ≡ login
+  pub fits : Fits p.talk
+  pub unsent : List ℕ
+  pub all_is : p.sent ++ unsent ≡ client_side (exchanges p)
+  pub owed_is : closed ≡ false → owed ≡ unsent
+  pub first : is_greeting context.spot ≡ true → (p.call ≡ calls.Connect) × (p.older ≡ []) × (p.end_left ≡ false)
+
+-- The session stands at this place of the reading.
+pub record StandsAt (s : Seen) (p : Place) : Type 0 where
+  pub mirrors : Mirrors s.context s.number s.unread s.owed s.closed s.facts s.login p
+  pub end_is : s.closed ≡ false → fault_in s.task ≡ None → p.end_left ≡ s.untold && not (passes_end s.task)
+  pub own_end : is_own s.task ≡ true → s.untold ≡ false
+  pub task_at : TaskStandsAt s.task s.context.spot (connects_in (exchanges p))
+  pub settled : owes s.task ≡ false → s.owed ≡ []
+
+-- Of its open call these parts are left there.
+pub record OpenAt (s : Seen) (call : Call) (parts : List Part) (p : Place) : Type 0 where
+  pub at : StandsAt s p
+  pub alive : s.closed ≡ false
+  pub sound : fault_in s.task ≡ None
+  pub call_is : call_with (kind_in s.task) s.text ≡ Some call
+  pub parts_are : parts ≡ parts_left s.login s.task
+
+-- the call returned what it comes to at this place
+pub record ReturnsAt (login : Login) (call : Call) (parts : List Part) (q : Place) (t : Told) (new : Seen) : Type 0 where
+  pub place : Place
+  pub stops : step login call parts q ≡ Stops place (Returns t)
+  pub at : StandsAt new place
+  pub closed_is : new.closed ≡ closes t (kind_of call)
+
+-- the link reported its end where bytes are awaited
+pub record EndsAt (login : Login) (call : Call) (parts : List Part) (q : Place) (t : Told) (new : Seen) : Type 0 where
+  pub stops : step login call parts q ≡ Stops q Awaits
+  pub error_is : t ≡ ToldError (unexpected_eof (facts_at login q).place)
+  pub at : StandsAt new q
+  pub closed_is : new.closed ≡ true
+
+-- out of memory, the session is closed where it stands
+pub record IsOut (q : Place) (new : Seen) : Type 0 where
+  pub at : StandsAt new q
+  pub closed_is : new.closed ≡ true
+
+abbrev pub FailsAt : Bool → Login → Call → List Part → Place → Error → Seen → Type 0
+FailsAt ended login call parts q errors.NoMemory new = IsOut q new
+FailsAt ended login call parts q e new =
+    ReturnsAt login call parts q (ToldError e) new ⊎ ((ended ≡ true) × EndsAt login call parts q (ToldError e) new)
+
+-- what a step of a session comes to, where the call's steps lead to these parts and this place
+abbrev pub StepsTo : Bool → Login → Call → List Part → Place → SessionStep → Seen → Type 0
+StepsTo ended login call parts q steps.Send new = (step login call parts q ≡ Stops q Owes) × OpenAt new call parts q
+StepsTo ended login call parts q steps.Need new = (step login call parts q ≡ Stops q Awaits) × OpenAt new call parts q
+StepsTo ended login call parts q (steps.Done a) new = ReturnsAt login call parts q (told a) new
+StepsTo ended login call parts q (steps.Fault e) new = FailsAt ended login call parts q e new
+
+-- what a move comes to: it goes on, asks for something, or ends the call
+abbrev pub MovesTo : Bool → Login → Call → List Part → Place → Doing → Seen → Type 0
+MovesTo ended login call parts q Goes new = OpenAt new call parts q
+MovesTo ended login call parts q (Passes t) new = OpenAt new call parts q
+MovesTo ended login call parts q Sends new = (step login call parts q ≡ Stops q Owes) × OpenAt new call parts q
+MovesTo ended login call parts q Needs new = (step login call parts q ≡ Stops q Awaits) × OpenAt new call parts q
+MovesTo ended login call parts q (Tells t) new = ReturnsAt login call parts q t new ⊎ ((ended ≡ true) × EndsAt login call parts q t new)
+
+-- A move of the machine is some steps of the reading, and its stop is theirs.
+pub record MoveReads (s : Seen) (call : Call) (parts : List Part) (p : Place) (m : Move) : Type 0 where
+  pub rest : List Part
+  pub place : Place
+  pub leads : Leads s.login call parts p rest place
+  pub comes : MovesTo s.ended s.login call rest place m.does m.seen
+
+-- A session's step is some steps of the reading, and its stop is theirs.
+pub record StepReads (old new : Seen) (call : Call) (parts : List Part) (p : Place) (result : SessionStep) : Type 0 where
+  pub rest : List Part
+  pub place : Place
+  pub leads : Leads old.login call parts p rest place
+  pub comes : StepsTo old.ended old.login call rest place result new
+
+-- so it is for each call and place at which the session may stand
+abbrev pub EachStepReads : Seen → Seen → SessionStep → Type 0
+EachStepReads old new result = (call : Call) (parts : List Part) (p : Place) → OpenAt old call parts p → StepReads old new call parts p result
+
+-- Each move of an open call reads so.
+abbrev pub EachMoveReads : Type 0
+EachMoveReads = (s : Seen) (call : Call) (parts : List Part) (p : Place) → AreBytes s.unread → OpenAt s call parts p → MoveReads s call parts p (next s)
