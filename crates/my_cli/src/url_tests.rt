@@ -11,8 +11,8 @@ struct Login {
     sent: &'static str,
 }
 
-// With the password `pass word` the answer's 20 bytes are SHA1(p) xor SHA1(nonce, SHA1(SHA1(p))). The database's name follows them, and
-// the flag 0x8 tells so; the flag 0x2 asks for found rows.
+// With the password `pass word` the answer's 20 bytes are SHA1(p) xor SHA1(nonce, SHA1(SHA1(p))). The database's name
+// follows them, as the flag 0x8 says; the flag 0x2 asks for found rows.
 fn logins() -> [Login; 3] {
     [
         Login {
@@ -48,7 +48,8 @@ fn logins_by_url(rt: HostRuntime) -> Result<(), Fail> {
     Ok(())
 }
 
-// The server's answer about a packet of 1,000 bytes, which is taken as 1,024, and 28,800 seconds; then a payload of 1,025 bytes begins.
+// The server's answer about a packet of 1,000 bytes, which is taken as 1,024, and 28,800 seconds; then a payload of
+// 1,025 bytes begins.
 const SETTINGS: &str = "packet 0 1 02
 packet 0 2 036465660000000170000c3f0001000000088100000000
 packet 0 3 036465660000000177000c3f0001000000088100000000

@@ -1,3 +1,2 @@
 mod AttributeLaws
-pub mod GreetingLaws
-mod SwitchLaws
+pub mod Readers

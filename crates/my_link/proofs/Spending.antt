@@ -7,7 +7,7 @@ use Rattle.my_link.specs.declared.link.WriteItem.TheVariants as puts
 use Rattle.my_link.specs.Link.{Told, Gave, put_back, after_hold, after_fault, after_end, after_write, taken_of, after_taken, after_write_hold, after_write_fault}
 use Rattle.my_link.specs.Spent.{spelled, fails_in, waits_in, write_fails_in, write_waits_in, has_end, is_at_end, IsDry, IsDryWhere, IsLeft, Whole, Part, Spends, Spent, CountsSpent, ReadsSpent, AllSpent, IsSpent}
 
--- unchanged, where it is told
+-- unchanged items are unchanged where contracts see them
 pub told_same : {I : Type 0} (x y : Option (List I)) → y ≡ x → Told x y (λ is js. js ≡ is)
 told_same None y e = e
 told_same {I} (Some is) y e = subst (λ (v : Option (List I)). Told (Some is) v (λ is js. js ≡ is)) (sym e) refl
@@ -225,7 +225,7 @@ spent_read_failed plan x y rules ws vs taken f w e t u s = record {
       }) s.counts;
 }
 
--- a read told the end
+-- a read returned the end
 ended_at : (is js : List ReadItem) → after_end is ≡ Some js → (js ≡ is) × (is_at_end js ≡ true)
 ended_at [] js e = absurd (let k : None ≡ Some js = e in cc)
 ended_at (Bytes bytes ∷ more) js e = absurd (let k : None ≡ Some js = e in cc)

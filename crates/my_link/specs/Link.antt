@@ -11,7 +11,7 @@ use Rattle.my_link.specs.declared.link.WriteStep.TheVariants as writes
 use Rattle.my_frame.specs.Outside.{Comes}
 use Rattle.my_link.specs.Outside.{Counts, FaultRose, HoldRose, EndRose}
 
--- where a link tells its items, how they change
+-- how the items of a link change, where contracts see them
 abbrev pub Told : {I : Type 0} → Option (List I) → Option (List I) → (List I → List I → Type 0) → Type 0
 Told None new R = new ≡ None
 Told (Some old) None R = ⊥
@@ -29,7 +29,7 @@ pub record Gave (bytes : List ℕ) (old new : List ReadItem) : Type 0 where
   pub stood : old ≡ items.Bytes (bytes ++ rest) ∷ more
   pub stands : new ≡ put_back rest more
 
--- what is left after a read that isn't ready, where one may: at a wait, at a turn that wasn't met, and with no item left
+-- what is left after a read that isn't ready, where one may be: at a wait, at a turn that wasn't met, and at no item
 abbrev pub after_hold : List ReadItem → Option (List ReadItem)
 after_hold [] = Some []
 after_hold (items.Bytes bytes ∷ more) = None

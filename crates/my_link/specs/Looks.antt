@@ -4,7 +4,7 @@ use Rattle.my_link.specs.declared.link.ReadItem.{ReadItem}
 use Rattle.my_link.specs.declared.link.WriteItem.{WriteItem}
 use Rattle.my_link.specs.Outside.{Counts}
 
--- the items that are left for reads and for writes, where the link tells them, and its counts
+-- the items that are left for reads and for writes, where contracts see them, and its counts
 pub record Looks : Type 0 where
   pub items : Option (List ReadItem)
   pub writes : Option (List WriteItem)

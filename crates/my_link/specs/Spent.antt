@@ -78,8 +78,8 @@ pub data IsLeft (plan left : List ReadItem) : Type 0 where
   Whole : (used : List ReadItem) → plan ≡ used ++ left → IsLeft plan left
   Part : (used more : List ReadItem) (read rest : List ℕ) → plan ≡ used ++ Bytes (read ++ rest) ∷ more → left ≡ Bytes rest ∷ more → IsLeft plan left
 
--- Of the planned items these are left to be read, after these bytes were taken and the end was returned `ends` times: what was
--- used and what is left are the planned items.
+-- Of the planned items these are left to be read, after these bytes were taken and the end was returned `ends` times:
+-- what was used and what is left are the planned items.
 pub record Spent (plan left : List ReadItem) (taken : List ℕ) (ends : ℕ) : Type 0 where
   pub left_is : IsLeft plan left
   pub bytes : spelled plan ≡ taken ++ spelled left
@@ -91,13 +91,13 @@ pub record CountsSpent (plan left : List ReadItem) (rules rest : List WriteItem)
   pub failed : fails_in plan + write_fails_in rules ≡ faults + (fails_in left + write_fails_in rest)
   pub waited : waits_in plan + write_waits_in rules ≡ waits + (waits_in left + write_waits_in rest)
 
--- where a plan for reads is told
+-- the same, where contracts see a plan for reads
 abbrev pub ReadsSpent : Option (List ReadItem) → Option (List ReadItem) → List ℕ → ℕ → Type 0
 ReadsSpent None left taken ends = Unit {0}
 ReadsSpent (Some plan) None taken ends = ⊥
 ReadsSpent (Some plan) (Some left) taken ends = Spent plan left taken ends
 
--- where a plan for writes is told too
+-- the same, where contracts see a plan for writes too
 abbrev pub AllSpent : Option (List ReadItem) → Option (List ReadItem) → Option (List WriteItem) → Option (List WriteItem) → ℕ → ℕ → Type 0
 AllSpent None left rules rest faults waits = Unit {0}
 AllSpent (Some plan) left None rest faults waits = Unit {0}
@@ -105,18 +105,19 @@ AllSpent (Some plan) None (Some rules) rest faults waits = ⊥
 AllSpent (Some plan) (Some left) (Some rules) None faults waits = ⊥
 AllSpent (Some plan) (Some left) (Some rules) (Some rest) faults waits = CountsSpent plan left rules rest faults waits
 
--- Of a link's plan for reads and for writes these are left, after these bytes were taken, `faults` reads and writes failed,
--- `waits` weren't ready by the plan, and the end was returned `ends` times.
+-- Of a link's plan for reads and for writes these are left, after these bytes were taken, `faults` reads and writes
+-- failed, `waits` weren't ready by the plan, and the end was returned `ends` times.
 pub record IsSpent (plan left : Option (List ReadItem)) (rules rest : Option (List WriteItem)) (taken : List ℕ) (faults waits ends : ℕ) : Type 0 where
   pub reads : ReadsSpent plan left taken ends
   pub counts : AllSpent plan left rules rest faults waits
 
--- where it is told what is left to be read
+-- the same, where contracts see what is left to be read
 abbrev pub IsDryWhere : Option (List ReadItem) → Type 0
 IsDryWhere None = Unit {0}
 IsDryWhere (Some left) = IsDry left
 
--- The same, with `holds` holds more, of which some were planned; where not all were, the last wasn't, and nothing can be read now.
+-- The same, with `holds` holds more, of which some were planned; where not all were, the last wasn't, and nothing can
+-- be read now.
 pub record Spends (plan left : Option (List ReadItem)) (rules rest : Option (List WriteItem)) (taken : List ℕ) (faults waits holds ends : ℕ) : Type 0 where
   pub planned : ℕ
   pub fits : planned ≤ holds

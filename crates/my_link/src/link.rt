@@ -54,10 +54,10 @@ pub enum WriteStep {
 /// It counts how often it failed, wasn't ready and ended. A count never falls, and rises with each such result
 /// until it is at its greatest value.
 pub trait Link {
-    /// The items that are left for reads and for writes, where the link tells them, and its counts.
+    /// The items that are left for reads and for writes, where contracts see them, and its counts.
     ghost looks: { Self → Looks };
 
-    /// The bytes that it was sent, where it tells them.
+    /// The bytes that it was sent, where contracts see them.
     ghost got: { Self → Option (List ℕ) };
 
     /// Whether it is a local socket.

@@ -10,7 +10,7 @@ use Rattle.my_opts.specs.declared.query.Row.{Row}
 use Rattle.my_opts.specs.declared.query.Row.TheVariants.{Truth, Whole32, Whole64, SocketPath, Compression}
 use Rattle.my_opts.specs.declared.query.Gathered.{Gathered}
 use Rattle.my_opts.specs.Opts.{OptsView}
-use Rattle.my_opts.specs.Pool.{Bounds}
+use Rattle.my_opts_parts.specs.Pool.{Bounds}
 use Rattle.my_opts.specs.Query.{table, row_among, text_pair, put_number, put_truth, set_or_refused, after_row, after_pair, after_pairs, and_then}
 use Rattle.my_opts.specs.Url.{begun, gathered, bounds_told, finished}
 use Rattle.my_frame.specs.Numeral.{whole_number}

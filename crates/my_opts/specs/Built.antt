@@ -9,8 +9,9 @@ use Rattle.my_opts.specs.declared.query.NumberOption.{NumberOption}
 use Rattle.my_opts.specs.declared.query.NumberOption.TheVariants.{PoolMin, PoolMax, PoolMaxWaiting, InactiveConnectionTtl, TtlCheckInterval, AbsConnTtl, AbsConnTtlJitter, ConnTtl, TcpKeepalive, StmtCacheSize, MaxAllowedPacket, WaitTimeout}
 use Rattle.my_opts.specs.declared.query.Row.{Row}
 use Rattle.my_opts.specs.declared.query.Row.TheVariants.{Truth, Whole32, Whole64, SocketPath, Compression}
-use Rattle.my_opts.specs.Opts.{OptsView, default_opts, packet_limit, waiting_limit}
-use Rattle.my_opts.specs.Pool.{PoolView, Bounds, interval_of}
+use Rattle.my_opts.specs.Opts.{OptsView, default_opts}
+use Rattle.my_opts_parts.specs.Limits.{packet_limit, waiting_limit}
+use Rattle.my_opts_parts.specs.Pool.{PoolView, Bounds, interval_of}
 use Rattle.my_opts.specs.Query.{table, row_among, text_pair}
 use Rattle.my_opts.specs.Url.{decoded, unless_empty, first_segment, url_of, options_of}
 use Rattle.my_frame.specs.Numeral.{whole_number}

@@ -1,10 +1,7 @@
 -- Options of a connection. Texts are their bytes, and lengths of time are in milliseconds.
-use Rattle.std.specs.Prelude.{ℕ, ◌≤◌, min, max, Bool, true, false, List, [], codes, Option, None}
-use Rattle.std.specs.Option.{ForSome}
+use Rattle.std.specs.Prelude.{ℕ, Bool, true, false, List, [], codes, Option, None}
 use Rattle.std.specs.declared.net.ip_addr.IpAddr.{IpAddr}
-use Rattle.my_frame.specs.declared.limits.TheConstants.{GREATEST_MAX_ALLOWED_PACKET, LEAST_MAX_ALLOWED_PACKET}
-use Rattle.my_opts.specs.declared.limits.TheConstants.{LONGEST_WAIT_TIMEOUT}
-use Rattle.my_opts.specs.Pool.{PoolView, default_pool}
+use Rattle.my_opts_parts.specs.Pool.{PoolView, default_pool}
 
 -- the options of a connection, and those of a pool of such connections
 pub record OptsView : Type 0 where
@@ -55,19 +52,3 @@ default_opts = record {
   connect_attributes = None;
   pool_opts = default_pool;
 }
-
--- a packet's limit within 1,024 to 1,073,741,824 bytes
-abbrev pub packet_limit : ℕ → ℕ
-packet_limit bytes = max LEAST_MAX_ALLOWED_PACKET (min bytes GREATEST_MAX_ALLOWED_PACKET)
-
--- a waiting time is at most 31,536,000 seconds, a year
-abbrev pub waiting_limit : ℕ → ℕ
-waiting_limit seconds = min seconds LONGEST_WAIT_TIMEOUT
-
--- a packet's limit, where there is one, is within its bounds
-abbrev pub IsPacketLimit : Option ℕ → Type 0
-IsPacketLimit limit = ForSome limit (λ n. (LEAST_MAX_ALLOWED_PACKET ≤ n) × (n ≤ GREATEST_MAX_ALLOWED_PACKET))
-
--- a waiting time, where there is one, is within its bound
-abbrev pub IsWaitingLimit : Option ℕ → Type 0
-IsWaitingLimit limit = ForSome limit (λ n. n ≤ LONGEST_WAIT_TIMEOUT)

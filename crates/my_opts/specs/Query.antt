@@ -11,8 +11,8 @@ use Rattle.my_opts.specs.declared.query.NumberOption.TheVariants.{PoolMin, PoolM
 use Rattle.my_opts.specs.declared.query.Row.{Row}
 use Rattle.my_opts.specs.declared.query.Row.TheVariants.{Truth, Whole32, Whole64, SocketPath, Compression}
 use Rattle.my_opts.specs.declared.query.Gathered.{Gathered}
-use Rattle.my_opts.specs.Opts.{packet_limit, waiting_limit}
-use Rattle.my_opts.specs.Pool.{interval_of}
+use Rattle.my_opts_parts.specs.Limits.{packet_limit, waiting_limit}
+use Rattle.my_opts_parts.specs.Pool.{interval_of}
 use Rattle.my_frame.specs.Numeral.{whole_number}
 use Rattle.my_opts.specs.Values.{truth, is_compression}
 

@@ -1,7 +1,7 @@
 -- Where a connection is made.
 use Rattle.std.specs.Prelude.{ℕ, List, Option, Some, None}
-use Rattle.my_opts.specs.declared.target.Target.{Target}
-use Rattle.my_opts.specs.declared.target.Target.TheVariants.{Tcp, Socket}
+use Rattle.my_opts_parts.specs.declared.target.Target.{Target}
+use Rattle.my_opts_parts.specs.declared.target.Target.TheVariants.{Tcp, Socket}
 use Rattle.my_opts.specs.Opts.{OptsView}
 
 -- the local socket, where one is named, else the host and port

@@ -13,7 +13,7 @@ use Rattle.my_opts.specs.declared.error.UrlError.{UrlError}
 use Rattle.my_opts.specs.declared.error.UrlError.TheVariants.{FeatureRequired, Invalid, InvalidPoolConstraints, Parse, UnsupportedScheme}
 use Rattle.my_opts.specs.declared.query.Gathered.{Gathered}
 use Rattle.my_opts.specs.Opts.{OptsView, default_opts}
-use Rattle.my_opts.specs.Pool.{Bounds, default_pool}
+use Rattle.my_opts_parts.specs.Pool.{Bounds, default_pool}
 use Rattle.my_opts.specs.Query.{after_pairs, and_then}
 
 -- percent-encoded bytes as text, with a replacement for what is no UTF-8

@@ -1,15 +1,16 @@
 //! A builder of options.
 
 ghost use Rattle.std.specs.Prelude.{◌≡◌, IfOk, map, string_bytes, option_map, unwrap_or, [], Some};
-ghost use Rattle.my_opts.specs.Lists.{pair_bytes, with_attribute};
-ghost use Rattle.my_opts.specs.Opts.{default_opts, packet_limit, waiting_limit};
+ghost use Rattle.my_opts_parts.specs.Lists.{pair_bytes, with_attribute};
+ghost use Rattle.my_opts.specs.Opts.{default_opts};
+ghost use Rattle.my_opts_parts.specs.Limits.{packet_limit, waiting_limit};
 
-use crate::limits::{limited_packet, limited_wait};
-use crate::lists::{Texts, attributes_of, list_of, with_one};
-use crate::millis::Millis;
+use my_opts_parts::limits::{limited_packet, limited_wait};
+use my_opts_parts::lists::{Texts, attributes_of, list_of, with_one};
+use my_opts_parts::Millis;
 use crate::opts::{DEFAULT_PORT, DEFAULT_STMT_CACHE_SIZE, Opts};
-use crate::pool::PoolOpts;
-use crate::text::text_of;
+use my_opts_parts::PoolOpts;
+use my_opts_parts::text::text_of;
 use my_frame::{NoMemory, Text};
 use std::alloc::Global;
 use std::collections::BTreeMap;

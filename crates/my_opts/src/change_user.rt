@@ -4,7 +4,7 @@ ghost use Rattle.std.specs.Prelude.{◌≡◌, ◌↔◌, IsFalse, IfOk, Some, s
 ghost use Rattle.my_opts.specs.ChangeUser.{no_change, changed_opts, IsUnchangedBy};
 
 use crate::opts::Opts;
-use crate::text::{shown, text_of};
+use my_opts_parts::text::{shown, text_of};
 use my_frame::{Copied, NoMemory, Text};
 use std::alloc::Global;
 use std::marker::Model;

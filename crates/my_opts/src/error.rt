@@ -3,7 +3,7 @@
 ghost use Rattle.std.specs.Prelude.{◌≡◌, IfOk};
 
 use crate::query::other_than_wanted;
-use crate::text::OneLine;
+use my_opts_parts::text::OneLine;
 use my_frame::{NoMemory, Text};
 use std::alloc::{AllocError, Global};
 use std::fmt;

@@ -10,7 +10,7 @@ ghost use Rattle.my_opts.specs.Url.{decoded, unless_empty, before_slash, first_s
 use crate::builder::OptsBuilder;
 use crate::error::{UrlError, UrlFault};
 use crate::opts::Opts;
-use crate::pool::{PoolConstraints, PoolOpts};
+use my_opts_parts::{PoolConstraints, PoolOpts};
 use crate::query::{Gathered, feature_required};
 use my_frame::{NoMemory, Text};
 use percent_encoding::percent_decode;

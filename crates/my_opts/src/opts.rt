@@ -2,20 +2,20 @@
 
 ghost use Rattle.std.specs.Prelude.{◌≡◌, ◌≤◌, IfOk, IfSome, MatchBool, map, string_bytes, option_map, option_copied};
 ghost use Rattle.my_frame.specs.declared.limits.TheConstants.{GREATEST_MAX_ALLOWED_PACKET, LEAST_MAX_ALLOWED_PACKET};
-ghost use Rattle.my_opts.specs.declared.limits.TheConstants.{LONGEST_WAIT_TIMEOUT};
+ghost use Rattle.my_opts_parts.specs.declared.limits.TheConstants.{LONGEST_WAIT_TIMEOUT};
 ghost use Rattle.my_opts.specs.Capabilities.{capabilities_of};
-ghost use Rattle.my_opts.specs.Lists.{pair_bytes};
-ghost use Rattle.my_opts.specs.Loopback.{IsLoopback, IsElsewhere};
+ghost use Rattle.my_opts_parts.specs.Lists.{pair_bytes};
+ghost use Rattle.my_opts_parts.specs.Loopback.{IsElsewhere, IsLoopback};
 ghost use Rattle.my_opts.specs.Target.{target_of};
 
 use crate::builder::OptsBuilder;
 use crate::capabilities::client_capabilities;
-use crate::lists::{Attributes, Texts};
-use crate::loopback::{any_loopback, is_loopback_host};
-use crate::millis::Millis;
-use crate::pool::PoolOpts;
-use crate::target::Target;
-use crate::text::shown;
+use my_opts_parts::lists::{Attributes, Texts};
+use my_opts_parts::loopback::is_loopback;
+use my_opts_parts::Millis;
+use my_opts_parts::PoolOpts;
+use my_opts_parts::Target;
+use my_opts_parts::text::shown;
 use my_flags::CapabilityFlags;
 use my_frame::{Copied, Listed, NoMemory, Text};
 use std::alloc::Global;
@@ -56,7 +56,8 @@ pub struct Opts {
 }
 
 impl Model for Opts {
-    ghost use Rattle.my_opts.specs.Opts.{OptsView, IsPacketLimit, IsWaitingLimit};
+    ghost use Rattle.my_opts.specs.Opts.{OptsView};
+    ghost use Rattle.my_opts_parts.specs.Limits.{IsPacketLimit, IsWaitingLimit};
 
     ghost Value = { OptsView };
 
@@ -296,15 +297,10 @@ impl Opts {
     /// Whether the host is the machine itself: a loopback address, with or without brackets, or
     /// `localhost`; or one of its known addresses is.
     pub fn addr_is_loopback(&self) -> bool
-        ensures { MatchBool result (IsLoopback self.now) (IsElsewhere self.now) }
+        ensures { MatchBool result (IsLoopback self.now.resolved_ips self.now.ip_or_hostname)
+            (IsElsewhere self.now.resolved_ips self.now.ip_or_hostname) }
     {
-        if any_loopback(&self.resolved_ips) {
-            return true;
-        }
-        if is_loopback_host(self.ip_or_hostname.as_str()) {
-            return true;
-        }
-        false
+        is_loopback(&self.resolved_ips, self.ip_or_hostname.as_str())
     }
 
     /// Where a connection with these options is made: at the local socket that they name, else at

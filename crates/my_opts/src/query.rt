@@ -8,8 +8,8 @@ ghost use Rattle.my_opts.specs.Values.{truth};
 
 use crate::builder::OptsBuilder;
 use crate::error::{UrlError, UrlFault};
-use crate::millis::Millis;
-use crate::pool::{PoolConstraints, PoolOpts};
+use my_opts_parts::Millis;
+use my_opts_parts::{PoolConstraints, PoolOpts};
 use crate::values::{is_compression, truth_of, whole32, whole64};
 use my_frame::Text;
 use std::alloc::Global;

@@ -1,4 +1,5 @@
 -- How a script's lines go on.
+pub mod Cuts
 use Rattle.std.proofs.Common.{◌≡◌, ◌+◌, ◌≤◌, ◌<◌, ℕ, suc, List, length, take, Option, Some, None, Bool, sym, ap, ◌∙◌, Bor, option_map, IfSome, arith}
 use Rattle.my_script.specs.declared.step.Step.{Step}
 use Rattle.my_world.specs.declared.line.WorldLine.{WorldLine}
@@ -7,7 +8,7 @@ use Rattle.my_script.specs.declared.reading.script.Sofar.{Sofar}
 use Rattle.my_script.specs.Cut.{first_of, rest_of, pieces_left}
 use Rattle.my_script.specs.Line.{line_of}
 use Rattle.my_script.specs.Script.{Script, Bad, front, with_item, on_line, admitted, script_from}
-use Rattle.my_script.proofs.Cuts.{pieces_cut}
+use Rattle.my_script.proofs.Scripts.Cuts.{pieces_cut}
 
 abbrev pub text_of : Option (Bor (List ℕ)) → Option (List ℕ)
 text_of rest = option_map (λ (r : Bor (List ℕ)). r.now) rest

@@ -21,7 +21,7 @@ abbrev pub admitted_step : Sofar → Step → Option Sofar
 admitted_step s Conn = if nat_lt s.conns 1000 then Some (record { stepped = true; conns = s.conns + 1 }) else None
 admitted_step s _ = Some (record { stepped = true; conns = s.conns })
 
--- the lines up to this one, where it may stand there: a world's line stands before the first step, over a world that plans
+-- the lines up to this one, where it may be there: a world's line comes before the first step, over a world that plans
 abbrev pub admitted : Bool → Sofar → Item → Option Sofar
 admitted plans s Nothing = Some s
 admitted plans s (Plans l) = if plans && not s.stepped then Some s else None

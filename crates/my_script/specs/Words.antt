@@ -2,7 +2,8 @@
 use Rattle.std.specs.Prelude.{ℕ, List, [], ◌∷◌, codes, length, nat_lt, Option, Some, None, option_map, Result, Ok, Err, if◌then◌else◌}
 use Rattle.std.specs.Str.{bytes_eq}
 use Rattle.my_frame.specs.Numbers.{◌>>=◌}
-use Rattle.my_opts.specs.Opts.{OptsView, default_opts, packet_limit, waiting_limit}
+use Rattle.my_opts.specs.Limits.{packet_limit, waiting_limit}
+use Rattle.my_opts.specs.Opts.{OptsView, default_opts}
 use Rattle.my_opts.specs.Url.{options_of}
 use Rattle.my_opts.specs.declared.error.UrlError.{UrlError}
 use Rattle.my_script.specs.declared.words.Plain.{Plain as PlainParts}

@@ -1,12 +1,2 @@
-pub mod BinaryRowLaws
-pub mod BulkLaws
-pub mod DateLaws
-pub mod DecimalLaws
-pub mod FillLaws
-pub mod GatherLaws
-pub mod OneCellLaws
-pub mod ParameterLaws
-pub mod RowLaws
-pub mod SqlTextLaws
-pub mod TextRowLaws
-pub mod WrittenRowLaws
+mod Conversions
+pub mod Rows

@@ -1,17 +1,11 @@
 pub mod BinaryCell
 pub mod BinaryRow
-pub mod BulkBody
 pub mod Cell
 pub mod CellForm
 pub mod ConversionLaws
 pub mod Conversions
-pub mod NamedParams
-pub mod ParamValues
-pub mod Parameters
 pub mod Refusals
 pub mod RowConversions
 pub mod RowParts
-pub mod Sending
-pub mod SqlText
 pub mod TextRow
 pub mod WrittenRow

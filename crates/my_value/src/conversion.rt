@@ -3,7 +3,7 @@
 ghost use Rattle.std.specs.Prelude.{◌≡◌, IfOk, IfErr};
 ghost use Rattle.my_value.specs.Refusals.{Refuses};
 
-use crate::shown::Lossy;
+use crate::shown::ShownValue;
 use crate::value::Value;
 use my_frame::NoMemory;
 use std::alloc::Global;
@@ -20,10 +20,9 @@ pub enum FromValueError {
 impl fmt::Display for FromValueError {
     fn fmt<W: fmt::Write>(&self, f: &mut fmt::Formatter<W>) -> fmt::Result {
         match self {
-            FromValueError::Value(Value::Bytes(bytes)) => {
-                write!(f, "the value doesn't convert: {}", Lossy(bytes.as_slice()))
+            FromValueError::Value(value) => {
+                write!(f, "the value doesn't convert: {}", ShownValue(value))
             }
-            FromValueError::Value(value) => write!(f, "the value doesn't convert: {value:?}"),
             FromValueError::NoMemory => f.write_str("out of memory"),
         }
     }

@@ -4,19 +4,29 @@ ghost use Rattle.std.specs.Prelude.{◌≡◌, IfOk, IfErr};
 ghost use Rattle.my_value.specs.RowConversions.{RefusesRow};
 
 use crate::row::Row;
+use crate::shown::ShownRow;
 use my_frame::NoMemory;
 use std::alloc::Global;
-use thiserror::Error;
+use std::fmt;
 
 /// Why a row wasn't converted.
-#[derive(Debug, Drop, PartialEq, Eq, Error)]
+#[derive(Debug, Drop, PartialEq, Eq)]
 pub enum FromRowError {
     /// The row, which doesn't convert to the type that was asked for.
-    #[error("the row doesn't convert: {0:?}")]
     Row(Row),
-    #[error("out of memory")]
     NoMemory,
 }
+
+impl fmt::Display for FromRowError {
+    fn fmt<W: fmt::Write>(&self, f: &mut fmt::Formatter<W>) -> fmt::Result {
+        match self {
+            FromRowError::Row(row) => write!(f, "the row doesn't convert: {}", ShownRow(row)),
+            FromRowError::NoMemory => f.write_str("out of memory"),
+        }
+    }
+}
+
+impl std::error::Error for FromRowError {}
 
 impl FromRowError {
     /// A second value of the same error.

@@ -5,7 +5,7 @@ use Rattle.my_link.specs.declared.link.WriteItem.{WriteItem}
 use Rattle.my_world.specs.declared.world.DialStep.{DialStep}
 use Rattle.my_world.specs.declared.world.DialStep.TheVariants.{Link, NotYet, Failed}
 
--- for the link of each number, where the world tells it: what can be read, and what becomes of writes
+-- for the link of each number, where contracts see it: what can be read, and what becomes of writes
 pub record Plans : Type 0 where
   pub reads : ℕ → Option (List ReadItem)
   pub writes : ℕ → Option (List WriteItem)
@@ -48,7 +48,7 @@ OnHeld (Link l) P = Unit {0}
 OnHeld NotYet P = P
 OnHeld Failed P = Unit {0}
 
--- nothing was sent yet, where that is told
+-- nothing was sent yet, where contracts see what was
 abbrev pub IsFresh : Option (List ℕ) → Type 0
 IsFresh None = Unit {0}
 IsFresh (Some bytes) = bytes ≡ []

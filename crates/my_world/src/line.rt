@@ -19,7 +19,8 @@ pub enum WorldLine {
     End(u64),
     /// As a packet, but after each byte, of the header too, the next read isn't ready, once.
     Drip(u64, u8, Blob),
-    /// That many of the next bytes that are written are taken in one piece, or in shorter ones where the writes are shorter.
+    /// The number of the next bytes that are written which are taken in one piece, or in shorter ones where the writes
+    /// are shorter.
     Accept(u64, u64),
     /// The next write isn't ready, once.
     WriteWait(u64),

@@ -17,11 +17,11 @@ pub enum DialStep<L> {
     Failed,
 }
 
-/// The outside of a run: it dials links, and tells the time.
+/// The outside of a run: it dials links, and has the time.
 pub trait World {
     type L: Link + Drop;
 
-    /// Whether it takes a plan, the plan of each link where it tells it, and how often a dial failed and held.
+    /// Whether it takes a plan, the plan of each link where contracts see it, and how often a dial failed and held.
     ghost seen: { Self → WorldSeen };
 
     /// Whether it takes the lines of a plan.
@@ -35,7 +35,7 @@ pub trait World {
         ensures err { OnErr result (SamePlans (seen self.old).plans (seen self.new).plans) }
         ensures takes { (seen self.new).takes ≡ (seen self.old).takes };
 
-    /// Dials the link of `number`. A world that tells its plan holds no dial.
+    /// Dials the link of `number`. A world whose plan contracts see holds no dial.
     fn dial(&mut self, number: u64) -> DialStep<Self::L>
         ensures items { IfLink result (λ l. (Self.L.looks l).items ≡ (seen self.old).plans.reads number) }
         ensures writes { IfLink result (λ l. (Self.L.looks l).writes ≡ (seen self.old).plans.writes number) }

@@ -3,8 +3,9 @@
 use crate::made::bytes;
 use my_command::statement::{ParameterType, put_bulk_head};
 use my_frame::Blob;
-use my_value::bulk::{bulk_list_len, join_types, put_bulk_list, types_agree, types_of};
-use my_value::{Params, ParamsError, Value, execute_body, into_values, parameter_of};
+use my_params::bulk::{bulk_list_len, join_types, put_bulk_list, types_agree, types_of};
+use my_params::{Params, ParamsError, execute_body, into_values, parameter_of};
+use my_value::Value;
 use std::alloc::Global;
 use std::test::Fail;
 

@@ -1,8 +1,9 @@
 //! The texts of errors.
 
-use crate::made::bytes;
+use crate::made::{bytes, columns};
 use my_frame::Blob;
-use my_value::{FromValueError, ParamsError, ParseFault, Value};
+use my_params::{ParamsError, ParseFault};
+use my_value::{FromRowError, FromValueError, Row, Value};
 use std::test::Fail;
 
 // A name is printed as text, with U+FFFD in place of what is no UTF-8.
@@ -34,9 +35,41 @@ fn other_texts(rt: HostRuntime) -> Result<(), Fail> {
         mixed.as_str(),
         "named and positional parameters in one text"
     );
-    let text = FromValueError::Value(bytes(alloc, b"1a\xff")?).to_string(alloc)?;
-    assert_eq!(rt; text.as_str(), "the value doesn't convert: 1a\u{fffd}");
-    let number = FromValueError::Value(Value::Int(256)).to_string(alloc)?;
-    assert_eq!(rt; number.as_str(), "the value doesn't convert: Int(256)");
+    Ok(())
+}
+
+// What isn't converted is printed as text.
+#[test]
+fn refused_values(rt: HostRuntime) -> Result<(), Fail> {
+    let alloc = rt.alloc();
+    let cases = [
+        (Value::NULL, "NULL"),
+        (bytes(alloc, b"1a\xff")?, "1a\u{fffd}"),
+        (Value::Int(-256), "-256"),
+        (Value::UInt(256), "256"),
+        (Value::FloatBits(0x3f80_0000), "float 0x3f800000"),
+        (Value::DoubleBits(1), "double 0x0000000000000001"),
+        (Value::Date(2020, 12, 31, 1, 2, 3, 4), "2020-12-31 01:02:03.000004"),
+        (Value::Time(true, 1, 2, 3, 4, 5), "-1 02:03:04.000005"),
+        (Value::Time(false, 0, 0, 0, 0, 0), "0 00:00:00.000000"),
+    ];
+    for (value, want) in &cases {
+        let text = FromValueError::Value(value.copy(alloc)?).to_string(alloc)?;
+        let want = format!(in alloc; "the value doesn't convert: {want}")?;
+        assert_eq!(rt; text, want);
+    }
+    Ok(())
+}
+
+#[test]
+fn refused_rows(rt: HostRuntime) -> Result<(), Fail> {
+    let alloc = rt.alloc();
+    let columns = columns(alloc, 3, 253, 0)?;
+    let mut cells = Vec::new(alloc);
+    cells.push(Value::Int(1))?;
+    cells.push(Value::NULL)?;
+    cells.push(bytes(alloc, b"abc")?)?;
+    let text = FromRowError::Row(Row::new(cells, columns)).to_string(alloc)?;
+    assert_eq!(rt; text.as_str(), "the row doesn't convert: (1, NULL, abc)");
     Ok(())
 }

@@ -1,6 +1,6 @@
 use Rattle.my_handshake.specs.Greeting.{IsGreeting, greeting_at}
 use Rattle.my_frame.proofs.ReadingLaws.{reads_exactly}
-use Rattle.my_handshake.proofs.GreetingLaws.{greeting_found, greeting_again}
+use Rattle.my_handshake.proofs.Readers.GreetingLaws.{greeting_found, greeting_again}
 use Rattle.my_handshake.proofs.greeting.read_greeting.Goals as goal
 
 pub returns-clause-exact : goal.returns-clause-exact

@@ -1,6 +1,6 @@
 use Rattle.my_handshake.specs.Greeting.{IsGreeting, greeting_at}
 use Rattle.my_frame.proofs.ReadingLaws.{finds_exactly}
-use Rattle.my_handshake.proofs.GreetingLaws.{greeting_found, greeting_again}
+use Rattle.my_handshake.proofs.Readers.GreetingLaws.{greeting_found, greeting_again}
 use Rattle.my_handshake.proofs.laws.greeting_is_read.Goals as goal
 
 pub returns : goal.returns

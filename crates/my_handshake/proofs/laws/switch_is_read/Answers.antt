@@ -1,6 +1,6 @@
 use Rattle.my_handshake.specs.SwitchRequest.{IsMoreData, IsSwitch, more_data_at, switch_at}
 use Rattle.my_frame.proofs.ReadingLaws.{finds_exactly}
-use Rattle.my_handshake.proofs.SwitchLaws.{more_data_found, more_data_again, switch_found, switch_again}
+use Rattle.my_handshake.proofs.Readers.SwitchLaws.{more_data_found, more_data_again, switch_found, switch_again}
 use Rattle.my_handshake.proofs.laws.switch_is_read.Goals as goal
 
 pub returns-clause-switch : goal.returns-clause-switch

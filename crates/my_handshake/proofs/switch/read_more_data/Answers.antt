@@ -1,6 +1,6 @@
 use Rattle.my_handshake.specs.SwitchRequest.{IsMoreData, more_data_at}
 use Rattle.my_frame.proofs.ReadingLaws.{reads_plainly}
-use Rattle.my_handshake.proofs.SwitchLaws.{more_data_found, more_data_again}
+use Rattle.my_handshake.proofs.Readers.SwitchLaws.{more_data_found, more_data_again}
 use Rattle.my_handshake.proofs.switch.read_more_data.Goals as goal
 
 pub returns-clause-exact : goal.returns-clause-exact

@@ -1,6 +1,6 @@
 use Rattle.std.proofs.Common.{Some, None}
 use Rattle.std.proofs.lemmas.Str.Pattern.{split_parts}
-use Rattle.my_script.proofs.Cuts.{first_lacks, rest_lacks, first_at, rest_at}
+use Rattle.my_script.proofs.Scripts.Cuts.{first_lacks, rest_lacks, first_at, rest_at}
 use Rattle.my_script.proofs.words.cut_text.Goals as goal
 
 pub returns-in-Some : goal.returns-in-Some

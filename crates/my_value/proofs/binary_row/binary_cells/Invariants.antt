@@ -1,6 +1,6 @@
 use Rattle.std.proofs.Common.{◌≡◌, drop}
 use Rattle.my_value.specs.BinaryRow.{binary_cells_at}
-use Rattle.my_value.proofs.RowLaws.{with_front}
+use Rattle.my_value.proofs.Rows.{with_front}
 use Rattle.my_value.proofs.binary_row.binary_cells.Given as goal
 
 abbrev pub invariant-loop-place : goal.invariant-loop-place

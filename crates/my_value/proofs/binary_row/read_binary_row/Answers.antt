@@ -2,8 +2,8 @@ use Rattle.std.proofs.Common.{List}
 use Rattle.my_value.specs.declared.value.Value.{Value}
 use Rattle.my_value.specs.RowParts.{columns_of}
 use Rattle.my_value.specs.BinaryRow.{IsBinaryRow}
-use Rattle.my_value.proofs.RowLaws.{row_exact, row_found, row_only}
-use Rattle.my_value.proofs.BinaryRowLaws.{binary_row_found, binary_row_again}
+use Rattle.my_value.proofs.Rows.{row_exact, row_found, row_only}
+use Rattle.my_value.proofs.Rows.BinaryRows.{binary_row_found, binary_row_again}
 use Rattle.my_value.proofs.binary_row.read_binary_row.Goals as goal
 
 pub returns-clause-exact : goal.returns-clause-exact

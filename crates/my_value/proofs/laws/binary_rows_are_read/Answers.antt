@@ -1,4 +1,4 @@
-use Rattle.my_value.proofs.BinaryRowLaws.{binary_row_found, binary_row_again}
+use Rattle.my_value.proofs.Rows.BinaryRows.{binary_row_found, binary_row_again}
 use Rattle.my_value.proofs.laws.binary_rows_are_read.Goals as goal
 
 pub returns : goal.returns

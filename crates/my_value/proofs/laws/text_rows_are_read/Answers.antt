@@ -1,4 +1,4 @@
-use Rattle.my_value.proofs.TextRowLaws.{text_row_found, text_row_again}
+use Rattle.my_value.proofs.Rows.TextRows.{text_row_found, text_row_again}
 use Rattle.my_value.proofs.laws.text_rows_are_read.Goals as goal
 
 pub returns : goal.returns

@@ -1,4 +1,4 @@
-use Rattle.my_value.proofs.RowLaws.{after_more}
+use Rattle.my_value.proofs.Rows.{after_more}
 use Rattle.my_value.proofs.text_row.after_text_cells.Goals as goal
 
 pub loop-preserved : goal.loop-preserved

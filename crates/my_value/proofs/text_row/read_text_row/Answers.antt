@@ -2,8 +2,8 @@ use Rattle.std.proofs.Common.{List, length}
 use Rattle.my_value.specs.declared.value.Value.{Value}
 use Rattle.my_value.specs.RowParts.{columns_of}
 use Rattle.my_value.specs.TextRow.{IsTextRow}
-use Rattle.my_value.proofs.RowLaws.{row_exact, row_found, row_only}
-use Rattle.my_value.proofs.TextRowLaws.{text_row_found, text_row_again}
+use Rattle.my_value.proofs.Rows.{row_exact, row_found, row_only}
+use Rattle.my_value.proofs.Rows.TextRows.{text_row_found, text_row_again}
 use Rattle.my_value.proofs.text_row.read_text_row.Goals as goal
 
 pub returns-clause-exact : goal.returns-clause-exact

@@ -1,4 +1,4 @@
-use Rattle.my_value.proofs.RowLaws.{text_more}
+use Rattle.my_value.proofs.Rows.{text_more}
 use Rattle.my_value.proofs.text_row.text_cells.Goals as goal
 
 pub loop-preserved : goal.loop-preserved

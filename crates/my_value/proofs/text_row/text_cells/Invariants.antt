@@ -1,6 +1,6 @@
 use Rattle.std.proofs.Common.{◌≡◌, ◌-◌}
 use Rattle.my_value.specs.TextRow.{text_cells_at}
-use Rattle.my_value.proofs.RowLaws.{with_front}
+use Rattle.my_value.proofs.Rows.{with_front}
 use Rattle.my_value.proofs.text_row.text_cells.Given as goal
 
 abbrev pub invariant-loop : goal.invariant-loop

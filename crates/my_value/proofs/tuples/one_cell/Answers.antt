@@ -1,5 +1,5 @@
 use Rattle.std.proofs.Common.{◌∙◌, sym}
-use Rattle.my_value.proofs.OneCellLaws.{row_back}
+use Rattle.my_value.proofs.Conversions.OneCells.{row_back}
 use Rattle.my_value.proofs.tuples.one_cell.Goals as goal
 
 pub returns-in-Err-Value-clause-refused : goal.returns-in-Err-Value-clause-refused

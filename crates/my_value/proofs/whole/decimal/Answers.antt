@@ -1,5 +1,5 @@
 use Rattle.std.proofs.lemmas.Str.{IsUtf8-from_ascii}
-use Rattle.my_value.proofs.DecimalLaws.{numeral_is_ascii}
+use Rattle.my_value.proofs.Conversions.Decimals.{numeral_is_ascii}
 use Rattle.my_value.proofs.whole.decimal.Goals as goal
 
 pub returns-in-Err : goal.returns-in-Err

@@ -1,9 +1,12 @@
-use Rattle.std.proofs.Common.{◌∙◌, ap, subst, inr}
-use Rattle.my_opts.specs.Loopback.{IsLoopbackHost}
+use Rattle.std.proofs.Common.{ℕ, List, subst}
+use Rattle.std.specs.Prelude.{MatchBool}
 use Rattle.my_opts.specs.Opts.{OptsView}
+use Rattle.my_opts_parts.specs.Loopback.{IsElsewhere, IsLoopback}
 use Rattle.my_opts.proofs.opts.Opts.addr_is_loopback.Goals as goal
 
-pub returns-then-is_loopback_host : goal.returns-then-is_loopback_host
-returns-then-is_loopback_host c =
-    let host = c.as_str.ensures ∙ ap (λ (o : OptsView). o.ip_or_hostname) c.self.view_is in
-    inr (subst IsLoopbackHost host c.if-is_loopback_host.ensures)
+pub returns : goal.returns
+returns c =
+    let said : List ℕ → OptsView → Type 0 = λ host o.
+        MatchBool c.is_loopback.result (IsLoopback o.resolved_ips host) (IsElsewhere o.resolved_ips host) in
+    let of_host = subst (λ (host : List ℕ). MatchBool c.is_loopback.result (IsLoopback c.self.inside.resolved_ips host) (IsElsewhere c.self.inside.resolved_ips host)) c.as_str.ensures c.is_loopback.ensures in
+    subst (λ (o : OptsView). said o.ip_or_hostname o) c.self.view_is of_host

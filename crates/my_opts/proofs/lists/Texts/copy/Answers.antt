@@ -1,6 +1,0 @@
-use Rattle.std.proofs.Common.{◌∙◌, string_bytes}
-use Rattle.my_opts.proofs.ListLemmas.{map-copied}
-use Rattle.my_opts.proofs.lists.Texts.copy.Goals as goal
-
-pub returns : goal.returns
-returns c = map-copied (λ s. string_bytes s) _ _ c.in_ok-clone.ensures.cases.0 ∙ c.self.view_is

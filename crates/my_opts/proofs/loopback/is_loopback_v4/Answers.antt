@@ -1,5 +1,0 @@
-use Rattle.std.proofs.Common.{inr}
-use Rattle.my_opts.proofs.loopback.is_loopback_v4.Goals as goal
-
-pub returns-in-Err : goal.returns-in-Err
-returns-in-Err c = inr (rw c.as_bytes.ensures.value at c.in-Err.ensures)

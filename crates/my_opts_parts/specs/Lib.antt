@@ -1,0 +1,6 @@
+pub mod Limits
+pub mod Lists
+pub mod Loopback
+pub mod Pool
+pub mod Transaction
+pub mod TransactionOptions

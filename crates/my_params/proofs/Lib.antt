@@ -1,0 +1,3 @@
+mod Bodies
+mod Filling
+mod Texts

@@ -1,0 +1,6 @@
+pub mod BulkBody
+pub mod NamedParams
+pub mod ParamValues
+pub mod Parameters
+pub mod Sending
+pub mod SqlText

@@ -1,0 +1,3 @@
+-- What values and rows convert to.
+pub mod Decimals
+pub mod OneCells

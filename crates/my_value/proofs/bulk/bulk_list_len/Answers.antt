@@ -1,6 +1,0 @@
-use Rattle.std.proofs.Common.{arith}
-use Rattle.my_value.proofs.BulkLaws.{length_list}
-use Rattle.my_value.proofs.bulk.bulk_list_len.Goals as goal
-
-pub returns : goal.returns
-returns c = omega (arith, length_list c.args.values.now)

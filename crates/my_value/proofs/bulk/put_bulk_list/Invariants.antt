@@ -1,6 +1,0 @@
-use Rattle.std.proofs.Common.{◌≡◌, ◌++◌, take}
-use Rattle.my_value.specs.BulkBody.{list_bytes}
-use Rattle.my_value.proofs.bulk.put_bulk_list.Given as goal
-
-abbrev pub invariant-loop-value : goal.invariant-loop-value
-invariant-loop-value l = l.out.items ≡ l.fn.out.items ++ list_bytes (take l.value-index l.values)

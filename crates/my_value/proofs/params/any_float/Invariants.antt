@@ -1,7 +1,0 @@
-use Rattle.std.proofs.Common.{◌≡◌, drop}
-use Rattle.std.specs.List.{list_any}
-use Rattle.my_value.specs.ParamValues.{is_float}
-use Rattle.my_value.proofs.params.any_float.Given as goal
-
-abbrev pub invariant-loop-value : goal.invariant-loop-value
-invariant-loop-value l = list_any is_float (drop l.value-index l.values) ≡ list_any is_float l.values
