@@ -9,6 +9,18 @@ ghost use Rattle.my_pool_core.specs.Requests.{last_age, is_waiting};
 ghost use Rattle.my_pool_core.specs.Events.{new_pool, may_poll, poll_request, takes_place, is_gone};
 ghost use Rattle.my_pool_core.specs.Steps.{may, step, AllMay, after};
 ghost use Rattle.my_pool_core.specs.Sound.{IsSound, IsCovered};
+ghost use Rattle.std.specs.Prelude.{Bool, false, Option, Some, None, ◌||◌, ◌&&◌, not};
+ghost use Rattle.my_pool_core.specs.Owners.{Token, Free, token, number_in, is_home, is_lease, Making, Looking, place_at, is_working, mark_at};
+ghost use Rattle.my_pool_core.specs.Moves.{token_after, PlacesMove, home_after, lease_after, verdict_place, is_verdict_on, IsKeeping};
+ghost use Rattle.my_pool_core.specs.Wakes.{waits, is_awake, oldest_waiting, wakes, is_turn_of, begins_to_wait};
+ghost use Rattle.my_pool_core.specs.declared.event.PoolEvent.TheVariants as events;
+ghost use Rattle.my_pool_core.specs.declared.event.Facts.{Facts};
+ghost use Rattle.my_pool_core.specs.declared.event.PollAnswer.TheVariants.{Take, Dial};
+ghost use Rattle.my_pool_core.specs.declared.connection.Times.{Times};
+ghost use Rattle.my_pool_core.specs.declared.connection.Place.TheVariants.{Idle, Connecting, Checking, Cleaning};
+ghost use Rattle.my_pool_core.specs.Connections.{latest_usable};
+ghost use Rattle.my_pool_core.specs.Events.{take_returned, decide, done};
+ghost use Rattle.std.specs.Prelude.{◌⊎◌};
 
 /// Each event that may happen leaves a sound state sound, and one that is covered too, covered.
 pub fn kept_by_each_event()
@@ -34,4 +46,99 @@ pub fn oldest_first()
 /// A pool is gone only where it counts no connection.
 pub fn gone_is_empty()
     ensures { (s : State) → is_gone s ≡ true → length s.connections ≡ 0 }
+{}
+
+/// What the request of each age holds after an event.
+pub fn tokens_move()
+    ensures { (s : State) (event : PoolEvent) (age : ℕ) → IsSound s → may s event ≡ true
+        → token age (step s event) ≡ token_after s event age }
+{}
+
+/// Which events may happen by what a request holds: one without a connection may be polled, the connection of one that
+/// has one is good or isn't, and each may be given up.
+pub fn tokens_allow()
+    ensures poll { (s : State) (age now : ℕ) → token age s ≡ Some Free → may s (events.PollRequest age now) ≡ true }
+    ensures ready { (s : State) (age number : ℕ) (held : Token) → token age s ≡ Some held
+        → number_in held ≡ Some number → may s (events.Ready age number) ≡ true }
+    ensures failed { (s : State) (age number : ℕ) (held : Token) → token age s ≡ Some held
+        → number_in held ≡ Some number → may s (events.Failed age number) ≡ true }
+    ensures cancel { (s : State) (age : ℕ) (held : Token) → token age s ≡ Some held
+        → may s (events.Cancel age) ≡ true }
+{}
+
+/// Which requests an event wakes, and which wait after it. A woken one stays so until it is polled or given up, and one
+/// that waits until it is woken, polled or given up.
+pub fn woken_are()
+    ensures woken { (s : State) (event : PoolEvent) (age : ℕ) → IsSound s → may s event ≡ true
+        → is_awake age (step s event) ≡ (wakes s event age || (is_awake age s && not (is_turn_of age event))) }
+    ensures waiting { (s : State) (event : PoolEvent) (age : ℕ) → IsSound s → may s event ≡ true
+        → waits age (step s event)
+            ≡ (begins_to_wait s event age || (waits age s && not (wakes s event age) && not (is_turn_of age event))) }
+    ensures only { (s : State) (event : PoolEvent) (age : ℕ) → IsSound s → wakes s event age ≡ true
+        → waits age s ≡ true }
+{}
+
+/// The oldest waiting age waits, and none that waits is below it; where there is none, none waits.
+pub fn oldest_is_least()
+    ensures it { (s : State) (oldest : ℕ) → IsSound s → oldest_waiting s ≡ Some oldest → waits oldest s ≡ true }
+    ensures others { (s : State) (oldest age : ℕ) → IsSound s → oldest_waiting s ≡ Some oldest → waits age s ≡ true
+        → oldest ≤ age }
+    ensures none { (s : State) (age : ℕ) → oldest_waiting s ≡ None → waits age s ≡ false }
+{}
+
+/// What each event does with each connection.
+pub fn places_move()
+    ensures { (s : State) (event : PoolEvent) → IsSound s → may s event ≡ true → PlacesMove s event (step s event) }
+{}
+
+/// Which connections the layer above keeps after an event.
+pub fn homes_move()
+    ensures { (s : State) (event : PoolEvent) (number : ℕ) → IsSound s → may s event ≡ true
+        → is_home number (step s event) ≡ home_after s event number }
+{}
+
+/// Which connections are leased after an event.
+pub fn leases_move()
+    ensures { (s : State) (event : PoolEvent) (number : ℕ) → IsSound s → may s event ≡ true
+        → is_lease number (step s event) ≡ lease_after s event number }
+{}
+
+/// No connection has two owners: it is kept by the layer above, leased, or held by one request.
+pub fn one_owner()
+    ensures home { (s : State) (number : ℕ) → is_home number s ≡ true → is_lease number s ≡ false }
+    ensures made { (s : State) (age number : ℕ) → IsSound s → token age s ≡ Some (Making number)
+        → place_at number s ≡ Some Connecting }
+    ensures looked_at { (s : State) (age number : ℕ) → IsSound s → token age s ≡ Some (Looking number)
+        → place_at number s ≡ Some Checking }
+    ensures holder { (s : State) (a b number : ℕ) (t u : Token) → IsSound s → token a s ≡ Some t → token b s ≡ Some u
+        → number_in t ≡ Some number → number_in u ≡ Some number → a ≡ b }
+{}
+
+/// Where a verdict puts the connection that it is about, and where one that is taken to be cleaned is.
+pub fn verdict_places()
+    ensures decide { (s : State) (number : ℕ) (facts : Facts) (now : ℕ) → IsSound s
+        → may s (events.Decide number facts now) ≡ true → place_at number (step s (events.Decide number facts now))
+            ≡ verdict_place (decide number facts now s).answer (place_at number s) facts now }
+    ensures done { (s : State) (number : ℕ) (ok : Bool) (facts : Facts) (now : ℕ) → IsSound s
+        → may s (events.Done number ok facts now) ≡ true → place_at number (step s (events.Done number ok facts now))
+            ≡ verdict_place (done number ok facts now s).answer (place_at number s) facts now }
+    ensures taken { (s : State) (number : ℕ) → IsSound s → (take_returned s).answer ≡ Some number
+        → place_at number (step s events.TakeReturned) ≡ Some (Cleaning (mark_at number s)) }
+{}
+
+/// A connection whose cleaning, reset or close goes on stays where it is until a verdict on it.
+pub fn polled_stay()
+    ensures { (s : State) (event : PoolEvent) (number : ℕ) → IsSound s → may s event ≡ true
+        → is_working number s ≡ true → is_verdict_on number event ≡ false
+        → place_at number (step s event) ≡ place_at number s }
+{}
+
+/// A connection becomes idle only by a verdict that keeps it, with the times of that verdict; and the idle connection that
+/// a polled request takes is the latest one that is usable.
+pub fn idle_by_keep()
+    ensures idle { (s : State) (event : PoolEvent) (number : ℕ) (times : Times) → IsSound s → may s event ≡ true
+        → place_at number (step s event) ≡ Some (Idle times)
+        → (place_at number s ≡ Some (Idle times)) ⊎ IsKeeping number times s event }
+    ensures taken { (s : State) (age now number : ℕ) → (poll_request age now s).answer ≡ Take number
+        → latest_usable now s.connections ≡ Some number }
 {}
