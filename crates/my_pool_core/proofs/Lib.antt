@@ -8,3 +8,4 @@ pub mod Queue
 pub mod Retiring
 pub mod Asked
 pub mod Placed
+pub mod Replaying

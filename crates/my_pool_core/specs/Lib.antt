@@ -11,3 +11,4 @@ pub mod Live
 pub mod Owners
 pub mod Moves
 pub mod Wakes
+pub mod Counted

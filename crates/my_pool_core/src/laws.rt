@@ -7,7 +7,7 @@ ghost use Rattle.my_pool_core.specs.declared.limits.Limits.{Limits};
 ghost use Rattle.my_pool_core.specs.State.{State};
 ghost use Rattle.my_pool_core.specs.Requests.{last_age, is_waiting};
 ghost use Rattle.my_pool_core.specs.Events.{new_pool, may_poll, poll_request, takes_place, is_gone};
-ghost use Rattle.my_pool_core.specs.Steps.{may, step, AllMay, after};
+ghost use Rattle.my_pool_core.specs.Steps.{may, step, answer, AllMay, after, answers};
 ghost use Rattle.my_pool_core.specs.Sound.{IsSound, IsCovered};
 ghost use Rattle.std.specs.Prelude.{Bool, false, Option, Some, None, ◌||◌, ◌&&◌, not};
 ghost use Rattle.my_pool_core.specs.Owners.{Token, Free, token, number_in, is_home, is_lease, Making, Looking, place_at, is_working, mark_at};
@@ -19,8 +19,10 @@ ghost use Rattle.my_pool_core.specs.declared.event.PollAnswer.TheVariants.{Take,
 ghost use Rattle.my_pool_core.specs.declared.connection.Times.{Times};
 ghost use Rattle.my_pool_core.specs.declared.connection.Place.TheVariants.{Idle, Connecting, Checking, Cleaning};
 ghost use Rattle.my_pool_core.specs.Connections.{latest_usable};
-ghost use Rattle.my_pool_core.specs.Events.{take_returned, decide, done};
-ghost use Rattle.std.specs.Prelude.{◌⊎◌};
+ghost use Rattle.my_pool_core.specs.Events.{is_at_end, request, request_age, take_returned, decide, done, may_decide, may_done};
+ghost use Rattle.std.specs.Prelude.{◌⊎◌, ◌+◌, ◌++◌, [], ◌∷◌};
+ghost use Rattle.my_pool_core.specs.declared.event.Answer.TheVariants.{Poll};
+ghost use Rattle.my_pool_core.specs.Counted.{room, due, idle};
 
 /// Each event that may happen leaves a sound state sound, and one that is covered too, covered.
 pub fn kept_by_each_event()
@@ -35,6 +37,17 @@ pub fn kept_by_all_events()
         → AllMay (new_pool limits first) events → IsSound (after (new_pool limits first) events) }
     ensures covered { (limits : Limits) (first : ℕ) (events : List PoolEvent) → first ≤ last_age
         → AllMay (new_pool limits first) events → IsCovered (after (new_pool limits first) events) }
+{}
+
+/// One more event after a list of events, and the limits, which no event changes.
+pub fn one_more_event()
+    ensures after { (s : State) (events : List PoolEvent) (event : PoolEvent)
+        → after s (events ++ event ∷ []) ≡ step (after s events) event }
+    ensures may { (s : State) (events : List PoolEvent) (event : PoolEvent) → AllMay s events
+        → may (after s events) event ≡ true → AllMay s (events ++ event ∷ []) }
+    ensures answers { (s : State) (events : List PoolEvent) (event : PoolEvent)
+        → answers s (events ++ event ∷ []) ≡ answers s events ++ answer (after s events) event ∷ [] }
+    ensures limits { (s : State) (event : PoolEvent) → (step s event).limits ≡ s.limits }
 {}
 
 /// A polled request takes a place only where each waiting request is younger.
@@ -141,4 +154,58 @@ pub fn idle_by_keep()
         → (place_at number s ≡ Some (Idle times)) ⊎ IsKeeping number times s event }
     ensures taken { (s : State) (age now number : ℕ) → (poll_request age now s).answer ≡ Take number
         → latest_usable now s.connections ≡ Some number }
+{}
+
+/// A loop that takes returned connections and decides on them comes to an end: each one that is taken is one fewer to be
+/// cleaned, and a verdict adds none.
+pub fn turn_ends()
+    ensures taken { (s : State) (number : ℕ) → IsSound s → (take_returned s).answer ≡ Some number
+        → due (step s events.TakeReturned) + 1 ≡ due s }
+    ensures none { (s : State) → (take_returned s).answer ≡ None → due s ≡ 0 }
+    ensures decide { (s : State) (number : ℕ) (facts : Facts) (now : ℕ) → may s (events.Decide number facts now) ≡ true
+        → due (step s (events.Decide number facts now)) ≤ due s }
+    ensures done { (s : State) (number : ℕ) (ok : Bool) (facts : Facts) (now : ℕ)
+        → may s (events.Done number ok facts now) ≡ true → due (step s (events.Done number ok facts now)) ≤ due s }
+{}
+
+/// A request that polls again where its idle connection isn't good comes to an end: each one that it takes is one fewer
+/// that is idle, and one that isn't good adds none.
+pub fn poll_ends()
+    ensures taken { (s : State) (age now number : ℕ) → IsSound s → (poll_request age now s).answer ≡ Take number
+        → idle (step s (events.PollRequest age now)) + 1 ≤ idle s }
+    ensures failed { (s : State) (age number : ℕ) → IsSound s → may s (events.Failed age number) ≡ true
+        → idle (step s (events.Failed age number)) ≡ idle s }
+{}
+
+/// Only a request may want more room for connections.
+pub fn room_stays()
+    ensures same { (s : State) (event : PoolEvent) → IsSound s → may s event ≡ true → (event ≡ events.Request → ⊥)
+        → room (step s event) ≡ room s }
+    ensures grows { (s : State) → room s ≤ room (step s events.Request) }
+{}
+
+/// The age of each new request is above all earlier ones; at the end of ages or numbers it is the last age, and the pool
+/// is closed.
+pub fn ages_rise()
+    ensures new { (s : State) → is_at_end s ≡ false → request_age s ≡ s.next_age }
+    ensures fresh { (s : State) → IsSound s → is_at_end s ≡ false → token (request_age s) s ≡ None }
+    ensures rises { (s : State) → is_at_end s ≡ false → (step s events.Request).next_age ≡ s.next_age + 1 }
+    ensures last { (s : State) → is_at_end s ≡ true → request_age s ≡ last_age }
+    ensures closes { (s : State) → is_at_end s ≡ true → (step s events.Request).closed ≡ true }
+    ensures stays { (s : State) → is_at_end s ≡ true → (step s events.Request).next_age ≡ s.next_age }
+    ensures others { (s : State) (event : PoolEvent) → (event ≡ events.Request → ⊥)
+        → (step s event).next_age ≡ s.next_age }
+{}
+
+/// The number of each new connection is above all earlier ones.
+pub fn numbers_rise()
+    ensures next { (s : State) (age now number : ℕ) → (poll_request age now s).answer ≡ Dial number
+        → number ≡ s.next_number }
+    ensures fresh { (s : State) (age now number : ℕ) → IsSound s → (poll_request age now s).answer ≡ Dial number
+        → place_at number s ≡ None }
+    ensures rises { (s : State) (age now number : ℕ) → IsSound s → may s (events.PollRequest age now) ≡ true
+        → (poll_request age now s).answer ≡ Dial number
+        → (step s (events.PollRequest age now)).next_number ≡ number + 1 }
+    ensures others { (s : State) (event : PoolEvent) → ((number : ℕ) → answer s event ≡ Poll (Dial number) → ⊥)
+        → (step s event).next_number ≡ s.next_number }
 {}

@@ -189,7 +189,7 @@ found-itself test (x ∷ xs) c e h =
           ] h
     ] e
 
-due-is : (s : State) (c : Connection) → IsSound s → next_to_clean s.closed s.connections ≡ Some c → (find (has_number c.number) s.connections ≡ Some c) × (is_due_place s.closed c.place ≡ true)
+pub due-is : (s : State) (c : Connection) → IsSound s → next_to_clean s.closed s.connections ≡ Some c → (find (has_number c.number) s.connections ≡ Some c) × (is_due_place s.closed c.place ≡ true)
 due-is s c h =
     if-keeps (λ o. o ≡ Some c → (find (has_number c.number) s.connections ≡ Some c) × (is_due_place s.closed c.place ≡ true)) (list_any is_returned s.connections) _ _
     (λ _ e. (found-itself is_returned s.connections c e (h.once c.number), ap (λ b. b || (s.closed && is_idle c)) (found-passes is_returned s.connections c e)))
