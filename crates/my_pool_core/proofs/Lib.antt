@@ -9,3 +9,4 @@ pub mod Retiring
 pub mod Asked
 pub mod Placed
 pub mod Replaying
+pub mod Nexting

@@ -12,3 +12,4 @@ pub mod Owners
 pub mod Moves
 pub mod Wakes
 pub mod Counted
+pub mod Next

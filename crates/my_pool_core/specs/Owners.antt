@@ -1,12 +1,14 @@
 -- What the layer above reads of a pool: where the connection of a number is, and what the request of an age holds.
-use Rattle.std.specs.Prelude.{ℕ, Bool, true, false, Option, Some, None, option_map, find}
+use Rattle.std.specs.Prelude.{◌≡◌, ℕ, ◌≤◌, Bool, true, false, Option, Some, None, option_map, find}
 use Rattle.my_pool_core.specs.declared.connection.Place.{Place}
 use Rattle.my_pool_core.specs.declared.connection.Place.TheVariants.{Idle, Leased, Connecting, Checking, Returned, Cleaning, Resetting, Closing}
+use Rattle.my_pool_core.specs.declared.connection.PlaceKind.{PlaceKind}
+use Rattle.my_pool_core.specs.declared.connection.PlaceKind.TheVariants as kinds
 use Rattle.my_pool_core.specs.declared.request.Request.{Request}
 use Rattle.my_pool_core.specs.declared.request.Standing.{Standing}
 use Rattle.my_pool_core.specs.declared.request.Standing.TheVariants.{Asks, Waits, Woken, Dials, Checks}
 use Rattle.my_pool_core.specs.Lists.{found_is}
-use Rattle.my_pool_core.specs.Connections.{has_number, is_leased_place, mark_of_place}
+use Rattle.my_pool_core.specs.Connections.{has_number, is_idle_place, is_leased_place, is_connecting_place, is_checking_place, is_returned_place, is_cleaning_place, is_resetting_place, is_closing_place, mark_of_place}
 use Rattle.my_pool_core.specs.Requests.{has_age}
 use Rattle.my_pool_core.specs.State.{State}
 
@@ -55,6 +57,31 @@ is_lease number s = found_is is_leased_place (place_at number s)
 -- whether it is marked
 abbrev pub mark_at : ℕ → State → Bool
 mark_at number s = found_is mark_of_place (place_at number s)
+
+-- whether a place is of a kind
+abbrev pub is_kind : PlaceKind → Place → Bool
+is_kind kinds.Idle place = is_idle_place place
+is_kind kinds.Leased place = is_leased_place place
+is_kind kinds.Connecting place = is_connecting_place place
+is_kind kinds.Checking place = is_checking_place place
+is_kind kinds.Returned place = is_returned_place place
+is_kind kinds.Cleaning place = is_cleaning_place place
+is_kind kinds.Resetting place = is_resetting_place place
+is_kind kinds.Closing place = is_closing_place place
+
+-- whether the connection of a number is at a place of a kind
+abbrev pub is_at : PlaceKind → ℕ → State → Bool
+is_at kind number s = found_is (is_kind kind) (place_at number s)
+
+-- the least such number that isn't below another one
+pub record IsNextAt (kind : PlaceKind) (from number : ℕ) (s : State) : Type 0 where
+  pub above : from ≤ number
+  pub there : is_at kind number s ≡ true
+  pub least : (other : ℕ) → from ≤ other → is_at kind other s ≡ true → number ≤ other
+
+-- there is none
+pub record IsNoneAt (kind : PlaceKind) (from : ℕ) (s : State) : Type 0 where
+  pub none : (other : ℕ) → from ≤ other → is_at kind other s ≡ false
 
 -- what a live request holds: nothing, a connection that it makes, or one that it looks at
 pub data Token : Type 0 where
