@@ -1,15 +1,14 @@
 -- The least number at a kind of place is the one that a look through the connections finds.
-use Rattle.std.proofs.Common.{◌≡◌, ℕ, ◌+◌, ◌≤◌, ◌<◌, Bool, true, false, cond, Option, Some, None, List, [], ◌∷◌, refl, sym, ap, ◌∙◌, arith, min, subst, inl, inr}
-use Rattle.std.specs.Prelude.{find, option_map, ◌==◌, ◌&&◌, ◌||◌, nat_le, MatchOption, if◌then◌else◌, ◌⊎◌}
+use Rattle.std.proofs.Common.{◌≡◌, ℕ, ◌+◌, ◌≤◌, ◌<◌, Bool, true, false, Option, Some, None, List, [], ◌∷◌, refl, sym, ap, ◌∙◌, arith, min, subst, inl, inr}
+use Rattle.std.specs.Prelude.{find, option_map, ◌&&◌, nat_le, MatchOption, if◌then◌else◌, ◌⊎◌}
 use Rattle.std.proofs.lemmas.Bool.{eqb-true, eq-eqb, leb-true, leb-false, le-leb}
 use Rattle.my_pool_core.specs.declared.connection.Connection.{Connection}
-use Rattle.my_pool_core.specs.declared.connection.Place.{Place}
 use Rattle.my_pool_core.specs.declared.connection.PlaceKind.{PlaceKind}
 use Rattle.my_pool_core.specs.Lists.{how_many, found_is}
 use Rattle.my_pool_core.specs.Connections.{has_number}
 use Rattle.my_pool_core.specs.State.{State}
 use Rattle.my_pool_core.specs.Sound.{IsSound}
-use Rattle.my_pool_core.specs.Owners.{is_kind, is_at, place_at, IsNextAt, IsNoneAt}
+use Rattle.my_pool_core.specs.Owners.{is_kind, is_at, IsNextAt, IsNoneAt}
 use Rattle.my_pool_core.specs.Next.{lesser, least_at}
 use Rattle.my_pool_core.proofs.Finding.{one, count-found, found-once, found-passes}
 use Rattle.my_pool_core.proofs.Kept.Moving.{both}
@@ -71,13 +70,13 @@ taken kind from found c cs (Some n) e f =
     record {
       there = elim f.there [
         | inl k ↦
-          let same : lesser found c.number ≡ n = cc in
-          elim (lesser-is found c.number) [
-            | inl old ↦ inl (old ∙ ap (λ i. Some i) same)
-            | inr new ↦
-              let at : one (passes kind from c && has_number n c) ≡ 1 = ap (λ b. one (b && has_number n c)) e ∙ ap one (eq-eqb c.number n (new ∙ same)) in
-              inr (omega (arith, at))
-          ]
+            let same : lesser found c.number ≡ n = cc in
+            elim (lesser-is found c.number) [
+              | inl old ↦ inl (old ∙ ap (λ i. Some i) same)
+              | inr new ↦
+                  let at : one (passes kind from c && has_number n c) ≡ 1 = ap (λ b. one (b && has_number n c)) e ∙ ap one (eq-eqb c.number n (new ∙ same)) in
+                  inr (omega (arith, at))
+            ]
         | inr k ↦ inr (omega (arith, k))
       ];
       before = λ m k. omega (arith, low, lesser-old found c.number m k);

@@ -1,6 +1,5 @@
 -- One more event after a list of events, and a replay of a list.
 use Rattle.std.proofs.Common.{◌≡◌, true, List, [], ◌∷◌, ◌++◌, refl, ap}
-use Rattle.my_pool_core.specs.declared.event.Answer.{Answer}
 use Rattle.my_pool_core.specs.declared.event.PoolEvent.{PoolEvent}
 use Rattle.my_pool_core.specs.State.{State}
 use Rattle.my_pool_core.specs.Steps.{may, step, answer, AllMay, after, answers}

@@ -11,7 +11,7 @@ use Rattle.my_pool_core.specs.declared.event.Verdict.TheVariants.{Drop, Clean, C
 use Rattle.my_pool_core.specs.declared.event.PoolEvent.{PoolEvent}
 use Rattle.my_pool_core.specs.declared.event.PoolEvent.TheVariants as events
 use Rattle.my_pool_core.specs.Lists.{found_is}
-use Rattle.my_pool_core.specs.Connections.{is_idle_place, is_usable_place, is_leased_place, is_returned_place, is_cleaning_place, is_resetting_place, is_closing_place, is_past, is_over}
+use Rattle.my_pool_core.specs.Connections.{is_idle_place, is_leased_place, is_returned_place, is_cleaning_place, is_resetting_place, is_closing_place, is_past, is_over}
 use Rattle.my_pool_core.specs.Requests.{last_age}
 use Rattle.my_pool_core.specs.State.{State}
 use Rattle.my_pool_core.specs.Events.{request_age, poll_request, take_returned, decide, done, resting, times_of}

@@ -1,5 +1,5 @@
 -- Which requests an event wakes, and which wait after it.
-use Rattle.std.specs.Prelude.{ℕ, Bool, true, false, ◌||◌, ◌&&◌, ◌==◌, not, Option, Some, None, option_map, List, find}
+use Rattle.std.specs.Prelude.{ℕ, Bool, true, false, ◌&&◌, ◌==◌, Option, option_map, List, find}
 use Rattle.my_pool_core.specs.declared.event.PollAnswer.{PollAnswer}
 use Rattle.my_pool_core.specs.declared.event.PollAnswer.TheVariants.{Wait}
 use Rattle.my_pool_core.specs.declared.event.Verdict.{Verdict}

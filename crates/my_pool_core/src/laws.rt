@@ -86,7 +86,7 @@ pub fn woken_are()
         → is_awake age (step s event) ≡ (wakes s event age || (is_awake age s && not (is_turn_of age event))) }
     ensures waiting { (s : State) (event : PoolEvent) (age : ℕ) → IsSound s → may s event ≡ true
         → waits age (step s event)
-            ≡ (begins_to_wait s event age || (waits age s && not (wakes s event age) && not (is_turn_of age event))) }
+        ≡ (begins_to_wait s event age || (waits age s && not (wakes s event age) && not (is_turn_of age event))) }
     ensures only { (s : State) (event : PoolEvent) (age : ℕ) → IsSound s → wakes s event age ≡ true
         → waits age s ≡ true }
 {}
@@ -131,10 +131,10 @@ pub fn one_owner()
 pub fn verdict_places()
     ensures decide { (s : State) (number : ℕ) (facts : Facts) (now : ℕ) → IsSound s
         → may s (events.Decide number facts now) ≡ true → place_at number (step s (events.Decide number facts now))
-            ≡ verdict_place (decide number facts now s).answer (place_at number s) facts now }
+        ≡ verdict_place (decide number facts now s).answer (place_at number s) facts now }
     ensures done { (s : State) (number : ℕ) (ok : Bool) (facts : Facts) (now : ℕ) → IsSound s
         → may s (events.Done number ok facts now) ≡ true → place_at number (step s (events.Done number ok facts now))
-            ≡ verdict_place (done number ok facts now s).answer (place_at number s) facts now }
+        ≡ verdict_place (done number ok facts now s).answer (place_at number s) facts now }
     ensures taken { (s : State) (number : ℕ) → IsSound s → (take_returned s).answer ≡ Some number
         → place_at number (step s events.TakeReturned) ≡ Some (Cleaning (mark_at number s)) }
 {}

@@ -20,12 +20,12 @@ use Rattle.my_pool_core.specs.State.{State}
 use Rattle.my_pool_core.specs.Events.{Polled, Decided, is_at_end, request, request_age, with_last, is_full, full_answer, has_waited, queued, sought, poll_request, is_live, cancel, cancel_found, cancel_standing, may_cancel, may_settle, let_go, failed, found_next, keep, decide, done}
 use Rattle.my_pool_core.specs.Steps.{may, step}
 use Rattle.my_pool_core.specs.Sound.{IsSound, IsRising, is_unborn, is_last_busy}
-use Rattle.my_pool_core.specs.Wakes.{waits, oldest_in, is_oldest, hands_on, frees, wakes}
+use Rattle.my_pool_core.specs.Wakes.{waits, is_oldest, hands_on, frees, wakes}
 use Rattle.my_pool_core.proofs.Finding.{one, count-found, count-implies, found-passes}
 use Rattle.my_pool_core.proofs.Kept.{if-keeps, found-req}
-use Rattle.my_pool_core.proofs.Kept.Fewer.{ended-fewer, changed-fewer}
+use Rattle.my_pool_core.proofs.Kept.Fewer.{ended-fewer}
 use Rattle.my_pool_core.proofs.Kept.Moving.{both}
-use Rattle.my_pool_core.proofs.Kept.Quiet.{IsAt, req}
+use Rattle.my_pool_core.proofs.Kept.Quiet.{IsAt}
 use Rattle.my_pool_core.proofs.Finding.Rising.{rising-change}
 use Rattle.my_pool_core.proofs.Asked.{find-changed, find-unchanged, ended_request, find-ended, find-unended, is_oldest_in, roused_if, find-woken, find-all-woken}
 use Rattle.my_pool_core.proofs.Finding.Keyed.{unlike, none-found, find-pushed, find-new, find-nowhere, find-somewhere}
@@ -213,9 +213,9 @@ request-at : (s : State) (b : ℕ) → IsSound s → find (has_age b) (request s
 request-at s b h =
     let rs = s.requests in
     elim (is_at_end s) as (λ k. is_at_end s ≡ k → find (has_age b) (cond k
-        (record s { closed = true; requests = with_last (wake_all rs); spare = max s.spare (length rs + 1) })
-        (record s { requests = rs ++ asking s.next_age ∷ []; next_age = s.next_age + 1; spare = max s.spare (length rs + 1) })).requests
-      ≡ (if b == cond k last_age s.next_age then asked_request b (request_at b s) else woken_request (k && waits b s) (request_at b s))) [
+    (record s { closed = true; requests = with_last (wake_all rs); spare = max s.spare (length rs + 1) })
+    (record s { requests = rs ++ asking s.next_age ∷ []; next_age = s.next_age + 1; spare = max s.spare (length rs + 1) })).requests
+    ≡ (if b == cond k last_age s.next_age then asked_request b (request_at b s) else woken_request (k && waits b s) (request_at b s))) [
       | true ↦ λ e.
           elim (b == last_age) as (λ t. (b == last_age) ≡ t → find (has_age b) (with_last (wake_all rs)) ≡ cond t (asked_request b (request_at b s)) (woken_request (waits b s) (request_at b s))) [
             | true ↦ λ k. subst (λ a. find (has_age a) (with_last (wake_all rs)) ≡ asked_request a (request_at a s)) (sym (eqb-true b last_age k)) (last-asked s h)
@@ -311,9 +311,9 @@ let-go-at age b s h quiet =
     elim (found_is is_dialing (request_at age s)) as (λ k. find (has_age b) (wake (cond k (ended age s.requests) (set_standing age Asks s.requests))) ≡ (if b == age then cond k (ended_request age (request_at age s)) (option_map (standing_as Asks) (request_at age s)) else woken_request (is_oldest b s) (request_at b s))) [
       | true ↦ woken-ended age b s h quiet
       | false ↦
-        woken-after age b (option_map (standing_as Asks) (request_at age s)) s.requests (set_standing age Asks s.requests)
-        (rising-change (has_age age) (standing_as Asks) (λ r. refl) 0 s.requests h.rising) (oldest-changed age (standing_as Asks) (λ r. refl) s.requests quiet)
-        (asks-found (request_at age s)) (changed-at age b (standing_as Asks) (λ r. refl) s.requests)
+          woken-after age b (option_map (standing_as Asks) (request_at age s)) s.requests (set_standing age Asks s.requests)
+          (rising-change (has_age age) (standing_as Asks) (λ r. refl) 0 s.requests h.rising) (oldest-changed age (standing_as Asks) (λ r. refl) s.requests quiet)
+          (asks-found (request_at age s)) (changed-at age b (standing_as Asks) (λ r. refl) s.requests)
     ]
   where
     asks-found : (o : Option Request) → found_is is_waiting (option_map (standing_as Asks) o) ≡ false

@@ -1,6 +1,6 @@
 -- What a request holds after any event, and what may happen by what it holds.
 use Rattle.std.proofs.Common.{◌≡◌, ℕ, Bool, true, false, cond, Option, Some, None, refl, sym, ap, ◌∙◌}
-use Rattle.std.specs.Prelude.{find, option_map, ◌==◌, ◌||◌, not, if◌then◌else◌}
+use Rattle.std.specs.Prelude.{option_map, ◌==◌, ◌||◌, not, if◌then◌else◌}
 use Rattle.std.proofs.lemmas.Bool.{eqb-true, eq-eqb}
 use Rattle.my_pool_core.specs.declared.event.PollAnswer.{PollAnswer}
 use Rattle.my_pool_core.specs.declared.event.PollAnswer.TheVariants.{Wait, Take, Dial, Closed, Full}
@@ -10,15 +10,15 @@ use Rattle.my_pool_core.specs.declared.request.Request.{Request}
 use Rattle.my_pool_core.specs.declared.request.Standing.{Standing}
 use Rattle.my_pool_core.specs.declared.request.Standing.TheVariants.{Asks, Waits, Woken, Dials, Checks}
 use Rattle.my_pool_core.specs.Lists.{found_is}
-use Rattle.my_pool_core.specs.Requests.{last_age, has_age, is_free, is_asking, is_asking_standing, is_dialing, is_dialing_standing, is_checking_standing, standing_as, holds, holds_number, roused}
+use Rattle.my_pool_core.specs.Requests.{last_age, is_free, is_asking_standing, is_dialing, is_dialing_standing, is_checking_standing, standing_as, holds, holds_number}
 use Rattle.my_pool_core.specs.State.{State}
 use Rattle.my_pool_core.specs.Events.{request_age, poll_request, is_live, is_at_end, may_poll, may_settle, may_cancel}
 use Rattle.my_pool_core.specs.Steps.{may, step}
 use Rattle.my_pool_core.specs.Sound.{IsSound}
-use Rattle.my_pool_core.specs.Owners.{Token, Free, Making, Looking, token_of, token, number_in}
+use Rattle.my_pool_core.specs.Owners.{Token, Free, token_of, token, number_in}
 use Rattle.my_pool_core.specs.Moves.{ended_token, polled_token, failed_token, token_after}
 use Rattle.my_pool_core.specs.Wakes.{wakes, waits, is_oldest}
-use Rattle.my_pool_core.proofs.Kept.{found-some, found-req}
+use Rattle.my_pool_core.proofs.Kept.{found-req}
 use Rattle.my_pool_core.proofs.Kept.Quiet.{req}
 use Rattle.my_pool_core.proofs.Asked.{ended_request, roused_if}
 use Rattle.my_pool_core.proofs.Asked.Stepping.{request_at, request_after, next-unborn, polled_request, failed_request, asked_request, woken_request, find-step, last-asks}

@@ -2,7 +2,6 @@
 use Rattle.std.proofs.Common.{◌≡◌, ℕ, ◌+◌, ◌≤◌, Bool, true, false, cond, Option, Some, None, List, [], ◌∷◌, refl, sym, ap, ◌∙◌, arith}
 use Rattle.std.specs.Prelude.{find, option_map, ◌==◌, ◌||◌, ◌&&◌, not, if◌then◌else◌}
 use Rattle.std.proofs.lemmas.Bool.{eqb-true, eq-eqb}
-use Rattle.std.proofs.lemmas.Bool.Decides.{nat_tests}
 use Rattle.my_pool_core.specs.declared.event.PollAnswer.{PollAnswer}
 use Rattle.my_pool_core.specs.declared.event.PollAnswer.TheVariants.{Wait, Take, Dial, Closed, Full}
 use Rattle.my_pool_core.specs.declared.event.PoolEvent.{PoolEvent}
@@ -13,14 +12,14 @@ use Rattle.my_pool_core.specs.declared.request.Standing.TheVariants.{Asks, Waits
 use Rattle.my_pool_core.specs.Lists.{found_is}
 use Rattle.my_pool_core.specs.Requests.{last_age, has_age, is_free, is_waiting, is_waiting_standing, is_woken, is_woken_standing, is_asking_standing, is_dialing, standing_as, holds, holds_number}
 use Rattle.my_pool_core.specs.State.{State}
-use Rattle.my_pool_core.specs.Events.{request_age, poll_request, decide, done, is_live, is_at_end}
+use Rattle.my_pool_core.specs.Events.{request_age, poll_request, decide, done, is_at_end}
 use Rattle.my_pool_core.specs.Steps.{may, step}
 use Rattle.my_pool_core.specs.Sound.{IsSound, IsRising}
 use Rattle.my_pool_core.specs.Wakes.{wakes, waits, is_awake, is_oldest, oldest_in, oldest_waiting, is_turn_of, is_wait, begins_to_wait, hands_on, frees}
 use Rattle.my_pool_core.proofs.Kept.{found-req}
 use Rattle.my_pool_core.proofs.Kept.Quiet.{req}
 use Rattle.my_pool_core.proofs.Asked.{ended_request, is_oldest_in, roused_if, find-below}
-use Rattle.my_pool_core.proofs.Asked.Stepping.{request_at, request_after, next-unborn, polled_request, failed_request, asked_request, woken_request, find-step, last-asks, holds-quiet}
+use Rattle.my_pool_core.proofs.Asked.Stepping.{request_at, request_after, next-unborn, polled_request, failed_request, asked_request, woken_request, find-step, last-asks}
 
 -- ---- what tests tell of a request that was woken where a test says so, and it waits ----
 
@@ -233,6 +232,7 @@ cancel-own s age b h k = by_test (waits b s) refl
     quiet : (o : Option Request) → found_is is_waiting o ≡ true → found_is (λ r. hands_on r.standing) o ≡ false
     quiet None e = refl
     quiet (Some r) e = handing-quiet r.standing e
+
     by_test : (w : Bool) → waits b s ≡ w → wakes s (events.Cancel age) b ≡ false
     by_test false e = wakes-none s (events.Cancel age) b h e
     by_test true e = ap (λ x. x && is_oldest b s) (quiet (request_at age s) (ap (λ a. waits a s) (sym (eqb-true b age k)) ∙ e))

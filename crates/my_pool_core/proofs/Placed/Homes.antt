@@ -1,6 +1,6 @@
 -- Which connections the layer above keeps, which are leased, and which are idle, after any event.
-use Rattle.std.proofs.Common.{◌≡◌, ℕ, ◌+◌, ◌≤◌, Bool, true, false, cond, Option, Some, None, List, [], ◌∷◌, refl, sym, ap, ◌∙◌, arith, inl, inr, subst}
-use Rattle.std.specs.Prelude.{find, option_map, ◌==◌, ◌&&◌, ◌||◌, not, nat_le, nat_lt, ◌⊎◌, if◌then◌else◌, length}
+use Rattle.std.proofs.Common.{◌≡◌, ℕ, Bool, true, false, cond, Option, Some, None, refl, sym, ap, ◌∙◌, inl, inr}
+use Rattle.std.specs.Prelude.{◌==◌, ◌&&◌, ◌||◌, not, if◌then◌else◌}
 use Rattle.std.proofs.lemmas.Bool.{eqb-true, eq-eqb}
 use Rattle.my_pool_core.specs.declared.connection.Place.{Place}
 use Rattle.my_pool_core.specs.declared.connection.Place.TheVariants.{Idle, Leased, Connecting, Checking, Returned, Cleaning, Resetting, Closing}
@@ -12,16 +12,15 @@ use Rattle.my_pool_core.specs.declared.event.Verdict.{Verdict}
 use Rattle.my_pool_core.specs.declared.event.Verdict.TheVariants.{Drop, Clean, Close, Reset, Keep}
 use Rattle.my_pool_core.specs.declared.event.PoolEvent.{PoolEvent}
 use Rattle.my_pool_core.specs.declared.event.PoolEvent.TheVariants as events
-use Rattle.my_pool_core.specs.Lists.{found_is, how_many}
-use Rattle.my_pool_core.specs.Connections.{has_number, is_idle, is_leased_place, is_cleaning_place, is_resetting, is_marked, latest_usable, is_over, retire}
-use Rattle.my_pool_core.specs.Requests.{has_age, waits_up_to, is_queued}
+use Rattle.my_pool_core.specs.Lists.{found_is}
+use Rattle.my_pool_core.specs.Connections.{is_leased_place, is_cleaning_place, is_over}
 use Rattle.my_pool_core.specs.State.{State}
-use Rattle.my_pool_core.specs.Events.{Polled, Decided, resting, times_of, poll_request, queued, sought, full_answer, is_full, has_waited, take_returned, keep, decide, done}
+use Rattle.my_pool_core.specs.Events.{poll_request, take_returned, decide, done}
 use Rattle.my_pool_core.specs.Steps.{may, step}
 use Rattle.my_pool_core.specs.Sound.{IsSound}
-use Rattle.my_pool_core.specs.Owners.{Token, Free, Making, Looking, token, place_at, is_home_place, is_held_place, is_working_place, is_home, is_lease, is_working, mark_at}
-use Rattle.my_pool_core.specs.Moves.{IsMove, IsStill, MayReturn, IsAging, IsAgingMove, IsTaken, PolledPlaces, CancelledPlaces, TakenPlaces, is_due_place, is_ending_place, is_aged, verdict_place, takes_number, is_drop, home_after, lease_after, is_verdict_on, IsKeeping}
-use Rattle.my_pool_core.proofs.Kept.{if-keeps, found-some}
+use Rattle.my_pool_core.specs.Owners.{Token, Free, Making, Looking, token, place_at, is_home_place, is_held_place, is_home, is_lease, mark_at}
+use Rattle.my_pool_core.specs.Moves.{IsMove, MayReturn, IsAgingMove, PolledPlaces, CancelledPlaces, TakenPlaces, is_due_place, is_ending_place, is_aged, verdict_place, takes_number, is_drop, home_after, lease_after}
+use Rattle.my_pool_core.proofs.Kept.{found-some}
 use Rattle.my_pool_core.proofs.Placed.Moves.{places-move}
 
 -- ---- a test of the place of each connection ----
