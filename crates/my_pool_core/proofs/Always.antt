@@ -59,7 +59,7 @@ sound-new limits first le = record {
   none_waits = λ _. refl;
   settled = λ e. absurd (cc);
   last_closes = λ live. absurd (omega arith);
-  last_is_free = refl;
+  last_asks = refl;
 }
 
 pub covered-new : (limits : Limits) (first : ℕ) → IsCovered (new_pool limits first)

@@ -163,7 +163,7 @@ sound-counts s counts h = record {
   none_waits = h.none_waits;
   settled = h.settled;
   last_closes = h.last_closes;
-  last_is_free = h.last_is_free;
+  last_asks = h.last_asks;
 }
 
 pub sound-rested : (n : ℕ) (facts : Facts) (now : ℕ) (s : State) (p0 : Place) → IsSound s → find (has_number n) s.connections ≡ Some (placed n p0) → IsUnheld p0
@@ -316,14 +316,18 @@ latest-there now n (c ∷ cs) e =
     (λ _ k. absurd (cc)))
     e
 
-pub retired-there : (now n : ℕ) (s : State) → IsSound s → latest_usable now s.connections ≡ Some n → (times : Times) × (find (has_number n) (retire now s.connections) ≡ Some (placed n (Idle times)))
-retired-there now n s h e =
+pub retired-usable : (now n : ℕ) (s : State) → IsSound s → latest_usable now s.connections ≡ Some n
+    → (times : Times) × (find (has_number n) (retire now s.connections) ≡ Some (placed n (Idle times))) × (is_usable_place now (Idle times) ≡ true)
+retired-usable now n s h e =
     let stays = retire-same (λ c. is_usable now c && has_number n c) now (λ c i u. ap (λ b. b && has_number n c) (sym u)) s.connections in
     let some : 0 < how_many (λ c. is_usable now c && has_number n c) (retire now s.connections) = omega (arith, stays, latest-there now n s.connections e) in
     let r = sound-retire s now h in
     let y = found-once (is_usable now) (has_number n) (retire now s.connections) (r.once n) some in
     let u = usable-idle now y.0.place y.2 in
-    (u.0, y.1 ∙ ap (λ c. Some c) (found-placed n (retire now s.connections) y.0 y.1 ∙ ap (placed n) u.1))
+    (u.0, y.1 ∙ ap (λ c. Some c) (found-placed n (retire now s.connections) y.0 y.1 ∙ ap (placed n) u.1), ap (is_usable_place now) (sym u.1) ∙ y.2)
+
+pub retired-there : (now n : ℕ) (s : State) → IsSound s → latest_usable now s.connections ≡ Some n → (times : Times) × (find (has_number n) (retire now s.connections) ≡ Some (placed n (Idle times)))
+retired-there now n s h e = let t = retired-usable now n s h e in (t.0, t.1)
 
 pub sound-queued : (age : ℕ) (s : State) (r : Request) → IsSound s → s.closed ≡ false → find (has_age age) s.requests ≡ Some r → is_free r ≡ true → IsSound (queued age s).state
 sound-queued age s r h open_ e free =

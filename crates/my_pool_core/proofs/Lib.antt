@@ -6,3 +6,7 @@ pub mod Always
 pub mod Oldest
 pub mod Queue
 pub mod Retiring
+pub mod Asked
+pub mod Placed
+pub mod Replaying
+pub mod Nexting

@@ -8,3 +8,8 @@ pub mod Sound
 pub mod Seen
 pub mod Made
 pub mod Live
+pub mod Owners
+pub mod Moves
+pub mod Wakes
+pub mod Counted
+pub mod Next

@@ -17,6 +17,10 @@ asking age = record { age = age; waited = false; standing = Asks }
 abbrev pub has_age : ℕ → Request → Bool
 has_age age r = r.age == age
 
+abbrev pub is_asking_standing : Standing → Bool
+is_asking_standing Asks = true
+is_asking_standing _ = false
+
 abbrev pub is_waiting_standing : Standing → Bool
 is_waiting_standing Waits = true
 is_waiting_standing _ = false
@@ -38,6 +42,9 @@ abbrev pub holds_number : ℕ → Standing → Bool
 holds_number number (Dials held) = held == number
 holds_number number (Checks held) = held == number
 holds_number number _ = false
+
+abbrev pub is_asking : Request → Bool
+is_asking r = is_asking_standing r.standing
 
 abbrev pub is_waiting : Request → Bool
 is_waiting r = is_waiting_standing r.standing

@@ -6,7 +6,7 @@ use Rattle.my_pool_core.specs.declared.request.Standing.{Standing}
 use Rattle.my_pool_core.specs.declared.request.Standing.TheVariants.{Dials, Checks}
 use Rattle.my_pool_core.specs.Lists.{how_many}
 use Rattle.my_pool_core.specs.Connections.{has_number, is_idle, is_connecting, is_checking}
-use Rattle.my_pool_core.specs.Requests.{last_age, has_age, is_waiting, is_woken, is_free, is_queued, may_dial}
+use Rattle.my_pool_core.specs.Requests.{last_age, has_age, is_waiting, is_woken, is_asking, is_queued, may_dial}
 use Rattle.my_pool_core.specs.State.{State}
 
 -- a request that makes the connection of this number
@@ -49,9 +49,9 @@ is_unmarked r = is_queued r && not r.waited
 abbrev pub is_dialer : Request → Bool
 is_dialer r = may_dial r && not (r.age == last_age)
 
--- the one of the last age, with a connection
-abbrev pub is_last_holder : Request → Bool
-is_last_holder r = not (is_free r) && has_age last_age r
+-- the one of the last age, which waits, was woken or has a connection
+abbrev pub is_last_busy : Request → Bool
+is_last_busy r = not (is_asking r) && has_age last_age r
 
 -- the ages rise, from this one on
 abbrev pub IsRising : ℕ → List Request → Type 0
@@ -83,9 +83,9 @@ pub record IsSound (s : State) : Type 0 where
   -- where the pool is closed nobody waits; where it is settled it is closed and counts nothing
   pub none_waits : s.closed ≡ true → how_many is_waiting s.requests ≡ 0
   pub settled : s.settled ≡ true → (s.closed ≡ true) × (length s.connections ≡ 0)
-  -- the last age closes the pool, and holds no connection
+  -- the last age closes the pool, and its request asks: it neither waits, nor was it woken, nor has it a connection
   pub last_closes : 0 < how_many (has_age last_age) s.requests → s.closed ≡ true
-  pub last_is_free : how_many is_last_holder s.requests ≡ 0
+  pub last_asks : how_many is_last_busy s.requests ≡ 0
 
 -- the woken requests before the first waiting one: those that are older than each that waits
 abbrev pub woken_first : List Request → ℕ

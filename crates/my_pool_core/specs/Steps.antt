@@ -64,3 +64,8 @@ AllMay s (event ∷ events) = (may s event ≡ true) × AllMay (step s event) ev
 abbrev pub after : State → List PoolEvent → State
 after s [] = s
 after s (event ∷ events) = after (step s event) events
+
+-- what a list of events returns, one after the other
+abbrev pub answers : State → List PoolEvent → List Answer
+answers s [] = []
+answers s (event ∷ events) = answer s event ∷ answers (step s event) events

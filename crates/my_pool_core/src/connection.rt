@@ -4,6 +4,8 @@ ghost use Rattle.std.specs.Prelude.{◌≡◌, ◌≤◌, ◌++◌, [], ◌∷�
 ghost use Rattle.std.specs.List.{list_any};
 ghost use Rattle.my_pool_core.specs.Events.{may_finish};
 ghost use Rattle.my_pool_core.specs.Lists.{how_many, found_is, without};
+ghost use Rattle.my_pool_core.specs.Owners.{is_kind};
+ghost use Rattle.my_pool_core.specs.Next.{lesser, least_at};
 ghost use Rattle.my_pool_core.specs.Connections.{placed, returned, has_number, is_idle, is_idle_place, is_leased, is_leased_place, is_past, is_over, is_usable, is_usable_place, is_outdated, is_cleaning, is_resetting, is_closing, is_returned, is_marked, mark_of_place, move_to, latest_usable, retire, lasting, outdated, next_to_clean};
 
 /// What an idle connection's life is measured by, in milliseconds.
@@ -40,6 +42,19 @@ pub enum Place {
     Closing,
 }
 
+/// The kinds of places.
+#[derive(Clone, Copy, Debug, PartialEq, Eq)]
+pub enum PlaceKind {
+    Idle,
+    Leased,
+    Connecting,
+    Checking,
+    Returned,
+    Cleaning,
+    Resetting,
+    Closing,
+}
+
 /// A counted connection.
 #[derive(Clone, Copy, Debug, PartialEq, Eq)]
 pub struct Connection {
@@ -59,8 +74,8 @@ impl Times {
         }
     }
 
-    /// Whether the connection may no longer be used.
-    fn is_over(&self, now: u64) -> bool
+    /// Whether the connection may no longer be used: the moment is above its deadline, or too long after its last read.
+    pub fn is_over(&self, now: u64) -> bool
         ensures { result ≡ is_over now self.now }
     {
         self.is_past(now)
@@ -89,6 +104,22 @@ impl Place {
                     || (moved < many && inactive < u128::from(now.saturating_sub(times.since)))
             }
             _ => false,
+        }
+    }
+
+    /// Whether it is of a kind.
+    pub fn is(&self, kind: PlaceKind) -> bool
+        ensures { result ≡ is_kind kind self.now }
+    {
+        match kind {
+            PlaceKind::Idle => matches!(self, Place::Idle(_)),
+            PlaceKind::Leased => matches!(self, Place::Leased),
+            PlaceKind::Connecting => matches!(self, Place::Connecting),
+            PlaceKind::Checking => matches!(self, Place::Checking),
+            PlaceKind::Returned => matches!(self, Place::Returned { .. }),
+            PlaceKind::Cleaning => matches!(self, Place::Cleaning { .. }),
+            PlaceKind::Resetting => matches!(self, Place::Resetting),
+            PlaceKind::Closing => matches!(self, Place::Closing),
         }
     }
 
@@ -223,6 +254,29 @@ pub(crate) fn count_leased(connections: &[Connection]) -> usize
     ensures { result ≡ how_many is_leased connections.now }
 {
     connections.iter().filter(|c| c.is_leased()).count()
+}
+
+/// The lesser of two numbers, of which one may be missing.
+fn lesser(a: Option<u64>, b: u64) -> u64
+    ensures { result ≡ lesser a b }
+{
+    match a {
+        Some(a) => a.min(b),
+        None => b,
+    }
+}
+
+/// The least number, not below `from`, of a connection at a place of a kind.
+pub(crate) fn next_at(connections: &[Connection], kind: PlaceKind, from: u64) -> Option<u64>
+    ensures { result ≡ least_at kind from None connections.now }
+{
+    let mut next = None;
+    for connection in connections {
+        if from <= connection.number && connection.place.is(kind) {
+            next = Some(lesser(next, connection.number));
+        }
+    }
+    next
 }
 
 /// The index of the connection that returned first.

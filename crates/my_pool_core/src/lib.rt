@@ -9,7 +9,7 @@ mod live;
 mod pool;
 mod request;
 
-pub use connection::{Connection, Place, Times};
+pub use connection::{Connection, Place, PlaceKind, Times};
 pub use event::{Answer, Facts, PollAnswer, PoolEvent, Verdict};
 pub use limits::{Counts, Limits, Metrics};
 pub use pool::Core;

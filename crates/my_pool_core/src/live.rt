@@ -8,6 +8,7 @@ ghost use Rattle.my_pool_core.specs.Requests.{last_age, asking, is_free, holds, 
 ghost use Rattle.my_pool_core.specs.Events.{has_waited, is_live, let_go, with_last};
 ghost use Rattle.my_pool_core.specs.Sound.{IsRising};
 ghost use Rattle.my_pool_core.specs.Live.{IsQueue};
+ghost use Rattle.my_pool_core.specs.Wakes.{oldest_in};
 
 use crate::request::{LAST, Request, Standing};
 use my_frame::NoMemory;
@@ -342,6 +343,23 @@ impl Live {
                 steps.step();
                 least <= age
             }
+            None => false,
+        }
+    }
+
+    /// The oldest waiting age.
+    pub fn oldest(&self) -> Option<u64>
+        ensures { result ≡ oldest_in self.now }
+    {
+        self.waiting.least()
+    }
+
+    /// Whether the request of an age waits.
+    pub fn is_waiting(&self, age: u64) -> bool
+        ensures { result ≡ found_is is_waiting (find (has_age age) self.now) }
+    {
+        match self.find(age, &mut Uncounted) {
+            Some(request) => request.is_waiting(),
             None => false,
         }
     }

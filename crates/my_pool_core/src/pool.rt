@@ -7,6 +7,7 @@ mod asking;
 mod made;
 mod replay;
 mod returning;
+mod seen;
 mod whole;
 
 use crate::connection::Connection;

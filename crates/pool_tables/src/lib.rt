@@ -13,6 +13,10 @@ mod scripts;
 #[cfg(test)]
 mod seed;
 #[cfg(test)]
+mod seen;
+#[cfg(test)]
 mod sound;
 #[cfg(test)]
 mod steps;
+#[cfg(test)]
+mod tally;

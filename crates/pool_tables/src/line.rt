@@ -17,59 +17,89 @@ pub fn limits(min: u64, max: u64, waiting: Option<u64>) -> Limits {
     }
 }
 
-/// A connection that may be kept, with a time to live after its last read, or one whose time is over.
-pub fn clean(ttl: u64, expired: bool) -> Facts {
+/// What a line says after its word: numbers, of which missing ones are 0, what is known of a connection, and whether it
+/// went well.
+#[derive(Drop)]
+struct Words {
+    numbers: [u64; 2],
+    facts: Facts,
+    ok: bool,
+}
+
+/// A connection that may be kept.
+pub fn clean() -> Facts {
     Facts {
         link_closed: false,
         dirty: false,
-        expired,
+        expired: false,
         reset: false,
         last_io: 0,
-        ttl: u128::from(ttl),
+        ttl: 0,
         deadline: None,
     }
 }
 
-/// Four numbers; missing ones are 0.
-fn numbers(text: &str) -> Result<[u64; 4], Fail> {
-    let mut numbers = [0u64; 4];
-    let mut index = 0usize;
-    for word in text.split_whitespace() {
-        if index < 4 {
-            numbers[index] = word.parse::<u64>().ok().ok_or("no number")?;
-            index += 1;
-        }
-    }
-    Ok(numbers)
+/// A number in decimal digits.
+fn number(text: &str) -> Result<u64, Fail> {
+    Ok(text.parse::<u64>().ok().ok_or("no number")?)
 }
 
-/// The event of a word with its numbers; None for any other word.
-fn event_of(word: &str, n: [u64; 4]) -> Option<PoolEvent> {
-    let facts = clean(n[2], n[3] > 0);
+/// Reads the words of a line after its first.
+fn words_of(text: &str) -> Result<Words, Fail> {
+    let mut words = Words {
+        numbers: [0; 2],
+        facts: clean(),
+        ok: true,
+    };
+    let mut index = 0usize;
+    for word in text.split_whitespace() {
+        match word {
+            "closed" => words.facts.link_closed = true,
+            "dirty" => words.facts.dirty = true,
+            "expired" => words.facts.expired = true,
+            "reset" => words.facts.reset = true,
+            "failed" => words.ok = false,
+            _ => {
+                if let Some(ttl) = word.strip_prefix("ttl=") {
+                    words.facts.ttl = u128::from(number(ttl)?);
+                } else if let Some(deadline) = word.strip_prefix("deadline=") {
+                    words.facts.deadline = Some(u128::from(number(deadline)?));
+                } else if index < 2 {
+                    words.numbers[index] = number(word)?;
+                    index += 1;
+                }
+            }
+        }
+    }
+    Ok(words)
+}
+
+/// The event of a word with what follows it; None for any other word.
+fn event_of(word: &str, words: &Words) -> Option<PoolEvent> {
+    let n = words.numbers[0];
+    let now = words.numbers[1];
+    let facts = words.facts;
     Some(match word {
         "ask" => PoolEvent::Request,
-        "poll" => PoolEvent::PollRequest {
-            age: n[0],
-            now: n[1],
-        },
-        "cancel" => PoolEvent::Cancel { age: n[0] },
-        "ready" => PoolEvent::Ready {
-            age: n[0],
-            conn: n[1],
-        },
-        "give" => PoolEvent::GiveBack { conn: n[0] },
+        "poll" => PoolEvent::PollRequest { age: n, now },
+        "cancel" => PoolEvent::Cancel { age: n },
+        "ready" => PoolEvent::Ready { age: n, conn: now },
+        "failed" => PoolEvent::Failed { age: n, conn: now },
+        "give" => PoolEvent::GiveBack { conn: n },
+        "detach" => PoolEvent::Detach { conn: n },
         "next" => PoolEvent::TakeReturned,
         "decide" => PoolEvent::Decide {
-            conn: n[0],
+            conn: n,
             facts,
-            now: n[1],
+            now,
         },
         "done" => PoolEvent::Done {
-            conn: n[0],
-            ok: true,
+            conn: n,
+            ok: words.ok,
             facts,
-            now: n[1],
+            now,
         },
+        "ttl" => PoolEvent::CheckTtl { now: n },
         "close" => PoolEvent::Close,
         "gone" => PoolEvent::PollDisconnect,
         _ => return None,
@@ -96,6 +126,7 @@ fn seen(alloc: Global, core: &Core, word: &str) -> Result<String, AllocError> {
     match word {
         "counted" => format!(in alloc; "{}", core.connections().len()),
         "places" => format!(in alloc; "{:?}", core.connections()),
+        "oldest" => format!(in alloc; "{:?}", core.oldest_waiting()),
         "live" => format!(in alloc; "{}", core.requests().len()),
         "metrics" => format!(in alloc; "{:?}", core.metrics()),
         _ => queue(alloc, core),
@@ -105,10 +136,10 @@ fn seen(alloc: Global, core: &Core, word: &str) -> Result<String, AllocError> {
 /// What an event returns, or what is seen.
 fn told(alloc: Global, core: &mut Core, line: &str) -> Result<String, Fail> {
     let (word, rest) = line.split_once(' ').unwrap_or((line, ""));
-    let Some(event) = event_of(word, numbers(rest)?) else {
+    let Some(event) = event_of(word, &words_of(rest)?) else {
         return Ok(seen(alloc, core, word)?);
     };
-    if !core.may(event) {
+    if !core.may(&event) {
         return Ok(String::from_str(alloc, "not now")?);
     }
     let answer = core.apply(event)?;

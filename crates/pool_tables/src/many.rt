@@ -1,43 +1,135 @@
-//! Many events from a seed.
+//! Many events from a seed, each of which happened.
 
 use crate::scanned::scanned;
-use crate::seed::some_event;
-use crate::sound::{connections_are_sound, is_covered, requests_are_sound};
-use my_pool_core::{Core, Limits};
+use crate::seed::{Dice, some_event};
+use crate::seen::calls_agree;
+use crate::sound::{Next, connections_are_sound, end_is_sound, is_covered, requests_are_sound};
+use crate::tally::{NAMES, Tally, name_of};
+use my_opts::{Millis, PoolConstraints, PoolOpts};
+use my_pool_core::{Answer, Core, Limits, PollAnswer, PoolEvent};
+use std::alloc::Global;
+use std::process::Abort;
 use std::test::Fail;
+
+/// How many events happen to each pool.
+const EVENTS: usize = 300;
+
+/// The options of a round: bounds, times and limits vary.
+fn options(round: u64) -> Result<PoolOpts, Fail> {
+    let min = round % 3;
+    let max = min.max(1) + round % 4;
+    let constraints = PoolConstraints::new(min, max).ok_or("the bounds are in order")?;
+    let waiting = if round % 2 == 0 { None } else { Some(round % 5) };
+    Ok(PoolOpts::new()
+        .with_constraints(constraints)
+        .with_inactive_connection_ttl(Millis::from_millis(round % 3))
+        .with_max_waiting(waiting))
+}
+
+/// The number of the first connection of a round: of some there are few left.
+fn first_number(round: u64) -> u64 {
+    if round % 10 == 0 {
+        u64::MAX - round
+    } else {
+        round * 1000
+    }
+}
+
+/// Holds what an event's answer shows of the next age and the next number.
+fn follow(next: &mut Next, answer: Answer) {
+    match answer {
+        Answer::Age(age) => {
+            if age != u64::MAX {
+                next.age = age.saturating_add(1);
+            }
+        }
+        Answer::Poll(PollAnswer::Dial(number)) => next.number = number.saturating_add(1),
+        _ => {}
+    }
+}
+
+/// Whether a pool is as it should be.
+fn check(rt: &impl Abort, core: &Core, limits: Limits, next: &Next, event: PoolEvent) {
+    assert!(rt; connections_are_sound(core, limits, next), "{event:?}");
+    assert!(rt; requests_are_sound(core, next), "{event:?}");
+    assert!(rt; end_is_sound(core), "{event:?}");
+    assert!(rt; is_covered(core, limits.max), "{event:?}");
+    assert!(rt; calls_agree(core), "{event:?}");
+}
+
+/// A replay of the events of a pool is that pool; with an event more that may not happen there is none.
+fn check_replay(
+    rt: &impl Abort,
+    alloc: Global,
+    core: &Core,
+    opts: &PoolOpts,
+    first: u64,
+    events: &mut Vec<PoolEvent>,
+) -> Result<(), Fail> {
+    let again = Core::replay(alloc, opts, first, events)?.ok_or("each event happened")?;
+    assert_eq!(rt; again.metrics(), core.metrics());
+    assert_eq!(rt; again.connections(), core.connections());
+    assert_eq!(rt; again.requests(), core.requests());
+    events.push(PoolEvent::GiveBack { conn: first.wrapping_sub(1) })?;
+    let none = Core::replay(alloc, opts, first, events)?;
+    assert!(rt; none.is_none());
+    Ok(())
+}
+
+/// Events happen to a new pool.
+fn play_round(
+    rt: &impl Abort,
+    alloc: Global,
+    round: u64,
+    tally: &mut Tally,
+) -> Result<(), Fail> {
+    let opts = options(round)?;
+    let first = first_number(round);
+    let limits = Limits {
+        max: opts.constraints().max(),
+        min: opts.constraints().min(),
+        bound: opts.active_bound(),
+        inactive: opts.inactive_connection_ttl().as_millis(),
+        waiting: opts.max_waiting(),
+    };
+    let mut core = Core::new(alloc, &opts, first)?;
+    let mut dice = Dice::new(round);
+    let mut next = Next {
+        age: 0,
+        number: first,
+    };
+    let mut plain = Vec::new(alloc);
+    let mut events = Vec::new(alloc);
+    for turn in 0..4000u64 {
+        let closes = events.len() > EVENTS / 4 * 3;
+        let Some(event) = some_event(&core, &mut dice, turn / 8, closes) else {
+            continue;
+        };
+        if events.len() < EVENTS && core.may(&event) {
+            let answer = core.apply(event)?;
+            events.push(event)?;
+            tally.count(name_of(event, answer))?;
+            scanned(&mut plain, event, answer)?;
+            assert_eq!(rt; core.requests(), plain.as_slice(), "{event:?}");
+            follow(&mut next, answer);
+            check(rt, &core, limits, &next, event);
+        }
+    }
+    assert_eq!(rt; events.len(), EVENTS, "{round}");
+    check_replay(rt, alloc, &core, &opts, first, &mut events)
+}
 
 #[test]
 fn many_events(rt: HostRuntime) -> Result<(), Fail> {
-    let mut x = 1u64;
-    for round in 0..5u64 {
-        let max = 3;
-        let limits = Limits {
-            max,
-            min: 1,
-            bound: 2,
-            inactive: 2,
-            waiting: if round % 2 == 0 { None } else { Some(4) },
-        };
-        let mut core = Core::with_limits(rt.alloc(), limits, 1000);
-        let mut plain = Vec::new(rt.alloc());
-        let mut happened = 0u64;
-        for turn in 0..1000u64 {
-            x = x
-                .wrapping_mul(6364136223846793005)
-                .wrapping_add(1442695040888963407);
-            let event = some_event(&core, x, turn / 4, turn > 900);
-            if core.may(event) {
-                let answer = core.apply(event)?;
-                scanned(&mut plain, event, answer)?;
-                assert_eq!(rt; core.requests(), plain.as_slice(), "{event:?}");
-                happened = happened.saturating_add(1);
-                assert!(rt; core.connections().len() as u64 <= max, "{event:?}");
-                assert!(rt; connections_are_sound(&core), "{event:?}");
-                assert!(rt; requests_are_sound(&core), "{event:?}");
-                assert!(rt; is_covered(&core, max as usize), "{event:?}");
-            }
-        }
-        assert!(rt; happened > 300, "{happened}");
+    let mut tally = Tally::new(rt.alloc());
+    for round in 0..200u64 {
+        play_round(&rt, rt.alloc(), round, &mut tally)?;
+    }
+    for name in NAMES {
+        println!(rt; "{name}: {}", tally.of(name))?;
+    }
+    for name in NAMES {
+        assert!(rt; tally.of(name) >= 100, "{name}");
     }
     Ok(())
 }

@@ -11,6 +11,15 @@ fn scanned_wake(plain: &mut Vec<Request>) {
     }
 }
 
+/// Each waiting request of a scanned list is woken.
+fn scanned_wake_all(plain: &mut Vec<Request>) {
+    for request in plain.iter_mut() {
+        if request.is_waiting() {
+            request.standing = Standing::Woken;
+        }
+    }
+}
+
 /// The request of an age in a scanned list gets another standing, or where it gets none ends.
 fn scanned_set(plain: &mut Vec<Request>, age: u64, standing: Option<Standing>) {
     if let Some(index) = plain.iter().position(|r| r.age == age) {
@@ -21,7 +30,9 @@ fn scanned_set(plain: &mut Vec<Request>, age: u64, standing: Option<Standing>) {
                 request.standing = standing;
             }
             None => {
-                plain.remove(index);
+                if age < u64::MAX {
+                    plain.remove(index);
+                }
             }
         }
     }
@@ -31,11 +42,16 @@ fn scanned_set(plain: &mut Vec<Request>, age: u64, standing: Option<Standing>) {
 pub fn scanned(plain: &mut Vec<Request>, event: PoolEvent, answer: Answer) -> Result<(), Fail> {
     match (event, answer) {
         (PoolEvent::Request, Answer::Age(age)) => {
-            plain.push(Request {
-                age,
-                waited: false,
-                standing: Standing::Asks,
-            })?;
+            if age == u64::MAX {
+                scanned_wake_all(plain);
+            }
+            if plain.iter().all(|r| r.age != age) {
+                plain.push(Request {
+                    age,
+                    waited: false,
+                    standing: Standing::Asks,
+                })?;
+            }
         }
         (PoolEvent::PollRequest { age, .. }, Answer::Poll(poll)) => {
             let standing = match poll {
@@ -63,13 +79,7 @@ pub fn scanned(plain: &mut Vec<Request>, event: PoolEvent, answer: Answer) -> Re
         (PoolEvent::Detach { .. }, _)
         | (_, Answer::Verdict(Verdict::Drop))
         | (_, Answer::Verdict(Verdict::Keep)) => scanned_wake(plain),
-        (PoolEvent::Close, _) => {
-            for request in plain.iter_mut() {
-                if request.is_waiting() {
-                    request.standing = Standing::Woken;
-                }
-            }
-        }
+        (PoolEvent::Close, _) => scanned_wake_all(plain),
         _ => {}
     }
     Ok(())

@@ -2,7 +2,7 @@
 
 use crate::line::{limits, play};
 use my_opts::{PoolConstraints, PoolOpts};
-use my_pool_core::Core;
+use my_pool_core::{Core, Limits};
 use std::test::Fail;
 
 /// The bounds of a pool, how many requests wait at most, the number of its first connection, and its events.
@@ -23,7 +23,7 @@ ask = Age(2)
 poll 2 0 = Poll(Wait)
 give 1000 = Done
 next = Returned(Some(1000))
-decide 1000 0 0 0 = Verdict(Keep)
+decide 1000 0 = Verdict(Keep)
 next = Returned(None)
 queue = [2] [1]
 cancel 1 = Done
@@ -45,7 +45,7 @@ poll 0 0 = Poll(Dial(1000))
 ready 0 1000 = Done
 give 1000 = Done
 next = Returned(Some(1000))
-decide 1000 0 0 0 = Verdict(Keep)
+decide 1000 0 = Verdict(Keep)
 ask = Age(1)
 poll 1 0 = Poll(Take(1000))
 ask = Age(2)
@@ -66,13 +66,13 @@ poll 0 0 = Poll(Dial(1000))
 ready 0 1000 = Done
 give 1000 = Done
 next = Returned(Some(1000))
-decide 1000 0 1000 0 = Verdict(Keep)
+decide 1000 0 ttl=1000 = Verdict(Keep)
 ask = Age(1)
 poll 1 1001 = Poll(Wait)
 places = [Connection { number: 1000, place: Returned { marked: false } }]
 next = Returned(Some(1000))
-decide 1000 1001 1000 1 = Verdict(Close)
-done 1000 1001 1000 1 = Verdict(Drop)
+decide 1000 1001 ttl=1000 expired = Verdict(Close)
+done 1000 1001 ttl=1000 expired = Verdict(Drop)
 counted = 0
 queue = [] [1]
 poll 1 1001 = Poll(Dial(1001))",
@@ -93,12 +93,159 @@ ask = Age(2)
 poll 2 0 = Poll(Full { waiting: 1, limit: 1 })
 give 1000 = Done
 next = Returned(Some(1000))
-decide 1000 0 0 0 = Verdict(Keep)
+decide 1000 0 = Verdict(Keep)
 ask = Age(3)
 poll 3 0 = Poll(Take(1000))
 ready 3 1000 = Done
 poll 1 0 = Poll(Wait)
 queue = [1] []",
+);
+
+/// A request that waited, looked at a connection that wasn't good, and waits again passes the limit.
+const FULL_ABOVE: Script = (
+    1,
+    1,
+    Some(1),
+    1000,
+    "ask = Age(0)
+poll 0 0 = Poll(Dial(1000))
+ready 0 1000 = Done
+ask = Age(1)
+poll 1 0 = Poll(Wait)
+give 1000 = Done
+next = Returned(Some(1000))
+decide 1000 0 = Verdict(Keep)
+poll 1 0 = Poll(Take(1000))
+ask = Age(2)
+poll 2 0 = Poll(Wait)
+failed 1 1000 = Done
+poll 2 0 = Poll(Dial(1001))
+ask = Age(3)
+poll 3 0 = Poll(Wait)
+poll 1 0 = Poll(Wait)
+oldest = Some(1)
+ask = Age(4)
+poll 4 0 = Poll(Full { waiting: 2, limit: 1 })",
+);
+
+/// A request that made a connection ends where that failed; one that looked at a connection asks again. Both free the
+/// place, and so does a lease that is detached.
+const FAILED: Script = (
+    1,
+    1,
+    None,
+    1000,
+    "ask = Age(0)
+poll 0 0 = Poll(Dial(1000))
+failed 0 1001 = not now
+ask = Age(1)
+poll 1 0 = Poll(Wait)
+ask = Age(2)
+poll 2 0 = Poll(Wait)
+failed 0 1000 = Done
+failed 0 1000 = not now
+live = 2
+counted = 0
+queue = [2] [1]
+poll 1 0 = Poll(Dial(1001))
+ready 1 1001 = Done
+give 1001 = Done
+next = Returned(Some(1001))
+decide 1001 0 = Verdict(Keep)
+queue = [] [2]
+poll 2 0 = Poll(Take(1001))
+ask = Age(3)
+poll 3 0 = Poll(Wait)
+failed 2 1001 = Done
+live = 2
+queue = [] [3]
+poll 2 0 = Poll(Dial(1002))
+poll 3 0 = Poll(Wait)
+ready 2 1002 = Done
+detach 1003 = not now
+detach 1002 = Done
+detach 1002 = not now
+counted = 0
+queue = [] [3]
+metrics = Metrics { connection_count: 0, connections_in_pool: 0, connections_in_use: 0, active_wait_requests: 0, create_failed: 2, discarded_unestablished_connection: 0, dirty_connection_return: 0, discarded_expired_connection: 0, resetting_connection: 0, discarded_superfluous_connection: 0, connection_returned_to_pool: 1, discarded_error_during_cleanup: 0 }",
+);
+
+/// What is known of a connection decides in this order: its link is closed, it is dirty, its time is over, it is to be
+/// reset. A cleaning that failed frees it.
+const FACTS: Script = (
+    1,
+    1,
+    None,
+    1000,
+    "ask = Age(0)
+poll 0 0 = Poll(Dial(1000))
+ready 0 1000 = Done
+give 1000 = Done
+decide 1000 0 = not now
+next = Returned(Some(1000))
+decide 1000 0 dirty expired reset = Verdict(Clean)
+done 1000 0 = not now
+decide 1000 0 reset = Verdict(Reset)
+decide 1000 0 = not now
+done 1000 0 = Verdict(Keep)
+ask = Age(1)
+poll 1 0 = Poll(Take(1000))
+ready 1 1000 = Done
+give 1000 = Done
+next = Returned(Some(1000))
+decide 1000 0 expired reset = Verdict(Close)
+done 1000 0 = Verdict(Drop)
+ask = Age(2)
+poll 2 0 = Poll(Dial(1001))
+ready 2 1001 = Done
+give 1001 = Done
+next = Returned(Some(1001))
+decide 1001 0 closed dirty expired reset = Verdict(Drop)
+ask = Age(3)
+poll 3 0 = Poll(Dial(1002))
+ready 3 1002 = Done
+give 1002 = Done
+next = Returned(Some(1002))
+decide 1002 0 dirty = Verdict(Clean)
+done 1002 0 failed = Verdict(Drop)
+ask = Age(4)
+poll 4 0 = Poll(Dial(1003))
+ready 4 1003 = Done
+give 1003 = Done
+next = Returned(Some(1003))
+decide 1003 0 reset = Verdict(Reset)
+done 1003 0 failed = Verdict(Drop)
+counted = 0
+metrics = Metrics { connection_count: 0, connections_in_pool: 0, connections_in_use: 0, active_wait_requests: 0, create_failed: 0, discarded_unestablished_connection: 1, dirty_connection_return: 2, discarded_expired_connection: 1, resetting_connection: 2, discarded_superfluous_connection: 0, connection_returned_to_pool: 1, discarded_error_during_cleanup: 2 }",
+);
+
+/// An idle connection is used up to its deadline, and returned and marked above it, so that it is closed; one that isn't
+/// above it stays.
+const DEADLINE: Script = (
+    2,
+    2,
+    None,
+    1000,
+    "ask = Age(0)
+poll 0 0 = Poll(Dial(1000))
+ready 0 1000 = Done
+ask = Age(1)
+poll 1 0 = Poll(Dial(1001))
+ready 1 1001 = Done
+give 1000 = Done
+give 1001 = Done
+next = Returned(Some(1000))
+decide 1000 0 deadline=5 = Verdict(Keep)
+next = Returned(Some(1001))
+decide 1001 0 deadline=6 = Verdict(Keep)
+ttl 5 = Moved(0)
+ttl 6 = Moved(1)
+places = [Connection { number: 1001, place: Idle(Times { since: 0, deadline: Some(6), last_io: 0, ttl: 0 }) }, Connection { number: 1000, place: Returned { marked: true } }]
+next = Returned(Some(1000))
+decide 1000 6 = Verdict(Close)
+done 1000 6 = Verdict(Drop)
+ask = Age(2)
+poll 2 6 = Poll(Take(1001))",
 );
 
 /// No request may wait.
@@ -150,6 +297,10 @@ fn ample_scripts(rt: HostRuntime) -> Result<(), Fail> {
         CANCELLED_CHECK,
         EXPIRED,
         FULL,
+        FULL_ABOVE,
+        FAILED,
+        FACTS,
+        DEADLINE,
         NONE_WAITS,
         CLOSED,
         LAST_AGE,
@@ -176,16 +327,59 @@ fn ample_superfluous(rt: HostRuntime) -> Result<(), Fail> {
         let back = format!(in alloc; "give {conn} = Done\nnext = Returned(Some({conn}))")?;
         play(&rt, alloc, &mut core, back.as_str())?;
         let script = if i < 5 {
-            format!(in alloc; "decide {conn} 0 0 0 = Verdict(Keep)\ncounted = 10")?
+            format!(in alloc; "decide {conn} 0 = Verdict(Keep)\ncounted = 10")?
         } else {
             format!(in alloc;
-                "decide {conn} 0 0 0 = Verdict(Close)\ndone {conn} 0 0 0 = Verdict(Drop)\ncounted = {}",
+                "decide {conn} 0 = Verdict(Close)\ndone {conn} 0 = Verdict(Drop)\ncounted = {}",
                 14 - i
             )?
         };
         play(&rt, alloc, &mut core, script.as_str())?;
     }
     Ok(())
+}
+
+#[test]
+fn ample_inactive(rt: HostRuntime) -> Result<(), Fail> {
+    let limits = Limits {
+        max: 3,
+        min: 1,
+        bound: 3,
+        inactive: 10,
+        waiting: None,
+    };
+    let mut core = Core::with_limits(rt.alloc(), limits, 7);
+    play(
+        &rt,
+        rt.alloc(),
+        &mut core,
+        "ask = Age(0)
+poll 0 0 = Poll(Dial(7))
+ready 0 7 = Done
+ask = Age(1)
+poll 1 0 = Poll(Dial(8))
+ready 1 8 = Done
+ask = Age(2)
+poll 2 0 = Poll(Dial(9))
+ready 2 9 = Done
+give 7 = Done
+give 8 = Done
+give 9 = Done
+next = Returned(Some(7))
+decide 7 0 = Verdict(Keep)
+next = Returned(Some(8))
+decide 8 5 = Verdict(Keep)
+next = Returned(Some(9))
+decide 9 0 = Verdict(Keep)
+ttl 10 = Moved(0)
+ttl 11 = Moved(2)
+next = Returned(Some(7))
+next = Returned(Some(9))
+next = Returned(None)
+ttl 100 = Moved(0)
+decide 7 11 = Verdict(Close)
+decide 9 11 = Verdict(Close)",
+    )
 }
 
 #[test]

@@ -1,75 +1,141 @@
-//! Events from a random number.
+//! Events from random numbers, each of which may happen.
 
-use my_pool_core::{Core, Facts, PoolEvent, Standing};
+use my_pool_core::{Core, Facts, PlaceKind, PoolEvent, Request, Standing};
 
-/// The age of some live request, and the connection that it holds.
-fn some_age(core: &Core, x: u64) -> (u64, u64) {
-    let count = core.requests().len();
-    if count == 0 {
-        return (0, 0);
+/// Random numbers, one after the other.
+#[derive(Drop)]
+pub struct Dice(u64);
+
+impl Dice {
+    /// The numbers that begin with a seed.
+    pub fn new(seed: u64) -> Dice {
+        Dice(seed)
     }
-    let request = core.requests()[(x % count as u64) as usize];
-    match request.standing {
-        Standing::Dials(number) | Standing::Checks(number) => (request.age, number),
-        _ => (request.age, 0),
+
+    /// The next one, below a bound where that isn't 0.
+    pub fn below(&mut self, bound: u64) -> u64 {
+        self.0 = self
+            .0
+            .wrapping_mul(6364136223846793005)
+            .wrapping_add(1442695040888963407);
+        if bound == 0 { 0 } else { (self.0 >> 33) % bound }
     }
 }
 
-/// The number of some counted connection.
-fn some_number(core: &Core, x: u64) -> u64 {
-    let count = core.connections().len();
-    if count == 0 {
-        return 0;
-    }
-    core.connections()[(x % count as u64) as usize].number
-}
-
-/// Some event, which may not be allowed now.
-pub fn some_event(core: &Core, x: u64, now: u64, closes: bool) -> PoolEvent {
-    let (age, conn) = some_age(core, x >> 20);
-    let number = some_number(core, x >> 20);
-    let bits = x >> 12;
-    let facts = Facts {
-        link_closed: bits % 16 == 0,
-        dirty: bits % 4 == 1,
-        expired: bits % 16 == 2,
-        reset: bits % 2 == 1,
-        last_io: now,
-        ttl: (bits % 3) as u128,
-        deadline: if bits % 5 == 0 {
-            Some(now as u128)
-        } else {
-            None
-        },
-    };
-    match (x >> 40) % 16 {
-        0..=2 => PoolEvent::Request,
-        3..=5 => PoolEvent::PollRequest { age, now },
-        6 => PoolEvent::Cancel { age },
-        7..=8 => PoolEvent::Ready { age, conn },
-        9 => PoolEvent::Failed { age, conn },
-        10 => PoolEvent::GiveBack { conn: number },
-        11 => PoolEvent::TakeReturned,
-        12 => PoolEvent::Decide {
-            conn: number,
-            facts,
-            now,
-        },
-        13 => PoolEvent::Done {
-            conn: number,
-            ok: bits % 8 != 3,
-            facts,
-            now,
-        },
-        14 => PoolEvent::CheckTtl { now },
-        _ => {
-            if closes && bits % 8 == 0 {
-                PoolEvent::Close
-            } else if bits % 4 == 0 {
-                PoolEvent::Detach { conn: number }
-            } else {
-                PoolEvent::PollDisconnect
+/// Some live request that has a connection, or one that hasn't.
+fn some_request(core: &Core, dice: &mut Dice, free: bool) -> Option<Request> {
+    let mut chosen = None;
+    let mut count = 0u64;
+    for request in core.requests() {
+        if request.is_free() == free {
+            count = count.saturating_add(1);
+            if dice.below(count) == 0 {
+                chosen = Some(*request);
             }
         }
     }
+    chosen
+}
+
+/// The number of some counted connection at a kind of place.
+fn some_number(core: &Core, dice: &mut Dice, kind: PlaceKind) -> Option<u64> {
+    let mut chosen = None;
+    let mut count = 0u64;
+    for connection in core.connections() {
+        if connection.place.is(kind) {
+            count = count.saturating_add(1);
+            if dice.below(count) == 0 {
+                chosen = Some(connection.number);
+            }
+        }
+    }
+    chosen
+}
+
+/// The age of some request that has a connection, and that connection's number.
+fn some_holder(core: &Core, dice: &mut Dice) -> Option<(u64, u64)> {
+    let request = some_request(core, dice, false)?;
+    match request.standing {
+        Standing::Dials(number) | Standing::Checks(number) => Some((request.age, number)),
+        _ => None,
+    }
+}
+
+/// What may be known of a connection.
+fn some_facts(dice: &mut Dice, now: u64) -> Facts {
+    Facts {
+        link_closed: dice.below(10) == 0,
+        dirty: dice.below(6) == 0,
+        expired: dice.below(10) == 0,
+        reset: dice.below(3) == 0,
+        last_io: now,
+        ttl: u128::from(dice.below(3)),
+        deadline: if dice.below(3) == 0 {
+            Some(u128::from(now) + u128::from(dice.below(6)))
+        } else {
+            None
+        },
+    }
+}
+
+/// The end of a reset or a close, or of a cleaning that failed.
+fn some_end(core: &Core, dice: &mut Dice, now: u64) -> Option<PoolEvent> {
+    let kind = match dice.below(3) {
+        0 => PlaceKind::Closing,
+        1 => PlaceKind::Resetting,
+        _ => PlaceKind::Cleaning,
+    };
+    let conn = some_number(core, dice, kind)?;
+    let ok = kind != PlaceKind::Cleaning && dice.below(6) > 0;
+    let facts = some_facts(dice, now);
+    Some(PoolEvent::Done { conn, ok, facts, now })
+}
+
+/// Some event that may happen now; None where there is none of the kind that was drawn.
+pub fn some_event(core: &Core, dice: &mut Dice, now: u64, closes: bool) -> Option<PoolEvent> {
+    Some(match dice.below(64) {
+        0..=3 => PoolEvent::Request,
+        4..=13 => {
+            let age = some_request(core, dice, true)?.age;
+            PoolEvent::PollRequest { age, now }
+        }
+        14..=16 => {
+            let free = dice.below(2) == 0;
+            let age = some_request(core, dice, free)?.age;
+            PoolEvent::Cancel { age }
+        }
+        17..=25 => {
+            let (age, conn) = some_holder(core, dice)?;
+            PoolEvent::Ready { age, conn }
+        }
+        26..=27 => {
+            let (age, conn) = some_holder(core, dice)?;
+            PoolEvent::Failed { age, conn }
+        }
+        28..=34 => {
+            let conn = some_number(core, dice, PlaceKind::Leased)?;
+            PoolEvent::GiveBack { conn }
+        }
+        35..=36 => {
+            let conn = some_number(core, dice, PlaceKind::Leased)?;
+            PoolEvent::Detach { conn }
+        }
+        37..=41 => PoolEvent::TakeReturned,
+        42..=49 => {
+            let conn = some_number(core, dice, PlaceKind::Cleaning)?;
+            let facts = some_facts(dice, now);
+            PoolEvent::Decide { conn, facts, now }
+        }
+        50..=58 => return some_end(core, dice, now),
+        59..=61 => PoolEvent::CheckTtl {
+            now: now.saturating_add(dice.below(10)),
+        },
+        62 => PoolEvent::PollDisconnect,
+        _ => {
+            if !closes {
+                return None;
+            }
+            PoolEvent::Close
+        }
+    })
 }

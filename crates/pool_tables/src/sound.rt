@@ -1,86 +1,99 @@
 //! What holds of each state of a pool, as tests of it.
 
-use my_pool_core::{Connection, Core, Place, Standing};
+use my_pool_core::{Core, Limits, Place, Request, Standing};
 
-/// How many requests hold the connection of a number as its place says.
-fn holders(core: &Core, connection: Connection) -> usize {
-    let number = connection.number;
-    let held = match connection.place {
-        Place::Connecting => Standing::Dials(number),
-        Place::Checking => Standing::Checks(number),
-        _ => Standing::Asks,
-    };
-    core.requests()
-        .iter()
-        .filter(|r| r.standing == held)
-        .count()
+/// The next age and the next number of a pool, as its answers show them.
+#[derive(Drop)]
+pub struct Next {
+    pub age: u64,
+    pub number: u64,
 }
 
-/// Whether each connection occurs once, and with the request that holds it.
-pub fn connections_are_sound(core: &Core) -> bool {
+/// How many connections have a number.
+fn count_number(core: &Core, number: u64) -> usize {
+    core.connections().iter().filter(|c| c.number == number).count()
+}
+
+/// How many requests make or look at the connection of a number, as its standing says.
+fn holders(core: &Core, standing: Standing) -> usize {
+    core.requests().iter().filter(|r| r.standing == standing).count()
+}
+
+/// How many connections are idle.
+fn count_idle(core: &Core) -> usize {
+    core.connections().iter().filter(|c| c.is_idle()).count()
+}
+
+/// Whether there are no more connections and no more idle ones than may be, each is counted once and below the next
+/// number, and each that is being made or looked at has the one request that does it.
+pub fn connections_are_sound(core: &Core, limits: Limits, next: &Next) -> bool {
     for connection in core.connections() {
         let number = connection.number;
-        if core
-            .connections()
-            .iter()
-            .filter(|c| c.number == number)
-            .count()
-            != 1
+        let making = holders(core, Standing::Dials(number));
+        let looking = holders(core, Standing::Checks(number));
+        let made = usize::from(matches!(connection.place, Place::Connecting));
+        let looked_at = usize::from(matches!(connection.place, Place::Checking));
+        if count_number(core, number) != 1
+            || number >= next.number
+            || making != made
+            || looking != looked_at
         {
             return false;
         }
-        let held = matches!(connection.place, Place::Connecting | Place::Checking);
-        if held && holders(core, *connection) != 1 {
-            return false;
-        }
     }
-    true
+    core.connections().len() as u64 <= limits.max && count_idle(core) as u64 <= limits.bound
 }
 
-/// Whether the ages rise, each request that was queued has waited, each held connection is there, and none waits
-/// after a closed pool.
-pub fn requests_are_sound(core: &Core) -> bool {
-    let mut last = None;
+/// Whether a request is there as a state's soundness asks for: below the next age but for the last one, which asks and
+/// has closed the pool; marked where it waits or was woken; waiting only in an open pool; and its connection is counted.
+fn request_is_sound(core: &Core, request: &Request, next: &Next) -> bool {
+    let last = request.age == u64::MAX;
+    let asks = matches!(request.standing, Standing::Asks);
+    let queued = request.is_waiting() || request.is_woken();
+    let there = match request.standing {
+        Standing::Dials(number) | Standing::Checks(number) => count_number(core, number) == 1,
+        _ => true,
+    };
+    (request.age < next.age || last)
+        && (!last || (asks && core.is_closed()))
+        && (!queued || request.waited)
+        && !(core.is_closed() && request.is_waiting())
+        && there
+}
+
+/// Whether the ages rise, each request is sound, and there are numbers and room for those that may dial.
+pub fn requests_are_sound(core: &Core, next: &Next) -> bool {
+    let mut before = None;
+    let mut dialers = 0u64;
     for request in core.requests() {
-        let rises = match last {
+        let rises = match before {
             Some(age) => age < request.age,
             None => true,
         };
-        let queued = request.is_waiting() || request.is_woken();
-        let place = match request.standing {
-            Standing::Dials(number) => Some(Connection {
-                number,
-                place: Place::Connecting,
-            }),
-            Standing::Checks(number) => Some(Connection {
-                number,
-                place: Place::Checking,
-            }),
-            _ => None,
-        };
-        let there = match place {
-            Some(wanted) => core.connections().iter().any(|c| *c == wanted),
-            None => true,
-        };
-        if !rises
-            || !there
-            || (queued && !request.waited)
-            || (core.is_closed() && request.is_waiting())
-        {
+        if !rises || !request_is_sound(core, request, next) {
             return false;
         }
-        last = Some(request.age);
+        before = Some(request.age);
+        if !request.is_dialing() && request.age != u64::MAX {
+            dialers = dialers.saturating_add(1);
+        }
     }
-    true
+    let numbers = u64::MAX.saturating_sub(next.number);
+    dialers <= numbers && dialers <= core.spare()
+}
+
+/// Whether a pool that is gone is closed and counts nothing.
+pub fn end_is_sound(core: &Core) -> bool {
+    !core.poll_disconnect() || (core.is_closed() && core.connections().is_empty())
 }
 
 /// Whether the woken requests before the first waiting one are as many as what they may have.
-pub fn is_covered(core: &Core, max: usize) -> bool {
-    let mut woken = 0usize;
+pub fn is_covered(core: &Core, max: u64) -> bool {
+    let mut woken = 0u64;
     for request in core.requests() {
         if request.is_waiting() {
-            let idle = core.connections().iter().filter(|c| c.is_idle()).count();
-            let left = max.saturating_sub(core.connections().len());
+            let idle = count_idle(core) as u64;
+            let left = max.saturating_sub(core.connections().len() as u64);
             return core.is_closed() || idle.saturating_add(left) <= woken;
         }
         if request.is_woken() {

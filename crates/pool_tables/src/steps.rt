@@ -30,7 +30,7 @@ fn steps_to_ready(rt: &impl Abort, alloc: Global, waiting: u64) -> Result<u64, F
     for age in 1..=waiting {
         steps = Counted::new();
         assert_eq!(rt; core.request_noting(&mut steps)?, age);
-        assert!(rt; core.may(PoolEvent::PollRequest { age, now: 0 }));
+        assert!(rt; core.may(&PoolEvent::PollRequest { age, now: 0 }));
         assert_eq!(rt;
             core.poll_request_noting(age, 0, &mut steps),
             PollAnswer::Wait
@@ -43,19 +43,19 @@ fn steps_to_ready(rt: &impl Abort, alloc: Global, waiting: u64) -> Result<u64, F
         "give 1000 = Done\nnext = Returned(Some(1000))",
     )?;
     let conn = 1000;
-    let facts = clean(0, false);
+    let facts = clean();
     let now = 0;
-    assert!(rt; core.may(PoolEvent::Decide { conn, facts, now }));
+    assert!(rt; core.may(&PoolEvent::Decide { conn, facts, now }));
     assert_eq!(rt;
         core.decide_noting(conn, facts, now, &mut steps),
         Verdict::Keep
     );
-    assert!(rt; core.may(PoolEvent::PollRequest { age: 1, now }));
+    assert!(rt; core.may(&PoolEvent::PollRequest { age: 1, now }));
     assert_eq!(rt;
         core.poll_request_noting(1, now, &mut steps),
         PollAnswer::Take(conn)
     );
-    assert!(rt; core.may(PoolEvent::Ready { age: 1, conn }));
+    assert!(rt; core.may(&PoolEvent::Ready { age: 1, conn }));
     core.ready_noting(1, conn, &mut steps);
     Ok(steps.count())
 }

@@ -9,7 +9,7 @@ use Rattle.my_pool_core.specs.Lists.{without, change_first, how_many}
 use Rattle.my_pool_core.specs.Connections.{placed, has_number, is_idle, move_to}
 use Rattle.my_pool_core.specs.Requests.{last_age, has_age, is_waiting, ended}
 use Rattle.my_pool_core.specs.State.{State}
-use Rattle.my_pool_core.specs.Sound.{IsRising, IsSound, dials, checks, connects, is_checked, is_unmarked, is_dialer, is_last_holder}
+use Rattle.my_pool_core.specs.Sound.{IsRising, IsSound, dials, checks, connects, is_checked, is_unmarked, is_dialer, is_last_busy}
 use Rattle.my_pool_core.proofs.Finding.{one, count-without, count-without-le, count-change-less, count-push, length-without, shorter-without, found-passes}
 use Rattle.my_pool_core.proofs.Finding.Rising.{rising-without, rising-change}
 use Rattle.std.proofs.Common.{length-append}
@@ -26,7 +26,7 @@ pub record FewerRequests (rs qs : List Request) : Type 0 where
   pub ages : (q : ℕ → Bool) → how_many (λ r. q r.age) qs ≤ how_many (λ r. q r.age) rs
   pub unmarked : how_many is_unmarked qs ≤ how_many is_unmarked rs
   pub dialers : how_many is_dialer qs ≤ how_many is_dialer rs
-  pub last : how_many is_last_holder qs ≤ how_many is_last_holder rs
+  pub last : how_many is_last_busy qs ≤ how_many is_last_busy rs
 
 pub sound_after : (s : State) (ds : List Connection) (qs : List Request) (spare : ℕ) (settled : Bool) (counts : Counts)
     → IsSound s → FewerConnections s.connections ds → FewerRequests s.requests qs
@@ -53,7 +53,7 @@ sound_after s ds qs spare settled counts h c r idle made looked wait room gone =
   none_waits = wait;
   settled = gone;
   last_closes = λ live. h.last_closes (omega (arith, live, r.ages (λ a. a == last_age)));
-  last_is_free = omega (arith, h.last_is_free, r.last);
+  last_asks = omega (arith, h.last_asks, r.last);
 }
 
 -- ---- a connection that is moved or freed ----
@@ -117,7 +117,7 @@ ended-fewer age rs = elim (age == last_age) as (λ b. FewerRequests rs (cond b r
     ages = λ q. count-without-le (λ r. q r.age) (has_age age) rs;
     unmarked = count-without-le is_unmarked (has_age age) rs;
     dialers = count-without-le is_dialer (has_age age) rs;
-    last = count-without-le is_last_holder (has_age age) rs;
+    last = count-without-le is_last_busy (has_age age) rs;
   }
 ]
 
@@ -126,12 +126,12 @@ pub changed-fewer : (key : Request → Bool) (f : Request → Request) (rs : Lis
     → ((r : Request) → (f r).age ≡ r.age)
     → ((r : Request) → key r ≡ true → one (is_unmarked (f r)) ≤ one (is_unmarked r))
     → ((r : Request) → key r ≡ true → one (is_dialer (f r)) ≤ one (is_dialer r))
-    → ((r : Request) → key r ≡ true → one (is_last_holder (f r)) ≤ one (is_last_holder r))
+    → ((r : Request) → key r ≡ true → one (is_last_busy (f r)) ≤ one (is_last_busy r))
     → FewerRequests rs (change_first key f rs)
 changed-fewer key f rs age unmarked dialers last = record {
   rising = rising-change key f age 0 rs;
   ages = λ q. count-change-less (λ r. q r.age) key f (λ r _. let e : one (q (f r).age) ≡ one (q r.age) = ap (λ a. one (q a)) (age r) in omega arith) rs;
   unmarked = count-change-less is_unmarked key f unmarked rs;
   dialers = count-change-less is_dialer key f dialers rs;
-  last = count-change-less is_last_holder key f last rs;
+  last = count-change-less is_last_busy key f last rs;
 }

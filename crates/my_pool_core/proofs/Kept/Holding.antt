@@ -1,19 +1,19 @@
 -- A request that makes or looks at a connection lets it go.
 use Rattle.std.proofs.Common.{◌≡◌, ℕ, ◌+◌, ◌≤◌, ◌<◌, Bool, true, false, cond, Some, List, refl, ap, ◌∙◌, arith}
-use Rattle.std.specs.Prelude.{find, ◌==◌, ◌&&◌, not}
+use Rattle.std.specs.Prelude.{find, ◌==◌, ◌&&◌, ◌||◌, not}
 use Rattle.std.proofs.lemmas.Bool.{eq-eqb}
 use Rattle.my_pool_core.specs.declared.connection.Connection.{Connection}
 use Rattle.my_pool_core.specs.declared.connection.Place.{Place}
 use Rattle.my_pool_core.specs.declared.connection.Place.TheVariants.{Idle, Leased, Connecting, Checking, Returned, Cleaning, Resetting, Closing}
 use Rattle.my_pool_core.specs.declared.request.Request.{Request}
 use Rattle.my_pool_core.specs.declared.request.Standing.{Standing}
-use Rattle.my_pool_core.specs.declared.request.Standing.TheVariants.{Asks, Woken, Dials, Checks}
+use Rattle.my_pool_core.specs.declared.request.Standing.TheVariants.{Asks, Waits, Woken, Dials, Checks}
 use Rattle.my_pool_core.specs.declared.limits.Counts.{Counts}
 use Rattle.my_pool_core.specs.Lists.{without, change_first, how_many}
 use Rattle.my_pool_core.specs.Connections.{placed, has_number, is_idle, is_connecting, is_connecting_place, is_checking, is_checking_place, move_to}
-use Rattle.my_pool_core.specs.Requests.{last_age, has_age, is_waiting, is_waiting_standing, is_free, standing_as, set_standing, ended, wake}
+use Rattle.my_pool_core.specs.Requests.{last_age, has_age, is_waiting, is_waiting_standing, is_asking_standing, is_dialing_standing, is_checking_standing, is_free, standing_as, set_standing, ended, wake}
 use Rattle.my_pool_core.specs.State.{State}
-use Rattle.my_pool_core.specs.Sound.{IsSound, dials, checks, connects, is_checked, is_unmarked, is_dialer, is_last_holder}
+use Rattle.my_pool_core.specs.Sound.{IsSound, dials, checks, connects, is_checked, is_unmarked, is_dialer, is_last_busy}
 use Rattle.my_pool_core.proofs.Finding.{one, count-without, count-without-le, count-change, count-change-less, count-found, found-once}
 use Rattle.my_pool_core.proofs.Kept.Fewer.{FewerConnections, FewerRequests, sound_after, found-placed, move-fewer, move-count, freed-fewer, fewer-requests, ended-fewer}
 use Rattle.my_pool_core.proofs.Finding.Rising.{rising-change}
@@ -55,12 +55,19 @@ checking-found s age n w h e =
     let y = found-once is_checking (has_number n) s.connections (h.once n) some in
     y.1 ∙ ap (λ c. Some c) (found-placed n s.connections y.0 y.1 ∙ ap (placed n) (checking-is y.0.place y.2))
 
+held-busy : (st : Standing) → not (is_dialing_standing st || is_checking_standing st) ≡ false → is_asking_standing st ≡ false
+held-busy (Dials n) e = refl
+held-busy (Checks n) e = refl
+held-busy Asks e = absurd (cc)
+held-busy Waits e = absurd (cc)
+held-busy Woken e = absurd (cc)
+
 pub holder-not-last : (s : State) (age : ℕ) (w : Bool) (st : Standing) → IsSound s → IsAt age w st s.requests → is_free (req age w st) ≡ false → (age == last_age) ≡ false
 holder-not-last s age w st h e held =
     elim (age == last_age) as (λ b. (age == last_age) ≡ b → b ≡ false) [
       | true ↦ λ k.
-          let a : one (is_last_holder (req age w st)) ≡ 1 = ap (λ b. one (not b && (age == last_age))) held ∙ ap one k in
-          absurd (omega (arith, a, h.last_is_free, count-found is_last_holder (has_age age) s.requests (req age w st) e))
+          let a : one (is_last_busy (req age w st)) ≡ 1 = ap (λ b. one (not b && (age == last_age))) (held-busy st held) ∙ ap one k in
+          absurd (omega (arith, a, h.last_asks, count-found is_last_busy (has_age age) s.requests (req age w st) e))
       | false ↦ λ k. refl
     ] refl
 
@@ -147,14 +154,14 @@ sound-hand-out s age n w st p h e held as_made as_looked found =
 -- a change of the request that is found by its age
 pub found-change-fewer : (age : ℕ) (f : Request → Request) (rs : List Request) (r : Request) → find (has_age age) rs ≡ Some r
     → ((r : Request) → (f r).age ≡ r.age)
-    → one (is_unmarked (f r)) ≤ one (is_unmarked r) → one (is_dialer (f r)) ≤ one (is_dialer r) → one (is_last_holder (f r)) ≤ one (is_last_holder r)
+    → one (is_unmarked (f r)) ≤ one (is_unmarked r) → one (is_dialer (f r)) ≤ one (is_dialer r) → one (is_last_busy (f r)) ≤ one (is_last_busy r)
     → FewerRequests rs (change_first (has_age age) f rs)
 found-change-fewer age f rs r e same unmarked dialers last = record {
   rising = rising-change (has_age age) f same 0 rs;
   ages = λ q. count-change-less (λ r. q r.age) (has_age age) f (λ r _. let k : one (q (f r).age) ≡ one (q r.age) = ap (λ a. one (q a)) (same r) in omega arith) rs;
   unmarked = omega (arith, unmarked, count-change is_unmarked (has_age age) f rs r e);
   dialers = omega (arith, dialers, count-change is_dialer (has_age age) f rs r e);
-  last = omega (arith, last, count-change is_last_holder (has_age age) f rs r e);
+  last = omega (arith, last, count-change is_last_busy (has_age age) f rs r e);
 }
 
 -- a request that looked at a connection has none again, and the connection is freed

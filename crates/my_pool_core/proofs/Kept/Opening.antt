@@ -14,7 +14,7 @@ use Rattle.my_pool_core.specs.Connections.{placed, has_number, is_idle, move_to}
 use Rattle.my_pool_core.specs.Requests.{last_age, asking, has_age, is_waiting, is_waiting_standing, is_free, may_dial, standing_as, now_waiting, set_standing, set_waiting, ended, roused, wake_all}
 use Rattle.my_pool_core.specs.State.{State, one_more}
 use Rattle.my_pool_core.specs.Events.{is_at_end, close, with_last, request}
-use Rattle.my_pool_core.specs.Sound.{IsSound, dials, checks, connects, is_checked, is_unnumbered, is_unborn, is_unmarked, is_dialer, is_last_holder}
+use Rattle.my_pool_core.specs.Sound.{IsSound, dials, checks, connects, is_checked, is_unnumbered, is_unborn, is_unmarked, is_dialer, is_last_busy}
 use Rattle.my_pool_core.proofs.Finding.{one, count-change, count-found, count-push, count-map-same, count-either, count-implies, count-le-length, none-counted}
 use Rattle.my_pool_core.proofs.Kept.Fewer.{sound_after, same-connections, move-fewer, move-count}
 use Rattle.my_pool_core.proofs.Finding.Rising.{rising-map, rising-push}
@@ -76,8 +76,9 @@ sound-ended s age r h e free wait =
 pub sound-waits : (s : State) (age : ℕ) (r : Request) → IsSound s → s.closed ≡ false → find (has_age age) s.requests ≡ Some r → is_free r ≡ true
     → IsSound (record s { requests = set_waiting age s.requests })
 sound-waits s age r h open_ e free =
+    let last : one (is_last_busy (now_waiting r)) ≡ 0 = ap one (open-not-last s age r h open_ e) in
     sound_after s s.connections (set_waiting age s.requests) s.spare s.settled s.counts h (same-connections s.connections)
-    (found-change-fewer age now_waiting s.requests r e (λ r. refl) (omega arith) (omega (arith, free-dialer r free)) (omega arith))
+    (found-change-fewer age now_waiting s.requests r e (λ r. refl) (omega arith) (omega (arith, free-dialer r free)) (omega (arith, last)))
     h.few_idle
     (λ m. let d = count-change (dials m) (has_age age) now_waiting s.requests r e in omega (arith, d, free-dials r free m, h.made m))
     (λ m. let d = count-change (checks m) (has_age age) now_waiting s.requests r e in omega (arith, d, free-checks r free m, h.looked_at m))
@@ -91,7 +92,7 @@ pub sound-takes : (s : State) (age n : ℕ) (r : Request) (times : Times) → Is
 sound-takes s age n r times h open_ e free found =
     let other = open-not-last s age r h open_ e in
     let fewer = move-fewer n Checking (Idle times) s.connections found in
-    let last : one (is_last_holder (standing_as (Checks n) r)) ≡ 0 = ap one other in
+    let last : one (is_last_busy (standing_as (Checks n) r)) ≡ 0 = ap one other in
     sound_after s (move_to n Checking s.connections) (set_standing age (Checks n) s.requests) s.spare s.settled s.counts h fewer
     (found-change-fewer age (standing_as (Checks n)) s.requests r e (λ r. refl) (omega arith) (omega (arith, free-dialer r free)) (omega (arith, last)))
     (omega (arith, h.few_idle, move-count is_idle n Checking (Idle times) s.connections found))
@@ -124,7 +125,7 @@ sound-dials s age r h open_ e free room =
     let n = s.next_number in
     let other = open-not-last s age r h open_ e in
     let dialer : one (is_dialer r) ≡ 1 = free-dialer r free ∙ ap (λ b. one (not b)) other in
-    let last : one (is_last_holder (standing_as (Dials n) r)) ≡ 0 = ap one other in
+    let last : one (is_last_busy (standing_as (Dials n) r)) ≡ 0 = ap one other in
     let fewer = found-change-fewer age (standing_as (Dials n)) s.requests r e (λ r. refl) (omega arith) (omega arith) (omega (arith, last)) in
     let left = count-change is_dialer (has_age age) (standing_as (Dials n)) s.requests r e in
     let some = count-found is_dialer (has_age age) s.requests r e in
@@ -152,7 +153,7 @@ sound-dials s age r h open_ e free room =
       none_waits = λ shut. absurd (cc);
       settled = λ g. absurd (let shut = (h.settled g).0 in cc);
       last_closes = λ live. h.last_closes (omega (arith, live, fewer.ages (λ a. a == last_age)));
-      last_is_free = omega (arith, h.last_is_free, fewer.last);
+      last_asks = omega (arith, h.last_asks, fewer.last);
     }
 
 -- ---- the pool is closed ----
@@ -202,7 +203,7 @@ sound-close s h =
       none_waits = λ _. none-waits rs;
       settled = λ g. (refl, (h.settled g).1);
       last_closes = λ _. refl;
-      last_is_free = wake-all-same is_last_holder (λ a w. refl) rs ∙ h.last_is_free;
+      last_asks = wake-all-same is_last_busy (λ a w. refl) rs ∙ h.last_asks;
     }
 
 -- ---- a request begins ----
@@ -254,7 +255,7 @@ sound-last s spare h shut room =
         none_waits = h.none_waits;
         settled = h.settled;
         last_closes = h.last_closes;
-        last_is_free = h.last_is_free;
+        last_asks = h.last_asks;
       }
       | false ↦ λ none.
           let rs = s.requests in
@@ -277,7 +278,7 @@ sound-last s spare h shut room =
             none_waits = λ k. omega (arith, h.none_waits k, count-push is_waiting rs q);
             settled = h.settled;
             last_closes = λ _. shut;
-            last_is_free = omega (arith, h.last_is_free, count-push is_last_holder rs q);
+            last_asks = omega (arith, h.last_asks, count-push is_last_busy rs q);
           }
     ] refl
   where
@@ -346,6 +347,6 @@ sound-request s h =
             none_waits = λ k. omega (arith, h.none_waits k, count-push is_waiting rs q);
             settled = h.settled;
             last_closes = λ live. h.last_closes (omega (arith, live, count-push (has_age last_age) rs q, other));
-            last_is_free = omega (arith, h.last_is_free, count-push is_last_holder rs q);
+            last_asks = omega (arith, h.last_asks, count-push is_last_busy rs q);
           }
     ] refl

@@ -6,7 +6,7 @@ use Rattle.my_pool_core.specs.declared.request.Standing.{Standing}
 use Rattle.my_pool_core.specs.declared.request.Standing.TheVariants.{Asks, Waits, Woken, Dials, Checks}
 use Rattle.my_pool_core.specs.Lists.{without, how_many}
 use Rattle.my_pool_core.specs.Requests.{last_age, has_age, is_waiting, is_waiting_standing, standing_as, ended, wake}
-use Rattle.my_pool_core.specs.Sound.{dials, checks, is_unmarked, is_dialer}
+use Rattle.my_pool_core.specs.Sound.{dials, checks, is_unmarked, is_dialer, is_last_busy}
 use Rattle.my_pool_core.proofs.Finding.{one, count-without, count-change-same}
 use Rattle.my_pool_core.proofs.Kept.Fewer.{FewerRequests, same-requests, fewer-requests, ended-fewer, changed-fewer}
 
@@ -44,6 +44,13 @@ woken-dialer a w Woken e = absurd (cc)
 woken-dialer a w (Dials n) e = absurd (cc)
 woken-dialer a w (Checks n) e = absurd (cc)
 
+woken-last : (a : ℕ) (w : Bool) (st : Standing) → is_waiting_standing st ≡ true → one (is_last_busy (req a w Woken)) ≤ one (is_last_busy (req a w st))
+woken-last a w Waits e = omega arith
+woken-last a w Asks e = absurd (cc)
+woken-last a w Woken e = absurd (cc)
+woken-last a w (Dials n) e = absurd (cc)
+woken-last a w (Checks n) e = absurd (cc)
+
 woken-dials : (n a : ℕ) (w : Bool) (st : Standing) → is_waiting_standing st ≡ true → dials n (req a w Woken) ≡ dials n (req a w st)
 woken-dials n a w Waits e = refl
 woken-dials n a w Asks e = absurd (cc)
@@ -63,7 +70,7 @@ wake-quiet rs = record {
   fewer = changed-fewer is_waiting (standing_as Woken) rs (λ r. refl)
       (λ r e. woken-unmarked r.age r.waited r.standing e)
       (λ r e. woken-dialer r.age r.waited r.standing e)
-      (λ r e. omega arith);
+      (λ r e. woken-last r.age r.waited r.standing e);
   dials = λ n. count-change-same (dials n) is_waiting (standing_as Woken) (λ r e. woken-dials n r.age r.waited r.standing e) rs;
   checks = λ n. count-change-same (checks n) is_waiting (standing_as Woken) (λ r e. woken-checks n r.age r.waited r.standing e) rs;
 }

@@ -1,6 +1,6 @@
 -- The oldest waiting request is that of the heap's least age.
 use Rattle.std.proofs.Common.{◌≡◌, ℕ, ◌+◌, ◌<◌, ◌≤◌, ◌++◌, Bool, true, false, cond, Option, Some, None, List, [], ◌∷◌, length, get_or, map, zero, suc, refl, sym, ap, ◌∙◌, subst, arith, inl, inr}
-use Rattle.std.specs.Prelude.{nat_le, is_some, ◌||◌, ◌&&◌, ◌==◌, not}
+use Rattle.std.specs.Prelude.{find, option_map, MatchOption, nat_le, is_some, ◌||◌, ◌&&◌, ◌==◌, not, if◌then◌else◌}
 use Rattle.std.specs.List.{list_any, position}
 use Rattle.std.proofs.lemmas.Bool.{cases_eq, ne_eqb, eq-eqb, leb-false, lt-leb}
 use Rattle.std.proofs.lemmas.List.{map-append}
@@ -12,6 +12,7 @@ use Rattle.my_pool_core.specs.Requests.{last_age, asking, has_age, is_waiting, i
 use Rattle.my_pool_core.specs.Events.{with_last}
 use Rattle.my_pool_core.specs.Sound.{IsRising}
 use Rattle.my_pool_core.specs.Live.{age_if, IsLive}
+use Rattle.my_pool_core.specs.Wakes.{oldest_in}
 use Rattle.my_pool_core.proofs.Finding.{one, any-position, position-isnt}
 
 pub count-waiting : (rs : List Request) → how_many_held (map age_if rs) ≡ how_many is_waiting rs
@@ -85,6 +86,27 @@ wakes-oldest f low rs a h o = by_place low rs o.place h o.there o.least
           | false ↦ λ w. refl
         ] refl
 
+-- and it is the age of that one
+pub oldest-age : (low : ℕ) (rs : List Request) (a : ℕ) → IsRising low rs → IsOldest rs a → oldest_in rs ≡ Some a
+oldest-age low rs a h o = by_place low rs o.place h o.there o.least
+  where
+    split : (r : Request) (rs : List Request) → oldest_in (r ∷ rs) ≡ (if is_waiting r then Some r.age else oldest_in rs)
+    split r rs = elim (is_waiting r) as (λ b. option_map (λ r. r.age) (cond b (Some r) (find is_waiting rs)) ≡ cond b (Some r.age) (oldest_in rs)) [ true ↦ refl | false ↦ refl ]
+
+    by_place : (low : ℕ) (rs : List Request) (place : ℕ) → IsRising low rs → age_of (map age_if rs) place ≡ Some a → ((j b : ℕ) → age_of (map age_if rs) j ≡ Some b → a ≤ b) → oldest_in rs ≡ Some a
+    by_place low [] place h e least = absurd (cc)
+    by_place low (r ∷ rs) zero h e least = split r rs ∙ elim (is_waiting r) as (λ w. cond w (Some r.age) None ≡ Some a → cond w (Some r.age) (oldest_in rs) ≡ Some a) [
+      | true ↦ λ q. q
+      | false ↦ λ q. absurd (cc)
+    ] e
+    by_place low (r ∷ rs) (suc place) h e least =
+        let above = later (r.age + 1) rs place a h.1 e in
+        let rest = by_place (r.age + 1) rs place h.1 e (λ j b q. least (suc j) b q) in
+        split r rs ∙ elim (is_waiting r) as (λ w. is_waiting r ≡ w → cond w (Some r.age) (oldest_in rs) ≡ Some a) [
+          | true ↦ λ w. absurd (omega (arith, above, least 0 r.age (ap (λ b. cond b (Some r.age) None) w)))
+          | false ↦ λ w. rest
+        ] refl
+
 -- ---- where none waits ----
 
 none-here : (w : Bool) (n : ℕ) → one w + n ≡ 0 → (w ≡ false) × (n ≡ 0)
@@ -96,6 +118,17 @@ wakes-none f [] e = refl
 wakes-none f (r ∷ rs) e =
     let n = none-here (is_waiting r) (how_many is_waiting rs) e in
     ap (λ b. cond b (f r ∷ rs) (r ∷ change_first is_waiting f rs)) n.0 ∙ ap (λ xs. r ∷ xs) (wakes-none f rs n.1)
+
+pub oldest-none : (rs : List Request) → how_many is_waiting rs ≡ 0 → oldest_in rs ≡ None
+oldest-none [] e = refl
+oldest-none (r ∷ rs) e =
+    let n = none-here (is_waiting r) (how_many is_waiting rs) e in
+    ap (λ b. option_map (λ r. r.age) (cond b (Some r) (find is_waiting rs))) n.0 ∙ oldest-none rs n.1
+
+pub oldest-as : {rs seen : List Request} {slots : List ℕ} {held : List (Option ℕ)} {dialing queued : ℕ} (o : Option ℕ) → IsLive rs slots held dialing queued → rs ≡ seen
+    → MatchOption o (how_many_held held ≡ 0) (λ a. (slot : ℕ) × IsLeast held slot a) → o ≡ oldest_in seen
+oldest-as {rs} {seen} None h same none = sym (oldest-none rs (sym (count-waiting rs) ∙ sym h.queue.counted ∙ none)) ∙ ap oldest_in same
+oldest-as {rs} {seen} (Some a) h same l = sym (oldest-age 0 rs a h.rising (oldest l.0 a h l.1)) ∙ ap oldest_in same
 
 pub waits-none : (age : ℕ) (rs : List Request) → how_many is_waiting rs ≡ 0 → waits_up_to age rs ≡ false
 waits-none age [] e = refl

@@ -1,19 +1,23 @@
 //! Any event, whichever it is: so a list of events is replayed by a loop.
 
-ghost use Rattle.std.specs.Prelude.{◌≡◌, true, IsOk, OnOk, OnErr, IfOk};
-ghost use Rattle.my_pool_core.specs.Steps.{may, step, answer};
+ghost use Rattle.std.specs.Prelude.{◌≡◌, true, IsOk, OnOk, OnErr, IfOk, IfSome, MatchOption};
+ghost use Rattle.my_pool_core.specs.Events.{new_pool};
+ghost use Rattle.my_pool_core.specs.Made.{limits_of};
+ghost use Rattle.my_pool_core.specs.Steps.{may, step, answer, AllMay, after};
 
 use super::Core;
 use crate::connection::{is_cleaning, is_finishing, is_leased};
 use crate::event::{Answer, PoolEvent};
 use my_frame::NoMemory;
+use my_opts::PoolOpts;
+use std::alloc::Global;
 
 impl Core {
     /// Whether an event may happen: what the method of that event asks for.
-    pub fn may(&self, event: PoolEvent) -> bool
-        ensures { result ≡ may self.now event }
+    pub fn may(&self, event: &PoolEvent) -> bool
+        ensures { result ≡ may self.now event.now }
     {
-        match event {
+        match *event {
             PoolEvent::PollRequest { age, .. } => self.requests.is_free(age),
             PoolEvent::Cancel { age } => self.requests.is_live(age),
             PoolEvent::Ready { age, conn } | PoolEvent::Failed { age, conn } => {
@@ -80,5 +84,27 @@ impl Core {
             }
             PoolEvent::PollDisconnect => Answer::Gone(self.poll_disconnect()),
         })
+    }
+
+    /// A new pool after these events, or `None` where one of them may not happen when its turn comes.
+    pub fn replay(
+        alloc: Global,
+        opts: &PoolOpts,
+        first: u64,
+        events: &[PoolEvent],
+    ) -> Result<Option<Core>, NoMemory>
+        ensures allowed { let start = new_pool (limits_of opts.now) first in IfOk result (λ replayed.
+            MatchOption replayed (AllMay start events.now → ⊥) (λ _. AllMay start events.now)) }
+        ensures state { let start = new_pool (limits_of opts.now) first in IfOk result (λ replayed.
+            IfSome replayed (λ core. core ≡ after start events.now)) }
+    {
+        let mut core = Core::new(alloc, opts, first)?;
+        for event in events {
+            if !core.may(event) {
+                return Ok(None);
+            }
+            core.apply(*event)?;
+        }
+        Ok(Some(core))
     }
 }

@@ -1,4 +1,4 @@
-//! The events of the whole pool, and what is seen of it.
+//! The events of the whole pool, and its counts.
 
 ghost use Rattle.std.specs.Prelude.{◌≡◌, ℕ, ◌+◌, ◌*◌, ◌^◌, ◌≤◌, ◌<◌, IsTrue, length};
 ghost use Rattle.my_pool_core.specs.Lists.{how_many};
@@ -7,9 +7,8 @@ ghost use Rattle.my_pool_core.specs.Events.{check_ttl, check_ttl_moved, close, i
 ghost use Rattle.my_pool_core.specs.Seen.{metrics_of};
 
 use super::Core;
-use crate::connection::{Connection, count_idle, count_leased, sweep};
+use crate::connection::{count_idle, count_leased, sweep};
 use crate::limits::Metrics;
-use crate::request::Request;
 use my_wait_heap::{Ledger, Uncounted};
 
 impl Core {
@@ -69,33 +68,5 @@ impl Core {
             connection_returned_to_pool: self.counts.connection_returned_to_pool,
             discarded_error_during_cleanup: self.counts.discarded_error_during_cleanup,
         }
-    }
-
-    /// The counted connections with their places, in the order in which they came to them.
-    pub fn connections(&self) -> &[Connection]
-        ensures { result.now ≡ self.now.connections }
-    {
-        &self.connections
-    }
-
-    /// The live requests, from the oldest on.
-    pub fn requests(&self) -> &[Request]
-        ensures { result.now ≡ self.now.requests }
-    {
-        self.requests.as_slice()
-    }
-
-    /// Whether the pool is closed.
-    pub fn is_closed(&self) -> bool
-        ensures { result ≡ self.now.closed }
-    {
-        self.closed
-    }
-
-    /// For how many more connections there is room.
-    pub fn spare(&self) -> u64
-        ensures { result ≡ self.now.spare }
-    {
-        self.spare
     }
 }

@@ -1,0 +1,106 @@
+-- What the layer above reads of a pool: where the connection of a number is, and what the request of an age holds.
+use Rattle.std.specs.Prelude.{◌≡◌, ℕ, ◌≤◌, Bool, true, false, Option, Some, None, option_map, find}
+use Rattle.my_pool_core.specs.declared.connection.Place.{Place}
+use Rattle.my_pool_core.specs.declared.connection.Place.TheVariants.{Idle, Leased, Connecting, Checking, Returned, Cleaning, Resetting, Closing}
+use Rattle.my_pool_core.specs.declared.connection.PlaceKind.{PlaceKind}
+use Rattle.my_pool_core.specs.declared.connection.PlaceKind.TheVariants as kinds
+use Rattle.my_pool_core.specs.declared.request.Standing.{Standing}
+use Rattle.my_pool_core.specs.declared.request.Standing.TheVariants.{Asks, Waits, Woken, Dials, Checks}
+use Rattle.my_pool_core.specs.Lists.{found_is}
+use Rattle.my_pool_core.specs.Connections.{has_number, is_idle_place, is_leased_place, is_connecting_place, is_checking_place, is_returned_place, is_cleaning_place, is_resetting_place, is_closing_place, mark_of_place}
+use Rattle.my_pool_core.specs.Requests.{has_age}
+use Rattle.my_pool_core.specs.State.{State}
+
+-- where the connection of a number is; none where it isn't counted
+abbrev pub place_at : ℕ → State → Option Place
+place_at number s = option_map (λ c. c.place) (find (has_number number) s.connections)
+
+-- a place at which neither a caller nor a request has the connection: the layer above keeps it
+abbrev pub is_home_place : Place → Bool
+is_home_place (Idle times) = true
+is_home_place Leased = false
+is_home_place Connecting = false
+is_home_place Checking = false
+is_home_place (Returned marked) = true
+is_home_place (Cleaning marked) = true
+is_home_place Resetting = true
+is_home_place Closing = true
+
+-- a place at which a request has it
+abbrev pub is_held_place : Place → Bool
+is_held_place Connecting = true
+is_held_place Checking = true
+is_held_place _ = false
+
+-- a place at which its cleaning, its reset or its close goes on
+abbrev pub is_working_place : Place → Bool
+is_working_place (Cleaning marked) = true
+is_working_place Resetting = true
+is_working_place Closing = true
+is_working_place _ = false
+
+-- whether the connection of a number is at such a place
+abbrev pub is_home : ℕ → State → Bool
+is_home number s = found_is is_home_place (place_at number s)
+
+abbrev pub is_held : ℕ → State → Bool
+is_held number s = found_is is_held_place (place_at number s)
+
+abbrev pub is_working : ℕ → State → Bool
+is_working number s = found_is is_working_place (place_at number s)
+
+-- whether it is leased
+abbrev pub is_lease : ℕ → State → Bool
+is_lease number s = found_is is_leased_place (place_at number s)
+
+-- whether it is marked
+abbrev pub mark_at : ℕ → State → Bool
+mark_at number s = found_is mark_of_place (place_at number s)
+
+-- whether a place is of a kind
+abbrev pub is_kind : PlaceKind → Place → Bool
+is_kind kinds.Idle place = is_idle_place place
+is_kind kinds.Leased place = is_leased_place place
+is_kind kinds.Connecting place = is_connecting_place place
+is_kind kinds.Checking place = is_checking_place place
+is_kind kinds.Returned place = is_returned_place place
+is_kind kinds.Cleaning place = is_cleaning_place place
+is_kind kinds.Resetting place = is_resetting_place place
+is_kind kinds.Closing place = is_closing_place place
+
+-- whether the connection of a number is at a place of a kind
+abbrev pub is_at : PlaceKind → ℕ → State → Bool
+is_at kind number s = found_is (is_kind kind) (place_at number s)
+
+-- the least such number that isn't below another one
+pub record IsNextAt (kind : PlaceKind) (from number : ℕ) (s : State) : Type 0 where
+  pub above : from ≤ number
+  pub there : is_at kind number s ≡ true
+  pub least : (other : ℕ) → from ≤ other → is_at kind other s ≡ true → number ≤ other
+
+-- there is none
+pub record IsNoneAt (kind : PlaceKind) (from : ℕ) (s : State) : Type 0 where
+  pub none : (other : ℕ) → from ≤ other → is_at kind other s ≡ false
+
+-- what a live request holds: nothing, a connection that it makes, or one that it looks at
+pub data Token : Type 0 where
+  Free : Token
+  Making : (number : ℕ) → Token
+  Looking : (number : ℕ) → Token
+
+abbrev pub token_of : Standing → Token
+token_of Asks = Free
+token_of Waits = Free
+token_of Woken = Free
+token_of (Dials number) = Making number
+token_of (Checks number) = Looking number
+
+-- what the request of an age holds; none where it isn't live
+abbrev pub token : ℕ → State → Option Token
+token age s = option_map (λ r. token_of r.standing) (find (has_age age) s.requests)
+
+-- the number of the connection
+abbrev pub number_in : Token → Option ℕ
+number_in Free = None
+number_in (Making number) = Some number
+number_in (Looking number) = Some number

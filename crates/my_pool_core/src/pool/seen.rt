@@ -1,0 +1,87 @@
+//! What is seen of a pool.
+
+ghost use Rattle.std.specs.Prelude.{◌≡◌, MatchOption, None, find};
+ghost use Rattle.my_pool_core.specs.Connections.{has_number};
+ghost use Rattle.my_pool_core.specs.Requests.{has_age};
+ghost use Rattle.my_pool_core.specs.Owners.{IsNextAt, IsNoneAt};
+ghost use Rattle.my_pool_core.specs.Next.{least_at};
+ghost use Rattle.my_pool_core.specs.Sound.{IsSound, IsRising};
+ghost use Rattle.my_pool_core.specs.Wakes.{waits, oldest_waiting};
+
+use super::Core;
+use crate::connection::{Connection, PlaceKind, connection_of, next_at};
+use crate::request::Request;
+use my_wait_heap::Uncounted;
+
+impl Core {
+    /// The state of a pool is sound. This does nothing; it is for callers whose proof needs that fact.
+    pub fn is_sound(&self)
+        ensures { IsSound self.now }
+    {
+        let _ = &self.limits;
+    }
+
+    /// The age of the oldest request that waits, which is the one that the next event that wakes one wakes.
+    pub fn oldest_waiting(&self) -> Option<u64>
+        ensures { result ≡ oldest_waiting self.now }
+    {
+        self.requests.oldest()
+    }
+
+    /// Whether the request of an age waits.
+    pub fn is_waiting(&self, age: u64) -> bool
+        ensures { result ≡ waits age self.now }
+    {
+        self.requests.is_waiting(age)
+    }
+
+    /// The live request of an age.
+    pub fn live_request(&self, age: u64) -> Option<Request>
+        ensures { result ≡ find (has_age age) self.now.requests }
+    {
+        self.requests.find(age, &mut Uncounted)
+    }
+
+    /// The counted connection of a number.
+    pub fn connection(&self, number: u64) -> Option<Connection>
+        ensures { result ≡ find (has_number number) self.now.connections }
+    {
+        connection_of(&self.connections, number)
+    }
+
+    /// The least number, not below `from`, of a connection at a place of a kind.
+    pub fn next_at(&self, kind: PlaceKind, from: u64) -> Option<u64>
+        ensures { MatchOption result (IsNoneAt kind from self.now) (λ number. IsNextAt kind from number self.now) }
+    {
+        next_at(&self.connections, kind, from)
+    }
+
+    /// The counted connections with their places, in the order in which they came to them.
+    pub fn connections(&self) -> &[Connection]
+        ensures { result.now ≡ self.now.connections }
+    {
+        &self.connections
+    }
+
+    /// The live requests, from the oldest on.
+    pub fn requests(&self) -> &[Request]
+        ensures list { result.now ≡ self.now.requests }
+        ensures rising { IsRising 0 result.now }
+    {
+        self.requests.as_slice()
+    }
+
+    /// Whether the pool is closed.
+    pub fn is_closed(&self) -> bool
+        ensures { result ≡ self.now.closed }
+    {
+        self.closed
+    }
+
+    /// For how many more connections there is room.
+    pub fn spare(&self) -> u64
+        ensures { result ≡ self.now.spare }
+    {
+        self.spare
+    }
+}

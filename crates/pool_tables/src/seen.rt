@@ -1,0 +1,46 @@
+//! What a pool's calls show, beside a look through its lists.
+
+use my_pool_core::{Core, PlaceKind};
+
+/// The least number, not below `from`, that a look through the connections finds at a kind of place.
+fn scanned_next(core: &Core, kind: PlaceKind, from: u64) -> Option<u64> {
+    let mut next: Option<u64> = None;
+    for connection in core.connections() {
+        let number = connection.number;
+        let lesser = match next {
+            Some(found) => number < found,
+            None => true,
+        };
+        if connection.place.is(kind) && from <= number && lesser {
+            next = Some(number);
+        }
+    }
+    next
+}
+
+/// Whether the calls by age and by number return what a look through the lists finds.
+pub fn calls_agree(core: &Core) -> bool {
+    let oldest = core.requests().iter().find(|r| r.is_waiting()).map(|r| r.age);
+    if core.oldest_waiting() != oldest {
+        return false;
+    }
+    for request in core.requests() {
+        if core.live_request(request.age) != Some(*request)
+            || core.is_waiting(request.age) != request.is_waiting()
+        {
+            return false;
+        }
+    }
+    for connection in core.connections() {
+        if core.connection(connection.number) != Some(*connection) {
+            return false;
+        }
+        for kind in [PlaceKind::Idle, PlaceKind::Leased, PlaceKind::Cleaning, PlaceKind::Closing] {
+            let from = connection.number;
+            if core.next_at(kind, from) != scanned_next(core, kind, from) {
+                return false;
+            }
+        }
+    }
+    true
+}
