@@ -1,0 +1,2 @@
+pub mod LoginLaws
+pub mod Sendable

@@ -1,0 +1,183 @@
+//! The payloads that a server sends for an answer of its script.
+
+ghost use Rattle.std.specs.Prelude.{◌≡◌, ◌<◌, ◌≤◌, ◌^◌, ◌∷◌, [], ◌++◌, IfOk, OnOk, length, map, IsTrue, true};
+ghost use Rattle.my_reply.specs.Server.{server_bytes};
+ghost use Rattle.my_server.specs.Answer.{AreFew, CanSend, close_payloads, column_of, column_payload, end_payload, eof_payload, ok_of, reply_payloads, row_payload, set_payloads, set_status, sets_payloads};
+
+use crate::script::{ReplyAnswer, ServerSet};
+use my_flags::StatusFlags;
+use my_frame::writing::{put_u8, put_u16};
+use my_frame::{Blob, Copied, Listed, NoMemory};
+use my_reply::{Column, OkPacket, ServerPacket, write_server};
+use std::alloc::Global;
+
+/// The status of a session that is in no transaction, with nothing more to come.
+pub const DONE: StatusFlags = StatusFlags(StatusFlags::SERVER_STATUS_AUTOCOMMIT.0);
+
+/// The same with another set to come.
+pub const FURTHER: StatusFlags = StatusFlags(
+    StatusFlags::SERVER_STATUS_AUTOCOMMIT.0 | StatusFlags::SERVER_MORE_RESULTS_EXISTS.0,
+);
+
+/// An OK with this status and nothing else to say.
+pub fn ok_of(alloc: Global, status: StatusFlags) -> OkPacket
+    ensures { result ≡ ok_of status }
+{
+    OkPacket {
+        affected: 0,
+        insert: 0,
+        status,
+        warnings: 0,
+        info: Blob::new(alloc),
+    }
+}
+
+fn column_of(alloc: Global, name: &Blob) -> Result<Column, NoMemory>
+    ensures { IfOk result (λ column. column ≡ column_of name.now) }
+{
+    Ok(Column {
+        schema: Blob::new(alloc),
+        table: Blob::new(alloc),
+        org_table: Blob::new(alloc),
+        name: name.copy(alloc)?,
+        org_name: Blob::new(alloc),
+        charset: 45,
+        length: 1_024,
+        column_type: 253,
+        flags: 0,
+        decimals: 0,
+    })
+}
+
+/// The payload of a packet.
+pub fn written(alloc: Global, packet: &ServerPacket) -> Result<Blob, NoMemory>
+    ensures { IfOk result (λ payload. payload ≡ server_bytes packet.now) }
+{
+    Ok(Blob::from(write_server(alloc, packet)?))
+}
+
+fn eof_payload(alloc: Global, status: StatusFlags) -> Result<Blob, NoMemory>
+    ensures { IfOk result (λ payload. payload ≡ eof_payload status) }
+{
+    let mut payload = Vec::new(alloc);
+    put_u8(&mut payload, 0xFE)?;
+    put_u16(&mut payload, 0)?;
+    put_u16(&mut payload, status.0)?;
+    Ok(Blob::from(payload))
+}
+
+// The end of a set: an OK where EOF packets are deprecated, else an EOF.
+fn end_payload(alloc: Global, deprecates: bool, status: StatusFlags) -> Result<Blob, NoMemory>
+    ensures { IfOk result (λ payload. payload ≡ end_payload deprecates status) }
+{
+    if deprecates {
+        written(alloc, &ServerPacket::End(ok_of(alloc, status)))
+    } else {
+        eof_payload(alloc, status)
+    }
+}
+
+fn add_columns(alloc: Global, payloads: &mut Listed<Blob>, names: &[Blob]) -> Result<(), NoMemory>
+    ensures { OnOk result (payloads.new ≡ payloads.old ++ map column_payload names.now) }
+{
+    for name in names {
+        let column = column_of(alloc, name)?;
+        payloads.push(written(alloc, &ServerPacket::Column(column))?)?;
+    }
+    Ok(())
+}
+
+// The EOF after the columns, where EOF packets aren't deprecated.
+fn add_close(
+    alloc: Global,
+    payloads: &mut Listed<Blob>,
+    deprecates: bool,
+    status: StatusFlags,
+) -> Result<(), NoMemory>
+    ensures { OnOk result (payloads.new ≡ payloads.old ++ close_payloads deprecates status) }
+{
+    if !deprecates {
+        payloads.push(eof_payload(alloc, status)?)?;
+    }
+    Ok(())
+}
+
+fn add_rows(
+    alloc: Global,
+    payloads: &mut Listed<Blob>,
+    rows: &[Listed<Option<Blob>>],
+) -> Result<(), NoMemory>
+    ensures { OnOk result (payloads.new ≡ payloads.old ++ map row_payload rows.now) }
+{
+    for row in rows {
+        let packet = ServerPacket::TextRow(row.copy(alloc)?);
+        payloads.push(written(alloc, &packet)?)?;
+    }
+    Ok(())
+}
+
+fn add_set(
+    alloc: Global,
+    payloads: &mut Listed<Blob>,
+    deprecates: bool,
+    status: StatusFlags,
+    set: &ServerSet,
+) -> Result<(), NoMemory>
+    requires { length set.now.names < 2 ^ 16 }
+    ensures { OnOk result (payloads.new ≡ payloads.old ++ set_payloads deprecates status set.now) }
+{
+    let count = ServerPacket::Count(set.names.len() as u16);
+    payloads.push(written(alloc, &count)?)?;
+    add_columns(alloc, payloads, set.names.as_slice())?;
+    add_close(alloc, payloads, deprecates, status)?;
+    add_rows(alloc, payloads, set.rows.as_slice())?;
+    payloads.push(end_payload(alloc, deprecates, status)?)
+}
+
+fn set_status(left: usize) -> StatusFlags
+    ensures { result ≡ set_status left }
+{
+    if left == 0 { DONE } else { FURTHER }
+}
+
+fn add_sets(
+    alloc: Global,
+    payloads: &mut Listed<Blob>,
+    deprecates: bool,
+    sets: &[ServerSet],
+) -> Result<(), NoMemory>
+    requires { AreFew sets.now }
+    ensures { OnOk result (payloads.new ≡ payloads.old ++ sets_payloads deprecates sets.now) }
+{
+    for (index, set) in sets.iter().enumerate() {
+        let status = set_status(sets.len() - 1 - index);
+        add_set(alloc, payloads, deprecates, status, set)?;
+    }
+    Ok(())
+}
+
+/// The payloads of an answer, to a client with which EOF packets are deprecated or are not.
+pub fn reply_payloads(
+    alloc: Global,
+    deprecates: bool,
+    answer: &ReplyAnswer,
+) -> Result<Listed<Blob>, NoMemory>
+    requires { CanSend answer.now }
+    ensures { IfOk result (λ payloads. payloads ≡ reply_payloads deprecates answer.now) }
+{
+    let mut payloads = Listed::new(alloc);
+    match answer {
+        ReplyAnswer::Fine(ok) => {
+            let packet = ServerPacket::Fine(ok.copy(alloc)?);
+            payloads.push(written(alloc, &packet)?)?;
+        }
+        ReplyAnswer::Refuse(err) => {
+            let packet = ServerPacket::Refuse(err.copy(alloc)?);
+            payloads.push(written(alloc, &packet)?)?;
+        }
+        ReplyAnswer::Sets(sets) => {
+            add_sets(alloc, &mut payloads, deprecates, sets.as_slice())?;
+        }
+    }
+    Ok(payloads)
+}
