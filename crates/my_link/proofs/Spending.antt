@@ -8,7 +8,7 @@ use Rattle.my_link.specs.declared.link.WriteItem.{WriteItem}
 use Rattle.my_link.specs.declared.link.WriteItem.TheVariants as puts
 use Rattle.my_link.specs.Link.{Told, Gave, put_back, after_hold, after_fault, after_end, after_write, taken_of, after_taken, after_write_hold, after_write_fault}
 use Rattle.my_link.specs.Looks.{Looks}
-use Rattle.my_link.specs.Moves.{Move, Received, Sent, Moves, Leads, received_by, sent_by, Stop, Nothing, ReadHold, WriteHold, ReadFault, WriteFault, LinkEnd, StopsAt, faults_at, IsUsed, Receives, Sends}
+use Rattle.my_link.specs.Moves.{Move, Received, Sent, Moves, Leads, received_by, sent_by, Stop, NoStop, ReadHold, WriteHold, ReadFault, WriteFault, LinkEnd, StopsAt, faults_at, IsUsed, Receives, Sends}
 use Rattle.my_link.specs.Spent.{spelled, fails_in, write_fails_in, IsLeft, Whole, Part, Spent, ReadsSpent, FaultsSpent, HasGot, IsSpent}
 
 -- unchanged, where it is told
@@ -198,7 +198,7 @@ module _ (plan : Option (List ReadItem)) (rules : Option (List WriteItem)) where
 
   -- what a use stopped at
   stops_spent : (stop : Stop) (x y : Looks) (sent received : List ℕ) (f : ℕ) → StopsAt stop x y → IsSpent plan rules x sent received f → IsSpent plan rules y sent received (f + faults_at stop)
-  stops_spent Nothing x y sent received f e s =
+  stops_spent NoStop x y sent received f e s =
       let same : f + 0 ≡ f = omega arith in
       subst (λ (n : ℕ). IsSpent plan rules y sent received n) (sym same) (subst (λ (z : Looks). IsSpent plan rules z sent received f) (sym e) s)
   stops_spent ReadHold x y sent received f r s = record {

@@ -101,7 +101,7 @@ sent_by (Sent offered bytes ∷ ms) = sent_by ms ++ bytes
 
 -- At what a use of a link stopped: at nothing of the link, at a read or a write that wasn't ready or failed, or at the end.
 pub data Stop : Type 0 where
-  Nothing : Stop
+  NoStop : Stop
   ReadHold : Stop
   WriteHold : Stop
   ReadFault : Stop
@@ -109,7 +109,7 @@ pub data Stop : Type 0 where
   LinkEnd : Stop
 
 abbrev pub StopsAt : Stop → Looks → Looks → Type 0
-StopsAt Nothing x y = y ≡ x
+StopsAt NoStop x y = y ≡ x
 StopsAt ReadHold x y = ReadHolds x y
 StopsAt WriteHold x y = WriteHolds x y
 StopsAt ReadFault x y = ReadFails x y
@@ -117,7 +117,7 @@ StopsAt WriteFault x y = WriteFails x y
 StopsAt LinkEnd x y = ReadEnds x y
 
 abbrev pub faults_at : Stop → ℕ
-faults_at Nothing = 0
+faults_at NoStop = 0
 faults_at ReadHold = 0
 faults_at WriteHold = 0
 faults_at ReadFault = 1
@@ -125,7 +125,7 @@ faults_at WriteFault = 1
 faults_at LinkEnd = 0
 
 abbrev pub holds_at : Stop → ℕ
-holds_at Nothing = 0
+holds_at NoStop = 0
 holds_at ReadHold = 1
 holds_at WriteHold = 1
 holds_at ReadFault = 0
@@ -133,7 +133,7 @@ holds_at WriteFault = 0
 holds_at LinkEnd = 0
 
 abbrev pub ends_at : Stop → ℕ
-ends_at Nothing = 0
+ends_at NoStop = 0
 ends_at ReadHold = 0
 ends_at WriteHold = 0
 ends_at ReadFault = 0
