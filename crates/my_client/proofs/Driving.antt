@@ -1,8 +1,8 @@
 -- A poll, with what it came to kept.
 use Rattle.std.proofs.Common.{◌≡◌, inl, inr, Some, false, refl, sym, ap, subst}
 use Rattle.my_grammar.specs.declared.login.Login.{Login}
-use Rattle.my_session.specs.declared.call.Task.{Task}
-use Rattle.my_session.specs.declared.call.Task.TheVariants.{Nothing}
+use Rattle.my_session.specs.declared.task.Task.{Task}
+use Rattle.my_session.specs.declared.task.Task.TheVariants.{Nothing}
 use Rattle.my_session.specs.Fits.{is_begun}
 use Rattle.my_session.specs.Steps.{StepIs}
 use Rattle.my_session.specs.declared.answer.SessionStep.{SessionStep}

@@ -5,13 +5,14 @@ pub mod Readying
 pub mod Stepping
 use Rattle.std.proofs.Common.{ℕ, ◌≡◌, List, [], ◌∷◌, ◌++◌, true, false, cond, Option, Some, None, refl, sym, ap, ◌∙◌, subst}
 use Rattle.my_grammar.specs.declared.login.Login.{Login}
-use Rattle.my_session.specs.declared.call.Call.{Call}
-use Rattle.my_session.specs.declared.call.CallKind.{CallKind}
-use Rattle.my_session.specs.declared.call.CallKind.TheVariants.{Connect, Query, NextRow, DropResult, Ping, Quit}
-use Rattle.my_session.specs.declared.call.LinkFault.{LinkFault}
-use Rattle.my_session.specs.Calls.{kind_of, call_of}
+use Rattle.my_reading.specs.declared.call.Call.{Call}
+use Rattle.my_reading.specs.declared.call.CallKind.{CallKind}
+use Rattle.my_reading.specs.declared.call.CallKind.TheVariants.{Connect, Query, NextRow, DropResult, Ping, Quit}
+use Rattle.my_session.specs.declared.task.LinkFault.{LinkFault}
+use Rattle.my_reading.specs.Calls.{kind_of, call_of}
 use Rattle.my_session.specs.Fits.{may_be}
-use Rattle.my_session.specs.History.{History, Made, Told, ToldReady, ToldRow, ToldEnd, ToldNone, ToldError, Dropped, answered, noted, passing, gone, took, ending}
+use Rattle.my_reading.specs.Told.{Told, ToldReady, ToldRow, ToldEnd, ToldNone, ToldError, Dropped}
+use Rattle.my_session.specs.History.{History, Made, answered, noted, passing, gone, took, ending}
 use Rattle.my_session.specs.Passed.{IsItem, ArePassed}
 use Rattle.my_session.specs.Seen.{Seen}
 use Rattle.my_session.specs.Stands.{Stands, call_with}

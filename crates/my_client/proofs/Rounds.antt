@@ -3,7 +3,7 @@ use Rattle.std.proofs.Common.{◌≡◌, inl, inr, ℕ, ◌+◌, ◌-◌, ◌≤
 use Rattle.my_frame.specs.declared.limits.TheConstants.{MOST_TAKEN}
 use Rattle.std.proofs.lemmas.List.{append_assoc, append-nil, length-append}
 use Rattle.my_grammar.specs.declared.login.Login.{Login}
-use Rattle.my_session.specs.Calls.{is_open}
+use Rattle.my_session.specs.Tasks.{is_open}
 use Rattle.my_session.specs.Seen.{Seen}
 use Rattle.my_link.specs.Met.{nothing_met}
 use Rattle.my_link.specs.Moves.{Stop, NoStop, ReadHold, WriteHold, ReadFault, WriteFault, LinkEnd, StopsAt, faults_at, holds_at, ends_at, received_by, sent_by}

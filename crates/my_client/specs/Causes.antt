@@ -4,18 +4,19 @@ use Rattle.my_frame.specs.declared.limits.TheConstants.{MOST_TAKEN}
 use Rattle.my_grammar.specs.declared.login.Login.{Login}
 use Rattle.my_session.specs.declared.answer.SessionStep.{SessionStep}
 use Rattle.my_session.specs.declared.answer.SessionStep.TheVariants.{Send, Need}
-use Rattle.my_session.specs.declared.error.Error.{Error}
-use Rattle.my_session.specs.declared.error.Error.TheVariants as errors
-use Rattle.my_session.specs.declared.error.IoError.{IoError}
-use Rattle.my_session.specs.declared.error.IoError.TheVariants as ios
-use Rattle.my_session.specs.declared.error.IoKind.{IoKind}
-use Rattle.my_session.specs.declared.error.IoKind.TheVariants as kinds
-use Rattle.my_session.specs.Calls.{kind_of}
+use Rattle.my_reading.specs.declared.error.Error.{Error}
+use Rattle.my_reading.specs.declared.error.Error.TheVariants as errors
+use Rattle.my_reading.specs.declared.error.IoError.{IoError}
+use Rattle.my_reading.specs.declared.error.IoError.TheVariants as ios
+use Rattle.my_reading.specs.declared.error.IoKind.{IoKind}
+use Rattle.my_reading.specs.declared.error.IoKind.TheVariants as kinds
+use Rattle.my_reading.specs.Calls.{kind_of}
 use Rattle.my_session.specs.Fits.{may_be}
-use Rattle.my_session.specs.declared.answer.Answer.{Answer}
+use Rattle.my_reading.specs.declared.answer.Answer.{Answer}
 use Rattle.my_session.specs.Causes.{Because, AnswerCause}
 use Rattle.my_session.specs.Complete.{FailsOutside}
-use Rattle.my_session.specs.History.{History, told}
+use Rattle.my_reading.specs.Told.{told}
+use Rattle.my_session.specs.History.{History}
 use Rattle.my_session.specs.Seen.{Seen}
 use Rattle.my_session.specs.Steps.{StepIs}
 use Rattle.my_client.specs.declared.poll.After.{After}

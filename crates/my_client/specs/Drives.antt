@@ -10,7 +10,8 @@ use Rattle.my_client.specs.declared.conn.Conn.{Conn}
 use Rattle.my_link.specs.declared.met.Met.{Met}
 use Rattle.my_client.specs.declared.tape.Said.{Said}
 use Rattle.my_client.specs.declared.tape.Said.TheVariants as says
-use Rattle.my_session.specs.History.{History, Dropped, answered}
+use Rattle.my_reading.specs.Told.{Dropped}
+use Rattle.my_session.specs.History.{History, answered}
 use Rattle.my_session.specs.Stands.{Stands}
 use Rattle.my_session.specs.Tables.{closes_when_cancelled}
 use Rattle.my_client.specs.Causes.{IsPolled}

@@ -1,9 +1,9 @@
 -- What a turn of a poll does.
 use Rattle.std.specs.Prelude.{ℕ, ◌≡◌, ◌+◌, ◌<◌, ◌≤◌, ◌⊎◌, List, ◌++◌, length, Option, Some, None, Bool, true, false}
 use Rattle.my_frame.specs.declared.limits.TheConstants.{MOST_TAKEN}
-use Rattle.my_session.specs.declared.call.Task.TheVariants.{Nothing}
+use Rattle.my_session.specs.declared.task.Task.TheVariants.{Nothing}
 use Rattle.my_session.specs.declared.answer.SessionStep.TheVariants.{Send, Need}
-use Rattle.my_session.specs.Calls.{is_open}
+use Rattle.my_session.specs.Tasks.{is_open}
 use Rattle.my_session.specs.Seen.{Seen}
 use Rattle.my_session.specs.Steps.{StepIs}
 use Rattle.my_client.specs.declared.poll.After.{After}

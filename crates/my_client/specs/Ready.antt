@@ -1,9 +1,9 @@
 -- Where a call may begin on a connection.
 use Rattle.std.specs.Prelude.{◌≡◌, List, Option, None, Some, is_some, false, true}
 use Rattle.my_grammar.specs.declared.login.Login.{Login}
-use Rattle.my_session.specs.declared.answer.Answer.TheVariants as answers
-use Rattle.my_session.specs.declared.call.Task.TheVariants.{Nothing}
-use Rattle.my_session.specs.Calls.{kind_of, is_connect}
+use Rattle.my_reading.specs.declared.answer.Answer.TheVariants as answers
+use Rattle.my_session.specs.declared.task.Task.TheVariants.{Nothing}
+use Rattle.my_reading.specs.Calls.{kind_of, is_connect}
 use Rattle.my_session.specs.Fits.{is_begun}
 use Rattle.my_session.specs.Entries.{has_connected}
 use Rattle.my_session.specs.History.{Made, has_closed}

@@ -1,17 +1,18 @@
 -- What holds of a connection's session between and after the turns of a poll.
 use Rattle.std.specs.Prelude.{ℕ, ◌≡◌, ◌⊎◌, Some, None, true, false}
 use Rattle.my_grammar.specs.declared.login.Login.{Login}
-use Rattle.my_session.specs.declared.answer.Answer.{Answer}
+use Rattle.my_reading.specs.declared.answer.Answer.{Answer}
 use Rattle.my_session.specs.declared.answer.SessionStep.TheVariants.{Fault}
-use Rattle.my_session.specs.declared.error.Error.{Error}
-use Rattle.my_session.specs.declared.error.Error.TheVariants as errors
-use Rattle.my_session.specs.declared.error.IoError.{IoError}
-use Rattle.my_session.specs.Errors.{unexpected_eof}
+use Rattle.my_reading.specs.declared.error.Error.{Error}
+use Rattle.my_reading.specs.declared.error.Error.TheVariants as errors
+use Rattle.my_reading.specs.declared.error.IoError.{IoError}
+use Rattle.my_reading.specs.Errors.{unexpected_eof}
 use Rattle.my_session.specs.Steps.{Steps, with_end}
-use Rattle.my_session.specs.declared.call.Task.TheVariants.{Nothing}
-use Rattle.my_session.specs.Calls.{kind_of, fault_in}
+use Rattle.my_session.specs.declared.task.Task.TheVariants.{Nothing}
+use Rattle.my_reading.specs.Calls.{kind_of}
+use Rattle.my_session.specs.Tasks.{fault_in}
 use Rattle.my_session.specs.Fits.{may_be, is_begun, FaultFits}
-use Rattle.my_session.specs.History.{told}
+use Rattle.my_reading.specs.Told.{told}
 use Rattle.my_session.specs.Seen.{Seen}
 use Rattle.my_client.specs.declared.poll.After.{After}
 use Rattle.my_client.specs.declared.poll.After.TheVariants as after

@@ -1,6 +1,7 @@
 //! A connection: a session on its link.
 ghost use Rattle.std.specs.Prelude.{◌≡◌, Some, is_some, true, IfOk};
-ghost use Rattle.my_session.specs.Calls.{is_connect, is_open, kind_of};
+ghost use Rattle.my_reading.specs.Calls.{is_connect, kind_of};
+ghost use Rattle.my_session.specs.Tasks.{is_open};
 ghost use Rattle.my_session.specs.History.{beginning};
 ghost use Rattle.my_session.specs.Stands.{Stands};
 ghost use Rattle.my_session.specs.Steps.{fresh};
@@ -14,8 +15,9 @@ use crate::tape::{DoneCall, OpenCall, ask};
 use my_frame::NoMemory;
 use my_link::Link;
 use my_opts::Opts;
+use my_reading::Call;
 use my_reply::OkPacket;
-use my_session::{Call, Session};
+use my_session::Session;
 use std::alloc::Global;
 
 /// A connection: a session on its link, with what it did so far.

@@ -1,6 +1,6 @@
 //! Polls a connection's open call, and keeps what it came to on the connection's tape.
 ghost use Rattle.std.specs.Prelude.{◌≡◌, option_map, true, IfOk};
-ghost use Rattle.my_session.specs.Calls.{is_open};
+ghost use Rattle.my_session.specs.Tasks.{is_open};
 ghost use Rattle.my_client.specs.Drives.{EachDrives, EachRows};
 ghost use Rattle.my_client.specs.Ready.{RestsBy};
 

@@ -1,9 +1,9 @@
 //! Polls a connection's open call until it returns or the link isn't ready.
 ghost use Rattle.std.specs.Prelude.{◌≡◌, ◌≢◌, ◌+◌, ◌<◌, ◌≤◌, true, false, IfOk, OnOk};
-ghost use Rattle.my_session.specs.Calls.{is_open};
+ghost use Rattle.my_session.specs.Tasks.{is_open};
 ghost use Rattle.my_session.specs.Ends.{Fails};
 ghost use Rattle.my_session.specs.Steps.{StepIs, with_end};
-ghost use Rattle.my_session.specs.declared.call.Task.TheVariants.{Nothing};
+ghost use Rattle.my_session.specs.declared.task.Task.TheVariants.{Nothing};
 ghost use Rattle.my_client.specs.Conn.{seen_by};
 ghost use Rattle.my_client.specs.Poll.{TurnIs, took_by, is_full, met_by, came_to, Polls};
 ghost use Rattle.my_client.specs.Rests.{FailLeaves, SendLeaves, ReceiveLeaves, TurnLeaves, PollLeaves};
@@ -12,7 +12,8 @@ use crate::conn::Conn;
 use my_frame::NoMemory;
 use my_frame::limits::MOST_TAKEN;
 use my_link::{Link, Met, ReadStep, WriteStep};
-use my_session::{Answer, Error, LinkFault, SessionStep};
+use my_reading::{Answer, Error};
+use my_session::{LinkFault, SessionStep};
 use std::alloc::Global;
 
 /// What a poll came to.

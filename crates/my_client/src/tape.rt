@@ -1,6 +1,6 @@
 //! What a connection keeps of its calls.
 ghost use Rattle.std.specs.Prelude.{◌≡◌, option_map, true, IfOk, OnOk};
-ghost use Rattle.my_session.specs.Calls.{is_open};
+ghost use Rattle.my_session.specs.Tasks.{is_open};
 ghost use Rattle.my_session.specs.Machine.{dropped};
 ghost use Rattle.my_client.specs.Conn.{kept_of};
 ghost use Rattle.my_client.specs.Drives.{EachRows, EachEnded, EachKept, EachGathered, CancelStands, closed_by};
@@ -10,7 +10,7 @@ ghost use Rattle.my_client.specs.declared.tape.Said.TheVariants as says;
 use crate::conn::Conn;
 use crate::poll::After;
 use my_frame::NoMemory;
-use my_session::{Answer, Call, Error};
+use my_reading::{Answer, Call, Error};
 use my_value::Row;
 use std::alloc::Global;
 

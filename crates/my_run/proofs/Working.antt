@@ -9,7 +9,7 @@ pub mod Readying
 pub mod Resuming
 use Rattle.std.proofs.Common.{◌≡◌, ◌<◌, ◌⊎◌, inl, inr, ℕ, zero, suc, List, [], ◌∷◌, Option, Some, None, length, get_or, slice_set, map, false, refl, sym, ap, ◌∙◌, subst, arith}
 use Rattle.my_grammar.specs.declared.login.Login.{Login}
-use Rattle.my_session.specs.declared.call.Call.{Call}
+use Rattle.my_reading.specs.declared.call.Call.{Call}
 use Rattle.my_link.specs.Looks.{Looks}
 use Rattle.my_world.specs.World.{Plans}
 use Rattle.my_script.specs.declared.step.Step.{Step}

@@ -2,8 +2,8 @@
 use Rattle.std.specs.Prelude.{◌≡◌, ◌≢◌, ◌≤◌, ℕ, List, Option, Some, None, length, map, true, false}
 use Rattle.my_grammar.specs.declared.login.Login.{Login}
 use Rattle.my_link.specs.Looks.{Looks}
-use Rattle.my_session.specs.Calls.{is_connect, kind_of}
-use Rattle.my_session.specs.declared.call.Call.TheVariants as calls
+use Rattle.my_reading.specs.Calls.{is_connect, kind_of}
+use Rattle.my_reading.specs.declared.call.Call.TheVariants as calls
 use Rattle.my_session.specs.Fits.{is_begun}
 use Rattle.my_session.specs.Seen.{Seen}
 use Rattle.my_world.specs.World.{Plans, SameFrom}

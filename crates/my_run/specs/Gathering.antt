@@ -2,8 +2,8 @@
 use Rattle.std.specs.Prelude.{ℕ, ◌≡◌, ◌≢◌, List, [], ◌∷◌, ◌++◌, Option, Some, unwrap_or, true, false}
 use Rattle.my_value.specs.RowParts.{RowParts}
 use Rattle.my_grammar.specs.declared.login.Login.{Login}
-use Rattle.my_session.specs.declared.answer.Answer.TheVariants as answers
-use Rattle.my_session.specs.declared.call.Call.TheVariants.{NextRow}
+use Rattle.my_reading.specs.declared.answer.Answer.TheVariants as answers
+use Rattle.my_reading.specs.declared.call.Call.TheVariants.{NextRow}
 use Rattle.my_session.specs.Fits.{is_begun}
 use Rattle.my_session.specs.History.{History, began}
 use Rattle.my_session.specs.Seen.{Seen}

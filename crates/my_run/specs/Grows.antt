@@ -3,18 +3,18 @@ use Rattle.std.specs.Prelude.{ℕ, ◌≡◌, ◌+◌, List, [], ◌∷◌, ◌+
 use Rattle.my_handshake.specs.Version.{version_of}
 use Rattle.my_value.specs.RowParts.{RowParts}
 use Rattle.my_grammar.specs.declared.login.Login.{Login}
-use Rattle.my_session.specs.declared.answer.Answer.{Answer}
-use Rattle.my_session.specs.declared.answer.Answer.TheVariants as answers
-use Rattle.my_session.specs.declared.call.Call.{Call}
-use Rattle.my_session.specs.declared.call.Call.TheVariants.{Query, NextRow, DropResult, Ping, Quit}
-use Rattle.my_session.specs.Calls.{kind_of, is_connect}
-use Rattle.my_session.specs.Errors.{connection_closed, io_error}
+use Rattle.my_reading.specs.declared.answer.Answer.{Answer}
+use Rattle.my_reading.specs.declared.answer.Answer.TheVariants as answers
+use Rattle.my_reading.specs.declared.call.Call.{Call}
+use Rattle.my_reading.specs.declared.call.Call.TheVariants.{Query, NextRow, DropResult, Ping, Quit}
+use Rattle.my_reading.specs.Calls.{kind_of, is_connect}
+use Rattle.my_reading.specs.Errors.{connection_closed, io_error}
 use Rattle.my_session.specs.Fits.{is_begun}
 use Rattle.my_session.specs.History.{has_closed}
 use Rattle.my_session.specs.Seen.{Seen}
 use Rattle.my_session.specs.Steps.{is_refused}
 use Rattle.my_session.specs.Tables.{closes_when_cancelled}
-use Rattle.my_session.specs.declared.error.IoKind.TheVariants.{Dial}
+use Rattle.my_reading.specs.declared.error.IoKind.TheVariants.{Dial}
 use Rattle.my_client.specs.declared.poll.After.{After}
 use Rattle.my_client.specs.declared.poll.After.TheVariants as after
 use Rattle.my_script.specs.declared.step.Step.{Step}

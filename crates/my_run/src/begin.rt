@@ -1,6 +1,7 @@
 //! A step that begins a call on a connection.
 ghost use Rattle.std.specs.Prelude.{◌≡◌, [], true, false, IfOk, OnOk};
-ghost use Rattle.my_session.specs.Calls.{is_connect, is_open, kind_of};
+ghost use Rattle.my_reading.specs.Calls.{is_connect, kind_of};
+ghost use Rattle.my_session.specs.Tasks.{is_open};
 ghost use Rattle.my_client.specs.Drives.{EachEnded};
 ghost use Rattle.my_client.specs.Ready.{ConnReady};
 ghost use Rattle.my_client.specs.declared.tape.Said.TheVariants as says;
@@ -12,8 +13,8 @@ use crate::outcome::{StepResult, shown, unused, used_once};
 use my_client::{Conn, Said, ask, drive, note};
 use my_frame::NoMemory;
 use my_link::Link;
+use my_reading::{Call, Error};
 use my_script::{Outcome, Use};
-use my_session::{Call, Error};
 use std::alloc::Global;
 
 /// Polls the open call.

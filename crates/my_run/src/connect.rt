@@ -1,6 +1,6 @@
 //! Dials a connection, and connects it.
 ghost use Rattle.std.specs.Prelude.{◌≡◌, ◌∷◌, [], suc, length, IfOk, OnOk};
-ghost use Rattle.my_session.specs.Errors.{io_error};
+ghost use Rattle.my_reading.specs.Errors.{io_error};
 ghost use Rattle.my_client.specs.Login.{login_of};
 ghost use Rattle.my_world.specs.World.{SameBut};
 ghost use Rattle.my_run.specs.Connecting.{Settles, JoinsFirst, Dialed};
@@ -15,8 +15,8 @@ use my_frame::NoMemory;
 use my_handshake::server_version;
 use my_link::{Link, Met};
 use my_opts::Opts;
+use my_reading::{Error, IoError, IoFault, IoKind};
 use my_script::{Outcome, Use};
-use my_session::{Error, IoError, IoFault, IoKind};
 use my_world::{DialStep, World};
 use std::alloc::Global;
 

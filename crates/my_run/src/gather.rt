@@ -1,8 +1,8 @@
 //! A step that gathers the rows of a set.
 ghost use Rattle.std.specs.Prelude.{◌≡◌, [], Some, option_map, unwrap_or, true, false, IfOk, OnOk};
-ghost use Rattle.my_session.specs.Calls.{is_open};
-ghost use Rattle.my_session.specs.declared.call.Call.TheVariants.{NextRow as NextRowOf};
-ghost use Rattle.my_session.specs.declared.call.Task.TheVariants.{Nothing};
+ghost use Rattle.my_session.specs.Tasks.{is_open};
+ghost use Rattle.my_reading.specs.declared.call.Call.TheVariants.{NextRow as NextRowOf};
+ghost use Rattle.my_session.specs.declared.task.Task.TheVariants.{Nothing};
 ghost use Rattle.my_session.specs.Steps.{begun};
 ghost use Rattle.my_client.specs.Conn.{kept_of};
 ghost use Rattle.my_client.specs.Kept.{asking};
@@ -17,8 +17,8 @@ use crate::outcome::{StepResult, unused};
 use my_client::{After, Conn, ask, drive};
 use my_frame::NoMemory;
 use my_link::Link;
+use my_reading::{Answer, Call};
 use my_script::{Outcome, Use};
-use my_session::{Answer, Call};
 use my_value::Row;
 use std::alloc::Global;
 

@@ -4,8 +4,8 @@ ghost use Rattle.my_run.specs.Grows.{answer_shown as answer_of, shown as shown_o
 
 use my_client::After;
 use my_frame::NoMemory;
+use my_reading::Answer;
 use my_script::{Outcome, Use};
-use my_session::Answer;
 use std::alloc::Global;
 
 /// What a step came to, with one use for each poll and dial that it made.

@@ -1,6 +1,6 @@
 //! A step that polls a connection's open call.
 ghost use Rattle.std.specs.Prelude.{◌≡◌, true, IfOk};
-ghost use Rattle.my_session.specs.Calls.{is_open};
+ghost use Rattle.my_session.specs.Tasks.{is_open};
 ghost use Rattle.my_client.specs.Ready.{ConnReady, AskedReady};
 ghost use Rattle.my_run.specs.Connecting.{EachJoins};
 ghost use Rattle.my_run.specs.Did.{EachDid, EachResumed};

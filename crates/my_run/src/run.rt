@@ -19,8 +19,8 @@ use my_client::Conn;
 use my_frame::NoMemory;
 use my_link::Link;
 use my_opts::Opts;
+use my_reading::Call;
 use my_script::{Step, StepAnswer, Tape, Transcript};
-use my_session::Call;
 use my_world::World;
 use std::alloc::Global;
 

@@ -6,8 +6,8 @@ ghost use Rattle.my_run.specs.Tapes.{answer_in as answer_of, tape_call as call_o
 
 use my_client::{DoneCall, OpenCall, Said};
 use my_frame::NoMemory;
+use my_reading::{Answer, Error};
 use my_script::TapeCall;
-use my_session::{Answer, Error};
 use std::alloc::Global;
 
 // A call that was cancelled has no answer.

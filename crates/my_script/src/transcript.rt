@@ -2,8 +2,8 @@
 
 use my_handshake::ServerVersion;
 use my_link::Met;
+use my_reading::{Answer, Call, Error};
 use my_reply::OkPacket;
-use my_session::{Answer, Call, Error};
 use my_value::Row;
 
 /// What one poll of a call, or one dial, met outside.

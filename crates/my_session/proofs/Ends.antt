@@ -7,28 +7,30 @@ use Rattle.my_value.specs.RowParts.{RowParts}
 use Rattle.my_grammar.specs.declared.spot.Kind.{Kind}
 use Rattle.my_grammar.specs.Kinds.{kind_there}
 use Rattle.my_grammar.specs.Talk.{Talk}
-use Rattle.my_session.specs.declared.answer.Answer.{Answer}
-use Rattle.my_session.specs.declared.answer.Answer.TheVariants as answers
+use Rattle.my_reading.specs.declared.answer.Answer.{Answer}
+use Rattle.my_reading.specs.declared.answer.Answer.TheVariants as answers
 use Rattle.my_session.specs.declared.answer.SessionStep.{SessionStep}
 use Rattle.my_session.specs.declared.answer.SessionStep.TheVariants.{Send, Need, Done, Fault}
 use Rattle.my_session.specs.declared.answer.Tick.TheVariants as ticks
-use Rattle.my_session.specs.declared.call.CallKind.{CallKind}
-use Rattle.my_session.specs.declared.call.LinkFault.{LinkFault}
-use Rattle.my_session.specs.declared.call.Task.{Task}
-use Rattle.my_session.specs.declared.call.Task.TheVariants as tasks
-use Rattle.my_session.specs.declared.error.Error.{Error}
-use Rattle.my_session.specs.declared.error.Error.TheVariants as errors
+use Rattle.my_reading.specs.declared.call.CallKind.{CallKind}
+use Rattle.my_session.specs.declared.task.LinkFault.{LinkFault}
+use Rattle.my_session.specs.declared.task.Task.{Task}
+use Rattle.my_session.specs.declared.task.Task.TheVariants as tasks
+use Rattle.my_reading.specs.declared.error.Error.{Error}
+use Rattle.my_reading.specs.declared.error.Error.TheVariants as errors
 use Rattle.my_session.specs.declared.tables.Plan.{Plan}
 use Rattle.my_session.specs.declared.tables.Plan.TheVariants as plans
 use Rattle.my_session.specs.declared.tables.Reaction.{Reaction}
 use Rattle.my_session.specs.declared.tables.Reaction.TheVariants as reactions
-use Rattle.my_session.specs.Calls.{fault_in, call_of, is_open}
-use Rattle.my_session.specs.Commands.{command_of, connecting, command_in}
-use Rattle.my_session.specs.Errors.{invalid_data, link_error, unexpected_eof}
+use Rattle.my_reading.specs.Calls.{call_of}
+use Rattle.my_session.specs.Tasks.{fault_in, is_open}
+use Rattle.my_reading.specs.Commands.{command_of, connecting, command_in}
+use Rattle.my_reading.specs.Errors.{invalid_data, unexpected_eof}
+use Rattle.my_session.specs.LinkErrors.{link_error}
 use Rattle.my_session.specs.Ends.{EachEnd, IsFault, Fails}
-use Rattle.my_session.specs.History.{ToldReady, ToldRow, ToldEnd, ToldNone, ToldError, Dropped}
+use Rattle.my_reading.specs.Told.{ToldReady, ToldRow, ToldEnd, ToldNone, ToldError, Dropped}
 use Rattle.my_session.specs.Machine.{Doing, Goes, Passes, Sends, Needs, Tells, Move, Did, Does, FaultIs, failed_by, reply_to, above, unless_above, refused, gave, passed, reacted, read_by, reading, next_terms, queued, too_large, asked, arranged, planned, when_owed, next_by, next, advanced}
-use Rattle.my_session.specs.Rows.{row_at}
+use Rattle.my_reading.specs.Rows.{row_at}
 use Rattle.my_session.specs.Seen.{Seen}
 use Rattle.my_session.specs.Steps.{goes_on, moved, AllGo, Steps, last_tick, with_end, failing, with_failing}
 use Rattle.my_session.specs.Tables.{react, is_breaking, plan_of}

@@ -8,18 +8,19 @@ use Rattle.my_session.specs.declared.answer.SessionStep.{SessionStep}
 use Rattle.my_session.specs.declared.answer.SessionStep.TheVariants as steps
 use Rattle.my_session.specs.declared.answer.Tick.{Tick}
 use Rattle.my_session.specs.declared.answer.Tick.TheVariants as ticks
-use Rattle.my_session.specs.declared.call.CallKind.{CallKind}
-use Rattle.my_session.specs.declared.call.CallKind.TheVariants.{Connect, Query, NextRow, DropResult, Ping, Quit}
-use Rattle.my_session.specs.declared.call.LinkFault.{LinkFault}
-use Rattle.my_session.specs.declared.call.Task.{Task}
-use Rattle.my_session.specs.declared.call.Task.TheVariants.{Nothing, Begun, Cleaning, Own, Arranging, Reading, Dropping, Leaving, Failing}
-use Rattle.my_session.specs.declared.error.Error.{Error}
-use Rattle.my_session.specs.declared.error.Error.TheVariants as errors
-use Rattle.my_session.specs.Calls.{kind_in, fault_in, asks, is_connect}
+use Rattle.my_reading.specs.declared.call.CallKind.{CallKind}
+use Rattle.my_reading.specs.declared.call.CallKind.TheVariants.{Connect, Query, NextRow, DropResult, Ping, Quit}
+use Rattle.my_session.specs.declared.task.LinkFault.{LinkFault}
+use Rattle.my_session.specs.declared.task.Task.{Task}
+use Rattle.my_session.specs.declared.task.Task.TheVariants.{Nothing, Begun, Cleaning, Own, Arranging, Reading, Dropping, Leaving, Failing}
+use Rattle.my_reading.specs.declared.error.Error.{Error}
+use Rattle.my_reading.specs.declared.error.Error.TheVariants as errors
+use Rattle.my_reading.specs.Calls.{asks, is_connect}
+use Rattle.my_session.specs.Tasks.{kind_in, fault_in}
 use Rattle.my_session.specs.Entries.{Entry}
-use Rattle.my_session.specs.Errors.{link_error}
+use Rattle.my_session.specs.LinkErrors.{link_error}
 use Rattle.my_session.specs.Fits.{may_be_told, AnswerFits, FaultFits, ErrorFits, is_begun, WasStepped, StepFits, EachAnswerFits}
-use Rattle.my_session.specs.History.{Told, ToldReady, ToldRow, ToldEnd, ToldNone, ToldError, Dropped, told}
+use Rattle.my_reading.specs.Told.{Told, ToldReady, ToldRow, ToldEnd, ToldNone, ToldError, Dropped, told}
 use Rattle.my_session.specs.Machine.{Doing, Goes, Passes, Sends, Needs, Tells, Did, Does, FaultIs, doing, when_owed, next_by, next}
 use Rattle.my_session.specs.Seen.{Seen}
 use Rattle.my_session.specs.Stands.{TaskIs, OwnAt, owes}

@@ -10,12 +10,13 @@ use Rattle.my_grammar.specs.Contexts.{is_bad}
 use Rattle.my_grammar.specs.Growth.{grow}
 use Rattle.my_grammar.specs.Talk.{Talk}
 use Rattle.my_grammar.specs.Cut.{Read, front_of, kind_of, read_front, read_within, read_from, cut}
-use Rattle.my_session.specs.declared.error.ServerError.{ServerError}
-use Rattle.my_session.specs.declared.call.Call.{Call}
-use Rattle.my_session.specs.declared.call.Call.TheVariants as calls
-use Rattle.my_session.specs.declared.call.Task.{Task}
-use Rattle.my_session.specs.declared.call.Task.TheVariants.{Nothing, Begun, Cleaning, Own, Arranging, Reading, Dropping, Leaving, Failing}
-use Rattle.my_session.specs.Calls.{kind_of as call_kind, call_of, kind_in, is_connect}
+use Rattle.my_reading.specs.declared.error.ServerError.{ServerError}
+use Rattle.my_reading.specs.declared.call.Call.{Call}
+use Rattle.my_reading.specs.declared.call.Call.TheVariants as calls
+use Rattle.my_session.specs.declared.task.Task.{Task}
+use Rattle.my_session.specs.declared.task.Task.TheVariants.{Nothing, Begun, Cleaning, Own, Arranging, Reading, Dropping, Leaving, Failing}
+use Rattle.my_reading.specs.Calls.{kind_of as call_kind, call_of, is_connect}
+use Rattle.my_session.specs.Tasks.{kind_in}
 use Rattle.my_session.specs.Entries.{Entry, AllGiven, IsGiven, calls_in, OwnsFirst, IsTied}
 use Rattle.my_session.specs.Groups.{Group}
 use Rattle.my_session.specs.History.{Made}

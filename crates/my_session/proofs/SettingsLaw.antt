@@ -9,13 +9,13 @@ use Rattle.my_grammar.specs.declared.spot.Kind.TheVariants as kinds
 use Rattle.my_grammar.specs.Sets.{each}
 use Rattle.my_reply.specs.Column.{column_at}
 use Rattle.my_handshake.specs.Greeting.{greeting_at}
-use Rattle.my_session.specs.declared.facts.Facts.{Facts}
-use Rattle.my_session.specs.declared.settings.Settings.{Settings}
-use Rattle.my_session.specs.declared.settings.Stage.{Stage}
-use Rattle.my_session.specs.declared.settings.Stage.TheVariants.{Unasked, Asked, Known}
-use Rattle.my_session.specs.Facts.{with_greeting, with_column, facts_after, facts_by}
-use Rattle.my_session.specs.Rows.{row_at}
-use Rattle.my_session.specs.Settings.{in_force, settled, good_settings, end_settings, awaits_row, row_settings, told_by}
+use Rattle.my_reading.specs.declared.facts.Facts.{Facts}
+use Rattle.my_reading.specs.declared.settings.Settings.{Settings}
+use Rattle.my_reading.specs.declared.settings.Stage.{Stage}
+use Rattle.my_reading.specs.declared.settings.Stage.TheVariants.{Unasked, Asked, Known}
+use Rattle.my_reading.specs.Facts.{with_greeting, with_column, facts_after, facts_by}
+use Rattle.my_reading.specs.Rows.{row_at}
+use Rattle.my_reading.specs.Settings.{in_force, settled, good_settings, end_settings, awaits_row, row_settings, told_by}
 use Rattle.my_session.specs.SettingsLaw.{EachSetting, or_older, last_row}
 
 -- what an OK, an end and a row do at each stage

@@ -13,12 +13,13 @@ pub mod Views
 pub mod Wired
 use Rattle.std.proofs.Common.{◌≡◌, true, refl, sym, subst}
 use Rattle.my_frame.specs.FrontLaws.{AreBytes}
-use Rattle.my_session.specs.declared.error.Error.{Error}
-use Rattle.my_session.specs.declared.error.Error.TheVariants as errors
+use Rattle.my_reading.specs.declared.error.Error.{Error}
+use Rattle.my_reading.specs.declared.error.Error.TheVariants as errors
 use Rattle.my_session.specs.declared.answer.Tick.{Tick}
 use Rattle.my_session.specs.declared.answer.Tick.TheVariants as ticks
-use Rattle.my_session.specs.Calls.{is_open}
-use Rattle.my_session.specs.History.{History, ToldError, answered}
+use Rattle.my_session.specs.Tasks.{is_open}
+use Rattle.my_reading.specs.Told.{ToldError}
+use Rattle.my_session.specs.History.{History, answered}
 use Rattle.my_session.specs.Machine.{Doing, Did, Does, FaultIs, next, after_doing}
 use Rattle.my_session.specs.Seen.{Seen}
 use Rattle.my_session.specs.Stands.{Stands}

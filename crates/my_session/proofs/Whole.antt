@@ -10,17 +10,17 @@ use Rattle.my_grammar.specs.CutLaws.{RestStays, RestGoesOn}
 use Rattle.my_grammar.specs.Growth.{grow}
 use Rattle.my_grammar.specs.Talk.{Talk, context_of}
 use Rattle.my_grammar.proofs.Staying.{cut_stays, cut_goes_on}
-use Rattle.my_session.specs.declared.error.Error.{Error}
-use Rattle.my_session.specs.declared.error.Error.TheVariants as errors
-use Rattle.my_session.specs.declared.error.IoError.{IoError}
-use Rattle.my_session.specs.declared.error.IoError.TheVariants as ios
-use Rattle.my_session.specs.declared.error.IoKind.{IoKind}
-use Rattle.my_session.specs.declared.error.IoKind.TheVariants.{Link, Dial, UnexpectedEof, InvalidData}
-use Rattle.my_session.specs.declared.error.ServerError.{ServerError}
+use Rattle.my_reading.specs.declared.error.Error.{Error}
+use Rattle.my_reading.specs.declared.error.Error.TheVariants as errors
+use Rattle.my_reading.specs.declared.error.IoError.{IoError}
+use Rattle.my_reading.specs.declared.error.IoError.TheVariants as ios
+use Rattle.my_reading.specs.declared.error.IoKind.{IoKind}
+use Rattle.my_reading.specs.declared.error.IoKind.TheVariants.{Link, Dial, UnexpectedEof, InvalidData}
+use Rattle.my_reading.specs.declared.error.ServerError.{ServerError}
 use Rattle.my_session.specs.Causes.{found, Cause, IoCause, IoErrorCause, IsRefused}
 use Rattle.my_session.specs.Complete.{AreWhole, OutsideKind, OutsideIo, IsOutside, EachWholeCall}
 use Rattle.my_session.specs.Entries.{Entry}
-use Rattle.my_session.specs.Errors.{server_error}
+use Rattle.my_reading.specs.Errors.{server_error}
 use Rattle.my_session.specs.History.{History}
 use Rattle.my_session.specs.Law.{in_order, talks, origins, errors_along}
 use Rattle.my_session.specs.Machine.{is_greeting}

@@ -12,26 +12,27 @@ use Rattle.my_grammar.specs.Cut.{Cut, Rest, Trailing, Unfinished, Unfit, Blamed,
 use Rattle.my_grammar.specs.Growth.{grow}
 use Rattle.my_grammar.specs.Response.{response}
 use Rattle.my_grammar.specs.Talk.{Talk, context_of, limit_of}
-use Rattle.my_session.specs.declared.call.Call.{Call}
-use Rattle.my_session.specs.declared.call.LinkFault.TheVariants as faults
-use Rattle.my_session.specs.declared.error.Error.{Error}
-use Rattle.my_session.specs.declared.error.Error.TheVariants as errors
-use Rattle.my_session.specs.declared.error.DriverError.{DriverError}
-use Rattle.my_session.specs.declared.error.DriverError.TheVariants as drivers
-use Rattle.my_session.specs.declared.error.IoError.{IoError}
-use Rattle.my_session.specs.declared.error.IoError.TheVariants as ios
-use Rattle.my_session.specs.declared.error.IoKind.{IoKind}
-use Rattle.my_session.specs.declared.error.IoKind.TheVariants.{Link, Dial, UnexpectedEof, InvalidData}
-use Rattle.my_session.specs.declared.error.ServerError.{ServerError}
-use Rattle.my_session.specs.declared.answer.Answer.{Answer}
-use Rattle.my_session.specs.declared.answer.Answer.TheVariants as answers
+use Rattle.my_reading.specs.declared.call.Call.{Call}
+use Rattle.my_session.specs.declared.task.LinkFault.TheVariants as faults
+use Rattle.my_reading.specs.declared.error.Error.{Error}
+use Rattle.my_reading.specs.declared.error.Error.TheVariants as errors
+use Rattle.my_reading.specs.declared.error.DriverError.{DriverError}
+use Rattle.my_reading.specs.declared.error.DriverError.TheVariants as drivers
+use Rattle.my_reading.specs.declared.error.IoError.{IoError}
+use Rattle.my_reading.specs.declared.error.IoError.TheVariants as ios
+use Rattle.my_reading.specs.declared.error.IoKind.{IoKind}
+use Rattle.my_reading.specs.declared.error.IoKind.TheVariants.{Link, Dial, UnexpectedEof, InvalidData}
+use Rattle.my_reading.specs.declared.error.ServerError.{ServerError}
+use Rattle.my_reading.specs.declared.answer.Answer.{Answer}
+use Rattle.my_reading.specs.declared.answer.Answer.TheVariants as answers
 use Rattle.my_session.specs.declared.answer.SessionStep.{SessionStep}
 use Rattle.my_session.specs.declared.answer.SessionStep.TheVariants as steps
-use Rattle.my_session.specs.Calls.{fault_in, is_open}
-use Rattle.my_session.specs.Commands.{opening, command_in}
+use Rattle.my_session.specs.Tasks.{fault_in, is_open}
+use Rattle.my_reading.specs.Commands.{opening, command_in}
 use Rattle.my_session.specs.Entries.{Entry, terms_by, connecting_in}
-use Rattle.my_session.specs.Errors.{server_error}
-use Rattle.my_session.specs.History.{History, ToldError}
+use Rattle.my_reading.specs.Errors.{server_error}
+use Rattle.my_reading.specs.Told.{ToldError}
+use Rattle.my_session.specs.History.{History}
 use Rattle.my_session.specs.Law.{Says, in_order, talks, origins}
 use Rattle.my_session.specs.Machine.{Tells, is_greeting, next}
 use Rattle.my_session.specs.Seen.{Seen}

@@ -2,14 +2,14 @@
 use Rattle.std.specs.Prelude.{◌≡◌, ◌⊎◌, ℕ, List, [], ◌∷◌, ◌++◌, Some, true}
 use Rattle.my_grammar.specs.Cut.{Trailing, cut}
 use Rattle.my_grammar.specs.Talk.{Talk}
-use Rattle.my_session.specs.declared.error.Error.{Error}
-use Rattle.my_session.specs.declared.error.Error.TheVariants as errors
-use Rattle.my_session.specs.declared.error.IoError.{IoError}
-use Rattle.my_session.specs.declared.error.IoError.TheVariants as ios
-use Rattle.my_session.specs.declared.error.IoKind.{IoKind}
-use Rattle.my_session.specs.declared.error.IoKind.TheVariants.{Link, Dial, UnexpectedEof, InvalidData}
-use Rattle.my_session.specs.declared.call.LinkFault.TheVariants as faults
-use Rattle.my_session.specs.Calls.{fault_in}
+use Rattle.my_reading.specs.declared.error.Error.{Error}
+use Rattle.my_reading.specs.declared.error.Error.TheVariants as errors
+use Rattle.my_reading.specs.declared.error.IoError.{IoError}
+use Rattle.my_reading.specs.declared.error.IoError.TheVariants as ios
+use Rattle.my_reading.specs.declared.error.IoKind.{IoKind}
+use Rattle.my_reading.specs.declared.error.IoKind.TheVariants.{Link, Dial, UnexpectedEof, InvalidData}
+use Rattle.my_session.specs.declared.task.LinkFault.TheVariants as faults
+use Rattle.my_session.specs.Tasks.{fault_in}
 use Rattle.my_session.specs.Causes.{Because, DriverCause, IsLongCommand, IsLongResponse}
 use Rattle.my_session.specs.Entries.{Entry}
 use Rattle.my_session.specs.History.{History}

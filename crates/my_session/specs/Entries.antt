@@ -10,15 +10,16 @@ use Rattle.my_grammar.specs.FitSets.{FitSets}
 use Rattle.my_grammar.specs.Growth.{not_greets}
 use Rattle.my_grammar.specs.Sets.{Sets, NoSets}
 use Rattle.my_grammar.specs.Talk.{Talk, Queried, turns, server_bytes, client_bytes, context_of, packets_of, Fits, origin}
-use Rattle.my_session.specs.declared.call.Call.{Call}
-use Rattle.my_session.specs.declared.call.CallKind.{CallKind}
-use Rattle.my_session.specs.declared.call.CallKind.TheVariants as callkinds
-use Rattle.my_session.specs.declared.facts.Facts.{Facts}
-use Rattle.my_session.specs.Calls.{kind_of, is_connect}
-use Rattle.my_session.specs.Commands.{opening}
-use Rattle.my_session.specs.Facts.{first_facts, facts_by}
+use Rattle.my_reading.specs.declared.call.Call.{Call}
+use Rattle.my_reading.specs.declared.call.CallKind.{CallKind}
+use Rattle.my_reading.specs.declared.call.CallKind.TheVariants as callkinds
+use Rattle.my_reading.specs.declared.facts.Facts.{Facts}
+use Rattle.my_reading.specs.Calls.{kind_of, is_connect}
+use Rattle.my_reading.specs.Commands.{opening}
+use Rattle.my_reading.specs.Facts.{first_facts, facts_by}
 use Rattle.my_session.specs.Groups.{Group, groups, IsEarlier}
-use Rattle.my_session.specs.History.{Made, Told, ToldReady}
+use Rattle.my_reading.specs.Told.{Told, ToldReady}
+use Rattle.my_session.specs.History.{Made}
 
 -- an exchange, the call that began it, and what this call and later ones were given of it, if it is a query that was answered
 pub record Entry : Type 0 where

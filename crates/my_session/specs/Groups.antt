@@ -5,11 +5,12 @@ use Rattle.my_reply.specs.Column.{column_at}
 use Rattle.my_value.specs.RowParts.{RowParts}
 use Rattle.my_grammar.specs.declared.packet.Packet.{Packet}
 use Rattle.my_grammar.specs.Sets.{SetHead, Sets, NoSets, Lone, Failed, Heading, Headed, Begun, Ended, Broken, grow_sets}
-use Rattle.my_session.specs.declared.call.CallKind.{CallKind}
-use Rattle.my_session.specs.declared.call.CallKind.TheVariants.{Query}
-use Rattle.my_session.specs.Calls.{kind_of}
-use Rattle.my_session.specs.History.{Made, Told, ToldReady, ToldRow, ToldEnd}
-use Rattle.my_session.specs.Rows.{row_of}
+use Rattle.my_reading.specs.declared.call.CallKind.{CallKind}
+use Rattle.my_reading.specs.declared.call.CallKind.TheVariants.{Query}
+use Rattle.my_reading.specs.Calls.{kind_of}
+use Rattle.my_reading.specs.Told.{Told, ToldReady, ToldRow, ToldEnd}
+use Rattle.my_session.specs.History.{Made}
+use Rattle.my_reading.specs.Rows.{row_of}
 
 -- the rows of a set that were given, the newest first, and whether its end was returned
 pub record Group : Type 0 where

@@ -1,30 +1,8 @@
 -- What happened on a session: the bytes that it sent and took, and its calls with what they returned, the newest first.
 use Rattle.std.specs.Prelude.{ℕ, List, [], ◌∷◌, ◌++◌, Option, Some, None, Bool, true, false, ◌||◌}
-use Rattle.my_session.specs.declared.call.Call.{Call}
-use Rattle.my_session.specs.declared.call.CallKind.{CallKind}
-use Rattle.my_session.specs.declared.error.Error.{Error}
-use Rattle.my_session.specs.declared.error.Error.TheVariants.{Driver, Io, Server, NoMemory}
-use Rattle.my_session.specs.declared.error.DriverError.{DriverError}
-use Rattle.my_session.specs.declared.error.DriverError.TheVariants as drivers
-use Rattle.my_session.specs.declared.answer.Answer.{Answer}
-use Rattle.my_session.specs.declared.answer.Answer.TheVariants.{Ready, Row, SetEnd, NoSet}
-use Rattle.my_session.specs.Calls.{kind_of, is_connect, is_quit}
-use Rattle.my_value.specs.RowParts.{RowParts}
-
--- What a call returned: an answer, an error, or nothing since it was cancelled, which closed the session or not.
-pub data Told : Type 0 where
-  ToldReady : Told
-  ToldRow : (row : RowParts) → Told
-  ToldEnd : Told
-  ToldNone : Told
-  ToldError : (e : Error) → Told
-  Dropped : (closing : Bool) → Told
-
-abbrev pub told : Answer → Told
-told Ready = ToldReady
-told (Row r) = ToldRow r
-told SetEnd = ToldEnd
-told NoSet = ToldNone
+use Rattle.my_reading.specs.declared.call.Call.{Call}
+use Rattle.my_reading.specs.Calls.{kind_of}
+use Rattle.my_reading.specs.Told.{Told, closes}
 
 -- a call with one thing that it returned, or that it passed over
 pub record Made : Type 0 where
@@ -83,24 +61,6 @@ is_idle (Some c) = false
 
 abbrev pub losing : History → History
 losing h = record { sent = h.sent; taken = h.taken; calls = h.calls; pending = h.pending; ended = h.ended; lost = is_idle h.pending || h.lost }
-
--- the refusal of a closed session changes nothing, and all other driver's errors close it
-abbrev pub closes_driver : DriverError → Bool
-closes_driver drivers.ConnectionClosed = false
-closes_driver e = true
-
--- a server's error closes a session that isn't connected
-abbrev pub closes_by : Error → CallKind → Bool
-closes_by (Driver e) c = closes_driver e
-closes_by (Io e) c = true
-closes_by (Server e) c = is_connect c
-closes_by NoMemory c = true
-
-abbrev pub closes : Told → CallKind → Bool
-closes ToldReady c = is_quit c
-closes (ToldError e) c = closes_by e c
-closes (Dropped closing) c = closing
-closes _ c = false
 
 -- closed exactly by a fatal error, a call that was cancelled while its answer was awaited, a quit, or bytes that were lost
 abbrev pub has_closed : List Made → Bool

@@ -2,8 +2,8 @@
 use Rattle.std.specs.Prelude.{◌≡◌, ℕ, List, [], ◌∷◌, ◌++◌, ◌⊎◌, Option, Some, None, true, false}
 use Rattle.my_grammar.specs.Talk.{Talk, Fits, turns, client_bytes, origin}
 use Rattle.my_grammar.specs.Cut.{cut}
-use Rattle.my_session.specs.declared.call.Call.{Call}
-use Rattle.my_session.specs.declared.error.ServerError.{ServerError}
+use Rattle.my_reading.specs.declared.call.Call.{Call}
+use Rattle.my_reading.specs.declared.error.ServerError.{ServerError}
 use Rattle.my_session.specs.Entries.{Entry, Follow, OwnsFirst, is_answered, AllDone, taken_by, sent_by, facts_of, givens, IsGiven, IsTied}
 use Rattle.my_session.specs.Groups.{Group, given}
 use Rattle.my_session.specs.History.{History, Made, is_closed}

@@ -18,25 +18,28 @@ use Rattle.my_grammar.specs.Contexts.{context_after}
 use Rattle.my_grammar.specs.Kinds.{kind_there}
 use Rattle.my_grammar.specs.Response.{response}
 use Rattle.my_grammar.specs.Talk.{Talk, turns, number_of, client_bytes, context_of}
-use Rattle.my_session.specs.declared.call.CallKind.{CallKind}
-use Rattle.my_session.specs.declared.call.LinkFault.{LinkFault}
-use Rattle.my_session.specs.declared.call.Task.{Task}
-use Rattle.my_session.specs.declared.call.Task.TheVariants as tasks
+use Rattle.my_reading.specs.declared.call.CallKind.{CallKind}
+use Rattle.my_session.specs.declared.task.LinkFault.{LinkFault}
+use Rattle.my_session.specs.declared.task.Task.{Task}
+use Rattle.my_session.specs.declared.task.Task.TheVariants as tasks
 use Rattle.my_session.specs.declared.tables.Plan.{Plan}
 use Rattle.my_session.specs.declared.tables.Plan.TheVariants as plans
 use Rattle.my_session.specs.declared.tables.Reaction.{Reaction}
 use Rattle.my_session.specs.declared.tables.Reaction.TheVariants as reactions
-use Rattle.my_session.specs.declared.error.Error.{Error}
-use Rattle.my_session.specs.declared.error.Error.TheVariants as errors
+use Rattle.my_reading.specs.declared.error.Error.{Error}
+use Rattle.my_reading.specs.declared.error.Error.TheVariants as errors
 use Rattle.my_session.specs.declared.session.receiving.Arrival.{Arrival}
 use Rattle.my_session.specs.declared.answer.Tick.{Tick}
 use Rattle.my_session.specs.declared.answer.Tick.TheVariants as ticks
-use Rattle.my_session.specs.Calls.{call_of, fault_in}
-use Rattle.my_session.specs.Commands.{command_of, connecting, command_in}
-use Rattle.my_session.specs.Errors.{codec_error, invalid_data, unexpected_eof, link_error, server_error}
-use Rattle.my_session.specs.Facts.{facts_after}
-use Rattle.my_session.specs.History.{History, Told, ToldReady, ToldRow, ToldEnd, ToldNone, ToldError, told, answered, noted}
-use Rattle.my_session.specs.Rows.{row_at}
+use Rattle.my_reading.specs.Calls.{call_of}
+use Rattle.my_session.specs.Tasks.{fault_in}
+use Rattle.my_reading.specs.Commands.{command_of, connecting, command_in}
+use Rattle.my_reading.specs.Errors.{codec_error, invalid_data, unexpected_eof, server_error}
+use Rattle.my_session.specs.LinkErrors.{link_error}
+use Rattle.my_reading.specs.Facts.{facts_after}
+use Rattle.my_reading.specs.Told.{Told, ToldReady, ToldRow, ToldEnd, ToldNone, ToldError, told}
+use Rattle.my_session.specs.History.{History, answered, noted}
+use Rattle.my_reading.specs.Rows.{row_at}
 use Rattle.my_session.specs.Seen.{Seen}
 use Rattle.my_session.specs.Tables.{plan_of, react, is_breaking, is_connecting, closes_when_cancelled}
 

@@ -1,8 +1,8 @@
 -- What a call passes over.
 use Rattle.std.specs.Prelude.{◌≡◌, List, [], ◌∷◌, Option, Some}
-use Rattle.my_session.specs.declared.call.CallKind.{CallKind}
-use Rattle.my_session.specs.declared.call.CallKind.TheVariants.{DropResult}
-use Rattle.my_session.specs.History.{Told, ToldRow, ToldEnd}
+use Rattle.my_reading.specs.declared.call.CallKind.{CallKind}
+use Rattle.my_reading.specs.declared.call.CallKind.TheVariants.{DropResult}
+use Rattle.my_reading.specs.Told.{Told, ToldRow, ToldEnd}
 
 -- a row, or the end of a set
 abbrev pub IsItem : Told → Type 0

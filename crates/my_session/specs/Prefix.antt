@@ -6,7 +6,7 @@ use Rattle.my_grammar.specs.Sets.{Sets, NoSets, Lone, Failed, Heading, Headed, B
 use Rattle.my_grammar.specs.Talk.{Talk}
 use Rattle.my_session.specs.Entries.{sets_of}
 use Rattle.my_session.specs.Groups.{Group, head_columns}
-use Rattle.my_session.specs.Rows.{row_of}
+use Rattle.my_reading.specs.Rows.{row_of}
 
 -- a set's rows, the newest first, and whether its end was read
 pub record Set : Type 0 where

@@ -2,8 +2,8 @@
 use Rattle.std.specs.Prelude.{ℕ, List, Bool}
 use Rattle.my_grammar.specs.declared.login.Login.{Login}
 use Rattle.my_grammar.specs.declared.spot.Context.{Context}
-use Rattle.my_session.specs.declared.call.Task.{Task}
-use Rattle.my_session.specs.declared.facts.Facts.{Facts}
+use Rattle.my_session.specs.declared.task.Task.{Task}
+use Rattle.my_reading.specs.declared.facts.Facts.{Facts}
 
 -- The context of the next payload; what the open call is at, with the text that it carries; whether the end of a lone OK is still to be
 -- returned, whether the session is closed, and whether the link reported its end; the next sequence id, the bytes that weren't read and

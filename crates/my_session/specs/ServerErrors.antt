@@ -7,12 +7,13 @@ use Rattle.my_grammar.specs.declared.spot.Kind.{Kind}
 use Rattle.my_grammar.specs.declared.spot.Kind.TheVariants as kinds
 use Rattle.my_grammar.specs.Sets.{Sets, NoSets, Lone, Failed, Heading, Headed, Begun, Ended, Broken}
 use Rattle.my_grammar.specs.Talk.{Talk, Unwelcome, Settled, Replied, Queried}
-use Rattle.my_session.specs.declared.error.Error.{Error}
-use Rattle.my_session.specs.declared.error.Error.TheVariants as errors
-use Rattle.my_session.specs.declared.error.ServerError.{ServerError}
+use Rattle.my_reading.specs.declared.error.Error.{Error}
+use Rattle.my_reading.specs.declared.error.Error.TheVariants as errors
+use Rattle.my_reading.specs.declared.error.ServerError.{ServerError}
 use Rattle.my_session.specs.Entries.{Entry}
-use Rattle.my_session.specs.Errors.{server_error}
-use Rattle.my_session.specs.History.{Made, Told, ToldError}
+use Rattle.my_reading.specs.Errors.{server_error}
+use Rattle.my_reading.specs.Told.{Told, ToldError}
+use Rattle.my_session.specs.History.{Made}
 
 -- what an ERR says, the newest first
 abbrev pub error_onto : Option ErrPacket → List ServerError → List ServerError

@@ -7,11 +7,11 @@ use Rattle.my_value.specs.RowParts.{RowParts}
 use Rattle.my_grammar.specs.declared.packet.Packet.{Packet}
 use Rattle.my_grammar.specs.declared.spot.Kind.TheVariants.{Good, Row, End}
 use Rattle.my_grammar.specs.Sets.{each}
-use Rattle.my_session.specs.declared.facts.Facts.{Facts}
-use Rattle.my_session.specs.declared.settings.Stage.TheVariants.{Unasked, Asked, Known}
-use Rattle.my_session.specs.Facts.{facts_after, facts_by}
-use Rattle.my_session.specs.Rows.{row_at}
-use Rattle.my_session.specs.Settings.{in_force, told_by}
+use Rattle.my_reading.specs.declared.facts.Facts.{Facts}
+use Rattle.my_reading.specs.declared.settings.Stage.TheVariants.{Unasked, Asked, Known}
+use Rattle.my_reading.specs.Facts.{facts_after, facts_by}
+use Rattle.my_reading.specs.Rows.{row_at}
+use Rattle.my_reading.specs.Settings.{in_force, told_by}
 
 abbrev pub or_older : Option RowParts → Option RowParts → Option RowParts
 or_older None older = older

@@ -7,17 +7,18 @@ use Rattle.my_grammar.specs.declared.spot.Spot.TheVariants as spots
 use Rattle.my_grammar.specs.Cut.{is_idle}
 use Rattle.my_grammar.specs.Sets.{Sets, NoSets, Lone, Failed, Heading, Headed, Begun, Ended, Broken}
 use Rattle.my_grammar.specs.Talk.{Talk, turns, number_of, server_bytes, client_bytes, context_of, packets_of, Fits, login_in}
-use Rattle.my_session.specs.declared.call.Call.{Call}
-use Rattle.my_session.specs.declared.call.Call.TheVariants as calls
-use Rattle.my_session.specs.declared.call.CallKind.{CallKind}
-use Rattle.my_session.specs.declared.call.CallKind.TheVariants.{Connect, Query, NextRow, DropResult, Ping, Quit}
-use Rattle.my_session.specs.declared.call.Task.{Task}
-use Rattle.my_session.specs.declared.call.Task.TheVariants as tasks
-use Rattle.my_session.specs.declared.facts.Facts.{Facts}
-use Rattle.my_session.specs.Calls.{kind_of, call_of, kind_in, asks, is_connect}
-use Rattle.my_session.specs.Commands.{arranging_texts}
+use Rattle.my_reading.specs.declared.call.Call.{Call}
+use Rattle.my_reading.specs.declared.call.Call.TheVariants as calls
+use Rattle.my_reading.specs.declared.call.CallKind.{CallKind}
+use Rattle.my_reading.specs.declared.call.CallKind.TheVariants.{Connect, Query, NextRow, DropResult, Ping, Quit}
+use Rattle.my_session.specs.declared.task.Task.{Task}
+use Rattle.my_session.specs.declared.task.Task.TheVariants as tasks
+use Rattle.my_reading.specs.declared.facts.Facts.{Facts}
+use Rattle.my_reading.specs.Calls.{kind_of, call_of, asks, is_connect}
+use Rattle.my_session.specs.Tasks.{kind_in}
+use Rattle.my_reading.specs.Commands.{arranging_texts}
 use Rattle.my_session.specs.Entries.{Entry, taken_by, sent_by, facts_of, Follow, connecting_in, OwnsFirst, is_answered, AllDone, AllGiven, givens, sets_of, calls_in, IsTied, has_connected}
-use Rattle.my_session.specs.Facts.{facts_by}
+use Rattle.my_reading.specs.Facts.{facts_by}
 use Rattle.my_session.specs.Groups.{groups, given}
 use Rattle.my_session.specs.History.{History, Made, has_closed}
 use Rattle.my_session.specs.Machine.{is_greeting}

@@ -9,16 +9,18 @@ use Rattle.my_session.specs.declared.answer.SessionStep.{SessionStep}
 use Rattle.my_session.specs.declared.answer.SessionStep.TheVariants as steps
 use Rattle.my_session.specs.declared.answer.Tick.{Tick}
 use Rattle.my_session.specs.declared.answer.Tick.TheVariants as ticks
-use Rattle.my_session.specs.declared.call.Call.{Call}
-use Rattle.my_session.specs.declared.call.CallKind.{CallKind}
-use Rattle.my_session.specs.declared.call.CallKind.TheVariants.{Connect, NextRow, DropResult, Quit}
-use Rattle.my_session.specs.declared.call.LinkFault.{LinkFault}
-use Rattle.my_session.specs.declared.call.LinkFault.TheVariants.{NoMemory}
-use Rattle.my_session.specs.declared.call.Task.{Task}
-use Rattle.my_session.specs.declared.call.Task.TheVariants.{Nothing, Begun, Cleaning, Own, Arranging, Reading, Dropping, Leaving, Failing}
-use Rattle.my_session.specs.Calls.{kind_of, text_of, is_open, is_quit}
-use Rattle.my_session.specs.Facts.{first_facts}
-use Rattle.my_session.specs.History.{History, ToldError, told, answered}
+use Rattle.my_reading.specs.declared.call.Call.{Call}
+use Rattle.my_reading.specs.declared.call.CallKind.{CallKind}
+use Rattle.my_reading.specs.declared.call.CallKind.TheVariants.{Connect, NextRow, DropResult, Quit}
+use Rattle.my_session.specs.declared.task.LinkFault.{LinkFault}
+use Rattle.my_session.specs.declared.task.LinkFault.TheVariants.{NoMemory}
+use Rattle.my_session.specs.declared.task.Task.{Task}
+use Rattle.my_session.specs.declared.task.Task.TheVariants.{Nothing, Begun, Cleaning, Own, Arranging, Reading, Dropping, Leaving, Failing}
+use Rattle.my_reading.specs.Calls.{kind_of, text_of, is_quit}
+use Rattle.my_session.specs.Tasks.{is_open}
+use Rattle.my_reading.specs.Facts.{first_facts}
+use Rattle.my_reading.specs.Told.{ToldError, told}
+use Rattle.my_session.specs.History.{History, answered}
 use Rattle.my_session.specs.Machine.{Doing, Goes, Passes, Does, fell, next, doing, after_doing}
 use Rattle.my_session.specs.Seen.{Seen}
 

@@ -2,23 +2,15 @@
 #![tactic(auto)]
 
 mod answer;
-mod call;
-mod columns;
-mod error;
-mod facts;
 mod law;
 mod session;
-mod settings;
 mod tables;
+mod task;
 
-pub use answer::{Answer, SessionStep, Tick};
-pub use call::{Call, CallKind, LinkFault, Task};
-pub use columns::SetColumns;
-pub use error::{DriverError, Error, IoError, IoFault, IoKind, ServerError};
-pub use facts::Facts;
+pub use answer::{SessionStep, Tick};
 pub use law::{
     each_answer_fits, each_end, each_fault, each_history, each_setting, each_whole_call,
 };
 pub use session::Session;
-pub use settings::{Settings, Stage};
 pub use tables::{Plan, Reaction};
+pub use task::{LinkFault, Task};

@@ -2,19 +2,18 @@
 
 ghost use Rattle.std.specs.Prelude.{◌≡◌, ◌≤◌, ◌++◌, ◌↔◌, ◌||◌, length, drop, take as front, true, false, OnOk, OnErr, IfOk, IfErr, IsErr};
 ghost use Rattle.std.specs.Option.{option_copied};
-ghost use Rattle.my_session.specs.Calls.{kind_of};
+ghost use Rattle.my_reading.specs.Calls.{kind_of};
 ghost use Rattle.my_session.specs.Steps.{is_refused, failing};
 
 mod receiving;
 mod sending;
 mod stepping;
 
-use crate::call::{Call, CallKind, LinkFault, Task};
-use crate::error::{DriverError, Error};
-use crate::facts::Facts;
+use crate::task::{LinkFault, Task};
 use crate::tables::closes_when_cancelled;
 use my_frame::{Blob, NoMemory};
 use my_grammar::{Context, Login, Queue, Spot};
+use my_reading::{Call, CallKind, DriverError, Error, Facts};
 use my_reply::OkPacket;
 use std::alloc::Global;
 use std::marker::Model;
@@ -75,9 +74,11 @@ fn failing(task: Task, fault: LinkFault) -> Task
 }
 
 impl Session {
-    ghost use Rattle.my_session.specs.Calls.{is_open, text_of};
-    ghost use Rattle.my_session.specs.Errors.{connection_closed};
-    ghost use Rattle.my_session.specs.History.{History, ToldError, Dropped, is_closed, beginning, began, answered, took, gone, ending, losing};
+    ghost use Rattle.my_reading.specs.Calls.{text_of};
+    ghost use Rattle.my_session.specs.Tasks.{is_open};
+    ghost use Rattle.my_reading.specs.Errors.{connection_closed};
+    ghost use Rattle.my_reading.specs.Told.{ToldError, Dropped};
+    ghost use Rattle.my_session.specs.History.{History, is_closed, beginning, began, answered, took, gone, ending, losing};
     ghost use Rattle.my_session.specs.Machine.{dropped, fell};
     ghost use Rattle.my_session.specs.Stands.{Stands};
     ghost use Rattle.my_session.specs.Steps.{AtBegun, is_begun_at, is_settled, fresh, begun, with_owed, with_unread, with_end, with_failing, with_loss};

@@ -3,8 +3,9 @@
 ghost use Rattle.std.specs.Prelude.{◌≡◌, true, false};
 ghost use Rattle.my_session.specs.Tables.{plan_of, react, react_whole, first_task, clean_plan, own_plan, is_breaking, is_connecting, closes_when_cancelled};
 
-use crate::call::{CallKind, Task};
+use crate::task::Task;
 use my_grammar::{Kind, Spot};
+use my_reading::CallKind;
 
 /// What is done where no bytes are owed.
 #[derive(Clone, Copy, Debug, PartialEq, Eq)]

@@ -1,12 +1,13 @@
 //! A session used as a library: the caller carries the bytes.
 
 ghost use Rattle.std.specs.Prelude.{◌≡◌, true};
-ghost use Rattle.my_session.specs.Calls.{is_open};
+ghost use Rattle.my_session.specs.Tasks.{is_open};
 
 use crate::hex::bytes_of;
 use crate::play::{LOGIN, login};
 use my_frame::{MemSink, MemSource, Sink, SinkStep, Source, SourceStep};
-use my_session::{Answer, Call, Error, LinkFault, Session, SessionStep};
+use my_reading::{Answer, Call, Error};
+use my_session::{LinkFault, Session, SessionStep};
 use std::alloc::Global;
 use std::test::Fail;
 

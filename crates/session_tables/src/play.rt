@@ -1,7 +1,7 @@
 //! One call of a session after the other, with bytes that are known.
 
 ghost use Rattle.std.specs.Prelude.{◌≡◌, true, OnOk};
-ghost use Rattle.my_session.specs.Calls.{is_open};
+ghost use Rattle.my_session.specs.Tasks.{is_open};
 
 use crate::hex::bytes_of;
 use my_flags::CapabilityFlags;
@@ -9,9 +9,8 @@ use my_frame::limits::DEFAULT_MAX_ALLOWED_PACKET;
 use my_frame::{Blob, CodecFault, Listed, NoMemory};
 use my_grammar::Login;
 use my_handshake::Attributes;
-use my_session::{
-    Answer, Call, DriverError, Error, IoError, IoFault, IoKind, LinkFault, Session, SessionStep,
-};
+use my_reading::{Answer, Call, DriverError, Error, IoError, IoFault, IoKind};
+use my_session::{LinkFault, Session, SessionStep};
 use my_value::{Row, Value};
 use std::alloc::{AllocError, Global};
 use std::fmt::Write;

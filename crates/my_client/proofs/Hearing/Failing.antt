@@ -2,23 +2,24 @@
 use Rattle.std.proofs.Common.{ℕ, ◌≡◌, ◌≢◌, suc, zero, List, [], Bool, true, false, Option, Some, None, Result, Ok, Err, IfOk, inl, inr, refl, sym, ap, ◌∙◌, subst, arith}
 use Rattle.my_grammar.specs.declared.login.Login.{Login}
 use Rattle.my_session.specs.declared.answer.SessionStep.TheVariants as steps
-use Rattle.my_session.specs.declared.call.LinkFault.{LinkFault}
-use Rattle.my_session.specs.declared.call.LinkFault.TheVariants as faults
-use Rattle.my_session.specs.declared.call.Task.{Task}
-use Rattle.my_session.specs.declared.call.Task.TheVariants.{Nothing, Begun, Cleaning, Own, Arranging, Reading, Dropping, Leaving, Failing}
+use Rattle.my_session.specs.declared.task.LinkFault.{LinkFault}
+use Rattle.my_session.specs.declared.task.LinkFault.TheVariants as faults
+use Rattle.my_session.specs.declared.task.Task.{Task}
+use Rattle.my_session.specs.declared.task.Task.TheVariants.{Nothing, Begun, Cleaning, Own, Arranging, Reading, Dropping, Leaving, Failing}
 use Rattle.my_session.specs.declared.answer.Tick.TheVariants as ticks
-use Rattle.my_session.specs.declared.error.IoError.{IoError}
-use Rattle.my_session.specs.declared.error.IoError.TheVariants as ios
-use Rattle.my_session.specs.declared.error.IoKind.{IoKind}
-use Rattle.my_session.specs.declared.error.IoKind.TheVariants as kinds
-use Rattle.my_session.specs.declared.error.Error.{Error}
-use Rattle.my_session.specs.declared.error.Error.TheVariants as errors
-use Rattle.my_session.specs.Calls.{fault_in, is_open}
-use Rattle.my_session.specs.Errors.{unexpected_eof}
+use Rattle.my_reading.specs.declared.error.IoError.{IoError}
+use Rattle.my_reading.specs.declared.error.IoError.TheVariants as ios
+use Rattle.my_reading.specs.declared.error.IoKind.{IoKind}
+use Rattle.my_reading.specs.declared.error.IoKind.TheVariants as kinds
+use Rattle.my_reading.specs.declared.error.Error.{Error}
+use Rattle.my_reading.specs.declared.error.Error.TheVariants as errors
+use Rattle.my_session.specs.Tasks.{fault_in, is_open}
+use Rattle.my_reading.specs.Errors.{unexpected_eof}
 use Rattle.my_session.specs.Fits.{FaultFits, OwnKind, OwnIo, OwnError, IsLinkError}
 use Rattle.my_session.specs.Machine.{Tells, Does, FaultIs, next, next_by, when_owed, planned}
 use Rattle.my_session.specs.Tables.{plan_of}
-use Rattle.my_session.specs.History.{History, ToldReady, ToldError, ending}
+use Rattle.my_reading.specs.Told.{ToldReady, ToldError}
+use Rattle.my_session.specs.History.{History, ending}
 use Rattle.my_session.specs.Seen.{Seen}
 use Rattle.my_session.specs.Stands.{Stands, is_alive, owes}
 use Rattle.my_session.specs.Steps.{Steps, StepIs, AllGo, goes_on, moved, with_end, with_failing, failing}

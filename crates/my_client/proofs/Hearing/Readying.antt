@@ -1,13 +1,15 @@
 -- Where a call may begin.
 use Rattle.std.proofs.Common.{◌≡◌, List, [], ◌∷◌, ◌||◌, Bool, true, false, cond, None, refl, sym, ap, ◌∙◌, subst}
 use Rattle.my_grammar.specs.declared.login.Login.{Login}
-use Rattle.my_session.specs.declared.call.CallKind.{CallKind}
-use Rattle.my_session.specs.declared.call.CallKind.TheVariants.{Connect, Query, NextRow, DropResult, Ping, Quit}
-use Rattle.my_session.specs.declared.call.Task.{Task}
-use Rattle.my_session.specs.declared.call.Task.TheVariants.{Nothing}
-use Rattle.my_session.specs.Calls.{kind_of, is_connect, is_open}
+use Rattle.my_reading.specs.declared.call.CallKind.{CallKind}
+use Rattle.my_reading.specs.declared.call.CallKind.TheVariants.{Connect, Query, NextRow, DropResult, Ping, Quit}
+use Rattle.my_session.specs.declared.task.Task.{Task}
+use Rattle.my_session.specs.declared.task.Task.TheVariants.{Nothing}
+use Rattle.my_reading.specs.Calls.{kind_of, is_connect}
+use Rattle.my_session.specs.Tasks.{is_open}
 use Rattle.my_session.specs.Entries.{connects, connecting_in, has_connected}
-use Rattle.my_session.specs.History.{Made, Told, ToldReady, ToldRow, ToldEnd, ToldNone, ToldError, Dropped}
+use Rattle.my_reading.specs.Told.{Told, ToldReady, ToldRow, ToldEnd, ToldNone, ToldError, Dropped}
+use Rattle.my_session.specs.History.{Made}
 use Rattle.my_session.specs.Seen.{Seen}
 use Rattle.my_session.specs.Stands.{TaskIs}
 use Rattle.my_session.specs.Steps.{AtBegun, is_settled}

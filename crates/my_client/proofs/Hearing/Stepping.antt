@@ -1,19 +1,21 @@
 -- What a step of the session leaves of the open call.
 use Rattle.std.proofs.Common.{ℕ, ◌≡◌, List, [], ◌++◌, ◌||◌, Bool, true, false, Option, Some, None, refl, sym, ap, ◌∙◌, subst}
 use Rattle.my_grammar.specs.declared.login.Login.{Login}
-use Rattle.my_session.specs.declared.answer.Answer.{Answer}
+use Rattle.my_reading.specs.declared.answer.Answer.{Answer}
 use Rattle.my_session.specs.declared.answer.SessionStep.{SessionStep}
 use Rattle.my_session.specs.declared.answer.SessionStep.TheVariants as steps
-use Rattle.my_session.specs.declared.call.Call.{Call}
-use Rattle.my_session.specs.declared.call.CallKind.{CallKind}
-use Rattle.my_session.specs.declared.call.Task.{Task}
-use Rattle.my_session.specs.declared.call.Task.TheVariants.{Nothing}
-use Rattle.my_session.specs.declared.error.IoError.{IoError}
-use Rattle.my_session.specs.declared.error.Error.{Error}
-use Rattle.my_session.specs.declared.error.Error.TheVariants as errors
-use Rattle.my_session.specs.Calls.{kind_of, kind_in, fault_in}
+use Rattle.my_reading.specs.declared.call.Call.{Call}
+use Rattle.my_reading.specs.declared.call.CallKind.{CallKind}
+use Rattle.my_session.specs.declared.task.Task.{Task}
+use Rattle.my_session.specs.declared.task.Task.TheVariants.{Nothing}
+use Rattle.my_reading.specs.declared.error.IoError.{IoError}
+use Rattle.my_reading.specs.declared.error.Error.{Error}
+use Rattle.my_reading.specs.declared.error.Error.TheVariants as errors
+use Rattle.my_reading.specs.Calls.{kind_of}
+use Rattle.my_session.specs.Tasks.{kind_in, fault_in}
 use Rattle.my_session.specs.Fits.{may_be, may_be_told, is_begun, WasStepped, StepFits}
-use Rattle.my_session.specs.History.{History, Made, Told, ToldError, told, answered, passing, gone, took, has_closed}
+use Rattle.my_reading.specs.Told.{Told, ToldError, told}
+use Rattle.my_session.specs.History.{History, Made, answered, passing, gone, took, has_closed}
 use Rattle.my_session.specs.Causes.{HasCause}
 use Rattle.my_session.specs.Passed.{ArePassed}
 use Rattle.my_session.specs.Seen.{Seen}

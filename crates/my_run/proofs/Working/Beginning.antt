@@ -3,12 +3,14 @@ use Rattle.my_client.proofs.Hearing.Beginning.{begins, closed_kept, is_asked, is
 use Rattle.std.proofs.Common.{ℕ, ◌≡◌, ◌≢◌, List, [], ◌∷◌, Bool, true, false, Option, Some, None, refl, sym, ap, ◌∙◌, subst, arith}
 use Rattle.std.proofs.lemmas.Bool.Decides.{nat_tests}
 use Rattle.my_grammar.specs.declared.login.Login.{Login}
-use Rattle.my_session.specs.declared.call.Call.{Call}
-use Rattle.my_session.specs.declared.error.Error.{Error}
-use Rattle.my_session.specs.Calls.{kind_of, is_open}
-use Rattle.my_session.specs.Errors.{connection_closed}
+use Rattle.my_reading.specs.declared.call.Call.{Call}
+use Rattle.my_reading.specs.declared.error.Error.{Error}
+use Rattle.my_reading.specs.Calls.{kind_of}
+use Rattle.my_session.specs.Tasks.{is_open}
+use Rattle.my_reading.specs.Errors.{connection_closed}
 use Rattle.my_session.specs.Fits.{is_begun}
-use Rattle.my_session.specs.History.{History, ToldError, began, answered, has_closed}
+use Rattle.my_reading.specs.Told.{ToldError}
+use Rattle.my_session.specs.History.{History, began, answered, has_closed}
 use Rattle.my_session.specs.Seen.{Seen}
 use Rattle.my_session.specs.Stands.{Stands}
 use Rattle.my_session.specs.Steps.{begun, is_refused}

@@ -2,11 +2,13 @@
 use Rattle.std.proofs.Common.{ℕ, ◌≡◌, ◌⊎◌, inl, inr, List, [], ◌&&◌, not, Bool, true, false, cond, Option, Some, refl, sym, ap, ◌∙◌, subst}
 use Rattle.my_grammar.specs.declared.login.Login.{Login}
 use Rattle.my_reply.specs.declared.ok.OkPacket.{OkPacket}
-use Rattle.my_session.specs.declared.call.Task.{Task}
-use Rattle.my_session.specs.declared.call.Task.TheVariants.{Nothing}
-use Rattle.my_session.specs.Calls.{kind_of, fault_in, is_open, is_connect}
+use Rattle.my_session.specs.declared.task.Task.{Task}
+use Rattle.my_session.specs.declared.task.Task.TheVariants.{Nothing}
+use Rattle.my_reading.specs.Calls.{kind_of, is_connect}
+use Rattle.my_session.specs.Tasks.{fault_in, is_open}
 use Rattle.my_session.specs.Fits.{is_begun}
-use Rattle.my_session.specs.History.{History, Dropped, answered}
+use Rattle.my_reading.specs.Told.{Dropped}
+use Rattle.my_session.specs.History.{History, answered}
 use Rattle.my_session.specs.Machine.{dropped, fell, with_task}
 use Rattle.my_session.specs.Seen.{Seen}
 use Rattle.my_session.specs.Stands.{Stands}

@@ -6,8 +6,8 @@ use Rattle.my_grammar.specs.declared.login.Login.{Login}
 use Rattle.my_link.specs.declared.link.ReadItem.{ReadItem}
 use Rattle.my_link.specs.declared.link.WriteItem.{WriteItem}
 use Rattle.my_link.specs.Spent.{ReadsSpent, AllSpent, IsSpent, Whole}
-use Rattle.my_session.specs.Errors.{io_error}
-use Rattle.my_session.specs.declared.error.IoKind.TheVariants.{Dial}
+use Rattle.my_reading.specs.Errors.{io_error}
+use Rattle.my_reading.specs.declared.error.IoKind.TheVariants.{Dial}
 use Rattle.my_client.specs.declared.poll.After.{After}
 use Rattle.my_client.specs.declared.poll.After.TheVariants as after
 use Rattle.my_link.specs.declared.met.Met.{Met}

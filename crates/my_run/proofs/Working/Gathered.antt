@@ -4,15 +4,17 @@ use Rattle.std.proofs.lemmas.Bool.Decides.{nat_tests}
 use Rattle.std.proofs.lemmas.List.{append_assoc, append-nil}
 use Rattle.my_value.specs.RowParts.{RowParts}
 use Rattle.my_grammar.specs.declared.login.Login.{Login}
-use Rattle.my_session.specs.declared.answer.Answer.{Answer}
-use Rattle.my_session.specs.declared.answer.Answer.TheVariants as answers
-use Rattle.my_session.specs.declared.call.Call.TheVariants.{NextRow}
-use Rattle.my_session.specs.declared.error.Error.{Error}
-use Rattle.my_session.specs.declared.call.CallKind.{CallKind}
-use Rattle.my_session.specs.declared.call.Task.TheVariants.{Begun, Leaving}
-use Rattle.my_session.specs.Calls.{kind_of, is_open}
-use Rattle.my_session.specs.Errors.{connection_closed}
-use Rattle.my_session.specs.History.{History, ToldError, began, answered, has_closed}
+use Rattle.my_reading.specs.declared.answer.Answer.{Answer}
+use Rattle.my_reading.specs.declared.answer.Answer.TheVariants as answers
+use Rattle.my_reading.specs.declared.call.Call.TheVariants.{NextRow}
+use Rattle.my_reading.specs.declared.error.Error.{Error}
+use Rattle.my_reading.specs.declared.call.CallKind.{CallKind}
+use Rattle.my_session.specs.declared.task.Task.TheVariants.{Begun, Leaving}
+use Rattle.my_reading.specs.Calls.{kind_of}
+use Rattle.my_session.specs.Tasks.{is_open}
+use Rattle.my_reading.specs.Errors.{connection_closed}
+use Rattle.my_reading.specs.Told.{ToldError}
+use Rattle.my_session.specs.History.{History, began, answered, has_closed}
 use Rattle.my_session.specs.Seen.{Seen}
 use Rattle.my_session.specs.Stands.{Stands}
 use Rattle.my_session.specs.Steps.{begun, is_refused}

@@ -2,7 +2,8 @@
 use Rattle.std.proofs.Common.{ℕ, ◌≡◌, List, [], ◌∷◌, Option, Some, None, is_some, Bool, true, false, refl, sym, subst}
 use Rattle.my_value.specs.RowParts.{RowParts}
 use Rattle.my_grammar.specs.declared.login.Login.{Login}
-use Rattle.my_session.specs.Calls.{kind_of, is_open, is_connect}
+use Rattle.my_reading.specs.Calls.{kind_of, is_connect}
+use Rattle.my_session.specs.Tasks.{is_open}
 use Rattle.my_client.specs.declared.conn.Conn.{Conn}
 use Rattle.my_run.specs.declared.slot.Slot.{Slot}
 use Rattle.my_run.specs.declared.slot.Slot.TheVariants.{Held, There}

@@ -4,7 +4,7 @@ ghost use Rattle.my_script.specs.ErrorText.{driver_text, fault_text, two_text, c
 
 use super::parts::{push_bytes, push_decimal, push_marked};
 use my_frame::CodecFault;
-use my_session::{DriverError, Error, IoError, IoFault, IoKind, ServerError};
+use my_reading::{DriverError, Error, IoError, IoFault, IoKind, ServerError};
 use std::alloc::{AllocError, Global};
 
 fn push_driver(out: &mut Vec<u8>, error: DriverError) -> Result<(), AllocError>

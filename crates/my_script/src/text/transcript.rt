@@ -10,7 +10,7 @@ use super::value::{push_row, push_rows};
 use crate::transcript::{Outcome, StepAnswer, Tape, Transcript};
 use my_frame::NoMemory;
 use my_handshake::ServerVersion;
-use my_session::Error;
+use my_reading::Error;
 use std::alloc::{AllocError, Global};
 
 #[tactic(auto, unfolding(crate::specs::Text::version_text))]

@@ -25,11 +25,11 @@ use Rattle.my_grammar.specs.FitSets.{AreColumns}
 use Rattle.my_grammar.specs.Kinds.{or_else, is_caching, good_kind, failed_kind, count_kind, greets_kind, described_kind, done_kind, ended_kind, eof_kind, cells_kind, end_kind, kind_by}
 use Rattle.my_grammar.specs.Sets.{NoSets, Lone, Failed, Heading, Headed, Begun, Ended, Broken}
 use Rattle.my_grammar.specs.Talk.{Talk, Start, Unwelcome, Greeted, Settled, Asked, Replied, Queried, Silent, context_of, packets_of, Fits}
-use Rattle.my_session.specs.declared.facts.Facts.{Facts}
-use Rattle.my_session.specs.Facts.{facts_by}
+use Rattle.my_reading.specs.declared.facts.Facts.{Facts}
+use Rattle.my_reading.specs.Facts.{facts_by}
 use Rattle.my_session.specs.Groups.{columns_in_order, column_list}
 use Rattle.my_session.specs.Machine.{is_greeting}
-use Rattle.my_session.specs.Rows.{row_with, row_at}
+use Rattle.my_reading.specs.Rows.{row_with, row_at}
 use Rattle.my_session.proofs.Stands.Views.{column_there, row_columns, not_rows}
 
 -- forms that are no ERR

@@ -10,10 +10,10 @@ use Rattle.my_grammar.specs.declared.spot.Kind.{Kind}
 use Rattle.my_grammar.specs.declared.spot.Kind.TheVariants as kinds
 use Rattle.my_grammar.specs.Cut.{place_of}
 use Rattle.my_grammar.specs.Talk.{Talk, packets_of}
-use Rattle.my_session.specs.declared.facts.Facts.{Facts}
+use Rattle.my_reading.specs.declared.facts.Facts.{Facts}
 use Rattle.my_session.specs.Causes.{place_in}
 use Rattle.my_session.specs.Entries.{Entry, facts_of}
-use Rattle.my_session.specs.Facts.{with_greeting, with_column, told_after, facts_by}
+use Rattle.my_reading.specs.Facts.{with_greeting, with_column, told_after, facts_by}
 use Rattle.my_session.specs.Law.{in_order, talks}
 
 greeting_place : (o : Option Greeting) (f : Facts) → (with_greeting o f).place ≡ f.place

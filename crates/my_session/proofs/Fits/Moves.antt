@@ -1,12 +1,13 @@
 -- What a move of a call leaves: the call goes on as what it is, or returns what it may.
 use Rattle.std.proofs.Common.{◌≡◌, ◌||◌, Bool, true, false, Option, Some, None, refl, ◌∙◌}
-use Rattle.my_session.specs.declared.call.CallKind.{CallKind}
-use Rattle.my_session.specs.declared.call.Task.{Task}
-use Rattle.my_session.specs.declared.call.Task.TheVariants.{Nothing, Begun, Cleaning, Own, Arranging, Reading, Dropping, Leaving, Failing}
-use Rattle.my_session.specs.declared.error.Error.{Error}
-use Rattle.my_session.specs.Calls.{kind_in, fault_in, asks, is_connect}
+use Rattle.my_reading.specs.declared.call.CallKind.{CallKind}
+use Rattle.my_session.specs.declared.task.Task.{Task}
+use Rattle.my_session.specs.declared.task.Task.TheVariants.{Nothing, Begun, Cleaning, Own, Arranging, Reading, Dropping, Leaving, Failing}
+use Rattle.my_reading.specs.declared.error.Error.{Error}
+use Rattle.my_reading.specs.Calls.{asks, is_connect}
+use Rattle.my_session.specs.Tasks.{kind_in, fault_in}
 use Rattle.my_session.specs.Fits.{may_be_told, OwnError, is_begun}
-use Rattle.my_session.specs.History.{Told, ToldReady, ToldRow, ToldEnd, ToldNone, ToldError, Dropped}
+use Rattle.my_reading.specs.Told.{Told, ToldReady, ToldRow, ToldEnd, ToldNone, ToldError, Dropped}
 use Rattle.my_session.specs.Machine.{Doing, Goes, Passes, Sends, Needs, Tells, Move, fell, with_task, failed_by}
 use Rattle.my_session.specs.Seen.{Seen}
 

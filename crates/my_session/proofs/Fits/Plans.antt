@@ -7,16 +7,17 @@ use Rattle.my_grammar.specs.declared.spot.Spot.{Spot}
 use Rattle.my_grammar.specs.declared.spot.Spot.TheVariants as spots
 use Rattle.my_grammar.specs.Talk.{Talk, Queried, Asked, Silent}
 use Rattle.my_grammar.specs.Sets.{NoSets}
-use Rattle.my_session.specs.declared.call.CallKind.{CallKind}
-use Rattle.my_session.specs.declared.call.CallKind.TheVariants.{Connect, Query, NextRow, DropResult, Ping, Quit}
-use Rattle.my_session.specs.declared.call.Task.{Task}
-use Rattle.my_session.specs.declared.call.Task.TheVariants.{Nothing, Begun, Cleaning, Own, Arranging, Reading, Dropping, Leaving, Failing}
+use Rattle.my_reading.specs.declared.call.CallKind.{CallKind}
+use Rattle.my_reading.specs.declared.call.CallKind.TheVariants.{Connect, Query, NextRow, DropResult, Ping, Quit}
+use Rattle.my_session.specs.declared.task.Task.{Task}
+use Rattle.my_session.specs.declared.task.Task.TheVariants.{Nothing, Begun, Cleaning, Own, Arranging, Reading, Dropping, Leaving, Failing}
 use Rattle.my_session.specs.declared.tables.Plan.{Plan}
 use Rattle.my_session.specs.declared.tables.Plan.TheVariants as plans
-use Rattle.my_session.specs.Calls.{kind_in, fault_in, asks, call_of}
-use Rattle.my_session.specs.Commands.{command_of, command_in}
+use Rattle.my_reading.specs.Calls.{asks, call_of}
+use Rattle.my_session.specs.Tasks.{kind_in, fault_in}
+use Rattle.my_reading.specs.Commands.{command_of, command_in}
 use Rattle.my_session.specs.Fits.{may_be_told, is_begun}
-use Rattle.my_session.specs.History.{ToldReady, ToldEnd, ToldNone}
+use Rattle.my_reading.specs.Told.{ToldReady, ToldEnd, ToldNone}
 use Rattle.my_session.specs.Machine.{Sends, Move, next_terms, asked, arranged, queued, too_large, planned}
 use Rattle.my_session.specs.Seen.{Seen}
 use Rattle.my_session.specs.Tables.{plan_of, clean_plan, own_plan, query_plan, read_plan, drop_plan, first_task}

@@ -7,18 +7,18 @@ use Rattle.my_value.specs.RowParts.{RowParts}
 use Rattle.my_grammar.specs.declared.spot.Kind.{Kind}
 use Rattle.my_grammar.specs.declared.spot.Kind.TheVariants as kinds
 use Rattle.my_grammar.specs.Kinds.{kind_there}
-use Rattle.my_session.specs.declared.call.CallKind.{CallKind}
-use Rattle.my_session.specs.declared.call.CallKind.TheVariants.{Connect, Query, NextRow, DropResult, Ping, Quit}
-use Rattle.my_session.specs.declared.call.Task.{Task}
-use Rattle.my_session.specs.declared.call.Task.TheVariants.{Nothing, Begun, Cleaning, Own, Arranging, Reading, Dropping, Leaving, Failing}
+use Rattle.my_reading.specs.declared.call.CallKind.{CallKind}
+use Rattle.my_reading.specs.declared.call.CallKind.TheVariants.{Connect, Query, NextRow, DropResult, Ping, Quit}
+use Rattle.my_session.specs.declared.task.Task.{Task}
+use Rattle.my_session.specs.declared.task.Task.TheVariants.{Nothing, Begun, Cleaning, Own, Arranging, Reading, Dropping, Leaving, Failing}
 use Rattle.my_session.specs.declared.tables.Reaction.{Reaction}
 use Rattle.my_session.specs.declared.tables.Reaction.TheVariants as reactions
-use Rattle.my_session.specs.Calls.{kind_in, fault_in}
-use Rattle.my_session.specs.Errors.{invalid_data, unexpected_eof}
+use Rattle.my_session.specs.Tasks.{kind_in, fault_in}
+use Rattle.my_reading.specs.Errors.{invalid_data, unexpected_eof}
 use Rattle.my_session.specs.Fits.{may_be_told, is_begun}
-use Rattle.my_session.specs.History.{ToldReady, ToldRow, ToldEnd}
+use Rattle.my_reading.specs.Told.{ToldReady, ToldRow, ToldEnd}
 use Rattle.my_session.specs.Machine.{Needs, Move, fell, advanced, with_task, failed_by, reply_to, above, unless_above, refused, gave, passed, reacted, read_by, reading}
-use Rattle.my_session.specs.Rows.{row_at}
+use Rattle.my_reading.specs.Rows.{row_at}
 use Rattle.my_session.specs.Seen.{Seen}
 use Rattle.my_session.specs.Tables.{react, react_whole, is_breaking, is_connecting}
 use Rattle.my_session.proofs.Fits.Moves.{is_proper, GoesOn, going, IsOn, on_here, on_task, on_fell, MoveFits, any_error, failed_fits}

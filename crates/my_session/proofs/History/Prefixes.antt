@@ -14,7 +14,7 @@ use Rattle.my_session.specs.Entries.{IsGiven}
 use Rattle.my_session.specs.Groups.{Group, groups, with_item, with_items, with_stop, head_columns, grown}
 use Rattle.my_session.specs.Law.{AreGiven}
 use Rattle.my_session.specs.Prefix.{Set, rows_in, sets_in, AreWhole, IsPart, Covers, IsFront, IsFrontOf, AreFronts}
-use Rattle.my_session.specs.Rows.{row_of}
+use Rattle.my_reading.specs.Rows.{row_of}
 
 abbrev shut : Group
 shut = record { rows = []; ended = true }

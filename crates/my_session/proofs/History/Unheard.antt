@@ -9,9 +9,9 @@ use Rattle.my_grammar.specs.declared.spot.Kind.TheVariants as kinds
 use Rattle.my_grammar.specs.Cut.{Read, front_of, kind_of, read_payload, read_front, read_within, read_from}
 use Rattle.my_grammar.specs.Growth.{grow}
 use Rattle.my_grammar.specs.Talk.{Talk, context_of}
-use Rattle.my_session.specs.declared.error.ServerError.{ServerError}
+use Rattle.my_reading.specs.declared.error.ServerError.{ServerError}
 use Rattle.my_session.specs.Entries.{Entry}
-use Rattle.my_session.specs.Errors.{server_error}
+use Rattle.my_reading.specs.Errors.{server_error}
 use Rattle.my_session.specs.Law.{in_order, talks, at_most_one, errors_along}
 use Rattle.my_session.specs.Machine.{is_greeting}
 use Rattle.my_session.specs.ServerErrors.{error_onto, errors_in, errors_of}

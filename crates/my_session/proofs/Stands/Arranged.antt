@@ -5,7 +5,7 @@ use Rattle.std.proofs.lemmas.Option.{slice_get_within, slice_get_cases}
 use Rattle.my_grammar.specs.declared.login.Login.{Login}
 use Rattle.my_grammar.specs.declared.spot.Terms.{Terms}
 use Rattle.my_grammar.specs.Talk.{Talk}
-use Rattle.my_session.specs.Commands.{connecting, query_of, arranging_texts}
+use Rattle.my_reading.specs.Commands.{connecting, query_of, arranging_texts}
 
 none_past : (texts : List (List ℕ)) (n : ℕ) → slice_get texts n ≡ None → length texts ≤ n
 none_past texts n e = elim (slice_get_cases texts n).1 as (λ _. length texts ≤ n) [

@@ -7,19 +7,21 @@ use Rattle.my_grammar.specs.declared.spot.Spot.TheVariants as spots
 use Rattle.my_grammar.specs.Cut.{is_idle}
 use Rattle.my_grammar.specs.Sets.{NoSets}
 use Rattle.my_grammar.specs.Talk.{Talk, Asked, Queried, Silent, turns, context_of, packets_of, server_bytes, Fits, origin, login_in}
-use Rattle.my_session.specs.declared.call.Call.{Call}
-use Rattle.my_session.specs.declared.call.Call.TheVariants as calls
-use Rattle.my_session.specs.declared.call.CallKind.{CallKind}
-use Rattle.my_session.specs.declared.call.CallKind.TheVariants.{Connect, Query, NextRow, DropResult, Ping, Quit}
-use Rattle.my_session.specs.declared.call.Task.{Task}
-use Rattle.my_session.specs.declared.call.Task.TheVariants.{Nothing, Cleaning, Own, Arranging}
-use Rattle.my_session.specs.declared.error.Error.{Error}
+use Rattle.my_reading.specs.declared.call.Call.{Call}
+use Rattle.my_reading.specs.declared.call.Call.TheVariants as calls
+use Rattle.my_reading.specs.declared.call.CallKind.{CallKind}
+use Rattle.my_reading.specs.declared.call.CallKind.TheVariants.{Connect, Query, NextRow, DropResult, Ping, Quit}
+use Rattle.my_session.specs.declared.task.Task.{Task}
+use Rattle.my_session.specs.declared.task.Task.TheVariants.{Nothing, Cleaning, Own, Arranging}
+use Rattle.my_reading.specs.declared.error.Error.{Error}
 use Rattle.my_session.specs.declared.tables.Plan.TheVariants as plans
-use Rattle.my_session.specs.Calls.{kind_of, call_of, kind_in, is_open, asks, is_connect}
-use Rattle.my_session.specs.Commands.{opening, connecting, query_of, arranging_texts, command_in}
+use Rattle.my_reading.specs.Calls.{kind_of, call_of, asks, is_connect}
+use Rattle.my_session.specs.Tasks.{kind_in, is_open}
+use Rattle.my_reading.specs.Commands.{opening, connecting, query_of, arranging_texts, command_in}
 use Rattle.my_session.specs.Entries.{terms_by, has_connected, connecting_in}
-use Rattle.my_session.specs.Errors.{codec_error}
-use Rattle.my_session.specs.History.{History, ToldReady, closes_by}
+use Rattle.my_reading.specs.Errors.{codec_error}
+use Rattle.my_reading.specs.Told.{ToldReady, closes_by}
+use Rattle.my_session.specs.History.{History}
 use Rattle.my_session.specs.Machine.{Sends, with_task, failed_by, queued, too_large, next_terms, begins, arranged, planned, is_greeting}
 use Rattle.my_session.specs.Seen.{Seen}
 use Rattle.my_session.specs.ServerErrors.{errors_in, errors_of}

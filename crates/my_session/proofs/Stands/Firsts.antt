@@ -10,8 +10,8 @@ use Rattle.my_grammar.specs.Growth.{grow}
 use Rattle.my_grammar.specs.Sets.{SetHead, Sets, NoSets, Lone, Failed, Heading, Headed, Begun, Ended, Broken, grow_sets, with_column, with_column_of, with_close, spot_in}
 use Rattle.my_grammar.specs.Talk.{Talk, Start, Unwelcome, Greeted, Settled, Asked, Replied, Queried, Silent, context_of, Fits, origin}
 use Rattle.my_grammar.specs.declared.spot.Terms.{Terms}
-use Rattle.my_session.specs.declared.call.Call.TheVariants as calls
-use Rattle.my_session.specs.Commands.{opening}
+use Rattle.my_reading.specs.declared.call.Call.TheVariants as calls
+use Rattle.my_reading.specs.Commands.{opening}
 use Rattle.my_session.specs.Entries.{sets_of, IsGiven}
 use Rattle.my_session.specs.Groups.{groups}
 use Rattle.my_session.proofs.Stands.Spots.{is_known}

@@ -14,18 +14,20 @@ use Rattle.my_grammar.specs.declared.spot.Spot.TheVariants as spots
 use Rattle.my_grammar.specs.Contexts.{is_bad, spot_after}
 use Rattle.my_grammar.specs.Growth.{grow, not_greets}
 use Rattle.my_grammar.specs.Kinds.{kind_there}
-use Rattle.my_session.specs.declared.call.Call.TheVariants as calls
-use Rattle.my_session.specs.declared.call.CallKind.{CallKind}
-use Rattle.my_session.specs.declared.call.CallKind.TheVariants.{Connect, Query, NextRow, DropResult, Ping, Quit}
-use Rattle.my_session.specs.declared.call.Task.{Task}
-use Rattle.my_session.specs.declared.call.Task.TheVariants.{Nothing, Begun, Cleaning, Own, Arranging, Reading, Dropping, Leaving, Failing}
-use Rattle.my_session.specs.declared.error.Error.TheVariants as errors
-use Rattle.my_session.specs.Calls.{kind_of, call_of, kind_in, is_open, is_connect}
+use Rattle.my_reading.specs.declared.call.Call.TheVariants as calls
+use Rattle.my_reading.specs.declared.call.CallKind.{CallKind}
+use Rattle.my_reading.specs.declared.call.CallKind.TheVariants.{Connect, Query, NextRow, DropResult, Ping, Quit}
+use Rattle.my_session.specs.declared.task.Task.{Task}
+use Rattle.my_session.specs.declared.task.Task.TheVariants.{Nothing, Begun, Cleaning, Own, Arranging, Reading, Dropping, Leaving, Failing}
+use Rattle.my_reading.specs.declared.error.Error.TheVariants as errors
+use Rattle.my_reading.specs.Calls.{kind_of, call_of, is_connect}
+use Rattle.my_session.specs.Tasks.{kind_in, is_open}
 use Rattle.my_session.specs.Entries.{calls_in, connecting_in, givens, may_lack, has_connected, IsTied}
-use Rattle.my_session.specs.Errors.{invalid_data, server_error}
-use Rattle.my_session.specs.History.{History, Made, Told, ToldRow, ToldEnd, ToldError, answered, noted}
+use Rattle.my_reading.specs.Errors.{invalid_data, server_error}
+use Rattle.my_reading.specs.Told.{Told, ToldRow, ToldEnd, ToldError}
+use Rattle.my_session.specs.History.{History, Made, answered, noted}
 use Rattle.my_session.specs.Machine.{Move, fell, advanced, with_task, failed_by, refused, gave, passed, reacted, after_doing, is_greeting}
-use Rattle.my_session.specs.Rows.{row_at}
+use Rattle.my_reading.specs.Rows.{row_at}
 use Rattle.my_session.specs.Seen.{Seen}
 use Rattle.my_session.specs.ServerErrors.{error_onto, errors_in}
 use Rattle.my_session.specs.Stands.{Stands, Heard, TaskIs, TieIs, begun_of, is_reading, is_shaking, keeps}

@@ -5,18 +5,20 @@ use Rattle.my_grammar.specs.declared.login.Login.{Login}
 use Rattle.my_grammar.specs.declared.spot.Spot.{Spot}
 use Rattle.my_grammar.specs.declared.spot.Spot.TheVariants as spots
 use Rattle.my_grammar.specs.Talk.{Start}
-use Rattle.my_session.specs.declared.call.Call.{Call}
-use Rattle.my_session.specs.declared.call.Call.TheVariants as calls
-use Rattle.my_session.specs.declared.call.CallKind.{CallKind}
-use Rattle.my_session.specs.declared.call.CallKind.TheVariants.{Connect, Query, NextRow, DropResult, Ping, Quit}
-use Rattle.my_session.specs.declared.call.LinkFault.{LinkFault}
-use Rattle.my_session.specs.declared.call.LinkFault.TheVariants.{NoMemory}
-use Rattle.my_session.specs.declared.call.Task.{Task}
-use Rattle.my_session.specs.declared.call.Task.TheVariants.{Nothing, Begun, Cleaning, Own, Arranging, Reading, Dropping, Leaving, Failing}
-use Rattle.my_session.specs.Calls.{kind_of, text_of, call_of, kind_in, is_open, is_quit}
+use Rattle.my_reading.specs.declared.call.Call.{Call}
+use Rattle.my_reading.specs.declared.call.Call.TheVariants as calls
+use Rattle.my_reading.specs.declared.call.CallKind.{CallKind}
+use Rattle.my_reading.specs.declared.call.CallKind.TheVariants.{Connect, Query, NextRow, DropResult, Ping, Quit}
+use Rattle.my_session.specs.declared.task.LinkFault.{LinkFault}
+use Rattle.my_session.specs.declared.task.LinkFault.TheVariants.{NoMemory}
+use Rattle.my_session.specs.declared.task.Task.{Task}
+use Rattle.my_session.specs.declared.task.Task.TheVariants.{Nothing, Begun, Cleaning, Own, Arranging, Reading, Dropping, Leaving, Failing}
+use Rattle.my_reading.specs.Calls.{kind_of, text_of, call_of, is_quit}
+use Rattle.my_session.specs.Tasks.{kind_in, is_open}
 use Rattle.my_session.specs.Entries.{Entry, has_connected, connecting_in, calls_in, OwnsFirst, IsTied}
-use Rattle.my_session.specs.Errors.{connection_closed}
-use Rattle.my_session.specs.History.{History, Made, ToldError, Dropped, beginning, began, answered, took, gone, ending, losing, is_idle, has_closed}
+use Rattle.my_reading.specs.Errors.{connection_closed}
+use Rattle.my_reading.specs.Told.{ToldError, Dropped}
+use Rattle.my_session.specs.History.{History, Made, beginning, began, answered, took, gone, ending, losing, is_idle, has_closed}
 use Rattle.my_session.specs.Machine.{fell, with_task, dropped, is_greeting}
 use Rattle.my_session.specs.Seen.{Seen}
 use Rattle.my_session.specs.Stands.{Stands, TaskIs, TieIs, BegunAt, call_with, begun_of, is_reading, keeps, owes}

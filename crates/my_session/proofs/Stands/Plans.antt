@@ -12,21 +12,24 @@ use Rattle.my_grammar.specs.Sets.{context_in, Sets, NoSets, Lone, Failed, Headin
 use Rattle.my_grammar.specs.declared.spot.Context.{Context}
 use Rattle.my_grammar.specs.declared.spot.Terms.{Terms}
 use Rattle.my_grammar.specs.Talk.{Talk, Start, Unwelcome, Greeted, Settled, Asked, Replied, Queried, Silent, context_of}
-use Rattle.my_session.specs.declared.call.Call.TheVariants as calls
-use Rattle.my_session.specs.declared.call.CallKind.{CallKind}
-use Rattle.my_session.specs.declared.call.CallKind.TheVariants.{Connect, Query, NextRow, DropResult, Ping, Quit}
-use Rattle.my_session.specs.declared.call.LinkFault.{LinkFault}
-use Rattle.my_session.specs.declared.call.LinkFault.TheVariants as faults
-use Rattle.my_session.specs.declared.call.Task.{Task}
-use Rattle.my_session.specs.declared.call.Task.TheVariants.{Nothing, Begun, Cleaning, Own, Arranging, Reading, Dropping, Leaving, Failing}
-use Rattle.my_session.specs.declared.error.Error.{Error}
+use Rattle.my_reading.specs.declared.call.Call.TheVariants as calls
+use Rattle.my_reading.specs.declared.call.CallKind.{CallKind}
+use Rattle.my_reading.specs.declared.call.CallKind.TheVariants.{Connect, Query, NextRow, DropResult, Ping, Quit}
+use Rattle.my_session.specs.declared.task.LinkFault.{LinkFault}
+use Rattle.my_session.specs.declared.task.LinkFault.TheVariants as faults
+use Rattle.my_session.specs.declared.task.Task.{Task}
+use Rattle.my_session.specs.declared.task.Task.TheVariants.{Nothing, Begun, Cleaning, Own, Arranging, Reading, Dropping, Leaving, Failing}
+use Rattle.my_reading.specs.declared.error.Error.{Error}
 use Rattle.my_session.specs.declared.tables.Plan.{Plan}
 use Rattle.my_session.specs.declared.tables.Plan.TheVariants as plans
-use Rattle.my_session.specs.Calls.{kind_of, call_of, kind_in, fault_in, is_open}
+use Rattle.my_reading.specs.Calls.{kind_of, call_of}
+use Rattle.my_session.specs.Tasks.{kind_in, fault_in, is_open}
 use Rattle.my_session.specs.Entries.{givens, onto, sets_of, may_lack, connects, has_connected, connecting_in, IsTied}
-use Rattle.my_session.specs.Errors.{invalid_data, unexpected_eof, codec_error, link_error}
+use Rattle.my_reading.specs.Errors.{invalid_data, unexpected_eof, codec_error}
+use Rattle.my_session.specs.LinkErrors.{link_error}
 use Rattle.my_session.specs.Groups.{groups, with_stop, stop_given, given, given_after}
-use Rattle.my_session.specs.History.{History, Made, Told, ToldReady, ToldEnd, ToldNone, answered, noted, closes, closes_by, has_closed}
+use Rattle.my_reading.specs.Told.{Told, ToldReady, ToldEnd, ToldNone, closes, closes_by}
+use Rattle.my_session.specs.History.{History, Made, answered, noted, has_closed}
 use Rattle.my_session.specs.Machine.{Move, Needs, advanced, with_task, failed_by, reply_to, above, unless_above, reacted, read_by, reading, planned, when_owed, next_by, next, is_greeting}
 use Rattle.my_session.specs.Seen.{Seen}
 use Rattle.my_session.specs.ServerErrors.{errors_told, with_told}

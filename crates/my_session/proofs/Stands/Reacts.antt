@@ -13,22 +13,24 @@ use Rattle.my_grammar.specs.Contexts.{is_bad, spot_after}
 use Rattle.my_grammar.specs.Growth.{grow, not_greets}
 use Rattle.my_grammar.specs.Kinds.{kind_there}
 use Rattle.my_grammar.specs.Talk.{context_of, origin}
-use Rattle.my_session.specs.declared.call.Call.{Call}
-use Rattle.my_session.specs.declared.call.CallKind.{CallKind}
-use Rattle.my_session.specs.declared.call.CallKind.TheVariants.{Connect, Query, Ping}
-use Rattle.my_session.specs.declared.call.Task.{Task}
-use Rattle.my_session.specs.declared.call.Task.TheVariants as tasks
-use Rattle.my_session.specs.declared.error.Error.{Error}
-use Rattle.my_session.specs.declared.error.Error.TheVariants as errors
-use Rattle.my_session.specs.declared.error.ServerError.{ServerError}
-use Rattle.my_session.specs.Calls.{kind_of, call_of, kind_in, is_open, is_connect}
-use Rattle.my_session.specs.Commands.{opening}
+use Rattle.my_reading.specs.declared.call.Call.{Call}
+use Rattle.my_reading.specs.declared.call.CallKind.{CallKind}
+use Rattle.my_reading.specs.declared.call.CallKind.TheVariants.{Connect, Query, Ping}
+use Rattle.my_session.specs.declared.task.Task.{Task}
+use Rattle.my_session.specs.declared.task.Task.TheVariants as tasks
+use Rattle.my_reading.specs.declared.error.Error.{Error}
+use Rattle.my_reading.specs.declared.error.Error.TheVariants as errors
+use Rattle.my_reading.specs.declared.error.ServerError.{ServerError}
+use Rattle.my_reading.specs.Calls.{kind_of, call_of, is_connect}
+use Rattle.my_session.specs.Tasks.{kind_in, is_open}
+use Rattle.my_reading.specs.Commands.{opening}
 use Rattle.my_session.specs.Entries.{Entry, terms_by, connecting_in, ends_answered, is_answered, facts_of, givens, onto, sets_of, calls_in, may_lack, connects, has_connected, IsTied}
-use Rattle.my_session.specs.declared.facts.Facts.{Facts}
+use Rattle.my_reading.specs.declared.facts.Facts.{Facts}
 use Rattle.my_session.specs.Groups.{Group, groups, given, given_after, with_item, with_stop}
-use Rattle.my_session.specs.History.{History, Made, Told, ToldReady, ToldError, answered, closes, closes_by, has_closed}
+use Rattle.my_reading.specs.Told.{Told, ToldReady, ToldError, closes, closes_by}
+use Rattle.my_session.specs.History.{History, Made, answered, has_closed}
 use Rattle.my_session.specs.Machine.{fell, with_task, advanced, reply_to, reply_bytes, is_greeting}
-use Rattle.my_session.specs.Rows.{row_at}
+use Rattle.my_reading.specs.Rows.{row_at}
 use Rattle.my_session.specs.Seen.{Seen}
 use Rattle.my_session.specs.ServerErrors.{errors_in, errors_of, errors_told, with_error, with_told}
 use Rattle.my_session.specs.Stands.{Stands, Heard, TaskIs, TieIs, IsArranged, call_with, is_left, is_reading, keeps, known_part, owes, begun_of}

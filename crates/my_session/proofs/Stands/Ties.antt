@@ -2,15 +2,17 @@
 use Rattle.std.proofs.Common.{◌≡◌, ◌⊎◌, ℕ, suc, List, [], ◌∷◌, ◌||◌, Bool, true, false, cond, Option, Some, None, inl, inr, refl, sym, ap, ◌∙◌, subst}
 use Rattle.my_grammar.specs.declared.login.Login.{Login}
 use Rattle.my_grammar.specs.declared.spot.Spot.{Spot}
-use Rattle.my_session.specs.declared.call.Call.{Call}
-use Rattle.my_session.specs.declared.call.Call.TheVariants as calls
-use Rattle.my_session.specs.declared.call.CallKind.{CallKind}
-use Rattle.my_session.specs.declared.call.CallKind.TheVariants.{Connect, Query, NextRow, DropResult, Ping, Quit}
-use Rattle.my_session.specs.declared.call.Task.{Task}
-use Rattle.my_session.specs.declared.call.Task.TheVariants as tasks
-use Rattle.my_session.specs.Calls.{kind_of, call_of, kind_in, is_open, is_connect, asks}
+use Rattle.my_reading.specs.declared.call.Call.{Call}
+use Rattle.my_reading.specs.declared.call.Call.TheVariants as calls
+use Rattle.my_reading.specs.declared.call.CallKind.{CallKind}
+use Rattle.my_reading.specs.declared.call.CallKind.TheVariants.{Connect, Query, NextRow, DropResult, Ping, Quit}
+use Rattle.my_session.specs.declared.task.Task.{Task}
+use Rattle.my_session.specs.declared.task.Task.TheVariants as tasks
+use Rattle.my_reading.specs.Calls.{kind_of, call_of, is_connect, asks}
+use Rattle.my_session.specs.Tasks.{kind_in, is_open}
 use Rattle.my_session.specs.Entries.{Entry, calls_in, connecting_in, connects, has_connected, OwnsFirst, IsTied, may_lack}
-use Rattle.my_session.specs.History.{History, Made, Told, ToldReady, ToldRow, ToldEnd, ToldNone, ToldError, Dropped, answered, noted, with_answer, closes}
+use Rattle.my_reading.specs.Told.{Told, ToldReady, ToldRow, ToldEnd, ToldNone, ToldError, Dropped, closes}
+use Rattle.my_session.specs.History.{History, Made, answered, noted, with_answer}
 use Rattle.my_session.specs.Machine.{is_greeting}
 use Rattle.my_session.specs.Seen.{Seen}
 use Rattle.my_session.specs.Stands.{Stands, TieIs, IsArranged, begun_of}

@@ -17,11 +17,11 @@ use Rattle.my_grammar.specs.Sets.{SetHead, Sets, NoSets, Lone, Failed, Heading, 
 use Rattle.my_grammar.specs.Talk.{Talk, Start, Unwelcome, Greeted, Settled, Asked, Replied, Queried, Silent, packets_of, context_of, Fits}
 use Rattle.my_grammar.proofs.Growth.Known.{is_head_kind, known_head, is_then}
 use Rattle.my_value.specs.RowParts.{RowParts}
-use Rattle.my_session.specs.declared.facts.Facts.{Facts}
+use Rattle.my_reading.specs.declared.facts.Facts.{Facts}
 use Rattle.my_session.specs.Entries.{sets_of, ends_with_ok, IsGiven}
-use Rattle.my_session.specs.Facts.{counted, with_column as column_told, facts_by}
+use Rattle.my_reading.specs.Facts.{counted, with_column as column_told, facts_by}
 use Rattle.my_session.specs.Groups.{Group, groups, with_item, with_items, with_stop, columns_in_order, column_list, head_columns, IsEarlier}
-use Rattle.my_session.specs.Rows.{row_at, row_or}
+use Rattle.my_reading.specs.Rows.{row_at, row_or}
 
 same_terms : (k : Kind) (t : Talk) (p : List ℕ) (y : Sets) → IsEarlier (ends_with_ok t) y (sets_of t) → IsEarlier (ends_with_ok (grow k t p)) y (sets_of (grow k t p))
 same_terms (kinds.Greets c) (Start login) p y e = e

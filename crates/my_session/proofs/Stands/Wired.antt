@@ -15,11 +15,11 @@ use Rattle.my_grammar.specs.Growth.{grow, replies, not_greets, Grows, Reads, num
 use Rattle.my_grammar.specs.Kinds.{kind_there}
 use Rattle.my_grammar.specs.Talk.{Talk, Start, Unwelcome, Greeted, Settled, Asked, Replied, Queried, Silent, Server, turns, number_of, server_bytes, client_bytes, context_of, packets_of, Fits, origin, login_in, limit_of}
 use Rattle.my_grammar.proofs.Growth.{grows, reads}
-use Rattle.my_session.specs.declared.call.Call.{Call}
-use Rattle.my_session.specs.declared.facts.Facts.{Facts}
-use Rattle.my_session.specs.Commands.{opening}
+use Rattle.my_reading.specs.declared.call.Call.{Call}
+use Rattle.my_reading.specs.declared.facts.Facts.{Facts}
+use Rattle.my_reading.specs.Commands.{opening}
 use Rattle.my_session.specs.Entries.{Entry, taken_by, sent_by, facts_of, terms_by, connecting_in, ends_answered}
-use Rattle.my_session.specs.Facts.{facts_after, facts_by}
+use Rattle.my_reading.specs.Facts.{facts_after, facts_by}
 use Rattle.my_session.specs.Machine.{reply_to, reply_bytes, reply_number}
 use Rattle.my_session.specs.Stands.{Wire}
 

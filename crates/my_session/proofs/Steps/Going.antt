@@ -15,25 +15,26 @@ use Rattle.my_grammar.specs.Kinds.{kind_there}
 use Rattle.my_grammar.specs.Sets.{NoSets}
 use Rattle.my_grammar.specs.Talk.{Talk, Asked, Queried, Silent, turns, client_bytes}
 use Rattle.my_grammar.proofs.Cutting.Fronts.{takes_whole}
-use Rattle.my_session.specs.declared.call.CallKind.{CallKind}
-use Rattle.my_session.specs.declared.call.CallKind.TheVariants.{Connect, Query, NextRow, DropResult, Ping, Quit}
-use Rattle.my_session.specs.declared.call.LinkFault.{LinkFault}
-use Rattle.my_session.specs.declared.call.Task.{Task}
-use Rattle.my_session.specs.declared.call.Task.TheVariants.{Nothing, Begun, Cleaning, Own, Arranging, Reading, Dropping, Leaving, Failing}
-use Rattle.my_session.specs.declared.error.Error.{Error}
-use Rattle.my_session.specs.declared.error.Error.TheVariants as errors
+use Rattle.my_reading.specs.declared.call.CallKind.{CallKind}
+use Rattle.my_reading.specs.declared.call.CallKind.TheVariants.{Connect, Query, NextRow, DropResult, Ping, Quit}
+use Rattle.my_session.specs.declared.task.LinkFault.{LinkFault}
+use Rattle.my_session.specs.declared.task.Task.{Task}
+use Rattle.my_session.specs.declared.task.Task.TheVariants.{Nothing, Begun, Cleaning, Own, Arranging, Reading, Dropping, Leaving, Failing}
+use Rattle.my_reading.specs.declared.error.Error.{Error}
+use Rattle.my_reading.specs.declared.error.Error.TheVariants as errors
 use Rattle.my_session.specs.declared.tables.Plan.{Plan}
 use Rattle.my_session.specs.declared.tables.Plan.TheVariants as plans
 use Rattle.my_session.specs.declared.tables.Reaction.{Reaction}
 use Rattle.my_session.specs.declared.tables.Reaction.TheVariants as reactions
 use Rattle.my_session.specs.declared.answer.Tick.{Tick}
 use Rattle.my_session.specs.declared.answer.Tick.TheVariants as ticks
-use Rattle.my_session.specs.Calls.{is_open, fault_in, call_of}
-use Rattle.my_session.specs.Commands.{command_of, query_of, arranging_texts, command_in}
-use Rattle.my_session.specs.Errors.{invalid_data, unexpected_eof}
+use Rattle.my_reading.specs.Calls.{call_of}
+use Rattle.my_session.specs.Tasks.{is_open, fault_in}
+use Rattle.my_reading.specs.Commands.{command_of, query_of, arranging_texts, command_in}
+use Rattle.my_reading.specs.Errors.{invalid_data, unexpected_eof}
 use Rattle.my_session.specs.Machine as machine
 use Rattle.my_session.specs.Machine.{Move, Doing, Goes, Sends, Needs, Tells, Did, Does, FaultIs, fell, with_task, advanced, reply_to, above, unless_above, refused, gave, passed, reacted, read_by, read_kind, reading, next_terms, asked, arranged, planned, when_owed, next_by, next, doing}
-use Rattle.my_session.specs.Rows.{row_at}
+use Rattle.my_reading.specs.Rows.{row_at}
 use Rattle.my_session.specs.Seen.{Seen}
 use Rattle.my_session.specs.Steps.{rank, left_to_do, TickIs}
 use Rattle.my_session.specs.Tables.{plan_of, react, react_whole, react_connect, react_query, react_ping, react_own, is_breaking, is_connecting, first_task, clean_plan, own_plan, query_plan, read_plan, drop_plan}

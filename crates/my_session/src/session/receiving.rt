@@ -1,18 +1,18 @@
 //! What a session makes of the bytes that it received: the payload in front is read, and the open call reacts to it.
 
 ghost use Rattle.std.specs.Prelude.{◌≡◌, ◌≤◌, ◌++◌, length, drop, IfOk, OnOk, OnErr, Some};
-ghost use Rattle.my_session.specs.Errors.{server_error};
+ghost use Rattle.my_reading.specs.Errors.{server_error};
 ghost use Rattle.my_session.specs.Machine.{above};
 
 use super::Session;
-use crate::answer::{Answer, Tick};
-use crate::call::Task;
-use crate::error::{Error, IoKind, ServerError};
+use crate::answer::Tick;
+use crate::task::Task;
 use crate::tables::{Reaction, is_breaking, is_connecting, react_to};
 use my_frame::{
     Blob, CodecError, CodecFault, FramedPayload, NoMemory, ReadError, Span, Text, payload_in_front,
 };
 use my_grammar::{Kind, Spot, kind_at, login_response};
+use my_reading::{Answer, Error, IoKind, ServerError};
 use my_reply::{ErrPacket, read_err};
 use my_value::{Row, read_text_row};
 use std::alloc::Global;
@@ -56,7 +56,7 @@ impl Session {
     ghost use Rattle.my_reply.specs.ErrPacket.{err_at};
     ghost use Rattle.my_grammar.specs.Kinds.{kind_there};
     ghost use Rattle.my_session.specs.Machine.{Does, IsArrival, Lands, ReadsRow, fell, following, gave, is_greeting, passed, reacted, read_by, read_kind, reading, refused, reply_bytes, reply_number, reply_to, with_task};
-    ghost use Rattle.my_session.specs.Rows.{row_at};
+    ghost use Rattle.my_reading.specs.Rows.{row_at};
 
     // What the client sends at once after the payload.
     fn reply(&self, alloc: Global, kind: Kind, payload: &[u8]) -> Result<Option<Blob>, NoMemory>

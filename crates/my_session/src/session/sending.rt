@@ -3,15 +3,15 @@
 ghost use Rattle.std.specs.Prelude.{◌≡◌, ◌<◌, ◌-◌, ◌^◌, ◌++◌, IfSome, IfOk, List, reverse, slice_get, suc};
 ghost use Rattle.std.specs.Option.{option_copied};
 ghost use Rattle.my_command.specs.Client.Packet.{PartsFit, client_bytes};
-ghost use Rattle.my_session.specs.Commands.{arranging_texts, settings_text};
+ghost use Rattle.my_reading.specs.Commands.{arranging_texts, settings_text};
 
 use super::Session;
-use crate::answer::{Answer, Tick};
-use crate::call::{CallKind, Task};
-use crate::error::Error;
+use crate::answer::Tick;
+use crate::task::Task;
 use my_command::{ClientPacket, write_client};
 use my_frame::{Blob, CodecFault, NoMemory};
 use my_grammar::{Context, Login, Spot, Terms};
+use my_reading::{Answer, CallKind, Error};
 use std::alloc::Global;
 
 // What the server is asked for: the settings that the options leave open.
@@ -60,8 +60,8 @@ fn query_packet(alloc: Global, text: &[u8]) -> Result<ClientPacket, NoMemory>
 }
 
 impl Session {
-    ghost use Rattle.my_session.specs.Calls.{call_of};
-    ghost use Rattle.my_session.specs.Commands.{command_of, connecting};
+    ghost use Rattle.my_reading.specs.Calls.{call_of};
+    ghost use Rattle.my_reading.specs.Commands.{command_of, connecting};
     ghost use Rattle.my_session.specs.Machine.{Does, asked, arranged, commanded, next_terms};
 
     // A command's exchange begins.

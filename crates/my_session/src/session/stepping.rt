@@ -1,14 +1,14 @@
 //! The steps of an open call: moves until it asks for something or ends.
 
 ghost use Rattle.std.specs.Prelude.{◌≡◌, List, true};
-ghost use Rattle.my_session.specs.Calls.{fault_in};
+ghost use Rattle.my_session.specs.Tasks.{fault_in};
 
 use super::Session;
-use crate::answer::{Answer, SessionStep, Tick};
-use crate::call::{LinkFault, Task};
-use crate::error::{DriverError, Error, IoError, IoFault, IoKind};
+use crate::answer::{SessionStep, Tick};
+use crate::task::{LinkFault, Task};
 use crate::tables::{Plan, plan_for};
 use my_frame::CodecFault;
+use my_reading::{Answer, DriverError, Error, IoError, IoFault, IoKind};
 use std::alloc::Global;
 
 // The fault of a call that was made to fail.
@@ -29,10 +29,12 @@ fn fault_in(task: Task) -> Option<LinkFault>
 }
 
 impl Session {
-    ghost use Rattle.my_session.specs.Calls.{is_open, kind_in};
+    ghost use Rattle.my_session.specs.Tasks.{is_open, kind_in};
     ghost use Rattle.my_session.specs.Causes.{HasCause};
-    ghost use Rattle.my_session.specs.Errors.{codec_error, io_error, link_error};
-    ghost use Rattle.my_session.specs.History.{History, Told, passing};
+    ghost use Rattle.my_reading.specs.Errors.{codec_error, io_error};
+    ghost use Rattle.my_session.specs.LinkErrors.{link_error};
+    ghost use Rattle.my_reading.specs.Told.{Told};
+    ghost use Rattle.my_session.specs.History.{History, passing};
     ghost use Rattle.my_session.specs.Machine.{Does, failed_by, fell, next, planned, when_owed, with_task};
     ghost use Rattle.my_session.specs.Passed.{ArePassed};
     ghost use Rattle.my_session.specs.Stands.{Stands};

@@ -1,7 +1,7 @@
 use Rattle.std.proofs.Common.{◌≡◌, ◌+◌, ◌-◌, ◌^◌, length, true}
 use Rattle.my_frame.specs.declared.limits.TheConstants.{MOST_TAKEN}
 use Rattle.my_grammar.specs.declared.login.Login.{Login}
-use Rattle.my_session.specs.Calls.{is_open}
+use Rattle.my_session.specs.Tasks.{is_open}
 use Rattle.my_client.specs.Conn.{kept_of, seen_by}
 use Rattle.my_client.specs.Kept.{Asked}
 use Rattle.my_client.specs.Poll.{SoFar}

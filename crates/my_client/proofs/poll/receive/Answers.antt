@@ -1,6 +1,6 @@
 use Rattle.std.proofs.Common.{inr, sym, subst, ap}
 use Rattle.my_session.specs.Ends.{Fails}
-use Rattle.my_session.specs.declared.call.LinkFault.TheVariants.{Link}
+use Rattle.my_session.specs.declared.task.LinkFault.TheVariants.{Link}
 use Rattle.my_session.proofs.Ends.{failing_fails}
 use Rattle.my_client.specs.Conn.{asked_in, kept_of}
 use Rattle.my_client.proofs.Hearing.Failing.{broke_so, ended_so}

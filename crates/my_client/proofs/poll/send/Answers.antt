@@ -1,4 +1,4 @@
-use Rattle.my_session.specs.declared.call.LinkFault.TheVariants.{Link}
+use Rattle.my_session.specs.declared.task.LinkFault.TheVariants.{Link}
 use Rattle.my_session.proofs.Ends.{failing_fails}
 use Rattle.std.proofs.Common.{◌≡◌, ◌++◌, inl, take, rules, ap}
 use Rattle.my_client.specs.Conn.{asked_in, kept_of}

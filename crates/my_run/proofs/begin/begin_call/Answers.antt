@@ -1,6 +1,6 @@
 use Rattle.my_run.proofs.Working.Readying.{call_at}
 use Rattle.std.proofs.Common.{◌≡◌, true, false, rules, ap, refl}
-use Rattle.my_session.specs.Calls.{is_open}
+use Rattle.my_session.specs.Tasks.{is_open}
 use Rattle.my_run.proofs.Working.Beginning.{not_refused, refused_did, begun_so, closed_so}
 use Rattle.std.proofs.lemmas.Result.{IfOk-weaker}
 use Rattle.my_run.proofs.Working.Numbers.{did_kept}

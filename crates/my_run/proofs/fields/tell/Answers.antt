@@ -1,4 +1,4 @@
-use Rattle.my_session.specs.Calls.{is_open}
+use Rattle.my_session.specs.Tasks.{is_open}
 use Rattle.my_run.proofs.Working.Cancelling.{fields_so, no_fields}
 use Rattle.std.proofs.Common.{◌≡◌, true, false, rules}
 use Rattle.my_run.proofs.fields.tell.Goals as goal

@@ -1,8 +1,8 @@
 use Rattle.my_run.proofs.Working.Readying.{call_at, asked_first}
-use Rattle.my_session.specs.declared.call.Call.TheVariants.{NextRow}
+use Rattle.my_reading.specs.declared.call.Call.TheVariants.{NextRow}
 use Rattle.my_run.proofs.Working.Cancelling.{collect_refused}
 use Rattle.std.proofs.Common.{◌≡◌, true, false, rules, ap, refl}
-use Rattle.my_session.specs.Calls.{is_open}
+use Rattle.my_session.specs.Tasks.{is_open}
 use Rattle.my_run.proofs.Working.Beginning.{not_refused}
 use Rattle.my_run.proofs.Working.Gathered.{collect_begun, collect_closed}
 use Rattle.std.proofs.lemmas.Result.{IfOk-weaker}

@@ -1,6 +1,6 @@
 use Rattle.std.proofs.Common.{◌≡◌, ◌-◌, ◌^◌, length, true}
 use Rattle.my_grammar.specs.declared.login.Login.{Login}
-use Rattle.my_session.specs.Calls.{is_open}
+use Rattle.my_session.specs.Tasks.{is_open}
 use Rattle.my_run.specs.Gathering.{GatherSoFar}
 use Rattle.my_client.specs.Kept.{Asked}
 use Rattle.my_client.specs.Ready.{AskedReady}

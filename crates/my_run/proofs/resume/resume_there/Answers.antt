@@ -1,6 +1,6 @@
 use Rattle.my_run.proofs.Working.Readying.{asked_again}
 use Rattle.std.proofs.Common.{◌≡◌, true, false, rules, sym, ◌∙◌}
-use Rattle.my_session.specs.Calls.{is_open}
+use Rattle.my_session.specs.Tasks.{is_open}
 use Rattle.std.proofs.lemmas.Result.{IfOk-weaker}
 use Rattle.my_run.proofs.Working.Resuming.{open_asked, not_resumed, connect_resumed, gathering_resumed, call_resumed}
 use Rattle.my_run.proofs.resume.resume_there.Goals as goal

@@ -1,5 +1,5 @@
 use Rattle.std.proofs.Common.{◌≡◌, true}
-use Rattle.my_session.specs.Calls.{is_open}
+use Rattle.my_session.specs.Tasks.{is_open}
 use Rattle.session_tables.proofs.play.go_on.Given as goal
 
 abbrev pub invariant-steps : goal.invariant-steps

@@ -1,5 +1,5 @@
 use Rattle.std.proofs.Common.{◌≡◌, ◌↔◌, Bool, true, false, Result, Ok, Err, IsErr, OnOk, sym, subst}
-use Rattle.my_session.specs.Calls.{kind_of}
+use Rattle.my_reading.specs.Calls.{kind_of}
 use Rattle.my_session.specs.History.{History, began}
 use Rattle.my_session.specs.Seen.{Seen}
 use Rattle.my_session.specs.Stands.{Stands}

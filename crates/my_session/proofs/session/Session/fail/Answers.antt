@@ -1,5 +1,5 @@
 use Rattle.std.proofs.Common.{◌≡◌, true, sym, subst}
-use Rattle.my_session.specs.Calls.{is_open}
+use Rattle.my_session.specs.Tasks.{is_open}
 use Rattle.my_session.specs.Session.{seen}
 use Rattle.my_session.specs.View.{View}
 use Rattle.my_session.proofs.Stands.Plain.{failing_stands}

@@ -2,9 +2,10 @@ use Rattle.std.proofs.Common.{◌≡◌, ◌∷◌, refl, sym, ◌∙◌}
 use Rattle.my_session.specs.declared.answer.SessionStep.{SessionStep}
 use Rattle.my_session.specs.declared.answer.SessionStep.TheVariants as steps
 use Rattle.my_session.specs.declared.answer.Tick.TheVariants as ticks
-use Rattle.my_session.specs.Calls.{fault_in}
+use Rattle.my_session.specs.Tasks.{fault_in}
 use Rattle.my_session.specs.Causes.{EndCause, HasCause}
-use Rattle.my_session.specs.History.{History, ToldRow, ToldEnd, passing}
+use Rattle.my_reading.specs.Told.{ToldRow, ToldEnd}
+use Rattle.my_session.specs.History.{History, passing}
 use Rattle.my_session.specs.Seen.{Seen}
 use Rattle.my_session.proofs.Faults.{answer_cause, fault_because}
 use Rattle.my_session.proofs.Steps.Passing.{did_stay, goes_sound, does_login}

@@ -1,7 +1,8 @@
 use Rattle.std.proofs.Common.{◌≡◌, List, true}
-use Rattle.my_session.specs.Calls.{is_open, kind_in, fault_in}
+use Rattle.my_session.specs.Tasks.{is_open, kind_in, fault_in}
 use Rattle.my_session.specs.Steps.{left_to_do}
-use Rattle.my_session.specs.History.{History, Told, passing}
+use Rattle.my_reading.specs.Told.{Told}
+use Rattle.my_session.specs.History.{History, passing}
 use Rattle.my_session.specs.Passed.{ArePassed}
 use Rattle.my_session.specs.Stands.{Stands}
 use Rattle.my_session.proofs.Steps.{IsAt}

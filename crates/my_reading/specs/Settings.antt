@@ -7,9 +7,9 @@ use Rattle.my_value.specs.declared.value.Value.{Value}
 use Rattle.my_value.specs.declared.value.Value.TheVariants.{Bytes}
 use Rattle.my_value.specs.RowParts.{RowParts}
 use Rattle.my_grammar.specs.declared.login.Login.{Login}
-use Rattle.my_session.specs.declared.settings.Stage.{Stage}
-use Rattle.my_session.specs.declared.settings.Stage.TheVariants.{Unasked, Asked, Known}
-use Rattle.my_session.specs.declared.settings.Settings.{Settings}
+use Rattle.my_reading.specs.declared.settings.Stage.{Stage}
+use Rattle.my_reading.specs.declared.settings.Stage.TheVariants.{Unasked, Asked, Known}
+use Rattle.my_reading.specs.declared.settings.Settings.{Settings}
 
 -- the timeout where the answer has none: eight hours
 abbrev pub default_wait : ℕ

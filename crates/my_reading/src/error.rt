@@ -103,7 +103,7 @@ pub enum Error {
 }
 
 impl From<NoMemory> for Error {
-    ghost use Rattle.my_session.specs.declared.error.Error.TheVariants as errors;
+    ghost use Rattle.my_reading.specs.declared.error.Error.TheVariants as errors;
 
     ghost from_gives = { λ _ e. e ≡ errors.NoMemory };
 
@@ -113,7 +113,7 @@ impl From<NoMemory> for Error {
 }
 
 impl Error {
-    ghost use Rattle.my_session.specs.Errors.{is_fatal};
+    ghost use Rattle.my_reading.specs.Errors.{is_fatal};
 
     /// Whether a connection is of no use after it: a server's error alone leaves it open.
     pub fn is_fatal(&self) -> bool

@@ -12,10 +12,10 @@ use Rattle.my_grammar.specs.declared.spot.Kind.{Kind}
 use Rattle.my_grammar.specs.declared.spot.Kind.TheVariants.{Greets, Good, Failed, Count, Column as ColumnKind, ColumnsDone, Row, End, Bad}
 use Rattle.my_grammar.specs.declared.login.Login.{Login}
 use Rattle.my_grammar.specs.declared.packet.Packet.{Packet}
-use Rattle.my_session.specs.declared.facts.Facts.{Facts}
-use Rattle.my_session.specs.declared.settings.Settings.{Settings}
-use Rattle.my_session.specs.Rows.{row_at}
-use Rattle.my_session.specs.Settings.{first_settings, good_settings, end_settings, row_settings}
+use Rattle.my_reading.specs.declared.facts.Facts.{Facts}
+use Rattle.my_reading.specs.declared.settings.Settings.{Settings}
+use Rattle.my_reading.specs.Rows.{row_at}
+use Rattle.my_reading.specs.Settings.{first_settings, good_settings, end_settings, row_settings}
 
 -- no status bits
 abbrev pub no_status : StatusFlags

@@ -7,8 +7,8 @@ use Rattle.my_grammar.specs.declared.login.Login.{Login}
 use Rattle.my_grammar.specs.declared.spot.Terms.{Terms}
 use Rattle.my_grammar.specs.Sets.{NoSets}
 use Rattle.my_grammar.specs.Talk.{Talk, Start, Asked, Replied, Queried, Silent}
-use Rattle.my_session.specs.declared.call.Call.{Call}
-use Rattle.my_session.specs.declared.call.Call.TheVariants.{Connect, Query, NextRow, DropResult, Ping, Quit}
+use Rattle.my_reading.specs.declared.call.Call.{Call}
+use Rattle.my_reading.specs.declared.call.Call.TheVariants.{Connect, Query, NextRow, DropResult, Ping, Quit}
 
 -- the exchange of the command of a call that sends one, between client and server that keep to these terms
 abbrev pub command_of : Terms → Call → Option Talk

@@ -3,7 +3,7 @@
 ghost use Rattle.std.specs.Prelude.{◌≡◌, max, min, slice_get};
 ghost use Rattle.std.specs.Option.{option_copied};
 ghost use Rattle.my_frame.specs.Numeral.{whole_number};
-ghost use Rattle.my_session.specs.Settings.{bounded, in_force, limit_in, number_in, wait_in, wait_place};
+ghost use Rattle.my_reading.specs.Settings.{bounded, in_force, limit_in, number_in, wait_in, wait_place};
 
 use my_frame::limits::{
     DEFAULT_MAX_ALLOWED_PACKET, GREATEST_MAX_ALLOWED_PACKET, LEAST_MAX_ALLOWED_PACKET,
@@ -97,7 +97,7 @@ fn wait_in(limit: Option<u64>, option: Option<u64>, row: &Row) -> u64
 }
 
 impl Settings {
-    ghost use Rattle.my_session.specs.Settings.{awaits_row, end_settings, first_settings, good_settings, told};
+    ghost use Rattle.my_reading.specs.Settings.{awaits_row, end_settings, first_settings, good_settings, told};
 
     /// Before the login is settled.
     pub fn new(login: &Login) -> Settings

@@ -83,9 +83,9 @@ fn column_in(alloc: Global, payload: &[u8]) -> Result<Option<Column>, NoMemory>
 }
 
 impl Facts {
-    ghost use Rattle.my_session.specs.Facts.{first_facts, facts_after, counted, with_greeting, with_ok, with_count, with_column, with_settings};
-    ghost use Rattle.my_session.specs.Rows.{row_at};
-    ghost use Rattle.my_session.specs.Settings.{end_settings, good_settings, row_settings};
+    ghost use Rattle.my_reading.specs.Facts.{first_facts, facts_after, counted, with_greeting, with_ok, with_count, with_column, with_settings};
+    ghost use Rattle.my_reading.specs.Rows.{row_at};
+    ghost use Rattle.my_reading.specs.Settings.{end_settings, good_settings, row_settings};
 
     /// Before the first payload.
     pub fn new(alloc: Global, login: &Login) -> Result<Facts, NoMemory>

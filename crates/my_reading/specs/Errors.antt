@@ -3,15 +3,13 @@ use Rattle.std.specs.Prelude.{ℕ, Bool, true, false}
 use Rattle.std.specs.Str.Lossy.{utf8_lossy}
 use Rattle.my_frame.specs.declared.fault.CodecFault.{CodecFault}
 use Rattle.my_reply.specs.declared.err.ErrPacket.{ErrPacket}
-use Rattle.my_session.specs.declared.call.LinkFault.{LinkFault}
-use Rattle.my_session.specs.declared.call.LinkFault.TheVariants as faults
-use Rattle.my_session.specs.declared.error.Error.{Error}
-use Rattle.my_session.specs.declared.error.Error.TheVariants.{Driver, Io, Server, NoMemory}
-use Rattle.my_session.specs.declared.error.DriverError.TheVariants.{ConnectionClosed, TooLong}
-use Rattle.my_session.specs.declared.error.IoKind.{IoKind}
-use Rattle.my_session.specs.declared.error.IoKind.TheVariants.{Link, UnexpectedEof, InvalidData}
-use Rattle.my_session.specs.declared.error.IoError.TheVariants as ios
-use Rattle.my_session.specs.declared.error.ServerError.{ServerError}
+use Rattle.my_reading.specs.declared.error.Error.{Error}
+use Rattle.my_reading.specs.declared.error.Error.TheVariants.{Driver, Io, Server, NoMemory}
+use Rattle.my_reading.specs.declared.error.DriverError.TheVariants.{ConnectionClosed}
+use Rattle.my_reading.specs.declared.error.IoKind.{IoKind}
+use Rattle.my_reading.specs.declared.error.IoKind.TheVariants.{UnexpectedEof, InvalidData}
+use Rattle.my_reading.specs.declared.error.IoError.TheVariants as ios
+use Rattle.my_reading.specs.declared.error.ServerError.{ServerError}
 
 abbrev pub is_fatal : Error → Bool
 is_fatal (Server e) = false
@@ -33,12 +31,6 @@ codec_error fault = Io (ios.Codec fault)
 
 abbrev pub connection_closed : Error
 connection_closed = Driver ConnectionClosed
-
--- what a call that was made to fail returns
-abbrev pub link_error : LinkFault → ℕ → Error
-link_error faults.Link place = io_error Link place
-link_error faults.TooLong place = Driver TooLong
-link_error faults.NoMemory place = NoMemory
 
 -- what an ERR says
 abbrev pub server_error : ErrPacket → ServerError

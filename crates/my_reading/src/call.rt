@@ -1,4 +1,4 @@
-//! What a caller asks of a session, and what the open call is at.
+//! What a caller asks of a connection.
 
 ghost use Rattle.std.specs.Prelude.{◌≡◌, IfOk};
 
@@ -8,7 +8,7 @@ use std::alloc::Global;
 /// A call, with what it carries.
 #[derive(Debug, Drop, PartialEq, Eq)]
 pub enum Call {
-    /// The handshake, with which a session begins, and the queries that set the connection up.
+    /// The handshake, with which a connection begins, and the queries that set the connection up.
     Connect,
     /// A query of this text.
     Query(Blob),
@@ -31,41 +31,8 @@ pub enum CallKind {
     Quit,
 }
 
-/// Why a caller lets the open call fail.
-#[derive(Clone, Copy, Debug, PartialEq, Eq)]
-pub enum LinkFault {
-    /// The link failed.
-    Link,
-    /// The call took too many bytes without an answer.
-    TooLong,
-    NoMemory,
-}
-
-/// What the open call is at.
-#[derive(Clone, Copy, Debug, PartialEq, Eq)]
-pub enum Task {
-    /// No call is open.
-    Nothing,
-    /// The call wasn't stepped yet.
-    Begun(CallKind),
-    /// The rest of an earlier response is read before the call's own command.
-    Cleaning(CallKind),
-    /// The call's own exchange.
-    Own(CallKind),
-    /// The connection is set up: this many queries of the client's own were sent. Their answers are read whole.
-    Arranging(usize),
-    /// The next row is awaited.
-    Reading,
-    /// What is left is passed over.
-    Dropping,
-    /// A quit on a closed session.
-    Leaving,
-    /// The call was made to fail.
-    Failing(CallKind, LinkFault),
-}
-
 impl Call {
-    ghost use Rattle.my_session.specs.Calls.{kind_of};
+    ghost use Rattle.my_reading.specs.Calls.{kind_of};
 
     /// Which call it is.
     pub fn kind(&self) -> CallKind

@@ -1,0 +1,164 @@
+-- Each step that goes on leaves less to do, so that a call has steps enough.
+use Rattle.std.proofs.Common.{◌≡◌, ℕ, suc, zero, ◌+◌, ◌*◌, ◌<◌, ◌≤◌, List, [], ◌∷◌, length, nat_lt, Option, Some, None, Bool, true, false, cond, refl, ap, ◌∙◌, subst, arith}
+use Rattle.my_frame.specs.Front.{Front, Waiting, Broken, Whole}
+use Rattle.my_reply.specs.declared.err.ErrPacket.{ErrPacket}
+use Rattle.my_reply.specs.ErrPacket.{err_at}
+use Rattle.my_grammar.proofs.Cutting.Fronts.{takes_whole}
+use Rattle.my_grammar.specs.declared.login.Login.{Login}
+use Rattle.my_grammar.specs.declared.spot.Kind.{Kind}
+use Rattle.my_grammar.specs.declared.spot.Kind.TheVariants as kinds
+use Rattle.my_grammar.specs.Cut.{front_of, kind_of, is_over}
+use Rattle.my_grammar.specs.Growth.{grow}
+use Rattle.my_grammar.specs.Response.{response}
+use Rattle.my_grammar.specs.Talk.{Talk, context_of, limit_of, turns, number_of}
+use Rattle.my_reading.specs.declared.call.Call.{Call}
+use Rattle.my_reading.specs.Commands.{command_in}
+use Rattle.my_reading.specs.Course.{Part, All, Head, Item, Command, Stop, Step, Goes, Stops, step, step_of, unless_owed, with_front, reads, after_payload, after_kind, after_err, unless_long_response, with_command, is_greeting, is_rows, parts_of, run, halt, enough}
+use Rattle.my_reading.specs.Leads.{Leads, Here, Then, LeadsToCourse}
+use Rattle.my_reading.specs.Place.{Place, without_end, with_talk, owed, next_exchange, facts_at}
+use Rattle.my_reading.specs.Rows.{row_of}
+use Rattle.my_reading.specs.Told.{Told, ToldRow}
+
+-- an end that is left counts as one
+weight : Bool → ℕ
+weight false = 0
+weight true = 1
+
+size : List Part → Place → ℕ
+size parts p = suc (length p.unread + 2 * length parts + weight p.end_left)
+
+size_of : Step → ℕ
+size_of (Goes parts p) = size parts p
+size_of (Stops p s) = 0
+
+-- of two steps, each smaller where it is taken
+either : (b : Bool) (x y : Step) (n : ℕ) → (b ≡ true → size_of x < n) → (b ≡ false → size_of y < n) → size_of (cond b x y) < n
+either true x y n f g = f refl
+either false x y n f g = g refl
+
+module _ (part : Part) (parts : List Part) (p : Place) (t : Talk) (rest : List ℕ) where
+  -- after a payload: the bytes that follow it, and all parts
+  abbrev left : ℕ
+  left = suc (length rest + 2 * suc (length parts))
+
+  abbrev new : Place
+  new = with_talk p t rest
+
+  kind_size : (row : Told) (k : Kind) → size_of (after_kind part parts k new row) ≤ left
+  unfolding size_of size weight
+  kind_size row k = by_part part k
+    where
+      by_part : (part : Part) (k : Kind) → size_of (after_kind part parts k new row) ≤ left
+      by_part All k = omega arith
+      by_part Command k = omega arith
+      by_part Head (kinds.Good status) = omega arith
+      by_part Head (kinds.Greets n) = omega arith
+      by_part Head kinds.Failed = omega arith
+      by_part Head (kinds.Count n) = omega arith
+      by_part Head kinds.Column = omega arith
+      by_part Head kinds.ColumnsDone = omega arith
+      by_part Head kinds.Row = omega arith
+      by_part Head (kinds.End status) = omega arith
+      by_part Head kinds.Bad = omega arith
+      by_part Item (kinds.Good status) = omega arith
+      by_part Item (kinds.Greets n) = omega arith
+      by_part Item kinds.Failed = omega arith
+      by_part Item (kinds.Count n) = omega arith
+      by_part Item kinds.Column = omega arith
+      by_part Item kinds.ColumnsDone = omega arith
+      by_part Item kinds.Row = omega arith
+      by_part Item (kinds.End status) = omega arith
+      by_part Item kinds.Bad = omega arith
+
+  err_size : (login : Login) (x : Option ErrPacket) → size_of (after_err login p new x) ≤ left
+  unfolding size_of
+  err_size login None = omega arith
+  err_size login (Some e) = omega arith
+
+  long_size : (login : Login) (payload : List ℕ) (b : Bool) → nat_lt (limit_of p.talk) (length (response login payload)) ≡ b
+      → size_of (unless_long_response login p payload (Goes (part ∷ parts) new)) ≤ left
+  unfolding size_of size weight
+  long_size login payload true e = rw e (omega arith)
+  long_size login payload false e = rw e (omega arith)
+
+  payload_size : (login : Login) (payload : List ℕ) (k : Kind) → size_of (after_payload login part parts p new payload k) ≤ left
+  unfolding size_of
+  payload_size login payload kinds.Bad = omega arith
+  payload_size login payload kinds.Failed = err_size login (err_at (is_greeting (context_of p.talk).spot) payload)
+  payload_size login payload (kinds.Greets n) = long_size login payload (nat_lt (limit_of p.talk) (length (response login payload))) refl
+  payload_size login payload (kinds.Good status) = kind_size (ToldRow (row_of (facts_at login p).columns payload)) (kinds.Good status)
+  payload_size login payload (kinds.Count n) = kind_size (ToldRow (row_of (facts_at login p).columns payload)) (kinds.Count n)
+  payload_size login payload kinds.Column = kind_size (ToldRow (row_of (facts_at login p).columns payload)) kinds.Column
+  payload_size login payload kinds.ColumnsDone = kind_size (ToldRow (row_of (facts_at login p).columns payload)) kinds.ColumnsDone
+  payload_size login payload kinds.Row = kind_size (ToldRow (row_of (facts_at login p).columns payload)) kinds.Row
+  payload_size login payload (kinds.End status) = kind_size (ToldRow (row_of (facts_at login p).columns payload)) (kinds.End status)
+
+-- a payload that is read is not empty of bytes
+reads_size : (login : Login) (part : Part) (parts : List Part) (p : Place) → size_of (reads login part parts p) < suc (length p.unread + 2 * suc (length parts))
+unfolding size_of
+reads_size login part parts p = by_front (front_of p.talk p.unread) refl
+  where
+    by_front : (x : Front) → front_of p.talk p.unread ≡ x → size_of (with_front login part parts p x) < suc (length p.unread + 2 * suc (length parts))
+    by_front Waiting e = omega arith
+    by_front (Broken fault) e = omega arith
+    by_front (Whole payload rest next) e =
+        let short = (takes_whole (number_of (turns p.talk)) (limit_of p.talk) p.unread payload rest next e).shorter in
+        let less = payload_size part parts p (grow (kind_of p.talk payload) p.talk payload) rest login payload (kind_of p.talk payload) in
+        omega (arith, short, less)
+
+command_size : (call : Call) (parts : List Part) (p : Place) (x : Option Talk) → size_of (with_command call parts p x) < size (Command ∷ parts) p
+unfolding size_of size weight
+command_size call parts p None = omega arith
+command_size call parts p (Some t) = either (nat_lt (limit_of t) (length (command_in t))) _ _ _ (λ _. omega arith) (λ _. omega arith)
+
+quiet_size : (parts : List Part) (p : Place) → p.end_left ≡ true → size parts (without_end p) < size parts p
+unfolding size weight
+quiet_size parts p e = let one : weight p.end_left ≡ 1 = ap weight e in omega (arith, one)
+
+part_size : (login : Login) (call : Call) (parts : List Part) (p : Place) → size_of (step_of login call parts p) < size parts p
+unfolding size_of size weight
+part_size login call [] p = omega arith
+part_size login call (Command ∷ parts) p = command_size call parts p (next_exchange login call p)
+part_size login call (All ∷ parts) p =
+    let here = reads_size login All parts p in
+    either p.end_left _ _ _ (λ e. quiet_size (All ∷ parts) p e) (λ _. either (is_over p.talk) _ _ _ (λ _. omega arith) (λ _. omega (arith, here)))
+part_size login call (Head ∷ parts) p =
+    let here = reads_size login Head parts p in
+    either (is_rows (context_of p.talk).spot) _ _ _ (λ _. omega arith) (λ _. omega (arith, here))
+part_size login call (Item ∷ parts) p =
+    let here = reads_size login Item parts p in
+    either p.end_left _ _ _ (λ _. omega arith) (λ _. either (is_over p.talk) _ _ _ (λ _. omega arith) (λ _. omega (arith, here)))
+
+some_size : (parts : List Part) (p : Place) → 0 < size parts p
+unfolding size
+some_size parts p = omega arith
+
+step_size : (login : Login) (call : Call) (parts : List Part) (p : Place) → size_of (step login call parts p) < size parts p
+unfolding step size_of
+step_size login call parts p = by_owed (owed p)
+  where
+    by_owed : (x : List ℕ) → size_of (unless_owed x p (step_of login call parts p)) < size parts p
+    by_owed (b ∷ bytes) = some_size parts p
+    by_owed [] = part_size login call parts p
+
+stopped : (m : ℕ) (login : Login) (call : Call) (q : Place) (s : Stop) → run m login call (Stops q s) ≡ halt q s
+unfolding run
+stopped zero login call q s = refl
+stopped (suc m) login call q s = refl
+
+leads_to_run : (n : ℕ) (login : Login) (call : Call) (parts rest : List Part) (p r q : Place) (s : Stop) → size parts p ≤ n
+    → Leads login call parts p rest r → step login call rest r ≡ Stops q s → run n login call (Goes parts p) ≡ halt q s
+unfolding run size_of
+leads_to_run zero login call parts rest p r q s h l e = let some = some_size parts p in absurd (omega (arith, some, h))
+leads_to_run (suc n) login call parts rest p r q s h (Here a b) e = ap (run n login call) e ∙ stopped n login call q s
+leads_to_run (suc n) login call parts rest p r q s h (Then a b more m d f one l) e =
+    let less : size more m < size parts p = subst (λ x. size_of x < size parts p) one (step_size login call parts p) in
+    ap (run n login call) one ∙ leads_to_run n login call more rest m r q s (omega (arith, less, h)) l e
+
+pub leads_to_course : LeadsToCourse
+unfolding size weight
+leads_to_course login call p rest r q s l e = leads_to_run (enough login call p) login call (parts_of login call) rest p r q s (by_end p.end_left) l e
+  where
+    by_end : (u : Bool) → suc (length p.unread + 2 * length (parts_of login call) + weight u) ≤ enough login call p
+    by_end true = omega arith
+    by_end false = omega arith

@@ -1,0 +1,172 @@
+-- Steps that go on stay when more bytes are sent or received.
+use Rattle.std.proofs.Common.{◌≡◌, ℕ, suc, zero, List, [], ◌∷◌, ◌++◌, length, drop, nat_lt, Option, Some, None, Bool, true, false, cond, refl, sym, ap, ◌∙◌}
+use Rattle.my_frame.specs.Front.{Front, Waiting, Broken, Whole}
+use Rattle.my_frame.specs.FrontLaws.{FrontGrows}
+use Rattle.my_frame.proofs.Growing.{front_grows}
+use Rattle.my_reply.specs.declared.err.ErrPacket.{ErrPacket}
+use Rattle.my_reply.specs.ErrPacket.{err_at}
+use Rattle.my_grammar.specs.declared.login.Login.{Login}
+use Rattle.my_grammar.specs.declared.spot.Kind.{Kind}
+use Rattle.my_grammar.specs.declared.spot.Kind.TheVariants as kinds
+use Rattle.my_grammar.specs.Cut.{front_of, kind_of, is_over}
+use Rattle.my_grammar.specs.Growth.{grow}
+use Rattle.my_grammar.specs.Response.{response}
+use Rattle.my_grammar.specs.Talk.{Talk, context_of, limit_of, turns, number_of}
+use Rattle.my_reading.specs.declared.call.Call.{Call}
+use Rattle.my_reading.specs.Commands.{command_in}
+use Rattle.my_reading.specs.Course.{Part, All, Head, Item, Command, Step, Goes, Stops, return, step, step_of, unless_owed, with_front, reads, after_payload, after_kind, after_err, unless_long_response, with_command, is_greeting, is_rows}
+use Rattle.my_reading.specs.Leads.{Leads, Here, Then, StepStays, LeadingStays}
+use Rattle.my_reading.specs.Place.{Place, without_end, with_bytes, owed, client_side, exchanges, with_talk, next_exchange, facts_at}
+use Rattle.my_reading.specs.Rows.{row_of}
+use Rattle.my_reading.specs.Told.{Told, ToldRow, ToldEnd, ToldNone}
+
+-- the same step, with more bytes
+lift : List ℕ → List ℕ → Step → Step
+lift sent taken (Goes parts p) = Goes parts (with_bytes sent taken p)
+lift sent taken (Stops p s) = Stops (with_bytes sent taken p) s
+
+drop_of_none : (k : ℕ) → drop {A = ℕ} k [] ≡ []
+drop_of_none zero = refl
+drop_of_none (suc k) = refl
+
+-- what was sent whole stays so
+drop_more : (xs ys zs : List ℕ) → drop (length xs) zs ≡ [] → drop (length (xs ++ ys)) zs ≡ []
+drop_more [] ys [] e = drop_of_none (length ys)
+drop_more [] ys (z ∷ zs) e = cc
+drop_more (x ∷ xs) ys [] e = refl
+drop_more (x ∷ xs) ys (z ∷ zs) e = drop_more xs ys zs e
+
+if_true : (b : Bool) (x y : Step) → b ≡ true → cond b x y ≡ x
+if_true true x y e = refl
+if_true false x y e = cc
+
+if_false : (b : Bool) (x y : Step) → b ≡ false → cond b x y ≡ y
+if_false false x y e = refl
+if_false true x y e = cc
+
+module _ (login : Login) (sent taken : List ℕ) where
+  abbrev more : Place → Place
+  more p = with_bytes sent taken p
+
+  kind_more : (part : Part) (parts : List Part) (k : Kind) (new : Place) (row : Told)
+      → after_kind part parts k (more new) row ≡ lift sent taken (after_kind part parts k new row)
+  unfolding lift
+  kind_more All parts k new row = refl
+  kind_more Command parts k new row = refl
+  kind_more Head parts (kinds.Good status) new row = refl
+  kind_more Head parts (kinds.Greets n) new row = refl
+  kind_more Head parts kinds.Failed new row = refl
+  kind_more Head parts (kinds.Count n) new row = refl
+  kind_more Head parts kinds.Column new row = refl
+  kind_more Head parts kinds.ColumnsDone new row = refl
+  kind_more Head parts kinds.Row new row = refl
+  kind_more Head parts (kinds.End status) new row = refl
+  kind_more Head parts kinds.Bad new row = refl
+  kind_more Item parts (kinds.Good status) new row = refl
+  kind_more Item parts (kinds.Greets n) new row = refl
+  kind_more Item parts kinds.Failed new row = refl
+  kind_more Item parts (kinds.Count n) new row = refl
+  kind_more Item parts kinds.Column new row = refl
+  kind_more Item parts kinds.ColumnsDone new row = refl
+  kind_more Item parts kinds.Row new row = refl
+  kind_more Item parts (kinds.End status) new row = refl
+  kind_more Item parts kinds.Bad new row = refl
+
+  module _ (part : Part) (parts : List Part) (p : Place) where
+    abbrev row : List ℕ → Told
+    row payload = ToldRow (row_of (facts_at login p).columns payload)
+
+    err_more : (new : Place) (x : Option ErrPacket)
+        → after_err login (more p) (more new) x ≡ lift sent taken (after_err login p new x)
+    unfolding lift
+    err_more new None = refl
+    err_more new (Some e) = refl
+
+    long_more : (new : Place) (payload : List ℕ) (b : Bool)
+        → nat_lt (limit_of p.talk) (length (response login payload)) ≡ b
+        → unless_long_response login (more p) payload (Goes (part ∷ parts) (more new))
+          ≡ lift sent taken (unless_long_response login p payload (Goes (part ∷ parts) new))
+    unfolding lift
+    long_more new payload true e = rw e refl
+    long_more new payload false e = rw e refl
+
+    payload_more : (new : Place) (payload : List ℕ) (k : Kind)
+        → after_payload login part parts (more p) (more new) payload k
+          ≡ lift sent taken (after_payload login part parts p new payload k)
+    unfolding lift
+    payload_more new payload kinds.Bad = refl
+    payload_more new payload kinds.Failed = err_more new (err_at (is_greeting (context_of p.talk).spot) payload)
+    payload_more new payload (kinds.Greets n) = long_more new payload (nat_lt (limit_of p.talk) (length (response login payload))) refl
+    payload_more new payload (kinds.Good status) = kind_more part parts (kinds.Good status) new (row payload)
+    payload_more new payload (kinds.Count n) = kind_more part parts (kinds.Count n) new (row payload)
+    payload_more new payload kinds.Column = kind_more part parts kinds.Column new (row payload)
+    payload_more new payload kinds.ColumnsDone = kind_more part parts kinds.ColumnsDone new (row payload)
+    payload_more new payload kinds.Row = kind_more part parts kinds.Row new (row payload)
+    payload_more new payload (kinds.End status) = kind_more part parts (kinds.End status) new (row payload)
+
+    front_more : (rest : List Part) (q : Place) (x : Front) → FrontGrows taken x (front_of p.talk (p.unread ++ taken))
+        → with_front login part parts p x ≡ Goes rest q → reads login part parts (more p) ≡ Goes rest (more q)
+    unfolding lift
+    front_more rest q Waiting g e = cc
+    front_more rest q (Broken fault) g e = cc
+    front_more rest q (Whole payload left next) g e =
+        ap (with_front login part parts (more p)) g
+        ∙ payload_more (with_talk p (grow (kind_of p.talk payload) p.talk payload) left) payload (kind_of p.talk payload)
+        ∙ ap (lift sent taken) e
+
+    reads_more : (rest : List Part) (q : Place) → reads login part parts p ≡ Goes rest q
+        → reads login part parts (more p) ≡ Goes rest (more q)
+    reads_more rest q e = front_more rest q (front_of p.talk p.unread) (front_grows (number_of (turns p.talk)) (limit_of p.talk) p.unread taken) e
+
+  module _ (call : Call) (p : Place) (rest : List Part) (q : Place) where
+    command_more : (parts : List Part) (x : Option Talk)
+        → with_command call parts (more p) x ≡ lift sent taken (with_command call parts p x)
+    unfolding lift
+    command_more parts None = refl
+    command_more parts (Some t) = by_length (nat_lt (limit_of t) (length (command_in t))) refl
+      where
+        by_length : (b : Bool) → nat_lt (limit_of t) (length (command_in t)) ≡ b
+            → with_command call parts (more p) (Some t) ≡ lift sent taken (with_command call parts p (Some t))
+        by_length true e = rw e refl
+        by_length false e = rw e refl
+
+    -- one of two steps, by a test that more bytes leave as it is
+    either_more : (b : Bool) (x y x' y' : Step) → (x ≡ Goes rest q → x' ≡ Goes rest (more q))
+        → (y ≡ Goes rest q → y' ≡ Goes rest (more q)) → cond b x y ≡ Goes rest q → cond b x' y' ≡ Goes rest (more q)
+    either_more true x y x' y' f g e = f e
+    either_more false x y x' y' f g e = g e
+
+    part_more : (parts : List Part) → step_of login call parts p ≡ Goes rest q → step_of login call parts (more p) ≡ Goes rest (more q)
+    unfolding lift
+    part_more [] e = cc
+    part_more (Command ∷ parts) e = command_more parts (next_exchange login call p) ∙ ap (lift sent taken) e
+    part_more (All ∷ parts) e =
+        either_more p.end_left _ _ _ _ (λ f. ap (lift sent taken) f)
+        (either_more (is_over p.talk) _ _ _ _ (λ f. ap (lift sent taken) f) (reads_more All parts p rest q)) e
+    part_more (Head ∷ parts) e =
+        either_more (is_rows (context_of p.talk).spot) _ _ _ _ (λ f. ap (lift sent taken) f) (reads_more Head parts p rest q) e
+    part_more (Item ∷ parts) e =
+        either_more p.end_left _ _ _ _ (λ f. no_stop _ _ f)
+        (either_more (is_over p.talk) _ _ _ _ (λ f. no_stop _ _ f) (reads_more Item parts p rest q)) e
+      where
+        no_stop : (r : Place) (t : Told) {x : Step} → return r t ≡ Goes rest q → x ≡ Goes rest (more q)
+        no_stop r t f = cc
+
+pub step_stays : StepStays
+unfolding step
+step_stays login call parts p sent taken rest q e = by_owed (owed p) refl e
+  where
+    by_owed : (x : List ℕ) → owed p ≡ x → unless_owed x p (step_of login call parts p) ≡ Goes rest q
+        → unless_owed (owed (with_bytes sent taken p)) (with_bytes sent taken p) (step_of login call parts (with_bytes sent taken p))
+          ≡ Goes rest (with_bytes sent taken q)
+    by_owed (b ∷ bytes) o e = cc
+    by_owed [] o e =
+        ap (λ x. unless_owed x (with_bytes sent taken p) (step_of login call parts (with_bytes sent taken p)))
+           (drop_more p.sent sent (client_side (exchanges p)) o)
+        ∙ part_more login sent taken call p rest q parts e
+
+pub leading_stays : LeadingStays
+leading_stays login call parts p rest q sent taken (Here a b) = Here a (with_bytes sent taken b)
+leading_stays login call parts p rest r sent taken (Then a b more q c d one l) =
+    Then a (with_bytes sent taken b) more (with_bytes sent taken q) c (with_bytes sent taken d)
+    (step_stays login call a b sent taken more q one) (leading_stays login call more q c d sent taken l)

@@ -1,0 +1,166 @@
+-- What a call comes to over the bytes so far: the command table with the stops of each call.
+-- MySQL client/server protocol, "Command Phase": the response of a command is read whole before the next command is sent.
+use Rattle.std.specs.Prelude.{ℕ, zero, suc, ◌+◌, ◌*◌, nat_lt, List, [], ◌∷◌, length, Option, Some, None, Bool, true, false, if◌then◌else◌}
+use Rattle.my_frame.specs.declared.fault.CodecFault.TheVariants.{TooLarge}
+use Rattle.my_frame.specs.Front.{Front, Waiting, Broken, Whole}
+use Rattle.my_reply.specs.declared.err.ErrPacket.{ErrPacket}
+use Rattle.my_reply.specs.ErrPacket.{err_at}
+use Rattle.my_grammar.specs.declared.login.Login.{Login}
+use Rattle.my_grammar.specs.declared.spot.Kind.{Kind}
+use Rattle.my_grammar.specs.declared.spot.Kind.TheVariants as kinds
+use Rattle.my_grammar.specs.declared.spot.Spot.{Spot}
+use Rattle.my_grammar.specs.declared.spot.Spot.TheVariants as spots
+use Rattle.my_grammar.specs.Cut.{front_of, kind_of, is_over}
+use Rattle.my_grammar.specs.Growth.{grow}
+use Rattle.my_grammar.specs.Response.{response}
+use Rattle.my_grammar.specs.Talk.{Talk, context_of, limit_of}
+use Rattle.my_reading.specs.declared.call.Call.{Call}
+use Rattle.my_reading.specs.declared.call.Call.TheVariants as calls
+use Rattle.my_reading.specs.declared.error.Error.{Error}
+use Rattle.my_reading.specs.declared.error.Error.TheVariants.{Server}
+use Rattle.my_reading.specs.Commands.{arranging_texts, command_in}
+use Rattle.my_reading.specs.Errors.{codec_error, invalid_data, server_error}
+use Rattle.my_reading.specs.Place.{Place, facts_at, owed, without_end, with_end, with_talk, with_exchange, next_exchange}
+use Rattle.my_reading.specs.Rows.{row_of}
+use Rattle.my_reading.specs.Told.{Told, ToldReady, ToldRow, ToldEnd, ToldNone, ToldError}
+
+-- A part of a call: the rest of the newest exchange is read; it is read to the head of its first set, or to its next row or end; or the
+-- call's next command is sent.
+pub data Part : Type 0 where
+  All : Part
+  Head : Part
+  Item : Part
+  Command : Part
+
+-- each query that sets a connection up is sent, and its response read whole
+abbrev pub parts_of_texts : List (List ℕ) → List Part
+parts_of_texts [] = []
+parts_of_texts (text ∷ texts) = Command ∷ All ∷ parts_of_texts texts
+
+-- the command table: the parts of each call, in order
+abbrev pub parts_of : Login → Call → List Part
+parts_of login calls.Connect = All ∷ parts_of_texts (arranging_texts login)
+parts_of login (calls.Query text) = All ∷ Command ∷ Head ∷ []
+parts_of login calls.NextRow = Item ∷ []
+parts_of login calls.DropResult = All ∷ []
+parts_of login calls.Ping = All ∷ Command ∷ All ∷ []
+parts_of login calls.Quit = All ∷ Command ∷ []
+
+-- where a call stops: bytes are to be sent, more bytes are awaited, or it returns this
+pub data Stop : Type 0 where
+  Owes : Stop
+  Awaits : Stop
+  Returns : (t : Told) → Stop
+
+-- one step of a call: it goes on with these parts, or stops
+pub data Step : Type 0 where
+  Goes : (parts : List Part) (p : Place) → Step
+  Stops : (p : Place) (s : Stop) → Step
+
+abbrev pub return : Place → Told → Step
+return p t = Stops p (Returns t)
+
+abbrev pub failure : Place → Error → Step
+failure p e = return p (ToldError e)
+
+-- the spot after a whole head
+abbrev pub is_rows : Spot → Bool
+is_rows spots.Rows = true
+is_rows s = false
+
+abbrev pub is_greeting : Spot → Bool
+is_greeting spots.Greeting = true
+is_greeting s = false
+
+-- a payload that fits no case there
+abbrev pub unfit : Login → Place → Step
+unfit login p = failure p (invalid_data (facts_at login p).place)
+
+-- After a payload of this kind, with which the place is new: what the part comes to, or that it goes on. `row` is the payload as a row.
+abbrev pub after_kind : Part → List Part → Kind → Place → Told → Step
+after_kind Head parts (kinds.Good status) new row = Goes parts (with_end new)
+after_kind Item parts (kinds.Good status) new row = return new ToldEnd
+after_kind Item parts (kinds.End status) new row = return new ToldEnd
+after_kind Item parts kinds.Row new row = return new row
+after_kind part parts k new row = Goes (part ∷ parts) new
+
+-- an ERR ends the call
+abbrev pub after_err : Login → Place → Place → Option ErrPacket → Step
+after_err login p new None = unfit login p
+after_err login p new (Some e) = failure new (Server (server_error e))
+
+-- the response to a greeting may be above the limit
+abbrev pub unless_long_response : Login → Place → List ℕ → Step → Step
+unless_long_response login p payload s =
+    if nat_lt (limit_of p.talk) (length (response login payload))
+    then failure p (codec_error (TooLarge (length (response login payload)) (limit_of p.talk)))
+    else s
+
+abbrev pub after_payload : Login → Part → List Part → Place → Place → List ℕ → Kind → Step
+after_payload login part parts p new payload kinds.Bad = unfit login p
+after_payload login part parts p new payload kinds.Failed = after_err login p new (err_at (is_greeting (context_of p.talk).spot) payload)
+after_payload login part parts p new payload (kinds.Greets capabilities) = unless_long_response login p payload (Goes (part ∷ parts) new)
+after_payload login part parts p new payload k = after_kind part parts k new (ToldRow (row_of (facts_at login p).columns payload))
+
+-- what the unread bytes begin with
+abbrev pub with_front : Login → Part → List Part → Place → Front → Step
+with_front login part parts p Waiting = Stops p Awaits
+with_front login part parts p (Broken fault) = failure p (codec_error fault)
+with_front login part parts p (Whole payload rest next) =
+    after_payload login part parts p (with_talk p (grow (kind_of p.talk payload) p.talk payload) rest) payload (kind_of p.talk payload)
+
+-- the payload in front is read
+abbrev pub reads : Login → Part → List Part → Place → Step
+reads login part parts p = with_front login part parts p (front_of p.talk p.unread)
+
+-- the command is above the limit, or its exchange begins
+abbrev pub with_command : Call → List Part → Place → Option Talk → Step
+with_command call parts p None = Goes parts p
+with_command call parts p (Some t) =
+    if nat_lt (limit_of t) (length (command_in t))
+    then failure p (codec_error (TooLarge (length (command_in t)) (limit_of t)))
+    else Goes parts (with_exchange p call t)
+
+-- what the first part comes to where nothing is owed; without a part the call is done
+abbrev pub step_of : Login → Call → List Part → Place → Step
+step_of login call [] p = return p ToldReady
+step_of login call (Command ∷ parts) p = with_command call parts p (next_exchange login call p)
+step_of login call (All ∷ parts) p =
+    if p.end_left
+    then Goes (All ∷ parts) (without_end p)
+    else (if is_over p.talk then Goes parts p else reads login All parts p)
+step_of login call (Head ∷ parts) p = if is_rows (context_of p.talk).spot then Goes parts p else reads login Head parts p
+step_of login call (Item ∷ parts) p =
+    if p.end_left
+    then return (without_end p) ToldEnd
+    else (if is_over p.talk then return p ToldNone else reads login Item parts p)
+
+-- while bytes are owed nothing else is done
+abbrev pub unless_owed : List ℕ → Place → Step → Step
+unless_owed [] p s = s
+unless_owed (b ∷ bytes) p s = Stops p Owes
+
+unfoldable pub step : Login → Call → List Part → Place → Step
+step login call parts p = unless_owed (owed p) p (step_of login call parts p)
+
+-- where a call stops, and how
+pub record Halt : Type 0 where
+  pub place : Place
+  pub stop : Stop
+
+abbrev pub halt : Place → Stop → Halt
+halt p s = record { place = p; stop = s }
+
+-- n steps at most
+unfoldable pub run : ℕ → Login → Call → Step → Halt
+run most login call (Stops p s) = halt p s
+run zero login call (Goes parts p) = halt p Awaits
+run (suc most) login call (Goes parts p) = run most login call (step login call parts p)
+
+-- More steps than a call can take: each reads a payload, passes over an end, or ends a part.
+abbrev pub enough : Login → Call → Place → ℕ
+enough login call p = suc (suc (length p.unread + 2 * length (parts_of login call)))
+
+-- What a call comes to from the place at which it began, with the bytes that were received since.
+abbrev pub course : Login → Call → Place → Halt
+course login call p = run (enough login call p) login call (Goes (parts_of login call) p)

@@ -1,0 +1,13 @@
+pub mod Calls
+pub mod Commands
+pub mod Errors
+pub mod Told
+pub mod Rows
+pub mod Settings
+pub mod Facts
+pub mod Tape
+pub mod Place
+pub mod Course
+pub mod Reading
+pub mod Endings
+pub mod Leads

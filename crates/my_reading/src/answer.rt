@@ -1,0 +1,33 @@
+//! What a call is answered.
+
+ghost use Rattle.std.specs.Prelude.{◌≡◌, IfOk};
+
+use my_frame::NoMemory;
+use my_value::Row;
+use std::alloc::Global;
+
+/// The answer of a call.
+#[derive(Debug, Drop, PartialEq, Eq)]
+pub enum Answer {
+    /// The command was accepted, or the connection made.
+    Ready,
+    Row(Row),
+    /// The set that is read ended.
+    SetEnd,
+    /// Nothing is left to be read.
+    NoSet,
+}
+
+impl Answer {
+    /// A second value of the same answer.
+    pub fn copy(&self, alloc: Global) -> Result<Answer, NoMemory>
+        ensures { IfOk result (λ copy. copy ≡ self.now) }
+    {
+        match self {
+            Answer::Ready => Ok(Answer::Ready),
+            Answer::Row(row) => Ok(Answer::Row(row.copy(alloc)?)),
+            Answer::SetEnd => Ok(Answer::SetEnd),
+            Answer::NoSet => Ok(Answer::NoSet),
+        }
+    }
+}

@@ -1,0 +1,28 @@
+-- What the task of an open call says of it.
+use Rattle.std.specs.Prelude.{Option, Some, None, Bool, true, false}
+use Rattle.my_reading.specs.declared.call.CallKind.{CallKind}
+use Rattle.my_reading.specs.declared.call.CallKind.TheVariants.{Connect, NextRow, DropResult, Quit}
+use Rattle.my_session.specs.declared.task.LinkFault.{LinkFault}
+use Rattle.my_session.specs.declared.task.Task.{Task}
+use Rattle.my_session.specs.declared.task.Task.TheVariants.{Nothing, Begun, Cleaning, Own, Arranging, Reading, Dropping, Leaving, Failing}
+
+-- the open call's kind
+abbrev pub kind_in : Task → Option CallKind
+kind_in Nothing = None
+kind_in (Begun c) = Some c
+kind_in (Cleaning c) = Some c
+kind_in (Own c) = Some c
+kind_in (Arranging n) = Some Connect
+kind_in Reading = Some NextRow
+kind_in Dropping = Some DropResult
+kind_in Leaving = Some Quit
+kind_in (Failing c fault) = Some c
+
+abbrev pub is_open : Task → Bool
+is_open Nothing = false
+is_open _ = true
+
+-- the fault of a call that was made to fail
+abbrev pub fault_in : Task → Option LinkFault
+fault_in (Failing c fault) = Some fault
+fault_in _ = None

@@ -1,0 +1,36 @@
+//! What the open call is at, and why a caller lets it fail.
+
+use my_reading::CallKind;
+
+/// Why a caller lets the open call fail.
+#[derive(Clone, Copy, Debug, PartialEq, Eq)]
+pub enum LinkFault {
+    /// The link failed.
+    Link,
+    /// The call took too many bytes without an answer.
+    TooLong,
+    NoMemory,
+}
+
+/// What the open call is at.
+#[derive(Clone, Copy, Debug, PartialEq, Eq)]
+pub enum Task {
+    /// No call is open.
+    Nothing,
+    /// The call wasn't stepped yet.
+    Begun(CallKind),
+    /// The rest of an earlier response is read before the call's own command.
+    Cleaning(CallKind),
+    /// The call's own exchange.
+    Own(CallKind),
+    /// The connection is set up: this many queries of the client's own were sent. Their answers are read whole.
+    Arranging(usize),
+    /// The next row is awaited.
+    Reading,
+    /// What is left is passed over.
+    Dropping,
+    /// A quit on a closed session.
+    Leaving,
+    /// The call was made to fail.
+    Failing(CallKind, LinkFault),
+}
