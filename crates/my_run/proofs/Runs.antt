@@ -68,13 +68,13 @@ said login c w = record { session = c.session.seen; history = w.rests.heard.hist
 linked : {L : Type 0} (look : L → Looks) (login : Login) (plans : Plans) (n : ℕ) (lines : List Line) (planned : ℕ) (c : Conn L) → HoldsAre login (plans.reads n) n lines planned → StandsBy login c → LinkSpent plans n (look c.link) c.taken.items (uses_of lines) planned → IsSaid login (kept_of c) × Plays plans n c.taken.items (uses_of lines) × FewHolds login plans n lines
 linked look login plans n lines planned c h w p = (said login c w, plays plans n (look c.link) c.taken.items (uses_of lines) planned p, record { planned = planned; counted = h; few = are_planned (plans.reads n) (look c.link).items (plans.writes n) (look c.link).writes (faults_for n (uses_of lines)) planned p.counts })
 
-is_explained : {L : Type 0} (look : L → Looks) (login : Login) (plans : Plans) (n : ℕ) (lines : List Line) (planned : ℕ) (s : Slot L) → HoldsAre login (plans.reads n) n lines planned → IsStood login s → IsPlayed look plans n (uses_of lines) planned s → IsExplained login plans n lines (handle_of s)
+is_explained : {L : Type 0} (look : L → Looks) (login : Login) (plans : Plans) (n : ℕ) (lines : List Line) (planned : ℕ) (s : Slot L) → HoldsAre login (plans.reads n) n lines planned → IsStood login s → IsPlayed look plans n (uses_of lines) planned s → IsExplained login plans n lines (handle_of look s)
 is_explained look login plans n lines planned Gone h w p = tt
 is_explained look login plans n lines planned Held h w p = p
 is_explained look login plans n lines planned (There c) h w p = linked look login plans n lines planned c h w p
 is_explained look login plans n lines planned (Ended c) h w p = linked look login plans n lines planned c h w p
 
-are_explained : {L : Type 0} (look : L → Looks) (login : Login) (plans : Plans) (lines : List Line) (planned : ℕ → ℕ) (n : ℕ) (ss : List (Slot L)) → ((m : ℕ) → HoldsAre login (plans.reads m) m lines (planned m)) → AreStood login ss → ArePlayed look plans (uses_of lines) planned n ss → AreExplained login plans lines n (map handle_of ss)
+are_explained : {L : Type 0} (look : L → Looks) (login : Login) (plans : Plans) (lines : List Line) (planned : ℕ → ℕ) (n : ℕ) (ss : List (Slot L)) → ((m : ℕ) → HoldsAre login (plans.reads m) m lines (planned m)) → AreStood login ss → ArePlayed look plans (uses_of lines) planned n ss → AreExplained login plans lines n (map (handle_of look) ss)
 are_explained look login plans lines planned n [] h w p = tt
 are_explained look login plans lines planned n (s ∷ ss) h w p = (is_explained look login plans n lines (planned n) s (h n) w.0 p.0, are_explained look login plans lines planned (suc n) ss h w.1 p.1)
 
@@ -103,10 +103,10 @@ none_yet {L} look login plans done ss given d e f = record {
   explained = tt;
 }
 
-pub step_on : {L : Type 0} (look : L → Looks) (login : Login) (plans : Plans) (done next : List Step) (ss ts : List (Slot L)) (given bs : List StepAnswer) (step : Step) (a : StepAnswer) → SoFar look login plans done ss given → Stepped look login plans a.uses.items ss ts (StepGrows login (map handle_of ss) step a.outcome a.uses.items (map handle_of ts)) → a.number ≡ length done + 1 → bs ≡ given ++ a ∷ [] → next ≡ done ++ step ∷ [] → SoFar look login plans next ts bs
+pub step_on : {L : Type 0} (look : L → Looks) (login : Login) (plans : Plans) (done next : List Step) (ss ts : List (Slot L)) (given bs : List StepAnswer) (step : Step) (a : StepAnswer) → SoFar look login plans done ss given → Stepped look login plans a.uses.items ss ts (StepGrows login (map (handle_of look) ss) step a.outcome a.uses.items (map (handle_of look) ts)) → a.number ≡ length done + 1 → bs ≡ given ++ a ∷ [] → next ≡ done ++ step ∷ [] → SoFar look login plans next ts bs
 step_on {L} look login plans done next ss ts given bs step a u w num e f =
     let plays = w.played (uses_of u.lines) u.planned u.silent u.played in
-    let lines : List Line = record { step = step; number = a.number; outcome = a.outcome; uses = a.uses.items; handles = map handle_of ts } ∷ u.lines in
+    let lines : List Line = record { step = step; number = a.number; outcome = a.outcome; uses = a.uses.items; handles = map (handle_of look) ts } ∷ u.lines in
     let held : (m : ℕ) → HoldsAre login (plans.reads m) m lines (plays.planned m) = λ m. (u.planned m, u.held m, plays.held m) in
     record {
       lines = lines;
@@ -121,14 +121,14 @@ step_on {L} look login plans done next ss ts given bs step a u w num e f =
       grown = (
         record {
           number = num ∙ ap (λ n. n + 1) (sym (ap length u.steps_are) ∙ count_steps u.lines);
-          answer = subst (λ (hs : List Handle). StepGrows login hs step a.outcome a.uses.items (map handle_of ts)) u.handles_are w.grows;
+          answer = subst (λ (hs : List Handle). StepGrows login hs step a.outcome a.uses.items (map (handle_of look) ts)) u.handles_are w.grows;
         },
         u.grown,
       );
       explained = (are_explained look login plans lines plays.planned 0 ts held w.stood plays.played, u.explained);
     }
 
-pub headline : {L : Type 0} (look : L → Looks) (login : Login) (plans : Plans) (steps : List Step) (ss : List (Slot L)) (given : List StepAnswer) (tapes : List Tape) → SoFar look login plans steps ss given → map tape_view tapes ≡ tapes_in 0 (map handle_of ss) → Headline login plans steps given tapes
+pub headline : {L : Type 0} (look : L → Looks) (login : Login) (plans : Plans) (steps : List Step) (ss : List (Slot L)) (given : List StepAnswer) (tapes : List Tape) → SoFar look login plans steps ss given → map tape_view tapes ≡ tapes_in 0 (map (handle_of look) ss) → Headline login plans steps given tapes
 headline look login plans steps ss given tapes u e = record {
   lines = u.lines;
   steps_are = u.steps_are;
