@@ -4,9 +4,6 @@ use Rattle.my_grammar.specs.declared.login.Login.{Login}
 use Rattle.my_session.specs.declared.task.Task.{Task}
 use Rattle.my_session.specs.declared.task.Task.TheVariants.{Nothing}
 use Rattle.my_session.specs.Fits.{is_begun}
-use Rattle.my_session.specs.Steps.{StepIs}
-use Rattle.my_session.specs.declared.answer.SessionStep.{SessionStep}
-use Rattle.my_session.specs.declared.answer.SessionStep.TheVariants as steps
 use Rattle.my_link.specs.Moves.{Stop, NoStop, ReadHold, WriteHold, ReadFault, WriteFault, LinkEnd}
 use Rattle.my_session.specs.Seen.{Seen}
 use Rattle.my_client.specs.declared.poll.After.{After}
@@ -16,7 +13,7 @@ use Rattle.my_link.specs.declared.met.Met.{Met}
 use Rattle.my_client.specs.Causes.{Asks, Waiting, Pends, PollEnds}
 use Rattle.my_client.specs.Drives.{Drives, kept_after}
 use Rattle.my_client.specs.Kept.{Asked, Kept, IsHeard}
-use Rattle.my_client.specs.Poll.{Waits, PendsAt, Causes, Polls}
+use Rattle.my_client.specs.Poll.{Owes, Awaits, Waits, PendsAt, Causes, Polls}
 use Rattle.my_client.specs.Conn.{kept_of, seen_by}
 use Rattle.my_link.specs.Looks.{Looks}
 use Rattle.my_client.specs.Rests.{Rests, PollRests}
@@ -25,17 +22,17 @@ nothing_begun : (t : Task) → t ≡ Nothing → is_begun t ≡ false
 nothing_begun t e = ap is_begun e
 
 -- what a poll of the session and the link says of the connection's tape
-asks_so : (login : Login) (t : Seen) (k : Kept) (step : SessionStep) → IsHeard login t k → StepIs t step → Asks login k step
-asks_so login t k step w a = record { session = t; heard = w; asks = a }
+asks_so : (login : Login) (t : Seen) (k : Kept) (Step : Seen → Type 0) → IsHeard login t k → Step t → Asks login k Step
+asks_so login t k Step w a = record { session = t; heard = w; asks = a }
 
 waits_so : (login : Login) (t : Seen) (k : Kept) → IsHeard login t k → Waits t → Waiting login k
-waits_so login t k w (inl a) = inl (asks_so login t k steps.Send w a)
-waits_so login t k w (inr a) = inr (asks_so login t k steps.Need w a)
+waits_so login t k w (inl a) = inl (asks_so login t k Owes w a)
+waits_so login t k w (inr a) = inr (asks_so login t k Awaits w a)
 
 pends_so : (login : Login) (t : Seen) (k : Kept) (u : Met) (stop : Stop) → IsHeard login t k → PendsAt t u stop → Pends login k u stop
 pends_so login t k u NoStop w c = (waits_so login t k w c.0, c.1)
-pends_so login t k u ReadHold w c = asks_so login t k steps.Need w c
-pends_so login t k u WriteHold w c = asks_so login t k steps.Send w c
+pends_so login t k u ReadHold w c = asks_so login t k Awaits w c
+pends_so login t k u WriteHold w c = asks_so login t k Owes w c
 pends_so login t k u ReadFault w c = absurd c
 pends_so login t k u WriteFault w c = absurd c
 pends_so login t k u LinkEnd w c = absurd c

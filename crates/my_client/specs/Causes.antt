@@ -2,8 +2,6 @@
 use Rattle.std.specs.Prelude.{ℕ, ◌≡◌, ◌<◌, ◌≤◌, ◌⊎◌, List, ◌++◌, Some, true}
 use Rattle.my_frame.specs.declared.limits.TheConstants.{MOST_TAKEN}
 use Rattle.my_grammar.specs.declared.login.Login.{Login}
-use Rattle.my_session.specs.declared.answer.SessionStep.{SessionStep}
-use Rattle.my_session.specs.declared.answer.SessionStep.TheVariants.{Send, Need}
 use Rattle.my_reading.specs.declared.error.Error.{Error}
 use Rattle.my_reading.specs.declared.error.Error.TheVariants as errors
 use Rattle.my_reading.specs.declared.error.IoError.{IoError}
@@ -18,7 +16,6 @@ use Rattle.my_session.specs.Complete.{FailsOutside}
 use Rattle.my_reading.specs.Told.{told}
 use Rattle.my_session.specs.History.{History}
 use Rattle.my_session.specs.Seen.{Seen}
-use Rattle.my_session.specs.Steps.{StepIs}
 use Rattle.my_client.specs.declared.poll.After.{After}
 use Rattle.my_client.specs.declared.poll.After.TheVariants.{Pending, Answered, Failed}
 use Rattle.my_client.specs.declared.tape.Said.TheVariants as says
@@ -26,17 +23,16 @@ use Rattle.my_link.specs.declared.met.Met.{Met}
 use Rattle.my_link.specs.Looks.{Looks}
 use Rattle.my_link.specs.Moves.{Stop, NoStop, ReadHold, WriteHold, ReadFault, WriteFault, LinkEnd, holds_at, IsUsed, IsMet}
 use Rattle.my_client.specs.Kept.{Asked, Kept, IsOf, IsHeard, ended_by}
-use Rattle.my_client.specs.Poll.{IsOfCall}
+use Rattle.my_client.specs.Poll.{IsOfCall, Owes, Awaits}
 
--- a session that stands for what was kept asks for this: to send bytes that it owes, or for bytes, where it owes none and
--- the packet in front isn't whole
-pub record Asks (login : Login) (k : Kept) (step : SessionStep) : Type 0 where
+-- a session that stands for what was kept owes bytes, or awaits some
+pub record Asks (login : Login) (k : Kept) (Step : Seen → Type 0) : Type 0 where
   pub session : Seen
   pub heard : IsHeard login session k
-  pub asks : StepIs session step
+  pub asks : Step session
 
 abbrev pub Waiting : Login → Kept → Type 0
-Waiting login k = Asks login k Send ⊎ Asks login k Need
+Waiting login k = Asks login k Owes ⊎ Asks login k Awaits
 
 -- Which errors a poll may come to in which the link failed `faults` times and ended `ends` times: a link's fault only where it
 -- failed, an end that came too early only where it ended, and both only where the session asked for something; each other
@@ -44,7 +40,7 @@ Waiting login k = Asks login k Send ⊎ Asks login k Need
 abbrev pub KindBy : Login → Kept → IoKind → ℕ → ℕ → Type 0
 KindBy login k kinds.Link faults ends = (0 < faults) × Waiting login k
 KindBy login k kinds.Dial faults ends = ⊥
-KindBy login k kinds.UnexpectedEof faults ends = (faults ≡ 0) × (0 < ends) × Asks login k Need
+KindBy login k kinds.UnexpectedEof faults ends = (faults ≡ 0) × (0 < ends) × Asks login k Awaits
 KindBy login k kinds.InvalidData faults ends = faults ≡ 0
 
 abbrev pub IoBy : Login → Kept → IoError → ℕ → ℕ → Type 0
@@ -78,8 +74,8 @@ pub record WhyAnswered (login : Login) (k : Kept) (answer : Answer) : Type 0 whe
 -- why a poll stays pending: a read wasn't ready where the session asks for bytes, a write where it asks to send, or the
 -- poll took all that it may, and the session still asks for something
 abbrev pub Pends : Login → Kept → Met → Stop → Type 0
-Pends login k u ReadHold = Asks login k Need
-Pends login k u WriteHold = Asks login k Send
+Pends login k u ReadHold = Asks login k Awaits
+Pends login k u WriteHold = Asks login k Owes
 Pends login k u NoStop = Waiting login k × (MOST_TAKEN ≤ u.taken)
 Pends login k u ReadFault = ⊥
 Pends login k u WriteFault = ⊥

@@ -5,7 +5,8 @@ use Rattle.my_session.specs.declared.task.Task.TheVariants.{Nothing}
 use Rattle.my_session.specs.declared.answer.SessionStep.TheVariants.{Send, Need}
 use Rattle.my_session.specs.Tasks.{is_open}
 use Rattle.my_session.specs.Seen.{Seen}
-use Rattle.my_session.specs.Steps.{StepIs}
+use Rattle.my_session.specs.Ends.{Fails as FailsNext}
+use Rattle.my_session.specs.Steps.{StepIs, with_end}
 use Rattle.my_client.specs.declared.poll.After.{After}
 use Rattle.my_client.specs.declared.poll.After.TheVariants.{Pending, Answered as Replied, Failed as Refused}
 use Rattle.my_link.specs.declared.met.Met.{Met}
@@ -15,9 +16,18 @@ use Rattle.my_client.specs.declared.poll.Turn.TheVariants.{Sent, Took, Ended, Br
 use Rattle.my_link.specs.Looks.{Looks}
 use Rattle.my_link.specs.Moves.{Receives, Sends, ReadHolds, WriteHolds, ReadFails, WriteFails, ReadEnds, Move, Leads, received_by, sent_by, Stop, NoStop, ReadHold, WriteHold, ReadFault, WriteFault, LinkEnd, holds_at, IsUsed, IsMet}
 
--- the call is still open, and asks to send or for bytes
+-- the call is open and owes bytes
+abbrev pub Owes : Seen → Type 0
+Owes s = StepIs s Send
+
+-- the call is open and awaits bytes: it owes none, the packet in front isn't whole, and where the link ends now, the call fails
+pub record Awaits (s : Seen) : Type 0 where
+  pub needs : StepIs s Need
+  pub fails : FailsNext (with_end s)
+
+-- the call is open, and asks to send or for bytes
 abbrev pub Waits : Seen → Type 0
-Waits s = StepIs s Send ⊎ StepIs s Need
+Waits s = Owes s ⊎ Awaits s
 
 -- `n` bytes came in
 pub record CameIn (x y : ConnSeen) (n : ℕ) : Type 0 where
@@ -39,7 +49,7 @@ pub record WentOut (x y : ConnSeen) : Type 0 where
 
 -- a read wasn't ready where the call asks for bytes, or a write where it asks to send
 abbrev pub Holds : Seen → Looks → Looks → Type 0
-Holds t x y = (StepIs t Need × ReadHolds x y) ⊎ (StepIs t Send × WriteHolds x y)
+Holds t x y = (Awaits t × ReadHolds x y) ⊎ (Owes t × WriteHolds x y)
 
 -- a read failed, or a write did
 abbrev pub Fails : Looks → Looks → Type 0
@@ -79,8 +89,8 @@ pub record IsOfCall (m : Met) : Type 0 where
 -- why a poll stays pending: a read wasn't ready where the session asks for bytes, a write where it asks to send, or the
 -- poll took all that it may, and the session still asks for something
 abbrev pub PendsAt : Seen → Met → Stop → Type 0
-PendsAt t m ReadHold = StepIs t Need
-PendsAt t m WriteHold = StepIs t Send
+PendsAt t m ReadHold = Awaits t
+PendsAt t m WriteHold = Owes t
 PendsAt t m NoStop = Waits t × (MOST_TAKEN ≤ m.taken)
 PendsAt t m ReadFault = ⊥
 PendsAt t m WriteFault = ⊥

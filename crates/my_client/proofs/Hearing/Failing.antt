@@ -22,11 +22,11 @@ use Rattle.my_reading.specs.Told.{ToldReady, ToldError}
 use Rattle.my_session.specs.History.{History, ending}
 use Rattle.my_session.specs.Seen.{Seen}
 use Rattle.my_session.specs.Stands.{Stands, is_alive, owes}
-use Rattle.my_session.specs.Steps.{Steps, StepIs, AllGo, goes_on, moved, with_end, with_failing, failing}
+use Rattle.my_session.specs.Steps.{Steps, AllGo, goes_on, moved, with_end, with_failing, failing}
 use Rattle.my_session.proofs.Ends.{first_goes}
 use Rattle.my_client.specs.declared.tape.DoneCall.{DoneCall}
 use Rattle.my_client.specs.Causes.{Asks, Waiting, KindBy, IoBy, ErrorBy}
-use Rattle.my_client.specs.Poll.{Waits}
+use Rattle.my_client.specs.Poll.{Awaits, Waits}
 use Rattle.my_client.specs.Kept.{Asked, Kept, IsHeard}
 use Rattle.my_client.specs.Rests.{IsAsked, IsHeld, FailsNow, HasFailed, AwaitsBytes}
 use Rattle.my_client.proofs.Hearing.{heard_end, heard_failing}
@@ -113,7 +113,7 @@ link_by login k e ne waits l = elim l.1 as (λ _. ErrorBy login k e 1 0) [
 -- the session asks to send or for bytes
 waits_open : (s : Seen) → Waits s → is_open s.task ≡ true
 waits_open s (inl w) = w.0
-waits_open s (inr w) = w.0
+waits_open s (inr w) = w.needs.0
 
 waiting_by : (login : Login) (s : Seen) (k : Kept) → IsHeard login s k → Waits s → Waiting login k
 waiting_by login s k w (inl a) = inl (record { session = s; heard = w; asks = a })
@@ -135,7 +135,7 @@ broke login s r t k a e ne w asks is u =
     }
 
 -- the link told its end where bytes were awaited
-eof_by : (login : Login) (r t : Seen) (k : Kept) (a : Asked) (e : Error) (place : ℕ) → e ≡ unexpected_eof place → Asks login k steps.Need → FailsNow login r t k a e → HasFailed login t k a e 0 1
+eof_by : (login : Login) (r t : Seen) (k : Kept) (a : Asked) (e : Error) (place : ℕ) → e ≡ unexpected_eof place → Asks login k Awaits → FailsNow login r t k a e → HasFailed login t k a e 0 1
 eof_by login r t k a e place is asks u =
     let shut : t.closed ≡ true = u.shut _ is in
     record {
@@ -144,7 +144,7 @@ eof_by login r t k a e place is asks u =
       by = subst (λ (x : Error). ErrorBy login k x 0 1) (sym is) (refl, omega arith, asks);
     }
 
-pub ended : (login : Login) (s r t : Seen) (k : Kept) (a : Asked) (e : Error) → e ≢ errors.NoMemory → AwaitsBytes s → Asks login k steps.Need → r ≡ with_end s → FailsNow login r t k a e → HasFailed login t k a e 0 1
+pub ended : (login : Login) (s r t : Seen) (k : Kept) (a : Asked) (e : Error) → e ≢ errors.NoMemory → AwaitsBytes s → Asks login k Awaits → r ≡ with_end s → FailsNow login r t k a e → HasFailed login t k a e 0 1
 ended login s r t k a e ne waits asks is u =
     elim (waits t e (subst (λ (r : Seen). Steps r t (steps.Fault e)) is u.step)) as (λ _. HasFailed login t k a e 0 1) [
       | inl eof ↦ eof_by login r t k a e s.facts.place eof asks u
@@ -165,7 +165,7 @@ broke_so login s r t k g a e ne asks is st fails s1 t1 c1 p1 w =
     subst (λ (x : Kept). HasFailed login t x a e 1 0) (sym (same_kept k g s1 t1 c1 p1))
     (broke login s r t k a e ne w asks is (fails login a (heard_failing login s r k faults.Link is st w.asked.rests.heard) w.asked.asked))
 
-pub ended_so : (login : Login) (s r t : Seen) (k g : Kept) (a : Asked) (e : Error) → e ≢ errors.NoMemory → r ≡ with_end s → ((h : History) → Stands s h → Stands r (ending h)) → ((login : Login) (a : Asked) → IsHeard login r k → k.pending ≡ Some a → FailsNow login r t k a e) → g.sent ≡ k.sent → g.taken ≡ k.taken → g.calls ≡ k.calls → g.pending ≡ k.pending → AwaitsBytes s → StepIs s steps.Need → IsHeld login s k a → HasFailed login t g a e 0 1
+pub ended_so : (login : Login) (s r t : Seen) (k g : Kept) (a : Asked) (e : Error) → e ≢ errors.NoMemory → r ≡ with_end s → ((h : History) → Stands s h → Stands r (ending h)) → ((login : Login) (a : Asked) → IsHeard login r k → k.pending ≡ Some a → FailsNow login r t k a e) → g.sent ≡ k.sent → g.taken ≡ k.taken → g.calls ≡ k.calls → g.pending ≡ k.pending → AwaitsBytes s → Awaits s → IsHeld login s k a → HasFailed login t g a e 0 1
 ended_so login s r t k g a e ne is st fails s1 t1 c1 p1 waits asks w =
     subst (λ (x : Kept). HasFailed login t x a e 0 1) (sym (same_kept k g s1 t1 c1 p1))
     (ended login s r t k a e ne waits (record { session = s; heard = w.asked.rests.heard; asks = asks }) is (fails login a (heard_end login s r k is st w.asked.rests.heard) w.asked.asked))

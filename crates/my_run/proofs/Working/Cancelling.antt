@@ -131,7 +131,7 @@ dropped_did look login n o us e f = record {
 
 -- where the number's slot is known
 pub back_did : {L : Type 0} (look : L → Looks) (login : Login) (R : Handle → Outcome → List Use → Handle → Type 0) (o : Outcome) (us : List Use) (s t : Slot L) → s ≡ t → IsStood login s → R (handle_of look t) o us (handle_of look t) → Did look login R o us s t
-back_did {L} look login R o us s t e w r = subst (λ (x : Slot L). Did look login R o us x t) (sym e) (same_did look login n R o us t f (subst (IsStood login) e w) r)
+back_did {L} look login R o us s t e w r = subst (λ (x : Slot L). Did look login R o us x t) (sym e) (same_did look login R o us t (subst (IsStood login) e w) r)
 
 -- the step finds an open call
 pub collect_refused : {L : Type 0} (look : L → Looks) (login : Login) (n : ℕ) (c : Conn L) (o : Outcome) (us : List Use) → is_open c.session.seen.task ≡ true → o ≡ NoSuchHandle → us ≡ [] → StandsBy login c → Did look login (CollectsAt login n) o us (There c) (There c)

@@ -74,10 +74,10 @@ module _ {L : Type 0} (x y : Looks) (d e : Conn L) (met : Met) (p : After) (r : 
   following = drives r.0 r.1 r.2
 
   joined_after : WasJoined (kept_of e)
-  joined_after = polled_joined r.0 r.1 (kept_of d) (kept_of e) met p r.3 following.polled
+  joined_after = polled_joined r.0 r.1 (kept_of d) (kept_of e) x y met p r.3 following.polled
 
   open_after : (row : RowParts) → p ≡ after.Answered (answers.Row row) → IsOpen (kept_of e)
-  open_after row is = row_open r.0 r.1 (kept_of d) following.polled.following (kept_of e) met p row is following.polled.calls r.4 following.polled.ends
+  open_after row is = row_open r.0 r.1 (kept_of d) following.polled.following (kept_of e) met following.polled.stop p row is following.polled.calls r.4 following.polled.ends
 
   pub polled_ready : IsReady e.session.seen
   polled_ready = is_ready r.0 e.session.seen (kept_of e) following.rests.heard (λ _. joined_after)
