@@ -3,7 +3,7 @@
 ghost use Rattle.std.specs.Prelude.{◌≡◌};
 ghost use Rattle.my_pool_core.specs.Events.{times_of};
 
-use crate::connection::Times;
+use my_pool_parts::{Times};
 
 /// What is known of a connection whose cleaning, or whose reset, is to be decided on.
 #[derive(Clone, Copy, Debug, PartialEq, Eq)]

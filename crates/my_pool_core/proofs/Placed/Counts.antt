@@ -3,9 +3,9 @@ use Rattle.std.proofs.Common.{◌≡◌, ℕ, ◌+◌, ◌≤◌, ◌<◌, Bool,
 use Rattle.std.specs.Prelude.{find, option_map, ◌&&◌, ◌||◌, not, nat_le, nat_lt, if◌then◌else◌}
 use Rattle.std.specs.List.{list_any}
 use Rattle.std.proofs.lemmas.Bool.{eqb-true, lt-ltb}
-use Rattle.my_pool_core.specs.declared.connection.Connection.{Connection}
-use Rattle.my_pool_core.specs.declared.connection.Place.{Place}
-use Rattle.my_pool_core.specs.declared.connection.Place.TheVariants.{Idle, Leased, Connecting, Checking, Returned, Cleaning, Resetting, Closing}
+use Rattle.my_pool_parts.specs.declared.connection.Connection.{Connection}
+use Rattle.my_pool_parts.specs.declared.connection.Place.{Place}
+use Rattle.my_pool_parts.specs.declared.connection.Place.TheVariants.{Idle, Leased, Connecting, Checking, Returned, Cleaning, Resetting, Closing}
 use Rattle.my_pool_core.specs.declared.event.Answer.{Answer}
 use Rattle.my_pool_core.specs.declared.event.Answer.TheVariants.{Poll}
 use Rattle.my_pool_core.specs.declared.event.Facts.{Facts}
@@ -13,20 +13,20 @@ use Rattle.my_pool_core.specs.declared.event.PollAnswer.{PollAnswer}
 use Rattle.my_pool_core.specs.declared.event.PollAnswer.TheVariants.{Wait, Take, Dial, Closed, Full}
 use Rattle.my_pool_core.specs.declared.event.PoolEvent.{PoolEvent}
 use Rattle.my_pool_core.specs.declared.event.PoolEvent.TheVariants as events
-use Rattle.my_pool_core.specs.declared.request.Request.{Request}
-use Rattle.my_pool_core.specs.declared.request.Standing.{Standing}
-use Rattle.my_pool_core.specs.declared.request.Standing.TheVariants.{Asks, Waits, Woken, Dials, Checks}
-use Rattle.my_pool_core.specs.Lists.{without, found_is, how_many}
-use Rattle.my_pool_core.specs.Connections.{placed, has_number, is_idle, is_leased, is_returned, is_cleaning_place, is_resetting_place, is_closing_place, is_marked, is_resetting, mark_of_place, move_to, latest_usable, retire, next_to_clean}
-use Rattle.my_pool_core.specs.Requests.{last_age, has_age, holds, holds_number, is_free, is_queued, ended, waits_up_to}
+use Rattle.my_pool_parts.specs.declared.request.Request.{Request}
+use Rattle.my_pool_parts.specs.declared.request.Standing.{Standing}
+use Rattle.my_pool_parts.specs.declared.request.Standing.TheVariants.{Asks, Waits, Woken, Dials, Checks}
+use Rattle.my_pool_parts.specs.Lists.{without, found_is, how_many}
+use Rattle.my_pool_parts.specs.Connections.{placed, has_number, is_idle, is_leased, is_returned, is_cleaning_place, is_resetting_place, is_closing_place, is_marked, is_resetting, mark_of_place, move_to, latest_usable, retire, next_to_clean}
+use Rattle.my_pool_parts.specs.Requests.{last_age, has_age, holds, holds_number, is_free, is_queued, ended, waits_up_to, has_waited, is_live}
 use Rattle.my_pool_core.specs.State.{State, one_more}
-use Rattle.my_pool_core.specs.Events.{Polled, Decided, is_at_end, request, request_age, may_poll, may_cancel, may_decide, may_done, is_full, full_answer, has_waited, queued, sought, poll_request, is_live, cancel, cancel_found, cancel_standing, found_next, take_returned, resting, keep, decide, done, above_min}
+use Rattle.my_pool_core.specs.Events.{Polled, Decided, is_at_end, request, request_age, may_poll, may_cancel, may_decide, may_done, is_full, full_answer, queued, sought, poll_request, cancel, cancel_found, cancel_standing, found_next, take_returned, resting, keep, decide, done, above_min}
 use Rattle.my_pool_core.specs.Steps.{may, step, answer}
 use Rattle.my_pool_core.specs.Sound.{IsSound, is_dialer}
 use Rattle.my_pool_core.specs.Owners.{token, token_of, place_at}
 use Rattle.my_pool_core.specs.Moves.{is_due_place}
 use Rattle.my_pool_core.specs.Counted.{room, due, idle}
-use Rattle.my_pool_core.proofs.Finding.{one, count-found, count-either, count-without, count-without-le, count-none, none-counted, some-counted, found-any, shorter-where-any}
+use Rattle.my_pool_parts.proofs.Finding.{one, count-found, count-either, count-without, count-without-le, count-none, none-counted, some-counted, found-any, shorter-where-any}
 use Rattle.my_pool_core.proofs.Kept.{if-keeps, found-req, found-at, retired-there}
 use Rattle.my_pool_core.proofs.Kept.Fewer.{move-count}
 use Rattle.my_pool_core.proofs.Kept.Moving.{all-count, retire-same, retire-idle, swept-same, sound-retire}
