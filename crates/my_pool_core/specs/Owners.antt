@@ -3,11 +3,10 @@ use Rattle.std.specs.Prelude.{◌≡◌, ℕ, ◌≤◌, Bool, true, false, Opti
 use Rattle.my_pool_parts.specs.declared.connection.Place.{Place}
 use Rattle.my_pool_parts.specs.declared.connection.Place.TheVariants.{Idle, Leased, Connecting, Checking, Returned, Cleaning, Resetting, Closing}
 use Rattle.my_pool_parts.specs.declared.connection.PlaceKind.{PlaceKind}
-use Rattle.my_pool_parts.specs.declared.connection.PlaceKind.TheVariants as kinds
 use Rattle.my_pool_parts.specs.declared.request.Standing.{Standing}
 use Rattle.my_pool_parts.specs.declared.request.Standing.TheVariants.{Asks, Waits, Woken, Dials, Checks}
 use Rattle.my_pool_parts.specs.Lists.{found_is}
-use Rattle.my_pool_parts.specs.Connections.{is_kind, has_number, is_idle_place, is_leased_place, is_connecting_place, is_checking_place, is_returned_place, is_cleaning_place, is_resetting_place, is_closing_place, mark_of_place}
+use Rattle.my_pool_parts.specs.Connections.{is_kind, has_number, is_leased_place, mark_of_place}
 use Rattle.my_pool_parts.specs.Requests.{has_age}
 use Rattle.my_pool_core.specs.State.{State}
 

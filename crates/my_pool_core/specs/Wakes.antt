@@ -1,12 +1,11 @@
 -- Which requests an event wakes, and which wait after it.
-use Rattle.std.specs.Prelude.{ℕ, Bool, true, false, ◌&&◌, ◌==◌, Option, option_map, List, find}
+use Rattle.std.specs.Prelude.{ℕ, Bool, true, false, ◌&&◌, ◌==◌, Option, find}
 use Rattle.my_pool_core.specs.declared.event.PollAnswer.{PollAnswer}
 use Rattle.my_pool_core.specs.declared.event.PollAnswer.TheVariants.{Wait}
 use Rattle.my_pool_core.specs.declared.event.Verdict.{Verdict}
 use Rattle.my_pool_core.specs.declared.event.Verdict.TheVariants.{Drop, Keep}
 use Rattle.my_pool_core.specs.declared.event.PoolEvent.{PoolEvent}
 use Rattle.my_pool_core.specs.declared.event.PoolEvent.TheVariants as events
-use Rattle.my_pool_parts.specs.declared.request.Request.{Request}
 use Rattle.my_pool_parts.specs.declared.request.Standing.{Standing}
 use Rattle.my_pool_parts.specs.declared.request.Standing.TheVariants.{Asks, Waits, Woken, Dials, Checks}
 use Rattle.my_pool_parts.specs.Lists.{found_is}

@@ -9,4 +9,3 @@ mod pool;
 pub use event::{Answer, Facts, PollAnswer, PoolEvent, Verdict};
 pub use limits::{Counts, Limits, Metrics};
 pub use pool::Core;
-pub use my_pool_parts::{Connection, Place, PlaceKind, Request, Standing, Times};

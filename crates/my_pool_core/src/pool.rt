@@ -10,8 +10,8 @@ mod returning;
 mod seen;
 mod whole;
 
-use my_pool_parts::{Connection, Live};
 use crate::limits::{Counts, Limits};
+use my_pool_parts::{Connection, Live};
 use std::alloc::Global;
 use std::marker::Model;
 

@@ -204,12 +204,7 @@ pub fn retire(connections: &mut Vec<Connection>, now: u64) -> Option<u64>
 }
 
 /// The idle connections that don't stay are returned and marked, those that are idle longest first; returns how many.
-pub fn sweep(
-    connections: &mut Vec<Connection>,
-    now: u64,
-    inactive: u128,
-    many: usize,
-) -> usize
+pub fn sweep(connections: &mut Vec<Connection>, now: u64, inactive: u128, many: usize) -> usize
     ensures items { let all = connections.old.items
         in connections.new.items ≡ lasting now inactive many 0 all ++ outdated now inactive many 0 all }
     ensures moved { result ≡ length (outdated now inactive many 0 connections.old.items) }

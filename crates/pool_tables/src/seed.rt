@@ -1,6 +1,7 @@
 //! Events from random numbers, each of which may happen.
 
-use my_pool_core::{Core, Facts, PlaceKind, PoolEvent, Request, Standing};
+use my_pool_core::{Core, Facts, PoolEvent};
+use my_pool_parts::{PlaceKind, Request, Standing};
 
 /// Random numbers, one after the other.
 #[derive(Drop)]

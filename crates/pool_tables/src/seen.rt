@@ -1,6 +1,7 @@
 //! What a pool's calls show, beside a look through its lists.
 
-use my_pool_core::{Core, PlaceKind};
+use my_pool_core::Core;
+use my_pool_parts::PlaceKind;
 
 /// The least number, not below `from`, that a look through the connections finds at a kind of place.
 fn scanned_next(core: &Core, kind: PlaceKind, from: u64) -> Option<u64> {

@@ -1,6 +1,7 @@
 //! What holds of each state of a pool, as tests of it.
 
-use my_pool_core::{Core, Limits, Place, Request, Standing};
+use my_pool_core::{Core, Limits};
+use my_pool_parts::{Place, Request, Standing};
 
 /// The next age and the next number of a pool, as its answers show them.
 #[derive(Drop)]

@@ -7,11 +7,11 @@ ghost use Rattle.my_pool_parts.specs.Requests.{is_waiting};
 ghost use Rattle.my_pool_core.specs.Events.{is_at_end, request, request_age, may_poll, poll_request, queued, sought, dialed, may_cancel, cancel, may_settle, ready, failed};
 
 use super::Core;
-use my_pool_parts::connections::{move_to, retire, take_out};
-use my_pool_parts::{Connection, LAST, Place, Standing};
 use crate::event::PollAnswer;
 use crate::limits::one_more;
 use my_frame::NoMemory;
+use my_pool_parts::connections::{move_to, retire, take_out};
+use my_pool_parts::{Connection, LAST, Place, Standing};
 use my_wait_heap::{Ledger, Uncounted};
 
 impl Core {

@@ -7,8 +7,8 @@ ghost use Rattle.my_pool_core.specs.Events.{check_ttl, check_ttl_moved, close, i
 ghost use Rattle.my_pool_core.specs.Seen.{metrics_of};
 
 use super::Core;
-use my_pool_parts::connections::{count_idle, count_leased, sweep};
 use crate::limits::Metrics;
+use my_pool_parts::connections::{count_idle, count_leased, sweep};
 use my_wait_heap::{Ledger, Uncounted};
 
 impl Core {
