@@ -12,12 +12,18 @@ pub struct Next {
 
 /// How many connections have a number.
 fn count_number(core: &Core, number: u64) -> usize {
-    core.connections().iter().filter(|c| c.number == number).count()
+    core.connections()
+        .iter()
+        .filter(|c| c.number == number)
+        .count()
 }
 
 /// How many requests make or look at the connection of a number, as its standing says.
 fn holders(core: &Core, standing: Standing) -> usize {
-    core.requests().iter().filter(|r| r.standing == standing).count()
+    core.requests()
+        .iter()
+        .filter(|r| r.standing == standing)
+        .count()
 }
 
 /// How many connections are idle.
