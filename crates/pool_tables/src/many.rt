@@ -84,17 +84,22 @@ fn check_replay(
     Ok(())
 }
 
-/// Events happen to a new pool.
-fn play_round(rt: &impl Abort, alloc: Global, round: u64, tally: &mut Tally) -> Result<(), Fail> {
-    let opts = options(round)?;
-    let first = first_number(round);
-    let limits = Limits {
+/// The limits that options give.
+fn limits_of(opts: &PoolOpts) -> Limits {
+    Limits {
         max: opts.constraints().max(),
         min: opts.constraints().min(),
         bound: opts.active_bound(),
         inactive: opts.inactive_connection_ttl().as_millis(),
         waiting: opts.max_waiting(),
-    };
+    }
+}
+
+/// Events happen to a new pool.
+fn play_round(rt: &impl Abort, alloc: Global, round: u64, tally: &mut Tally) -> Result<(), Fail> {
+    let opts = options(round)?;
+    let first = first_number(round);
+    let limits = limits_of(&opts);
     let mut core = Core::new(alloc, &opts, first)?;
     let mut dice = Dice::new(round);
     let mut next = Next {
