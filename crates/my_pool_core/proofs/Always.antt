@@ -3,7 +3,7 @@ use Rattle.std.proofs.Common.{◌≡◌, ℕ, ◌≤◌, true, List, [], ◌∷�
 use Rattle.my_pool_core.specs.declared.event.PoolEvent.{PoolEvent}
 use Rattle.my_pool_core.specs.declared.event.PoolEvent.TheVariants.{Request, PollRequest, Cancel, Ready, Failed, GiveBack, Detach, TakeReturned, Decide, Done, CheckTtl, Close, PollDisconnect}
 use Rattle.my_pool_core.specs.declared.limits.Limits.{Limits}
-use Rattle.my_pool_core.specs.Requests.{last_age}
+use Rattle.my_pool_parts.specs.Requests.{last_age}
 use Rattle.my_pool_core.specs.State.{State}
 use Rattle.my_pool_core.specs.Events.{new_pool}
 use Rattle.my_pool_core.specs.Steps.{may, step, AllMay, after}

@@ -6,13 +6,11 @@ use Rattle.std.proofs.Common.{◌≡◌, ℕ, ◌+◌, ◌≤◌, ◌<◌, Bool,
 use Rattle.std.specs.Prelude.{find, option_map, ◌==◌, ◌||◌, if◌then◌else◌}
 use Rattle.std.proofs.lemmas.Bool.{eqb-true, eq-eqb}
 use Rattle.std.proofs.lemmas.Bool.Decides.{nat_tests}
-use Rattle.my_pool_core.specs.declared.request.Request.{Request}
-use Rattle.my_pool_core.specs.declared.request.Standing.TheVariants.{Woken}
-use Rattle.my_pool_core.specs.Lists.{without, change_first, found_is}
-use Rattle.my_pool_core.specs.Requests.{last_age, has_age, is_waiting, standing_as, ended, roused, wake, wake_all}
-use Rattle.my_pool_core.specs.Sound.{IsRising}
-use Rattle.my_pool_core.specs.Wakes.{oldest_in}
-use Rattle.my_pool_core.proofs.Finding.Keyed.{other-number, find-left}
+use Rattle.my_pool_parts.specs.declared.request.Request.{Request}
+use Rattle.my_pool_parts.specs.declared.request.Standing.TheVariants.{Woken}
+use Rattle.my_pool_parts.specs.Lists.{without, change_first, found_is}
+use Rattle.my_pool_parts.specs.Requests.{last_age, has_age, is_waiting, standing_as, ended, roused, wake, wake_all, IsRising, oldest_in}
+use Rattle.my_pool_parts.proofs.Finding.Keyed.{other-number, find-left}
 
 -- ---- one request changes ----
 

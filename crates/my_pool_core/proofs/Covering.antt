@@ -4,30 +4,28 @@ use Rattle.std.proofs.Common.{◌≡◌, ℕ, ◌+◌, ◌-◌, ◌≤◌, ◌<�
 use Rattle.std.specs.Prelude.{find, ◌==◌, ◌&&◌, ◌||◌, not, nat_le, nat_lt, if◌then◌else◌}
 use Rattle.std.specs.List.{list_any}
 use Rattle.std.proofs.lemmas.Bool.{ltb-true, ltb-false}
-use Rattle.my_pool_core.specs.declared.connection.Connection.{Connection}
-use Rattle.my_pool_core.specs.declared.connection.Place.{Place}
-use Rattle.my_pool_core.specs.declared.connection.Place.TheVariants.{Idle, Leased, Connecting, Checking, Returned, Cleaning, Resetting, Closing}
-use Rattle.my_pool_core.specs.declared.connection.Times.{Times}
+use Rattle.my_pool_parts.specs.declared.connection.Connection.{Connection}
+use Rattle.my_pool_parts.specs.declared.connection.Place.{Place}
+use Rattle.my_pool_parts.specs.declared.connection.Place.TheVariants.{Idle, Leased, Connecting, Checking, Returned, Cleaning, Resetting, Closing}
+use Rattle.my_pool_parts.specs.declared.connection.Times.{Times}
 use Rattle.my_pool_core.specs.declared.event.Facts.{Facts}
-use Rattle.my_pool_core.specs.declared.request.Request.{Request}
-use Rattle.my_pool_core.specs.declared.request.Standing.{Standing}
-use Rattle.my_pool_core.specs.declared.request.Standing.TheVariants.{Asks, Waits, Woken, Dials, Checks}
+use Rattle.my_pool_parts.specs.declared.request.Request.{Request}
+use Rattle.my_pool_parts.specs.declared.request.Standing.{Standing}
+use Rattle.my_pool_parts.specs.declared.request.Standing.TheVariants.{Asks, Waits, Woken, Dials, Checks}
 use Rattle.my_pool_core.specs.declared.limits.Counts.{Counts}
-use Rattle.my_pool_core.specs.Lists.{without, how_many, found_is}
-use Rattle.my_pool_core.specs.Connections.{placed, has_number, is_idle, is_idle_place, is_usable, is_left, move_to, latest_usable, unexpired, expired, retire, next_to_clean, mark_of_place, is_marked, is_resetting}
-use Rattle.my_pool_core.specs.Requests.{asking, has_age, is_waiting, is_woken, is_free, holds, holds_number, is_dialing, standing_as, ended, wake, waits_up_to, is_queued}
+use Rattle.my_pool_parts.specs.Lists.{without, how_many, found_is}
+use Rattle.my_pool_parts.specs.Connections.{placed, has_number, is_idle, is_idle_place, is_usable, is_left, move_to, latest_usable, unexpired, expired, retire, next_to_clean, mark_of_place, is_marked, is_resetting, is_leased}
+use Rattle.my_pool_parts.specs.Requests.{asking, has_age, is_waiting, is_woken, is_free, holds, holds_number, is_dialing, standing_as, ended, wake, waits_up_to, is_queued, has_waited, is_live, let_go}
 use Rattle.my_pool_core.specs.State.{State}
-use Rattle.my_pool_core.specs.Events.{Polled, Decided, is_at_end, request, may_poll, queued, sought, poll_request, is_full, has_waited, is_live, may_cancel, cancel_standing, cancel_found, cancel, creation_failed, may_settle, ready, let_go, failed, may_give_back, give_back, detach, found_next, take_returned, may_decide, resting, keep, decide, may_done, done, check_ttl, above_min, unestablished, dirty_return, outlived, being_reset, superfluous, cleanup_failed}
+use Rattle.my_pool_core.specs.Events.{Polled, Decided, is_at_end, request, may_poll, queued, sought, poll_request, is_full, may_cancel, cancel_standing, cancel_found, cancel, creation_failed, may_settle, ready, failed, may_give_back, give_back, detach, found_next, take_returned, may_decide, resting, keep, decide, may_done, done, check_ttl, above_min, unestablished, dirty_return, outlived, being_reset, superfluous, cleanup_failed}
 use Rattle.my_pool_core.specs.Sound.{IsSound, IsCovered, woken_first, is_unmarked}
-use Rattle.my_pool_core.proofs.Finding.{one, count-without-le, count-change, count-found, count-push, count-append}
+use Rattle.my_pool_parts.proofs.Finding.{one, count-without-le, count-change, count-found, count-push, count-append, found-any, shorter-where-any}
 use Rattle.my_pool_core.proofs.Kept.Fewer.{move-count}
 use Rattle.my_pool_core.proofs.Kept.Quiet.{IsAt, req}
 use Rattle.my_pool_core.proofs.Kept.Moving.{both, not-true, sound-retire, retire-same, retire-idle, none-expired-idle, swept, swept-same, swept-idle, all-count}
 use Rattle.my_pool_core.proofs.Kept.Holding.{connecting-found, checking-found, ended-less, wake-waiting}
 use Rattle.my_pool_core.proofs.Kept.{if-keeps, found-req, retired-there, next-place}
 use Rattle.my_pool_core.proofs.Keeping.{moved-length, found-there, movable-there, decide-moves, done-moves, held-there}
-use Rattle.my_pool_core.proofs.Finding.{found-any, shorter-where-any}
-use Rattle.my_pool_core.specs.Connections.{is_leased}
 use Rattle.my_pool_core.proofs.Covering.Fronts.{front-wake, front-ended, front-change, front-push, front-late}
 
 -- not more idle ones, and as many connections

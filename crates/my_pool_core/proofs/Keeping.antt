@@ -3,23 +3,23 @@ use Rattle.std.proofs.Common.{◌≡◌, ℕ, ◌+◌, ◌≤◌, ◌<◌, Bool,
 use Rattle.std.specs.Prelude.{find, if◌then◌else◌, not, ◌||◌, ◌&&◌, IfSome}
 use Rattle.std.proofs.lemmas.Bool.{eqb-true}
 use Rattle.std.specs.List.{list_any}
-use Rattle.my_pool_core.specs.declared.connection.Connection.{Connection}
-use Rattle.my_pool_core.specs.declared.connection.Place.{Place}
-use Rattle.my_pool_core.specs.declared.connection.Place.TheVariants.{Idle, Leased, Connecting, Checking, Returned, Cleaning, Resetting, Closing}
-use Rattle.my_pool_core.specs.declared.connection.Times.{Times}
+use Rattle.my_pool_parts.specs.declared.connection.Connection.{Connection}
+use Rattle.my_pool_parts.specs.declared.connection.Place.{Place}
+use Rattle.my_pool_parts.specs.declared.connection.Place.TheVariants.{Idle, Leased, Connecting, Checking, Returned, Cleaning, Resetting, Closing}
+use Rattle.my_pool_parts.specs.declared.connection.Times.{Times}
 use Rattle.my_pool_core.specs.declared.limits.Counts.{Counts}
 use Rattle.my_pool_core.specs.declared.event.Facts.{Facts}
-use Rattle.my_pool_core.specs.declared.request.Request.{Request}
-use Rattle.my_pool_core.specs.declared.request.Standing.{Standing}
-use Rattle.my_pool_core.specs.declared.request.Standing.TheVariants.{Asks, Waits, Woken, Dials, Checks}
-use Rattle.my_pool_core.specs.Lists.{without, how_many, found_is}
-use Rattle.my_pool_core.specs.Connections.{has_number, is_leased, is_idle, is_idle_place, is_connecting_place, is_checking_place, is_cleaning_place, is_resetting_place, is_closing_place, returned, placed, move_to, is_cleaning, next_to_clean, mark_of_place, latest_usable, retire}
-use Rattle.my_pool_core.specs.Requests.{asking, has_age, holds, holds_number, is_free, ended, set_waiting, wake, wake_all}
+use Rattle.my_pool_parts.specs.declared.request.Request.{Request}
+use Rattle.my_pool_parts.specs.declared.request.Standing.{Standing}
+use Rattle.my_pool_parts.specs.declared.request.Standing.TheVariants.{Asks, Waits, Woken, Dials, Checks}
+use Rattle.my_pool_parts.specs.Lists.{without, how_many, found_is}
+use Rattle.my_pool_parts.specs.Connections.{has_number, is_leased, is_idle, is_idle_place, is_connecting_place, is_checking_place, is_cleaning_place, is_resetting_place, is_closing_place, returned, placed, move_to, is_cleaning, next_to_clean, mark_of_place, latest_usable, retire, may_finish}
+use Rattle.my_pool_parts.specs.Requests.{asking, has_age, holds, holds_number, is_free, ended, set_waiting, wake, wake_all, with_last, IsRising}
 use Rattle.my_pool_core.specs.State.{State}
-use Rattle.my_pool_core.specs.Events.{is_at_end, request, with_last, dialed, taken, above_min, may_move, freed, moved, resting, kept, is_unheld, may_poll, may_cancel, cancel, cancel_found, cancel_standing, may_settle, ready, failed, may_give_back, give_back, close, check_ttl, may_decide, may_finish, may_done}
-use Rattle.my_pool_core.specs.Sound.{IsSound, IsKept, IsRising, is_dialer}
-use Rattle.my_pool_core.proofs.Queue.Waking.{rising-awake, wake-all-last}
-use Rattle.my_pool_core.proofs.Finding.{one, count-found, found-any, found-passes, shorter-where-any}
+use Rattle.my_pool_core.specs.Events.{is_at_end, request, dialed, taken, above_min, may_move, freed, moved, resting, kept, is_unheld, may_poll, may_cancel, cancel, cancel_found, cancel_standing, may_settle, ready, failed, may_give_back, give_back, close, check_ttl, may_decide, may_done}
+use Rattle.my_pool_core.specs.Sound.{IsSound, IsKept, is_dialer}
+use Rattle.my_pool_parts.proofs.Queue.Waking.{rising-awake, wake-all-last}
+use Rattle.my_pool_parts.proofs.Finding.{one, count-found, found-any, found-passes, shorter-where-any}
 use Rattle.my_pool_core.proofs.Kept.Opening.{sound-close, sound-request, sound-ended, sound-waits, sound-takes, sound-dials, open-not-last, free-dialer}
 use Rattle.my_pool_core.proofs.Kept.Moving.{retire-fewer, sound-retire, swept-fewer}
 use Rattle.my_pool_core.proofs.Kept.{sound-cancel, sound-ready, sound-failed, sound-give-back, sound-freed, sound-move-on, sound-rested, IsUnheld, sound-check-ttl, sound-found-next, next-place, none-ended, retired-there, found-req, found-at}

@@ -8,22 +8,22 @@ use Rattle.std.proofs.Common.{◌≡◌, ℕ, ◌+◌, ◌<◌, Bool, true, fals
 use Rattle.std.specs.Prelude.{find, ◌==◌, ◌&&◌, ◌||◌, not, nat_le, nat_lt, if◌then◌else◌}
 use Rattle.std.specs.List.{list_any}
 use Rattle.std.proofs.lemmas.Bool.{eqb-true, eq-eqb, leb-false, ltb-true}
-use Rattle.my_pool_core.specs.declared.connection.Connection.{Connection}
-use Rattle.my_pool_core.specs.declared.connection.Place.{Place}
-use Rattle.my_pool_core.specs.declared.connection.Place.TheVariants.{Idle, Leased, Connecting, Checking, Returned, Cleaning, Resetting, Closing}
-use Rattle.my_pool_core.specs.declared.connection.Times.{Times}
-use Rattle.my_pool_core.specs.declared.request.Request.{Request}
-use Rattle.my_pool_core.specs.declared.request.Standing.{Standing}
-use Rattle.my_pool_core.specs.declared.request.Standing.TheVariants.{Asks, Waits, Woken, Dials, Checks}
+use Rattle.my_pool_parts.specs.declared.connection.Connection.{Connection}
+use Rattle.my_pool_parts.specs.declared.connection.Place.{Place}
+use Rattle.my_pool_parts.specs.declared.connection.Place.TheVariants.{Idle, Leased, Connecting, Checking, Returned, Cleaning, Resetting, Closing}
+use Rattle.my_pool_parts.specs.declared.connection.Times.{Times}
+use Rattle.my_pool_parts.specs.declared.request.Request.{Request}
+use Rattle.my_pool_parts.specs.declared.request.Standing.{Standing}
+use Rattle.my_pool_parts.specs.declared.request.Standing.TheVariants.{Asks, Waits, Woken, Dials, Checks}
 use Rattle.my_pool_core.specs.declared.event.Facts.{Facts}
 use Rattle.my_pool_core.specs.declared.limits.Counts.{Counts}
-use Rattle.my_pool_core.specs.Lists.{without, how_many, found_is}
-use Rattle.my_pool_core.specs.Connections.{placed, has_number, is_idle, is_idle_place, is_usable, is_usable_place, is_leased_place, is_connecting_place, is_checking_place, is_returned, is_returned_place, is_cleaning_place, is_resetting, is_resetting_place, is_closing_place, is_marked, move_to, latest_usable, retire, next_to_clean, mark_of_place}
-use Rattle.my_pool_core.specs.Requests.{has_age, is_waiting, is_dialing, is_free, holds, holds_number, set_standing, ended, wake, waits_up_to, is_queued}
+use Rattle.my_pool_parts.specs.Lists.{without, how_many, found_is}
+use Rattle.my_pool_parts.specs.Connections.{placed, has_number, is_idle, is_idle_place, is_usable, is_usable_place, is_leased_place, is_connecting_place, is_checking_place, is_returned, is_returned_place, is_cleaning_place, is_resetting, is_resetting_place, is_closing_place, is_marked, move_to, latest_usable, retire, next_to_clean, mark_of_place}
+use Rattle.my_pool_parts.specs.Requests.{has_age, is_waiting, is_dialing, is_free, holds, holds_number, set_standing, ended, wake, waits_up_to, is_queued, has_waited, is_live}
 use Rattle.my_pool_core.specs.State.{State}
-use Rattle.my_pool_core.specs.Events.{Polled, Decided, creation_failed, unestablished, dirty_return, outlived, being_reset, superfluous, kept, cleanup_failed, may_poll, queued, sought, poll_request, is_full, has_waited, is_live, may_cancel, cancel_standing, cancel_found, cancel, may_settle, ready, failed, may_give_back, give_back, detach, found_next, take_returned, may_decide, keep, decide, may_done, done, above_min, check_ttl, moved, resting}
+use Rattle.my_pool_core.specs.Events.{Polled, Decided, creation_failed, unestablished, dirty_return, outlived, being_reset, superfluous, kept, cleanup_failed, may_poll, queued, sought, poll_request, is_full, may_cancel, cancel_standing, cancel_found, cancel, may_settle, ready, failed, may_give_back, give_back, detach, found_next, take_returned, may_decide, keep, decide, may_done, done, above_min, check_ttl, moved, resting}
 use Rattle.my_pool_core.specs.Sound.{IsSound}
-use Rattle.my_pool_core.proofs.Finding.{one, count-found, found-passes, found-once}
+use Rattle.my_pool_parts.proofs.Finding.{one, count-found, found-passes, found-once}
 use Rattle.my_pool_core.proofs.Kept.Fewer.{sound_after, same-connections, found-placed, move-count}
 use Rattle.my_pool_core.proofs.Kept.Quiet.{IsAt, req, quiet-same, quiet-quiet, wake-quiet, ended-quiet}
 use Rattle.my_pool_core.proofs.Kept.Moving.{sound-move, sound-free, sound-retire, sound-swept, retire-same}

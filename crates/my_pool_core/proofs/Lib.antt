@@ -1,11 +1,8 @@
-pub mod Finding
 pub mod Kept
 pub mod Keeping
 pub mod Covering
 pub mod Always
 pub mod Oldest
-pub mod Queue
-pub mod Retiring
 pub mod Asked
 pub mod Placed
 pub mod Replaying

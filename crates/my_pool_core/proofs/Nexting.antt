@@ -2,15 +2,15 @@
 use Rattle.std.proofs.Common.{◌≡◌, ℕ, ◌+◌, ◌≤◌, ◌<◌, Bool, true, false, Option, Some, None, List, [], ◌∷◌, refl, sym, ap, ◌∙◌, arith, min, subst, inl, inr}
 use Rattle.std.specs.Prelude.{find, option_map, ◌&&◌, nat_le, MatchOption, if◌then◌else◌, ◌⊎◌}
 use Rattle.std.proofs.lemmas.Bool.{eqb-true, eq-eqb, leb-true, leb-false, le-leb}
-use Rattle.my_pool_core.specs.declared.connection.Connection.{Connection}
-use Rattle.my_pool_core.specs.declared.connection.PlaceKind.{PlaceKind}
-use Rattle.my_pool_core.specs.Lists.{how_many, found_is}
-use Rattle.my_pool_core.specs.Connections.{has_number}
+use Rattle.my_pool_parts.specs.declared.connection.Connection.{Connection}
+use Rattle.my_pool_parts.specs.declared.connection.PlaceKind.{PlaceKind}
+use Rattle.my_pool_parts.specs.Lists.{how_many, found_is}
+use Rattle.my_pool_parts.specs.Connections.{has_number, is_kind}
 use Rattle.my_pool_core.specs.State.{State}
 use Rattle.my_pool_core.specs.Sound.{IsSound}
-use Rattle.my_pool_core.specs.Owners.{is_kind, is_at, IsNextAt, IsNoneAt}
-use Rattle.my_pool_core.specs.Next.{lesser, least_at}
-use Rattle.my_pool_core.proofs.Finding.{one, count-found, found-once, found-passes}
+use Rattle.my_pool_core.specs.Owners.{is_at, IsNextAt, IsNoneAt}
+use Rattle.my_pool_parts.specs.Next.{lesser, least_at}
+use Rattle.my_pool_parts.proofs.Finding.{one, count-found, found-once, found-passes}
 use Rattle.my_pool_core.proofs.Kept.Moving.{both}
 
 -- a connection of a list that isn't below a number and is at a kind of place

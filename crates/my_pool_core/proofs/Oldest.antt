@@ -4,11 +4,11 @@ use Rattle.std.specs.Prelude.{◌==◌, ◌&&◌, ◌||◌, not, nat_le, find}
 use Rattle.std.specs.List.{All, AllByRecursion}
 use Rattle.std.proofs.lemmas.List.Elements.{All-from_recursion}
 use Rattle.std.proofs.lemmas.Bool.{eqb-true, leb-false}
-use Rattle.my_pool_core.specs.declared.request.Request.{Request}
-use Rattle.my_pool_core.specs.Lists.{how_many, found_is}
-use Rattle.my_pool_core.specs.Requests.{has_age, is_waiting, is_queued, waits_up_to}
+use Rattle.my_pool_parts.specs.declared.request.Request.{Request}
+use Rattle.my_pool_parts.specs.Lists.{how_many, found_is}
+use Rattle.my_pool_parts.specs.Requests.{has_age, is_waiting, is_queued, waits_up_to, has_waited}
 use Rattle.my_pool_core.specs.State.{State}
-use Rattle.my_pool_core.specs.Events.{Polled, queued, poll_request, takes_place, is_full, full_answer, has_waited, is_gone}
+use Rattle.my_pool_core.specs.Events.{Polled, queued, poll_request, takes_place, is_full, full_answer, is_gone}
 use Rattle.my_pool_core.proofs.Kept.Moving.{both}
 use Rattle.my_pool_core.proofs.Kept.{if-keeps}
 

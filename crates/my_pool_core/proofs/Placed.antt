@@ -3,20 +3,21 @@ pub mod Moves
 pub mod Homes
 pub mod Staying
 pub mod Counts
+pub mod Frame
 use Rattle.std.proofs.Common.{◌≡◌, ℕ, ◌+◌, ◌≤◌, Bool, true, false, cond, Option, Some, None, List, [], ◌∷◌, ◌++◌, refl, sym, ap, ◌∙◌, arith, inl, inr, subst}
 use Rattle.std.proofs.lemmas.List.{append_assoc, append-nil}
 use Rattle.std.specs.Prelude.{find, option_map, ◌==◌, ◌&&◌, ◌||◌, not, nat_lt, ◌-◌}
 use Rattle.std.specs.List.{list_any}
 use Rattle.std.proofs.lemmas.Bool.{eq-eqb}
-use Rattle.my_pool_core.specs.declared.connection.Connection.{Connection}
-use Rattle.my_pool_core.specs.declared.connection.Place.{Place}
-use Rattle.my_pool_core.specs.declared.connection.Place.TheVariants.{Idle, Leased, Connecting, Checking, Returned, Cleaning, Resetting, Closing}
-use Rattle.my_pool_core.specs.declared.connection.Times.{Times}
-use Rattle.my_pool_core.specs.Lists.{without, how_many}
-use Rattle.my_pool_core.specs.Connections.{placed, has_number, is_idle, is_idle_place, is_usable, is_usable_place, is_past, is_over, is_left, move_to, unexpired, expired, retire, is_outdated, lasting, outdated}
+use Rattle.my_pool_parts.specs.declared.connection.Connection.{Connection}
+use Rattle.my_pool_parts.specs.declared.connection.Place.{Place}
+use Rattle.my_pool_parts.specs.declared.connection.Place.TheVariants.{Idle, Leased, Connecting, Checking, Returned, Cleaning, Resetting, Closing}
+use Rattle.my_pool_parts.specs.declared.connection.Times.{Times}
+use Rattle.my_pool_parts.specs.Lists.{without, how_many}
+use Rattle.my_pool_parts.specs.Connections.{placed, has_number, is_idle, is_idle_place, is_usable, is_usable_place, is_past, is_over, is_left, move_to, unexpired, expired, retire, is_outdated, lasting, outdated}
 use Rattle.my_pool_core.specs.Moves.{MayReturn, is_aged}
-use Rattle.my_pool_core.proofs.Finding.{one}
-use Rattle.my_pool_core.proofs.Finding.Keyed.{unlike, none-found, find-left, find-gone, find-pushed, find-new, find-past}
+use Rattle.my_pool_parts.proofs.Finding.{one}
+use Rattle.my_pool_parts.proofs.Finding.Keyed.{unlike, none-found, find-left, find-gone, find-pushed, find-new, find-past}
 use Rattle.my_pool_core.proofs.Kept.Moving.{both, not-true, retire-same, lasting-count}
 
 -- where the connection of a number is, in a list

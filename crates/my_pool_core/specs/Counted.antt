@@ -1,7 +1,7 @@
 -- Counts of a pool's connections that bound how long its loops go on, and how much room it has.
 use Rattle.std.specs.Prelude.{ℕ, ◌+◌, length}
-use Rattle.my_pool_core.specs.Lists.{how_many}
-use Rattle.my_pool_core.specs.Connections.{is_idle}
+use Rattle.my_pool_parts.specs.Lists.{how_many}
+use Rattle.my_pool_parts.specs.Connections.{is_idle}
 use Rattle.my_pool_core.specs.State.{State}
 use Rattle.my_pool_core.specs.Moves.{is_due_place}
 

@@ -1,13 +1,13 @@
 -- What each event makes of a pool's state, and what it returns.
 use Rattle.std.specs.Prelude.{ℕ, ◌+◌, ◌-◌, Bool, true, false, ◌||◌, ◌&&◌, ◌==◌, not, nat_lt, nat_le, max, Option, Some, None, List, [], ◌∷◌, ◌++◌, length, find, if◌then◌else◌}
 use Rattle.std.specs.List.{list_any}
-use Rattle.my_pool_core.specs.declared.connection.Connection.{Connection}
-use Rattle.my_pool_core.specs.declared.connection.Place.{Place}
-use Rattle.my_pool_core.specs.declared.connection.Place.TheVariants.{Idle, Leased, Connecting, Checking, Returned, Cleaning, Resetting, Closing}
-use Rattle.my_pool_core.specs.declared.connection.Times.{Times}
-use Rattle.my_pool_core.specs.declared.request.Request.{Request}
-use Rattle.my_pool_core.specs.declared.request.Standing.{Standing}
-use Rattle.my_pool_core.specs.declared.request.Standing.TheVariants.{Asks, Waits, Woken, Dials, Checks}
+use Rattle.my_pool_parts.specs.declared.connection.Connection.{Connection}
+use Rattle.my_pool_parts.specs.declared.connection.Place.{Place}
+use Rattle.my_pool_parts.specs.declared.connection.Place.TheVariants.{Idle, Leased, Connecting, Checking, Returned, Cleaning, Resetting, Closing}
+use Rattle.my_pool_parts.specs.declared.connection.Times.{Times}
+use Rattle.my_pool_parts.specs.declared.request.Request.{Request}
+use Rattle.my_pool_parts.specs.declared.request.Standing.{Standing}
+use Rattle.my_pool_parts.specs.declared.request.Standing.TheVariants.{Asks, Waits, Woken, Dials, Checks}
 use Rattle.my_pool_core.specs.declared.limits.Limits.{Limits}
 use Rattle.my_pool_core.specs.declared.limits.Counts.{Counts}
 use Rattle.my_pool_core.specs.declared.event.Facts.{Facts}
@@ -15,9 +15,9 @@ use Rattle.my_pool_core.specs.declared.event.PollAnswer.{PollAnswer}
 use Rattle.my_pool_core.specs.declared.event.PollAnswer.TheVariants.{Wait, Take, Dial, Closed, Full}
 use Rattle.my_pool_core.specs.declared.event.Verdict.{Verdict}
 use Rattle.my_pool_core.specs.declared.event.Verdict.TheVariants.{Drop, Clean, Close, Reset, Keep}
-use Rattle.my_pool_core.specs.Lists.{without, found_is, how_many}
-use Rattle.my_pool_core.specs.Connections.{placed, has_number, is_idle, is_leased, is_cleaning, is_marked, is_resetting, is_closing, is_connecting, is_checking, mark_of_place, move_to, latest_usable, retire, lasting, outdated, next_to_clean}
-use Rattle.my_pool_core.specs.Requests.{last_age, asking, has_age, is_dialing, is_free, holds, set_standing, set_waiting, ended, wake, wake_all, waits_up_to, may_dial, is_queued}
+use Rattle.my_pool_parts.specs.Lists.{without, found_is, how_many}
+use Rattle.my_pool_parts.specs.Connections.{may_finish, placed, has_number, is_idle, is_leased, is_cleaning, is_marked, is_resetting, is_connecting, is_checking, mark_of_place, move_to, latest_usable, retire, lasting, outdated, next_to_clean}
+use Rattle.my_pool_parts.specs.Requests.{with_last, has_waited, is_live, let_go, last_age, asking, has_age, is_free, holds, set_standing, set_waiting, ended, wake, wake_all, waits_up_to, may_dial, is_queued}
 use Rattle.my_pool_core.specs.State.{State, one_more}
 
 -- the counts of a new pool
@@ -123,10 +123,6 @@ is_at_end s =
 abbrev pub close : State → State
 close s = record s { closed = true; requests = wake_all s.requests }
 
--- the requests with the one of the last age, which is among them once
-abbrev pub with_last : List Request → List Request
-with_last rs = if list_any (has_age last_age) rs then rs else rs ++ asking last_age ∷ []
-
 -- a new request; at the end of ages or numbers the pool is closed
 abbrev pub request : State → State
 request s =
@@ -158,9 +154,6 @@ is_full (Some limit) queued = nat_le limit queued
 abbrev pub full_answer : Option ℕ → ℕ → PollAnswer
 full_answer None queued = Wait
 full_answer (Some limit) queued = Full queued limit
-
-abbrev pub has_waited : Request → Bool
-has_waited r = r.waited
 
 -- a polled request waits; one that never waited ends where too many do
 abbrev pub queued : ℕ → State → Polled
@@ -207,10 +200,6 @@ poll_request age now s =
     else if waits_up_to age s.requests then queued age s
     else sought age (latest_usable now s.connections) (record s { connections = retire now s.connections })
 
--- a request is given up where it is live
-abbrev pub is_live : Request → Bool
-is_live r = true
-
 abbrev pub may_cancel : ℕ → State → Bool
 may_cancel age s = found_is is_live (find (has_age age) s.requests)
 
@@ -241,10 +230,6 @@ ready age number s = record s {
   connections = move_to number Leased s.connections;
   requests = ended age s.requests;
 }
-
--- a request that was making a connection ends, one that was looking at it has no connection again
-abbrev pub let_go : ℕ → List Request → List Request
-let_go age rs = if found_is is_dialing (find (has_age age) rs) then ended age rs else set_standing age Asks rs
 
 -- it isn't: it is freed, and the request lets it go
 abbrev pub failed : ℕ → ℕ → State → State
@@ -306,10 +291,6 @@ decide number facts now s =
     else if facts.reset
     then record { state = record (moved number Resetting s) { counts = being_reset s.counts }; answer = Reset }
     else keep number facts now s
-
--- a reset, a close, or a cleaning that failed came to its end
-abbrev pub may_finish : Bool → Connection → Bool
-may_finish ok c = is_resetting c || is_closing c || (is_cleaning c && not ok)
 
 abbrev pub may_done : ℕ → Bool → State → Bool
 may_done number ok s = found_is (may_finish ok) (find (has_number number) s.connections)

@@ -1,15 +1,10 @@
-pub mod Lists
-pub mod Connections
-pub mod Requests
 pub mod State
 pub mod Events
 pub mod Steps
 pub mod Sound
 pub mod Seen
 pub mod Made
-pub mod Live
 pub mod Owners
 pub mod Moves
 pub mod Wakes
 pub mod Counted
-pub mod Next

@@ -1,8 +1,8 @@
 -- What each event does with the request of one age and with the connection of one number, whichever it is.
 use Rattle.std.specs.Prelude.{◌≡◌, ℕ, ◌-◌, Bool, true, false, ◌||◌, ◌&&◌, ◌==◌, not, nat_lt, ◌⊎◌, Option, Some, None, if◌then◌else◌}
-use Rattle.my_pool_core.specs.declared.connection.Place.{Place}
-use Rattle.my_pool_core.specs.declared.connection.Place.TheVariants.{Idle, Leased, Connecting, Checking, Returned, Cleaning, Resetting, Closing}
-use Rattle.my_pool_core.specs.declared.connection.Times.{Times}
+use Rattle.my_pool_parts.specs.declared.connection.Place.{Place}
+use Rattle.my_pool_parts.specs.declared.connection.Place.TheVariants.{Idle, Leased, Connecting, Checking, Returned, Cleaning, Resetting, Closing}
+use Rattle.my_pool_parts.specs.declared.connection.Times.{Times}
 use Rattle.my_pool_core.specs.declared.event.Facts.{Facts}
 use Rattle.my_pool_core.specs.declared.event.PollAnswer.{PollAnswer}
 use Rattle.my_pool_core.specs.declared.event.PollAnswer.TheVariants.{Wait, Take, Dial, Closed, Full}
@@ -10,9 +10,9 @@ use Rattle.my_pool_core.specs.declared.event.Verdict.{Verdict}
 use Rattle.my_pool_core.specs.declared.event.Verdict.TheVariants.{Drop, Clean, Close, Reset, Keep}
 use Rattle.my_pool_core.specs.declared.event.PoolEvent.{PoolEvent}
 use Rattle.my_pool_core.specs.declared.event.PoolEvent.TheVariants as events
-use Rattle.my_pool_core.specs.Lists.{found_is}
-use Rattle.my_pool_core.specs.Connections.{is_idle_place, is_leased_place, is_returned_place, is_cleaning_place, is_resetting_place, is_closing_place, is_past, is_over}
-use Rattle.my_pool_core.specs.Requests.{last_age}
+use Rattle.my_pool_parts.specs.Lists.{found_is}
+use Rattle.my_pool_parts.specs.Connections.{is_idle_place, is_leased_place, is_returned_place, is_cleaning_place, is_resetting_place, is_closing_place, is_past, is_over}
+use Rattle.my_pool_parts.specs.Requests.{last_age}
 use Rattle.my_pool_core.specs.State.{State}
 use Rattle.my_pool_core.specs.Events.{request_age, poll_request, take_returned, decide, done, resting, times_of}
 use Rattle.my_pool_core.specs.Owners.{Token, Free, Making, Looking, token, place_at, is_home, is_lease, is_held_place, mark_at}

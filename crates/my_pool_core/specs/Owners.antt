@@ -1,14 +1,13 @@
 -- What the layer above reads of a pool: where the connection of a number is, and what the request of an age holds.
 use Rattle.std.specs.Prelude.{◌≡◌, ℕ, ◌≤◌, Bool, true, false, Option, Some, None, option_map, find}
-use Rattle.my_pool_core.specs.declared.connection.Place.{Place}
-use Rattle.my_pool_core.specs.declared.connection.Place.TheVariants.{Idle, Leased, Connecting, Checking, Returned, Cleaning, Resetting, Closing}
-use Rattle.my_pool_core.specs.declared.connection.PlaceKind.{PlaceKind}
-use Rattle.my_pool_core.specs.declared.connection.PlaceKind.TheVariants as kinds
-use Rattle.my_pool_core.specs.declared.request.Standing.{Standing}
-use Rattle.my_pool_core.specs.declared.request.Standing.TheVariants.{Asks, Waits, Woken, Dials, Checks}
-use Rattle.my_pool_core.specs.Lists.{found_is}
-use Rattle.my_pool_core.specs.Connections.{has_number, is_idle_place, is_leased_place, is_connecting_place, is_checking_place, is_returned_place, is_cleaning_place, is_resetting_place, is_closing_place, mark_of_place}
-use Rattle.my_pool_core.specs.Requests.{has_age}
+use Rattle.my_pool_parts.specs.declared.connection.Place.{Place}
+use Rattle.my_pool_parts.specs.declared.connection.Place.TheVariants.{Idle, Leased, Connecting, Checking, Returned, Cleaning, Resetting, Closing}
+use Rattle.my_pool_parts.specs.declared.connection.PlaceKind.{PlaceKind}
+use Rattle.my_pool_parts.specs.declared.request.Standing.{Standing}
+use Rattle.my_pool_parts.specs.declared.request.Standing.TheVariants.{Asks, Waits, Woken, Dials, Checks}
+use Rattle.my_pool_parts.specs.Lists.{found_is}
+use Rattle.my_pool_parts.specs.Connections.{is_kind, has_number, is_leased_place, mark_of_place}
+use Rattle.my_pool_parts.specs.Requests.{has_age}
 use Rattle.my_pool_core.specs.State.{State}
 
 -- where the connection of a number is; none where it isn't counted
@@ -56,17 +55,6 @@ is_lease number s = found_is is_leased_place (place_at number s)
 -- whether it is marked
 abbrev pub mark_at : ℕ → State → Bool
 mark_at number s = found_is mark_of_place (place_at number s)
-
--- whether a place is of a kind
-abbrev pub is_kind : PlaceKind → Place → Bool
-is_kind kinds.Idle place = is_idle_place place
-is_kind kinds.Leased place = is_leased_place place
-is_kind kinds.Connecting place = is_connecting_place place
-is_kind kinds.Checking place = is_checking_place place
-is_kind kinds.Returned place = is_returned_place place
-is_kind kinds.Cleaning place = is_cleaning_place place
-is_kind kinds.Resetting place = is_resetting_place place
-is_kind kinds.Closing place = is_closing_place place
 
 -- whether the connection of a number is at a place of a kind
 abbrev pub is_at : PlaceKind → ℕ → State → Bool

@@ -1,9 +1,9 @@
 -- What a pool shows of itself.
 use Rattle.std.specs.Prelude.{length}
 use Rattle.my_pool_core.specs.declared.limits.Metrics.{Metrics}
-use Rattle.my_pool_core.specs.Lists.{how_many}
-use Rattle.my_pool_core.specs.Connections.{is_idle, is_leased}
-use Rattle.my_pool_core.specs.Requests.{is_waiting}
+use Rattle.my_pool_parts.specs.Lists.{how_many}
+use Rattle.my_pool_parts.specs.Connections.{is_idle, is_leased}
+use Rattle.my_pool_parts.specs.Requests.{is_waiting}
 use Rattle.my_pool_core.specs.State.{State}
 
 -- four numbers of what is there, and how often each thing happened

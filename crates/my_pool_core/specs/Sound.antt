@@ -1,12 +1,12 @@
 -- What holds of each state of a pool.
 use Rattle.std.specs.Prelude.{◌≡◌, ℕ, ◌+◌, ◌-◌, ◌<◌, ◌≤◌, Bool, true, false, ◌&&◌, ◌==◌, not, nat_le, List, [], ◌∷◌, length, if◌then◌else◌}
-use Rattle.my_pool_core.specs.declared.connection.Connection.{Connection}
-use Rattle.my_pool_core.specs.declared.request.Request.{Request}
-use Rattle.my_pool_core.specs.declared.request.Standing.{Standing}
-use Rattle.my_pool_core.specs.declared.request.Standing.TheVariants.{Dials, Checks}
-use Rattle.my_pool_core.specs.Lists.{how_many}
-use Rattle.my_pool_core.specs.Connections.{has_number, is_idle, is_connecting, is_checking}
-use Rattle.my_pool_core.specs.Requests.{last_age, has_age, is_waiting, is_woken, is_asking, is_queued, may_dial}
+use Rattle.my_pool_parts.specs.declared.connection.Connection.{Connection}
+use Rattle.my_pool_parts.specs.declared.request.Request.{Request}
+use Rattle.my_pool_parts.specs.declared.request.Standing.{Standing}
+use Rattle.my_pool_parts.specs.declared.request.Standing.TheVariants.{Dials, Checks}
+use Rattle.my_pool_parts.specs.Lists.{how_many}
+use Rattle.my_pool_parts.specs.Connections.{has_number, is_idle, is_connecting, is_checking}
+use Rattle.my_pool_parts.specs.Requests.{IsRising, last_age, has_age, is_waiting, is_woken, is_asking, is_queued, may_dial}
 use Rattle.my_pool_core.specs.State.{State}
 
 -- a request that makes the connection of this number
@@ -52,11 +52,6 @@ is_dialer r = may_dial r && not (r.age == last_age)
 -- the one of the last age, which waits, was woken or has a connection
 abbrev pub is_last_busy : Request → Bool
 is_last_busy r = not (is_asking r) && has_age last_age r
-
--- the ages rise, from this one on
-abbrev pub IsRising : ℕ → List Request → Type 0
-IsRising low [] = Unit {0}
-IsRising low (r ∷ rs) = (low ≤ r.age) × IsRising (r.age + 1) rs
 
 -- A state is sound. Each number and each age occurs once. Each connection that is being made or looked at has one
 -- request that does it, and each such request has that connection. There are no more connections and no more idle

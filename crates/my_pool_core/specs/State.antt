@@ -1,7 +1,7 @@
 -- The state of a pool on plain numbers.
 use Rattle.std.specs.Prelude.{ℕ, ◌+◌, ◌-◌, ◌^◌, Bool, nat_lt, List, if◌then◌else◌}
-use Rattle.my_pool_core.specs.declared.connection.Connection.{Connection}
-use Rattle.my_pool_core.specs.declared.request.Request.{Request}
+use Rattle.my_pool_parts.specs.declared.connection.Connection.{Connection}
+use Rattle.my_pool_parts.specs.declared.request.Request.{Request}
 use Rattle.my_pool_core.specs.declared.limits.Limits.{Limits}
 use Rattle.my_pool_core.specs.declared.limits.Counts.{Counts}
 

@@ -1,16 +1,15 @@
 -- Which requests an event wakes, and which wait after it.
-use Rattle.std.specs.Prelude.{ℕ, Bool, true, false, ◌&&◌, ◌==◌, Option, option_map, List, find}
+use Rattle.std.specs.Prelude.{ℕ, Bool, true, false, ◌&&◌, ◌==◌, Option, find}
 use Rattle.my_pool_core.specs.declared.event.PollAnswer.{PollAnswer}
 use Rattle.my_pool_core.specs.declared.event.PollAnswer.TheVariants.{Wait}
 use Rattle.my_pool_core.specs.declared.event.Verdict.{Verdict}
 use Rattle.my_pool_core.specs.declared.event.Verdict.TheVariants.{Drop, Keep}
 use Rattle.my_pool_core.specs.declared.event.PoolEvent.{PoolEvent}
 use Rattle.my_pool_core.specs.declared.event.PoolEvent.TheVariants as events
-use Rattle.my_pool_core.specs.declared.request.Request.{Request}
-use Rattle.my_pool_core.specs.declared.request.Standing.{Standing}
-use Rattle.my_pool_core.specs.declared.request.Standing.TheVariants.{Asks, Waits, Woken, Dials, Checks}
-use Rattle.my_pool_core.specs.Lists.{found_is}
-use Rattle.my_pool_core.specs.Requests.{has_age, is_waiting, is_woken}
+use Rattle.my_pool_parts.specs.declared.request.Standing.{Standing}
+use Rattle.my_pool_parts.specs.declared.request.Standing.TheVariants.{Asks, Waits, Woken, Dials, Checks}
+use Rattle.my_pool_parts.specs.Lists.{found_is}
+use Rattle.my_pool_parts.specs.Requests.{oldest_in, has_age, is_waiting, is_woken}
 use Rattle.my_pool_core.specs.State.{State}
 use Rattle.my_pool_core.specs.Events.{is_at_end, poll_request, decide, done}
 
@@ -20,10 +19,6 @@ waits age s = found_is is_waiting (find (has_age age) s.requests)
 
 abbrev pub is_awake : ℕ → State → Bool
 is_awake age s = found_is is_woken (find (has_age age) s.requests)
-
--- the least age that waits
-abbrev pub oldest_in : List Request → Option ℕ
-oldest_in rs = option_map (λ r. r.age) (find is_waiting rs)
 
 abbrev pub oldest_waiting : State → Option ℕ
 oldest_waiting s = oldest_in s.requests

@@ -3,7 +3,7 @@
 ghost use Rattle.std.specs.Prelude.{◌≡◌};
 ghost use Rattle.my_pool_core.specs.Events.{times_of};
 
-use crate::connection::Times;
+use my_pool_parts::Times;
 
 /// What is known of a connection whose cleaning, or whose reset, is to be decided on.
 #[derive(Clone, Copy, Debug, PartialEq, Eq)]
@@ -49,7 +49,7 @@ pub enum PollAnswer {
     Dial(u64),
     /// The pool is closed; the request has ended.
     Closed,
-    /// As many requests wait as may; the request has ended.
+    /// As many requests wait as may, or more; the request has ended.
     Full { waiting: u64, limit: u64 },
 }
 

@@ -1,28 +1,25 @@
 //! What holds of a pool whatever happens to it. Each law is the clause of a function that does nothing, over the
 //! definitions by which each event's method says what it does.
 
-ghost use Rattle.std.specs.Prelude.{◌≡◌, ℕ, ◌≤◌, ◌<◌, true, List, length, All};
-ghost use Rattle.my_pool_core.specs.declared.event.PoolEvent.{PoolEvent};
-ghost use Rattle.my_pool_core.specs.declared.limits.Limits.{Limits};
-ghost use Rattle.my_pool_core.specs.State.{State};
-ghost use Rattle.my_pool_core.specs.Requests.{last_age, is_waiting};
-ghost use Rattle.my_pool_core.specs.Events.{new_pool, may_poll, poll_request, takes_place, is_gone};
-ghost use Rattle.my_pool_core.specs.Steps.{may, step, answer, AllMay, after, answers};
-ghost use Rattle.my_pool_core.specs.Sound.{IsSound, IsCovered};
-ghost use Rattle.std.specs.Prelude.{Bool, false, Option, Some, None, ◌||◌, ◌&&◌, not};
-ghost use Rattle.my_pool_core.specs.Owners.{Token, Free, token, number_in, is_home, is_lease, Making, Looking, place_at, is_working, mark_at};
-ghost use Rattle.my_pool_core.specs.Moves.{token_after, PlacesMove, home_after, lease_after, verdict_place, is_verdict_on, IsKeeping};
-ghost use Rattle.my_pool_core.specs.Wakes.{waits, is_awake, oldest_waiting, wakes, is_turn_of, begins_to_wait};
-ghost use Rattle.my_pool_core.specs.declared.event.PoolEvent.TheVariants as events;
+ghost use Rattle.std.specs.Prelude.{◌≡◌, ℕ, ◌≤◌, ◌<◌, true, List, length, All, Bool, false, Option, Some, None, ◌||◌, ◌&&◌, not, ◌⊎◌, ◌+◌, ◌++◌, [], ◌∷◌};
+ghost use Rattle.my_pool_parts.specs.declared.connection.Place.TheVariants.{Idle, Connecting, Checking, Cleaning};
+ghost use Rattle.my_pool_parts.specs.declared.connection.Times.{Times};
+ghost use Rattle.my_pool_parts.specs.Connections.{latest_usable};
+ghost use Rattle.my_pool_parts.specs.Requests.{last_age, is_waiting};
+ghost use Rattle.my_pool_core.specs.declared.event.Answer.TheVariants.{Poll};
 ghost use Rattle.my_pool_core.specs.declared.event.Facts.{Facts};
 ghost use Rattle.my_pool_core.specs.declared.event.PollAnswer.TheVariants.{Take, Dial};
-ghost use Rattle.my_pool_core.specs.declared.connection.Times.{Times};
-ghost use Rattle.my_pool_core.specs.declared.connection.Place.TheVariants.{Idle, Connecting, Checking, Cleaning};
-ghost use Rattle.my_pool_core.specs.Connections.{latest_usable};
-ghost use Rattle.my_pool_core.specs.Events.{is_at_end, request, request_age, take_returned, decide, done, may_decide, may_done};
-ghost use Rattle.std.specs.Prelude.{◌⊎◌, ◌+◌, ◌++◌, [], ◌∷◌};
-ghost use Rattle.my_pool_core.specs.declared.event.Answer.TheVariants.{Poll};
+ghost use Rattle.my_pool_core.specs.declared.event.PoolEvent.{PoolEvent};
+ghost use Rattle.my_pool_core.specs.declared.limits.Limits.{Limits};
+ghost use Rattle.my_pool_core.specs.declared.event.PoolEvent.TheVariants as events;
 ghost use Rattle.my_pool_core.specs.Counted.{room, due, idle};
+ghost use Rattle.my_pool_core.specs.Events.{new_pool, may_poll, poll_request, takes_place, is_gone, is_at_end, request, request_age, take_returned, decide, done, may_decide, may_done};
+ghost use Rattle.my_pool_core.specs.Moves.{token_after, PlacesMove, home_after, lease_after, verdict_place, is_verdict_on, IsKeeping};
+ghost use Rattle.my_pool_core.specs.Owners.{Token, Free, token, number_in, is_home, is_lease, Making, Looking, place_at, is_working, mark_at};
+ghost use Rattle.my_pool_core.specs.Sound.{IsSound, IsCovered};
+ghost use Rattle.my_pool_core.specs.State.{State};
+ghost use Rattle.my_pool_core.specs.Steps.{may, step, answer, AllMay, after, answers};
+ghost use Rattle.my_pool_core.specs.Wakes.{waits, is_awake, oldest_waiting, wakes, is_turn_of, begins_to_wait};
 
 /// Each event that may happen leaves a sound state sound, and one that is covered too, covered.
 pub fn kept_by_each_event()

@@ -1,16 +1,11 @@
 //! The pool on plain numbers: which connection goes where, and who waits, without a link, a thread or a lock.
 #![tactic(auto)]
 
-mod connection;
 mod event;
 pub mod laws;
 mod limits;
-mod live;
 mod pool;
-mod request;
 
-pub use connection::{Connection, Place, PlaceKind, Times};
 pub use event::{Answer, Facts, PollAnswer, PoolEvent, Verdict};
 pub use limits::{Counts, Limits, Metrics};
 pub use pool::Core;
-pub use request::{Request, Standing};

@@ -15,7 +15,8 @@ pub struct Limits {
     pub bound: u64,
     /// How long an idle one above `min` stays, in milliseconds.
     pub inactive: u128,
-    /// How many requests wait at most, those that were woken with them; None is without a bound.
+    /// How many requests wait at most, those that were woken with them; None is without a bound. A request that waited
+    /// before may wait again above it, so the number in `PollAnswer::Full` may pass it.
     pub waiting: Option<u64>,
 }
 

@@ -10,9 +10,8 @@ mod returning;
 mod seen;
 mod whole;
 
-use crate::connection::Connection;
 use crate::limits::{Counts, Limits};
-use crate::live::Live;
+use my_pool_parts::{Connection, Live};
 use std::alloc::Global;
 use std::marker::Model;
 

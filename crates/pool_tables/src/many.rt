@@ -19,19 +19,25 @@ fn options(round: u64) -> Result<PoolOpts, Fail> {
     let min = round % 3;
     let max = min.max(1) + round % 4;
     let constraints = PoolConstraints::new(min, max).ok_or("the bounds are in order")?;
-    let waiting = if round % 2 == 0 { None } else { Some(round % 5) };
-    Ok(PoolOpts::new()
-        .with_constraints(constraints)
-        .with_inactive_connection_ttl(Millis::from_millis(round % 3))
-        .with_max_waiting(waiting))
+    let waiting = if round % 2 == 0 {
+        None
+    } else {
+        Some(round % 5)
+    };
+    Ok(
+        PoolOpts::new()
+            .with_constraints(constraints)
+            .with_inactive_connection_ttl(Millis::from_millis(round % 3))
+            .with_max_waiting(waiting),
+    )
 }
 
 /// The number of the first connection of a round: of some there are few left.
 fn first_number(round: u64) -> u64 {
     if round % 10 == 0 {
-        u64::MAX - round
+        u64::MAX.saturating_sub(round)
     } else {
-        round * 1000
+        round.saturating_mul(1000)
     }
 }
 
@@ -70,28 +76,30 @@ fn check_replay(
     assert_eq!(rt; again.metrics(), core.metrics());
     assert_eq!(rt; again.connections(), core.connections());
     assert_eq!(rt; again.requests(), core.requests());
-    events.push(PoolEvent::GiveBack { conn: first.wrapping_sub(1) })?;
+    events.push(PoolEvent::GiveBack {
+        conn: first.wrapping_sub(1),
+    })?;
     let none = Core::replay(alloc, opts, first, events)?;
     assert!(rt; none.is_none());
     Ok(())
 }
 
-/// Events happen to a new pool.
-fn play_round(
-    rt: &impl Abort,
-    alloc: Global,
-    round: u64,
-    tally: &mut Tally,
-) -> Result<(), Fail> {
-    let opts = options(round)?;
-    let first = first_number(round);
-    let limits = Limits {
+/// The limits that options give.
+fn limits_of(opts: &PoolOpts) -> Limits {
+    Limits {
         max: opts.constraints().max(),
         min: opts.constraints().min(),
         bound: opts.active_bound(),
         inactive: opts.inactive_connection_ttl().as_millis(),
         waiting: opts.max_waiting(),
-    };
+    }
+}
+
+/// Events happen to a new pool.
+fn play_round(rt: &impl Abort, alloc: Global, round: u64, tally: &mut Tally) -> Result<(), Fail> {
+    let opts = options(round)?;
+    let first = first_number(round);
+    let limits = limits_of(&opts);
     let mut core = Core::new(alloc, &opts, first)?;
     let mut dice = Dice::new(round);
     let mut next = Next {

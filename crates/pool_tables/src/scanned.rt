@@ -1,6 +1,7 @@
 //! The live requests as a list that is scanned.
 
-use my_pool_core::{Answer, PollAnswer, PoolEvent, Request, Standing, Verdict};
+use my_pool_core::{Answer, PollAnswer, PoolEvent, Verdict};
+use my_pool_parts::{Request, Standing};
 use std::test::Fail;
 
 /// The oldest waiting request of a scanned list is woken.

@@ -1,6 +1,7 @@
 //! Events from random numbers, each of which may happen.
 
-use my_pool_core::{Core, Facts, PlaceKind, PoolEvent, Request, Standing};
+use my_pool_core::{Core, Facts, PoolEvent};
+use my_pool_parts::{PlaceKind, Request, Standing};
 
 /// Random numbers, one after the other.
 #[derive(Drop)]
@@ -18,7 +19,11 @@ impl Dice {
             .0
             .wrapping_mul(6364136223846793005)
             .wrapping_add(1442695040888963407);
-        if bound == 0 { 0 } else { (self.0 >> 33) % bound }
+        if bound == 0 {
+            0
+        } else {
+            (self.0 >> 33) % bound
+        }
     }
 }
 
@@ -88,7 +93,12 @@ fn some_end(core: &Core, dice: &mut Dice, now: u64) -> Option<PoolEvent> {
     let conn = some_number(core, dice, kind)?;
     let ok = kind != PlaceKind::Cleaning && dice.below(6) > 0;
     let facts = some_facts(dice, now);
-    Some(PoolEvent::Done { conn, ok, facts, now })
+    Some(PoolEvent::Done {
+        conn,
+        ok,
+        facts,
+        now,
+    })
 }
 
 /// Some event that may happen now; None where there is none of the kind that was drawn.

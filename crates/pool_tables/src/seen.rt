@@ -1,6 +1,7 @@
 //! What a pool's calls show, beside a look through its lists.
 
-use my_pool_core::{Core, PlaceKind};
+use my_pool_core::Core;
+use my_pool_parts::PlaceKind;
 
 /// The least number, not below `from`, that a look through the connections finds at a kind of place.
 fn scanned_next(core: &Core, kind: PlaceKind, from: u64) -> Option<u64> {
@@ -20,7 +21,11 @@ fn scanned_next(core: &Core, kind: PlaceKind, from: u64) -> Option<u64> {
 
 /// Whether the calls by age and by number return what a look through the lists finds.
 pub fn calls_agree(core: &Core) -> bool {
-    let oldest = core.requests().iter().find(|r| r.is_waiting()).map(|r| r.age);
+    let oldest = core
+        .requests()
+        .iter()
+        .find(|r| r.is_waiting())
+        .map(|r| r.age);
     if core.oldest_waiting() != oldest {
         return false;
     }
@@ -35,7 +40,12 @@ pub fn calls_agree(core: &Core) -> bool {
         if core.connection(connection.number) != Some(*connection) {
             return false;
         }
-        for kind in [PlaceKind::Idle, PlaceKind::Leased, PlaceKind::Cleaning, PlaceKind::Closing] {
+        for kind in [
+            PlaceKind::Idle,
+            PlaceKind::Leased,
+            PlaceKind::Cleaning,
+            PlaceKind::Closing,
+        ] {
             let from = connection.number;
             if core.next_at(kind, from) != scanned_next(core, kind, from) {
                 return false;

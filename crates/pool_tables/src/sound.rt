@@ -1,6 +1,7 @@
 //! What holds of each state of a pool, as tests of it.
 
-use my_pool_core::{Core, Limits, Place, Request, Standing};
+use my_pool_core::{Core, Limits};
+use my_pool_parts::{Place, Request, Standing};
 
 /// The next age and the next number of a pool, as its answers show them.
 #[derive(Drop)]
@@ -11,12 +12,18 @@ pub struct Next {
 
 /// How many connections have a number.
 fn count_number(core: &Core, number: u64) -> usize {
-    core.connections().iter().filter(|c| c.number == number).count()
+    core.connections()
+        .iter()
+        .filter(|c| c.number == number)
+        .count()
 }
 
 /// How many requests make or look at the connection of a number, as its standing says.
 fn holders(core: &Core, standing: Standing) -> usize {
-    core.requests().iter().filter(|r| r.standing == standing).count()
+    core.requests()
+        .iter()
+        .filter(|r| r.standing == standing)
+        .count()
 }
 
 /// How many connections are idle.

@@ -5,11 +5,34 @@ use std::alloc::{AllocError, Global};
 
 /// Each event, with each of its answers.
 pub const NAMES: [&str; 28] = [
-    "Request", "Request last", "Poll Wait", "Poll Take", "Poll Dial", "Poll Closed", "Poll Full",
-    "Cancel", "Ready", "Failed", "GiveBack", "Detach", "TakeReturned some", "TakeReturned none",
-    "Decide Drop", "Decide Clean", "Decide Close", "Decide Reset", "Decide Keep", "Done Drop",
-    "Done failed", "Done Close", "Done Keep", "CheckTtl none", "CheckTtl some", "Close",
-    "Gone", "Gone not",
+    "Request",
+    "Request last",
+    "Poll Wait",
+    "Poll Take",
+    "Poll Dial",
+    "Poll Closed",
+    "Poll Full",
+    "Cancel",
+    "Ready",
+    "Failed",
+    "GiveBack",
+    "Detach",
+    "TakeReturned some",
+    "TakeReturned none",
+    "Decide Drop",
+    "Decide Clean",
+    "Decide Close",
+    "Decide Reset",
+    "Decide Keep",
+    "Done Drop",
+    "Done failed",
+    "Done Close",
+    "Done Keep",
+    "CheckTtl none",
+    "CheckTtl some",
+    "Close",
+    "Gone",
+    "Gone not",
 ];
 
 /// The name of a poll's answer.
@@ -46,14 +69,26 @@ fn ended(verdict: Verdict, ok: bool) -> &'static str {
 /// The name of an event with what it returned.
 pub fn name_of(event: PoolEvent, answer: Answer) -> &'static str {
     match (event, answer) {
-        (_, Answer::Age(age)) => if age == u64::MAX { "Request last" } else { "Request" },
+        (_, Answer::Age(age)) => if age == u64::MAX {
+            "Request last"
+        } else {
+            "Request"
+        },
         (_, Answer::Poll(poll)) => polled(poll),
         (PoolEvent::Decide { .. }, Answer::Verdict(verdict)) => decided(verdict),
         (PoolEvent::Done { ok, .. }, Answer::Verdict(verdict)) => ended(verdict, ok),
         (_, Answer::Returned(number)) => {
-            if number.is_some() { "TakeReturned some" } else { "TakeReturned none" }
+            if number.is_some() {
+                "TakeReturned some"
+            } else {
+                "TakeReturned none"
+            }
         }
-        (_, Answer::Moved(count)) => if count > 0 { "CheckTtl some" } else { "CheckTtl none" },
+        (_, Answer::Moved(count)) => if count > 0 {
+            "CheckTtl some"
+        } else {
+            "CheckTtl none"
+        },
         (_, Answer::Gone(gone)) => if gone { "Gone" } else { "Gone not" },
         (PoolEvent::Cancel { .. }, _) => "Cancel",
         (PoolEvent::Ready { .. }, _) => "Ready",

@@ -4,31 +4,31 @@ use Rattle.std.specs.Prelude.{find, option_map, ◌==◌, ◌&&◌, ◌||◌, no
 use Rattle.std.specs.List.{list_any}
 use Rattle.std.proofs.lemmas.Bool.{eqb-true, eq-eqb}
 use Rattle.std.proofs.lemmas.Bool.Decides.{nat_tests}
-use Rattle.my_pool_core.specs.declared.connection.Connection.{Connection}
+use Rattle.my_pool_parts.specs.declared.connection.Connection.{Connection}
 use Rattle.my_pool_core.specs.declared.event.Facts.{Facts}
 use Rattle.my_pool_core.specs.declared.event.PollAnswer.{PollAnswer}
 use Rattle.my_pool_core.specs.declared.event.PollAnswer.TheVariants.{Wait, Take, Dial, Closed, Full}
 use Rattle.my_pool_core.specs.declared.event.PoolEvent.{PoolEvent}
 use Rattle.my_pool_core.specs.declared.event.PoolEvent.TheVariants as events
-use Rattle.my_pool_core.specs.declared.request.Request.{Request}
-use Rattle.my_pool_core.specs.declared.request.Standing.{Standing}
-use Rattle.my_pool_core.specs.declared.request.Standing.TheVariants.{Asks, Waits, Woken, Dials, Checks}
-use Rattle.my_pool_core.specs.Lists.{without, change_first, how_many, found_is}
-use Rattle.my_pool_core.specs.Connections.{has_number, is_idle, is_marked, is_resetting, next_to_clean, retire, latest_usable}
-use Rattle.my_pool_core.specs.Requests.{last_age, asking, has_age, is_waiting, is_waiting_standing, is_asking, is_asking_standing, is_dialing, is_queued, holds, holds_number, standing_as, now_waiting, set_standing, set_waiting, ended, wake, wake_all, roused, waits_up_to, may_dial}
+use Rattle.my_pool_parts.specs.declared.request.Request.{Request}
+use Rattle.my_pool_parts.specs.declared.request.Standing.{Standing}
+use Rattle.my_pool_parts.specs.declared.request.Standing.TheVariants.{Asks, Waits, Woken, Dials, Checks}
+use Rattle.my_pool_parts.specs.Lists.{without, change_first, how_many, found_is}
+use Rattle.my_pool_parts.specs.Connections.{has_number, is_idle, is_marked, is_resetting, next_to_clean, retire, latest_usable}
+use Rattle.my_pool_parts.specs.Requests.{last_age, asking, has_age, is_waiting, is_waiting_standing, is_asking, is_asking_standing, is_dialing, is_queued, holds, holds_number, standing_as, now_waiting, set_standing, set_waiting, ended, wake, wake_all, roused, waits_up_to, may_dial, with_last, has_waited, is_live, let_go, IsRising}
 use Rattle.my_pool_core.specs.State.{State}
-use Rattle.my_pool_core.specs.Events.{Polled, Decided, is_at_end, request, request_age, with_last, is_full, full_answer, has_waited, queued, sought, poll_request, is_live, cancel, cancel_found, cancel_standing, may_cancel, may_settle, let_go, failed, found_next, keep, decide, done}
+use Rattle.my_pool_core.specs.Events.{Polled, Decided, is_at_end, request, request_age, is_full, full_answer, queued, sought, poll_request, cancel, cancel_found, cancel_standing, may_cancel, may_settle, failed, found_next, keep, decide, done}
 use Rattle.my_pool_core.specs.Steps.{may, step}
-use Rattle.my_pool_core.specs.Sound.{IsSound, IsRising, is_unborn, is_last_busy}
+use Rattle.my_pool_core.specs.Sound.{IsSound, is_unborn, is_last_busy}
 use Rattle.my_pool_core.specs.Wakes.{waits, is_oldest, hands_on, frees, wakes}
-use Rattle.my_pool_core.proofs.Finding.{one, count-found, count-implies, found-passes}
+use Rattle.my_pool_parts.proofs.Finding.{one, count-found, count-implies, found-passes}
 use Rattle.my_pool_core.proofs.Kept.{if-keeps, found-req}
 use Rattle.my_pool_core.proofs.Kept.Fewer.{ended-fewer}
 use Rattle.my_pool_core.proofs.Kept.Moving.{both}
 use Rattle.my_pool_core.proofs.Kept.Quiet.{IsAt}
-use Rattle.my_pool_core.proofs.Finding.Rising.{rising-change}
+use Rattle.my_pool_parts.proofs.Finding.Rising.{rising-change}
 use Rattle.my_pool_core.proofs.Asked.{find-changed, find-unchanged, ended_request, find-ended, find-unended, is_oldest_in, roused_if, find-woken, find-all-woken}
-use Rattle.my_pool_core.proofs.Finding.Keyed.{unlike, none-found, find-pushed, find-new, find-nowhere, find-somewhere}
+use Rattle.my_pool_parts.proofs.Finding.Keyed.{unlike, none-found, find-pushed, find-new, find-nowhere, find-somewhere}
 
 abbrev pub request_at : ℕ → State → Option Request
 request_at age s = find (has_age age) s.requests

@@ -6,16 +6,16 @@ use Rattle.my_pool_core.specs.declared.event.PollAnswer.{PollAnswer}
 use Rattle.my_pool_core.specs.declared.event.PollAnswer.TheVariants.{Wait, Take, Dial, Closed, Full}
 use Rattle.my_pool_core.specs.declared.event.PoolEvent.{PoolEvent}
 use Rattle.my_pool_core.specs.declared.event.PoolEvent.TheVariants as events
-use Rattle.my_pool_core.specs.declared.request.Request.{Request}
-use Rattle.my_pool_core.specs.declared.request.Standing.{Standing}
-use Rattle.my_pool_core.specs.declared.request.Standing.TheVariants.{Asks, Waits, Woken, Dials, Checks}
-use Rattle.my_pool_core.specs.Lists.{found_is}
-use Rattle.my_pool_core.specs.Requests.{last_age, has_age, is_free, is_waiting, is_waiting_standing, is_woken, is_woken_standing, is_asking_standing, is_dialing, standing_as, holds, holds_number}
+use Rattle.my_pool_parts.specs.declared.request.Request.{Request}
+use Rattle.my_pool_parts.specs.declared.request.Standing.{Standing}
+use Rattle.my_pool_parts.specs.declared.request.Standing.TheVariants.{Asks, Waits, Woken, Dials, Checks}
+use Rattle.my_pool_parts.specs.Lists.{found_is}
+use Rattle.my_pool_parts.specs.Requests.{last_age, has_age, is_free, is_waiting, is_waiting_standing, is_woken, is_woken_standing, is_asking_standing, is_dialing, standing_as, holds, holds_number, IsRising, oldest_in}
 use Rattle.my_pool_core.specs.State.{State}
 use Rattle.my_pool_core.specs.Events.{request_age, poll_request, decide, done, is_at_end}
 use Rattle.my_pool_core.specs.Steps.{may, step}
-use Rattle.my_pool_core.specs.Sound.{IsSound, IsRising}
-use Rattle.my_pool_core.specs.Wakes.{wakes, waits, is_awake, is_oldest, oldest_in, oldest_waiting, is_turn_of, is_wait, begins_to_wait, hands_on, frees}
+use Rattle.my_pool_core.specs.Sound.{IsSound}
+use Rattle.my_pool_core.specs.Wakes.{wakes, waits, is_awake, is_oldest, oldest_waiting, is_turn_of, is_wait, begins_to_wait, hands_on, frees}
 use Rattle.my_pool_core.proofs.Kept.{found-req}
 use Rattle.my_pool_core.proofs.Kept.Quiet.{req}
 use Rattle.my_pool_core.proofs.Asked.{ended_request, is_oldest_in, roused_if, find-below}

@@ -2,12 +2,12 @@
 use Rattle.std.proofs.Common.{◌≡◌, ℕ, ◌+◌, ◌≤◌, ◌<◌, Bool, true, false, cond, Some, List, [], ◌∷◌, ◌++◌, refl, ap, ◌∙◌, arith, subst}
 use Rattle.std.specs.Prelude.{find, ◌==◌, ◌&&◌, ◌||◌, nat_le}
 use Rattle.std.proofs.lemmas.Bool.{eqb-true, lt-leb}
-use Rattle.my_pool_core.specs.declared.request.Request.{Request}
-use Rattle.my_pool_core.specs.declared.request.Standing.TheVariants.{Woken}
-use Rattle.my_pool_core.specs.Lists.{without, change_first, how_many}
-use Rattle.my_pool_core.specs.Requests.{last_age, has_age, is_waiting, is_woken, standing_as, now_waiting, set_waiting, ended, wake, waits_up_to}
-use Rattle.my_pool_core.specs.Sound.{IsRising, woken_first}
-use Rattle.my_pool_core.proofs.Finding.{one}
+use Rattle.my_pool_parts.specs.declared.request.Request.{Request}
+use Rattle.my_pool_parts.specs.declared.request.Standing.TheVariants.{Woken}
+use Rattle.my_pool_parts.specs.Lists.{without, change_first, how_many}
+use Rattle.my_pool_parts.specs.Requests.{last_age, has_age, is_waiting, is_woken, standing_as, now_waiting, set_waiting, ended, wake, waits_up_to, IsRising}
+use Rattle.my_pool_core.specs.Sound.{woken_first}
+use Rattle.my_pool_parts.proofs.Finding.{one}
 
 -- waking adds one where one waits
 pub front-wake : (rs : List Request) → 0 < how_many is_waiting rs → woken_first rs + 1 ≤ woken_first (wake rs)

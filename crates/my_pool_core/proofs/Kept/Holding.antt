@@ -2,21 +2,21 @@
 use Rattle.std.proofs.Common.{◌≡◌, ℕ, ◌+◌, ◌≤◌, ◌<◌, Bool, true, false, cond, Some, List, refl, ap, ◌∙◌, arith}
 use Rattle.std.specs.Prelude.{find, ◌==◌, ◌&&◌, ◌||◌, not}
 use Rattle.std.proofs.lemmas.Bool.{eq-eqb}
-use Rattle.my_pool_core.specs.declared.connection.Connection.{Connection}
-use Rattle.my_pool_core.specs.declared.connection.Place.{Place}
-use Rattle.my_pool_core.specs.declared.connection.Place.TheVariants.{Idle, Leased, Connecting, Checking, Returned, Cleaning, Resetting, Closing}
-use Rattle.my_pool_core.specs.declared.request.Request.{Request}
-use Rattle.my_pool_core.specs.declared.request.Standing.{Standing}
-use Rattle.my_pool_core.specs.declared.request.Standing.TheVariants.{Asks, Waits, Woken, Dials, Checks}
+use Rattle.my_pool_parts.specs.declared.connection.Connection.{Connection}
+use Rattle.my_pool_parts.specs.declared.connection.Place.{Place}
+use Rattle.my_pool_parts.specs.declared.connection.Place.TheVariants.{Idle, Leased, Connecting, Checking, Returned, Cleaning, Resetting, Closing}
+use Rattle.my_pool_parts.specs.declared.request.Request.{Request}
+use Rattle.my_pool_parts.specs.declared.request.Standing.{Standing}
+use Rattle.my_pool_parts.specs.declared.request.Standing.TheVariants.{Asks, Waits, Woken, Dials, Checks}
 use Rattle.my_pool_core.specs.declared.limits.Counts.{Counts}
-use Rattle.my_pool_core.specs.Lists.{without, change_first, how_many}
-use Rattle.my_pool_core.specs.Connections.{placed, has_number, is_idle, is_connecting, is_connecting_place, is_checking, is_checking_place, move_to}
-use Rattle.my_pool_core.specs.Requests.{last_age, has_age, is_waiting, is_waiting_standing, is_asking_standing, is_dialing_standing, is_checking_standing, is_free, standing_as, set_standing, ended, wake}
+use Rattle.my_pool_parts.specs.Lists.{without, change_first, how_many}
+use Rattle.my_pool_parts.specs.Connections.{placed, has_number, is_idle, is_connecting, is_connecting_place, is_checking, is_checking_place, move_to}
+use Rattle.my_pool_parts.specs.Requests.{last_age, has_age, is_waiting, is_waiting_standing, is_asking_standing, is_dialing_standing, is_checking_standing, is_free, standing_as, set_standing, ended, wake}
 use Rattle.my_pool_core.specs.State.{State}
 use Rattle.my_pool_core.specs.Sound.{IsSound, dials, checks, connects, is_checked, is_unmarked, is_dialer, is_last_busy}
-use Rattle.my_pool_core.proofs.Finding.{one, count-without, count-without-le, count-change, count-change-less, count-found, found-once}
+use Rattle.my_pool_parts.proofs.Finding.{one, count-without, count-without-le, count-change, count-change-less, count-found, found-once}
 use Rattle.my_pool_core.proofs.Kept.Fewer.{FewerConnections, FewerRequests, sound_after, found-placed, move-fewer, move-count, freed-fewer, fewer-requests, ended-fewer}
-use Rattle.my_pool_core.proofs.Finding.Rising.{rising-change}
+use Rattle.my_pool_parts.proofs.Finding.Rising.{rising-change}
 use Rattle.my_pool_core.proofs.Kept.Quiet.{IsAt, req, wake-quiet}
 
 -- ---- what is known of a request that holds a connection ----

@@ -2,18 +2,18 @@
 use Rattle.std.proofs.Common.{◌≡◌, ℕ, ◌+◌, ◌≤◌, Bool, true, false, cond, Some, List, [], ◌∷◌, ◌++◌, length, refl, sym, ap, ◌∙◌, arith}
 use Rattle.std.specs.Prelude.{find, ◌==◌, ◌&&◌, not}
 use Rattle.std.specs.List.{list_any}
-use Rattle.my_pool_core.specs.declared.connection.Connection.{Connection}
-use Rattle.my_pool_core.specs.declared.connection.Place.{Place}
-use Rattle.my_pool_core.specs.declared.connection.Place.TheVariants.{Idle, Leased, Connecting, Checking, Returned, Cleaning, Resetting, Closing}
-use Rattle.my_pool_core.specs.declared.connection.Times.{Times}
-use Rattle.my_pool_core.specs.declared.request.Request.{Request}
+use Rattle.my_pool_parts.specs.declared.connection.Connection.{Connection}
+use Rattle.my_pool_parts.specs.declared.connection.Place.{Place}
+use Rattle.my_pool_parts.specs.declared.connection.Place.TheVariants.{Idle, Leased, Connecting, Checking, Returned, Cleaning, Resetting, Closing}
+use Rattle.my_pool_parts.specs.declared.connection.Times.{Times}
+use Rattle.my_pool_parts.specs.declared.request.Request.{Request}
 use Rattle.my_pool_core.specs.declared.limits.Counts.{Counts}
-use Rattle.my_pool_core.specs.Lists.{without, how_many}
-use Rattle.my_pool_core.specs.Connections.{placed, has_number, is_idle, is_idle_place, is_usable, is_left, is_connecting_place, is_checking_place, move_to, unexpired, expired, retire, is_outdated, lasting, outdated}
-use Rattle.my_pool_core.specs.Requests.{is_waiting}
+use Rattle.my_pool_parts.specs.Lists.{without, how_many}
+use Rattle.my_pool_parts.specs.Connections.{placed, has_number, is_idle, is_idle_place, is_usable, is_left, is_connecting_place, is_checking_place, move_to, unexpired, expired, retire, is_outdated, lasting, outdated}
+use Rattle.my_pool_parts.specs.Requests.{is_waiting}
 use Rattle.my_pool_core.specs.State.{State}
 use Rattle.my_pool_core.specs.Sound.{IsSound, connects, is_checked}
-use Rattle.my_pool_core.proofs.Finding.{one, count-without-le, count-append, count-push}
+use Rattle.my_pool_parts.proofs.Finding.{one, count-without-le, count-append, count-push}
 use Rattle.my_pool_core.proofs.Kept.Fewer.{FewerConnections, same-requests, sound_after, move-fewer, move-same, freed-fewer, freed-same}
 use Rattle.my_pool_core.proofs.Kept.Quiet.{QuietRequests}
 

@@ -4,20 +4,20 @@ use Rattle.std.specs.Prelude.{find, ◌==◌, ◌&&◌, ◌||◌, not, nat_le, i
 use Rattle.std.specs.List.{list_any}
 use Rattle.std.proofs.lemmas.Bool.{eqb-true, leb-false, lt-ltb, lt-leb, leb-true, le-leb, eqb-false}
 use Rattle.std.proofs.lemmas.Bool.Decides.{nat_tests}
-use Rattle.my_pool_core.specs.declared.connection.Place.TheVariants.{Idle, Connecting, Checking}
-use Rattle.my_pool_core.specs.declared.connection.Times.{Times}
-use Rattle.my_pool_core.specs.declared.request.Request.{Request}
-use Rattle.my_pool_core.specs.declared.request.Standing.{Standing}
-use Rattle.my_pool_core.specs.declared.request.Standing.TheVariants.{Asks, Waits, Woken, Dials, Checks}
-use Rattle.my_pool_core.specs.Lists.{how_many}
-use Rattle.my_pool_core.specs.Connections.{placed, has_number, is_idle, move_to}
-use Rattle.my_pool_core.specs.Requests.{last_age, asking, has_age, is_waiting, is_waiting_standing, is_free, may_dial, standing_as, now_waiting, set_standing, set_waiting, ended, roused, wake_all}
+use Rattle.my_pool_parts.specs.declared.connection.Place.TheVariants.{Idle, Connecting, Checking}
+use Rattle.my_pool_parts.specs.declared.connection.Times.{Times}
+use Rattle.my_pool_parts.specs.declared.request.Request.{Request}
+use Rattle.my_pool_parts.specs.declared.request.Standing.{Standing}
+use Rattle.my_pool_parts.specs.declared.request.Standing.TheVariants.{Asks, Waits, Woken, Dials, Checks}
+use Rattle.my_pool_parts.specs.Lists.{how_many}
+use Rattle.my_pool_parts.specs.Connections.{placed, has_number, is_idle, move_to}
+use Rattle.my_pool_parts.specs.Requests.{last_age, asking, has_age, is_waiting, is_waiting_standing, is_free, may_dial, standing_as, now_waiting, set_standing, set_waiting, ended, roused, wake_all, with_last}
 use Rattle.my_pool_core.specs.State.{State, one_more}
-use Rattle.my_pool_core.specs.Events.{is_at_end, close, with_last, request}
+use Rattle.my_pool_core.specs.Events.{is_at_end, close, request}
 use Rattle.my_pool_core.specs.Sound.{IsSound, dials, checks, connects, is_checked, is_unnumbered, is_unborn, is_unmarked, is_dialer, is_last_busy}
-use Rattle.my_pool_core.proofs.Finding.{one, count-change, count-found, count-push, count-map-same, count-either, count-implies, count-le-length, none-counted}
+use Rattle.my_pool_parts.proofs.Finding.{one, count-change, count-found, count-push, count-map-same, count-either, count-implies, count-le-length, none-counted}
 use Rattle.my_pool_core.proofs.Kept.Fewer.{sound_after, same-connections, move-fewer, move-count}
-use Rattle.my_pool_core.proofs.Finding.Rising.{rising-map, rising-push}
+use Rattle.my_pool_parts.proofs.Finding.Rising.{rising-map, rising-push}
 use Rattle.my_pool_core.proofs.Kept.Quiet.{req, ended-quiet}
 use Rattle.my_pool_core.proofs.Kept.Holding.{found-change-fewer}
 

@@ -1,13 +1,13 @@
 -- Requests of which none begins or ends to hold a connection.
 use Rattle.std.proofs.Common.{◌≡◌, ℕ, ◌≤◌, Bool, true, false, cond, Some, List, refl, ◌∙◌, arith}
 use Rattle.std.specs.Prelude.{find, ◌==◌}
-use Rattle.my_pool_core.specs.declared.request.Request.{Request}
-use Rattle.my_pool_core.specs.declared.request.Standing.{Standing}
-use Rattle.my_pool_core.specs.declared.request.Standing.TheVariants.{Asks, Waits, Woken, Dials, Checks}
-use Rattle.my_pool_core.specs.Lists.{without, how_many}
-use Rattle.my_pool_core.specs.Requests.{last_age, has_age, is_waiting, is_waiting_standing, standing_as, ended, wake}
+use Rattle.my_pool_parts.specs.declared.request.Request.{Request}
+use Rattle.my_pool_parts.specs.declared.request.Standing.{Standing}
+use Rattle.my_pool_parts.specs.declared.request.Standing.TheVariants.{Asks, Waits, Woken, Dials, Checks}
+use Rattle.my_pool_parts.specs.Lists.{without, how_many}
+use Rattle.my_pool_parts.specs.Requests.{last_age, has_age, is_waiting, is_waiting_standing, standing_as, ended, wake}
 use Rattle.my_pool_core.specs.Sound.{dials, checks, is_unmarked, is_dialer, is_last_busy}
-use Rattle.my_pool_core.proofs.Finding.{one, count-without, count-change-same}
+use Rattle.my_pool_parts.proofs.Finding.{one, count-without, count-change-same}
 use Rattle.my_pool_core.proofs.Kept.Fewer.{FewerRequests, same-requests, fewer-requests, ended-fewer, changed-fewer}
 
 pub record QuietRequests (rs qs : List Request) : Type 0 where

@@ -4,25 +4,25 @@ use Rattle.std.specs.Prelude.{find, option_map, ◌==◌, ◌&&◌, ◌||◌, no
 use Rattle.std.specs.List.{list_any}
 use Rattle.std.proofs.lemmas.Bool.{eqb-true, eq-eqb}
 use Rattle.std.proofs.lemmas.Bool.Decides.{nat_tests}
-use Rattle.my_pool_core.specs.declared.connection.Connection.{Connection}
-use Rattle.my_pool_core.specs.declared.connection.Place.{Place}
-use Rattle.my_pool_core.specs.declared.connection.Place.TheVariants.{Idle, Leased, Connecting, Checking, Returned, Cleaning, Resetting, Closing}
-use Rattle.my_pool_core.specs.declared.connection.Times.{Times}
+use Rattle.my_pool_parts.specs.declared.connection.Connection.{Connection}
+use Rattle.my_pool_parts.specs.declared.connection.Place.{Place}
+use Rattle.my_pool_parts.specs.declared.connection.Place.TheVariants.{Idle, Leased, Connecting, Checking, Returned, Cleaning, Resetting, Closing}
+use Rattle.my_pool_parts.specs.declared.connection.Times.{Times}
 use Rattle.my_pool_core.specs.declared.event.Facts.{Facts}
 use Rattle.my_pool_core.specs.declared.event.PoolEvent.{PoolEvent}
 use Rattle.my_pool_core.specs.declared.event.PoolEvent.TheVariants as events
-use Rattle.my_pool_core.specs.declared.request.Standing.{Standing}
-use Rattle.my_pool_core.specs.declared.request.Standing.TheVariants.{Asks, Waits, Woken, Dials, Checks}
-use Rattle.my_pool_core.specs.Lists.{without, how_many, found_is}
-use Rattle.my_pool_core.specs.Connections.{has_number, is_idle, is_leased_place, is_returned, is_cleaning_place, is_marked, is_resetting, mark_of_place, move_to, retire, latest_usable, next_to_clean, is_over}
-use Rattle.my_pool_core.specs.Requests.{has_age, holds, holds_number, is_queued, ended, wake, waits_up_to}
+use Rattle.my_pool_parts.specs.declared.request.Standing.{Standing}
+use Rattle.my_pool_parts.specs.declared.request.Standing.TheVariants.{Asks, Waits, Woken, Dials, Checks}
+use Rattle.my_pool_parts.specs.Lists.{without, how_many, found_is}
+use Rattle.my_pool_parts.specs.Connections.{has_number, is_idle, is_leased_place, is_returned, is_cleaning_place, is_marked, is_resetting, mark_of_place, move_to, retire, latest_usable, next_to_clean, is_over}
+use Rattle.my_pool_parts.specs.Requests.{has_age, holds, holds_number, is_queued, ended, wake, waits_up_to, has_waited, is_live}
 use Rattle.my_pool_core.specs.State.{State}
-use Rattle.my_pool_core.specs.Events.{Polled, Decided, is_at_end, request, is_full, full_answer, has_waited, may_settle, may_cancel, may_decide, may_done, queued, sought, poll_request, cancel, cancel_found, cancel_standing, is_live, ready, failed, moved, freed, resting, superfluous, kept, unestablished, dirty_return, outlived, being_reset, cleanup_failed, found_next, keep, decide, done, above_min}
+use Rattle.my_pool_core.specs.Events.{Polled, Decided, is_at_end, request, is_full, full_answer, may_settle, may_cancel, may_decide, may_done, queued, sought, poll_request, cancel, cancel_found, cancel_standing, ready, failed, moved, freed, resting, superfluous, kept, unestablished, dirty_return, outlived, being_reset, cleanup_failed, found_next, keep, decide, done, above_min}
 use Rattle.my_pool_core.specs.Steps.{may, step}
 use Rattle.my_pool_core.specs.Sound.{IsSound, is_unnumbered}
 use Rattle.my_pool_core.specs.Owners.{place_at, is_held_place, mark_at, token, token_of}
 use Rattle.my_pool_core.specs.Moves.{IsMove, IsStill, MayReturn, IsAging, PolledPlaces, CancelledPlaces, TakenPlaces, is_due_place, is_ending_place, verdict_place, PlacesMove}
-use Rattle.my_pool_core.proofs.Finding.{one, count-found, count-implies, found-passes}
+use Rattle.my_pool_parts.proofs.Finding.{one, count-found, count-implies, found-passes}
 use Rattle.my_pool_core.proofs.Kept.{if-keeps, found-req, retired-usable}
 use Rattle.my_pool_core.proofs.Kept.Holding.{connecting-found, checking-found}
 use Rattle.my_pool_core.proofs.Kept.Moving.{sound-retire}

@@ -2,9 +2,9 @@
 use Rattle.std.proofs.Common.{◌≡◌, ℕ, ◌≤◌, Bool, true, false, Option, Some, None, List, refl, sym, ap, ◌∙◌, arith, inl, inr, subst}
 use Rattle.std.specs.Prelude.{find, option_map, ◌==◌, ◌&&◌, not, nat_lt, ◌⊎◌, length}
 use Rattle.std.proofs.lemmas.Bool.{eqb-true, eq-eqb}
-use Rattle.my_pool_core.specs.declared.connection.Place.{Place}
-use Rattle.my_pool_core.specs.declared.connection.Place.TheVariants.{Idle, Leased, Connecting, Checking, Returned, Cleaning}
-use Rattle.my_pool_core.specs.declared.connection.Times.{Times}
+use Rattle.my_pool_parts.specs.declared.connection.Place.{Place}
+use Rattle.my_pool_parts.specs.declared.connection.Place.TheVariants.{Idle, Leased, Connecting, Checking, Returned, Cleaning}
+use Rattle.my_pool_parts.specs.declared.connection.Times.{Times}
 use Rattle.my_pool_core.specs.declared.event.Facts.{Facts}
 use Rattle.my_pool_core.specs.declared.event.PollAnswer.{PollAnswer}
 use Rattle.my_pool_core.specs.declared.event.PollAnswer.TheVariants.{Wait, Take, Dial, Closed, Full}
@@ -12,20 +12,20 @@ use Rattle.my_pool_core.specs.declared.event.Verdict.{Verdict}
 use Rattle.my_pool_core.specs.declared.event.Verdict.TheVariants.{Drop, Clean, Close, Reset, Keep}
 use Rattle.my_pool_core.specs.declared.event.PoolEvent.{PoolEvent}
 use Rattle.my_pool_core.specs.declared.event.PoolEvent.TheVariants as events
-use Rattle.my_pool_core.specs.declared.request.Request.{Request}
-use Rattle.my_pool_core.specs.declared.request.Standing.{Standing}
-use Rattle.my_pool_core.specs.declared.request.Standing.TheVariants.{Asks, Waits, Woken, Dials, Checks}
-use Rattle.my_pool_core.specs.Lists.{without, found_is, how_many}
-use Rattle.my_pool_core.specs.Connections.{has_number, is_connecting, is_checking, is_idle_place, is_leased_place, is_cleaning_place, is_over, latest_usable, retire}
-use Rattle.my_pool_core.specs.Requests.{has_age, waits_up_to, is_queued}
+use Rattle.my_pool_parts.specs.declared.request.Request.{Request}
+use Rattle.my_pool_parts.specs.declared.request.Standing.{Standing}
+use Rattle.my_pool_parts.specs.declared.request.Standing.TheVariants.{Asks, Waits, Woken, Dials, Checks}
+use Rattle.my_pool_parts.specs.Lists.{without, found_is, how_many}
+use Rattle.my_pool_parts.specs.Connections.{has_number, is_connecting, is_checking, is_idle_place, is_leased_place, is_cleaning_place, is_over, latest_usable, retire}
+use Rattle.my_pool_parts.specs.Requests.{has_age, waits_up_to, is_queued, has_waited}
 use Rattle.my_pool_core.specs.State.{State}
-use Rattle.my_pool_core.specs.Events.{Polled, times_of, poll_request, queued, sought, full_answer, is_full, has_waited, take_returned, decide, done}
+use Rattle.my_pool_core.specs.Events.{Polled, times_of, poll_request, queued, sought, full_answer, is_full, take_returned, decide, done}
 use Rattle.my_pool_core.specs.Steps.{may, step}
 use Rattle.my_pool_core.specs.Sound.{IsSound, dials, dials_standing, checks, checks_standing}
 use Rattle.my_pool_core.specs.Owners.{Token, Free, Making, Looking, token, token_of, number_in, place_at, is_home_place, is_home, is_lease, is_held_place, is_working_place, is_working, mark_at}
 use Rattle.my_pool_core.specs.Moves.{IsMove, MayReturn, IsAgingMove, PolledPlaces, CancelledPlaces, TakenPlaces, is_due_place, is_ending_place, is_aged, verdict_place, is_verdict_on, IsKeeping}
-use Rattle.my_pool_core.proofs.Finding.{one, count-found, count-and, count-without, found-passes}
-use Rattle.my_pool_core.proofs.Finding.Keyed.{find-left}
+use Rattle.my_pool_parts.proofs.Finding.{one, count-found, count-and, count-without, found-passes}
+use Rattle.my_pool_parts.proofs.Finding.Keyed.{find-left}
 use Rattle.my_pool_core.proofs.Placed.Homes.{home-unleased}
 use Rattle.my_pool_core.proofs.Kept.{if-keeps, found-some}
 use Rattle.my_pool_core.proofs.Kept.Holding.{connecting-found, checking-found}

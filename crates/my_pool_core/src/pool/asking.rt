@@ -1,17 +1,17 @@
 //! The events of a request.
 
 ghost use Rattle.std.specs.Prelude.{◌≡◌, ℕ, ◌+◌, ◌*◌, ◌^◌, ◌≤◌, ◌<◌, false, IsTrue, OnOk, OnErr, IfOk, IfSome, find, length};
-ghost use Rattle.my_pool_core.specs.Lists.{found_is, how_many};
-ghost use Rattle.my_pool_core.specs.Connections.{has_number, is_idle};
-ghost use Rattle.my_pool_core.specs.Requests.{is_waiting};
+ghost use Rattle.my_pool_parts.specs.Lists.{found_is, how_many};
+ghost use Rattle.my_pool_parts.specs.Connections.{has_number, is_idle};
+ghost use Rattle.my_pool_parts.specs.Requests.{is_waiting};
 ghost use Rattle.my_pool_core.specs.Events.{is_at_end, request, request_age, may_poll, poll_request, queued, sought, dialed, may_cancel, cancel, may_settle, ready, failed};
 
 use super::Core;
-use crate::connection::{Connection, Place, move_to, retire, take_out};
 use crate::event::PollAnswer;
 use crate::limits::one_more;
-use crate::request::{LAST, Standing};
 use my_frame::NoMemory;
+use my_pool_parts::connections::{move_to, retire, take_out};
+use my_pool_parts::{Connection, LAST, Place, Standing};
 use my_wait_heap::{Ledger, Uncounted};
 
 impl Core {

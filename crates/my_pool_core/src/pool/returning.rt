@@ -4,10 +4,11 @@ ghost use Rattle.std.specs.Prelude.{◌≡◌, ℕ, ◌+◌, ◌*◌, ◌^◌, �
 ghost use Rattle.my_pool_core.specs.Events.{may_move, freed, may_give_back, give_back, detach, take_returned, may_decide, keep, decide, may_done, done};
 
 use super::Core;
-use crate::connection::{
-    Place, Times, count_idle, is_marked, is_resetting, move_to, next_to_clean, take_out,
-};
 use crate::event::{Facts, Verdict};
+use my_pool_parts::connections::{
+    count_idle, is_marked, is_resetting, move_to, next_to_clean, take_out,
+};
+use my_pool_parts::{Place, Times};
 use my_wait_heap::{Ledger, Uncounted};
 
 impl Core {

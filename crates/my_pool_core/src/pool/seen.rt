@@ -1,16 +1,16 @@
 //! What is seen of a pool.
 
 ghost use Rattle.std.specs.Prelude.{◌≡◌, MatchOption, None, find};
-ghost use Rattle.my_pool_core.specs.Connections.{has_number};
-ghost use Rattle.my_pool_core.specs.Requests.{has_age};
+ghost use Rattle.my_pool_parts.specs.Connections.{has_number};
+ghost use Rattle.my_pool_parts.specs.Requests.{has_age, IsRising};
 ghost use Rattle.my_pool_core.specs.Owners.{IsNextAt, IsNoneAt};
-ghost use Rattle.my_pool_core.specs.Next.{least_at};
-ghost use Rattle.my_pool_core.specs.Sound.{IsSound, IsRising};
+ghost use Rattle.my_pool_parts.specs.Next.{least_at};
+ghost use Rattle.my_pool_core.specs.Sound.{IsSound};
 ghost use Rattle.my_pool_core.specs.Wakes.{waits, oldest_waiting};
 
 use super::Core;
-use crate::connection::{Connection, PlaceKind, connection_of, next_at};
-use crate::request::Request;
+use my_pool_parts::connections::{connection_of, next_at};
+use my_pool_parts::{Connection, PlaceKind, Request};
 use my_wait_heap::Uncounted;
 
 impl Core {

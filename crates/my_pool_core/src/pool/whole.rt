@@ -1,14 +1,14 @@
 //! The events of the whole pool, and its counts.
 
 ghost use Rattle.std.specs.Prelude.{◌≡◌, ℕ, ◌+◌, ◌*◌, ◌^◌, ◌≤◌, ◌<◌, IsTrue, length};
-ghost use Rattle.my_pool_core.specs.Lists.{how_many};
-ghost use Rattle.my_pool_core.specs.Requests.{is_waiting};
+ghost use Rattle.my_pool_parts.specs.Lists.{how_many};
+ghost use Rattle.my_pool_parts.specs.Requests.{is_waiting};
 ghost use Rattle.my_pool_core.specs.Events.{check_ttl, check_ttl_moved, close, is_gone};
 ghost use Rattle.my_pool_core.specs.Seen.{metrics_of};
 
 use super::Core;
-use crate::connection::{count_idle, count_leased, sweep};
 use crate::limits::Metrics;
+use my_pool_parts::connections::{count_idle, count_leased, sweep};
 use my_wait_heap::{Ledger, Uncounted};
 
 impl Core {

@@ -1,4 +1,4 @@
-use Rattle.my_pool_core.proofs.Placed.Counts.{age-new, age-fresh, age-rises, age-last, last-closes, last-stays, ages-stay}
+use Rattle.my_pool_core.proofs.Placed.Frame.{age-new, age-fresh, age-rises, age-last, last-closes, last-stays, ages-stay}
 use Rattle.my_pool_core.proofs.laws.ages_rise.Goals as goal
 
 pub returns-clause-new : goal.returns-clause-new

@@ -1,4 +1,4 @@
-use Rattle.my_pool_core.proofs.Placed.Counts.{number-next, number-fresh, number-rises, numbers-stay}
+use Rattle.my_pool_core.proofs.Placed.Frame.{number-next, number-fresh, number-rises, numbers-stay}
 use Rattle.my_pool_core.proofs.laws.numbers_rise.Goals as goal
 
 pub returns-clause-next : goal.returns-clause-next

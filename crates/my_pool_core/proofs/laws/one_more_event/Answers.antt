@@ -1,5 +1,5 @@
 use Rattle.my_pool_core.proofs.Replaying.{after-more, may-more, answers-more}
-use Rattle.my_pool_core.proofs.Placed.Counts.{limits-stay}
+use Rattle.my_pool_core.proofs.Placed.Frame.{limits-stay}
 use Rattle.my_pool_core.proofs.laws.one_more_event.Goals as goal
 
 pub returns-clause-after : goal.returns-clause-after

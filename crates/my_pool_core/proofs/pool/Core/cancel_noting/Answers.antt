@@ -2,8 +2,8 @@ use Rattle.std.proofs.Common.{◌≡◌, ◌<◌, ◌^◌, true, length, sym, ap
 use Rattle.my_pool_core.specs.contracts.pool.Core.{the_view}
 use Rattle.my_pool_core.proofs.Keeping.{kept-cancel}
 use Rattle.my_pool_core.specs.Events.{may_cancel}
-use Rattle.my_pool_core.specs.declared.request.Standing.TheVariants.{Asks, Waits, Woken, Dials, Checks}
-use Rattle.my_pool_core.proofs.Queue.Costs.{ended-short}
+use Rattle.my_pool_parts.specs.declared.request.Standing.TheVariants.{Asks, Waits, Woken, Dials, Checks}
+use Rattle.my_pool_parts.proofs.Queue.Costs.{ended-short}
 use Rattle.my_pool_core.proofs.pool.Core.cancel_noting.Goals as goal
 
 pub invariant_of-self : goal.invariant_of-self

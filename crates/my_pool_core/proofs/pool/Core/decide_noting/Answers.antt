@@ -2,7 +2,7 @@ use Rattle.std.proofs.Common.{◌≡◌, true, refl, sym, subst, arith}
 use Rattle.my_pool_core.specs.contracts.pool.Core.{the_view}
 use Rattle.my_pool_core.proofs.Keeping.{movable-there, kept-moved, decide-moves}
 use Rattle.my_pool_core.specs.Events.{may_decide, outlived, being_reset}
-use Rattle.my_pool_core.specs.declared.connection.Place.TheVariants.{Closing, Resetting}
+use Rattle.my_pool_parts.specs.declared.connection.Place.TheVariants.{Closing, Resetting}
 use Rattle.my_pool_core.proofs.pool.Core.decide_noting.Goals as goal
 
 pub move_to-requires : goal.move_to-requires

@@ -2,7 +2,7 @@ use Rattle.std.proofs.Common.{◌≡◌, ◌<◌, ◌^◌, true, length, sym, ap
 use Rattle.my_pool_core.specs.contracts.pool.Core.{the_view}
 use Rattle.my_pool_core.proofs.Keeping.{kept-failed}
 use Rattle.my_pool_core.specs.Events.{may_settle}
-use Rattle.my_pool_core.proofs.Queue.Costs.{let-go-short}
+use Rattle.my_pool_parts.proofs.Queue.Costs.{let-go-short}
 use Rattle.my_pool_core.proofs.pool.Core.failed_noting.Goals as goal
 
 pub invariant_of-self : goal.invariant_of-self

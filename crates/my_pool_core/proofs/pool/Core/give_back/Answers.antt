@@ -2,8 +2,8 @@ use Rattle.std.proofs.Common.{◌≡◌, true, sym, subst}
 use Rattle.my_pool_core.specs.contracts.pool.Core.{the_view}
 use Rattle.my_pool_core.proofs.Keeping.{kept-give-back}
 use Rattle.my_pool_core.specs.Events.{may_give_back}
-use Rattle.my_pool_core.proofs.Finding.{found-any}
-use Rattle.my_pool_core.specs.Connections.{has_number, is_leased}
+use Rattle.my_pool_parts.proofs.Finding.{found-any}
+use Rattle.my_pool_parts.specs.Connections.{has_number, is_leased}
 use Rattle.my_pool_core.proofs.pool.Core.give_back.Goals as goal
 
 pub move_to-requires : goal.move_to-requires

@@ -1,5 +1,5 @@
 use Rattle.std.proofs.Common.{None, ap, ◌∙◌, subst}
-use Rattle.my_pool_core.specs.Next.{least_at}
+use Rattle.my_pool_parts.specs.Next.{least_at}
 use Rattle.my_pool_core.specs.Sound.{IsSound}
 use Rattle.my_pool_core.proofs.Nexting.{next-is}
 use Rattle.my_pool_core.proofs.pool.Core.next_at.Goals as goal

@@ -1,12 +1,12 @@
 use Rattle.std.proofs.Common.{◌≡◌, ℕ, ◌≤◌, ◌<◌, ◌+◌, ◌*◌, ◌^◌, true, false, sym, ap, ◌∙◌, arith, length, max}
 use Rattle.my_pool_core.specs.State.{State}
-use Rattle.my_pool_core.specs.Requests.{is_waiting, wake_all}
-use Rattle.my_pool_core.specs.Lists.{how_many}
+use Rattle.my_pool_parts.specs.Requests.{is_waiting, wake_all}
+use Rattle.my_pool_parts.specs.Lists.{how_many}
 use Rattle.my_pool_core.specs.Events.{is_at_end}
 use Rattle.my_pool_core.specs.contracts.pool.Core.{the_view}
-use Rattle.my_pool_core.proofs.Queue.Waking.{wake-all-last}
+use Rattle.my_pool_parts.proofs.Queue.Waking.{wake-all-last}
 use Rattle.my_pool_core.proofs.Keeping.{kept-request, request-end, request-next, last-rises, next-rises, request-is}
-use Rattle.my_pool_core.proofs.Queue.Costs.{last-few, woken-last}
+use Rattle.my_pool_parts.proofs.Queue.Costs.{last-few, woken-last}
 use Rattle.my_pool_core.proofs.pool.Core.request_noting.Goals as goal
 
 -- the larger room fits

@@ -3,9 +3,9 @@ use Rattle.my_pool_core.specs.contracts.pool.Core.{the_view}
 use Rattle.my_pool_core.proofs.Keeping.{kept-taken}
 use Rattle.my_pool_core.specs.Events.{may_poll}
 use Rattle.std.specs.Prelude.{find, IfSome}
-use Rattle.my_pool_core.specs.Lists.{found_is}
-use Rattle.my_pool_core.specs.Connections.{has_number, is_idle}
-use Rattle.my_pool_core.proofs.Finding.{found-any}
+use Rattle.my_pool_parts.specs.Lists.{found_is}
+use Rattle.my_pool_parts.specs.Connections.{has_number, is_idle}
+use Rattle.my_pool_parts.proofs.Finding.{found-any}
 use Rattle.my_pool_core.proofs.pool.Core.seek.Goals as goal
 
 pub move_to-requires : goal.move_to-requires

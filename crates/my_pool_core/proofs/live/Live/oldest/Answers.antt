@@ -1,5 +1,0 @@
-use Rattle.my_pool_core.proofs.Queue.Waking.{oldest-as}
-use Rattle.my_pool_core.proofs.live.Live.oldest.Goals as goal
-
-pub returns : goal.returns
-returns c = oldest-as c.least.result c.self.invariant c.self.view_is c.least.ensures

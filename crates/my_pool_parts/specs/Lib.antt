@@ -1,0 +1,5 @@
+pub mod Lists
+pub mod Connections
+pub mod Requests
+pub mod Live
+pub mod Next

@@ -1,0 +1,28 @@
+-- The live requests beside the heap of those that wait.
+use Rattle.std.specs.Prelude.{◌≡◌, ℕ, ◌<◌, ◌≤◌, Option, Some, None, List, length, map, slice_index, if◌then◌else◌}
+use Rattle.my_wait_heap.specs.Ages.{age_of, how_many as how_many_held}
+use Rattle.my_pool_parts.specs.declared.request.Request.{Request}
+use Rattle.my_pool_parts.specs.Lists.{how_many}
+use Rattle.my_pool_parts.specs.Requests.{is_waiting, is_dialing, is_queued, IsRising}
+
+-- the age of a request where it waits
+abbrev pub age_if : Request → Option ℕ
+age_if r = if is_waiting r then Some r.age else None
+
+-- Each request has a slot of the heap, and what is left of the slots is free. A slot is held by the age of its request
+-- where that one waits. So as many slots are held as requests wait.
+pub record IsQueue (ages : List (Option ℕ)) (slots : List ℕ) (held : List (Option ℕ)) : Type 0 where
+  pub few : length ages ≤ length slots
+  pub full : length slots ≤ length held
+  pub reserved : (i : ℕ) → i < length slots → slice_index slots i < length slots
+  pub apart : (i j : ℕ) → i < length slots → j < length slots → slice_index slots i ≡ slice_index slots j → i ≡ j
+  pub linked : (i : ℕ) → i < length slots → age_of held (slice_index slots i) ≡ age_of ages i
+  pub found : (s a : ℕ) → age_of held s ≡ Some a → (i : ℕ) × (i < length slots) × (slice_index slots i ≡ s)
+  pub counted : how_many_held held ≡ how_many_held ages
+
+-- the ages rise, and it is counted how many make a connection and how many wait or were woken
+pub record IsLive (rs : List Request) (slots : List ℕ) (held : List (Option ℕ)) (dialing queued : ℕ) : Type 0 where
+  pub rising : IsRising 0 rs
+  pub dialing_counted : dialing ≡ how_many is_dialing rs
+  pub queued_counted : queued ≡ how_many is_queued rs
+  pub queue : IsQueue (map age_if rs) slots held

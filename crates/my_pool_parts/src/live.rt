@@ -1,0 +1,365 @@
+//! The live requests with the heap of those that wait: what is looked for among them is found by comparing few ages.
+
+ghost use Rattle.std.specs.Prelude.{◌≡◌, ℕ, ◌+◌, ◌*◌, ◌^◌, ◌≤◌, ◌<◌, ◌++◌, [], ◌∷◌, Some, None, true, false, length, find, position, remove, List, Option, slice_index_or, slice_set, OnOk, OnErr, if◌then◌else◌};
+ghost use Rattle.std.specs.List.{list_any};
+ghost use Rattle.my_wait_heap.specs.Ages.{age_of, how_many as how_many_held};
+ghost use Rattle.my_pool_parts.specs.Lists.{how_many, found_is};
+ghost use Rattle.my_pool_parts.specs.Requests.{last_age, asking, is_free, holds, has_age, is_waiting, is_queued, is_dialing, may_dial, set_standing, set_waiting, ended, wake, wake_all, waits_up_to, has_waited, is_live, let_go, with_last, IsRising, oldest_in};
+ghost use Rattle.my_pool_parts.specs.Live.{IsQueue};
+
+use crate::request::{LAST, Request, Standing};
+use crate::search::index_of;
+use my_frame::NoMemory;
+use my_wait_heap::{Ledger, Uncounted, WaitHeap};
+use std::alloc::Global;
+use std::marker::Model;
+
+/// The live requests, from the oldest on.
+#[derive(Debug, Drop)]
+pub struct Live {
+    requests: Vec<Request>,
+    /// The slot of each request in the heap, and after them the slots that are free.
+    slots: Vec<usize>,
+    /// The ages of those that wait.
+    waiting: WaitHeap,
+    /// How many make a connection.
+    dialing: usize,
+    /// How many wait, or were woken and not polled since.
+    queued: usize,
+}
+
+impl Model for Live {
+    ghost use Rattle.std.specs.Prelude.{List};
+    ghost use Rattle.my_pool_parts.specs.declared.request.Request.{Request};
+    ghost use Rattle.my_pool_parts.specs.Live.{IsLive};
+
+    ghost Value = { List Request };
+
+    ghost view = { λ l. l.requests.items };
+
+    ghost invariant = { λ l. IsLive l.requests.items l.slots.items l.waiting l.dialing l.queued };
+}
+
+/// A count, where one that was counted or not is counted or not from now on.
+fn recount(count: usize, was: bool, is: bool) -> usize
+    requires there { (if was then 1 else 0) ≤ count }
+    requires room { count < 2 ^ 63 }
+    ensures { result + (if was then 1 else 0) ≡ count + (if is then 1 else 0) }
+{
+    if was == is {
+        count
+    } else if is {
+        count + 1
+    } else {
+        count - 1
+    }
+}
+
+/// A slot is held by an age from now on, or free.
+fn set_held<C: Ledger>(heap: &mut WaitHeap, slot: usize, age: u64, holds: bool, steps: &mut C)
+    requires reserved { slot < length heap.old }
+    requires alone { (s : ℕ) → age_of heap.old s ≡ Some age → s ≡ slot }
+    requires same { (a : ℕ) → age_of heap.old slot ≡ Some a → a ≡ age }
+    ensures ages { heap.new ≡ slice_set heap.old slot (if holds then Some age else None) }
+    ensures cost { (d : ℕ) → how_many_held heap.old < 2 ^ d → C.noted steps.new ≤ C.noted steps.old + 2 * d + 1 }
+{
+    if heap.holds(slot) {
+        if !holds {
+            heap.remove(slot, steps);
+        }
+    } else if holds {
+        heap.push(slot, age, steps);
+    }
+}
+
+/// Afterwards there is a free slot beside those of `count` requests. Out of memory, the slots stay as they are.
+fn have_slot(slots: &mut Vec<usize>, heap: &mut WaitHeap, count: usize) -> Result<(), NoMemory>
+    requires { count ≤ length slots.old.items }
+    ensures queue { (ages : List (Option ℕ)) → IsQueue ages slots.old.items heap.old
+        → IsQueue ages slots.new.items heap.new }
+    ensures room { OnOk result (count < length slots.new.items) }
+{
+    if count < slots.len() {
+        return Ok(());
+    }
+    let next = slots.len();
+    heap.reserve(next + 1)?;
+    slots.push(next)?;
+    Ok(())
+}
+
+impl Live {
+    /// No request.
+    pub fn new(alloc: Global) -> Live
+        ensures { result ≡ [] }
+    {
+        Live {
+            requests: Vec::new(alloc),
+            slots: Vec::new(alloc),
+            waiting: WaitHeap::new(alloc),
+            dialing: 0,
+            queued: 0,
+        }
+    }
+
+    /// The requests, from the oldest on.
+    pub fn as_slice(&self) -> &[Request]
+        ensures { result.now ≡ self.now }
+    {
+        &self.requests
+    }
+
+    /// How many there are.
+    pub fn len(&self) -> usize
+        ensures count { result ≡ length self.now }
+        ensures small { result < 2 ^ 63 }
+    {
+        self.requests.len()
+    }
+
+    /// The request at an index becomes another one of its age.
+    fn put<C: Ledger>(&mut self, index: usize, next: Request, steps: &mut C)
+        requires within { index < length self.old }
+        requires age { next.age ≡ (slice_index_or self.old index next).age }
+        ensures items { self.new ≡ slice_set self.old index next }
+        ensures cost { (d : ℕ) → length self.old < 2 ^ d → C.noted steps.new ≤ C.noted steps.old + 2 * d + 1 }
+    {
+        let old = self.requests[index];
+        let slot = self.slots[index];
+        set_held(&mut self.waiting, slot, next.age, next.is_waiting(), steps);
+        self.dialing = recount(self.dialing, old.is_dialing(), next.is_dialing());
+        self.queued = recount(self.queued, old.is_queued(), next.is_queued());
+        self.requests[index] = next;
+    }
+
+    /// The request at an index ends.
+    fn remove_at<C: Ledger>(&mut self, index: usize, steps: &mut C)
+        requires { index < length self.old }
+        ensures items { self.new ≡ remove self.old index }
+        ensures cost { (d : ℕ) → length self.old < 2 ^ d → C.noted steps.new ≤ C.noted steps.old + 2 * d + 1 }
+    {
+        let old = self.requests[index];
+        let slot = self.slots[index];
+        set_held(&mut self.waiting, slot, old.age, false, steps);
+        self.dialing = recount(self.dialing, old.is_dialing(), false);
+        self.queued = recount(self.queued, old.is_queued(), false);
+        self.requests.remove(index);
+        self.slots.remove(index);
+        self.slots.push(slot).unwrap();
+    }
+
+    /// There is one more request, which is younger than each. Out of memory, nothing changes.
+    pub fn add(&mut self, age: u64) -> Result<(), NoMemory>
+        requires { IsRising 0 (self.old ++ asking age ∷ []) }
+        ensures ok { OnOk result (self.new ≡ self.old ++ asking age ∷ []) }
+        ensures err { OnErr result (self.new ≡ self.old) }
+    {
+        self.requests.reserve(1)?;
+        let count = self.requests.len();
+        have_slot(&mut self.slots, &mut self.waiting, count)?;
+        self.requests.push(Request::asking(age)).unwrap();
+        Ok(())
+    }
+
+    /// The index of the request of an age.
+    fn index_of<C: Ledger>(&self, age: u64, steps: &mut C) -> Option<usize>
+        ensures answer { result ≡ position (has_age age) self.now }
+        ensures cost { (d : ℕ) → length self.now < 2 ^ d → C.noted steps.new ≤ C.noted steps.old + d + 1 }
+    {
+        index_of(&self.requests, age, steps)
+    }
+
+    /// The request of an age.
+    pub fn find<C: Ledger>(&self, age: u64, steps: &mut C) -> Option<Request>
+        ensures answer { result ≡ find (has_age age) self.now }
+        ensures cost { (d : ℕ) → length self.now < 2 ^ d → C.noted steps.new ≤ C.noted steps.old + d + 1 }
+    {
+        match self.index_of(age, steps) {
+            Some(index) => Some(self.requests[index]),
+            None => None,
+        }
+    }
+
+    /// Whether the request of an age is live.
+    pub fn is_live(&self, age: u64) -> bool
+        ensures { result ≡ found_is is_live (find (has_age age) self.now) }
+    {
+        self.find(age, &mut Uncounted).is_some()
+    }
+
+    /// Whether the request of an age is live and has no connection.
+    pub fn is_free(&self, age: u64) -> bool
+        ensures { result ≡ found_is is_free (find (has_age age) self.now) }
+    {
+        match self.find(age, &mut Uncounted) {
+            Some(request) => request.is_free(),
+            None => false,
+        }
+    }
+
+    /// Whether the request of an age makes or looks at the connection of a number.
+    pub fn is_held(&self, age: u64, number: u64) -> bool
+        ensures { result ≡ found_is (holds number) (find (has_age age) self.now) }
+    {
+        match self.find(age, &mut Uncounted) {
+            Some(request) => request.holds(number),
+            None => false,
+        }
+    }
+
+    /// Whether the request of an age ever waited.
+    pub fn has_waited<C: Ledger>(&self, age: u64, steps: &mut C) -> bool
+        ensures answer { result ≡ found_is has_waited (find (has_age age) self.now) }
+        ensures cost { (d : ℕ) → length self.now < 2 ^ d → C.noted steps.new ≤ C.noted steps.old + d + 1 }
+    {
+        match self.find(age, steps) {
+            Some(request) => request.waited,
+            None => false,
+        }
+    }
+
+    /// Sets the standing of the request of an age.
+    pub fn set_standing<C: Ledger>(&mut self, age: u64, standing: Standing, steps: &mut C)
+        ensures requests { self.new ≡ set_standing age standing self.old }
+        ensures cost { (d : ℕ) → length self.old < 2 ^ d → C.noted steps.new ≤ C.noted steps.old + 3 * d + 2 }
+    {
+        if let Some(index) = self.index_of(age, steps) {
+            let next = self.requests[index].with_standing(standing);
+            self.put(index, next, steps);
+        }
+    }
+
+    /// The request of an age waits.
+    pub fn set_waiting<C: Ledger>(&mut self, age: u64, steps: &mut C)
+        ensures requests { self.new ≡ set_waiting age self.old }
+        ensures cost { (d : ℕ) → length self.old < 2 ^ d → C.noted steps.new ≤ C.noted steps.old + 3 * d + 2 }
+    {
+        if let Some(index) = self.index_of(age, steps) {
+            let next = self.requests[index].now_waiting();
+            self.put(index, next, steps);
+        }
+    }
+
+    /// The request of an age ends, unless its age is the last one.
+    pub fn end<C: Ledger>(&mut self, age: u64, steps: &mut C)
+        ensures requests { self.new ≡ ended age self.old }
+        ensures cost { (d : ℕ) → length self.old < 2 ^ d → C.noted steps.new ≤ C.noted steps.old + 3 * d + 2 }
+    {
+        if age == LAST {
+            return;
+        }
+        if let Some(index) = self.index_of(age, steps) {
+            self.remove_at(index, steps);
+        }
+    }
+
+    /// The request of an age ends where it makes a connection, and else asks again.
+    pub fn let_go<C: Ledger>(&mut self, age: u64, steps: &mut C)
+        ensures requests { self.new ≡ let_go age self.old }
+        ensures cost { (d : ℕ) → length self.old < 2 ^ d → C.noted steps.new ≤ C.noted steps.old + 4 * d + 3 }
+    {
+        let dials = match self.find(age, steps) {
+            Some(request) => request.is_dialing(),
+            None => false,
+        };
+        if dials {
+            self.end(age, steps);
+        } else {
+            self.set_standing(age, Standing::Asks, steps);
+        }
+    }
+
+    /// The oldest waiting request is woken.
+    pub fn wake<C: Ledger>(&mut self, steps: &mut C)
+        ensures requests { self.new ≡ wake self.old }
+        ensures cost { (d : ℕ) → length self.old < 2 ^ d → C.noted steps.new ≤ C.noted steps.old + 3 * d + 2 }
+    {
+        if let Some(age) = self.waiting.least() {
+            self.set_standing(age, Standing::Woken, steps);
+        }
+    }
+
+    /// Each waiting request is woken.
+    pub fn wake_all<C: Ledger>(&mut self, steps: &mut C)
+        ensures requests { self.new ≡ wake_all self.old }
+        ensures cost { (d : ℕ) → length self.old < 2 ^ d
+            → C.noted steps.new ≤ C.noted steps.old + how_many is_waiting self.old * (3 * d + 2) }
+    {
+        while self.count_waiting() > 0 {
+            self.wake(steps);
+        }
+    }
+
+    /// Whether a request waits that is at least as old as this age.
+    pub fn waits_up_to<C: Ledger>(&self, age: u64, steps: &mut C) -> bool
+        ensures answer { result ≡ waits_up_to age self.now }
+        ensures cost { C.noted steps.new ≤ C.noted steps.old + 1 }
+    {
+        match self.waiting.least() {
+            Some(least) => {
+                steps.step();
+                least <= age
+            }
+            None => false,
+        }
+    }
+
+    /// The oldest waiting age.
+    pub fn oldest(&self) -> Option<u64>
+        ensures { result ≡ oldest_in self.now }
+    {
+        self.waiting.least()
+    }
+
+    /// Whether the request of an age waits.
+    pub fn is_waiting(&self, age: u64) -> bool
+        ensures { result ≡ found_is is_waiting (find (has_age age) self.now) }
+    {
+        match self.find(age, &mut Uncounted) {
+            Some(request) => request.is_waiting(),
+            None => false,
+        }
+    }
+
+    /// Whether the request of the last age is live.
+    pub fn has_last<C: Ledger>(&self, steps: &mut C) -> bool
+        ensures answer { result ≡ list_any (has_age last_age) self.now }
+        ensures cost { (d : ℕ) → length self.now < 2 ^ d → C.noted steps.new ≤ C.noted steps.old + d + 1 }
+    {
+        self.index_of(LAST, steps).is_some()
+    }
+
+    /// The request of the last age is live from now on. Out of memory, nothing changes.
+    pub fn add_last<C: Ledger>(&mut self, steps: &mut C) -> Result<(), NoMemory>
+        requires { IsRising 0 (with_last self.old) }
+        ensures ok { OnOk result (self.new ≡ with_last self.old) }
+        ensures err { OnErr result (self.new ≡ self.old) }
+        ensures cost { (d : ℕ) → length self.old < 2 ^ d → C.noted steps.new ≤ C.noted steps.old + d + 1 }
+    {
+        if self.has_last(steps) {
+            return Ok(());
+        }
+        self.add(LAST)
+    }
+
+    /// How many wait, or were woken and not polled since.
+    pub fn count_queued(&self) -> usize
+        ensures { result ≡ how_many is_queued self.now }
+    {
+        self.queued
+    }
+
+    /// How many may still be given a number.
+    pub fn count_may_dial(&self) -> usize
+        ensures { result ≡ how_many may_dial self.now }
+    {
+        self.requests.len() - self.dialing
+    }
+
+    /// How many wait.
+    pub fn count_waiting(&self) -> usize
+        ensures { result ≡ how_many is_waiting self.now }
+    {
+        self.waiting.len()
+    }
+}
