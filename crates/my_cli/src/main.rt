@@ -53,8 +53,8 @@ fn unread_words(error: &io::Error) -> Status {
     }
 }
 
-// Tells on standard error why a run of these words ended with this status.
-fn tell<R: Eprint + AllocGlobal>(rt: &R, words: &[String], status: &Status) {
+// Says on standard error why a run of these words ended with this status.
+fn explain<R: Eprint + AllocGlobal>(rt: &R, words: &[String], status: &Status) {
     let _ = match message(rt.alloc(), words, status) {
         Ok(None) => Ok(()),
         Ok(Some(text)) => eprintln!(rt; "my_cli: {text}"),
@@ -67,7 +67,7 @@ fn main(rt: HostRuntime) -> ExitCode {
         Ok(words) => words,
         Err(error) => {
             let status = unread_words(&error);
-            tell(&rt, &[], &status);
+            explain(&rt, &[], &status);
             return ExitCode::from(status.code());
         }
     };
@@ -80,6 +80,6 @@ fn main(rt: HostRuntime) -> ExitCode {
             run_tool(rt.alloc(), &words, &mut src, &mut out, &mut world).status
         }
     };
-    tell(&rt, &words, &status);
+    explain(&rt, &words, &status);
     ExitCode::from(status.code())
 }

@@ -1,7 +1,7 @@
 -- How a payload travels between client and server: in numbered chunks.
--- MySQL client/server protocol, "MySQL Packets" and "Sending more than 16Mb": a chunk is a length of three bytes, a sequence
--- id of one byte and a part of this length. Each chunk of a payload but the last is full; the last, which may be empty, is
--- not.
+-- MySQL client/server protocol, "MySQL Packets" and "Sending more than 16Mb": a chunk is a length of three bytes, a
+-- sequence id of one byte and a part of this length. Each chunk of a payload but the last is full; the last, which may
+-- be empty, is not.
 use Rattle.std.specs.Prelude.{ℕ, zero, suc, ◌+◌, ◌/◌, ◌%◌, List, [], ◌∷◌, ◌++◌, length, take, drop}
 use Rattle.my_frame.specs.declared.limits.TheConstants.{FULL_LENGTH}
 

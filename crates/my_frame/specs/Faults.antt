@@ -13,8 +13,8 @@ IsBlamed expected before limit len number (OutOfOrder e f) = (number ≢ expecte
 IsBlamed expected before limit len number (TooLarge l m) =
     (number ≡ expected) × (limit < before + len) × (l ≡ before + len) × (m ≡ limit)
 
--- Full chunks with the right sequence ids and within the limit are followed by a header with this fault, the first faulty
--- one. Earlier chunks of the payload, before these bytes, had `before` bytes.
+-- Full chunks with the right sequence ids and within the limit are followed by a header with this fault, the first
+-- faulty one. Earlier chunks of the payload, before these bytes, had `before` bytes.
 pub record Faulty (bytes : List ℕ) (n before limit : ℕ) (fault : CodecFault) : Type 0 where
   pub parts : List (List ℕ)
   pub len : ℕ

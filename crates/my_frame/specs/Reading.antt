@@ -18,7 +18,7 @@ abbrev pub Gives : {X : Type 0} → Result X ReadError → Option X → Type 0
 Gives (Ok x) read = read ≡ Some x
 Gives (Err e) read = Fails e read
 
--- The result is the record that the payload is, or an error exactly where it is none; a call may also run out of memory.
+-- The result is the record that the payload is, or an error exactly where it is none; a call may also be out of memory.
 pub record ReadsExactly {X : Type 0} (Is : X → Type 0) (result : Result X ReadError) : Type 0 where
   pub found : IfOk result Is
   pub only : (x : X) → Is x → MatchResult result (λ y. y ≡ x) (λ e. e ≡ NoMemory)

@@ -12,7 +12,7 @@ use Rattle.my_opts.specs.declared.query.Gathered.{Gathered}
 use Rattle.my_opts.specs.Opts.{OptsView}
 use Rattle.my_opts_parts.specs.Pool.{Bounds}
 use Rattle.my_opts.specs.Query.{table, row_among, text_pair, put_number, put_truth, set_or_refused, after_row, after_pair, after_pairs, and_then}
-use Rattle.my_opts.specs.Url.{begun, gathered, bounds_told, finished}
+use Rattle.my_opts.specs.Url.{begun, gathered, allowed_bounds, finished}
 use Rattle.my_frame.specs.Numeral.{whole_number}
 use Rattle.my_opts.specs.Values.{truth}
 use Rattle.my_opts.specs.Built.{set_number, set_truth, set_where_read, set_row, set_pairs, GivesWhatIsBuilt}
@@ -82,10 +82,10 @@ last_ok false false e e' x y ok = cc ok
 finish_ok : (g : Gathered) (opts : OptsView) → finished g ≡ Ok opts → opts ≡ meant g
 finish_ok g opts ok =
     let with_bounds = (λ (bounds : Bounds). record g.builder { pool_opts = record g.pool { constraints = bounds } }) in
-    let (bounds, told, end) = both_ok (bounds_told g.pool_min g.pool_max g.require_ssl) (λ (b : Bounds). Ok (with_bounds b)) opts ok in
+    let (bounds, allowed, end) = both_ok (allowed_bounds g.pool_min g.pool_max g.require_ssl) (λ (b : Bounds). Ok (with_bounds b)) opts ok in
     sym (of_ok (with_bounds bounds) opts end)
     ∙ ap with_bounds (last_ok (nat_lt g.pool_max g.pool_min || g.pool_max == 0) g.require_ssl (InvalidPoolConstraints g.pool_min g.pool_max)
-    (FeatureRequired (codes "tls") (codes "require_ssl")) (record { min = g.pool_min; max = g.pool_max }) bounds told)
+    (FeatureRequired (codes "tls") (codes "require_ssl")) (record { min = g.pool_min; max = g.pool_max }) bounds allowed)
 
 pub gives-built : (text : List ℕ) → GivesWhatIsBuilt text
 gives-built text url opts at_url at_opts =

@@ -5,10 +5,10 @@ use Rattle.my_opts.specs.declared.error.UrlFault.{UrlFault}
 use Rattle.my_opts.specs.declared.error.UrlFault.TheVariants.{Url, NoMemory}
 
 -- the result is that of reading, unless memory ran out
-abbrev pub Tells : {A : Type 0} → Result A UrlFault → Result A UrlError → Type 0
-Tells (Ok x) told = told ≡ Ok x
-Tells (Err (Url e)) told = told ≡ Err e
-Tells (Err NoMemory) told = Unit {0}
+abbrev pub ReadsAs : {A : Type 0} → Result A UrlFault → Result A UrlError → Type 0
+ReadsAs (Ok x) read = read ≡ Ok x
+ReadsAs (Err (Url e)) read = read ≡ Err e
+ReadsAs (Err NoMemory) read = Unit {0}
 
 -- the fault is this error, or memory ran out
 abbrev pub IsFault : UrlFault → UrlError → Type 0

@@ -68,8 +68,8 @@ abbrev pub gathered : Parts → Result Gathered UrlError
 gathered url = after_pairs (raw_pairs (unwrap_or url.query [])) (begun url)
 
 -- the bounds of a pool; a pool that can't be is refused, and then TLS is
-abbrev pub bounds_told : ℕ → ℕ → Bool → Result Bounds UrlError
-bounds_told min max require_ssl =
+abbrev pub allowed_bounds : ℕ → ℕ → Bool → Result Bounds UrlError
+allowed_bounds min max require_ssl =
     if nat_lt max min || max == 0 then Err (InvalidPoolConstraints min max)
     else (if require_ssl then Err (FeatureRequired (codes "tls") (codes "require_ssl"))
     else Ok (record { min = min; max = max }))
@@ -77,7 +77,7 @@ bounds_told min max require_ssl =
 -- the options that were gathered, with their pool
 abbrev pub finished : Gathered → Result OptsView UrlError
 finished g =
-    and_then (bounds_told g.pool_min g.pool_max g.require_ssl)
+    and_then (allowed_bounds g.pool_min g.pool_max g.require_ssl)
     (λ bounds. Ok (record g.builder { pool_opts = record g.pool { constraints = bounds } }))
 
 -- the options of a text, or why it gives none

@@ -5,13 +5,12 @@ ghost use Rattle.my_opts_parts.specs.Lists.{pair_bytes, with_attribute};
 ghost use Rattle.my_opts.specs.Opts.{default_opts};
 ghost use Rattle.my_opts_parts.specs.Limits.{packet_limit, waiting_limit};
 
+use crate::opts::{DEFAULT_PORT, DEFAULT_STMT_CACHE_SIZE, Opts};
+use my_frame::{NoMemory, Text};
 use my_opts_parts::limits::{limited_packet, limited_wait};
 use my_opts_parts::lists::{Texts, attributes_of, list_of, with_one};
-use my_opts_parts::Millis;
-use crate::opts::{DEFAULT_PORT, DEFAULT_STMT_CACHE_SIZE, Opts};
-use my_opts_parts::PoolOpts;
 use my_opts_parts::text::text_of;
-use my_frame::{NoMemory, Text};
+use my_opts_parts::{Millis, PoolOpts};
 use std::alloc::Global;
 use std::collections::BTreeMap;
 use std::marker::Model;

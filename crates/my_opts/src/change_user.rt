@@ -4,8 +4,8 @@ ghost use Rattle.std.specs.Prelude.{◌≡◌, ◌↔◌, IsFalse, IfOk, Some, s
 ghost use Rattle.my_opts.specs.ChangeUser.{no_change, changed_opts, IsUnchangedBy};
 
 use crate::opts::Opts;
-use my_opts_parts::text::{shown, text_of};
 use my_frame::{Copied, NoMemory, Text};
+use my_opts_parts::text::{shown, text_of};
 use std::alloc::Global;
 use std::marker::Model;
 

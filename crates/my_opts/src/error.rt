@@ -3,8 +3,8 @@
 ghost use Rattle.std.specs.Prelude.{◌≡◌, IfOk};
 
 use crate::query::other_than_wanted;
-use my_opts_parts::text::OneLine;
 use my_frame::{NoMemory, Text};
+use my_opts_parts::text::OneLine;
 use std::alloc::{AllocError, Global};
 use std::fmt;
 

@@ -3,16 +3,16 @@
 ghost use Rattle.std.specs.Prelude.{◌≡◌, ◌≤◌, [], IfOk, Ok, Some, None, length, string_bytes, option_map, option_copied, unwrap_or};
 ghost use Rattle.url.specs.Host.{host_text};
 ghost use Rattle.url.specs.Parts.{nonempty_host};
-ghost use Rattle.my_opts.specs.Faults.{Tells, IsFault};
+ghost use Rattle.my_opts.specs.Faults.{ReadsAs, IsFault};
 ghost use Rattle.my_opts.specs.Query.{and_then};
-ghost use Rattle.my_opts.specs.Url.{decoded, unless_empty, before_slash, first_segment, url_of, begun, gathered, bounds_told, finished, options_of};
+ghost use Rattle.my_opts.specs.Url.{decoded, unless_empty, before_slash, first_segment, url_of, begun, gathered, allowed_bounds, finished, options_of};
 
 use crate::builder::OptsBuilder;
 use crate::error::{UrlError, UrlFault};
 use crate::opts::Opts;
-use my_opts_parts::{PoolConstraints, PoolOpts};
 use crate::query::{Gathered, feature_required};
 use my_frame::{NoMemory, Text};
+use my_opts_parts::{PoolConstraints, PoolOpts};
 use percent_encoding::percent_decode;
 use std::alloc::Global;
 use url::{ParseError, Url};
@@ -22,7 +22,7 @@ impl Opts {
     /// text has at most 1,048,576 bytes.
     pub fn from_url(alloc: Global, url: &str) -> Result<Opts, UrlFault>
         requires { length url.now ≤ 1048576 }
-        ensures { Tells result (options_of url.now) }
+        ensures { ReadsAs result (options_of url.now) }
     {
         Ok(OptsBuilder::from_url(alloc, url)?.into_opts())
     }
@@ -32,7 +32,7 @@ impl OptsBuilder {
     /// A builder of the options that a URL gives. The text has at most 1,048,576 bytes.
     pub fn from_url(alloc: Global, url: &str) -> Result<OptsBuilder, UrlFault>
         requires { length url.now ≤ 1048576 }
-        ensures { Tells result (options_of url.now) }
+        ensures { ReadsAs result (options_of url.now) }
     {
         let url = usable_url(alloc, url)?;
         let gathered = gather(alloc, &url)?;
@@ -42,7 +42,7 @@ impl OptsBuilder {
 
 /// The URL of a text, where it can give options.
 fn usable_url(alloc: Global, text: &str) -> Result<Url, UrlFault>
-    ensures { Tells result (url_of text.now) }
+    ensures { ReadsAs result (url_of text.now) }
 {
     let url = match Url::parse(alloc, text) {
         Ok(url) => url,
@@ -70,7 +70,7 @@ fn unsupported(alloc: Global, scheme: &str) -> UrlFault
 
 /// What the URL sets.
 fn gather(alloc: Global, url: &Url) -> Result<Gathered, UrlFault>
-    ensures { Tells result (gathered url.now) }
+    ensures { ReadsAs result (gathered url.now) }
 {
     let mut gathered = begin(alloc, url)?;
     for pair in url.query_pairs() {
@@ -193,7 +193,7 @@ fn up_to_slash(rest: &str) -> &str
 
 /// The options that were gathered, with their pool.
 fn finish(alloc: Global, gathered: Gathered) -> Result<OptsBuilder, UrlFault>
-    ensures { Tells result (finished gathered) }
+    ensures { ReadsAs result (finished gathered) }
 {
     let constraints = bounds_of(
         alloc,
@@ -211,7 +211,7 @@ fn bounds_of(
     max: u64,
     require_ssl: bool,
 ) -> Result<PoolConstraints, UrlFault>
-    ensures { Tells result (bounds_told min max require_ssl) }
+    ensures { ReadsAs result (allowed_bounds min max require_ssl) }
 {
     let Some(constraints) = PoolConstraints::new(min, max) else {
         return Err(UrlFault::Url(UrlError::InvalidPoolConstraints { min, max }));

@@ -10,14 +10,12 @@ ghost use Rattle.my_opts.specs.Target.{target_of};
 
 use crate::builder::OptsBuilder;
 use crate::capabilities::client_capabilities;
-use my_opts_parts::lists::{Attributes, Texts};
-use my_opts_parts::loopback::is_loopback;
-use my_opts_parts::Millis;
-use my_opts_parts::PoolOpts;
-use my_opts_parts::Target;
-use my_opts_parts::text::shown;
 use my_flags::CapabilityFlags;
 use my_frame::{Copied, Listed, NoMemory, Text};
+use my_opts_parts::lists::{Attributes, Texts};
+use my_opts_parts::loopback::is_loopback;
+use my_opts_parts::text::shown;
+use my_opts_parts::{Millis, PoolOpts, Target};
 use std::alloc::Global;
 use std::collections::BTreeMap;
 use std::marker::Model;

@@ -1,17 +1,16 @@
 //! The options that a URL's query sets, one pair after the other.
 
 ghost use Rattle.std.specs.Prelude.{◌≡◌, Some, Ok};
-ghost use Rattle.my_opts.specs.Faults.{Tells, IsFault};
+ghost use Rattle.my_opts.specs.Faults.{ReadsAs, IsFault};
 ghost use Rattle.my_opts.specs.Query.{table, row_among, put_number, put_truth, put_socket, set_or_refused, compression_error, after_row, after_pair};
 ghost use Rattle.my_frame.specs.Numeral.{whole_number};
 ghost use Rattle.my_opts.specs.Values.{truth};
 
 use crate::builder::OptsBuilder;
 use crate::error::{UrlError, UrlFault};
-use my_opts_parts::Millis;
-use my_opts_parts::{PoolConstraints, PoolOpts};
 use crate::values::{is_compression, truth_of, whole32, whole64};
 use my_frame::Text;
+use my_opts_parts::{Millis, PoolConstraints, PoolOpts};
 use std::alloc::Global;
 
 /// An option whose value is a truth value.
@@ -125,7 +124,7 @@ impl Gathered {
         name: &str,
         value: &str,
     ) -> Result<Gathered, UrlFault>
-        ensures { Tells result (after_pair self (name.now, value.now)) }
+        ensures { ReadsAs result (after_pair self (name.now, value.now)) }
     {
         match row_named(name) {
             Some(row) => self.with_row(alloc, row, name, value),
@@ -140,7 +139,7 @@ impl Gathered {
         name: &str,
         value: &str,
     ) -> Result<Gathered, UrlFault>
-        ensures { Tells result (after_row (Some row) name.now value.now self) }
+        ensures { ReadsAs result (after_row (Some row) name.now value.now self) }
     {
         match row {
             Row::Truth(option) => self.truth_pair(alloc, option, name, value),
@@ -164,7 +163,7 @@ impl Gathered {
         name: &str,
         value: &str,
     ) -> Result<Gathered, UrlFault>
-        ensures { Tells result (set_or_refused name.now value.now (truth value.now) (put_truth option) self) }
+        ensures { ReadsAs result (set_or_refused name.now value.now (truth value.now) (put_truth option) self) }
     {
         match truth_of(value) {
             Some(truth) => Ok(self.with_truth(option, truth)),
@@ -180,7 +179,7 @@ impl Gathered {
         name: &str,
         value: &str,
     ) -> Result<Gathered, UrlFault>
-        ensures { Tells result (set_or_refused name.now value.now number (put_number option) self) }
+        ensures { ReadsAs result (set_or_refused name.now value.now number (put_number option) self) }
     {
         match number {
             Some(number) => Ok(self.with_number(option, number)),
@@ -286,7 +285,7 @@ impl Gathered {
     }
 
     fn socket_pair(self, alloc: Global, path: &str) -> Result<Gathered, UrlFault>
-        ensures { Tells result (Ok (put_socket path.now self)) }
+        ensures { ReadsAs result (Ok (put_socket path.now self)) }
     {
         let path = String::from_str(alloc, path)?;
         Ok(Gathered {

@@ -9,9 +9,9 @@ ghost use Rattle.my_params.specs.Parameters.{cell_of};
 ghost use Rattle.my_params.specs.BulkBody.{agree, joined, joined_types, list_bytes, types_agree};
 
 use crate::sending::{put_value, type_of, values_len};
-use my_value::Value;
 use my_command::statement::{ParameterType, put_indicator};
 use my_frame::NoMemory;
+use my_value::Value;
 use std::alloc::Global;
 
 // Whether values of these two types can be in one column.

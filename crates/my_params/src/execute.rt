@@ -6,9 +6,9 @@ ghost use Rattle.my_command.specs.Client.Statement.{written_value};
 ghost use Rattle.my_params.specs.Parameters.{body_of, needs_long, parameter_of, sent_head, sent_value};
 
 use crate::sending::{put_value, type_of, values_len};
-use my_value::Value;
 use my_command::statement::{Parameter, ParameterHead, put_execute_head};
 use my_frame::{Blob, FULL_LENGTH, NoMemory};
+use my_value::Value;
 use std::alloc::Global;
 
 // The type of a value, and whether it is NULL.

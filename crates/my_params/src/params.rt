@@ -6,9 +6,9 @@ ghost use Rattle.std.specs.Cmp.Lexicographic.{pointwise};
 ghost use Rattle.std.specs.List.{list_any};
 ghost use Rattle.my_params.specs.ParamValues.{FillsTo, HasValuesOf, MissesOrFails, ResolvesTo, filled, is_float, last_value, resolved, sendable};
 
-use my_value::shown::Lossy;
-use my_value::Value;
 use my_frame::{Blob, NoMemory, copy_items};
+use my_value::Value;
+use my_value::shown::Lossy;
 use std::alloc::Global;
 use std::fmt;
 

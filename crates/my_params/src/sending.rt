@@ -4,10 +4,10 @@ ghost use Rattle.std.specs.Prelude.{◌≡◌, ◌+◌, ◌-◌, ◌<◌, ◌≤
 ghost use Rattle.my_frame.specs.Writing.{len_bytes};
 ghost use Rattle.my_params.specs.Sending.{date_len, date_parts, sized_bytes, time_len, time_parts, type_of, value_bytes, values_len};
 
-use my_value::Value;
 use my_command::statement::ParameterType;
 use my_frame::NoMemory;
 use my_frame::writing::{put_text, put_u32, put_u64};
+use my_value::Value;
 
 /// The type that a value is sent with.
 pub fn type_of(value: &Value) -> ParameterType

@@ -1,5 +1,5 @@
 -- What a pool is made with.
-use Rattle.my_opts.specs.Pool.{PoolView, active_bound_of}
+use Rattle.my_opts_parts.specs.Pool.{PoolView, active_bound_of}
 use Rattle.my_pool_core.specs.declared.limits.Limits.{Limits}
 
 -- the limits that options give

@@ -19,7 +19,7 @@ pub enum Step {
     Ping(u64),
     /// Leaves the server.
     Quit(u64),
-    /// Tells what the server's last OK said.
+    /// Shows what the server's last OK said.
     Fields(u64),
     /// Goes on with this connection's open call.
     Poll(u64),

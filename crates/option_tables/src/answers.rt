@@ -73,20 +73,20 @@ fn is_loopback(alloc: Global, host: &str) -> Result<bool, Fail> {
 }
 
 #[test]
-fn ample_hosts_are_told(rt: HostRuntime) -> Result<(), Fail> {
+fn ample_hosts(rt: HostRuntime) -> Result<(), Fail> {
     for (host, expected) in HOSTS {
-        let told = is_loopback(rt.alloc(), host)?;
-        assert!(rt; told == *expected, "{host}");
+        let found = is_loopback(rt.alloc(), host)?;
+        assert!(rt; found == *expected, "{host}");
     }
     Ok(())
 }
 
 #[test]
-fn ample_capabilities_are_told(rt: HostRuntime) -> Result<(), Fail> {
+fn ample_capabilities(rt: HostRuntime) -> Result<(), Fail> {
     for (url, expected) in CAPABILITIES {
         assert!(rt; url.len() <= 1000);
-        let told = Opts::from_url(rt.alloc(), url)?.get_capabilities().0;
-        assert!(rt; told == *expected, "{url}: {told}");
+        let found = Opts::from_url(rt.alloc(), url)?.get_capabilities().0;
+        assert!(rt; found == *expected, "{url}: {found}");
     }
     Ok(())
 }
@@ -108,12 +108,12 @@ fn kept(ttl: u64) -> u64 {
 #[test]
 fn pools_keep_their_bounds(rt: HostRuntime) {
     for (min, max, expected) in BOUNDS {
-        let told = PoolConstraints::new(*min, *max).is_some();
-        assert!(rt; told == *expected, "{min} {max}");
+        let found = PoolConstraints::new(*min, *max).is_some();
+        assert!(rt; found == *expected, "{min} {max}");
     }
     for life in LIVES {
-        let told = end_of(life);
-        assert!(rt; told == life.4, "{life:?}: {told:?}");
+        let found = end_of(life);
+        assert!(rt; found == life.4, "{life:?}: {found:?}");
     }
     for (ttl, expected) in IDLE {
         assert!(rt; kept(*ttl) == *expected, "{ttl}");
@@ -129,10 +129,10 @@ const LEVELS: &[(IsolationLevel, &str, u8)] = &[
 ];
 
 #[test]
-fn ample_levels_are_told(rt: HostRuntime) -> Result<(), Fail> {
+fn ample_levels(rt: HostRuntime) -> Result<(), Fail> {
     for (level, words, number) in LEVELS {
-        let told = format!(in rt.alloc(); "{level}")?;
-        assert!(rt; told.as_str() == *words, "{told}");
+        let found = format!(in rt.alloc(); "{level}")?;
+        assert!(rt; found.as_str() == *words, "{found}");
         assert!(rt; level.number() == *number, "{words}");
     }
     Ok(())

@@ -244,18 +244,21 @@ fn target_line(alloc: Global, target: Target) -> Result<String, AllocError> {
     match target {
         Target::Socket(path) => Ok(path.into_string()),
         Target::Tcp { host, port, ips } => {
-            let known = ips.map_or(0, |ips| ips.as_vec().len());
+            let known = match ips {
+                Some(ips) => ips.as_vec().len(),
+                None => 0,
+            };
             format!(in alloc; "{} {port} ips={known}", host.as_str())
         }
     }
 }
 
-fn told(alloc: Global, case: Case) -> Result<String, Fail> {
+fn line_of_case(alloc: Global, case: Case) -> Result<String, Fail> {
     let builder = builder_of(alloc, case)?;
     Ok(line_of_owned(alloc, Opts::from(builder))?)
 }
 
-fn led(alloc: Global, case: Case) -> Result<String, Fail> {
+fn target_of_case(alloc: Global, case: Case) -> Result<String, Fail> {
     let opts = Opts::from(builder_of(alloc, case)?);
     let target = opts.target(alloc)?;
     Ok(target_line(alloc, target)?)
@@ -264,9 +267,9 @@ fn led(alloc: Global, case: Case) -> Result<String, Fail> {
 #[test]
 fn ample_builders_give_what_was_set(rt: HostRuntime) -> Result<(), Fail> {
     for (case, expected, target) in BUILT {
-        let line = told(rt.alloc(), *case)?;
+        let line = line_of_case(rt.alloc(), *case)?;
         assert!(rt; line.as_str() == *expected, "{case:?}: {line}");
-        let place = led(rt.alloc(), *case)?;
+        let place = target_of_case(rt.alloc(), *case)?;
         assert!(rt; place.as_str() == *target, "{case:?}: {place}");
     }
     Ok(())

@@ -87,7 +87,7 @@ fn change_of(alloc: Global, change: &Change) -> Result<ChangeUserOpts, AllocErro
     Ok(made)
 }
 
-fn told(alloc: Global, change: &Change) -> Result<(bool, String), Fail> {
+fn changed_line(alloc: Global, change: &Change) -> Result<(bool, String), Fail> {
     let made = change_of(alloc, change)?;
     let opts = Opts::from_url(alloc, "mysql://u@h/d")?;
     let would_change = made.would_change(&opts);
@@ -96,10 +96,10 @@ fn told(alloc: Global, change: &Change) -> Result<(bool, String), Fail> {
 }
 
 #[test]
-fn ample_changes_are_told(rt: HostRuntime) -> Result<(), Fail> {
+fn ample_changes(rt: HostRuntime) -> Result<(), Fail> {
     for (change, would_change, expected) in CHANGES {
-        let (told, line) = told(rt.alloc(), change)?;
-        assert!(rt; told == *would_change, "{change:?}");
+        let (changed, line) = changed_line(rt.alloc(), change)?;
+        assert!(rt; changed == *would_change, "{change:?}");
         assert!(rt; line.as_str() == *expected, "{change:?}: {line}");
     }
     Ok(())

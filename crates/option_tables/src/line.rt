@@ -1,13 +1,20 @@
 //! Options and refusals as lines: of options the host, the port and all that differs from the defaults, with
 //! blanks between.
 
-use my_opts::{DEFAULT_POOL_CONSTRAINTS, Millis, Opts, PoolConstraints, UrlError};
+use my_opts::{DEFAULT_POOL_CONSTRAINTS, Millis, Opts, PoolConstraints, UrlError, UrlFault};
 use std::alloc::{AllocError, Global};
 use std::collections::BTreeMap;
 use std::net::IpAddr;
 
 /// What a refusal says.
-pub fn refusal(alloc: Global, error: &UrlError) -> Result<String, AllocError> {
+pub fn refusal(alloc: Global, fault: &UrlFault) -> Result<String, AllocError> {
+    match fault {
+        UrlFault::Url(error) => cause(alloc, error),
+        UrlFault::NoMemory => String::from_str(alloc, "NoMemory"),
+    }
+}
+
+fn cause(alloc: Global, error: &UrlError) -> Result<String, AllocError> {
     match error {
         UrlError::FeatureRequired { feature, param } => {
             format!(in alloc; "FeatureRequired {} {}", feature.as_str(), param.as_str())

@@ -1,7 +1,6 @@
 //! What the refusal of a URL says to a user: one line that names the parameter and the cause.
 
-use my_frame::Text;
-use my_opts::{Opts, UrlError, UrlFault};
+use my_opts::{Opts, UrlFault};
 use std::alloc::Global;
 use std::process::Abort;
 use std::test::Fail;
@@ -46,11 +45,12 @@ const TEXTS: &[(&str, &str)] = &[
     ("42", "no URL"),
 ];
 
-fn refusal(rt: &impl Abort, alloc: Global, url: &str) -> Result<UrlError, Fail> {
+/// What the refusal of a URL says.
+fn text_of(rt: &impl Abort, alloc: Global, url: &str) -> Result<String, Fail> {
     assert!(rt; url.len() <= 1_048_576);
     match Opts::from_url(alloc, url) {
-        Err(UrlFault::Url(error)) => Ok(error),
-        _ => Err(Fail::from("no refusal")),
+        Ok(_) => Err(Fail::from("no refusal")),
+        Err(fault) => Ok(fault.to_string(alloc)?),
     }
 }
 
@@ -58,33 +58,10 @@ fn refusal(rt: &impl Abort, alloc: Global, url: &str) -> Result<UrlError, Fail> 
 fn texts(rt: HostRuntime) -> Result<(), Fail> {
     let alloc = rt.alloc();
     for (url, want) in TEXTS {
-        let error = refusal(&rt, alloc, url)?;
-        assert_eq!(rt; error.to_string(alloc)?.as_str(), *want, "{url}");
+        let text = text_of(&rt, alloc, url)?;
+        assert!(rt; text.as_str() == *want, "{url}: {text}");
     }
-    Ok(())
-}
-
-#[test]
-fn copies(rt: HostRuntime) -> Result<(), Fail> {
-    let alloc = rt.alloc();
-    for (url, _) in TEXTS {
-        let error = refusal(&rt, alloc, url)?;
-        assert_eq!(rt; error.copy(alloc)?, error);
-        let fault = UrlFault::Url(error);
-        assert_eq!(rt; fault.copy(alloc)?, fault);
-    }
-    Ok(())
-}
-
-#[test]
-fn causes_of_faults(rt: HostRuntime) -> Result<(), Fail> {
-    let alloc = rt.alloc();
-    assert_eq!(rt;
-        UrlFault::NoMemory.to_string(alloc)?.as_str(),
-        "out of memory"
-    );
-    let param = Text::from_str(alloc, "bar")?;
-    let fault = UrlFault::Url(UrlError::UnknownParameter { param });
-    assert_eq!(rt; fault.to_string(alloc)?.as_str(), "unknown parameter bar");
+    let text = UrlFault::NoMemory.to_string(alloc)?;
+    assert!(rt; text.as_str() == "out of memory");
     Ok(())
 }

@@ -2,7 +2,7 @@
 
 use crate::line::{line_of_owned, refusal};
 use my_frame::NoMemory;
-use my_opts::{Opts, UrlError, UrlFault};
+use my_opts::{Opts, UrlFault};
 use std::alloc::Global;
 use std::process::Abort;
 use std::test::Fail;
@@ -161,28 +161,25 @@ const BLANKS: &[(&str, &str)] = &[
     ("mysql://hö/ü", "h%C3%B6 3306 db=ü"),
 ];
 
-fn is_copied(alloc: Global, error: &UrlError) -> Result<bool, NoMemory> {
-    let copy = error.copy(alloc)?;
-    Ok(copy == *error)
-}
-
-fn told_refusal(rt: &impl Abort, alloc: Global, error: UrlError) -> Result<String, Fail> {
-    assert!(rt; is_copied(alloc, &error)?);
-    Ok(refusal(alloc, &error)?)
+fn is_copied(alloc: Global, fault: &UrlFault) -> Result<bool, NoMemory> {
+    let copy = fault.copy(alloc)?;
+    Ok(copy == *fault)
 }
 
 /// The line of a URL's options, or of its refusal.
-fn told(rt: &impl Abort, alloc: Global, url: &str) -> Result<String, Fail> {
+fn line_of_url(rt: &impl Abort, alloc: Global, url: &str) -> Result<String, Fail> {
     assert!(rt; url.len() <= 1000);
     match Opts::from_url(alloc, url) {
         Ok(opts) => Ok(line_of_owned(alloc, opts)?),
-        Err(UrlFault::NoMemory) => Err("no memory".into()),
-        Err(UrlFault::Url(error)) => told_refusal(rt, alloc, error),
+        Err(fault) => {
+            assert!(rt; is_copied(alloc, &fault)?);
+            Ok(refusal(alloc, &fault)?)
+        }
     }
 }
 
-fn tells(rt: &impl Abort, alloc: Global, url: &str, expected: &str) -> Result<(), Fail> {
-    let line = told(rt, alloc, url)?;
+fn gives(rt: &impl Abort, alloc: Global, url: &str, expected: &str) -> Result<(), Fail> {
+    let line = line_of_url(rt, alloc, url)?;
     assert!(rt; line.as_str() == expected, "{url}: {line}, not {expected}");
     Ok(())
 }
@@ -193,12 +190,12 @@ fn ample_urls_give_what_is_beside_them(rt: HostRuntime) -> Result<(), Fail> {
     let mut count = 0u64;
     for row in URLS.lines() {
         let (url, expected) = row.split_once(" -> ").ok_or("no arrow")?;
-        tells(&rt, alloc, url, expected)?;
+        gives(&rt, alloc, url, expected)?;
         count = count.wrapping_add(1);
     }
     assert_eq!(rt; count, 143);
     for (url, expected) in BLANKS {
-        tells(&rt, alloc, url, expected)?;
+        gives(&rt, alloc, url, expected)?;
     }
     Ok(())
 }

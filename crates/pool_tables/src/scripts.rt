@@ -1,7 +1,7 @@
 //! Worked lists of events.
 
 use crate::line::{limits, play};
-use my_opts::{PoolConstraints, PoolOpts};
+use my_opts_parts::{PoolConstraints, PoolOpts};
 use my_pool_core::{Core, Limits};
 use std::test::Fail;
 

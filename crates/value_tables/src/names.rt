@@ -66,7 +66,10 @@ fn mixed_parameters(rt: HostRuntime) {
 fn names(rt: HostRuntime) -> Result<(), Fail> {
     for (text, query, names) in TEXTS {
         let found = parsed(rt.alloc(), text)?;
-        assert!(rt; found.0.as_slice() == *query && found.1.as_slice() == *names, "{text:?}");
+        assert!(rt;
+            found.0.as_slice() == *query && found.1.as_slice() == *names,
+            "{text:?}"
+        );
     }
     Ok(())
 }

@@ -6,34 +6,138 @@ use my_value::{Value, is_binary_row, is_text_row, read_binary_row, read_text_row
 use std::alloc::Global;
 use std::test::Fail;
 
-/// A column's type and flags, its cell, and the cell's value, or `None` where it is malformed.
-type Case<'a> = (u8, u16, &'a [u8], Option<Value>);
-
-// The place of the first case that isn't read as it says.
-fn wrong_cell(alloc: Global, cases: &[Case<'_>]) -> Result<Option<usize>, NoMemory> {
-    for (place, (column_type, flags, cell, want)) in cases.iter().enumerate() {
-        if read_cell(alloc, *column_type, *flags, cell)? != *want {
-            return Ok(Some(place));
-        }
-    }
-    Ok(None)
+/// What a cell is read as.
+#[derive(Clone, Copy)]
+enum Want {
+    Malformed,
+    Null,
+    Int(i64),
+    UInt(u64),
+    FloatBits(u32),
+    DoubleBits(u64),
+    Date(u16, u8, u8, u8, u8, u8, u32),
+    Time(bool, u32, u8, u8, u8, u32),
+    Text(&'static [u8]),
 }
 
-// The place of the first case that isn't read as the bytes that it says.
-fn wrong_text(
-    alloc: Global,
-    cases: &[(u8, &[u8], Option<&[u8]>)],
-) -> Result<Option<usize>, NoMemory> {
-    for (place, (column_type, cell, want)) in cases.iter().enumerate() {
-        let want = match want {
-            Some(text) => Some(bytes(alloc, text)?),
-            None => None,
-        };
-        if read_cell(alloc, *column_type, 0, cell)? != want {
-            return Ok(Some(place));
+/// Types and flags of columns, a cell of each, and its value.
+const CELLS: &[(u8, u16, &[u8], Want)] = &[
+    // whole numbers of at most four bytes
+    (1, 0, b"\xff", Want::Int(-1)),
+    (1, 0x20, b"\xff", Want::Int(255)),
+    (1, 0, b"\x80", Want::Int(-128)),
+    (1, 0, b"\x7f", Want::Int(127)),
+    (1, 0, b"", Want::Malformed),
+    (1, 0, b"\x01\x02", Want::Malformed),
+    (2, 0, b"\x00\x80", Want::Int(-32768)),
+    (2, 0x20, b"\xff\xff", Want::Int(65535)),
+    (2, 0, b"\x01", Want::Malformed),
+    (13, 0x20, b"\xe5\x07", Want::Int(2021)),
+    (3, 0, b"\x00\x00\x00\x80", Want::Int(-2147483648)),
+    (3, 0x20, b"\xff\xff\xff\xff", Want::Int(4294967295)),
+    (9, 0, b"\xff\xff\xff\xff", Want::Int(-1)),
+    // numbers of eight bytes, and floats
+    (8, 0, b"\xff\xff\xff\xff\xff\xff\xff\xff", Want::Int(-1)),
+    (
+        8,
+        0x20,
+        b"\xff\xff\xff\xff\xff\xff\xff\xff",
+        Want::UInt(18446744073709551615),
+    ),
+    (8, 0, b"\0\0\0\0\0\0\0\x80", Want::Int(-9223372036854775808)),
+    (8, 0, b"\0\0\0\0\0\0\0", Want::Malformed),
+    (4, 0, b"\0\0\x80\x3f", Want::FloatBits(1065353216)),
+    (
+        5,
+        0,
+        b"\0\0\0\0\0\0\xf0\x3f",
+        Want::DoubleBits(4607182418800017408),
+    ),
+    // dates
+    (10, 0, b"\0", Want::Date(0, 0, 0, 0, 0, 0, 0)),
+    (
+        10,
+        0,
+        b"\x04\xe4\x07\x0c\x1f",
+        Want::Date(2020, 12, 31, 0, 0, 0, 0),
+    ),
+    (
+        12,
+        0,
+        b"\x07\xe4\x07\x0c\x1f\x17\x3b\x3a",
+        Want::Date(2020, 12, 31, 23, 59, 58, 0),
+    ),
+    (
+        7,
+        0,
+        b"\x0b\xe4\x07\x0c\x1f\x17\x3b\x3a\x40\x42\x0f\0",
+        Want::Date(2020, 12, 31, 23, 59, 58, 1000000),
+    ),
+    (10, 0, b"\x05\xe4\x07\x0c\x1f\0", Want::Malformed),
+    (10, 0, b"\x04\xe4\x07\x0c", Want::Malformed),
+    (10, 0, b"\x04\xe4\x07\x0c\x1f\0", Want::Malformed),
+    // times
+    (11, 0, b"\0", Want::Time(false, 0, 0, 0, 0, 0)),
+    (
+        11,
+        0,
+        b"\x08\x01\x22\0\0\0\x16\x3b\x3a",
+        Want::Time(true, 34, 22, 59, 58, 0),
+    ),
+    (
+        11,
+        0,
+        b"\x0c\0\x01\x01\0\0\x16\x3b\x3a\x01\0\0\x01",
+        Want::Time(false, 257, 22, 59, 58, 16777217),
+    ),
+    (11, 0, b"\x08\x02\x22\0\0\0\x16\x3b\x3a", Want::Malformed),
+    (11, 0, b"\x09\0\x22\0\0\0\x16\x3b\x3a\0", Want::Malformed),
+    // NULL, and types that no cell has
+    (6, 0, b"", Want::Null),
+    (14, 0, b"\x04\xe4\x07\x0c\x1f", Want::Malformed),
+    (17, 0, b"\0", Want::Malformed),
+    (241, 0, b"\x01\x31", Want::Malformed),
+    (243, 0, b"\x01\x31", Want::Malformed),
+    (244, 0, b"\x01\x31", Want::Malformed),
+    (6, 0, b"\0", Want::Malformed),
+    // texts
+    (0, 0, b"\x03\x31\x2e\x35", Want::Text(b"1.5")),
+    (15, 0, b"\x01\x31", Want::Text(b"1")),
+    (16, 0, b"\x01\x01", Want::Text(b"\x01")),
+    (242, 0, b"\x01\x31", Want::Text(b"1")),
+    (245, 0, b"\x02\x7b\x7d", Want::Text(b"{}")),
+    (246, 0, b"\x01\x31", Want::Text(b"1")),
+    (247, 0, b"\x01\x31", Want::Text(b"1")),
+    (248, 0, b"\x01\x31", Want::Text(b"1")),
+    (249, 0, b"\x01\x31", Want::Text(b"1")),
+    (250, 0, b"\x01\x31", Want::Text(b"1")),
+    (251, 0, b"\x01\x31", Want::Text(b"1")),
+    (252, 0, b"\x01\x31", Want::Text(b"1")),
+    (253, 0, b"\0", Want::Text(b"")),
+    (253, 0, b"\xfc\x01\0\x31", Want::Text(b"1")),
+    (253, 0, b"\x02\x31", Want::Malformed),
+    (253, 0, b"\xfb", Want::Malformed),
+    (254, 0, b"\x01\x31", Want::Text(b"1")),
+    (255, 0, b"\x01\x31", Want::Text(b"1")),
+];
+
+// The value that is wanted; nothing where the cell is malformed.
+fn wanted(alloc: Global, want: Want) -> Result<Option<Value>, NoMemory> {
+    Ok(Some(match want {
+        Want::Malformed => return Ok(None),
+        Want::Null => Value::NULL,
+        Want::Int(n) => Value::Int(n),
+        Want::UInt(n) => Value::UInt(n),
+        Want::FloatBits(bits) => Value::FloatBits(bits),
+        Want::DoubleBits(bits) => Value::DoubleBits(bits),
+        Want::Date(year, month, day, hour, minute, second, micros) => {
+            Value::Date(year, month, day, hour, minute, second, micros)
         }
-    }
-    Ok(None)
+        Want::Time(negative, days, hours, minutes, seconds, micros) => {
+            Value::Time(negative, days, hours, minutes, seconds, micros)
+        }
+        Want::Text(text) => bytes(alloc, text)?,
+    }))
 }
 
 // The cell of a row of one cell; nothing where it is malformed.
@@ -56,158 +160,13 @@ fn read_cell(
     }
 }
 
-// Whole numbers of at most four bytes.
 #[test]
-fn whole_number_cells(rt: HostRuntime) -> Result<(), Fail> {
-    let cases: [Case<'_>; 13] = [
-        (1, 0, b"\xff", Some(Value::Int(-1))),
-        (1, 0x20, b"\xff", Some(Value::Int(255))),
-        (1, 0, b"\x80", Some(Value::Int(-128))),
-        (1, 0, b"\x7f", Some(Value::Int(127))),
-        (1, 0, b"", None),
-        (1, 0, b"\x01\x02", None),
-        (2, 0, b"\x00\x80", Some(Value::Int(-32768))),
-        (2, 0x20, b"\xff\xff", Some(Value::Int(65535))),
-        (2, 0, b"\x01", None),
-        (13, 0x20, b"\xe5\x07", Some(Value::Int(2021))),
-        (3, 0, b"\x00\x00\x00\x80", Some(Value::Int(-2147483648))),
-        (3, 0x20, b"\xff\xff\xff\xff", Some(Value::Int(4294967295))),
-        (9, 0, b"\xff\xff\xff\xff", Some(Value::Int(-1))),
-    ];
-    assert_eq!(rt; wrong_cell(rt.alloc(), &cases)?, None);
-    Ok(())
-}
-
-// Numbers of eight bytes, and floats.
-#[test]
-fn long_cells(rt: HostRuntime) -> Result<(), Fail> {
-    let cases: [Case<'_>; 6] = [
-        (
-            8,
-            0,
-            b"\xff\xff\xff\xff\xff\xff\xff\xff",
-            Some(Value::Int(-1)),
-        ),
-        (
-            8,
-            0x20,
-            b"\xff\xff\xff\xff\xff\xff\xff\xff",
-            Some(Value::UInt(18446744073709551615)),
-        ),
-        (
-            8,
-            0,
-            b"\0\0\0\0\0\0\0\x80",
-            Some(Value::Int(-9223372036854775808)),
-        ),
-        (8, 0, b"\0\0\0\0\0\0\0", None),
-        (4, 0, b"\0\0\x80\x3f", Some(Value::FloatBits(1065353216))),
-        (
-            5,
-            0,
-            b"\0\0\0\0\0\0\xf0\x3f",
-            Some(Value::DoubleBits(4607182418800017408)),
-        ),
-    ];
-    assert_eq!(rt; wrong_cell(rt.alloc(), &cases)?, None);
-    Ok(())
-}
-
-// Dates.
-#[test]
-fn date_cells(rt: HostRuntime) -> Result<(), Fail> {
-    let cases: [Case<'_>; 7] = [
-        (10, 0, b"\0", Some(Value::Date(0, 0, 0, 0, 0, 0, 0))),
-        (
-            10,
-            0,
-            b"\x04\xe4\x07\x0c\x1f",
-            Some(Value::Date(2020, 12, 31, 0, 0, 0, 0)),
-        ),
-        (
-            12,
-            0,
-            b"\x07\xe4\x07\x0c\x1f\x17\x3b\x3a",
-            Some(Value::Date(2020, 12, 31, 23, 59, 58, 0)),
-        ),
-        (
-            7,
-            0,
-            b"\x0b\xe4\x07\x0c\x1f\x17\x3b\x3a\x40\x42\x0f\0",
-            Some(Value::Date(2020, 12, 31, 23, 59, 58, 1000000)),
-        ),
-        (10, 0, b"\x05\xe4\x07\x0c\x1f\0", None),
-        (10, 0, b"\x04\xe4\x07\x0c", None),
-        (10, 0, b"\x04\xe4\x07\x0c\x1f\0", None),
-    ];
-    assert_eq!(rt; wrong_cell(rt.alloc(), &cases)?, None);
-    Ok(())
-}
-
-// Times.
-#[test]
-fn time_cells(rt: HostRuntime) -> Result<(), Fail> {
-    let cases: [Case<'_>; 5] = [
-        (11, 0, b"\0", Some(Value::Time(false, 0, 0, 0, 0, 0))),
-        (
-            11,
-            0,
-            b"\x08\x01\x22\0\0\0\x16\x3b\x3a",
-            Some(Value::Time(true, 34, 22, 59, 58, 0)),
-        ),
-        (
-            11,
-            0,
-            b"\x0c\0\x01\x01\0\0\x16\x3b\x3a\x01\0\0\x01",
-            Some(Value::Time(false, 257, 22, 59, 58, 16777217)),
-        ),
-        (11, 0, b"\x08\x02\x22\0\0\0\x16\x3b\x3a", None),
-        (11, 0, b"\x09\0\x22\0\0\0\x16\x3b\x3a\0", None),
-    ];
-    assert_eq!(rt; wrong_cell(rt.alloc(), &cases)?, None);
-    Ok(())
-}
-
-// Texts of each type.
-#[test]
-fn text_cells(rt: HostRuntime) -> Result<(), Fail> {
-    let cases: [(u8, &[u8], Option<&[u8]>); 18] = [
-        (0, b"\x03\x31\x2e\x35", Some(b"1.5")),
-        (15, b"\x01\x31", Some(b"1")),
-        (16, b"\x01\x01", Some(b"\x01")),
-        (242, b"\x01\x31", Some(b"1")),
-        (245, b"\x02\x7b\x7d", Some(b"{}")),
-        (246, b"\x01\x31", Some(b"1")),
-        (247, b"\x01\x31", Some(b"1")),
-        (248, b"\x01\x31", Some(b"1")),
-        (249, b"\x01\x31", Some(b"1")),
-        (250, b"\x01\x31", Some(b"1")),
-        (251, b"\x01\x31", Some(b"1")),
-        (252, b"\x01\x31", Some(b"1")),
-        (253, b"\0", Some(b"")),
-        (253, b"\xfc\x01\0\x31", Some(b"1")),
-        (253, b"\x02\x31", None),
-        (253, b"\xfb", None),
-        (254, b"\x01\x31", Some(b"1")),
-        (255, b"\x01\x31", Some(b"1")),
-    ];
-    assert_eq!(rt; wrong_text(rt.alloc(), &cases)?, None);
-    Ok(())
-}
-
-// NULL, and types that no cell has.
-#[test]
-fn other_cells(rt: HostRuntime) -> Result<(), Fail> {
-    let cases: [Case<'_>; 7] = [
-        (6, 0, b"", Some(Value::NULL)),
-        (14, 0, b"\x04\xe4\x07\x0c\x1f", None),
-        (17, 0, b"\0", None),
-        (241, 0, b"\x01\x31", None),
-        (243, 0, b"\x01\x31", None),
-        (244, 0, b"\x01\x31", None),
-        (6, 0, b"\0", None),
-    ];
-    assert_eq!(rt; wrong_cell(rt.alloc(), &cases)?, None);
+fn cells(rt: HostRuntime) -> Result<(), Fail> {
+    let alloc = rt.alloc();
+    for (column_type, flags, cell, want) in CELLS {
+        let found = read_cell(alloc, *column_type, *flags, cell)?;
+        assert!(rt; found == wanted(alloc, *want)?, "{column_type} {cell:?}");
+    }
     Ok(())
 }
 

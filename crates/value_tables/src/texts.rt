@@ -49,7 +49,10 @@ fn refused_values(rt: HostRuntime) -> Result<(), Fail> {
         (Value::UInt(256), "256"),
         (Value::FloatBits(0x3f80_0000), "float 0x3f800000"),
         (Value::DoubleBits(1), "double 0x0000000000000001"),
-        (Value::Date(2020, 12, 31, 1, 2, 3, 4), "2020-12-31 01:02:03.000004"),
+        (
+            Value::Date(2020, 12, 31, 1, 2, 3, 4),
+            "2020-12-31 01:02:03.000004",
+        ),
         (Value::Time(true, 1, 2, 3, 4, 5), "-1 02:03:04.000005"),
         (Value::Time(false, 0, 0, 0, 0, 0), "0 00:00:00.000000"),
     ];

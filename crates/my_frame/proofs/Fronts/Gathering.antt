@@ -1,5 +1,5 @@
--- What gathering a payload knows after some full chunks: the payload in front, if there is one, is what was gathered and then the
--- payload in front of the rest.
+-- What gathering a payload knows after some full chunks: the payload in front, if there is one, is what was gathered
+-- and then the payload in front of the rest.
 use Rattle.std.proofs.Common.{◌≡◌, ℕ, ◌+◌, ◌<◌, ◌≤◌, List, [], ◌++◌, length, take, drop, inl, inr, sym, ap, ◌∙◌, arith, append_assoc}
 use Rattle.my_frame.specs.Chunks.{full_length, next_number}
 use Rattle.my_frame.specs.Front.{Whole, header_length, front_from, front_at}

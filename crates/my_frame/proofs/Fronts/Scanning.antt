@@ -1,5 +1,5 @@
--- What a scan knows after some full chunks: what stands in front of all bytes is these chunks' parts, and then what stands in front of
--- the rest.
+-- What a scan knows after some full chunks: what is in front of all bytes is these chunks' parts, and then what is in
+-- front of the rest.
 use Rattle.std.proofs.Common.{◌≡◌, ◌≢◌, ℕ, ◌+◌, ◌-◌, ◌<◌, ◌≤◌, List, [], ◌++◌, length, take, drop, refl, sym, ap, ◌∙◌, arith, append_assoc, length-drop, Ok, Err, Some, None}
 use Rattle.my_frame.specs.declared.fault.CodecFault.TheVariants.{OutOfOrder, TooLarge}
 use Rattle.my_frame.specs.Chunks.{full_length, next_number}

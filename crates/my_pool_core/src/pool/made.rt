@@ -7,7 +7,7 @@ ghost use Rattle.my_pool_core.specs.Made.{limits_of};
 use super::Core;
 use crate::limits::Limits;
 use my_frame::NoMemory;
-use my_opts::PoolOpts;
+use my_opts_parts::PoolOpts;
 use std::alloc::Global;
 
 impl Core {
