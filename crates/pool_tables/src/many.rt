@@ -5,7 +5,7 @@ use crate::seed::{Dice, some_event};
 use crate::seen::calls_agree;
 use crate::sound::{Next, connections_are_sound, end_is_sound, is_covered, requests_are_sound};
 use crate::tally::{NAMES, Tally, name_of};
-use my_opts::{Millis, PoolConstraints, PoolOpts};
+use my_opts_parts::{Millis, PoolConstraints, PoolOpts};
 use my_pool_core::{Answer, Core, Limits, PollAnswer, PoolEvent};
 use std::alloc::Global;
 use std::process::Abort;

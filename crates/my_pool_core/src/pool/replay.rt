@@ -8,7 +8,7 @@ ghost use Rattle.my_pool_core.specs.Steps.{may, step, answer, AllMay, after};
 use super::Core;
 use crate::event::{Answer, PoolEvent};
 use my_frame::NoMemory;
-use my_opts::PoolOpts;
+use my_opts_parts::PoolOpts;
 use my_pool_parts::connections::{is_cleaning, is_finishing, is_leased};
 use std::alloc::Global;
 
