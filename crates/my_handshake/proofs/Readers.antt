@@ -1,3 +1,3 @@
 -- What a reader finds is what the relation of its packet says, a file for each packet.
 pub mod GreetingLaws
-mod SwitchLaws
+pub mod SwitchLaws
