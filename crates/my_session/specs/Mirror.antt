@@ -22,6 +22,8 @@ use Rattle.my_reading.specs.Place.{Place, exchanges, facts_at, client_side, conn
 use Rattle.my_reading.specs.Told.{Told, ToldError, told, closes}
 use Rattle.my_session.specs.declared.answer.SessionStep.{SessionStep}
 use Rattle.my_session.specs.declared.answer.SessionStep.TheVariants as steps
+use Rattle.my_session.specs.declared.answer.Tick.{Tick}
+use Rattle.my_session.specs.declared.answer.Tick.TheVariants as ticks
 use Rattle.my_session.specs.declared.task.Task.{Task}
 use Rattle.my_session.specs.declared.task.Task.TheVariants as tasks
 use Rattle.my_session.specs.Machine.{Doing, Goes, Passes, Sends, Needs, Tells, Move, next}
@@ -126,6 +128,7 @@ pub record ReturnsAt (login : Login) (call : Call) (parts : List Part) (q : Plac
 pub record EndsAt (login : Login) (call : Call) (parts : List Part) (q : Place) (t : Told) (new : Seen) : Type 0 where
   pub stops : step login call parts q ≡ Stops q Awaits
   pub error_is : t ≡ ToldError (unexpected_eof (facts_at login q).place)
+  pub ended_is : new.ended ≡ true
   pub at : StandsAt new q
   pub closed_is : new.closed ≡ true
 
@@ -134,41 +137,60 @@ pub record IsOut (q : Place) (new : Seen) : Type 0 where
   pub at : StandsAt new q
   pub closed_is : new.closed ≡ true
 
-abbrev pub FailsAt : Bool → Login → Call → List Part → Place → Error → Seen → Type 0
-FailsAt ended login call parts q errors.NoMemory new = IsOut q new
-FailsAt ended login call parts q e new =
-    ReturnsAt login call parts q (ToldError e) new ⊎ ((ended ≡ true) × EndsAt login call parts q (ToldError e) new)
+abbrev pub FailsAt : Login → Call → List Part → Place → Error → Seen → Type 0
+FailsAt login call parts q errors.NoMemory new = IsOut q new
+FailsAt login call parts q e new =
+    ReturnsAt login call parts q (ToldError e) new ⊎ EndsAt login call parts q (ToldError e) new
 
 -- what a step of a session comes to, where the call's steps lead to these parts and this place
-abbrev pub StepsTo : Bool → Login → Call → List Part → Place → SessionStep → Seen → Type 0
-StepsTo ended login call parts q steps.Send new = (step login call parts q ≡ Stops q Owes) × OpenAt new call parts q
-StepsTo ended login call parts q steps.Need new = (step login call parts q ≡ Stops q Awaits) × OpenAt new call parts q
-StepsTo ended login call parts q (steps.Done a) new = ReturnsAt login call parts q (told a) new
-StepsTo ended login call parts q (steps.Fault e) new = FailsAt ended login call parts q e new
+abbrev pub StepsTo : Login → Call → List Part → Place → SessionStep → Seen → Type 0
+StepsTo login call parts q steps.Send new = (step login call parts q ≡ Stops q Owes) × OpenAt new call parts q
+StepsTo login call parts q steps.Need new = (step login call parts q ≡ Stops q Awaits) × OpenAt new call parts q
+StepsTo login call parts q (steps.Done a) new = ReturnsAt login call parts q (told a) new
+StepsTo login call parts q (steps.Fault e) new = FailsAt login call parts q e new
 
 -- what a move comes to: it goes on, asks for something, or ends the call
-abbrev pub MovesTo : Bool → Login → Call → List Part → Place → Doing → Seen → Type 0
-MovesTo ended login call parts q Goes new = OpenAt new call parts q
-MovesTo ended login call parts q (Passes t) new = OpenAt new call parts q
-MovesTo ended login call parts q Sends new = (step login call parts q ≡ Stops q Owes) × OpenAt new call parts q
-MovesTo ended login call parts q Needs new = (step login call parts q ≡ Stops q Awaits) × OpenAt new call parts q
-MovesTo ended login call parts q (Tells t) new = ReturnsAt login call parts q t new ⊎ ((ended ≡ true) × EndsAt login call parts q t new)
+abbrev pub MovesTo : Login → Call → List Part → Place → Doing → Seen → Type 0
+MovesTo login call parts q Goes new = OpenAt new call parts q
+MovesTo login call parts q (Passes t) new = OpenAt new call parts q
+MovesTo login call parts q Sends new = (step login call parts q ≡ Stops q Owes) × OpenAt new call parts q
+MovesTo login call parts q Needs new = (step login call parts q ≡ Stops q Awaits) × OpenAt new call parts q
+MovesTo login call parts q (Tells t) new = ReturnsAt login call parts q t new ⊎ EndsAt login call parts q t new
 
 -- A move of the machine is some steps of the reading, and its stop is theirs.
 pub record MoveReads (s : Seen) (call : Call) (parts : List Part) (p : Place) (m : Move) : Type 0 where
   pub rest : List Part
   pub place : Place
   pub leads : Leads s.login call parts p rest place
-  pub comes : MovesTo s.ended s.login call rest place m.does m.seen
+  pub comes : MovesTo s.login call rest place m.does m.seen
 
 -- A session's step is some steps of the reading, and its stop is theirs.
 pub record StepReads (old new : Seen) (call : Call) (parts : List Part) (p : Place) (result : SessionStep) : Type 0 where
   pub rest : List Part
   pub place : Place
   pub leads : Leads old.login call parts p rest place
-  pub comes : StepsTo old.ended old.login call rest place result new
+  pub comes : StepsTo old.login call rest place result new
+
+-- what the code's move comes to
+abbrev pub TicksTo : Login → Call → List Part → Place → Tick → Seen → Type 0
+TicksTo login call parts q ticks.Goes new = OpenAt new call parts q
+TicksTo login call parts q (ticks.PassedRow row) new = OpenAt new call parts q
+TicksTo login call parts q ticks.PassedEnd new = OpenAt new call parts q
+TicksTo login call parts q ticks.Sends new = (step login call parts q ≡ Stops q Owes) × OpenAt new call parts q
+TicksTo login call parts q ticks.Needs new = (step login call parts q ≡ Stops q Awaits) × OpenAt new call parts q
+TicksTo login call parts q (ticks.Done a) new = ReturnsAt login call parts q (told a) new
+TicksTo login call parts q (ticks.Fault e) new = FailsAt login call parts q e new
+
+pub record TickReads (old new : Seen) (call : Call) (parts : List Part) (p : Place) (result : Tick) : Type 0 where
+  pub rest : List Part
+  pub place : Place
+  pub leads : Leads old.login call parts p rest place
+  pub comes : TicksTo old.login call rest place result new
 
 -- so it is for each call and place at which the session may stand
+abbrev pub EachTickReads : Seen → Seen → Tick → Type 0
+EachTickReads old new result = (call : Call) (parts : List Part) (p : Place) → OpenAt old call parts p → TickReads old new call parts p result
+
 abbrev pub EachStepReads : Seen → Seen → SessionStep → Type 0
 EachStepReads old new result = (call : Call) (parts : List Part) (p : Place) → OpenAt old call parts p → StepReads old new call parts p result
 

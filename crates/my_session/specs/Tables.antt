@@ -7,6 +7,7 @@ use Rattle.my_grammar.specs.declared.spot.Kind.{Kind}
 use Rattle.my_grammar.specs.declared.spot.Kind.TheVariants as kinds
 use Rattle.my_reading.specs.declared.call.CallKind.{CallKind}
 use Rattle.my_reading.specs.declared.call.CallKind.TheVariants.{Connect, Query, NextRow, DropResult, Ping, Quit}
+pub use Rattle.my_reading.specs.Endings.{awaits_head}
 use Rattle.my_session.specs.declared.task.Task.{Task}
 use Rattle.my_session.specs.declared.task.Task.TheVariants.{Nothing, Begun, Cleaning, Own, Arranging, Reading, Dropping, Leaving, Failing}
 use Rattle.my_session.specs.declared.tables.Plan.{Plan}
@@ -135,12 +136,6 @@ abbrev pub is_connecting : Task → Bool
 is_connecting (Own Connect) = true
 is_connecting (Arranging n) = true
 is_connecting _ = false
-
--- where the head of a further set is awaited
-abbrev pub awaits_head : Spot → Bool
-awaits_head spots.Idle = false
-awaits_head spots.Rows = false
-awaits_head s = true
 
 -- a call that sends a command, once stepped, closes the session where it is cancelled, and so does a read that awaits a further head, or a call that was made to fail
 abbrev pub closes_when_cancelled : Task → Spot → Bool

@@ -132,8 +132,9 @@ module _ (s : Seen) (call : Call) (p : Place) (o : OpenAt s call (parts_left s.l
       rest = part ∷ parts;
       place = p;
       leads = Here (part ∷ parts) p;
-      comes = inr (e, record {
+      comes = inr (record {
         stops = at_front Waiting w;
+        ended_is = e;
         error_is = ap (λ n. ToldError (unexpected_eof n)) (sym (place_here s.context s.number s.unread s.owed s.closed s.facts s.login p m));
         at = fallen_at s p s m;
         closed_is = refl;

@@ -36,6 +36,7 @@ impl Session {
     ghost use Rattle.my_reading.specs.Told.{Told};
     ghost use Rattle.my_session.specs.History.{History, passing};
     ghost use Rattle.my_session.specs.Machine.{Does, failed_by, fell, next, planned, when_owed, with_task};
+    ghost use Rattle.my_session.specs.Mirror.{EachStepReads, EachTickReads};
     ghost use Rattle.my_session.specs.Passed.{ArePassed};
     ghost use Rattle.my_session.specs.Stands.{Stands};
     ghost use Rattle.my_session.specs.Steps.{StepIs, Steps, TickIs, after_step, after_tick};
@@ -143,6 +144,7 @@ impl Session {
         requires { is_open self.old.seen.task ≡ true }
         ensures does { Does (next self.old.seen) self.old.seen self.new.seen result }
         ensures leaves { TickIs self.old.seen self.new.seen result }
+        ensures reads { EachTickReads self.old.seen self.new.seen result }
         ensures stands { (h : History) → Stands self.old.seen h → Stands self.new.seen (after_tick h result) }
     {
         // Each element of the queue is a byte, by the session's invariant.
@@ -151,11 +153,13 @@ impl Session {
     }
 
     /// The next step of the open call. Only `DropResult` passes over rows and ends. Each error, and the answer that
-    /// nothing is left, has its cause in the history after what was passed over.
+    /// nothing is left, has its cause in the history after what was passed over. A step is steps of the one reading of the
+    /// connection, and its stop is theirs (`reads`).
     pub fn step(&mut self, alloc: Global) -> SessionStep
         requires { is_open self.old.seen.task ≡ true }
         ensures steps { Steps self.old.seen self.new.seen result }
         ensures leaves { StepIs self.new.seen result }
+        ensures reads { EachStepReads self.old.seen self.new.seen result }
         ensures login { self.new.seen.login ≡ self.old.seen.login }
         ensures stands { (h : History) → Stands self.old.seen h
             → (passed : List Told) × ArePassed (kind_in self.old.seen.task) passed

@@ -1,4 +1,4 @@
-use Rattle.std.proofs.Common.{◌≡◌, ◌∷◌, refl, sym, ◌∙◌}
+use Rattle.std.proofs.Common.{◌≡◌, [], ◌∷◌, refl, sym, ◌∙◌}
 use Rattle.my_session.specs.declared.answer.SessionStep.{SessionStep}
 use Rattle.my_session.specs.declared.answer.SessionStep.TheVariants as steps
 use Rattle.my_session.specs.declared.answer.Tick.TheVariants as ticks
@@ -9,7 +9,8 @@ use Rattle.my_session.specs.History.{History, passing}
 use Rattle.my_session.specs.Seen.{Seen}
 use Rattle.my_session.proofs.Faults.{answer_cause, fault_because}
 use Rattle.my_session.proofs.Steps.Passing.{did_stay, goes_sound, does_login}
-use Rattle.my_session.proofs.Steps.{IsAt, one_more}
+use Rattle.my_session.proofs.Mirror.Steps.{none_read, read_more, read_last}
+use Rattle.my_session.proofs.Steps.{IsAt, at_first, one_more}
 use Rattle.my_session.proofs.session.Session.step.Goals as goal
 
 pub moves-preserved-in-Goes : goal.moves-preserved-in-Goes
@@ -23,6 +24,8 @@ moves-preserved-in-Goes c =
       fault = on.1 ∙ sym (goes_sound c.moves.self.seen c.tick.new.self.seen ticks.Goes refl c.in-Goes.ensures.does) ∙ now.fault;
       login = does_login c.moves.self.seen c.tick.new.self.seen ticks.Goes c.in-Goes.ensures.does ∙ now.login;
       task = c.in-Goes.ensures.leaves.0;
+      reads = λ call parts p o. let r = now.reads call parts p o in let w = c.in-Goes.ensures.reads call r.rest r.place r.at in
+          read_more c.args.self.now.seen c.moves.self.seen c.tick.new.self.seen call parts p ticks.Goes now.login r w w.comes;
     }
 
 pub moves-preserved-in-PassedEnd : goal.moves-preserved-in-PassedEnd
@@ -36,6 +39,8 @@ moves-preserved-in-PassedEnd c =
       fault = on.1 ∙ sym (goes_sound c.moves.self.seen c.tick.new.self.seen ticks.PassedEnd refl c.in-PassedEnd.ensures.does) ∙ now.fault;
       login = does_login c.moves.self.seen c.tick.new.self.seen ticks.PassedEnd c.in-PassedEnd.ensures.does ∙ now.login;
       task = c.in-PassedEnd.ensures.leaves.0;
+      reads = λ call parts p o. let r = now.reads call parts p o in let w = c.in-PassedEnd.ensures.reads call r.rest r.place r.at in
+          read_more c.args.self.now.seen c.moves.self.seen c.tick.new.self.seen call parts p ticks.PassedEnd now.login r w w.comes;
     }
 
 pub moves-preserved : goal.moves-preserved
@@ -50,6 +55,8 @@ moves-preserved c =
       fault = on.1 ∙ sym (goes_sound c.moves.self.seen c.tick.new.self.seen (ticks.PassedRow row) refl c.in-PassedRow.ensures.does) ∙ now.fault;
       login = does_login c.moves.self.seen c.tick.new.self.seen (ticks.PassedRow row) c.in-PassedRow.ensures.does ∙ now.login;
       task = c.in-PassedRow.ensures.leaves.0;
+      reads = λ call parts p o. let r = now.reads call parts p o in let w = c.in-PassedRow.ensures.reads call r.rest r.place r.at in
+          read_more c.args.self.now.seen c.moves.self.seen c.tick.new.self.seen call parts p (ticks.PassedRow row) now.login r w w.comes;
     }
 
 -- where the session was when the step ended
@@ -103,3 +110,38 @@ returns-in-Done-clause-login c = does_login c.moves.self.seen c.tick.new.self.se
 
 pub returns-in-Fault-clause-login : goal.returns-in-Fault-clause-login
 returns-in-Fault-clause-login c = does_login c.moves.self.seen c.tick.new.self.seen (ticks.Fault c.in-Fault.error) c.in-Fault.ensures.does ∙ c.moves.invariant.login
+
+pub returns-in-Sends-clause-reads : goal.returns-in-Sends-clause-reads
+returns-in-Sends-clause-reads c = λ call parts p o.
+    let now = c.moves.invariant in
+    let r = now.reads call parts p o in
+    read_last c.args.self.now.seen c.moves.self.seen c.tick.new.self.seen call parts p ticks.Sends steps.Send now.login r (c.in-Sends.ensures.reads call r.rest r.place r.at) (λ w. w)
+
+pub returns-in-Needs-clause-reads : goal.returns-in-Needs-clause-reads
+returns-in-Needs-clause-reads c = λ call parts p o.
+    let now = c.moves.invariant in
+    let r = now.reads call parts p o in
+    read_last c.args.self.now.seen c.moves.self.seen c.tick.new.self.seen call parts p ticks.Needs steps.Need now.login r (c.in-Needs.ensures.reads call r.rest r.place r.at) (λ w. w)
+
+pub returns-in-Done-clause-reads : goal.returns-in-Done-clause-reads
+returns-in-Done-clause-reads c = λ call parts p o.
+    let now = c.moves.invariant in
+    let r = now.reads call parts p o in
+    read_last c.args.self.now.seen c.moves.self.seen c.tick.new.self.seen call parts p (ticks.Done c.in-Done.answer) (steps.Done c.in-Done.answer) now.login r (c.in-Done.ensures.reads call r.rest r.place r.at) (λ w. w)
+
+pub returns-in-Fault-clause-reads : goal.returns-in-Fault-clause-reads
+returns-in-Fault-clause-reads c = λ call parts p o.
+    let now = c.moves.invariant in
+    let r = now.reads call parts p o in
+    read_last c.args.self.now.seen c.moves.self.seen c.tick.new.self.seen call parts p (ticks.Fault c.in-Fault.error) (steps.Fault c.in-Fault.error) now.login r (c.in-Fault.ensures.reads call r.rest r.place r.at) (λ w. w)
+
+pub moves-init : goal.moves-init
+moves-init c = record {
+  at = at_first c.args.self.now.seen;
+  stands = λ h st. ([], tt, st);
+  kind = refl;
+  fault = refl;
+  login = refl;
+  task = c.requires;
+  reads = λ call parts p o. none_read c.args.self.now.seen call parts p o;
+}

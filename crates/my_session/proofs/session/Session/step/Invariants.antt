@@ -5,6 +5,11 @@ use Rattle.my_reading.specs.Told.{Told}
 use Rattle.my_session.specs.History.{History, passing}
 use Rattle.my_session.specs.Passed.{ArePassed}
 use Rattle.my_session.specs.Stands.{Stands}
+use Rattle.my_reading.specs.declared.call.Call.{Call}
+use Rattle.my_reading.specs.Course.{Part}
+use Rattle.my_reading.specs.Place.{Place}
+use Rattle.my_session.specs.Mirror.{OpenAt}
+use Rattle.my_session.proofs.Mirror.Steps.{ReadOn}
 use Rattle.my_session.proofs.Steps.{IsAt}
 use Rattle.my_session.proofs.session.Session.step.Given as goal
 
@@ -16,6 +21,7 @@ invariant-moves l = record {
   fault : fault_in l.self.seen.task ≡ fault_in l.fn.self.seen.task;
   login : l.self.seen.login ≡ l.fn.self.seen.login;
   task : is_open l.self.seen.task ≡ true;
+  reads : (call : Call) (parts : List Part) (p : Place) → OpenAt l.fn.self.seen call parts p → ReadOn l.fn.self.seen l.self.seen call parts p;
 }
 
 abbrev pub decreases-moves : goal.decreases-moves

@@ -1,0 +1,29 @@
+-- The right tapes, computed.
+use Rattle.std.proofs.Common.{◌≡◌, List, [], ◌∷◌, refl}
+use Rattle.my_frame.specs.Writing.{le_bytes, len_bytes, text_bytes, text0_bytes, short_bytes}
+use Rattle.my_frame.specs.Front.{front_within, front_from}
+use Rattle.my_frame.specs.Chunks.{parts_of, chunks, number_after_payload}
+use Rattle.my_reply.specs.Column.{names_at, form_at}
+use Rattle.my_reply.specs.OkPacket.{fields_at}
+use Rattle.my_handshake.specs.Greeting.{settings_at}
+use Rattle.my_handshake.specs.Version.{dotted_at}
+use Rattle.my_grammar.specs.Response.{response}
+use Rattle.my_grammar.specs.Scramble.{native_scramble}
+use Rattle.sha1.specs.Sha1.{first_words, schedule, rounds, compress, hash_after, digest_bytes, sha1}
+use Rattle.my_reading.specs.Course.{step, run}
+use Rattle.my_reading.specs.Endings.{IsOpen, IsCancelled}
+use Rattle.my_reading.specs.Reading.{read_calls, reading}
+use Rattle.wrong_tapes.specs.Right.{AreRight}
+
+pub are_right : AreRight
+unfolding le_bytes len_bytes text_bytes text0_bytes short_bytes front_within front_from parts_of chunks number_after_payload names_at form_at fields_at settings_at dotted_at response step run read_calls reading native_scramble first_words schedule rounds compress hash_after digest_bytes sha1
+are_right = record {
+  row_read = record { first = refl; calls = (record { ends = refl; sent = refl; quiet = refl }, (record { ends = refl; sent = refl; quiet = refl }, (record { ends = refl; sent = refl; quiet = refl }, (record { ends = refl; sent = refl; quiet = refl }, (record { ends = refl; sent = refl; quiet = refl }, (record { ends = refl; sent = refl; quiet = refl }, (record { ends = refl; sent = refl; quiet = refl }, tt))))))) };
+  lone_ok = record { first = refl; calls = (record { ends = refl; sent = refl; quiet = refl }, (record { ends = refl; sent = refl; quiet = refl }, (record { ends = refl; sent = refl; quiet = refl }, (record { ends = refl; sent = refl; quiet = refl }, tt)))) };
+  earlier_error = record { first = refl; calls = (record { ends = refl; sent = refl; quiet = refl }, (record { ends = refl; sent = refl; quiet = refl }, (record { ends = refl; sent = refl; quiet = refl }, tt))) };
+  read_open = record { first = refl; calls = (record { ends = refl; sent = refl; quiet = refl }, (record { ends = refl; sent = refl; quiet = refl }, (record { ends = IsCancelled refl; sent = refl; quiet = refl }, (record { ends = IsOpen refl; sent = refl; quiet = refl }, tt)))) };
+  drop_cancelled = record { first = refl; calls = (record { ends = refl; sent = refl; quiet = refl }, (record { ends = refl; sent = refl; quiet = refl }, (record { ends = IsCancelled refl; sent = refl; quiet = refl }, (record { ends = refl; sent = refl; quiet = refl }, tt)))) };
+  set_up = record { first = refl; calls = (record { ends = refl; sent = refl; quiet = refl }, tt) };
+  limit = refl;
+  password = record { first = refl; calls = (record { ends = refl; sent = refl; quiet = refl }, tt) };
+}

@@ -1,0 +1,97 @@
+-- The wrong tapes: each differs from its reading.
+use Rattle.std.proofs.Common.{◌≡◌, ℕ, List, [], ◌∷◌, Option, Some, None, Bool, true, false, refl, ap, arith}
+use Rattle.std.proofs.lemmas.Bool.{false≢true}
+use Rattle.my_value.specs.declared.value.Value.{Value}
+use Rattle.my_value.specs.declared.value.Value.TheVariants.{Bytes}
+use Rattle.my_grammar.specs.declared.login.Login.{Login}
+use Rattle.my_reading.specs.declared.error.Error.{Error}
+use Rattle.my_reading.specs.declared.error.Error.TheVariants as errors
+use Rattle.my_reading.specs.declared.error.IoError.{IoError}
+use Rattle.my_reading.specs.declared.error.IoError.TheVariants as ios
+use Rattle.my_reading.specs.declared.error.IoKind.{IoKind}
+use Rattle.my_reading.specs.declared.error.IoKind.TheVariants as kinds
+use Rattle.my_reading.specs.Endings.{IsCut, IsOpen, IsCancelled, IsLinkFailure, IsLinkEnd, cancelling, link_failure, link_end}
+use Rattle.my_reading.specs.Reading.{ReadCall}
+use Rattle.my_reading.specs.Told.{Told, ToldReady, ToldRow, ToldEnd, ToldNone, ToldError, Dropped}
+use Rattle.wrong_tapes.specs.Wrong.{AreWrong}
+use Rattle.my_frame.specs.Writing.{le_bytes, len_bytes, text_bytes, text0_bytes, short_bytes}
+use Rattle.my_frame.specs.Front.{front_within, front_from}
+use Rattle.my_frame.specs.Chunks.{parts_of, chunks, number_after_payload}
+use Rattle.my_reply.specs.Column.{names_at, form_at}
+use Rattle.my_reply.specs.OkPacket.{fields_at}
+use Rattle.my_handshake.specs.Greeting.{settings_at}
+use Rattle.my_handshake.specs.Version.{dotted_at}
+use Rattle.my_grammar.specs.Response.{response}
+use Rattle.my_reading.specs.Course.{step, run}
+use Rattle.my_reading.specs.Reading.{read_calls, reading}
+
+-- a number for each ending
+kind_mark : IoKind → ℕ
+kind_mark kinds.Link = 11
+kind_mark kinds.Dial = 12
+kind_mark kinds.UnexpectedEof = 13
+kind_mark kinds.InvalidData = 14
+
+io_mark : IoError → ℕ
+io_mark (ios.Io fault) = kind_mark fault.kind
+io_mark (ios.Codec fault) = 15
+
+error_mark : Error → ℕ
+error_mark (errors.Driver e) = 16
+error_mark (errors.Io e) = io_mark e
+error_mark (errors.Server e) = 17
+error_mark errors.NoMemory = 18
+
+byte : Value → ℕ
+byte (Bytes (b ∷ bytes)) = b
+byte v = 0
+
+cell : List Value → ℕ
+cell [] = 0
+cell (v ∷ vs) = byte v
+
+mark : Option Told → ℕ
+mark None = 1
+mark (Some ToldReady) = 2
+mark (Some ToldEnd) = 3
+mark (Some ToldNone) = 4
+mark (Some (Dropped true)) = 5
+mark (Some (Dropped false)) = 6
+mark (Some (ToldError e)) = error_mark e
+mark (Some (ToldRow row)) = cell row.cells
+
+differs : (x y : Option Told) → (mark x ≡ mark y → ⊥) → x ≡ y → ⊥
+differs x y apart e = apart (ap mark e)
+
+-- an ending that none of a call has which owes or awaits bytes
+not_cut : (login : Login) (c : ReadCall) → (mark c.span.ending ≡ 1 → ⊥) → (mark c.span.ending ≡ mark (cancelling c) → ⊥) → (mark c.span.ending ≡ 11 → ⊥) → (mark c.span.ending ≡ 13 → ⊥) → IsCut login c → ⊥
+unfolding mark error_mark io_mark kind_mark
+not_cut login c a b d e (IsOpen x) = a (ap mark x)
+not_cut login c a b d e (IsCancelled x) = b (ap mark x)
+not_cut login c a b d e (IsLinkFailure x) = d (ap mark x)
+not_cut login c a b d e (IsLinkEnd y x) = e (ap mark x)
+
+pub are_wrong : AreWrong
+unfolding le_bytes len_bytes text_bytes text0_bytes short_bytes front_within front_from parts_of chunks number_after_payload names_at form_at fields_at settings_at dotted_at response step run read_calls reading mark error_mark io_mark kind_mark cell byte
+are_wrong = record {
+  other_cells = λ w. differs _ _ (λ e. absurd (omega arith)) w.calls.1.1.0.ends;
+  invented_row = λ w. differs _ _ (λ e. absurd (omega arith)) w.calls.1.0.ends;
+  early_end = λ w. differs _ _ (λ e. absurd (omega arith)) w.calls.1.1.0.ends;
+  early_none = λ w. differs _ _ (λ e. absurd (omega arith)) w.calls.1.1.0.ends;
+  row_again = λ w. not_cut _ _ (λ e. absurd (omega arith)) (λ e. absurd (omega arith)) (λ e. absurd (omega arith)) (λ e. absurd (omega arith)) w.calls.1.1.1.0.ends;
+  pending_answer = λ w. differs _ _ (λ e. absurd (omega arith)) w.calls.1.1.0.ends;
+  querying_quit = λ w. false≢true w.calls.1.0.sent;
+  silent_quit = λ w. not_cut _ _ (λ e. absurd (omega arith)) (λ e. absurd (omega arith)) (λ e. absurd (omega arith)) (λ e. absurd (omega arith)) w.calls.1.0.ends;
+  second_quit = λ w. false≢true w.calls.1.1.0.quiet;
+  other_command = λ w. false≢true w.calls.1.0.sent;
+  command_after_error = λ w. false≢true w.calls.1.1.0.sent;
+  early_ready = λ w. not_cut _ _ (λ e. absurd (omega arith)) (λ e. absurd (omega arith)) (λ e. absurd (omega arith)) (λ e. absurd (omega arith)) w.calls.1.0.ends;
+  idle_drop = λ w. not_cut _ _ (λ e. absurd (omega arith)) (λ e. absurd (omega arith)) (λ e. absurd (omega arith)) (λ e. absurd (omega arith)) w.calls.1.1.0.ends;
+  late_link_fault = λ w. differs _ _ (λ e. absurd (omega arith)) w.calls.1.1.0.ends;
+  late_link_end = λ w. differs _ _ (λ e. absurd (omega arith)) w.calls.1.1.0.ends;
+  invented_fault = λ w. differs _ _ (λ e. absurd (omega arith)) w.calls.1.1.0.ends;
+  lost_error = λ w. differs _ _ (λ e. absurd (omega arith)) w.calls.1.1.0.ends;
+  open_cancel = λ w. not_cut _ _ (λ e. absurd (omega arith)) (λ e. absurd (omega arith)) (λ e. absurd (omega arith)) (λ e. absurd (omega arith)) w.calls.1.1.0.ends;
+  half_set_up = λ w. not_cut _ _ (λ e. absurd (omega arith)) (λ e. absurd (omega arith)) (λ e. absurd (omega arith)) (λ e. absurd (omega arith)) w.calls.0.ends;
+  unconnected = λ w. false≢true w.first;
+}

@@ -1,0 +1,104 @@
+-- The bytes of which the tapes are made, and a tape from its calls.
+use Rattle.std.specs.Prelude.{ℕ, ◌+◌, List, [], ◌∷◌, ◌++◌, codes, length, Option, Some, None}
+use Rattle.my_reply.specs.declared.column.Column.{Column}
+use Rattle.my_value.specs.declared.value.Value.TheVariants.{Bytes}
+use Rattle.my_value.specs.RowParts.{RowParts}
+use Rattle.my_grammar.specs.declared.login.Login.{Login}
+use Rattle.my_reading.specs.declared.call.Call.{Call}
+use Rattle.my_reading.specs.declared.call.Call.TheVariants.{Connect, Query}
+use Rattle.my_reading.specs.Tape.{Tape, TapeCall, Span}
+use Rattle.my_reading.specs.Told.{Told, ToldReady}
+
+-- a packet of a short payload
+abbrev pub packet : ℕ → List ℕ → List ℕ
+packet n payload = length payload ∷ 0 ∷ 0 ∷ n ∷ payload
+
+abbrev pub plugin : List ℕ
+plugin = codes "mysql_native_password" ++ 0 ∷ []
+
+-- version 8.0.36, connection 7
+abbrev pub greeting : List ℕ
+greeting = packet 0 (10 ∷ codes "8.0.36" ++ 0 ∷ 7 ∷ 0 ∷ 0 ∷ 0 ∷ codes "abcdefgh" ++ 0 ∷ 139 ∷ 162 ∷ 45 ∷ 2 ∷ 0 ∷ 31 ∷ 1 ∷ 21
+    ∷ 0 ∷ 0 ∷ 0 ∷ 0 ∷ 0 ∷ 0 ∷ 0 ∷ 0 ∷ 0 ∷ 0 ∷ codes "ijklmnopqrst" ++ 0 ∷ plugin)
+
+-- an OK with number n and this status
+abbrev pub fine : ℕ → ℕ → List ℕ
+fine n status = packet n (0 ∷ 0 ∷ 0 ∷ status ∷ 0 ∷ 0 ∷ 0 ∷ [])
+
+-- a set's end
+abbrev pub end : ℕ → List ℕ
+end n = packet n (254 ∷ 0 ∷ 0 ∷ 2 ∷ 0 ∷ 0 ∷ 0 ∷ [])
+
+-- ERR 1045 42000 "no"
+abbrev pub refusal : ℕ → List ℕ
+refusal n = packet n (255 ∷ 21 ∷ 4 ∷ 35 ∷ codes "42000no")
+
+-- a column named 1, and a row with the cell 1
+abbrev pub column : ℕ → List ℕ
+column n = packet n (3 ∷ codes "def" ++ 0 ∷ 0 ∷ 0 ∷ 1 ∷ 49 ∷ 0 ∷ 12 ∷ 63 ∷ 0 ∷ 1 ∷ 0 ∷ 0 ∷ 0 ∷ 8 ∷ 129 ∷ 0 ∷ 0 ∷ 0 ∷ 0 ∷ [])
+
+abbrev pub one : ℕ → List ℕ
+one n = packet n (1 ∷ 49 ∷ [])
+
+-- a head of one column
+abbrev pub head : List ℕ
+head = packet 1 (1 ∷ []) ++ column 2
+
+abbrev pub row : List ℕ → RowParts
+row text = record {
+  cells = Bytes text ∷ [];
+  columns = record { schema = []; table = []; org_table = []; name = codes "1"; org_name = []; charset = 63; length = 1; column_type = 8; flags = 129; decimals = 0 } ∷ [];
+}
+
+-- who logs in: with both settings, with neither, and with a password
+abbrev pub login_by : Option (List ℕ) → Option ℕ → Option ℕ → Login
+login_by password limit wait = record {
+  user = Some (codes "root"); password = password; database = None; max_packet = 4194304; attributes = [];
+  capabilities = record { 0 = 0x010fa281 }; packet_limit = limit; wait_timeout = wait; init = []; setup = [];
+}
+
+abbrev pub root : Login
+root = login_by None (Some 4194304) (Some 28800)
+
+-- the response to the greeting, with these bytes of the password
+abbrev pub response : List ℕ → List ℕ
+response scramble = packet 1 (129 ∷ 162 ∷ 15 ∷ 1 ∷ 0 ∷ 0 ∷ 64 ∷ 0 ∷ 45 ∷ 0 ∷ 0 ∷ 0 ∷ 0 ∷ 0 ∷ 0 ∷ 0 ∷ 0 ∷ 0 ∷ 0 ∷ 0 ∷ 0 ∷ 0 ∷ 0 ∷ 0 ∷ 0 ∷ 0 ∷ 0 ∷ 0 ∷ 0
+    ∷ 0 ∷ 0 ∷ 0 ∷ codes "root" ++ 0 ∷ length scramble ∷ scramble ++ plugin)
+
+-- the packet of a query
+abbrev pub asks : List ℕ → List ℕ
+asks text = packet 0 (3 ∷ text)
+
+-- a call with what was sent and received while it was open, and how it ended
+abbrev pub call_with : Call → List ℕ → List ℕ → Option Told → Span
+call_with call sent taken ending = record { call = call; sent = sent; taken = taken; ending = ending }
+
+abbrev pub returned : Call → List ℕ → List ℕ → Told → Span
+returned call sent taken t = call_with call sent taken (Some t)
+
+abbrev pub connected : Span
+connected = returned Connect (response []) (greeting ++ fine 2 2) ToldReady
+
+abbrev pub asked : List ℕ → List ℕ → Span
+asked text taken = returned (Query text) (asks text) taken ToldReady
+
+-- the query whose first set is begun
+abbrev pub selected : Span
+selected = asked (codes "SELECT 1") head
+
+abbrev pub all_sent : List Span → List ℕ
+all_sent [] = []
+all_sent (s ∷ ss) = s.sent ++ all_sent ss
+
+abbrev pub all_taken : List Span → List ℕ
+all_taken [] = []
+all_taken (s ∷ ss) = s.taken ++ all_taken ss
+
+abbrev pub calls_from : ℕ → ℕ → List Span → List TapeCall
+calls_from n m [] = []
+calls_from n m (s ∷ ss) = record { call = s.call; sent_from = n; taken_from = m; ending = s.ending }
+    ∷ calls_from (n + length s.sent) (m + length s.taken) ss
+
+-- the tape of these calls
+abbrev pub tape_of : List Span → Tape
+tape_of ss = record { sent = all_sent ss; taken = all_taken ss; calls = calls_from 0 0 ss }

@@ -1,0 +1,45 @@
+-- Tapes that a client may have.
+use Rattle.std.specs.Prelude.{◌≡◌, ℕ, List, [], ◌∷◌, ◌++◌, codes, Option, Some, None, true, false}
+use Rattle.std.specs.Str.Lossy.{utf8_lossy}
+use Rattle.my_grammar.specs.declared.login.Login.{Login}
+use Rattle.my_reading.specs.declared.call.Call.TheVariants.{Connect, Query, NextRow, DropResult, Ping, Quit}
+use Rattle.my_reading.specs.declared.error.Error.TheVariants.{Server}
+use Rattle.my_reading.specs.declared.error.ServerError.{ServerError}
+use Rattle.my_reading.specs.Endings.{IsTape}
+use Rattle.my_reading.specs.Errors.{connection_closed}
+use Rattle.my_reading.specs.Place.{facts_at}
+use Rattle.my_reading.specs.Reading.{reading}
+use Rattle.my_reading.specs.Told.{Told, ToldReady, ToldRow, ToldEnd, ToldNone, ToldError, Dropped}
+use Rattle.wrong_tapes.specs.Bytes.{root, login_by, connected, selected, asked, asks, returned, call_with, row, one, end, fine, refusal, head, column, packet, response, greeting, tape_of}
+
+-- what the server's ERR says
+abbrev pub error : ServerError
+error = record { code = 1045; state = utf8_lossy (codes "42000"); message = utf8_lossy (codes "no") }
+
+-- the answer to the settings' query: 67,108,864 bytes and 600 seconds
+abbrev pub settings : List ℕ
+settings = packet 1 (2 ∷ []) ++ column 2 ++ column 3 ++ packet 4 (8 ∷ codes "67108864" ++ 3 ∷ codes "600") ++ end 5
+
+abbrev pub curious : Login
+curious = login_by None None None
+
+abbrev pub scramble : List ℕ
+scramble = 18 ∷ 144 ∷ 157 ∷ 114 ∷ 216 ∷ 117 ∷ 82 ∷ 63 ∷ 140 ∷ 157 ∷ 109 ∷ 164 ∷ 76 ∷ 189 ∷ 58 ∷ 108 ∷ 28 ∷ 231 ∷ 148 ∷ 219 ∷ []
+
+pub record AreRight : Type 0 where
+  -- a query with one row, its end, and nothing after it; then a ping and a quit
+  pub row_read : IsTape root (tape_of (connected ∷ selected ∷ returned NextRow [] (one 3) (ToldRow (row (codes "1"))) ∷ returned NextRow [] (end 4) ToldEnd
+      ∷ returned NextRow [] [] ToldNone ∷ returned Ping (packet 0 (14 ∷ [])) (fine 1 2) ToldReady ∷ returned Quit (packet 0 (1 ∷ [])) [] ToldReady ∷ []))
+  -- a lone OK has an end
+  pub lone_ok : IsTape root (tape_of (connected ∷ asked (codes "DO 1") (fine 1 2) ∷ returned NextRow [] [] ToldEnd ∷ returned NextRow [] [] ToldNone ∷ []))
+  -- a query returns an earlier error, and sends nothing
+  pub earlier_error : IsTape root (tape_of (connected ∷ selected ∷ returned (Query (codes "SELECT 2")) [] (refusal 3) (ToldError (Server error)) ∷ []))
+  -- a read that is open, and one that was cancelled among rows, after which the next reads on
+  pub read_open : IsTape root (tape_of (connected ∷ selected ∷ call_with NextRow [] [] (Some (Dropped false)) ∷ call_with NextRow [] (6 ∷ []) None ∷ []))
+  -- a drop that is cancelled where a further head is awaited closes
+  pub drop_cancelled : IsTape root (tape_of (connected ∷ asked (codes "DO 1") (fine 1 10) ∷ returned DropResult [] [] (Dropped true) ∷ returned NextRow [] [] (ToldError connection_closed) ∷ []))
+  -- the settings that the server was asked for, which hold then
+  pub set_up : IsTape curious (tape_of (returned Connect (response [] ++ asks (codes "SELECT @@max_allowed_packet,@@wait_timeout")) (greeting ++ fine 2 2 ++ settings) ToldReady ∷ []))
+  pub limit : (facts_at curious (reading curious (tape_of (returned Connect (response [] ++ asks (codes "SELECT @@max_allowed_packet,@@wait_timeout")) (greeting ++ fine 2 2 ++ settings) ToldReady ∷ []))).place).settings.limit ≡ 67108864
+  -- a login with a password
+  pub password : IsTape (login_by (Some (codes "pw")) (Some 4194304) (Some 28800)) (tape_of (returned Connect (response scramble) (greeting ++ fine 2 2) ToldReady ∷ []))

@@ -1,0 +1,54 @@
+-- Tapes that no client has.
+use Rattle.std.specs.Prelude.{ℕ, List, [], ◌∷◌, ◌++◌, codes, Option, Some, None, true, false}
+use Rattle.my_reading.specs.declared.call.Call.TheVariants.{Connect, Query, NextRow, DropResult, Ping, Quit}
+use Rattle.my_reading.specs.declared.error.Error.TheVariants.{Server}
+use Rattle.my_reading.specs.declared.error.IoKind.TheVariants.{Link}
+use Rattle.my_reading.specs.Endings.{IsTape}
+use Rattle.my_reading.specs.Errors.{io_error, unexpected_eof, invalid_data}
+use Rattle.my_reading.specs.Told.{Told, ToldReady, ToldRow, ToldEnd, ToldNone, ToldError, Dropped}
+use Rattle.my_reading.specs.Tape.{Span}
+use Rattle.wrong_tapes.specs.Bytes.{root, connected, selected, asked, asks, returned, call_with, row, one, end, fine, refusal, head, packet, response, greeting, tape_of}
+use Rattle.wrong_tapes.specs.Right.{curious, error}
+
+-- the calls are on no tape of a client that logs in as root
+abbrev pub NoTape : List Span → Type 0
+NoTape ss = IsTape root (tape_of ss) → ⊥
+
+pub record AreWrong : Type 0 where
+  -- a row of other cells than the payload's
+  pub other_cells : NoTape (connected ∷ selected ∷ returned NextRow [] (one 3) (ToldRow (row (codes "2"))) ∷ [])
+  -- a row, though no query was sent
+  pub invented_row : NoTape (connected ∷ returned NextRow [] [] (ToldRow (row (codes "1"))) ∷ [])
+  -- an end before the row that is there
+  pub early_end : NoTape (connected ∷ selected ∷ returned NextRow [] (one 3 ++ end 4) ToldEnd ∷ [])
+  -- nothing left, where the end of a lone OK is
+  pub early_none : NoTape (connected ∷ asked (codes "DO 1") (fine 1 2) ∷ returned NextRow [] [] ToldNone ∷ [])
+  -- a row that a cancelled drop passed over is returned again
+  pub row_again : NoTape (connected ∷ selected ∷ returned DropResult [] (one 3) (Dropped false) ∷ returned NextRow [] [] (ToldRow (row (codes "1"))) ∷ [])
+  -- a call that stays open though its row is there
+  pub pending_answer : NoTape (connected ∷ selected ∷ call_with NextRow [] (one 3) None ∷ [])
+  -- a quit that sent a query, one that sent nothing, and one that sent on a closed connection
+  pub querying_quit : NoTape (connected ∷ returned Quit (asks (codes "SELECT 1")) [] ToldReady ∷ [])
+  pub silent_quit : NoTape (connected ∷ returned Quit [] [] ToldReady ∷ [])
+  pub second_quit : NoTape (connected ∷ returned Quit (packet 0 (1 ∷ [])) [] ToldReady ∷ returned Quit (packet 0 (1 ∷ [])) [] ToldReady ∷ [])
+  -- a command other than the call's
+  pub other_command : NoTape (connected ∷ returned (Query (codes "SELECT 1")) (asks (codes "SELECT 2")) head ToldReady ∷ [])
+  -- a command after an earlier error
+  pub command_after_error : NoTape (connected ∷ selected ∷ returned (Query (codes "SELECT 2")) (asks (codes "SELECT 2")) (refusal 3) (ToldError (Server error)) ∷ [])
+  -- an answer before its response
+  pub early_ready : NoTape (connected ∷ returned (Query (codes "SELECT 1")) (asks (codes "SELECT 1")) [] ToldReady ∷ [])
+  -- a drop that read nothing
+  pub idle_drop : NoTape (connected ∷ selected ∷ returned DropResult [] (one 3) ToldReady ∷ [])
+  -- a fault or an end of the link where the row is there
+  pub late_link_fault : NoTape (connected ∷ selected ∷ returned NextRow [] (one 3) (ToldError (io_error Link 4)) ∷ [])
+  pub late_link_end : NoTape (connected ∷ selected ∷ returned NextRow [] (one 3) (ToldError (unexpected_eof 4)) ∷ [])
+  -- a payload that fits is told as one that doesn't
+  pub invented_fault : NoTape (connected ∷ selected ∷ returned NextRow [] (one 3) (ToldError (invalid_data 4)) ∷ [])
+  -- a server's error is passed over
+  pub lost_error : NoTape (connected ∷ selected ∷ returned NextRow [] (refusal 3) ToldNone ∷ [])
+  -- a cancelled drop that awaits a further head and doesn't close
+  pub open_cancel : NoTape (connected ∷ asked (codes "DO 1") (fine 1 10) ∷ returned DropResult [] [] (Dropped false) ∷ [])
+  -- a connection that is made before the settings' response
+  pub half_set_up : IsTape curious (tape_of (returned Connect (response [] ++ asks (codes "SELECT @@max_allowed_packet,@@wait_timeout")) (greeting ++ fine 2 2) ToldReady ∷ [])) → ⊥
+  -- a ping before connecting
+  pub unconnected : NoTape (returned Ping (packet 0 (14 ∷ [])) (fine 1 2) ToldReady ∷ [])
