@@ -42,9 +42,6 @@ is_working_place _ = false
 abbrev pub is_home : ℕ → State → Bool
 is_home number s = found_is is_home_place (place_at number s)
 
-abbrev pub is_held : ℕ → State → Bool
-is_held number s = found_is is_held_place (place_at number s)
-
 abbrev pub is_working : ℕ → State → Bool
 is_working number s = found_is is_working_place (place_at number s)
 

@@ -64,8 +64,8 @@ pub fn tokens_move()
         → token age (step s event) ≡ token_after s event age }
 {}
 
-/// Which events may happen by what a request holds: one without a connection may be polled, the connection of one that
-/// has one is good or isn't, and each may be given up.
+/// Which events may happen by what a request holds: one without a connection may be polled, the connection of
+/// one that has one is good or isn't, and each may be given up.
 pub fn tokens_allow()
     ensures poll { (s : State) (age now : ℕ) → token age s ≡ Some Free → may s (events.PollRequest age now) ≡ true }
     ensures ready { (s : State) (age number : ℕ) (held : Token) → token age s ≡ Some held
@@ -76,8 +76,8 @@ pub fn tokens_allow()
         → may s (events.Cancel age) ≡ true }
 {}
 
-/// Which requests an event wakes, and which wait after it. A woken one stays so until it is polled or given up, and one
-/// that waits until it is woken, polled or given up.
+/// Which requests an event wakes, and which wait after it. A woken one stays so until it is polled or given
+/// up, and one that waits until it is woken, polled or given up.
 pub fn woken_are()
     ensures woken { (s : State) (event : PoolEvent) (age : ℕ) → IsSound s → may s event ≡ true
         → is_awake age (step s event) ≡ (wakes s event age || (is_awake age s && not (is_turn_of age event))) }
@@ -143,8 +143,8 @@ pub fn polled_stay()
         → place_at number (step s event) ≡ place_at number s }
 {}
 
-/// A connection becomes idle only by a verdict that keeps it, with the times of that verdict; and the idle connection that
-/// a polled request takes is the latest one that is usable.
+/// A connection becomes idle only by a verdict that keeps it, with the times of that verdict; and the idle
+/// connection that a polled request takes is the latest one that is usable.
 pub fn idle_by_keep()
     ensures idle { (s : State) (event : PoolEvent) (number : ℕ) (times : Times) → IsSound s → may s event ≡ true
         → place_at number (step s event) ≡ Some (Idle times)
@@ -153,8 +153,8 @@ pub fn idle_by_keep()
         → latest_usable now s.connections ≡ Some number }
 {}
 
-/// A loop that takes returned connections and decides on them comes to an end: each one that is taken is one fewer to be
-/// cleaned, and a verdict adds none.
+/// A loop that takes returned connections and decides on them comes to an end: each one that is taken is one
+/// fewer to be cleaned, and a verdict adds none.
 pub fn turn_ends()
     ensures taken { (s : State) (number : ℕ) → IsSound s → (take_returned s).answer ≡ Some number
         → due (step s events.TakeReturned) + 1 ≡ due s }
@@ -165,8 +165,8 @@ pub fn turn_ends()
         → may s (events.Done number ok facts now) ≡ true → due (step s (events.Done number ok facts now)) ≤ due s }
 {}
 
-/// A request that polls again where its idle connection isn't good comes to an end: each one that it takes is one fewer
-/// that is idle, and one that isn't good adds none.
+/// A request that polls again where its idle connection isn't good comes to an end: each one that it takes is
+/// one fewer that is idle, and one that isn't good adds none.
 pub fn poll_ends()
     ensures taken { (s : State) (age now number : ℕ) → IsSound s → (poll_request age now s).answer ≡ Take number
         → idle (step s (events.PollRequest age now)) + 1 ≤ idle s }
@@ -181,8 +181,8 @@ pub fn room_stays()
     ensures grows { (s : State) → room s ≤ room (step s events.Request) }
 {}
 
-/// The age of each new request is above all earlier ones; at the end of ages or numbers it is the last age, and the pool
-/// is closed.
+/// The age of each new request is above all earlier ones; at the end of ages or numbers it is the last age,
+/// and the pool is closed.
 pub fn ages_rise()
     ensures new { (s : State) → is_at_end s ≡ false → request_age s ≡ s.next_age }
     ensures fresh { (s : State) → IsSound s → is_at_end s ≡ false → token (request_age s) s ≡ None }

@@ -114,14 +114,30 @@ fn counts_each_comparison(rt: HostRuntime) -> Result<(), Fail> {
     let mut heap = WaitHeap::new(rt.alloc());
     heap.reserve(7)?;
     let mut total = 0u64;
-    for (slot, levels) in [(0usize, 0u64), (1, 1), (2, 1), (3, 2), (4, 2), (5, 2), (6, 2)] {
+    for (slot, levels) in [
+        (0usize, 0u64),
+        (1, 1),
+        (2, 1),
+        (3, 2),
+        (4, 2),
+        (5, 2),
+        (6, 2),
+    ] {
         let mut steps = Counted::new();
         push(&rt, &mut heap, slot, 100 - slot as u64, &mut steps);
         assert_eq!(rt; steps.count(), levels, "{slot}");
         total = total.saturating_add(steps.count());
     }
     assert_eq!(rt; total, 10);
-    for (left, least, most) in [(7usize, 2u64, 4u64), (6, 2, 4), (5, 2, 4), (4, 1, 2), (3, 1, 2), (2, 0, 1), (1, 0, 0)] {
+    for (left, least, most) in [
+        (7usize, 2u64, 4u64),
+        (6, 2, 4),
+        (5, 2, 4),
+        (4, 1, 2),
+        (3, 1, 2),
+        (2, 0, 1),
+        (1, 0, 0),
+    ] {
         let mut steps = Counted::new();
         assert_eq!(rt; heap.len(), left);
         assert!(rt; heap.pop_least(&mut steps).is_some());
