@@ -47,6 +47,7 @@ fn parsed(alloc: Global, text: &[u8]) -> Result<(Vec<u8>, Vec<u8>), NoMemory> {
     let mut query = Vec::new(alloc);
     let mut names = Vec::new(alloc);
     if let Ok(named) = ParsedNamedParams::parse(alloc, text) {
+        let named = named.copy(alloc)?;
         query.extend_from_slice(named.query())?;
         for name in named.params() {
             names.extend_from_slice(name.as_slice())?;

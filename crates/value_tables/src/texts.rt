@@ -20,7 +20,7 @@ fn missing_names(rt: HostRuntime) -> Result<(), Fail> {
         (b"", "no value for the parameter "),
     ] {
         let error = ParamsError::Missing(Blob::from_slice(alloc, name)?);
-        assert_eq!(rt; error.to_string(alloc)?.as_str(), want);
+        assert_eq!(rt; error.copy(alloc)?.to_string(alloc)?.as_str(), want);
     }
     Ok(())
 }
@@ -57,7 +57,8 @@ fn refused_values(rt: HostRuntime) -> Result<(), Fail> {
         (Value::Time(false, 0, 0, 0, 0, 0), "0 00:00:00.000000"),
     ];
     for (value, want) in &cases {
-        let text = FromValueError::Value(value.copy(alloc)?).to_string(alloc)?;
+        let error = FromValueError::Value(value.copy(alloc)?);
+        let text = error.copy(alloc)?.to_string(alloc)?;
         let want = format!(in alloc; "the value doesn't convert: {want}")?;
         assert_eq!(rt; text, want);
     }
@@ -72,7 +73,8 @@ fn refused_rows(rt: HostRuntime) -> Result<(), Fail> {
     cells.push(Value::Int(1))?;
     cells.push(Value::NULL)?;
     cells.push(bytes(alloc, b"abc")?)?;
-    let text = FromRowError::Row(Row::new(cells, columns)).to_string(alloc)?;
+    let error = FromRowError::Row(Row::new(cells, columns));
+    let text = error.copy(alloc)?.to_string(alloc)?;
     assert_eq!(rt; text.as_str(), "the row doesn't convert: (1, NULL, abc)");
     Ok(())
 }
