@@ -101,6 +101,7 @@ fn ample_pieces_are_read_as_they_came(rt: HostRuntime) -> Result<(), Fail> {
     assert!(rt; source.read(&mut buf) == SourceStep::End);
     assert!(rt; buf == *b"....");
     assert_eq!(rt; source.faults(), 0);
+    assert_eq!(rt; source.ends(), 1);
     Ok(())
 }
 
@@ -111,6 +112,7 @@ fn ample_a_failed_read_is_counted(rt: HostRuntime) -> Result<(), Fail> {
     let mut buf = *b"..";
     assert!(rt; source.read(&mut buf) == SourceStep::Failed);
     assert_eq!(rt; source.faults(), 1);
+    assert_eq!(rt; source.ends(), 0);
     assert!(rt; source.read(&mut buf) == SourceStep::Got(1));
     assert!(rt; buf.starts_with(b"a"));
     assert_eq!(rt; source.faults(), 1);

@@ -1,6 +1,7 @@
 -- Which page the words of a command line ask for.
 use Rattle.std.specs.Prelude.{ℕ, List, [], ◌∷◌, codes, Option, Some, None, if◌then◌else◌}
 use Rattle.std.specs.Str.{bytes_eq}
+use Rattle.my_frame.specs.Sinks.{SinkSeen}
 use Rattle.my_run.specs.Output.{WroteAll, WrotePart}
 use Rattle.my_run.specs.declared.tool.Status.{Status}
 use Rattle.my_run.specs.declared.tool.Status.TheVariants.{Done, SinkFailed}
@@ -20,7 +21,7 @@ page_text Help = HELP.now
 page_text Version = VERSION.now
 
 -- all of a page went out, or a beginning of it before the sink failed
-abbrev pub PageEnds : List ℕ → Option (List ℕ) → Option (List ℕ) → ℕ → ℕ → Status → Type 0
-PageEnds text before now c d Done = WroteAll before text now c d
-PageEnds text before now c d SinkFailed = WrotePart before text now c d
-PageEnds text before now c d _ = ⊥
+abbrev pub PageEnds : List ℕ → SinkSeen → SinkSeen → Status → Type 0
+PageEnds text before now Done = WroteAll before text now
+PageEnds text before now SinkFailed = WrotePart before text now
+PageEnds text before now _ = ⊥

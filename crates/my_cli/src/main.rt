@@ -36,7 +36,7 @@ fn command_words<R: Env + AllocGlobal>(rt: &R) -> io::Result<Vec<String>> {
 
 // Writes a page, and returns how that ended.
 fn print_page<W: Sink>(out: &mut W, page: Page) -> Status
-    ensures { PageEnds (page_text page) (W.took out.old) (W.took out.new) (W.faults out.old) (W.faults out.new) result }
+    ensures { PageEnds (page_text page) (W.seen out.old) (W.seen out.new) result }
 {
     if write_all(out, page.text().as_bytes()) {
         Status::Done

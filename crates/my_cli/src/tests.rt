@@ -21,9 +21,7 @@ struct Broken {
 }
 
 impl Source for Broken {
-    ghost faults = { λ s. s.faults };
-
-    ghost left = { λ _. None };
+    ghost seen = { λ s. record { left = None; faults = s.faults; ends = 0 } };
 
     fn read(&mut self, _buf: &mut [u8]) -> SourceStep {
         self.faults = self.faults.saturating_add(1);
@@ -36,9 +34,7 @@ impl Source for Broken {
 struct Endless;
 
 impl Source for Endless {
-    ghost faults = { λ _. 0 };
-
-    ghost left = { λ _. None };
+    ghost seen = { λ _. record { left = None; faults = 0; ends = 0 } };
 
     fn read(&mut self, buf: &mut [u8]) -> SourceStep {
         SourceStep::Got(buf.len())

@@ -1,8 +1,7 @@
 -- Why a poll came to what it came to.
-use Rattle.std.specs.Prelude.{ℕ, ◌≡◌, ◌<◌, ◌≤◌, ◌⊎◌, Some, true}
+use Rattle.std.specs.Prelude.{ℕ, ◌≡◌, ◌<◌, ◌≤◌, ◌⊎◌, List, ◌++◌, Some, true}
 use Rattle.my_frame.specs.declared.limits.TheConstants.{MOST_TAKEN}
 use Rattle.my_grammar.specs.declared.login.Login.{Login}
-use Rattle.my_session.specs.declared.answer.SessionStep.TheVariants.{Send, Need}
 use Rattle.my_reading.specs.declared.error.Error.{Error}
 use Rattle.my_reading.specs.declared.error.Error.TheVariants as errors
 use Rattle.my_reading.specs.declared.error.IoError.{IoError}
@@ -17,37 +16,42 @@ use Rattle.my_session.specs.Complete.{FailsOutside}
 use Rattle.my_reading.specs.Told.{told}
 use Rattle.my_session.specs.History.{History}
 use Rattle.my_session.specs.Seen.{Seen}
-use Rattle.my_session.specs.Steps.{StepIs}
 use Rattle.my_client.specs.declared.poll.After.{After}
 use Rattle.my_client.specs.declared.poll.After.TheVariants.{Pending, Answered, Failed}
 use Rattle.my_client.specs.declared.tape.Said.TheVariants as says
 use Rattle.my_link.specs.declared.met.Met.{Met}
+use Rattle.my_link.specs.Looks.{Looks}
+use Rattle.my_link.specs.Moves.{Stop, NoStop, ReadHold, WriteHold, ReadFault, WriteFault, LinkEnd, holds_at, IsUsed, IsMet}
 use Rattle.my_client.specs.Kept.{Asked, Kept, IsOf, IsHeard, ended_by}
-use Rattle.my_client.specs.Poll.{IsOfCall, WentOut, CameBy}
+use Rattle.my_client.specs.Poll.{IsOfCall, Owes, Awaits}
 
--- the link was ready, and neither failed nor ended
-pub record IsQuiet (u : Met) : Type 0 where
-  pub faults : u.faults ≡ 0
-  pub holds : u.holds ≡ 0
-  pub ends : u.ends ≡ 0
+-- a session that stands for what was kept owes bytes, or awaits some
+pub record Asks (login : Login) (k : Kept) (Step : Seen → Type 0) : Type 0 where
+  pub session : Seen
+  pub heard : IsHeard login session k
+  pub asks : Step session
+
+abbrev pub Waiting : Login → Kept → Type 0
+Waiting login k = Asks login k Owes ⊎ Asks login k Awaits
 
 -- Which errors a poll may come to in which the link failed `faults` times and ended `ends` times: a link's fault only where it
--- failed, an end that came too early only where it ended, and each other error only where it didn't fail.
-abbrev pub KindBy : IoKind → ℕ → ℕ → Type 0
-KindBy kinds.Link faults ends = 0 < faults
-KindBy kinds.Dial faults ends = ⊥
-KindBy kinds.UnexpectedEof faults ends = (faults ≡ 0) × (0 < ends)
-KindBy kinds.InvalidData faults ends = faults ≡ 0
+-- failed, an end that came too early only where it ended, and both only where the session asked for something; each other
+-- error only where the link didn't fail.
+abbrev pub KindBy : Login → Kept → IoKind → ℕ → ℕ → Type 0
+KindBy login k kinds.Link faults ends = (0 < faults) × Waiting login k
+KindBy login k kinds.Dial faults ends = ⊥
+KindBy login k kinds.UnexpectedEof faults ends = (faults ≡ 0) × (0 < ends) × Asks login k Awaits
+KindBy login k kinds.InvalidData faults ends = faults ≡ 0
 
-abbrev pub IoBy : IoError → ℕ → ℕ → Type 0
-IoBy (ios.Io fault) faults ends = KindBy fault.kind faults ends
-IoBy (ios.Codec fault) faults ends = faults ≡ 0
+abbrev pub IoBy : Login → Kept → IoError → ℕ → ℕ → Type 0
+IoBy login k (ios.Io fault) faults ends = KindBy login k fault.kind faults ends
+IoBy login k (ios.Codec fault) faults ends = faults ≡ 0
 
-abbrev pub ErrorBy : Error → ℕ → ℕ → Type 0
-ErrorBy (errors.Driver e) faults ends = ⊥
-ErrorBy (errors.Io e) faults ends = IoBy e faults ends
-ErrorBy (errors.Server e) faults ends = faults ≡ 0
-ErrorBy errors.NoMemory faults ends = ⊥
+abbrev pub ErrorBy : Login → Kept → Error → ℕ → ℕ → Type 0
+ErrorBy login k (errors.Driver e) faults ends = ⊥
+ErrorBy login k (errors.Io e) faults ends = IoBy login k e faults ends
+ErrorBy login k (errors.Server e) faults ends = faults ≡ 0
+ErrorBy login k errors.NoMemory faults ends = ⊥
 
 -- The error has its cause in what the grammar finds in the bytes taken, over a history that is what was kept. Where these
 -- bytes, with those that may still come, are whole exchanges and bring no further ERR, the cause is none of them.
@@ -67,28 +71,38 @@ pub record WhyAnswered (login : Login) (k : Kept) (answer : Answer) : Type 0 whe
   pub kept : IsOf k history
   pub because : AnswerCause session history answer
 
--- the session still asks to send or for bytes
-pub record Waiting (login : Login) (k : Kept) : Type 0 where
-  pub session : Seen
-  pub heard : IsHeard login session k
-  pub asks : StepIs session Send ⊎ StepIs session Need
+-- why a poll stays pending: a read wasn't ready where the session asks for bytes, a write where it asks to send, or the
+-- poll took all that it may, and the session still asks for something
+abbrev pub Pends : Login → Kept → Met → Stop → Type 0
+Pends login k u ReadHold = Asks login k Awaits
+Pends login k u WriteHold = Asks login k Owes
+Pends login k u NoStop = Waiting login k × (MOST_TAKEN ≤ u.taken)
+Pends login k u ReadFault = ⊥
+Pends login k u WriteFault = ⊥
+Pends login k u LinkEnd = ⊥
 
--- what a poll of the open call came to, and what is kept then
-abbrev pub PollEnds : Login → Asked → Kept → Met → After → Kept → Type 0
-PollEnds login a k u Pending end = (end ≡ k) × Waiting login k × (u.faults ≡ 0)
-    × ((0 < u.holds) ⊎ ((u.holds ≡ 0) × (MOST_TAKEN ≤ u.taken)))
-PollEnds login a k u (Answered answer) end = (end ≡ ended_by k a (says.Answered answer)) × WhyAnswered login k answer
-    × (may_be (kind_of a.call) (told answer) ≡ true) × IsQuiet u
-PollEnds login a k u (Failed e) end = (end ≡ ended_by k a (says.Failed e)) × WhyFailed login k e
-    × ErrorBy e u.faults u.ends × (u.holds ≡ 0)
+-- what a poll of the open call came to, by what it stopped at, and what is kept then
+abbrev pub PollEnds : Login → Asked → Kept → Met → Stop → After → Kept → Type 0
+PollEnds login a k u stop Pending end = (end ≡ k) × Pends login k u stop
+PollEnds login a k u stop (Answered answer) end = (end ≡ ended_by k a (says.Answered answer))
+    × WhyAnswered login k answer × (may_be (kind_of a.call) (told answer) ≡ true) × (stop ≡ NoStop)
+PollEnds login a k u stop (Failed e) end = (end ≡ ended_by k a (says.Failed e)) × WhyFailed login k e
+    × ErrorBy login k e u.faults u.ends × (holds_at stop ≡ 0)
 
--- One poll of the open call: bytes went out and came in, and then it came to this.
-pub record IsPolled (login : Login) (a : Asked) (k : Kept) (u : Met) (after : After) (end : Kept) : Type 0 where
+-- One poll of the open call over a link: the link was sent exactly the bytes by which the sent ones grew, and gave exactly
+-- those by which the taken ones did, and then it came to this.
+pub record IsPolled (login : Login) (a : Asked) (k : Kept) (x : Looks) (u : Met) (after : After) (end : Kept) (y : Looks)
+    : Type 0 where
   pub of_call : IsOfCall u
   pub within : u.taken ≤ MOST_TAKEN
+  pub sent : List ℕ
+  pub taken : List ℕ
+  pub stop : Stop
+  pub used : IsUsed x y sent taken stop
+  pub met : IsMet u taken stop
   pub following : Kept
-  pub sent : WentOut k.sent following.sent
-  pub taken : CameBy k.taken following.taken u.taken
+  pub sent_is : following.sent ≡ k.sent ++ sent
+  pub taken_is : following.taken ≡ k.taken ++ taken
   pub calls : following.calls ≡ k.calls
   pub pending : following.pending ≡ Some a
-  pub ends : PollEnds login a following u after end
+  pub ends : PollEnds login a following u stop after end

@@ -16,7 +16,6 @@ use Rattle.my_session.specs.Stands.{Stands}
 use Rattle.my_session.specs.Tables.{closes_when_cancelled}
 use Rattle.my_client.specs.Causes.{IsPolled}
 use Rattle.my_client.specs.Kept.{Asked, Kept, ended_by}
-use Rattle.my_client.specs.Poll.{SpendsOn}
 use Rattle.my_link.specs.Looks.{Looks}
 use Rattle.my_client.specs.Conn.{kept_of}
 use Rattle.my_client.specs.Rests.{Rests, IsAsked}
@@ -27,13 +26,12 @@ kept_after k a Pending = k
 kept_after k a (Answered answer) = ended_by k a (says.Answered answer)
 kept_after k a (Failed e) = ended_by k a (says.Failed e)
 
--- what the poll came to, the session after it, and what was used of the link's plan
-pub record Drives (login : Login) (a : Asked) (t : Seen) (x y : Looks) (k end : Kept) (m : Met)
-    (after : After) : Type 0 where
-  pub polled : IsPolled login a k m after end
+-- what the poll did and came to, and the session after it
+pub record Drives (login : Login) (a : Asked) (t : Seen) (x y : Looks) (k end : Kept) (m : Met) (after : After)
+    : Type 0 where
+  pub polled : IsPolled login a k x m after end y
   pub rests : Rests login t end
   pub stepped : is_begun t.task ≡ false
-  pub spent : SpendsOn t x y k.taken end.taken m
 
 -- of each call that may be open
 abbrev pub EachDrives : {L : Type 0} → (L → Looks) → Conn L → Conn L → Met → After → Type 0

@@ -1,5 +1,4 @@
 pub mod Login
-pub mod Uses
 pub mod Kept
 pub mod Conn
 pub mod Causes

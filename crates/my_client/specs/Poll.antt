@@ -5,98 +5,67 @@ use Rattle.my_session.specs.declared.task.Task.TheVariants.{Nothing}
 use Rattle.my_session.specs.declared.answer.SessionStep.TheVariants.{Send, Need}
 use Rattle.my_session.specs.Tasks.{is_open}
 use Rattle.my_session.specs.Seen.{Seen}
-use Rattle.my_session.specs.Steps.{StepIs}
-use Rattle.my_link.specs.declared.link.ReadItem.{ReadItem}
-use Rattle.my_link.specs.declared.link.WriteItem.{WriteItem}
+use Rattle.my_session.specs.Ends.{Fails as FailsNext}
+use Rattle.my_session.specs.Steps.{StepIs, with_end}
 use Rattle.my_client.specs.declared.poll.After.{After}
 use Rattle.my_client.specs.declared.poll.After.TheVariants.{Pending, Answered as Replied, Failed as Refused}
 use Rattle.my_link.specs.declared.met.Met.{Met}
-use Rattle.my_link.specs.Spent.{IsSpent, Spends}
 use Rattle.my_client.specs.Conn.{ConnSeen}
-use Rattle.my_client.specs.Uses.{CountsTo}
 use Rattle.my_client.specs.declared.poll.Turn.{Turn}
 use Rattle.my_client.specs.declared.poll.Turn.TheVariants.{Sent, Took, Ended, Broke, Held, Full, Answered, Faulted}
-use Rattle.my_link.specs.Outside.{FaultRose, HoldRose, EndRose}
 use Rattle.my_link.specs.Looks.{Looks}
-use Rattle.my_link.specs.Link.{Told, Gave, after_hold, after_fault, after_end, after_write, taken_of, after_taken, after_write_hold, after_write_fault}
+use Rattle.my_link.specs.Moves.{Receives, Sends, ReadHolds, WriteHolds, ReadFails, WriteFails, ReadEnds, Move, Leads, received_by, sent_by, Stop, NoStop, ReadHold, WriteHold, ReadFault, WriteFault, LinkEnd, holds_at, IsUsed, IsMet}
 
--- the call is still open, and asks to send or for bytes
+-- the call is open and owes bytes
+abbrev pub Owes : Seen → Type 0
+Owes s = StepIs s Send
+
+-- the call is open and awaits bytes: it owes none, the packet in front isn't whole, and where the link ends now, the call fails
+pub record Awaits (s : Seen) : Type 0 where
+  pub needs : StepIs s Need
+  pub fails : FailsNext (with_end s)
+
+-- the call is open, and asks to send or for bytes
 abbrev pub Waits : Seen → Type 0
-Waits s = StepIs s Send ⊎ StepIs s Need
+Waits s = Owes s ⊎ Awaits s
 
 -- `n` bytes came in
 pub record CameIn (x y : ConnSeen) (n : ℕ) : Type 0 where
   pub bytes : List ℕ
   pub count : length bytes ≡ n
   pub some : 0 < n
-  pub items : Told x.looks.items y.looks.items (Gave bytes)
-  pub writes : y.looks.writes ≡ x.looks.writes
+  pub looks : Receives bytes x.looks y.looks
   pub taken_is : y.taken ≡ x.taken ++ bytes
 
--- these bytes went out
-pub record WentOut (sent sent' : List ℕ) : Type 0 where
-  pub bytes : List ℕ
-  pub sent_is : sent' ≡ sent ++ bytes
-
--- the link took `size` bytes of those that it was offered
-pub record TakesOut (x y : Looks) : Type 0 where
+-- bytes went out, of those that the link was offered
+pub record WentOut (x y : ConnSeen) : Type 0 where
   pub offered : ℕ
+  pub bytes : List ℕ
   pub size : ℕ
-  pub items : Told x.items y.items (λ is js. js ≡ after_write is)
-  pub writes : Told x.writes y.writes (λ ws vs. (taken_of offered ws ≡ Some size) × (vs ≡ after_taken size ws))
+  pub count : length bytes ≡ size
+  pub some : 0 < size
+  pub looks : Sends offered bytes x.looks y.looks
+  pub sent_is : y.sent ≡ x.sent ++ bytes
 
--- a read returned the end
-pub record Ends (x y : Looks) : Type 0 where
-  pub items : Told x.items y.items (λ is js. after_end is ≡ Some js)
-  pub writes : y.writes ≡ x.writes
-
--- a read wasn't ready, or a write wasn't
-pub record ReadHeld (x y : Looks) : Type 0 where
-  pub items : Told x.items y.items (λ is js. after_hold is ≡ Some js)
-  pub writes : y.writes ≡ x.writes
-
-pub record WriteHeld (x y : Looks) : Type 0 where
-  pub items : y.items ≡ x.items
-  pub writes : Told x.writes y.writes (λ ws vs. after_write_hold ws ≡ Some vs)
-
--- a read where the call asks for bytes, a write where it asks to send
+-- a read wasn't ready where the call asks for bytes, or a write where it asks to send
 abbrev pub Holds : Seen → Looks → Looks → Type 0
-Holds t x y = (StepIs t Need × ReadHeld x y) ⊎ (StepIs t Send × WriteHeld x y)
+Holds t x y = (Awaits t × ReadHolds x y) ⊎ (Owes t × WriteHolds x y)
 
 -- a read failed, or a write did
-pub record ReadFailed (x y : Looks) : Type 0 where
-  pub items : Told x.items y.items (λ is js. after_fault is ≡ Some js)
-  pub writes : y.writes ≡ x.writes
-
-pub record WriteFailed (x y : Looks) : Type 0 where
-  pub items : y.items ≡ x.items
-  pub writes : Told x.writes y.writes (λ ws vs. after_write_fault ws ≡ Some vs)
-
 abbrev pub Fails : Looks → Looks → Type 0
-Fails x y = ReadFailed x y ⊎ WriteFailed x y
-
--- `n` bytes came in
-pub record CameBy (taken taken' : List ℕ) (n : ℕ) : Type 0 where
-  pub bytes : List ℕ
-  pub taken_is : taken' ≡ taken ++ bytes
-  pub count : length bytes ≡ n
+Fails x y = ReadFails x y ⊎ WriteFails x y
 
 -- by what the turn did: what became of the session, the link, and the bytes that were sent and taken
 abbrev pub TurnIs : ConnSeen → ConnSeen → Turn → Type 0
-TurnIs x y Sent = (is_open y.session.task ≡ true) × (y.looks.counts ≡ x.looks.counts) × TakesOut x.looks y.looks
-    × WentOut x.sent y.sent × (y.taken ≡ x.taken) × (length x.sent < length y.sent)
-TurnIs x y (Took n) = (is_open y.session.task ≡ true) × (y.looks.counts ≡ x.looks.counts) × CameIn x y n
-    × (y.sent ≡ x.sent)
-TurnIs x y (Ended error) = (y.session.task ≡ Nothing) × EndRose x.looks.counts y.looks.counts × Ends x.looks y.looks
-    × (y.sent ≡ x.sent) × (y.taken ≡ x.taken)
-TurnIs x y (Broke error) = (y.session.task ≡ Nothing) × FaultRose x.looks.counts y.looks.counts
-    × Fails x.looks y.looks
-    × (y.sent ≡ x.sent) × (y.taken ≡ x.taken)
-TurnIs x y Held = HoldRose x.looks.counts y.looks.counts × Holds y.session x.looks y.looks
-    × (y.sent ≡ x.sent) × (y.taken ≡ x.taken)
+TurnIs x y Sent = (is_open y.session.task ≡ true) × WentOut x y × (y.taken ≡ x.taken) × (length x.sent < length y.sent)
+TurnIs x y (Took n) = (is_open y.session.task ≡ true) × CameIn x y n × (y.sent ≡ x.sent)
+TurnIs x y (Ended error) = (y.session.task ≡ Nothing) × ReadEnds x.looks y.looks × (y.sent ≡ x.sent)
+    × (y.taken ≡ x.taken)
+TurnIs x y (Broke error) = (y.session.task ≡ Nothing) × Fails x.looks y.looks × (y.sent ≡ x.sent) × (y.taken ≡ x.taken)
+TurnIs x y Held = Holds y.session x.looks y.looks × (y.sent ≡ x.sent) × (y.taken ≡ x.taken)
 TurnIs x y Full = Waits y.session × (y.looks ≡ x.looks) × (y.sent ≡ x.sent) × (y.taken ≡ x.taken)
-TurnIs x y (Answered answer) = (y.session.task ≡ Nothing) × (y.looks ≡ x.looks)
-    × (y.sent ≡ x.sent) × (y.taken ≡ x.taken)
+TurnIs x y (Answered answer) = (y.session.task ≡ Nothing) × (y.looks ≡ x.looks) × (y.sent ≡ x.sent)
+    × (y.taken ≡ x.taken)
 TurnIs x y (Faulted error) = (y.session.task ≡ Nothing) × (y.looks ≡ x.looks) × (y.sent ≡ x.sent)
     × (y.taken ≡ x.taken)
 
@@ -117,55 +86,48 @@ pub record IsOfCall (m : Met) : Type 0 where
   pub refused : m.refused ≡ 0
   pub fed : m.fed ≡ 0
 
--- The cause of what a poll came to. It is pending only where the link wasn't ready, or the poll took all that it may, and
--- then the session still asks to send or for bytes; it is answered only where the link was ready and didn't fail.
-abbrev pub Causes : Seen → Met → After → Type 0
-Causes t u Pending = Waits t × (u.faults ≡ 0) × ((0 < u.holds) ⊎ ((u.holds ≡ 0) × (MOST_TAKEN ≤ u.taken)))
-Causes t u (Replied answer) = (t.task ≡ Nothing) × (u.faults ≡ 0) × (u.holds ≡ 0) × (u.ends ≡ 0)
-Causes t u (Refused error) = (t.task ≡ Nothing) × (u.holds ≡ 0)
+-- why a poll stays pending: a read wasn't ready where the session asks for bytes, a write where it asks to send, or the
+-- poll took all that it may, and the session still asks for something
+abbrev pub PendsAt : Seen → Met → Stop → Type 0
+PendsAt t m ReadHold = Awaits t
+PendsAt t m WriteHold = Owes t
+PendsAt t m NoStop = Waits t × (MOST_TAKEN ≤ m.taken)
+PendsAt t m ReadFault = ⊥
+PendsAt t m WriteFault = ⊥
+PendsAt t m LinkEnd = ⊥
 
--- what a poll that met `m` did to the session, the link, and the bytes that were sent and taken
+-- The cause of what a poll came to, by what it stopped at. It is answered only where the link was ready and didn't fail.
+abbrev pub Causes : Seen → Met → Stop → After → Type 0
+Causes t m stop Pending = PendsAt t m stop
+Causes t m stop (Replied answer) = (t.task ≡ Nothing) × (stop ≡ NoStop)
+Causes t m stop (Refused error) = (t.task ≡ Nothing) × (holds_at stop ≡ 0)
+
+-- What a poll that met `m` did: the link was sent exactly the bytes by which the sent ones grew, and gave exactly those by
+-- which the taken ones did.
 pub record Polls (x y : ConnSeen) (m : Met) (after : After) : Type 0 where
   pub of_call : IsOfCall m
-  pub cause : Causes y.session m after
-  pub counts : CountsTo x.looks.counts y.looks.counts m
   pub within : m.taken ≤ MOST_TAKEN
-  pub came : CameBy x.taken y.taken m.taken
-  pub sent_on : WentOut x.sent y.sent
+  pub sent : List ℕ
+  pub taken : List ℕ
+  pub stop : Stop
+  pub used : IsUsed x.looks y.looks sent taken stop
+  pub met : IsMet m taken stop
+  pub sent_is : y.sent ≡ x.sent ++ sent
+  pub taken_is : y.taken ≡ x.taken ++ taken
+  pub cause : Causes y.session m stop after
 
--- so far in a poll
+-- so far in a poll, in which nothing failed or ended and all was ready
 pub record SoFar (x y : ConnSeen) (m : Met) : Type 0 where
   pub of_call : IsOfCall m
   pub no_fault : m.faults ≡ 0
   pub no_hold : m.holds ≡ 0
   pub no_end : m.ends ≡ 0
-  pub counts : CountsTo x.looks.counts y.looks.counts m
   pub within : m.taken ≤ MOST_TAKEN
-  pub came : CameBy x.taken y.taken m.taken
-  pub sent_on : WentOut x.sent y.sent
-
--- What a poll used of a plan, where the session is `t` after it: a hold that wasn't planned came where the call asked for bytes.
-pub record PollSpends (t : Seen) (plan left : Option (List ReadItem)) (rules rest : Option (List WriteItem))
-    (taken : List ℕ)
-    (faults waits holds ends : ℕ) : Type 0 where
-  pub spends : Spends plan left rules rest taken faults waits holds ends
-  pub needs : spends.planned < holds → StepIs t Need
-
--- what a poll used of the link's plan, whatever was used before it
-abbrev pub SpendsOn : Seen → Looks → Looks → List ℕ → List ℕ → Met → Type 0
-SpendsOn t x y taken taken' u = (plan : Option (List ReadItem)) (rules : Option (List WriteItem)) (f w e : ℕ)
-    → IsSpent plan x.items rules x.writes taken f w e
-    → PollSpends t plan y.items rules y.writes taken' (f + u.faults) w u.holds (e + u.ends)
-
--- so far in a poll, in which nothing failed or ended and all was ready
-abbrev pub SpentSoFar : Looks → Looks → List ℕ → List ℕ → ℕ → Type 0
-SpentSoFar x y taken taken' ends = (plan : Option (List ReadItem)) (rules : Option (List WriteItem)) (f w e : ℕ)
-    → IsSpent plan x.items rules x.writes taken f w e
-    → IsSpent plan y.items rules y.writes taken' f w (e + ends)
-
--- the same, of what clauses see of a connection
-abbrev pub SpendsPlan : ConnSeen → ConnSeen → Met → Type 0
-SpendsPlan x y m = SpendsOn y.session x.looks y.looks x.taken y.taken m
+  pub moves : List Move
+  pub leads : Leads moves x.looks y.looks
+  pub count : m.taken ≡ length (received_by moves)
+  pub sent_is : y.sent ≡ x.sent ++ sent_by moves
+  pub taken_is : y.taken ≡ x.taken ++ received_by moves
 
 -- what the poll met with this turn
 abbrev pub met_by : Turn → Met → Met

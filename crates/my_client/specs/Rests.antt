@@ -51,7 +51,7 @@ pub record IsAnswered (login : Login) (s : Seen) (k : Kept) (a : Asked) (answer 
 pub record HasFailed (login : Login) (s : Seen) (k : Kept) (a : Asked) (e : Error) (faults ends : ℕ) : Type 0 where
   pub rests : Rests login s (ended_by k a (says.Failed e))
   pub why : WhyFailed login k e
-  pub by : ErrorBy e faults ends
+  pub by : ErrorBy login k e faults ends
 
 -- the session's next step was this error; where it wasn't made to fail, the error is one of its own
 pub record FailsNow (login : Login) (old new : Seen) (k : Kept) (a : Asked) (e : Error) : Type 0 where

@@ -5,7 +5,7 @@ ghost use Rattle.my_session.specs.Ends.{Fails};
 ghost use Rattle.my_session.specs.Steps.{StepIs, with_end};
 ghost use Rattle.my_session.specs.declared.task.Task.TheVariants.{Nothing};
 ghost use Rattle.my_client.specs.Conn.{seen_by};
-ghost use Rattle.my_client.specs.Poll.{TurnIs, took_by, is_full, met_by, came_to, Polls, SpendsPlan};
+ghost use Rattle.my_client.specs.Poll.{TurnIs, took_by, is_full, met_by, came_to, Polls};
 ghost use Rattle.my_client.specs.Rests.{FailLeaves, SendLeaves, ReceiveLeaves, TurnLeaves, PollLeaves};
 
 use crate::conn::Conn;
@@ -188,7 +188,6 @@ fn after_turn(turn: Turn) -> Option<After>
 pub fn poll_conn<L: Link>(alloc: Global, conn: &mut Conn<L>) -> Result<(After, Met), NoMemory>
     requires { is_open conn.old.session.seen.task ≡ true }
     ensures polls { IfOk result (λ p. Polls (seen_by L.looks conn.old) (seen_by L.looks conn.new) p.1 p.0) }
-    ensures spends { IfOk result (λ p. SpendsPlan (seen_by L.looks conn.old) (seen_by L.looks conn.new) p.1) }
     ensures calls { OnOk result (conn.new.calls ≡ conn.old.calls) }
     ensures pending { OnOk result (conn.new.pending ≡ conn.old.pending) }
     ensures rests { IfOk result (λ p. PollLeaves conn.old conn.new p.1 p.0) }

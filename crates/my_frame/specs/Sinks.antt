@@ -4,6 +4,11 @@ use Rattle.my_frame.specs.declared.sink.SinkStep.{SinkStep}
 use Rattle.my_frame.specs.declared.sink.SinkStep.TheVariants.{Took, Failed}
 use Rattle.my_frame.specs.Outside.{Rose, Comes}
 
+-- what clauses see of a sink: the bytes that it took, where they are known, and how often a write failed
+pub record SinkSeen : Type 0 where
+  pub took : Option (List ℕ)
+  pub faults : ℕ
+
 -- what the sink took after a step, by what it took before and by the bytes given
 abbrev pub TookBytes : Option (List ℕ) → List ℕ → Option (List ℕ) → SinkStep → Type 0
 TookBytes before bytes now (Took n) = (0 < n) × (n ≤ length bytes) × Comes before (take n bytes) now

@@ -1,7 +1,7 @@
 //! Where bytes go.
 
-ghost use Rattle.std.specs.Prelude.{◌≡◌, ◌-◌, ◌<◌, ℕ, List, [], Option, Some, length, IfOk};
-ghost use Rattle.my_frame.specs.Sinks.{TookBytes, SinkCounts, held_step};
+ghost use Rattle.std.specs.Prelude.{◌≡◌, ◌-◌, ◌<◌, [], Some, length, IfOk};
+ghost use Rattle.my_frame.specs.Sinks.{TookBytes, SinkCounts, SinkSeen, held_step};
 
 use crate::no_memory::NoMemory;
 use bytes::BytesMut;
@@ -18,17 +18,15 @@ pub enum SinkStep {
 
 /// A sink of bytes.
 pub trait Sink {
-    /// The number of writes that failed. It never falls.
-    ghost faults: { Self → ℕ };
-
-    /// The bytes that it took, where they are known.
-    ghost took: { Self → Option (List ℕ) };
+    /// The bytes that it took, where they are known, and how often a write failed. The count never falls, and rises
+    /// with each fault until it is at its greatest value.
+    ghost seen: { Self → SinkSeen };
 
     /// Writes some of the bytes, of which there are some.
     fn write(&mut self, bytes: &[u8]) -> SinkStep
         requires { 0 < length bytes.now }
-        ensures bytes { TookBytes (took self.old) bytes.now (took self.new) result }
-        ensures counts { SinkCounts (faults self.old) (faults self.new) result };
+        ensures bytes { TookBytes (seen self.old).took bytes.now (seen self.new).took result }
+        ensures counts { SinkCounts (seen self.old).faults (seen self.new).faults result };
 }
 
 /// A sink in memory. It takes its memory when it is made, and fails once its room is spent.
@@ -73,9 +71,7 @@ impl MemSink {
 }
 
 impl Sink for MemSink {
-    ghost faults = { λ s. s.faults };
-
-    ghost took = { λ s. Some s.taken };
+    ghost seen = { λ s. record { took = Some s.taken; faults = s.faults } };
 
     fn write(&mut self, bytes: &[u8]) -> SinkStep
         requires { 0 < length bytes.now }

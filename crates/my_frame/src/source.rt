@@ -1,7 +1,7 @@
 //! Where bytes come from.
 
-ghost use Rattle.std.specs.Prelude.{◌≡◌, ◌<◌, ℕ, List, Option, Some, drop, length, min, take};
-ghost use Rattle.my_frame.specs.Sources.{Gave, KeepsRest, SourceCounts, mem_step};
+ghost use Rattle.std.specs.Prelude.{◌≡◌, ◌<◌, Some, drop, length, min, take};
+ghost use Rattle.my_frame.specs.Sources.{Gave, KeepsRest, SourceCounts, SourceSeen, mem_step};
 
 use std::marker::Model;
 
@@ -17,41 +17,45 @@ pub enum SourceStep {
 
 /// A source of bytes.
 pub trait Source {
-    /// The number of reads that failed. It never falls.
-    ghost faults: { Self → ℕ };
-
-    /// The bytes that are left, where they are known.
-    ghost left: { Self → Option (List ℕ) };
+    /// The bytes that are left, where they are known, and how often a read failed and returned the end. A count never
+    /// falls, and rises with each such result until it is at its greatest value.
+    ghost seen: { Self → SourceSeen };
 
     /// Reads some bytes into a buffer that is not empty.
     fn read(&mut self, buf: &mut [u8]) -> SourceStep
         requires { 0 < length buf.old }
-        ensures bytes { Gave (left self.old) buf.new (left self.new) result }
-        ensures counts { SourceCounts (faults self.old) (faults self.new) result };
+        ensures bytes { Gave (seen self.old).left buf.new (seen self.new).left result }
+        ensures counts { SourceCounts (seen self.old) (seen self.new) result };
 }
 
-/// A source in memory, which contracts see as the bytes that it has left. It never fails.
+/// A source in memory, which contracts see as the bytes that it has left and the count of its ends. It never fails.
 #[derive(Debug, Drop)]
 pub struct MemSource {
     bytes: Vec<u8>,
     from: usize,
+    ends: u64,
 }
 
 impl Model for MemSource {
-    ghost use Rattle.std.specs.Prelude.{ℕ, List, ◌≤◌, drop, vec_len};
+    ghost use Rattle.std.specs.Prelude.{◌≤◌, drop, vec_len};
+    ghost use Rattle.my_frame.specs.Sources.{Supply};
 
-    ghost Value = { List ℕ };
+    ghost Value = { Supply };
 
-    ghost view = { λ s. drop s.from s.bytes.items };
+    ghost view = { λ s. record { left = drop s.from s.bytes.items; ends = s.ends } };
 
     ghost invariant = { λ s. s.from ≤ vec_len s.bytes };
 }
 
 impl MemSource {
     pub fn new(bytes: Vec<u8>) -> MemSource
-        ensures { result ≡ bytes.items }
+        ensures { result ≡ record { left = bytes.items; ends = 0 } }
     {
-        MemSource { bytes, from: 0 }
+        MemSource {
+            bytes,
+            from: 0,
+            ends: 0,
+        }
     }
 }
 
@@ -67,21 +71,21 @@ fn copy_front(buf: &mut [u8], bytes: &[u8]) -> usize
 }
 
 impl Source for MemSource {
-    ghost faults = { λ _. 0 };
-
-    ghost left = { λ s. Some s };
+    ghost seen = { λ s. record { left = Some s.left; faults = 0; ends = s.ends } };
 
     fn read(&mut self, buf: &mut [u8]) -> SourceStep
         requires { 0 < length buf.old }
-        ensures bytes { Gave (Some self.old) buf.new (Some self.new) result }
-        ensures counts { SourceCounts 0 0 result }
-        ensures exact { result ≡ mem_step self.old buf.old }
+        ensures bytes { Gave (Some self.old.left) buf.new (Some self.new.left) result }
+        ensures counts { SourceCounts (record { left = Some self.old.left; faults = 0; ends = self.old.ends })
+            (record { left = Some self.new.left; faults = 0; ends = self.new.ends }) result }
+        ensures exact { result ≡ mem_step self.old.left buf.old }
 
         // The buffer stays as it was after the bytes that came.
         ensures kept { KeepsRest buf.old buf.new result }
     {
         let (_, left) = self.bytes.as_slice().split_at(self.from);
         if left.is_empty() {
+            self.ends = self.ends.saturating_add(1);
             return SourceStep::End;
         }
         let count = copy_front(buf, left);

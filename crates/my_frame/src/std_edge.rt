@@ -15,14 +15,20 @@ const MOST_TRIES: u32 = 1_000;
 pub struct StdSource<R> {
     pub inner: R,
     faults: u64,
+    ends: u64,
 }
 
 impl<R> StdSource<R> {
     pub fn new(inner: R) -> StdSource<R>
         ensures inner { result.inner ≡ inner }
         ensures faults { result.faults ≡ 0 }
+        ensures ends { result.ends ≡ 0 }
     {
-        StdSource { inner, faults: 0 }
+        StdSource {
+            inner,
+            faults: 0,
+            ends: 0,
+        }
     }
 
     /// The number of reads that failed; it stays at its greatest value.
@@ -30,6 +36,13 @@ impl<R> StdSource<R> {
         ensures { result ≡ self.now.faults }
     {
         self.faults
+    }
+
+    /// The number of reads that returned the end; it stays at its greatest value.
+    pub fn ends(&self) -> u64
+        ensures { result ≡ self.now.ends }
+    {
+        self.ends
     }
 }
 
@@ -51,13 +64,14 @@ fn read_some<R: Read>(inner: &mut R, buf: &mut [u8]) -> Option<usize>
 }
 
 impl<R: Read> Source for StdSource<R> {
-    ghost faults = { λ s. s.faults };
-
-    ghost left = { λ _. None };
+    ghost seen = { λ s. record { left = None; faults = s.faults; ends = s.ends } };
 
     fn read(&mut self, buf: &mut [u8]) -> SourceStep {
         match read_some(&mut self.inner, buf) {
-            Some(0) => SourceStep::End,
+            Some(0) => {
+                self.ends = self.ends.saturating_add(1);
+                SourceStep::End
+            }
             Some(count) => SourceStep::Got(count),
             None => {
                 self.faults = self.faults.saturating_add(1);
@@ -108,9 +122,7 @@ fn write_some<W: Write>(inner: &mut W, bytes: &[u8]) -> Option<usize>
 }
 
 impl<W: Write> Sink for StdSink<W> {
-    ghost faults = { λ s. s.faults };
-
-    ghost took = { λ _. None };
+    ghost seen = { λ s. record { took = None; faults = s.faults } };
 
     fn write(&mut self, bytes: &[u8]) -> SinkStep {
         match write_some(&mut self.inner, bytes) {

@@ -1,15 +1,9 @@
 -- What reads and writes of a link do to the items that it has left.
-use Rattle.std.specs.Prelude.{ℕ, ◌≡◌, ◌-◌, ◌<◌, ◌≤◌, ◌==◌, min, List, [], ◌∷◌, ◌++◌, length, take, Option, Some, None, if◌then◌else◌}
+use Rattle.std.specs.Prelude.{ℕ, ◌≡◌, ◌-◌, ◌==◌, min, List, [], ◌∷◌, ◌++◌, Option, Some, None, if◌then◌else◌}
 use Rattle.my_link.specs.declared.link.ReadItem.{ReadItem}
 use Rattle.my_link.specs.declared.link.ReadItem.TheVariants as items
 use Rattle.my_link.specs.declared.link.WriteItem.{WriteItem}
 use Rattle.my_link.specs.declared.link.WriteItem.TheVariants as puts
-use Rattle.my_link.specs.declared.link.ReadStep.{ReadStep}
-use Rattle.my_link.specs.declared.link.ReadStep.TheVariants as reads
-use Rattle.my_link.specs.declared.link.WriteStep.{WriteStep}
-use Rattle.my_link.specs.declared.link.WriteStep.TheVariants as writes
-use Rattle.my_frame.specs.Outside.{Comes}
-use Rattle.my_link.specs.Outside.{Counts, FaultRose, HoldRose, EndRose}
 
 -- where a link tells its items, how they change
 abbrev pub Told : {I : Type 0} → Option (List I) → Option (List I) → (List I → List I → Type 0) → Type 0
@@ -65,19 +59,6 @@ after_write (items.Wait ∷ more) = items.Wait ∷ more
 after_write (items.Fail ∷ more) = items.Fail ∷ more
 after_write (items.End ∷ more) = items.End ∷ more
 
-abbrev pub Reads : Option (List ReadItem) → List ℕ → Option (List ReadItem) → ReadStep → Type 0
-Reads old buf new (reads.Got n) = (0 < n) × (n ≤ length buf) × Told old new (Gave (take n buf))
-Reads old buf new reads.NotYet = Told old new (λ is js. after_hold is ≡ Some js)
-Reads old buf new reads.End = Told old new (λ is js. after_end is ≡ Some js)
-Reads old buf new reads.Failed = Told old new (λ is js. after_fault is ≡ Some js)
-
--- a write that isn't ready or fails leaves the items for reads
-abbrev pub Writes : Option (List ReadItem) → Option (List ReadItem) → WriteStep → Type 0
-Writes old new (writes.Took n) = Told old new (λ is js. js ≡ after_write is)
-Writes old new writes.NotYet = new ≡ old
-Writes old new writes.Failed = new ≡ old
-Writes old new writes.NoMemory = new ≡ old
-
 -- how many of `len` bytes a write takes, where it takes any
 abbrev pub taken_of : ℕ → List WriteItem → Option ℕ
 taken_of len [] = Some len
@@ -109,29 +90,3 @@ after_write_fault [] = None
 after_write_fault (puts.Accept n ∷ more) = None
 after_write_fault (puts.Wait ∷ more) = None
 after_write_fault (puts.Fail ∷ more) = Some more
-
--- how a write of `len` bytes changes the items for writes
-abbrev pub WritesOut : Option (List WriteItem) → ℕ → Option (List WriteItem) → WriteStep → Type 0
-WritesOut old len new (writes.Took n) = Told old new (λ ws vs. (taken_of len ws ≡ Some n) × (vs ≡ after_taken n ws))
-WritesOut old len new writes.NotYet = Told old new (λ ws vs. after_write_hold ws ≡ Some vs)
-WritesOut old len new writes.Failed = Told old new (λ ws vs. after_write_fault ws ≡ Some vs)
-WritesOut old len new writes.NoMemory = new ≡ old
-
--- how the bytes that the link was sent change
-abbrev pub TakesIn : Option (List ℕ) → List ℕ → Option (List ℕ) → WriteStep → Type 0
-TakesIn old bytes new (writes.Took n) = (0 < n) × (n ≤ length bytes) × Comes old (take n bytes) new
-TakesIn old bytes new writes.NotYet = new ≡ old
-TakesIn old bytes new writes.Failed = new ≡ old
-TakesIn old bytes new writes.NoMemory = new ≡ old
-
-abbrev pub CountsRead : Counts → Counts → ReadStep → Type 0
-CountsRead c d (reads.Got n) = d ≡ c
-CountsRead c d reads.NotYet = HoldRose c d
-CountsRead c d reads.End = EndRose c d
-CountsRead c d reads.Failed = FaultRose c d
-
-abbrev pub CountsWrite : Counts → Counts → WriteStep → Type 0
-CountsWrite c d (writes.Took n) = d ≡ c
-CountsWrite c d writes.NotYet = HoldRose c d
-CountsWrite c d writes.Failed = FaultRose c d
-CountsWrite c d writes.NoMemory = d ≡ c

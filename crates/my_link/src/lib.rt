@@ -1,6 +1,7 @@
 //! Links to servers: what a session reads from and writes to, and a link in memory.
 #![tactic(auto)]
 
+pub mod laws;
 mod link;
 mod memory;
 mod met;

@@ -1,7 +1,7 @@
 //! What a session reads from and writes to.
-ghost use Rattle.std.specs.Prelude.{ℕ, ◌≡◌, ◌<◌, List, Option, Bool, length};
+ghost use Rattle.std.specs.Prelude.{◌≡◌, ◌<◌, Bool, length};
 ghost use Rattle.my_link.specs.Looks.{Looks};
-ghost use Rattle.my_link.specs.Link.{Reads, CountsRead, Writes, WritesOut, CountsWrite, TakesIn};
+ghost use Rattle.my_link.specs.Moves.{ReadIs, WriteIs};
 
 use my_frame::Blob;
 
@@ -54,11 +54,9 @@ pub enum WriteStep {
 /// It counts how often it failed, wasn't ready and ended. A count never falls, and rises with each such result
 /// until it is at its greatest value.
 pub trait Link {
-    /// The items that are left for reads and for writes, where the link tells them, and its counts.
+    /// The items that are left for reads and for writes and the bytes that it was sent, where the link tells them,
+    /// and its counts.
     ghost looks: { Self → Looks };
-
-    /// The bytes that it was sent, where it tells them.
-    ghost got: { Self → Option (List ℕ) };
 
     /// Whether it is a local socket.
     ghost socket: { Self → Bool };
@@ -66,19 +64,13 @@ pub trait Link {
     /// Reads into `buf`, which is not empty.
     fn read(&mut self, buf: &mut [u8]) -> ReadStep
         requires { 0 < length buf.old }
-        ensures items { Reads (looks self.old).items buf.new (looks self.new).items result }
-        ensures writes { (looks self.new).writes ≡ (looks self.old).writes }
-        ensures got { got self.new ≡ got self.old }
-        ensures counts { CountsRead (looks self.old).counts (looks self.new).counts result }
+        ensures looks { ReadIs (looks self.old) buf.new (looks self.new) result }
         ensures socket { socket self.new ≡ socket self.old };
 
     /// Writes some of `bytes`, which is not empty.
     fn write(&mut self, bytes: &[u8]) -> WriteStep
         requires { 0 < length bytes.now }
-        ensures items { Writes (looks self.old).items (looks self.new).items result }
-        ensures writes { WritesOut (looks self.old).writes (length bytes.now) (looks self.new).writes result }
-        ensures got { TakesIn (got self.old) bytes.now (got self.new) result }
-        ensures counts { CountsWrite (looks self.old).counts (looks self.new).counts result }
+        ensures looks { WriteIs (looks self.old) bytes.now (looks self.new) result }
         ensures socket { socket self.new ≡ socket self.old };
 
     /// Whether it is a local socket.

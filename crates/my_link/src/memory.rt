@@ -96,9 +96,12 @@ impl MemLink {
 impl Link for MemLink {
     ghost use Rattle.my_link.specs.MemLink.{unread, unwritten, counted, sent_to};
 
-    ghost looks = { λ m. record { items = Some (unread m); writes = Some (unwritten m); counts = counted m } };
-
-    ghost got = { λ m. Some (sent_to m) };
+    ghost looks = { λ m. record {
+        items = Some (unread m);
+        writes = Some (unwritten m);
+        got = Some (sent_to m);
+        counts = counted m;
+    } };
 
     ghost socket = { λ m. false };
 

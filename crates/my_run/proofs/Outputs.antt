@@ -2,6 +2,7 @@
 use Rattle.std.proofs.Common.{ℕ, ◌≡◌, ◌+◌, zero, suc, List, [], ◌∷◌, ◌++◌, take, drop, Option, Some, None, refl, sym, ap, ◌∙◌, subst, arith}
 use Rattle.std.proofs.lemmas.List.{take-append-drop, append_assoc}
 use Rattle.my_frame.specs.Outside.{Comes, Rose}
+use Rattle.my_frame.specs.Sinks.{SinkSeen}
 use Rattle.my_run.specs.Output.{WrotePart}
 
 comes_on : (a b c : Option (List ℕ)) (xs ys : List ℕ) → Comes a xs b → Comes b ys c → Comes a (xs ++ ys) c
@@ -24,11 +25,11 @@ take_plus (suc k) n (b ∷ bs) = let e : suc k + n ≡ suc (k + n) = omega arith
 pub went : (a b c : Option (List ℕ)) (k n : ℕ) (bs : List ℕ) → Comes a (take k bs) b → Comes b (take n (drop k bs)) c → Comes a (take (k + n) bs) c
 went a b c k n bs p q = subst (λ (xs : List ℕ). Comes a xs c) (take_plus k n bs) (comes_on a b c (take k bs) (take n (drop k bs)) p q)
 
-pub stopped : (a b c : Option (List ℕ)) (k : ℕ) (bs : List ℕ) (m n o : ℕ) → Comes a (take k bs) b → c ≡ b → n ≡ m → Rose n o → WrotePart a bs c m o
-stopped a b c k bs m n o p e f r = record {
+pub stopped : (a b c : SinkSeen) (k : ℕ) (bs : List ℕ) → Comes a.took (take k bs) b.took → c.took ≡ b.took → b.faults ≡ a.faults → Rose b.faults c.faults → WrotePart a bs c
+stopped a b c k bs p e f r = record {
   front = take k bs;
   rest = drop k bs;
   cut = take-append-drop k bs;
-  came = subst (Comes a (take k bs)) (sym e) p;
-  fault = subst (λ (n : ℕ). Rose n o) f r;
+  came = subst (Comes a.took (take k bs)) (sym e) p;
+  fault = subst (λ (n : ℕ). Rose n c.faults) f r;
 }

@@ -1,5 +1,5 @@
 -- What dialing a connection and polling its handshake does.
-use Rattle.std.specs.Prelude.{ℕ, ◌≡◌, ◌≢◌, List, [], ◌∷◌, None}
+use Rattle.std.specs.Prelude.{ℕ, ◌≡◌, [], ◌∷◌, None, List}
 use Rattle.my_handshake.specs.Version.{version_of}
 use Rattle.my_grammar.specs.declared.login.Login.{Login}
 use Rattle.my_client.specs.declared.poll.After.{After}
@@ -12,11 +12,11 @@ use Rattle.my_script.specs.declared.transcript.Outcome.TheVariants.{Pending, Con
 use Rattle.my_script.specs.declared.transcript.Use.{Use}
 use Rattle.my_run.specs.Grows.{Connects, Dials}
 use Rattle.my_world.specs.World.{Plans, SameAt}
-use Rattle.my_run.specs.Keeps.{IsStood, LinkSpent, SlotPlays}
+use Rattle.my_run.specs.Keeps.{IsStood}
 use Rattle.my_client.specs.Kept.{Asked, Kept, first_asked, first_kept}
 use Rattle.my_link.specs.Looks.{Looks}
 use Rattle.my_run.specs.Slot.{handle_of}
-use Rattle.my_run.specs.Sums.{IsSilent, quiet}
+use Rattle.my_run.specs.Sums.{quiet}
 use Rattle.my_run.specs.declared.outcome.StepResult.{StepResult}
 use Rattle.my_client.specs.Conn.{kept_of}
 use Rattle.my_client.specs.Rests.{IsAsked}
@@ -28,26 +28,21 @@ Settles c n (after.Answered answer) slot o = (slot ≡ There c)
     × (o ≡ Connected n c.session.seen.facts.connection (version_of c.session.seen.facts.version))
 Settles c n (after.Failed e) slot o = (slot ≡ Ended c) × (o ≡ Failed e)
 
--- a poll of the handshake: what stands at the number after it, and what was used of the link's plan
+-- a poll of the handshake, and what stands at the number after it
 pub record Joins {L : Type 0} (look : L → Looks) (login : Login) (n : ℕ) (a : Asked) (k : Kept) (x : Looks)
     (slot : Slot L) (o : Outcome) (used : Use) : Type 0 where
   pub stood : IsStood login slot
-  pub played : (plans : Plans) (all : List Use) (before : ℕ) → LinkSpent plans n x k.taken all before
-      → SlotPlays look login plans n (used ∷ []) all before slot
   pub number : used.number ≡ n
-  pub does : Connects login n a k o used (handle_of slot)
+  pub does : Connects login n a k x o used (handle_of look slot)
 
 -- A dial of number n in a world that told these plans, and what is there after it. Where the link's plan is what was told,
--- and nothing was used of it yet, it is kept; where none was told, there is none to be kept.
+-- it is the link's; a dial that is tried again says nothing of the plan.
 pub record Dialed {L : Type 0} (look : L → Looks) (login : Login) (n : ℕ) (told : Plans) (slot : Slot L)
     (o : Outcome) (us : List Use) : Type 0 where
   pub stood : IsStood login slot
-  pub played : (plans : Plans) (all : List Use) → SameAt told plans n → IsSilent n all
-      → SlotPlays look login plans n us all 0 slot
-  pub untold : (plans : Plans) (all : List Use) (before : ℕ) → plans.reads n ≡ None
-      → SlotPlays look login plans n us all before slot
-  pub silent : (m : ℕ) → m ≢ n → IsSilent m us
-  pub does : Dials login n o us (handle_of slot)
+  pub does : (plans : Plans) → SameAt told plans n
+      → Dials login (plans.reads n) (plans.writes n) n o us (handle_of look slot)
+  pub again : Dials login None None n o us (handle_of look slot)
 
 -- the poll of a connection's first call, after the dial that gave its link
 abbrev pub JoinsFirst : {L : Type 0} → (L → Looks) → Login → ℕ → Looks → Slot L → StepResult → Type 0

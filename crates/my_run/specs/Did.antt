@@ -1,5 +1,5 @@
 -- What a step did to what stands at one number, and to all numbers.
-use Rattle.std.specs.Prelude.{◌≡◌, ◌≢◌, ◌≤◌, ℕ, List, Option, Some, None, length, map, true, false}
+use Rattle.std.specs.Prelude.{◌≡◌, ◌≤◌, ℕ, List, Option, Some, None, length, map, Bool, true, false, ◌&&◌}
 use Rattle.my_grammar.specs.declared.login.Login.{Login}
 use Rattle.my_link.specs.Looks.{Looks}
 use Rattle.my_reading.specs.Calls.{is_connect, kind_of}
@@ -22,39 +22,28 @@ use Rattle.my_run.specs.declared.slot.Slot.TheVariants.{There}
 use Rattle.my_run.specs.declared.work.Errand.{Errand}
 use Rattle.my_run.specs.declared.work.Work.{Work}
 use Rattle.my_run.specs.declared.work.Work.TheVariants as works
+use Rattle.my_run.specs.Dialing.{is_dialing}
 use Rattle.my_run.specs.Grows.{PolledOnce, Calls, CollectsAt, TellsFields, GoesOn, Cancels}
 use Rattle.my_run.specs.Handle.{Handle, Joined}
-use Rattle.my_run.specs.Keeps.{LinkSpent, LinkPlays, IsStood, AreStood, IsPlayed, ArePlayed, SlotPlays, AllPlay}
+use Rattle.my_run.specs.Keeps.{IsStood, AreStood}
 use Rattle.my_run.specs.Slot.{handle_of}
-use Rattle.my_run.specs.Sums.{IsSilent}
 
 -- a poll of the open call, as a step of one call shows it
 pub record OpenPolled (login : Login) (n : ℕ) (a : Asked) (t : Seen) (x y : Looks) (k end : Kept) (o : Outcome)
     (us : List Use) : Type 0 where
-  pub once : PolledOnce login n a k o us (Joined true end)
+  pub once : PolledOnce login n a k x o us (Joined true end y)
   pub rests : Rests login t end
   pub stepped : is_begun t.task ≡ false
-  pub spent : (plans : Plans) (all : List Use) (before : ℕ) → LinkSpent plans n x k.taken all before
-      → LinkPlays login plans n y end us all before
-  pub silent : (m : ℕ) → m ≢ n → IsSilent m us
 
--- at number n: what stands there is kept, the other numbers' uses are untouched, and the transcript's fact holds
-pub record Did {L : Type 0} (look : L → Looks) (login : Login) (n : ℕ)
-    (R : Handle → Outcome → List Use → Handle → Type 0) (o : Outcome) (us : List Use) (old new : Slot L)
-    : Type 0 where
+-- at number n: what stands there is kept, and the transcript's fact holds
+pub record Did {L : Type 0} (look : L → Looks) (login : Login) (R : Handle → Outcome → List Use → Handle → Type 0)
+    (o : Outcome) (us : List Use) (old new : Slot L) : Type 0 where
   pub stood : IsStood login new
-  pub played : (plans : Plans) (all : List Use) (before : ℕ) → IsPlayed look plans n all before old
-      → SlotPlays look login plans n us all before new
-  pub silent : (m : ℕ) → m ≢ n → IsSilent m us
-  pub does : R (handle_of old) o us (handle_of new)
+  pub does : R (handle_of look old) o us (handle_of look new)
 
--- at all numbers, in a world that tells these plans
-pub record Stepped {L : Type 0} (look : L → Looks) (login : Login) (plans : Plans) (us : List Use)
-    (old new : List (Slot L)) (Fact : Type 0) : Type 0 where
+-- at all numbers
+pub record Stepped {L : Type 0} (login : Login) (old new : List (Slot L)) (Fact : Type 0) : Type 0 where
   pub stood : AreStood login new
-  pub played : (all : List Use) (before : ℕ → ℕ) → ((m : ℕ) → length old ≤ m → IsSilent m all × (before m ≡ 0))
-      → ArePlayed look plans all before 0 old → AllPlay look login plans us all before new
-  pub past : (m : ℕ) → length new ≤ m → IsSilent m us
   pub longer : length old ≤ length new
   pub grows : Fact
 
@@ -104,15 +93,27 @@ EachResumed look n c slot r = (login : Login) (a : Asked) → IsAsked login c.se
 -- of each login for which the connection stands: what a step's work did to it
 abbrev pub EachDid : {L : Type 0} → (L → Looks) → ℕ → Work → Conn L → Slot L → StepResult → Type 0
 EachDid look n work c slot r = (login : Login) → StandsBy login c
-    → Did look login n (does_at login n work) r.outcome r.uses.items (There c) slot
+    → Did look login (does_at login n work) r.outcome r.uses.items (There c) slot
 
 -- what it did to what stands at a number
 abbrev pub DoesAt : {L : Type 0} → (L → Looks) → Login → ℕ → Work → Slot L → Slot L → StepResult → Type 0
 DoesAt look login n work old new r = IsStood login old
-    → Did look login n (does_at login n work) r.outcome r.uses.items old new
+    → Did look login (does_at login n work) r.outcome r.uses.items old new
+
+-- a held dial is tried again by a poll
+abbrev pub is_poll : Work → Bool
+is_poll (works.Begin call) = false
+is_poll works.Collect = false
+is_poll works.Fields = false
+is_poll works.Poll = true
+is_poll works.Cancel = false
+
+abbrev pub redials : Handle → Work → Bool
+redials h work = is_dialing h && is_poll work
 
 -- what a step did to all numbers, in a world that told these plans of the numbers which no step took yet
 abbrev pub StepsOn : {L : Type 0} → (L → Looks) → Login → Plans → List (Slot L) → List (Slot L)
-    → (List Handle → Outcome → List Use → List Handle → Type 0) → StepResult → Type 0
+    → (Plans → List Handle → Outcome → List Use → List Handle → Type 0) → StepResult → Type 0
 StepsOn look login told old new R r = (plans : Plans) → SameFrom (length old) told plans → AreStood login old
-    → Stepped look login plans r.uses.items old new (R (map handle_of old) r.outcome r.uses.items (map handle_of new))
+    → Stepped login old new
+    (R plans (map (handle_of look) old) r.outcome r.uses.items (map (handle_of look) new))

@@ -1,5 +1,5 @@
 -- How the rows of a set are gathered.
-use Rattle.std.specs.Prelude.{ℕ, ◌≡◌, ◌≢◌, List, [], ◌∷◌, ◌++◌, Option, Some, unwrap_or, true, false}
+use Rattle.std.specs.Prelude.{ℕ, ◌≡◌, List, [], ◌∷◌, ◌++◌, Option, Some, unwrap_or, true, false}
 use Rattle.my_value.specs.RowParts.{RowParts}
 use Rattle.my_grammar.specs.declared.login.Login.{Login}
 use Rattle.my_reading.specs.declared.answer.Answer.TheVariants as answers
@@ -21,14 +21,11 @@ use Rattle.my_script.specs.declared.transcript.Outcome.TheVariants.{Done, Pendin
 use Rattle.my_script.specs.declared.transcript.Use.{Use}
 use Rattle.my_run.specs.Grows.{Gathers, rows_shown}
 use Rattle.my_run.specs.Handle.{Handle, Joined}
-use Rattle.my_world.specs.World.{Plans}
-use Rattle.my_run.specs.Keeps.{LinkSpent, LinkPlays}
 use Rattle.my_client.specs.Kept.{Asked, Kept, asking}
 use Rattle.my_run.specs.declared.outcome.StepResult.{StepResult}
 use Rattle.my_link.specs.Looks.{Looks}
 use Rattle.my_client.specs.Rests.{Rests, IsAsked}
 use Rattle.my_client.specs.Conn.{kept_of}
-use Rattle.my_run.specs.Sums.{holds_for, IsSilent}
 
 -- what a gathering that ends shows, of the rows that came before
 abbrev pub Shows : Option (List RowParts) → After → Outcome → Type 0
@@ -68,26 +65,17 @@ Goes c d rows after (Over o) = (d ≡ c) × Shows rows after o
 -- what a gathering did, from a connection on
 pub record GatherDid {L : Type 0} (look : L → Looks) (login : Login) (n : ℕ) (a : Asked) (c d : Conn L)
     (o : Outcome) (us : List Use) : Type 0 where
-  pub gathers : Gathers login n us a (kept_of c) o (Joined true (kept_of d))
+  pub gathers : Gathers login n us a (kept_of c) (look c.link) o (Joined true (kept_of d) (look d.link))
   pub rests : Rests login d.session.seen (kept_of d)
   pub stepped : is_begun d.session.seen.task ≡ false
-  pub spent : (plans : Plans) (all : List Use) (before : ℕ)
-      → LinkSpent plans n (look c.link) c.taken.items all before
-      → LinkPlays login plans n (look d.link) (kept_of d) us all before
-  pub silent : (m : ℕ) → m ≢ n → IsSilent m us
 
 -- so far in a gathering
 pub record GatherSoFar {L : Type 0} (look : L → Looks) (login : Login) (n : ℕ) (a : Asked) (c d : Conn L)
     (us : List Use) : Type 0 where
   pub now : Asked
   pub asked : IsAsked login d.session.seen (kept_of d) now
-  pub onto : (vs : List Use) (o : Outcome) (t : Handle) → Gathers login n vs now (kept_of d) o t
-      → Gathers login n (us ++ vs) a (kept_of c) o t
-  pub spent : (plans : Plans) (all : List Use) (before : ℕ)
-      → LinkSpent plans n (look c.link) c.taken.items all before
-      → LinkSpent plans n (look d.link) d.taken.items (us ++ all) before
-  pub no_hold : holds_for n us ≡ 0
-  pub silent : (m : ℕ) → m ≢ n → IsSilent m us
+  pub onto : (vs : List Use) (o : Outcome) (t : Handle) → Gathers login n vs now (kept_of d) (look d.link) o t
+      → Gathers login n (us ++ vs) a (kept_of c) (look c.link) o t
 
 -- what going on with a gathering leaves of a connection that was taken out of its number
 pub record GatheredOn {L : Type 0} (look : L → Looks) (login : Login) (n : ℕ) (a : Asked) (c : Conn L)

@@ -1,12 +1,14 @@
 -- What the steps so far made of a connection's number.
 use Rattle.std.specs.Prelude.{ℕ, zero, suc, List, [], ◌∷◌, Bool}
 use Rattle.my_client.specs.Kept.{Kept}
+use Rattle.my_link.specs.Looks.{Looks}
 
--- no connection, or one whose dial failed; one whose dial wasn't ready; and one that has a link, and whether steps may still name it
+-- No connection, or one whose dial failed; one whose dial wasn't ready; and one that has a link: whether steps may still name
+-- it, what it kept, and what its link shows, so what is left of its plan.
 pub data Handle : Type 0 where
   Absent : Handle
   Dialing : Handle
-  Joined : (there : Bool) (kept : Kept) → Handle
+  Joined : (there : Bool) (kept : Kept) (link : Looks) → Handle
 
 abbrev pub at_number : List Handle → ℕ → Handle
 at_number [] n = Absent

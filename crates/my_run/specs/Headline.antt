@@ -1,27 +1,25 @@
 -- The theorem on a run.
-use Rattle.std.specs.Prelude.{ℕ, ◌≡◌, ◌+◌, ◌<◌, ◌≤◌, suc, List, [], ◌∷◌, ◌++◌, length, map, Option, Some, None, true}
+use Rattle.std.specs.Prelude.{ℕ, ◌≡◌, List, [], ◌∷◌, ◌++◌, map, Option, None}
 use Rattle.my_grammar.specs.declared.login.Login.{Login}
 use Rattle.my_session.specs.History.{History}
 use Rattle.my_session.specs.Law.{Says}
 use Rattle.my_session.specs.Seen.{Seen}
 use Rattle.my_link.specs.declared.link.ReadItem.{ReadItem}
-use Rattle.my_link.specs.declared.link.WriteItem.{WriteItem}
-use Rattle.my_link.specs.Spent.{spelled, fails_in, write_fails_in, waits_in, write_waits_in, has_end}
+use Rattle.my_link.specs.Looks.{Looks}
+use Rattle.my_link.specs.Spent.{HasGot, ReadsSpent}
 use Rattle.my_run.specs.declared.slot.Slot.{Slot}
 use Rattle.my_script.specs.declared.step.Step.{Step}
 use Rattle.my_script.specs.declared.transcript.Outcome.{Outcome}
 use Rattle.my_script.specs.declared.transcript.StepAnswer.{StepAnswer}
 use Rattle.my_script.specs.declared.transcript.Tape.{Tape}
 use Rattle.my_script.specs.declared.transcript.Use.{Use}
+use Rattle.my_run.specs.Dialing.{AreDialed}
 use Rattle.my_run.specs.Grows.{Line, AreGrown, handles_after}
 use Rattle.my_run.specs.Handle.{Handle, Absent, Dialing, Joined, at_number}
-use Rattle.my_run.specs.Held.{HeldBy}
 use Rattle.my_client.specs.Kept.{Kept, IsOf}
-use Rattle.my_world.specs.World.{Plans, SamePlans}
-use Rattle.my_run.specs.Keeps.{AreStood, ArePlayed}
-use Rattle.my_link.specs.Looks.{Looks}
+use Rattle.my_world.specs.World.{Plans, SamePlans, DialCounts}
+use Rattle.my_run.specs.Keeps.{AreStood}
 use Rattle.my_run.specs.Slot.{handle_of}
-use Rattle.my_run.specs.Sums.{faults_for, holds_for, ends_for, IsSilent}
 use Rattle.my_run.specs.Tapes.{tape_view, tapes_in}
 
 -- an answer, without where it lies in memory
@@ -42,11 +40,6 @@ abbrev pub answers_of : List Line → List AnswerView
 answers_of [] = []
 answers_of (l ∷ ls) = answers_of ls ++ record { number = l.number; outcome = l.outcome; uses = l.uses } ∷ []
 
--- all uses, the newest step's first
-abbrev pub uses_of : List Line → List Use
-uses_of [] = []
-uses_of (l ∷ ls) = l.uses ++ uses_of ls
-
 -- The tape is explained: some history is what was kept, and the session's law holds of it: the calls' commands by the table
 -- were sent, the last perhaps cut, the grammar finds the responses in the bytes taken, and of each set callers were given
 -- a beginning.
@@ -57,96 +50,59 @@ pub record IsSaid (login : Login) (k : Kept) : Type 0 where
   pub kept : IsOf k history
   pub says : Says session history
 
--- over a world that told its plan, the bytes taken are the beginning of the planned ones, the link failed no more often than
--- the plan says, and it ended only where the plan has an end
-pub record FitsPlan (plan : List ReadItem) (taken : List ℕ) (ends : ℕ) : Type 0 where
-  pub rest : List ℕ
-  pub bytes : spelled plan ≡ taken ++ rest
-  pub end : 0 < ends → has_end plan ≡ true
+-- Where the link tells the bytes that it was sent, these are they; and where its plan is told, the bytes that it gave and those
+-- that it has left are the planned ones.
+pub record FitsLink (plan : Option (List ReadItem)) (x : Looks) (sent taken : List ℕ) : Type 0 where
+  pub got : HasGot x.got sent
+  pub reads : ReadsSpent plan x.items taken
 
-abbrev pub FewFaults : Option (List ReadItem) → Option (List WriteItem) → ℕ → Type 0
-FewFaults None rules faults = Unit {0}
-FewFaults (Some plan) None faults = Unit {0}
-FewFaults (Some plan) (Some rules) faults = faults ≤ fails_in plan + write_fails_in rules
+-- a connection at a number, over the plan of its link
+abbrev pub IsExplained : Login → Option (List ReadItem) → Handle → Type 0
+IsExplained login plan Absent = Unit {0}
+IsExplained login plan Dialing = plan ≡ None
+IsExplained login plan (Joined there k x) = IsSaid login k × FitsLink plan x k.sent k.taken
 
-abbrev pub PlaysReads : Option (List ReadItem) → List ℕ → ℕ → Type 0
-PlaysReads None taken ends = Unit {0}
-PlaysReads (Some plan) taken ends = FitsPlan plan taken ends
-
-pub record Plays (plans : Plans) (n : ℕ) (taken : List ℕ) (all : List Use) : Type 0 where
-  pub reads : PlaysReads (plans.reads n) taken (ends_for n all)
-  pub faults : FewFaults (plans.reads n) (plans.writes n) (faults_for n all)
-
--- `planned` of the holds of connection n were planned: in each line all of them were, or the last came where the call asked
--- for bytes and nothing could be read.
-abbrev pub HoldsAre : Login → Option (List ReadItem) → ℕ → List Line → ℕ → Type 0
-HoldsAre login plan n [] planned = planned ≡ 0
-HoldsAre login plan n (l ∷ ls) planned = (before : ℕ) × HoldsAre login plan n ls before
-    × HeldBy login plan (at_number l.handles n) (holds_for n l.uses) before planned
-
--- they are no more than the plan's
-abbrev pub ArePlanned : Option (List ReadItem) → Option (List WriteItem) → ℕ → Type 0
-ArePlanned None rules planned = Unit {0}
-ArePlanned (Some plan) None planned = Unit {0}
-ArePlanned (Some plan) (Some rules) planned = planned ≤ waits_in plan + write_waits_in rules
-
-pub record FewHolds (login : Login) (plans : Plans) (n : ℕ) (lines : List Line) : Type 0 where
-  pub planned : ℕ
-  pub counted : HoldsAre login (plans.reads n) n lines planned
-  pub few : ArePlanned (plans.reads n) (plans.writes n) planned
-
--- a connection at number n, after these lines
-abbrev pub IsExplained : Login → Plans → ℕ → List Line → Handle → Type 0
-IsExplained login plans n lines Absent = Unit {0}
-IsExplained login plans n lines Dialing = plans.reads n ≡ None
-IsExplained login plans n lines (Joined there k) = IsSaid login k × Plays plans n k.taken (uses_of lines)
-    × FewHolds login plans n lines
-
-abbrev pub AreExplained : Login → Plans → List Line → ℕ → List Handle → Type 0
-AreExplained login plans lines n [] = Unit {0}
-AreExplained login plans lines n (h ∷ hs) = IsExplained login plans n lines h
-    × AreExplained login plans lines (suc n) hs
-
--- so it holds after each line
+-- so it holds at each number after each line
 abbrev pub EachExplained : Login → Plans → List Line → Type 0
 EachExplained login plans [] = Unit {0}
-EachExplained login plans (l ∷ ls) = AreExplained login plans (l ∷ ls) 0 l.handles × EachExplained login plans ls
+EachExplained login plans (l ∷ ls) = ((n : ℕ) → IsExplained login (plans.reads n) (at_number l.handles n))
+    × EachExplained login plans ls
 
--- What the steps came to, over a world with these plans.
-pub record Headline (login : Login) (plans : Plans) (steps : List Step) (answers : List StepAnswer)
-    (tapes : List Tape) : Type 0 where
+-- What the steps came to, over a world with these plans, whose dials had these counts before them and after them.
+pub record Headline (login : Login) (plans : Plans) (before later : DialCounts) (steps : List Step)
+    (answers : List StepAnswer) (tapes : List Tape) : Type 0 where
   -- the transcript's lines, the newest first: one answer for each step
   pub lines : List Line
   pub steps_are : steps_of lines ≡ steps
   pub answered : map answer_view answers ≡ answers_of lines
-  -- each answer is what the step may come to after the earlier ones, with its cause
-  pub grown : AreGrown login lines
-  -- after each line each connection's calls, bytes and rows are explained, and fit the plan
+  -- each answer is what the step may come to after the earlier ones, with its cause; what is left of a link's plan leads from
+  -- line to line
+  pub grown : AreGrown login plans lines
+  -- a dial is said to have failed, or not to be ready, exactly where the world counted it
+  pub dialed : AreDialed before lines later
+  -- after each line each connection's calls, bytes and rows are explained, and fit its link
   pub explained : EachExplained login plans lines
   -- the tapes are what the connections kept
   pub tapes_are : map tape_view tapes ≡ tapes_in 0 (handles_after lines)
 
 -- so far in a run
-pub record SoFar {L : Type 0} (look : L → Looks) (login : Login) (plans : Plans) (done : List Step)
-    (slots : List (Slot L)) (answers : List StepAnswer) : Type 0 where
+pub record SoFar {L : Type 0} (look : L → Looks) (login : Login) (plans : Plans) (before now : DialCounts)
+    (done : List Step) (slots : List (Slot L)) (answers : List StepAnswer) : Type 0 where
   pub lines : List Line
   pub steps_are : steps_of lines ≡ done
   pub answered : map answer_view answers ≡ answers_of lines
-  pub handles_are : map handle_of slots ≡ handles_after lines
+  pub handles_are : map (handle_of look) slots ≡ handles_after lines
   pub stood : AreStood login slots
-  pub planned : ℕ → ℕ
-  pub played : ArePlayed look plans (uses_of lines) planned 0 slots
-  pub held : (m : ℕ) → HoldsAre login (plans.reads m) m lines (planned m)
-  pub silent : (m : ℕ) → length slots ≤ m → IsSilent m (uses_of lines) × (planned m ≡ 0)
-  pub grown : AreGrown login lines
+  pub grown : AreGrown login plans lines
+  pub dialed : AreDialed before lines now
   pub explained : EachExplained login plans lines
 
 -- so it is for all plans that are those which the world told
-abbrev pub RunSoFar : {L : Type 0} → (L → Looks) → Login → Plans → List Step → List (Slot L) → List StepAnswer
-    → Type 0
-RunSoFar look login told done slots answers = (plans : Plans) → SamePlans told plans
-    → SoFar look login plans done slots answers
+abbrev pub RunSoFar : {L : Type 0} → (L → Looks) → Login → Plans → DialCounts → DialCounts → List Step → List (Slot L)
+    → List StepAnswer → Type 0
+RunSoFar look login told before now done slots answers = (plans : Plans) → SamePlans told plans
+    → SoFar look login plans before now done slots answers
 
-abbrev pub RunsTo : Login → Plans → List Step → List StepAnswer → List Tape → Type 0
-RunsTo login told steps answers tapes = (plans : Plans) → SamePlans told plans
-    → Headline login plans steps answers tapes
+abbrev pub RunsTo : Login → Plans → DialCounts → DialCounts → List Step → List StepAnswer → List Tape → Type 0
+RunsTo login told before later steps answers tapes = (plans : Plans) → SamePlans told plans
+    → Headline login plans before later steps answers tapes

@@ -1,13 +1,13 @@
 pub mod Input
 pub mod Output
 pub mod Handle
-pub mod Held
 pub mod Slot
 pub mod Tapes
 pub mod Sums
 pub mod Keeps
 pub mod Ready
 pub mod Grows
+pub mod Dialing
 pub mod Did
 pub mod Connecting
 pub mod Gathering

@@ -6,21 +6,22 @@ use Rattle.my_run.specs.declared.slot.Slot.{Slot}
 use Rattle.my_run.specs.Handle.{Handle, Absent, Dialing, Joined}
 use Rattle.my_run.specs.Keeps.{IsStood, AreStood}
 use Rattle.my_run.specs.Slot.{handle_of}
+use Rattle.my_link.specs.Looks.{Looks}
 
 -- the same for a number and for all numbers
 abbrev pub IsJoined : Handle → Type 0
 IsJoined Absent = Unit {0}
 IsJoined Dialing = Unit {0}
-IsJoined (Joined false k) = Unit {0}
-IsJoined (Joined true k) = JoinedBy k.pending k
+IsJoined (Joined false k x) = Unit {0}
+IsJoined (Joined true k x) = JoinedBy k.pending k
 
 abbrev pub AllJoined : List Handle → Type 0
 AllJoined [] = Unit {0}
 AllJoined (h ∷ hs) = IsJoined h × AllJoined hs
 
 -- a number at which a call may begin, and all numbers
-abbrev pub SlotReady : {L : Type 0} → Slot L → Type 0
-SlotReady s = (login : Login) × IsStood login s × IsJoined (handle_of s)
+abbrev pub SlotReady : {L : Type 0} → (L → Looks) → Slot L → Type 0
+SlotReady look s = (login : Login) × IsStood login s × IsJoined (handle_of look s)
 
-abbrev pub AreReady : {L : Type 0} → List (Slot L) → Type 0
-AreReady ss = (login : Login) × AreStood login ss × AllJoined (map handle_of ss)
+abbrev pub AreReady : {L : Type 0} → (L → Looks) → List (Slot L) → Type 0
+AreReady look ss = (login : Login) × AreStood login ss × AllJoined (map (handle_of look) ss)

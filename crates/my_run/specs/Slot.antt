@@ -4,10 +4,11 @@ use Rattle.my_run.specs.declared.slot.Slot.{Slot}
 use Rattle.my_run.specs.declared.slot.Slot.TheVariants.{Gone, Held, There, Ended}
 use Rattle.my_run.specs.Handle.{Handle, Absent, Dialing, Joined}
 use Rattle.my_client.specs.Conn.{kept_of}
+use Rattle.my_link.specs.Looks.{Looks}
 
 -- a connection whose dial failed has no tape, and one that couldn't connect isn't there any more
-abbrev pub handle_of : {L : Type 0} → Slot L → Handle
-handle_of Gone = Absent
-handle_of Held = Dialing
-handle_of (There c) = Joined true (kept_of c)
-handle_of (Ended c) = Joined false (kept_of c)
+abbrev pub handle_of : {L : Type 0} → (L → Looks) → Slot L → Handle
+handle_of look Gone = Absent
+handle_of look Held = Dialing
+handle_of look (There c) = Joined true (kept_of c) (look c.link)
+handle_of look (Ended c) = Joined false (kept_of c) (look c.link)

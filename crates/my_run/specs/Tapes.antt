@@ -42,7 +42,7 @@ tape_of n k =
 abbrev pub tape_at : ℕ → Handle → List TapeView
 tape_at n Absent = []
 tape_at n Dialing = []
-tape_at n (Joined there k) = tape_of n k ∷ []
+tape_at n (Joined there k x) = tape_of n k ∷ []
 
 -- the tapes of these numbers, from this one on
 abbrev pub tapes_in : ℕ → List Handle → List TapeView

@@ -15,27 +15,13 @@ use Rattle.my_run.specs.declared.tool.Status.TheVariants.{Done, NoCommand, Unrea
 use Rattle.my_run.specs.Input.{IsRead, IsTooLong, IsBroken}
 use Rattle.my_run.specs.Output.{WroteAll, WrotePart}
 use Rattle.my_run.specs.Headline.{Headline}
-use Rattle.my_world.specs.World.{Plans, WorldSeen}
+use Rattle.my_frame.specs.Sources.{SourceSeen}
+use Rattle.my_frame.specs.Sinks.{SinkSeen}
+use Rattle.my_world.specs.World.{Plans, WorldSeen, DialCounts}
 use Rattle.my_client.specs.Login.{login_of}
 use Rattle.my_script.specs.Script.{Script, Good, Bad, script_of}
 use Rattle.my_script.specs.Text.{text_of}
 use Rattle.my_script.specs.Words.{script_word_of, word_opts}
-
--- what is known of the source: the bytes that it has left, if it tells, and how often it failed
-pub record SourceSeen : Type 0 where
-  pub left : Option (List ℕ)
-  pub faults : ℕ
-
--- what is known of the sink: the bytes that it took, if it tells, and how often it failed
-pub record SinkSeen : Type 0 where
-  pub took : Option (List ℕ)
-  pub faults : ℕ
-
-abbrev pub source_seen : Option (List ℕ) → ℕ → SourceSeen
-source_seen left faults = record { left = left; faults = faults }
-
-abbrev pub sink_seen : Option (List ℕ) → ℕ → SinkSeen
-sink_seen took faults = record { took = took; faults = faults }
 
 pub record IsEmpty (t : Transcript) : Type 0 where
   pub answers : t.answers.items ≡ []
@@ -54,65 +40,67 @@ plans_with world lines = record {
 }
 
 -- all steps were run, and their whole text went out
-pub record IsDone (login : Login) (plans : Plans) (steps : List Step) (w v : SinkSeen) (t : Transcript) : Type 0 where
-  pub run : Headline login plans steps t.answers.items t.tapes.items
-  pub written : WroteAll w.took (text_of t.answers.items t.tapes.items) v.took w.faults v.faults
+pub record IsDone (login : Login) (plans : Plans) (before later : DialCounts) (steps : List Step) (w v : SinkSeen)
+    (t : Transcript) : Type 0 where
+  pub run : Headline login plans before later steps t.answers.items t.tapes.items
+  pub written : WroteAll w (text_of t.answers.items t.tapes.items) v
 
 -- all steps were run, and a beginning of their text went out before the sink failed
-pub record IsCut (login : Login) (plans : Plans) (steps : List Step) (w v : SinkSeen) (t : Transcript) : Type 0 where
-  pub run : Headline login plans steps t.answers.items t.tapes.items
-  pub written : WrotePart w.took (text_of t.answers.items t.tapes.items) v.took w.faults v.faults
+pub record IsCut (login : Login) (plans : Plans) (before later : DialCounts) (steps : List Step) (w v : SinkSeen)
+    (t : Transcript) : Type 0 where
+  pub run : Headline login plans before later steps t.answers.items t.tapes.items
+  pub written : WrotePart w (text_of t.answers.items t.tapes.items) v
 
-abbrev pub ScriptEnds : Login → Plans → List Step → SinkSeen → SinkSeen → Transcript → Status → Type 0
-ScriptEnds login plans steps w v t Done = IsDone login plans steps w v t
-ScriptEnds login plans steps w v t SinkFailed = IsCut login plans steps w v t
-ScriptEnds login plans steps w v t NoMemory = IsBlank w v t
-ScriptEnds login plans steps w v t _ = ⊥
+abbrev pub ScriptEnds : Login → Plans → DialCounts → DialCounts → List Step → SinkSeen → SinkSeen → Transcript → Status
+    → Type 0
+ScriptEnds login plans before later steps w v t Done = IsDone login plans before later steps w v t
+ScriptEnds login plans before later steps w v t SinkFailed = IsCut login plans before later steps w v t
+ScriptEnds login plans before later steps w v t NoMemory = IsBlank w v t
+ScriptEnds login plans before later steps w v t _ = ⊥
 
 -- the script was read
-pub record IsGood (login : Login) (world : WorldSeen) (script : Script) (w v : SinkSeen) (t : Transcript)
+pub record IsGood (login : Login) (world later : WorldSeen) (script : Script) (w v : SinkSeen) (t : Transcript)
     (status : Status) : Type 0 where
   pub lines : List WorldLine
   pub steps : List Step
   pub good : script ≡ Good lines steps
-  pub ends : ScriptEnds login (plans_with world lines) steps w v t status
+  pub ends : ScriptEnds login (plans_with world lines) world.dials later.dials steps w v t status
 
 -- this line doesn't read, and none before it; nothing was written
 pub record IsBadLine (script : Script) (w v : SinkSeen) (t : Transcript) (line : BadLine) : Type 0 where
   pub bad : script ≡ Bad line.number line.text
   pub blank : IsBlank w v t
 
-abbrev pub TextEnds : Login → WorldSeen → Script → SinkSeen → SinkSeen → Transcript → Status → Type 0
-TextEnds login world script w v t Done = IsGood login world script w v t Done
-TextEnds login world script w v t (Unread line) = IsBadLine script w v t line
-TextEnds login world script w v t SinkFailed = IsGood login world script w v t SinkFailed
-TextEnds login world script w v t NoMemory = IsBlank w v t
-TextEnds login world script w v t _ = ⊥
+abbrev pub TextEnds : Login → WorldSeen → WorldSeen → Script → SinkSeen → SinkSeen → Transcript → Status → Type 0
+TextEnds login world later script w v t Done = IsGood login world later script w v t Done
+TextEnds login world later script w v t (Unread line) = IsBadLine script w v t line
+TextEnds login world later script w v t SinkFailed = IsGood login world later script w v t SinkFailed
+TextEnds login world later script w v t NoMemory = IsBlank w v t
+TextEnds login world later script w v t _ = ⊥
 
--- all bytes of the source were read, and are no more than they may be
-pub record IsWhole (login : Login) (world : WorldSeen) (s r : SourceSeen) (w v : SinkSeen) (t : Transcript)
+-- the source was read to its end, and its bytes are no more than they may be
+pub record IsWhole (login : Login) (world later : WorldSeen) (s r : SourceSeen) (w v : SinkSeen) (t : Transcript)
     (status : Status) : Type 0 where
   pub bytes : List ℕ
-  pub read : IsRead MOST_INPUT s.left r.left bytes
-  pub no_fault : r.faults ≡ s.faults
-  pub ends : TextEnds login world (script_of world.takes bytes) w v t status
+  pub read : IsRead MOST_INPUT s r bytes
+  pub ends : TextEnds login world later (script_of world.takes bytes) w v t status
 
-abbrev pub InputEnds : Login → WorldSeen → SourceSeen → SourceSeen → SinkSeen → SinkSeen → Transcript → Status
-    → Type 0
-InputEnds login world s r w v t Done = IsWhole login world s r w v t Done
-InputEnds login world s r w v t (Unread line) = IsWhole login world s r w v t (Unread line)
-InputEnds login world s r w v t SourceFailed = IsBroken MOST_INPUT s.left r.left s.faults r.faults × IsBlank w v t
-InputEnds login world s r w v t SinkFailed = IsWhole login world s r w v t SinkFailed
-InputEnds login world s r w v t TooLong = IsTooLong MOST_INPUT s.left r.left × (r.faults ≡ s.faults) × IsBlank w v t
-InputEnds login world s r w v t NoMemory = IsBlank w v t
-InputEnds login world s r w v t _ = ⊥
+abbrev pub InputEnds : Login → WorldSeen → WorldSeen → SourceSeen → SourceSeen → SinkSeen → SinkSeen → Transcript
+    → Status → Type 0
+InputEnds login world later s r w v t Done = IsWhole login world later s r w v t Done
+InputEnds login world later s r w v t (Unread line) = IsWhole login world later s r w v t (Unread line)
+InputEnds login world later s r w v t SourceFailed = IsBroken MOST_INPUT s r × IsBlank w v t
+InputEnds login world later s r w v t SinkFailed = IsWhole login world later s r w v t SinkFailed
+InputEnds login world later s r w v t TooLong = IsTooLong MOST_INPUT s r × IsBlank w v t
+InputEnds login world later s r w v t NoMemory = IsBlank w v t
+InputEnds login world later s r w v t _ = ⊥
 
 -- the second word stands for options
-pub record IsWord (word : List ℕ) (world : WorldSeen) (s r : SourceSeen) (w v : SinkSeen) (t : Transcript)
+pub record IsWord (word : List ℕ) (world later : WorldSeen) (s r : SourceSeen) (w v : SinkSeen) (t : Transcript)
     (status : Status) : Type 0 where
   pub opts : OptsView
   pub read : word_opts word ≡ Ok opts
-  pub ends : InputEnds (login_of opts) world s r w v t status
+  pub ends : InputEnds (login_of opts) world later s r w v t status
 
 -- the second word is refused for this cause, and nothing was read or written
 pub record IsRefusedWord (word : List ℕ) (s r : SourceSeen) (w v : SinkSeen) (t : Transcript) (fault : WordFault)
@@ -121,34 +109,34 @@ pub record IsRefusedWord (word : List ℕ) (s r : SourceSeen) (w v : SinkSeen) (
   pub unread : r ≡ s
   pub blank : IsBlank w v t
 
-abbrev pub WordEnds : List ℕ → WorldSeen → SourceSeen → SourceSeen → SinkSeen → SinkSeen → Transcript → Status
-    → Type 0
-WordEnds word world s r w v t Done = IsWord word world s r w v t Done
-WordEnds word world s r w v t (Unread line) = IsWord word world s r w v t (Unread line)
-WordEnds word world s r w v t SourceFailed = IsWord word world s r w v t SourceFailed
-WordEnds word world s r w v t SinkFailed = IsWord word world s r w v t SinkFailed
-WordEnds word world s r w v t (Refused fault) = IsRefusedWord word s r w v t fault
-WordEnds word world s r w v t TooLong = IsWord word world s r w v t TooLong
-WordEnds word world s r w v t NoMemory = IsBlank w v t
-WordEnds word world s r w v t NoCommand = ⊥
+abbrev pub WordEnds : List ℕ → WorldSeen → WorldSeen → SourceSeen → SourceSeen → SinkSeen → SinkSeen → Transcript
+    → Status → Type 0
+WordEnds word world later s r w v t Done = IsWord word world later s r w v t Done
+WordEnds word world later s r w v t (Unread line) = IsWord word world later s r w v t (Unread line)
+WordEnds word world later s r w v t SourceFailed = IsWord word world later s r w v t SourceFailed
+WordEnds word world later s r w v t SinkFailed = IsWord word world later s r w v t SinkFailed
+WordEnds word world later s r w v t (Refused fault) = IsRefusedWord word s r w v t fault
+WordEnds word world later s r w v t TooLong = IsWord word world later s r w v t TooLong
+WordEnds word world later s r w v t NoMemory = IsBlank w v t
+WordEnds word world later s r w v t NoCommand = ⊥
 
 -- the words are a command
-pub record IsCommand (words : List (List ℕ)) (world : WorldSeen) (s r : SourceSeen) (w v : SinkSeen)
+pub record IsCommand (words : List (List ℕ)) (world later : WorldSeen) (s r : SourceSeen) (w v : SinkSeen)
     (t : Transcript) (status : Status) : Type 0 where
   pub word : List ℕ
   pub read : script_word_of words ≡ Some word
-  pub ends : WordEnds word world s r w v t status
+  pub ends : WordEnds word world later s r w v t status
 
-abbrev pub ToolEnds : List (List ℕ) → WorldSeen → SourceSeen → SourceSeen → SinkSeen → SinkSeen → Transcript
+abbrev pub ToolEnds : List (List ℕ) → WorldSeen → WorldSeen → SourceSeen → SourceSeen → SinkSeen → SinkSeen → Transcript
     → Status → Type 0
-ToolEnds words world s r w v t Done = IsCommand words world s r w v t Done
-ToolEnds words world s r w v t NoCommand = (script_word_of words ≡ None) × (r ≡ s) × IsBlank w v t
-ToolEnds words world s r w v t (Unread line) = IsCommand words world s r w v t (Unread line)
-ToolEnds words world s r w v t SourceFailed = IsCommand words world s r w v t SourceFailed
-ToolEnds words world s r w v t SinkFailed = IsCommand words world s r w v t SinkFailed
-ToolEnds words world s r w v t (Refused fault) = IsCommand words world s r w v t (Refused fault)
-ToolEnds words world s r w v t TooLong = IsCommand words world s r w v t TooLong
-ToolEnds words world s r w v t NoMemory = IsBlank w v t
+ToolEnds words world later s r w v t Done = IsCommand words world later s r w v t Done
+ToolEnds words world later s r w v t NoCommand = (script_word_of words ≡ None) × (r ≡ s) × IsBlank w v t
+ToolEnds words world later s r w v t (Unread line) = IsCommand words world later s r w v t (Unread line)
+ToolEnds words world later s r w v t SourceFailed = IsCommand words world later s r w v t SourceFailed
+ToolEnds words world later s r w v t SinkFailed = IsCommand words world later s r w v t SinkFailed
+ToolEnds words world later s r w v t (Refused fault) = IsCommand words world later s r w v t (Refused fault)
+ToolEnds words world later s r w v t TooLong = IsCommand words world later s r w v t TooLong
+ToolEnds words world later s r w v t NoMemory = IsBlank w v t
 
 -- the number with which the program ends
 abbrev pub code_of : Status → ℕ
@@ -161,7 +149,9 @@ code_of (Refused fault) = 6
 code_of TooLong = 7
 code_of NoMemory = 12
 
--- The report says how the run ended. Each status comes exactly where its case says, in this order: the words, the second
--- word, the source, its bytes' number, its lines, the sink; out of memory may come at any place.
-abbrev pub IsReport : List (List ℕ) → WorldSeen → SourceSeen → SourceSeen → SinkSeen → SinkSeen → Report → Type 0
-IsReport words world s r w v report = ToolEnds words world s r w v report.transcript report.status
+-- The report says how the run ended, over a world that was `world` before it and `later` after it. Each status comes exactly
+-- where its case says, in this order: the words, the second word, the source, its bytes' number, its lines, the sink; out of
+-- memory may come at any place.
+abbrev pub IsReport : List (List ℕ) → WorldSeen → WorldSeen → SourceSeen → SourceSeen → SinkSeen → SinkSeen → Report
+    → Type 0
+IsReport words world later s r w v report = ToolEnds words world later s r w v report.transcript report.status

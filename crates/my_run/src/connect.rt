@@ -1,9 +1,10 @@
 //! Dials a connection, and connects it.
-ghost use Rattle.std.specs.Prelude.{◌≡◌, ◌∷◌, [], suc, length, IfOk, OnOk};
+ghost use Rattle.std.specs.Prelude.{◌≡◌, ◌∷◌, [], suc, length, true, IfOk, OnOk};
 ghost use Rattle.my_reading.specs.Errors.{io_error};
 ghost use Rattle.my_client.specs.Login.{login_of};
 ghost use Rattle.my_world.specs.World.{SameBut};
 ghost use Rattle.my_run.specs.Connecting.{Settles, JoinsFirst, Dialed};
+ghost use Rattle.my_run.specs.Dialing.{DialsTo, dial_met};
 ghost use Rattle.my_run.specs.Did.{StepsOn};
 ghost use Rattle.my_run.specs.Grows.{DialsNext};
 ghost use Rattle.my_run.specs.Sums.{quiet};
@@ -81,6 +82,8 @@ pub(crate) fn dial_at<N: World>(
     number: u64,
 ) -> Result<(Slot<N::L>, StepResult), NoMemory>
     ensures others { SameBut number (N.seen world.old).plans (N.seen world.new).plans }
+    ensures counts { IfOk result (λ r.
+        DialsTo (N.seen world.old).dials (N.seen world.new).dials (dial_met true r.1.uses.items)) }
     ensures dialed { IfOk result (λ r.
         Dialed N.L.looks (login_of opts.now) number (N.seen world.old).plans r.0 r.1.outcome r.1.uses.items) }
 {
@@ -114,6 +117,8 @@ pub(crate) fn connect<N: World>(
 ) -> Result<StepResult, NoMemory>
     ensures others { SameBut (length slots.old.items) (N.seen world.old).plans (N.seen world.new).plans }
     ensures count { OnOk result (length slots.new.items ≡ suc (length slots.old.items)) }
+    ensures counts { IfOk result (λ d.
+        DialsTo (N.seen world.old).dials (N.seen world.new).dials (dial_met true d.uses.items)) }
     ensures steps { IfOk result (λ d.
         StepsOn N.L.looks (login_of opts.now) (N.seen world.old).plans slots.old.items slots.new.items
         (DialsNext (login_of opts.now)) d) }

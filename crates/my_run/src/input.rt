@@ -17,7 +17,7 @@ pub(crate) enum Came {
 /// Reads a source to its end.
 pub(crate) fn read_all<S: Source>(alloc: Global, src: &mut S) -> Result<Came, NoMemory>
     ensures { IfOk result (λ came.
-        CameIs MOST_INPUT (S.left src.old) (S.left src.new) (S.faults src.old) (S.faults src.new) came) }
+        CameIs MOST_INPUT (S.seen src.old) (S.seen src.new) came) }
 {
     let mut bytes = Vec::new(alloc);
     'more: while bytes.len() <= MOST_INPUT {

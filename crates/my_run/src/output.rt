@@ -13,7 +13,7 @@ fn following(bytes: &[u8], from: usize) -> &[u8]
 
 /// Writes all bytes, or returns false where the sink failed.
 pub fn write_all<W: Sink>(out: &mut W, bytes: &[u8]) -> bool
-    ensures { Wrote (W.took out.old) bytes.now (W.took out.new) (W.faults out.old) (W.faults out.new) result }
+    ensures { Wrote (W.seen out.old) bytes.now (W.seen out.new) result }
 {
     let mut from = 0;
     'rest: while from < bytes.len() {

@@ -3,6 +3,7 @@ ghost use Rattle.std.specs.Prelude.{◌≡◌, ◌≤◌, ◌++◌, [], length, 
 ghost use Rattle.my_client.specs.Conn.{kept_of};
 ghost use Rattle.my_client.specs.Login.{login_of};
 ghost use Rattle.my_world.specs.World.{SameFrom};
+ghost use Rattle.my_run.specs.Dialing.{DialsTo, dial_met, has_dialed};
 ghost use Rattle.my_run.specs.Did.{StepsOn, errand_of};
 ghost use Rattle.my_run.specs.Grows.{StepGrows};
 ghost use Rattle.my_run.specs.Headline.{RunSoFar, RunsTo};
@@ -50,12 +51,14 @@ fn run_step<N: World>(
     slots: &mut Vec<Slot<N::L>>,
     step: &Step,
 ) -> Result<StepResult, NoMemory>
-    requires { AreReady slots.old.items }
+    requires { AreReady N.L.looks slots.old.items }
     ensures longer { OnOk result (length slots.old.items ≤ length slots.new.items) }
     ensures others { OnOk result (SameFrom (length slots.new.items) (N.seen world.old).plans (N.seen world.new).plans) }
+    ensures counts { IfOk result (λ d. DialsTo (N.seen world.old).dials (N.seen world.new).dials
+        (dial_met (has_dialed step.now (map (handle_of N.L.looks) slots.old.items)) d.uses.items)) }
     ensures steps { IfOk result (λ d.
         StepsOn N.L.looks (login_of opts.now) (N.seen world.old).plans slots.old.items slots.new.items
-        (λ hs o us ts. StepGrows (login_of opts.now) hs step.now o us ts) d) }
+        (λ plans hs o us ts. StepGrows (login_of opts.now) plans hs step.now o us ts) d) }
 {
     match errand(alloc, step)? {
         None => connect(alloc, opts, world, slots),
@@ -73,8 +76,8 @@ fn run_each<N: World>(
 ) -> Result<(), NoMemory>
     requires no_slots { slots.old.items ≡ [] }
     requires no_answers { answers.old.items ≡ [] }
-    ensures { OnOk result (RunSoFar N.L.looks (login_of opts.now) (N.seen world.old).plans steps.now slots.new.items
-        answers.new.items) }
+    ensures { OnOk result (RunSoFar N.L.looks (login_of opts.now) (N.seen world.old).plans
+        (N.seen world.old).dials (N.seen world.new).dials steps.now slots.new.items answers.new.items) }
 {
     for (i, step) in steps.iter().enumerate() {
         let did = run_step(alloc, opts, world, slots, step)?;
@@ -108,14 +111,14 @@ fn end_tape<L: Drop>(alloc: Global, conn: Conn<L>, number: u64) -> Result<Tape, 
     })
 }
 
-fn keep_tape<L: Drop>(
+fn keep_tape<L: Link + Drop>(
     alloc: Global,
     tapes: &mut Vec<Tape>,
     slot: Slot<L>,
     number: u64,
 ) -> Result<(), NoMemory>
     ensures { OnOk result (
-        map tape_view tapes.new.items ≡ map tape_view tapes.old.items ++ tape_at number (handle_of slot)) }
+        map tape_view tapes.new.items ≡ map tape_view tapes.old.items ++ tape_at number (handle_of L.looks slot)) }
 {
     match slot {
         Slot::Gone | Slot::Held => Ok(()),
@@ -128,7 +131,7 @@ fn keep_tape<L: Drop>(
 
 // The tapes, in the order of their numbers.
 fn tapes_of<L: Link + Drop>(alloc: Global, mut slots: Vec<Slot<L>>) -> Result<Vec<Tape>, NoMemory>
-    ensures { IfOk result (λ tapes. map tape_view tapes.items ≡ tapes_in 0 (map handle_of slots.items)) }
+    ensures { IfOk result (λ tapes. map tape_view tapes.items ≡ tapes_in 0 (map (handle_of L.looks) slots.items)) }
 {
     let mut tapes = Vec::new(alloc);
     let mut number = 0u64;
@@ -147,7 +150,8 @@ pub(crate) fn run_steps<N: World>(
     steps: &[Step],
 ) -> Result<Transcript, NoMemory>
     ensures { IfOk result (λ t.
-        RunsTo (login_of opts.now) (N.seen world.old).plans steps.now t.answers.items t.tapes.items) }
+        RunsTo (login_of opts.now) (N.seen world.old).plans (N.seen world.old).dials (N.seen world.new).dials
+        steps.now t.answers.items t.tapes.items) }
 {
     let mut slots = Vec::new(alloc);
     let mut answers = Vec::new(alloc);

@@ -6,7 +6,7 @@ ghost use Rattle.my_run.specs.Headline.{Headline};
 ghost use Rattle.my_client.specs.Login.{login_of};
 ghost use Rattle.my_script.specs.Script.{script_of};
 ghost use Rattle.my_script.specs.Text.{text_of};
-ghost use Rattle.my_run.specs.Tool.{IsEmpty, source_seen, sink_seen, plans_with, code_of, ScriptEnds, TextEnds, InputEnds, WordEnds, IsReport};
+ghost use Rattle.my_run.specs.Tool.{IsEmpty, plans_with, code_of, ScriptEnds, TextEnds, InputEnds, WordEnds, IsReport};
 
 use crate::input::{Came, read_all};
 use crate::output::write_all;
@@ -79,7 +79,8 @@ fn blank(alloc: Global, status: Status) -> Report
 
 fn prepare_each<N: World>(world: &mut N, plan: &[WorldLine]) -> Result<(), NoMemory>
     requires { (N.seen world.old).takes ≡ true }
-    ensures { OnOk result (SamePlans (plans_after plan.now (N.seen world.old).plans) (N.seen world.new).plans) }
+    ensures plans { OnOk result (SamePlans (plans_after plan.now (N.seen world.old).plans) (N.seen world.new).plans) }
+    ensures dials { (N.seen world.new).dials ≡ (N.seen world.old).dials }
 {
     for line in plan {
         world.prepare(line)?;
@@ -89,7 +90,8 @@ fn prepare_each<N: World>(world: &mut N, plan: &[WorldLine]) -> Result<(), NoMem
 
 // Hands the world the lines of its plan, if it takes one.
 fn prepare_all<N: World>(world: &mut N, plan: &[WorldLine]) -> Result<(), NoMemory>
-    ensures { OnOk result (SamePlans (N.seen world.new).plans (plans_with (N.seen world.old) plan.now)) }
+    ensures plans { OnOk result (SamePlans (N.seen world.new).plans (plans_with (N.seen world.old) plan.now)) }
+    ensures dials { (N.seen world.new).dials ≡ (N.seen world.old).dials }
 {
     if world.plans() {
         prepare_each(world, plan)?;
@@ -105,7 +107,7 @@ fn run_script<N: World>(
     world: &mut N,
 ) -> Result<(Transcript, Vec<u8>), NoMemory>
     ensures run { IfOk result (λ r. Headline (login_of opts.now) (plans_with (N.seen world.old) script.now.plan.items)
-        script.now.steps.items r.0.answers.items r.0.tapes.items) }
+        (N.seen world.old).dials (N.seen world.new).dials script.now.steps.items r.0.answers.items r.0.tapes.items) }
     ensures text { IfOk result (λ r. r.1.items ≡ text_of r.0.answers.items r.0.tapes.items) }
 {
     prepare_all(world, &script.plan)?;
@@ -122,9 +124,8 @@ fn run_good<W: Sink, N: World>(
     world: &mut N,
 ) -> Report
     ensures { ScriptEnds (login_of opts.now) (plans_with (N.seen world.old) script.now.plan.items)
-        script.now.steps.items
-        (sink_seen (W.took out.old) (W.faults out.old)) (sink_seen (W.took out.new) (W.faults out.new))
-        result.transcript result.status }
+        (N.seen world.old).dials (N.seen world.new).dials script.now.steps.items
+        (W.seen out.old) (W.seen out.new) result.transcript result.status }
 {
     match run_script(alloc, opts, script, world) {
         Err(_) => blank(alloc, Status::NoMemory),
@@ -151,9 +152,9 @@ fn run_text<W: Sink, N: World>(
     out: &mut W,
     world: &mut N,
 ) -> Report
-    ensures { TextEnds (login_of opts.now) (N.seen world.old) (script_of (N.seen world.old).takes bytes.now)
-        (sink_seen (W.took out.old) (W.faults out.old)) (sink_seen (W.took out.new) (W.faults out.new))
-        result.transcript result.status }
+    ensures { TextEnds (login_of opts.now) (N.seen world.old) (N.seen world.new)
+        (script_of (N.seen world.old).takes bytes.now)
+        (W.seen out.old) (W.seen out.new) result.transcript result.status }
 {
     match read_script(alloc, world.plans(), bytes) {
         Err(_) => blank(alloc, Status::NoMemory),
@@ -169,10 +170,8 @@ fn run_input<S: Source, W: Sink, N: World>(
     out: &mut W,
     world: &mut N,
 ) -> Report
-    ensures { InputEnds (login_of opts.now) (N.seen world.old)
-        (source_seen (S.left src.old) (S.faults src.old)) (source_seen (S.left src.new) (S.faults src.new))
-        (sink_seen (W.took out.old) (W.faults out.old)) (sink_seen (W.took out.new) (W.faults out.new))
-        result.transcript result.status }
+    ensures { InputEnds (login_of opts.now) (N.seen world.old) (N.seen world.new)
+        (S.seen src.old) (S.seen src.new) (W.seen out.old) (W.seen out.new) result.transcript result.status }
 {
     match read_all(alloc, src) {
         Err(_) => blank(alloc, Status::NoMemory),
@@ -189,10 +188,8 @@ fn run_word<S: Source, W: Sink, N: World>(
     out: &mut W,
     world: &mut N,
 ) -> Report
-    ensures { WordEnds word.now (N.seen world.old)
-        (source_seen (S.left src.old) (S.faults src.old)) (source_seen (S.left src.new) (S.faults src.new))
-        (sink_seen (W.took out.old) (W.faults out.old)) (sink_seen (W.took out.new) (W.faults out.new))
-        result.transcript result.status }
+    ensures { WordEnds word.now (N.seen world.old) (N.seen world.new)
+        (S.seen src.old) (S.seen src.new) (W.seen out.old) (W.seen out.new) result.transcript result.status }
 {
     match read_word(alloc, word) {
         Err(_) => blank(alloc, Status::NoMemory),
@@ -212,10 +209,8 @@ pub fn run_tool<S: Source, W: Sink, N: World>(
     out: &mut W,
     world: &mut N,
 ) -> Report
-    ensures { IsReport (map string_bytes words.now) (N.seen world.old)
-        (source_seen (S.left src.old) (S.faults src.old)) (source_seen (S.left src.new) (S.faults src.new))
-        (sink_seen (W.took out.old) (W.faults out.old)) (sink_seen (W.took out.new) (W.faults out.new))
-        result }
+    ensures { IsReport (map string_bytes words.now) (N.seen world.old) (N.seen world.new)
+        (S.seen src.old) (S.seen src.new) (W.seen out.old) (W.seen out.new) result }
 {
     match script_word(words) {
         None => blank(alloc, Status::NoCommand),

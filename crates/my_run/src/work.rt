@@ -1,9 +1,12 @@
 //! What a step does at a connection's number.
-ghost use Rattle.std.specs.Prelude.{◌≡◌, length, IfOk, OnOk};
+ghost use Rattle.std.specs.Prelude.{◌≡◌, length, map, IfOk, OnOk};
 ghost use Rattle.my_client.specs.Login.{login_of};
 ghost use Rattle.my_client.specs.Ready.{ConnReady};
 ghost use Rattle.my_world.specs.World.{SameBut, SameFrom};
-ghost use Rattle.my_run.specs.Did.{MayBegin, does_at, EachDid, DoesAt, StepsOn};
+ghost use Rattle.my_run.specs.Dialing.{DialsTo, dial_met};
+ghost use Rattle.my_run.specs.Did.{MayBegin, does_at, EachDid, DoesAt, StepsOn, is_poll, redials};
+ghost use Rattle.my_run.specs.Handle.{at_number};
+ghost use Rattle.my_run.specs.Slot.{handle_of};
 ghost use Rattle.my_run.specs.Grows.{At};
 ghost use Rattle.my_run.specs.Ready.{SlotReady, AreReady};
 ghost use Rattle.my_run.specs.declared.slot.Slot.TheVariants.{Held as HeldAt};
@@ -82,6 +85,8 @@ fn work_held<N: World>(
     work: Work,
 ) -> Result<(Slot<N::L>, StepResult), NoMemory>
     ensures others { SameBut number (N.seen world.old).plans (N.seen world.new).plans }
+    ensures counts { IfOk result (λ r. DialsTo (N.seen world.old).dials (N.seen world.new).dials
+        (dial_met (is_poll work) r.1.uses.items)) }
     ensures did { IfOk result (λ r. DoesAt N.L.looks (login_of opts.now) number work HeldAt r.0 r.1) }
 {
     match work {
@@ -101,9 +106,11 @@ fn work_on<N: World>(
     number: u64,
     work: Work,
 ) -> Result<(Slot<N::L>, StepResult), NoMemory>
-    requires ready { SlotReady slot }
+    requires ready { SlotReady N.L.looks slot }
     requires kind { MayBegin work }
     ensures others { SameBut number (N.seen world.old).plans (N.seen world.new).plans }
+    ensures counts { IfOk result (λ r. DialsTo (N.seen world.old).dials (N.seen world.new).dials
+        (dial_met (redials (handle_of N.L.looks slot) work) r.1.uses.items)) }
     ensures did { IfOk result (λ r. DoesAt N.L.looks (login_of opts.now) number work slot r.0 r.1) }
 {
     match slot {
@@ -125,13 +132,15 @@ pub(crate) fn work_at<N: World>(
     number: u64,
     work: Work,
 ) -> Result<StepResult, NoMemory>
-    requires ready { AreReady slots.old.items }
+    requires ready { AreReady N.L.looks slots.old.items }
     requires kind { MayBegin work }
     ensures count { OnOk result (length slots.new.items ≡ length slots.old.items) }
     ensures others { SameFrom (length slots.old.items) (N.seen world.old).plans (N.seen world.new).plans }
+    ensures counts { IfOk result (λ d. DialsTo (N.seen world.old).dials (N.seen world.new).dials
+        (dial_met (redials (at_number (map (handle_of N.L.looks) slots.old.items) number) work) d.uses.items)) }
     ensures steps { IfOk result (λ d.
         StepsOn N.L.looks (login_of opts.now) (N.seen world.old).plans slots.old.items slots.new.items
-        (At number (does_at (login_of opts.now) number work)) d) }
+        (λ plans. At number (does_at (login_of opts.now) number work)) d) }
 {
     if number >= slots.len() as u64 {
         return Ok(unused(alloc, Outcome::NoSuchHandle));

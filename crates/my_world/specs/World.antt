@@ -1,5 +1,6 @@
 -- What clauses see of a world, and what a dial returns.
 use Rattle.std.specs.Prelude.{ℕ, ◌≡◌, ◌≢◌, ◌≤◌, List, [], Option, Some, None, Bool}
+use Rattle.my_frame.specs.Outside.{Rose}
 use Rattle.my_link.specs.declared.link.ReadItem.{ReadItem}
 use Rattle.my_link.specs.declared.link.WriteItem.{WriteItem}
 use Rattle.my_world.specs.declared.world.DialStep.{DialStep}
@@ -10,12 +11,19 @@ pub record Plans : Type 0 where
   pub reads : ℕ → Option (List ReadItem)
   pub writes : ℕ → Option (List WriteItem)
 
--- whether a world takes a plan, the plan, and how often a dial failed and held
+-- how often a dial failed, and how often it wasn't ready
+pub record DialCounts : Type 0 where
+  pub faults : ℕ
+  pub holds : ℕ
+
+abbrev pub no_dials : DialCounts
+no_dials = record { faults = 0; holds = 0 }
+
+-- whether a world takes a plan, the plan, and the counts of its dials
 pub record WorldSeen : Type 0 where
   pub takes : Bool
   pub plans : Plans
-  pub faults : ℕ
-  pub holds : ℕ
+  pub dials : DialCounts
 
 -- both plans have the same items for link n
 pub record SameAt (old new : Plans) (n : ℕ) : Type 0 where
@@ -38,15 +46,26 @@ IfLink (Link l) P = P l
 IfLink NotYet P = Unit {0}
 IfLink Failed P = Unit {0}
 
-abbrev pub OnFailed : {L : Type 0} → DialStep L → Type 0 → Type 0
-OnFailed (Link l) P = Unit {0}
-OnFailed NotYet P = Unit {0}
-OnFailed Failed P = P
+-- no dial fails or isn't ready where `P` doesn't hold
+abbrev pub OnNoLink : {L : Type 0} → DialStep L → Type 0 → Type 0
+OnNoLink (Link l) P = Unit {0}
+OnNoLink NotYet P = P
+OnNoLink Failed P = P
 
-abbrev pub OnHeld : {L : Type 0} → DialStep L → Type 0 → Type 0
-OnHeld (Link l) P = Unit {0}
-OnHeld NotYet P = P
-OnHeld Failed P = Unit {0}
+-- the faults rose, and nothing else
+pub record DialFailed (c d : DialCounts) : Type 0 where
+  pub faults : Rose c.faults d.faults
+  pub holds : d.holds ≡ c.holds
+
+-- the holds rose, and nothing else
+pub record DialHeld (c d : DialCounts) : Type 0 where
+  pub faults : d.faults ≡ c.faults
+  pub holds : Rose c.holds d.holds
+
+abbrev pub CountsDial : {L : Type 0} → DialCounts → DialCounts → DialStep L → Type 0
+CountsDial c d (Link l) = d ≡ c
+CountsDial c d NotYet = DialHeld c d
+CountsDial c d Failed = DialFailed c d
 
 -- nothing was sent yet, where that is told
 abbrev pub IsFresh : Option (List ℕ) → Type 0

@@ -1,8 +1,7 @@
 //! Where links come from.
 ghost use Rattle.std.specs.Prelude.{◌≡◌, None, true, OnOk, OnErr};
-ghost use Rattle.my_frame.specs.Outside.{Rose};
 ghost use Rattle.my_link.specs.Outside.{no_counts};
-ghost use Rattle.my_world.specs.World.{WorldSeen, SamePlans, SameBut, IfLink, OnFailed, OnHeld, IsFresh};
+ghost use Rattle.my_world.specs.World.{WorldSeen, SamePlans, SameBut, IfLink, OnNoLink, CountsDial, IsFresh};
 ghost use Rattle.my_world.specs.Plan.{plans_on};
 
 use crate::line::WorldLine;
@@ -21,7 +20,8 @@ pub enum DialStep<L> {
 pub trait World {
     type L: Link + Drop;
 
-    /// Whether it takes a plan, the plan of each link where it tells it, and how often a dial failed and held.
+    /// Whether it takes a plan, the plan of each link where it tells it, and how often a dial failed and wasn't ready.
+    /// A count never falls, and rises with each such result until it is at its greatest value.
     ghost seen: { Self → WorldSeen };
 
     /// Whether it takes the lines of a plan.
@@ -33,27 +33,29 @@ pub trait World {
         requires { (seen self.old).takes ≡ true }
         ensures ok { OnOk result (SamePlans (plans_on line.now (seen self.old).plans) (seen self.new).plans) }
         ensures err { OnErr result (SamePlans (seen self.old).plans (seen self.new).plans) }
-        ensures takes { (seen self.new).takes ≡ (seen self.old).takes };
+        ensures takes { (seen self.new).takes ≡ (seen self.old).takes }
+        ensures dials { (seen self.new).dials ≡ (seen self.old).dials };
 
-    /// Dials the link of `number`. A world that tells its plan holds no dial.
+    /// Dials the link of `number`. Where a world tells the plan of a link, its dial is ready and doesn't fail.
     fn dial(&mut self, number: u64) -> DialStep<Self::L>
         ensures items { IfLink result (λ l. (Self.L.looks l).items ≡ (seen self.old).plans.reads number) }
         ensures writes { IfLink result (λ l. (Self.L.looks l).writes ≡ (seen self.old).plans.writes number) }
-        ensures got { IfLink result (λ l. IsFresh (Self.L.got l)) }
+        ensures got { IfLink result (λ l. IsFresh (Self.L.looks l).got) }
         ensures counts { IfLink result (λ l. (Self.L.looks l).counts ≡ no_counts) }
         ensures others { SameBut number (seen self.old).plans (seen self.new).plans }
         ensures takes { (seen self.new).takes ≡ (seen self.old).takes }
-        ensures fault { OnFailed result (Rose (seen self.old).faults (seen self.new).faults) }
-        ensures told_hold { OnHeld result ((seen self.old).plans.reads number ≡ None) }
-        ensures hold { OnHeld result (Rose (seen self.old).holds (seen self.new).holds) };
+        ensures told { OnNoLink result ((seen self.old).plans.reads number ≡ None) }
+        ensures dials { CountsDial (seen self.old).dials (seen self.new).dials result };
 
     /// The time, in milliseconds.
     fn now(&mut self) -> u64
         ensures plans { SamePlans (seen self.old).plans (seen self.new).plans }
-        ensures takes { (seen self.new).takes ≡ (seen self.old).takes };
+        ensures takes { (seen self.new).takes ≡ (seen self.old).takes }
+        ensures dials { (seen self.new).dials ≡ (seen self.old).dials };
 
     /// The next random word.
     fn random(&mut self) -> u64
         ensures plans { SamePlans (seen self.old).plans (seen self.new).plans }
-        ensures takes { (seen self.new).takes ≡ (seen self.old).takes };
+        ensures takes { (seen self.new).takes ≡ (seen self.old).takes }
+        ensures dials { (seen self.new).dials ≡ (seen self.old).dials };
 }

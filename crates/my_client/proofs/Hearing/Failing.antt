@@ -25,7 +25,8 @@ use Rattle.my_session.specs.Stands.{Stands, is_alive, owes}
 use Rattle.my_session.specs.Steps.{Steps, AllGo, goes_on, moved, with_end, with_failing, failing}
 use Rattle.my_session.proofs.Ends.{first_goes}
 use Rattle.my_client.specs.declared.tape.DoneCall.{DoneCall}
-use Rattle.my_client.specs.Causes.{KindBy, IoBy, ErrorBy}
+use Rattle.my_client.specs.Causes.{Asks, Waiting, KindBy, IoBy, ErrorBy}
+use Rattle.my_client.specs.Poll.{Awaits, Waits}
 use Rattle.my_client.specs.Kept.{Asked, Kept, IsHeard}
 use Rattle.my_client.specs.Rests.{IsAsked, IsHeld, FailsNow, HasFailed, AwaitsBytes}
 use Rattle.my_client.proofs.Hearing.{heard_end, heard_failing}
@@ -64,21 +65,21 @@ never_ended login s t k a e true c w op v ne ended =
     let quiet : s.owed ≡ [] = w.rests.heard.stands.settled (ap owes leaving) in
     ne (leaving_from s t e v.count (leaving_told s leaving quiet) v.go v.last)
 
-kind_by : (kind : IoKind) (ended : Bool) → (ended ≡ true → ⊥) → OwnKind ended kind → KindBy kind 0 0
-kind_by kinds.Link ended n o = absurd o
-kind_by kinds.Dial ended n o = absurd o
-kind_by kinds.UnexpectedEof ended n o = absurd (n o)
-kind_by kinds.InvalidData ended n o = refl
+kind_by : (login : Login) (k : Kept) (kind : IoKind) (ended : Bool) → (ended ≡ true → ⊥) → OwnKind ended kind → KindBy login k kind 0 0
+kind_by login k kinds.Link ended n o = absurd o
+kind_by login k kinds.Dial ended n o = absurd o
+kind_by login k kinds.UnexpectedEof ended n o = absurd (n o)
+kind_by login k kinds.InvalidData ended n o = refl
 
-io_by : (e : IoError) (ended : Bool) → (ended ≡ true → ⊥) → OwnIo ended e → IoBy e 0 0
-io_by (ios.Io fault) ended n o = kind_by fault.kind ended n o
-io_by (ios.Codec fault) ended n o = refl
+io_by : (login : Login) (k : Kept) (e : IoError) (ended : Bool) → (ended ≡ true → ⊥) → OwnIo ended e → IoBy login k e 0 0
+io_by login k (ios.Io fault) ended n o = kind_by login k fault.kind ended n o
+io_by login k (ios.Codec fault) ended n o = refl
 
-own_by : (e : Error) (ended : Bool) → e ≢ errors.NoMemory → (ended ≡ true → ⊥) → OwnError ended e → ErrorBy e 0 0
-own_by (errors.Driver e) ended ne n o = absurd o
-own_by (errors.Io e) ended ne n o = io_by e ended n o
-own_by (errors.Server e) ended ne n o = refl
-own_by errors.NoMemory ended ne n o = absurd (ne refl)
+own_by : (login : Login) (k : Kept) (e : Error) (ended : Bool) → e ≢ errors.NoMemory → (ended ≡ true → ⊥) → OwnError ended e → ErrorBy login k e 0 0
+own_by login k (errors.Driver e) ended ne n o = absurd o
+own_by login k (errors.Io e) ended ne n o = io_by login k e ended n o
+own_by login k (errors.Server e) ended ne n o = refl
+own_by login k errors.NoMemory ended ne n o = absurd (ne refl)
 
 -- the step failed the call, and the link had no part in it
 pub faulted : (login : Login) (s t : Seen) (k : Kept) (a : Asked) (e : Error) → e ≢ errors.NoMemory → IsAsked login s k a → is_open s.task ≡ true → Steps s t (steps.Fault e) → t.task ≡ Nothing → StepStands s t (steps.Fault e) → HasFailed login t k a e 0 0
@@ -88,7 +89,7 @@ faulted login s t k a e ne w op v n st =
     record {
       rests = record { heard = u.heard; sound = nothing_faults t.task n; alive = λ c. u.ended ∙ w.rests.alive (u.closed c) };
       why = u.why;
-      by = own_by e s.ended ne (λ ended. never_ended login s t k a e s.closed refl w op v ne ended) own;
+      by = own_by login k e s.ended ne (λ ended. never_ended login s t k a e s.closed refl w op v ne ended) own;
     }
 
 -- the link failed, and the call was told so
@@ -103,14 +104,24 @@ told_to_fail Dropping fault o = refl
 told_to_fail Leaving fault o = refl
 told_to_fail (Failing c old) fault o = refl
 
-link_by : (e : Error) → e ≢ errors.NoMemory → IsLinkError faults.Link e → ErrorBy e 1 0
-link_by e ne l = elim l.1 as (λ _. ErrorBy e 1 0) [
-  | inl is ↦ subst (λ (x : Error). ErrorBy x 1 0) (sym is) (omega arith)
+link_by : (login : Login) (k : Kept) (e : Error) → e ≢ errors.NoMemory → Waiting login k → IsLinkError faults.Link e → ErrorBy login k e 1 0
+link_by login k e ne waits l = elim l.1 as (λ _. ErrorBy login k e 1 0) [
+  | inl is ↦ subst (λ (x : Error). ErrorBy login k x 1 0) (sym is) (omega arith, waits)
   | inr is ↦ absurd (ne is)
 ]
 
-pub broke : (login : Login) (s r t : Seen) (k : Kept) (a : Asked) (e : Error) → e ≢ errors.NoMemory → IsHeld login s k a → is_open s.task ≡ true → r ≡ with_failing s faults.Link → FailsNow login r t k a e → HasFailed login t k a e 1 0
-broke login s r t k a e ne w op is u =
+-- the session asks to send or for bytes
+waits_open : (s : Seen) → Waits s → is_open s.task ≡ true
+waits_open s (inl w) = w.0
+waits_open s (inr w) = w.needs.0
+
+waiting_by : (login : Login) (s : Seen) (k : Kept) → IsHeard login s k → Waits s → Waiting login k
+waiting_by login s k w (inl a) = inl (record { session = s; heard = w; asks = a })
+waiting_by login s k w (inr a) = inr (record { session = s; heard = w; asks = a })
+
+pub broke : (login : Login) (s r t : Seen) (k : Kept) (a : Asked) (e : Error) → e ≢ errors.NoMemory → IsHeld login s k a → Waits s → r ≡ with_failing s faults.Link → FailsNow login r t k a e → HasFailed login t k a e 1 0
+broke login s r t k a e ne w asks is u =
+    let op : is_open s.task ≡ true = waits_open s asks in
     let fault : fault_in r.task ≡ Some faults.Link = ap (λ (s : Seen). fault_in s.task) is ∙ told_to_fail s.task faults.Link op in
     let link : IsLinkError faults.Link e = subst (λ (f : Option LinkFault). FaultFits f r.ended e) fault u.fits in
     record {
@@ -120,23 +131,23 @@ broke login s r t k a e ne w op is u =
         alive = λ c. u.ended ∙ ap (λ (s : Seen). s.ended) is ∙ w.asked.rests.alive (sym (ap (λ (s : Seen). s.closed) is) ∙ u.closed c);
       };
       why = u.why;
-      by = link_by e ne link;
+      by = link_by login k e ne (waiting_by login s k w.asked.rests.heard asks) link;
     }
 
 -- the link told its end where bytes were awaited
-eof_by : (login : Login) (r t : Seen) (k : Kept) (a : Asked) (e : Error) (place : ℕ) → e ≡ unexpected_eof place → FailsNow login r t k a e → HasFailed login t k a e 0 1
-eof_by login r t k a e place is u =
+eof_by : (login : Login) (r t : Seen) (k : Kept) (a : Asked) (e : Error) (place : ℕ) → e ≡ unexpected_eof place → Asks login k Awaits → FailsNow login r t k a e → HasFailed login t k a e 0 1
+eof_by login r t k a e place is asks u =
     let shut : t.closed ≡ true = u.shut _ is in
     record {
       rests = record { heard = u.heard; sound = nothing_faults t.task u.nothing; alive = λ c. let no : true ≡ false = sym shut ∙ c in cc };
       why = u.why;
-      by = subst (λ (x : Error). ErrorBy x 0 1) (sym is) (refl, omega arith);
+      by = subst (λ (x : Error). ErrorBy login k x 0 1) (sym is) (refl, omega arith, asks);
     }
 
-pub ended : (login : Login) (s r t : Seen) (k : Kept) (a : Asked) (e : Error) → e ≢ errors.NoMemory → AwaitsBytes s → r ≡ with_end s → FailsNow login r t k a e → HasFailed login t k a e 0 1
-ended login s r t k a e ne waits is u =
+pub ended : (login : Login) (s r t : Seen) (k : Kept) (a : Asked) (e : Error) → e ≢ errors.NoMemory → AwaitsBytes s → Asks login k Awaits → r ≡ with_end s → FailsNow login r t k a e → HasFailed login t k a e 0 1
+ended login s r t k a e ne waits asks is u =
     elim (waits t e (subst (λ (r : Seen). Steps r t (steps.Fault e)) is u.step)) as (λ _. HasFailed login t k a e 0 1) [
-      | inl eof ↦ eof_by login r t k a e s.facts.place eof u
+      | inl eof ↦ eof_by login r t k a e s.facts.place eof asks u
       | inr memory ↦ absurd (ne memory)
     ]
 
@@ -149,15 +160,15 @@ same_kept : (k g : Kept) → g.sent ≡ k.sent → g.taken ≡ k.taken → g.cal
 same_kept k g s t c p = ap (λ (x : List ℕ). record { sent = x; taken = g.taken; calls = g.calls; pending = g.pending }) s ∙ ap (λ (x : List ℕ). record { sent = k.sent; taken = x; calls = g.calls; pending = g.pending }) t ∙ ap (λ (x : List DoneCall). record { sent = k.sent; taken = k.taken; calls = x; pending = g.pending }) c ∙ ap (λ (x : Option Asked). record { sent = k.sent; taken = k.taken; calls = k.calls; pending = x }) p
 
 -- the fault of a link, after which what was kept is the same
-pub broke_so : (login : Login) (s r t : Seen) (k g : Kept) (a : Asked) (e : Error) → e ≢ errors.NoMemory → is_open s.task ≡ true → r ≡ with_failing s faults.Link → ((h : History) → Stands s h → Stands r h) → ((login : Login) (a : Asked) → IsHeard login r k → k.pending ≡ Some a → FailsNow login r t k a e) → g.sent ≡ k.sent → g.taken ≡ k.taken → g.calls ≡ k.calls → g.pending ≡ k.pending → IsHeld login s k a → HasFailed login t g a e 1 0
-broke_so login s r t k g a e ne op is st fails s1 t1 c1 p1 w =
+pub broke_so : (login : Login) (s r t : Seen) (k g : Kept) (a : Asked) (e : Error) → e ≢ errors.NoMemory → Waits s → r ≡ with_failing s faults.Link → ((h : History) → Stands s h → Stands r h) → ((login : Login) (a : Asked) → IsHeard login r k → k.pending ≡ Some a → FailsNow login r t k a e) → g.sent ≡ k.sent → g.taken ≡ k.taken → g.calls ≡ k.calls → g.pending ≡ k.pending → IsHeld login s k a → HasFailed login t g a e 1 0
+broke_so login s r t k g a e ne asks is st fails s1 t1 c1 p1 w =
     subst (λ (x : Kept). HasFailed login t x a e 1 0) (sym (same_kept k g s1 t1 c1 p1))
-    (broke login s r t k a e ne w op is (fails login a (heard_failing login s r k faults.Link is st w.asked.rests.heard) w.asked.asked))
+    (broke login s r t k a e ne w asks is (fails login a (heard_failing login s r k faults.Link is st w.asked.rests.heard) w.asked.asked))
 
-pub ended_so : (login : Login) (s r t : Seen) (k g : Kept) (a : Asked) (e : Error) → e ≢ errors.NoMemory → r ≡ with_end s → ((h : History) → Stands s h → Stands r (ending h)) → ((login : Login) (a : Asked) → IsHeard login r k → k.pending ≡ Some a → FailsNow login r t k a e) → g.sent ≡ k.sent → g.taken ≡ k.taken → g.calls ≡ k.calls → g.pending ≡ k.pending → AwaitsBytes s → IsHeld login s k a → HasFailed login t g a e 0 1
-ended_so login s r t k g a e ne is st fails s1 t1 c1 p1 waits w =
+pub ended_so : (login : Login) (s r t : Seen) (k g : Kept) (a : Asked) (e : Error) → e ≢ errors.NoMemory → r ≡ with_end s → ((h : History) → Stands s h → Stands r (ending h)) → ((login : Login) (a : Asked) → IsHeard login r k → k.pending ≡ Some a → FailsNow login r t k a e) → g.sent ≡ k.sent → g.taken ≡ k.taken → g.calls ≡ k.calls → g.pending ≡ k.pending → AwaitsBytes s → Awaits s → IsHeld login s k a → HasFailed login t g a e 0 1
+ended_so login s r t k g a e ne is st fails s1 t1 c1 p1 waits asks w =
     subst (λ (x : Kept). HasFailed login t x a e 0 1) (sym (same_kept k g s1 t1 c1 p1))
-    (ended login s r t k a e ne waits is (fails login a (heard_end login s r k is st w.asked.rests.heard) w.asked.asked))
+    (ended login s r t k a e ne waits (record { session = s; heard = w.asked.rests.heard; asks = asks }) is (fails login a (heard_end login s r k is st w.asked.rests.heard) w.asked.asked))
 
 pub faulted_same : (login : Login) (s t : Seen) (k : Kept) (a : Asked) (e x : Error) → x ≡ e → x ≢ errors.NoMemory → IsAsked login s k a → is_open s.task ≡ true → Steps s t (steps.Fault e) → t.task ≡ Nothing → StepStands s t (steps.Fault e) → HasFailed login t k a x 0 0
 faulted_same login s t k a e x is ne w op v n st = subst (λ (y : Error). HasFailed login t k a y 0 0) (sym is) (faulted login s t k a e (λ z. ne (is ∙ z)) w op v n st)

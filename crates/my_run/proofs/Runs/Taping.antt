@@ -6,6 +6,7 @@ use Rattle.my_run.specs.declared.slot.Slot.{Slot}
 use Rattle.my_client.specs.declared.tape.DoneCall.{DoneCall}
 use Rattle.my_script.specs.declared.transcript.TapeCall.{TapeCall}
 use Rattle.my_run.specs.Slot.{handle_of}
+use Rattle.my_link.specs.Looks.{Looks}
 use Rattle.my_run.specs.Tapes.{TapeView, tape_call, tape_at, tapes_in}
 
 -- a call goes from the calls to the tape, which stands in reverse
@@ -20,9 +21,9 @@ first_out [] s h e = absurd (omega (arith, h))
 first_out (x ∷ xs) s h e = ap (λ s. s ∷ xs) (sym e)
 
 -- a slot's tape, and the others'
-pub tape_on : {L : Type 0} (n k : ℕ) (ss rest : List (Slot L)) (s : Slot L) (tapes more all : List TapeView) → 0 < length ss → s ≡ get_or ss 0 s → rest ≡ remove ss 0 → more ≡ tapes ++ tape_at n (handle_of s) → k ≡ suc n → tapes ++ tapes_in n (map handle_of ss) ≡ all → more ++ tapes_in k (map handle_of rest) ≡ all
-tape_on {L} n k ss rest s tapes more all h e f g j i =
-    ap (λ ts. ts ++ tapes_in k (map handle_of rest)) g ∙ append_assoc tapes (tape_at n (handle_of s)) (tapes_in k (map handle_of rest))
-    ∙ ap (λ (m : ℕ). tapes ++ (tape_at n (handle_of s) ++ tapes_in m (map handle_of rest))) j
-    ∙ ap (λ (ts : List (Slot L)). tapes ++ (tape_at n (handle_of s) ++ tapes_in (suc n) (map handle_of ts))) f
-    ∙ ap (λ (ts : List (Slot L)). tapes ++ tapes_in n (map handle_of ts)) (sym (first_out ss s h e)) ∙ i
+pub tape_on : {L : Type 0} (look : L → Looks) (n k : ℕ) (ss rest : List (Slot L)) (s : Slot L) (tapes more all : List TapeView) → 0 < length ss → s ≡ get_or ss 0 s → rest ≡ remove ss 0 → more ≡ tapes ++ tape_at n (handle_of look s) → k ≡ suc n → tapes ++ tapes_in n (map (handle_of look) ss) ≡ all → more ++ tapes_in k (map (handle_of look) rest) ≡ all
+tape_on {L} look n k ss rest s tapes more all h e f g j i =
+    ap (λ ts. ts ++ tapes_in k (map (handle_of look) rest)) g ∙ append_assoc tapes (tape_at n (handle_of look s)) (tapes_in k (map (handle_of look) rest))
+    ∙ ap (λ (m : ℕ). tapes ++ (tape_at n (handle_of look s) ++ tapes_in m (map (handle_of look) rest))) j
+    ∙ ap (λ (ts : List (Slot L)). tapes ++ (tape_at n (handle_of look s) ++ tapes_in (suc n) (map (handle_of look) ts))) f
+    ∙ ap (λ (ts : List (Slot L)). tapes ++ tapes_in n (map (handle_of look) ts)) (sym (first_out ss s h e)) ∙ i

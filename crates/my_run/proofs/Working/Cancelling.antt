@@ -25,21 +25,15 @@ use Rattle.my_run.specs.Grows.{OnConnection, CollectsAt, CollectsOn, Cancels, Ca
 use Rattle.my_run.specs.Handle.{Handle, Joined}
 use Rattle.my_world.specs.World.{Plans}
 use Rattle.my_client.specs.Ready.{StandsBy}
-use Rattle.my_run.specs.Keeps.{LinkSpent, IsStood, IsPlayed}
+use Rattle.my_run.specs.Keeps.{IsStood}
 use Rattle.my_client.specs.Kept.{Asked, Kept, ended_by}
 use Rattle.my_link.specs.Looks.{Looks}
 use Rattle.my_client.specs.Rests.{Rests}
 use Rattle.my_run.specs.Slot.{handle_of}
 use Rattle.my_client.specs.Conn.{kept_of}
-use Rattle.my_run.specs.Sums.{IsSilent}
 use Rattle.my_client.proofs.Hearing.Beginning.{is_asked, is_idle}
 use Rattle.my_client.proofs.Hearing.{answer_counts, ended_of}
 use Rattle.my_client.proofs.Hearing.Failing.{is_leaving}
-use Rattle.my_run.proofs.Working.Playing.{slot_rests}
-
--- where a step has no uses, nothing was met
-none_silent : (us : List Use) (m : ℕ) → us ≡ [] → IsSilent m us
-none_silent us m e = subst (IsSilent m) (sym e) (record { faults = refl; holds = refl; ends = refl })
 
 -- a cancelling closes the session exactly where the table says so
 closing_by : (s : Seen) (cl b : Bool) → s.closed ≡ b → (b ≡ true → cl ≡ false) → (cond {A = Seen} cl (fell s) (with_task s Nothing s.untold)).closed && not s.closed ≡ cl
@@ -74,11 +68,11 @@ left_is : {L : Type 0} (P : Slot L → Type 0) (c : Conn L) (b : Bool) → P (En
 left_is P c true p q = p
 left_is P c false p q = q
 
-left_handle : {L : Type 0} (c : Conn L) (b : Bool) → handle_of (cond b (Ended c) (There c)) ≡ Joined (not b) (kept_of c)
-left_handle c true = refl
-left_handle c false = refl
+left_handle : {L : Type 0} (look : L → Looks) (c : Conn L) (b : Bool) → handle_of look (cond b (Ended c) (There c)) ≡ Joined (not b) (kept_of c) (look c.link)
+left_handle look c true = refl
+left_handle look c false = refl
 
-pub cancelled : {L : Type 0} (look : L → Looks) (login : Login) (n : ℕ) (c d : Conn L) (connecting : Bool) (o : Outcome) (us : List Use) → is_open c.session.seen.task ≡ true → d.session.seen ≡ dropped c.session.seen → ((h : History) → Stands c.session.seen h → Stands d.session.seen (answered h (Dropped (closes_when_cancelled c.session.seen.task c.session.seen.context.spot)))) → d.link ≡ c.link → ((a : Asked) → (kept_of c).pending ≡ Some a → kept_of d ≡ ended_by (kept_of c) a (says.Cancelled (d.session.seen.closed && not c.session.seen.closed))) → ((a : Asked) → (kept_of c).pending ≡ Some a → connecting ≡ is_connect (kind_of a.call)) → o ≡ Done → us ≡ [] → StandsBy login c → Did look login n (Cancels login) o us (There c) (cond connecting (Ended d) (There d))
+pub cancelled : {L : Type 0} (look : L → Looks) (login : Login) (n : ℕ) (c d : Conn L) (connecting : Bool) (o : Outcome) (us : List Use) → is_open c.session.seen.task ≡ true → d.session.seen ≡ dropped c.session.seen → ((h : History) → Stands c.session.seen h → Stands d.session.seen (answered h (Dropped (closes_when_cancelled c.session.seen.task c.session.seen.context.spot)))) → d.link ≡ c.link → ((a : Asked) → (kept_of c).pending ≡ Some a → kept_of d ≡ ended_by (kept_of c) a (says.Cancelled (d.session.seen.closed && not c.session.seen.closed))) → ((a : Asked) → (kept_of c).pending ≡ Some a → connecting ≡ is_connect (kind_of a.call)) → o ≡ Done → us ≡ [] → StandsBy login c → Did look login (Cancels login) o us (There c) (cond connecting (Ended d) (There d))
 cancelled {L} look login n c d connecting o us op seen st link kept kind e f w =
     let s = c.session.seen in
     let k = kept_of c in
@@ -101,89 +95,58 @@ cancelled {L} look login n c d connecting o us op seen st link kept kind e f w =
       rests = subst (Rests login d.session.seen) (sym end) rests;
       stepped = ap (λ (t : Seen). is_begun t.task) seen ∙ ap is_begun (dropped_task s closes);
     } in
-    let spent : (plans : Plans) (all : List Use) (before : ℕ) → LinkSpent plans n (look c.link) c.taken.items all before → LinkSpent plans n (look d.link) d.taken.items all before = λ plans all before v.
-    subst (λ l. LinkSpent plans n (look l) d.taken.items all before) (sym link) (subst (λ (bytes : List ℕ). LinkSpent plans n (look c.link) bytes all before) (sym (ap (λ (x : Kept). x.taken) end)) v) in
+    let kept_so : Joined (not connecting) (kept_of d) (look d.link) ≡ Joined (not connecting) (ended_by k a (says.Cancelled closes)) (look c.link) = ap (λ (x : Kept). Joined (not connecting) x (look d.link)) end ∙ ap (λ (l : L). Joined (not connecting) (ended_by k a (says.Cancelled closes)) (look l)) link in
     record {
       stood = left_is (IsStood login) d connecting stands stands;
-      played = λ plans all before v. slot_rests look login plans n us all before (cond connecting (Ended d) (There d)) f (left_is (IsPlayed look plans n all before) d connecting (spent plans all before v) (spent plans all before v));
-      silent = λ m _. none_silent us m f;
-      does = subst (λ (p : Option Asked). CancelsWith p login k o us (handle_of (cond connecting (Ended d) (There d)))) (sym asked.1) (record {
+      does = subst (λ (p : Option Asked). CancelsWith p login k (look c.link) o us (handle_of look (cond connecting (Ended d) (There d)))) (sym asked.1) (record {
         session = s;
         heard = w.rests.heard;
         stepped = w.stepped;
         outcome = e;
         uses = f;
-        left = left_handle d connecting ∙ ap (λ (b : Bool). Joined (not b) (kept_of d)) (kind a asked.1) ∙ ap (Joined (not (is_connect (kind_of a.call)))) end;
+        left = left_handle look d connecting ∙ kept_so ∙ ap (λ (b : Bool). Joined (not b) (ended_by k a (says.Cancelled closes)) (look c.link)) (kind a asked.1);
       });
     }
 
 -- nothing to cancel
-pub not_cancelled : {L : Type 0} (look : L → Looks) (login : Login) (n : ℕ) (c : Conn L) (o : Outcome) (us : List Use) → is_open c.session.seen.task ≡ false → o ≡ NoSuchHandle → us ≡ [] → StandsBy login c → Did look login n (Cancels login) o us (There c) (There c)
+pub not_cancelled : {L : Type 0} (look : L → Looks) (login : Login) (n : ℕ) (c : Conn L) (o : Outcome) (us : List Use) → is_open c.session.seen.task ≡ false → o ≡ NoSuchHandle → us ≡ [] → StandsBy login c → Did look login (Cancels login) o us (There c) (There c)
 not_cancelled look login n c o us idle e f w = record {
   stood = w;
-  played = λ plans all before v. slot_rests look login plans n us all before (There c) f v;
-  silent = λ m _. none_silent us m f;
-  does = subst (λ (p : Option Asked). CancelsWith p login (kept_of c) o us (Joined true (kept_of c))) (sym (is_idle login c.session.seen (kept_of c) idle w.rests.heard)) (record { outcome = e; uses = f; same = refl });
+  does = subst (λ (p : Option Asked). CancelsWith p login (kept_of c) (look c.link) o us (Joined true (kept_of c) (look c.link))) (sym (is_idle login c.session.seen (kept_of c) idle w.rests.heard)) (record { outcome = e; uses = f; same = refl });
 }
 
 -- a step that changes nothing at its number
-pub same_did : {L : Type 0} (look : L → Looks) (login : Login) (n : ℕ) (R : Handle → Outcome → List Use → Handle → Type 0) (o : Outcome) (us : List Use) (s : Slot L) → us ≡ [] → IsStood login s → R (handle_of s) o us (handle_of s) → Did look login n R o us s s
-same_did look login n R o us s f w r = record {
+pub same_did : {L : Type 0} (look : L → Looks) (login : Login) (R : Handle → Outcome → List Use → Handle → Type 0) (o : Outcome) (us : List Use) (s : Slot L) → IsStood login s → R (handle_of look s) o us (handle_of look s) → Did look login R o us s s
+same_did look login R o us s w r = record {
   stood = w;
-  played = λ plans all before v. slot_rests look login plans n us all before s f v;
-  silent = λ m _. none_silent us m f;
   does = r;
 }
 
 -- the held dial is dropped
-pub dropped_did : {L : Type 0} (look : L → Looks) (login : Login) (n : ℕ) (o : Outcome) (us : List Use) → o ≡ Done → us ≡ [] → Did {L = L} look login n (Cancels login) o us Held Gone
+pub dropped_did : {L : Type 0} (look : L → Looks) (login : Login) (n : ℕ) (o : Outcome) (us : List Use) → o ≡ Done → us ≡ [] → Did {L = L} look login (Cancels login) o us Held Gone
 dropped_did look login n o us e f = record {
   stood = tt;
-  played = λ plans all before v. slot_rests look login plans n us all before Gone f tt;
-  silent = λ m _. none_silent us m f;
   does = record { outcome = e; uses = f; left = refl };
 }
 
 -- where the number's slot is known
-pub back_did : {L : Type 0} (look : L → Looks) (login : Login) (n : ℕ) (R : Handle → Outcome → List Use → Handle → Type 0) (o : Outcome) (us : List Use) (s t : Slot L) → s ≡ t → us ≡ [] → IsStood login s → R (handle_of t) o us (handle_of t) → Did look login n R o us s t
-back_did {L} look login n R o us s t e f w r = subst (λ (x : Slot L). Did look login n R o us x t) (sym e) (same_did look login n R o us t f (subst (IsStood login) e w) r)
-
-pub gone_did : {L : Type 0} (look : L → Looks) (login : Login) (n : ℕ) (o : Outcome) (us : List Use) (s : Slot L) → s ≡ Held → o ≡ Done → us ≡ [] → Did look login n (Cancels login) o us s Gone
-gone_did {L} look login n o us s e f g = subst (λ (x : Slot L). Did look login n (Cancels login) o us x Gone) (sym e) (dropped_did look login n o us f g)
-
--- no connection is there that a step may name
-abbrev pub NotThere : {L : Type 0} → Slot L → Type 0
-NotThere Gone = Unit {0}
-NotThere Held = Unit {0}
-NotThere (There c) = ⊥
-NotThere (Ended c) = Unit {0}
-
-pub not_there : {L : Type 0} (s : Slot L) → (s ≡ Gone) ⊎ ((s ≡ Held) ⊎ ((c : Conn L) × (s ≡ Ended c))) → NotThere s
-not_there {L} s (inl e) = subst (λ (x : Slot L). NotThere x) (sym e) tt
-not_there {L} s (inr (inl e)) = subst (λ (x : Slot L). NotThere x) (sym e) tt
-not_there {L} s (inr (inr e)) = subst (λ (x : Slot L). NotThere x) (sym e.1) tt
-
--- there a step that needs a connection is refused
-pub refused_away : {L : Type 0} (R : Kept → Outcome → List Use → Handle → Type 0) (o : Outcome) (us : List Use) (s : Slot L) → NotThere s → o ≡ NoSuchHandle → us ≡ [] → OnConnection R (handle_of s) o us (handle_of s)
-refused_away R o us Gone w e f = record { outcome = e; uses = f; same = refl }
-refused_away R o us Held w e f = record { outcome = e; uses = f; same = refl }
-refused_away R o us (There c) w e f = absurd w
-refused_away R o us (Ended c) w e f = record { outcome = e; uses = f; same = refl }
+pub back_did : {L : Type 0} (look : L → Looks) (login : Login) (R : Handle → Outcome → List Use → Handle → Type 0) (o : Outcome) (us : List Use) (s t : Slot L) → s ≡ t → IsStood login s → R (handle_of look t) o us (handle_of look t) → Did look login R o us s t
+back_did {L} look login R o us s t e w r = subst (λ (x : Slot L). Did look login R o us x t) (sym e) (same_did look login R o us t (subst (IsStood login) e w) r)
 
 -- the step finds an open call
-pub collect_refused : {L : Type 0} (look : L → Looks) (login : Login) (n : ℕ) (c : Conn L) (o : Outcome) (us : List Use) → is_open c.session.seen.task ≡ true → o ≡ NoSuchHandle → us ≡ [] → StandsBy login c → Did look login n (CollectsAt login n) o us (There c) (There c)
-collect_refused look login n c o us op e f w = same_did look login n (CollectsAt login n) o us (There c) f w
-    (subst (λ (p : Option Asked). CollectsOn p login n (kept_of c) o us (Joined true (kept_of c))) (sym (is_asked login c.session.seen (kept_of c) op w.rests.heard).1) (record { outcome = e; uses = f; same = refl }))
+pub collect_refused : {L : Type 0} (look : L → Looks) (login : Login) (n : ℕ) (c : Conn L) (o : Outcome) (us : List Use) → is_open c.session.seen.task ≡ true → o ≡ NoSuchHandle → us ≡ [] → StandsBy login c → Did look login (CollectsAt login n) o us (There c) (There c)
+collect_refused look login n c o us op e f w = same_did look login (CollectsAt login n) o us (There c) w
+    (subst (λ (p : Option Asked). CollectsOn p login n (kept_of c) (look c.link) o us (Joined true (kept_of c) (look c.link))) (sym (is_asked login c.session.seen (kept_of c) op w.rests.heard).1) (record { outcome = e; uses = f; same = refl }))
 
 -- the last OK is told
-pub fields_did : {L : Type 0} (look : L → Looks) (login : Login) (n : ℕ) (c : Conn L) (fields : Option OkPacket) (us : List Use) → is_open c.session.seen.task ≡ false → fields ≡ c.session.seen.facts.ok → us ≡ [] → StandsBy login c → Did look login n (TellsFields login) (Fields fields) us (There c) (There c)
-fields_did look login n c fields us idle e f w = same_did look login n (TellsFields login) (Fields fields) us (There c) f w
-    (subst (λ (p : Option Asked). TellsWith p login (kept_of c) (Fields fields) us (Joined true (kept_of c))) (sym (is_idle login c.session.seen (kept_of c) idle w.rests.heard)) (record { session = c.session.seen; heard = w.rests.heard; outcome = ap Fields e; uses = f; left = refl }))
+pub fields_did : {L : Type 0} (look : L → Looks) (login : Login) (n : ℕ) (c : Conn L) (fields : Option OkPacket) (us : List Use) → is_open c.session.seen.task ≡ false → fields ≡ c.session.seen.facts.ok → us ≡ [] → StandsBy login c → Did look login (TellsFields login) (Fields fields) us (There c) (There c)
+fields_did look login n c fields us idle e f w = same_did look login (TellsFields login) (Fields fields) us (There c) w
+    (subst (λ (p : Option Asked). TellsWith p login (kept_of c) (look c.link) (Fields fields) us (Joined true (kept_of c) (look c.link))) (sym (is_idle login c.session.seen (kept_of c) idle w.rests.heard)) (record { session = c.session.seen; heard = w.rests.heard; outcome = ap Fields e; uses = f; left = refl }))
 
 -- as the step shows it
-pub fields_so : {L : Type 0} (look : L → Looks) (login : Login) (n : ℕ) (c : Conn L) (fields : Option OkPacket) (o : Outcome) (us : List Use) → is_open c.session.seen.task ≡ false → fields ≡ c.session.seen.facts.ok → o ≡ Fields fields → us ≡ [] → StandsBy login c → Did look login n (TellsFields login) o us (There c) (There c)
-fields_so {L} look login n c fields o us idle e shown f w = subst (λ (x : Outcome). Did look login n (TellsFields login) x us (There c) (There c)) (sym shown) (fields_did look login n c fields us idle e f w)
+pub fields_so : {L : Type 0} (look : L → Looks) (login : Login) (n : ℕ) (c : Conn L) (fields : Option OkPacket) (o : Outcome) (us : List Use) → is_open c.session.seen.task ≡ false → fields ≡ c.session.seen.facts.ok → o ≡ Fields fields → us ≡ [] → StandsBy login c → Did look login (TellsFields login) o us (There c) (There c)
+fields_so {L} look login n c fields o us idle e shown f w = subst (λ (x : Outcome). Did look login (TellsFields login) x us (There c) (There c)) (sym shown) (fields_did look login n c fields us idle e f w)
 
-pub no_fields : {L : Type 0} (look : L → Looks) (login : Login) (n : ℕ) (c : Conn L) (o : Outcome) (us : List Use) → is_open c.session.seen.task ≡ true → o ≡ NoSuchHandle → us ≡ [] → StandsBy login c → Did look login n (TellsFields login) o us (There c) (There c)
-no_fields look login n c o us op e f w = same_did look login n (TellsFields login) o us (There c) f w
-    (subst (λ (p : Option Asked). TellsWith p login (kept_of c) o us (Joined true (kept_of c))) (sym (is_asked login c.session.seen (kept_of c) op w.rests.heard).1) (record { outcome = e; uses = f; same = refl }))
+pub no_fields : {L : Type 0} (look : L → Looks) (login : Login) (n : ℕ) (c : Conn L) (o : Outcome) (us : List Use) → is_open c.session.seen.task ≡ true → o ≡ NoSuchHandle → us ≡ [] → StandsBy login c → Did look login (TellsFields login) o us (There c) (There c)
+no_fields look login n c o us op e f w = same_did look login (TellsFields login) o us (There c) w
+    (subst (λ (p : Option Asked). TellsWith p login (kept_of c) (look c.link) o us (Joined true (kept_of c) (look c.link))) (sym (is_asked login c.session.seen (kept_of c) op w.rests.heard).1) (record { outcome = e; uses = f; same = refl }))

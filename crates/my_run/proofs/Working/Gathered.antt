@@ -1,6 +1,5 @@
 -- A gathering, row by row.
 use Rattle.std.proofs.Common.{ℕ, if◌then◌else◌, ◌≡◌, ◌≢◌, List, [], ◌∷◌, ◌++◌, length, Option, Some, None, unwrap_or, Bool, true, false, refl, sym, ap, ◌∙◌, subst, arith}
-use Rattle.std.proofs.lemmas.Bool.Decides.{nat_tests}
 use Rattle.std.proofs.lemmas.List.{append_assoc, append-nil}
 use Rattle.my_value.specs.RowParts.{RowParts}
 use Rattle.my_grammar.specs.declared.login.Login.{Login}
@@ -22,14 +21,13 @@ use Rattle.my_run.specs.declared.gather.Gathering.TheVariants.{On, Over}
 use Rattle.my_client.specs.declared.poll.After.{After}
 use Rattle.my_client.specs.declared.poll.After.TheVariants as after
 use Rattle.my_link.specs.declared.met.Met.{Met}
-use Rattle.my_run.specs.Sums.{use_of, holds_for, IsSilent}
+use Rattle.my_run.specs.Sums.{use_of}
 use Rattle.my_client.specs.declared.conn.Conn.{Conn}
 use Rattle.my_run.specs.declared.slot.Slot.TheVariants.{There}
 use Rattle.my_client.specs.declared.tape.Said.TheVariants as says
 use Rattle.my_script.specs.declared.transcript.Outcome.{Outcome}
 use Rattle.my_script.specs.declared.transcript.Outcome.TheVariants.{Failed}
 use Rattle.my_script.specs.declared.transcript.Use.{Use}
-use Rattle.my_client.specs.Causes.{PollEnds}
 use Rattle.my_run.specs.Did.{Did}
 use Rattle.my_client.specs.Drives.{Drives, RowsOf}
 use Rattle.my_run.specs.Gathering.{Shows, AsksNext, GoesNext, Goes, GatherDid, GatherSoFar}
@@ -37,36 +35,19 @@ use Rattle.my_run.specs.Grows.{Calls, Begins, BeginsOn, CollectsAt, CollectsOn, 
 use Rattle.my_client.specs.Kept.{asked_by, Asked, Kept, made_of, asking, ended_by}
 use Rattle.my_run.specs.Handle.{Handle, Joined}
 use Rattle.my_client.specs.Ready.{StandsBy}
-use Rattle.my_run.specs.Keeps.{LinkSpent}
 use Rattle.my_link.specs.Looks.{Looks}
 use Rattle.my_client.specs.Rests.{Rests, IsAsked}
 use Rattle.my_client.specs.Conn.{kept_of}
 use Rattle.my_client.proofs.Hearing.Beginning.{begins, refuses, closed_kept, is_idle}
 use Rattle.my_run.proofs.Working.Beginning.{closed_did}
-use Rattle.my_run.proofs.Working.Playing.{plays_on, plays_end, holds_after, there_plays}
 
 -- nothing was gathered yet
 pub none_gathered : {L : Type 0} (look : L → Looks) (login : Login) (n : ℕ) (a : Asked) (c : Conn L) (us : List Use) → us ≡ [] → IsAsked login c.session.seen (kept_of c) a → GatherSoFar look login n a c c us
 none_gathered look login n a c us e w = record {
   now = a;
   asked = w;
-  onto = λ vs o t g. subst (λ (xs : List Use). Gathers login n (xs ++ vs) a (kept_of c) o t) (sym e) g;
-  spent = λ plans all before s. subst (λ (xs : List Use). LinkSpent plans n (look c.link) c.taken.items (xs ++ all) before) (sym e) s;
-  no_hold = ap (holds_for n) e;
-  silent = λ m _. subst (IsSilent m) (sym e) (record { faults = refl; holds = refl; ends = refl });
+  onto = λ vs o t g. subst (λ (xs : List Use). Gathers login n (xs ++ vs) a (kept_of c) (look c.link) o t) (sym e) g;
 }
-
-silent_end : (m n : ℕ) (us : List Use) (u : Use) → u.number ≡ n → m ≢ n → IsSilent m us → IsSilent m (us ++ u ∷ [])
-silent_end m n [] u e ne q = record { faults = grind (arith, nat_tests, e, ne); holds = grind (arith, nat_tests, e, ne); ends = grind (arith, nat_tests, e, ne) }
-silent_end m n (v ∷ us) u e ne q =
-    let r = silent_end m n us u e ne (record { faults = omega (arith, q.faults); holds = omega (arith, q.holds); ends = omega (arith, q.ends) }) in
-    record { faults = omega (arith, r.faults, q.faults); holds = omega (arith, r.holds, q.holds); ends = omega (arith, r.ends, q.ends) }
-
--- a poll that was answered didn't hold
-answered_quiet : (login : Login) (a : Asked) (k end : Kept) (u : Met) (p : After) (answer : Answer) → p ≡ after.Answered answer → PollEnds login a k u p end → u.holds ≡ 0
-answered_quiet login a k end u after.Pending answer e w = cc
-answered_quiet login a k end u (after.Answered other) answer e w = w.3.holds
-answered_quiet login a k end u (after.Failed x) answer e w = w.3
 
 -- after a row the next is asked for
 pub next_row : {L : Type 0} (e f : Conn L) (rows : Option (List RowParts)) (p : After) → GoesNext e f rows p → (row : RowParts) × (p ≡ after.Answered (answers.Row row)) × AsksNext e f (unwrap_or rows [] ++ row ∷ [])
@@ -78,14 +59,11 @@ next_row e f rows (after.Answered answers.NoSet) g = absurd g
 next_row e f rows (after.Failed x) g = absurd g
 
 module _ {L : Type 0} (look : L → Looks) (login : Login) (n : ℕ) (a : Asked) (c d e f : Conn L) (us more : List Use) (met : Met) (p : After) (rows : Option (List RowParts)) (so : GatherSoFar look login n a c d us) (w : Drives login so.now e.session.seen (look d.link) (look e.link) (kept_of d) (kept_of e) met p) (r : RowsOf so.now p rows) (is : more ≡ us ++ use_of n met ∷ []) where
-  silent_more : (m : ℕ) → m ≢ n → IsSilent m more
-  silent_more m ne = subst (IsSilent m) (sym is) (silent_end m n us (use_of n met) refl ne (so.silent m ne))
-
-  onto_more : (vs : List Use) (o : Outcome) (t : Handle) → GathersOn (Gathers login n vs) so.now p (kept_of e) o vs t → Gathers login n (more ++ vs) a (kept_of c) o t
+  onto_more : (vs : List Use) (o : Outcome) (t : Handle) → GathersOn (Gathers login n vs) so.now p (kept_of e) (look e.link) o vs t → Gathers login n (more ++ vs) a (kept_of c) (look c.link) o t
   onto_more vs o t g =
-      let whole : Gathers login n (us ++ use_of n met ∷ vs) a (kept_of c) o t = so.onto (use_of n met ∷ vs) o t (p, kept_of e, w.polled, g, refl) in
+      let whole : Gathers login n (us ++ use_of n met ∷ vs) a (kept_of c) (look c.link) o t = so.onto (use_of n met ∷ vs) o t (p, kept_of e, look e.link, w.polled, g, refl) in
       let same : us ++ use_of n met ∷ vs ≡ more ++ vs = sym (append_assoc us (use_of n met ∷ []) vs) ∙ ap (λ xs. xs ++ vs) (sym is) in
-      subst (λ (xs : List Use). Gathers login n xs a (kept_of c) o t) same whole
+      subst (λ (xs : List Use). Gathers login n xs a (kept_of c) (look c.link) o t) same whole
 
   pub gather_on : GoesNext e f rows p → GatherSoFar look login n a c f more
   gather_on g =
@@ -95,18 +73,14 @@ module _ {L : Type 0} (look : L → Looks) (login : Login) (n : ℕ) (a : Asked)
       let rows_are : rows ≡ so.now.rows = subst (λ (x : After). RowsOf so.now x rows) next.1 r in
       let all : unwrap_or rows [] ++ row ∷ [] ≡ gathered so.now ++ row ∷ [] = ap (λ (x : Option (List RowParts)). unwrap_or x [] ++ row ∷ []) rows_are in
       let kept : kept_of f ≡ asking (kept_of e) NextRow (Some (gathered so.now ++ row ∷ [])) = asks.kept ∙ ap (λ xs. asking (kept_of e) NextRow (Some xs)) all in
-      let quiet : met.holds ≡ 0 = answered_quiet login so.now w.polled.following (kept_of e) met p (answers.Row row) next.1 w.polled.ends in
       let now : Asked = record { call = NextRow; sent_from = length (kept_of e).sent; rows = Some (gathered so.now ++ row ∷ []) } in
       record {
         now = now;
         asked = subst (λ (k : Kept). IsAsked login f.session.seen k now) (sym kept) (begins login e.session.seen f.session.seen (kept_of e) NextRow (Some (gathered so.now ++ row ∷ [])) asks.seen asks.stands w.rests);
-        onto = λ vs o t h. onto_more vs o t (subst (λ (x : After). GathersOn (Gathers login n vs) so.now x (kept_of e) o vs t) (sym next.1) (subst (λ (k : Kept). Gathers login n vs now k o t) kept h));
-        spent = λ plans xs before s. subst (λ l. LinkSpent plans n (look l) f.taken.items (more ++ xs) before) (sym asks.link) (subst (λ (bytes : List ℕ). LinkSpent plans n (look e.link) bytes (more ++ xs) before) (sym (ap (λ (k : Kept). k.taken) kept)) (plays_on login n so.now e.session.seen (look d.link) (look e.link) (kept_of d) (kept_of e) met p us more plans xs before is w (so.spent plans xs before s) quiet));
-        no_hold = holds_after n us more (use_of n met) is refl so.no_hold ∙ quiet;
-        silent = silent_more;
+        onto = λ vs o t h. onto_more vs o t (subst (λ (x : After). GathersOn (Gathers login n vs) so.now x (kept_of e) (look e.link) o vs t) (sym next.1) (subst (λ (k : Kept). Gathers login n vs now k (look e.link) o t) kept (subst (λ l. Gathers login n vs now (kept_of f) (look l) o t) asks.link h)));
       }
 
-  shows_on : (after' : After) (o : Outcome) → RowsOf so.now after' rows → Shows rows after' o → GathersOn (Gathers login n []) so.now after' (kept_of e) o [] (Joined true (kept_of e))
+  shows_on : (after' : After) (o : Outcome) → RowsOf so.now after' rows → Shows rows after' o → GathersOn (Gathers login n []) so.now after' (kept_of e) (look e.link) o [] (Joined true (kept_of e) (look e.link))
   shows_on after.Pending o q s = (s, refl, refl)
   shows_on (after.Answered answers.Ready) o q s = (s, refl, refl)
   shows_on (after.Answered (answers.Row row)) o q s = absurd s
@@ -117,11 +91,9 @@ module _ {L : Type 0} (look : L → Looks) (login : Login) (n : ℕ) (a : Asked)
   pub gather_over : (o : Outcome) → f ≡ e → Shows rows p o → GatherDid look login n a c f o more
   gather_over o same s =
       let done : GatherDid look login n a c e o more = record {
-        gathers = subst (λ (xs : List Use). Gathers login n xs a (kept_of c) o (Joined true (kept_of e))) (append-nil more) (onto_more [] o (Joined true (kept_of e)) (shows_on p o r s));
+        gathers = subst (λ (xs : List Use). Gathers login n xs a (kept_of c) (look c.link) o (Joined true (kept_of e) (look e.link))) (append-nil more) (onto_more [] o (Joined true (kept_of e) (look e.link)) (shows_on p o r s));
         rests = w.rests;
         stepped = w.stepped;
-        spent = λ plans all before s. plays_end login n so.now e.session.seen (look d.link) (look e.link) (kept_of d) (kept_of e) met p us more plans all before is w (so.spent plans all before s) so.no_hold;
-        silent = silent_more;
       } in
       subst (λ (x : Conn L). GatherDid look login n a c x o more) (sym same) done
 
@@ -130,7 +102,7 @@ and_true : (b : Bool) → is_refused b (kind_of NextRow) ≡ false → b ≡ fal
 and_true true e = e
 and_true false e = refl
 
-pub collect_begun : {L : Type 0} (look : L → Looks) (login : Login) (n : ℕ) (c b d : Conn L) (s t : Seen) (o : Outcome) (us : List Use) → is_open c.session.seen.task ≡ false → is_refused s.closed (kind_of NextRow) ≡ false → s ≡ c.session.seen → t ≡ begun s NextRow → ((h : History) → Stands s h → Stands t (began h NextRow)) → kept_of b ≡ asking (kept_of c) NextRow (Some []) → b.link ≡ c.link → StandsBy login c → ((a : Asked) → IsAsked login t (kept_of b) a → GatherDid look login n a b d o us) → Did look login n (CollectsAt login n) o us (There c) (There d)
+pub collect_begun : {L : Type 0} (look : L → Looks) (login : Login) (n : ℕ) (c b d : Conn L) (s t : Seen) (o : Outcome) (us : List Use) → is_open c.session.seen.task ≡ false → is_refused s.closed (kind_of NextRow) ≡ false → s ≡ c.session.seen → t ≡ begun s NextRow → ((h : History) → Stands s h → Stands t (began h NextRow)) → kept_of b ≡ asking (kept_of c) NextRow (Some []) → b.link ≡ c.link → StandsBy login c → ((a : Asked) → IsAsked login t (kept_of b) a → GatherDid look login n a b d o us) → Did look login (CollectsAt login n) o us (There c) (There d)
 collect_begun {L} look login n c b d s t o us idle open_still seen is st kept link w did =
     let k = kept_of c in
     let a : Asked = record { call = NextRow; sent_from = length k.sent; rows = Some [] } in
@@ -141,16 +113,14 @@ collect_begun {L} look login n c b d s t o us idle open_still seen is st kept li
     let closed : has_closed (made_of k.calls) ≡ false = sym (closed_kept login c.session.seen k w.rests.heard) ∙ sym (ap (λ (s : Seen). s.closed) seen) ∙ and_true s.closed open_still in
     record {
       stood = record { rests = g.rests; stepped = g.stepped };
-      played = λ plans all before v. there_plays look login plans n us all before d (g.spent plans all before (subst (λ l. LinkSpent plans n (look l) b.taken.items all before) (sym link) (subst (λ (bytes : List ℕ). LinkSpent plans n (look c.link) bytes all before) (sym (ap (λ (x : Kept). x.taken) kept)) v)));
-      silent = g.silent;
-      does = subst (λ (q : Option Asked). CollectsOn q login n k o us (Joined true (kept_of d))) (sym pending) (subst (λ (x : Bool). Collects x login n k o us (Joined true (kept_of d))) (sym closed) (subst (λ (x : Kept). Gathers login n us a x o (Joined true (kept_of d))) kept g.gathers));
+      does = subst (λ (q : Option Asked). CollectsOn q login n k (look c.link) o us (Joined true (kept_of d) (look d.link))) (sym pending) (subst (λ (x : Bool). Collects x login n k (look c.link) o us (Joined true (kept_of d) (look d.link))) (sym closed) (subst (λ (x : Kept). Gathers login n us a x (look c.link) o (Joined true (kept_of d) (look d.link))) kept (subst (λ (l : L). Gathers login n us a (kept_of b) (look l) o (Joined true (kept_of d) (look d.link))) link g.gathers)));
     }
 
 closed_true : (b : Bool) → is_refused b (kind_of NextRow) ≡ true → b ≡ true
 closed_true true e = refl
 closed_true false e = e
 
-pub collect_closed : {L : Type 0} (look : L → Looks) (login : Login) (n : ℕ) (c b d : Conn L) (s t : Seen) (e : Error) (o : Outcome) (us : List Use) → is_open c.session.seen.task ≡ false → is_refused s.closed (kind_of NextRow) ≡ true → s ≡ c.session.seen → t ≡ s → ((h : History) → Stands s h → Stands t (answered (began h NextRow) (ToldError connection_closed))) → kept_of b ≡ asking (kept_of c) NextRow (Some []) → b.link ≡ c.link → e ≡ connection_closed → ((a : Asked) → (kept_of b).pending ≡ Some a → kept_of d ≡ ended_by (kept_of b) a (says.Failed e)) → d.session.seen ≡ t → d.link ≡ b.link → StandsBy login c → o ≡ Failed e → us ≡ [] → Did look login n (CollectsAt login n) o us (There c) (There d)
+pub collect_closed : {L : Type 0} (look : L → Looks) (login : Login) (n : ℕ) (c b d : Conn L) (s t : Seen) (e : Error) (o : Outcome) (us : List Use) → is_open c.session.seen.task ≡ false → is_refused s.closed (kind_of NextRow) ≡ true → s ≡ c.session.seen → t ≡ s → ((h : History) → Stands s h → Stands t (answered (began h NextRow) (ToldError connection_closed))) → kept_of b ≡ asking (kept_of c) NextRow (Some []) → b.link ≡ c.link → e ≡ connection_closed → ((a : Asked) → (kept_of b).pending ≡ Some a → kept_of d ≡ ended_by (kept_of b) a (says.Failed e)) → d.session.seen ≡ t → d.link ≡ b.link → StandsBy login c → o ≡ Failed e → us ≡ [] → Did look login (CollectsAt login n) o us (There c) (There d)
 collect_closed {L} look login n c b d s t e o us idle shut seen is st kept link why noted session dlink w shown none =
     let k = kept_of c in
     let a : Asked = record { call = NextRow; sent_from = length k.sent; rows = Some [] } in
@@ -161,10 +131,10 @@ collect_closed {L} look login n c b d s t e o us idle shut seen is st kept link 
     let closed : has_closed (made_of k.calls) ≡ true = sym (closed_kept login c.session.seen k w.rests.heard) ∙ sym (ap (λ (s : Seen). s.closed) seen) ∙ closed_true s.closed shut in
     let base = closed_did look login n NextRow c d o us idle (ap (λ (s : Seen). is_refused s.closed (kind_of NextRow)) (sym seen) ∙ shut) w
     (subst (λ (s : Seen). Rests login s (ended_by (asking k NextRow None) (asked_by k NextRow) (says.Failed connection_closed))) (sym session) following) (session ∙ is ∙ seen) end (dlink ∙ link) (shown ∙ ap Failed why) none in
-    let swap : Calls login n NextRow (Joined true k) o us (Joined true (kept_of d)) → CollectsAt login n (Joined true k) o us (Joined true (kept_of d)) =
-    subst (λ (q : Option Asked). BeginsOn q login n NextRow k o us (Joined true (kept_of d)) → CollectsOn q login n k o us (Joined true (kept_of d))) (sym pending)
-    (subst (λ (x : Bool). Begins (is_refused x (kind_of NextRow)) login n NextRow k o us (Joined true (kept_of d)) → Collects x login n k o us (Joined true (kept_of d))) (sym closed) (λ x. x)) in
-    record { stood = base.stood; played = base.played; silent = base.silent; does = swap base.does }
+    let swap : Calls login n NextRow (Joined true k (look c.link)) o us (Joined true (kept_of d) (look d.link)) → CollectsAt login n (Joined true k (look c.link)) o us (Joined true (kept_of d) (look d.link)) =
+    subst (λ (q : Option Asked). BeginsOn q login n NextRow k (look c.link) o us (Joined true (kept_of d) (look d.link)) → CollectsOn q login n k (look c.link) o us (Joined true (kept_of d) (look d.link))) (sym pending)
+    (subst (λ (x : Bool). Begins (is_refused x (kind_of NextRow)) login n NextRow k (look c.link) o us (Joined true (kept_of d) (look d.link)) → Collects x login n k (look c.link) o us (Joined true (kept_of d) (look d.link))) (sym closed) (λ x. x)) in
+    record { stood = base.stood; does = swap base.does }
 
 task_open : (b : Bool) (k : CallKind) → is_open (if b then Leaving else Begun k) ≡ true
 task_open true k = refl

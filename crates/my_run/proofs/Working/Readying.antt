@@ -36,12 +36,12 @@ use Rattle.my_run.proofs.Working.Numbers.{stood_here, handle_got}
 use Rattle.my_run.proofs.Working.Resuming.{open_asked}
 
 -- at one number
-pub ready_here : {L : Type 0} (ss : List (Slot L)) (n : ℕ) (v : Slot L) → n < length ss → v ≡ get_or ss n v → AreReady ss → SlotReady v
-ready_here ss n v h e r = (r.0, stood_here r.0 ss n v h e r.1, subst IsJoined (handle_got ss n v h ∙ ap handle_of (sym e)) (at_joined (map handle_of ss) n r.2))
+pub ready_here : {L : Type 0} (look : L → Looks) (ss : List (Slot L)) (n : ℕ) (v : Slot L) → n < length ss → v ≡ get_or ss n v → AreReady look ss → SlotReady look v
+ready_here look ss n v h e r = (r.0, stood_here r.0 ss n v h e r.1, subst IsJoined (handle_got look ss n v h ∙ ap (handle_of look) (sym e)) (at_joined (map (handle_of look) ss) n r.2))
 
 -- on the connection there
-pub ready_there : {L : Type 0} (s : Slot L) (c : Conn L) → s ≡ There c → SlotReady s → ConnReady c
-ready_there {L} s c e r = subst (λ (x : Slot L). SlotReady x) e r
+pub ready_there : {L : Type 0} (look : L → Looks) (s : Slot L) (c : Conn L) → s ≡ There c → SlotReady look s → ConnReady c
+ready_there {L} look s c e r = subst (λ (x : Slot L). SlotReady look x) e r
 
 pub conn_ready : {L : Type 0} (c : Conn L) → ConnReady c → IsReady c.session.seen
 conn_ready c r = is_ready r.0 c.session.seen (kept_of c) r.1.rests.heard (λ none. subst (λ (q : Option Asked). JoinedBy q (kept_of c)) none r.2)
@@ -74,10 +74,10 @@ module _ {L : Type 0} (x y : Looks) (d e : Conn L) (met : Met) (p : After) (r : 
   following = drives r.0 r.1 r.2
 
   joined_after : WasJoined (kept_of e)
-  joined_after = polled_joined r.0 r.1 (kept_of d) (kept_of e) met p r.3 following.polled
+  joined_after = polled_joined r.0 r.1 (kept_of d) (kept_of e) x y met p r.3 following.polled
 
   open_after : (row : RowParts) → p ≡ after.Answered (answers.Row row) → IsOpen (kept_of e)
-  open_after row is = row_open r.0 r.1 (kept_of d) following.polled.following (kept_of e) met p row is following.polled.calls r.4 following.polled.ends
+  open_after row is = row_open r.0 r.1 (kept_of d) following.polled.following (kept_of e) met following.polled.stop p row is following.polled.calls r.4 following.polled.ends
 
   pub polled_ready : IsReady e.session.seen
   polled_ready = is_ready r.0 e.session.seen (kept_of e) following.rests.heard (λ _. joined_after)

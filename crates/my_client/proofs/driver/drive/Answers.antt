@@ -14,4 +14,4 @@ returns-clause-drives g c =
     let polled = c.in_ok-after.ensures in
     let pending : asked_in c.poll_conn.new.conn.pending ≡ Some a = ap asked_in polled.pending ∙ w.asked in
     drives_on login a c.poll_conn.new.conn.session.seen c.keep.new.conn.session.seen x y z (kept_of c.args.conn.now) (kept_of c.keep.new.conn) c.in_ok-after.met c.in_ok-after.after (ap (λ s. s.seen) c.in_ok-rows.ensures.session) same
-    (drives g.L.Link.looks login a c.args.conn.now c.poll_conn.new.conn (kept_of c.keep.new.conn) c.in_ok-after.met c.in_ok-after.after polled.polls polled.spends (ap (λ v. v.items) polled.calls) pending (polled.rests login a w) (c.in_ok-rows.ensures.kept a pending))
+    (drives g.L.Link.looks login a c.args.conn.now c.poll_conn.new.conn (kept_of c.keep.new.conn) c.in_ok-after.met c.in_ok-after.after polled.polls (ap (λ v. v.items) polled.calls) pending (polled.rests login a w) (c.in_ok-rows.ensures.kept a pending))

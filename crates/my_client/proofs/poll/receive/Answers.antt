@@ -1,4 +1,4 @@
-use Rattle.std.proofs.Common.{sym, subst, ap}
+use Rattle.std.proofs.Common.{inr, sym, subst, ap}
 use Rattle.my_session.specs.Ends.{Fails}
 use Rattle.my_session.specs.declared.task.LinkFault.TheVariants.{Link}
 use Rattle.my_session.proofs.Ends.{failing_fails}
@@ -10,12 +10,12 @@ pub returns-in_ok-fail_now-in-End-clause-rests : goal.returns-in_ok-fail_now-in-
 returns-in_ok-fail_now-in-End-clause-rests g c =
     let same = c.in_ok-fail_now-in-End.ensures in
     λ login a w waits. ended_so login c.args.conn.now.session.seen c.end.new.self.seen c.fail_now.new.conn.session.seen (kept_of c.args.conn.now) (kept_of c.fail_now.new.conn) a c.in_ok-fail_now-in-End.field-0 same.found c.end.ensures.seen c.end.ensures.stands same.rests
-    (ap (λ v. v.items) same.sent) (ap (λ v. v.items) same.taken) (ap (λ v. v.items) same.calls) (ap asked_in same.pending) waits w
+    (ap (λ v. v.items) same.sent) (ap (λ v. v.items) same.taken) (ap (λ v. v.items) same.calls) (ap asked_in same.pending) waits (record { needs = c.requires.step; fails = c.requires.ends }) w
 
 pub returns-in_ok-fail_now-in-Failed-clause-rests : goal.returns-in_ok-fail_now-in-Failed-clause-rests
 returns-in_ok-fail_now-in-Failed-clause-rests g c =
     let same = c.in_ok-fail_now-in-Failed.ensures in
-    λ login a w waits. broke_so login c.args.conn.now.session.seen c.fail.new.self.seen c.fail_now-in-Failed.new.conn.session.seen (kept_of c.args.conn.now) (kept_of c.fail_now-in-Failed.new.conn) a c.in_ok-fail_now-in-Failed.field-0 same.found c.requires.step.0 c.fail.ensures.seen c.fail.ensures.stands same.rests
+    λ login a w waits. broke_so login c.args.conn.now.session.seen c.fail.new.self.seen c.fail_now-in-Failed.new.conn.session.seen (kept_of c.args.conn.now) (kept_of c.fail_now-in-Failed.new.conn) a c.in_ok-fail_now-in-Failed.field-0 same.found (inr (record { needs = c.requires.step; fails = c.requires.ends })) c.fail.ensures.seen c.fail.ensures.stands same.rests
     (ap (λ v. v.items) same.sent) (ap (λ v. v.items) same.taken) (ap (λ v. v.items) same.calls) (ap asked_in same.pending) w
 
 pub fail_now-requires-in-Failed-clause-fails : goal.fail_now-requires-in-Failed-clause-fails

@@ -1,3 +1,4 @@
+use Rattle.std.proofs.Common.{inr, refl}
 use Rattle.my_session.proofs.Ends.{ended_fails}
 use Rattle.my_client.specs.Conn.{kept_of}
 use Rattle.std.proofs.lemmas.Result.{IfOk-weaker}
@@ -22,3 +23,6 @@ returns-in_ok-fault-in-Fault-clause-rests g c = λ login a w. faulted_same login
 
 pub receive-requires-clause-ends : goal.receive-requires-clause-ends
 receive-requires-clause-ends g c = ended_fails c.args.conn.now.session.seen c.step.new.self.seen c.in-Need.ensures.steps
+
+pub returns-then-room-eq0-clause-turn : goal.returns-then-room-eq0-clause-turn
+returns-then-room-eq0-clause-turn g c = (inr (record { needs = c.in-Need.ensures.leaves; fails = ended_fails c.args.conn.now.session.seen c.step.new.self.seen c.in-Need.ensures.steps }), refl, refl, refl)

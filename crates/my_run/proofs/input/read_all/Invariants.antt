@@ -7,6 +7,7 @@ decreases-more g l = 67108865 - vec_len l.bytes
 
 abbrev pub invariant-more : goal.invariant-more
 invariant-more g l = record {
-  came : Leaves (g.S.Source.left l.fn.src) l.bytes.items (g.S.Source.left l.src);
-  faults : g.S.Source.faults l.src ≡ g.S.Source.faults l.fn.src;
+  came : Leaves (g.S.Source.seen l.fn.src).left l.bytes.items (g.S.Source.seen l.src).left;
+  faults : (g.S.Source.seen l.src).faults ≡ (g.S.Source.seen l.fn.src).faults;
+  ends : (g.S.Source.seen l.src).ends ≡ (g.S.Source.seen l.fn.src).ends;
 }

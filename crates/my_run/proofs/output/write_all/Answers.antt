@@ -13,4 +13,4 @@ rest-preserved g c =
     }
 
 pub returns-in-Failed : goal.returns-in-Failed
-returns-in-Failed g c = stopped _ _ _ c.rest.from _ _ _ _ c.rest.invariant.so_far c.in-Failed.ensures.bytes c.rest.invariant.faults c.in-Failed.ensures.counts
+returns-in-Failed g c = stopped (g.W.Sink.seen c.args.out.now) (g.W.Sink.seen c.rest.out) (g.W.Sink.seen c.write.new.self) c.rest.from _ c.rest.invariant.so_far c.in-Failed.ensures.bytes c.rest.invariant.faults c.in-Failed.ensures.counts

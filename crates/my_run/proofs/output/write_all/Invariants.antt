@@ -8,6 +8,6 @@ decreases-rest g l = length l.bytes - l.from
 abbrev pub invariant-rest : goal.invariant-rest
 invariant-rest g l = record {
   within : l.from ≤ length l.bytes;
-  so_far : Comes (g.W.Sink.took l.fn.out) (take l.from l.bytes) (g.W.Sink.took l.out);
-  faults : g.W.Sink.faults l.out ≡ g.W.Sink.faults l.fn.out;
+  so_far : Comes (g.W.Sink.seen l.fn.out).took (take l.from l.bytes) (g.W.Sink.seen l.out).took;
+  faults : (g.W.Sink.seen l.out).faults ≡ (g.W.Sink.seen l.fn.out).faults;
 }

@@ -9,6 +9,6 @@ slots-preserved g c =
     let more : c.slots.number + 1 ≡ suc c.slots.number = omega arith in
     let left : vec_len c.remove.new.self + 1 ≡ vec_len c.slots.slots = search rules in
     record {
-      tapes = tape_on c.slots.number (c.slots.number + 1) c.slots.slots.items c.remove.new.self.items c.remove.result (map tape_view c.slots.tapes.items) (map tape_view c.keep_tape.new.tapes.items) _ some c.remove.ensures.value c.remove.ensures.items c.in_ok-keep_tape.ensures more c.slots.invariant.tapes;
+      tapes = tape_on g.L.Link.looks c.slots.number (c.slots.number + 1) c.slots.slots.items c.remove.new.self.items c.remove.result (map tape_view c.slots.tapes.items) (map tape_view c.keep_tape.new.tapes.items) _ some c.remove.ensures.value c.remove.ensures.items c.in_ok-keep_tape.ensures more c.slots.invariant.tapes;
       count = omega (arith, left, c.slots.invariant.count);
     }

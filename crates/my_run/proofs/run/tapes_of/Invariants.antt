@@ -8,6 +8,6 @@ decreases-slots g l = vec_len l.slots
 
 abbrev pub invariant-slots : goal.invariant-slots
 invariant-slots g l = record {
-  tapes : map tape_view l.tapes.items ++ tapes_in l.number (map handle_of l.slots.items) ≡ tapes_in 0 (map handle_of l.fn.slots.items);
+  tapes : map tape_view l.tapes.items ++ tapes_in l.number (map (handle_of g.L.Link.looks) l.slots.items) ≡ tapes_in 0 (map (handle_of g.L.Link.looks) l.fn.slots.items);
   count : l.number + vec_len l.slots ≡ vec_len l.fn.slots;
 }
