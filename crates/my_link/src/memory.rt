@@ -97,10 +97,10 @@ impl Link for MemLink {
     ghost use Rattle.my_link.specs.MemLink.{unread, unwritten, counted, sent_to};
 
     ghost looks = { λ m. record {
-        items = Some (unread m);
-        writes = Some (unwritten m);
-        got = Some (sent_to m);
-        counts = counted m;
+      items = Some (unread m);
+      writes = Some (unwritten m);
+      got = Some (sent_to m);
+      counts = counted m;
     } };
 
     ghost socket = { λ m. false };
