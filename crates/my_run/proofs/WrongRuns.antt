@@ -12,17 +12,16 @@ use Rattle.my_link.specs.declared.met.Met.{Met}
 use Rattle.my_link.specs.Link.{Told, after_hold, after_end, after_write, after_taken, after_write_hold, taken_of}
 use Rattle.my_link.specs.Looks.{Looks}
 use Rattle.my_link.specs.Met.{nothing_met}
-use Rattle.my_link.specs.Moves.{Move, Received, Sent, Leads, received_by, sent_by, Stop, NoStop, ReadHold, WriteHold, ReadFault, WriteFault, LinkEnd, StopsAt, holds_at, ends_at, IsUsed}
+use Rattle.my_link.specs.Moves.{Move, Received, Sent, Leads, received_by, sent_by, Stop, NoStop, ReadHold, WriteHold, ReadFault, WriteFault, LinkEnd, StopsAt, holds_at, ends_at}
 use Rattle.my_link.specs.Spent.{spelled, HasGot, IsLeft, Whole, Part, ReadsSpent, IsSpent}
 use Rattle.my_link.proofs.Spending.{used_spent}
 use Rattle.my_reading.specs.declared.answer.Answer.TheVariants as answers
 use Rattle.my_handshake.specs.declared.version.ServerVersion.{ServerVersion}
-use Rattle.my_reading.specs.declared.call.Call.TheVariants.{Ping, Quit}
+use Rattle.my_reading.specs.declared.call.Call.TheVariants.{Ping}
 use Rattle.my_reading.specs.Calls.{kind_of}
-use Rattle.my_reading.specs.declared.error.IoKind.TheVariants.{Dial, Link}
-use Rattle.my_reading.specs.Errors.{connection_closed, io_error, unexpected_eof}
+use Rattle.my_reading.specs.declared.error.IoKind.TheVariants.{Dial}
+use Rattle.my_reading.specs.Errors.{connection_closed, io_error}
 use Rattle.my_session.specs.declared.answer.SessionStep.TheVariants as doings
-use Rattle.my_session.specs.declared.task.Task.TheVariants.{Leaving}
 use Rattle.my_session.specs.History.{has_closed}
 use Rattle.my_session.specs.Machine.{next}
 use Rattle.my_session.specs.Seen.{Seen}
@@ -39,7 +38,7 @@ use Rattle.my_script.specs.declared.transcript.Transcript.{Transcript}
 use Rattle.my_script.specs.declared.transcript.Use.{Use}
 use Rattle.my_client.specs.declared.poll.After.{After}
 use Rattle.my_client.specs.declared.poll.After.TheVariants as after
-use Rattle.my_client.specs.Causes.{IsPolled, PollEnds, Asks, Waiting}
+use Rattle.my_client.specs.Causes.{IsPolled, PollEnds, Asks}
 use Rattle.my_client.specs.Kept.{Asked, Kept, made_of, asking, asked_by, first_asked, first_kept}
 use Rattle.my_client.specs.Poll.{Owes, Awaits}
 use Rattle.my_client.proofs.Hearing.Beginning.{closed_kept}
@@ -53,8 +52,8 @@ use Rattle.my_run.specs.Handle.{Handle, Absent, Dialing, Joined, at_number, put_
 use Rattle.my_run.specs.Headline.{AnswerView, answer_view, steps_of, answers_of, Headline, IsExplained, EachExplained}
 use Rattle.my_run.specs.Sums.{use_of, quiet, failed_use}
 use Rattle.my_run.specs.Tapes.{TapeView, tape_view, tape_call, open_call, tapes_in, tape_of, tape_at}
-use Rattle.my_run.specs.Tool.{IsReport, ToolEnds}
-use Rattle.my_run.specs.WrongRuns.{IsFailedDial, NoPlannedDialFault, NoHeldDialFault, DialFault, NoEarlyEnd, NoHoldAfterTurn, NoHoldInTurn, NoZeroSent, NoOtherTaken, NoFaultAtRest, HasRead, NoBrokenInput}
+use Rattle.my_run.specs.Tool.{ToolEnds}
+use Rattle.my_run.specs.WrongRuns.{NoPlannedDialFault, NoHeldDialFault, DialFault, NoEarlyEnd, NoHoldAfterTurn, NoHoldInTurn, NoZeroSent, NoOtherTaken, NoFaultAtRest, HasRead, NoBrokenInput}
 
 -- what was told
 told_some : {I : Type 0} (x y : Option (List I)) (is : List I) (R : List I → List I → Type 0) → x ≡ Some is → Told x y R → (js : List I) × (y ≡ Some js) × R is js

@@ -1,14 +1,13 @@
 -- Each connection fits its link's plan: what it sent, what it took, and what is left lead from line to line.
-use Rattle.std.proofs.Common.{ℕ, ◌≡◌, zero, suc, List, [], ◌∷◌, ◌++◌, length, Option, Some, None, Bool, true, false, not, refl, sym, ap, ◌∙◌, subst}
-use Rattle.std.proofs.lemmas.List.{append-nil}
+use Rattle.std.proofs.Common.{ℕ, ◌≡◌, zero, suc, List, [], ◌∷◌, ◌++◌, length, Option, Some, None, Bool, true, false, refl, sym, subst}
 use Rattle.my_value.specs.RowParts.{RowParts}
 use Rattle.my_grammar.specs.declared.login.Login.{Login}
 use Rattle.my_link.specs.declared.link.ReadItem.{ReadItem}
 use Rattle.my_link.specs.declared.link.WriteItem.{WriteItem}
 use Rattle.my_link.specs.declared.met.Met.{Met}
 use Rattle.my_link.specs.Looks.{Looks}
-use Rattle.my_link.specs.Moves.{Stop, faults_at, IsUsed}
-use Rattle.my_link.specs.Spent.{IsLeft, Whole, HasGot, ReadsSpent, IsSpent, FaultsSpent}
+use Rattle.my_link.specs.Moves.{Stop, IsUsed}
+use Rattle.my_link.specs.Spent.{Whole, HasGot, ReadsSpent, IsSpent, FaultsSpent}
 use Rattle.my_link.proofs.Spending.{used_spent}
 use Rattle.my_reading.specs.declared.answer.Answer.TheVariants as answers
 use Rattle.my_reading.specs.declared.call.Call.{Call}
@@ -21,7 +20,7 @@ use Rattle.my_script.specs.declared.transcript.Use.{Use}
 use Rattle.my_client.specs.Causes.{IsPolled, PollEnds}
 use Rattle.my_client.specs.Kept.{Asked, Kept, asking, asked_by}
 use Rattle.my_world.specs.World.{Plans, IsFresh}
-use Rattle.my_run.specs.Grows.{IsRefused, OnConnection, PolledOnce, IsClosed, Begins, BeginsOn, Calls, ConnectShows, Connects, HasPlan, IsNew, Dials, Holds, Fails, Links, Gathers, GathersOn, Collects, CollectsOn, CollectsAt, PollsOn, GoesOnWith, GoesOn, CancelsWith, Cancels, TellsWith, TellsFields, At, DialsNext, StepGrows}
+use Rattle.my_run.specs.Grows.{IsRefused, OnConnection, PolledOnce, IsClosed, Begins, BeginsOn, Calls, ConnectShows, Connects, HasPlan, IsNew, Dials, Holds, Fails, Links, Gathers, GathersOn, Collects, CollectsOn, CollectsAt, PollsOn, GoesOnWith, GoesOn, CancelsWith, Cancels, TellsWith, TellsFields, At, StepGrows}
 use Rattle.my_run.specs.Handle.{Handle, Absent, Dialing, Joined, at_number, put_at}
 use Rattle.my_run.specs.Headline.{FitsLink}
 

@@ -1,6 +1,6 @@
 -- How a call begins on a connection.
 use Rattle.my_client.proofs.Hearing.Beginning.{begins, closed_kept, is_asked, is_idle, refuses}
-use Rattle.std.proofs.Common.{ℕ, ◌≡◌, List, [], ◌∷◌, Bool, true, false, Option, Some, None, refl, sym, ap, ◌∙◌, subst, arith}
+use Rattle.std.proofs.Common.{ℕ, ◌≡◌, List, [], ◌∷◌, Bool, true, false, Option, Some, None, refl, sym, ap, ◌∙◌, subst}
 use Rattle.my_grammar.specs.declared.login.Login.{Login}
 use Rattle.my_reading.specs.declared.call.Call.{Call}
 use Rattle.my_reading.specs.declared.error.Error.{Error}
@@ -27,7 +27,7 @@ use Rattle.my_client.specs.Conn.{kept_of}
 use Rattle.my_client.specs.Drives.{Drives}
 use Rattle.my_run.specs.Grows.{Begins, BeginsOn, Calls, shown}
 use Rattle.my_client.specs.Kept.{asked_by, Asked, Kept, made_of, asking, ended_by}
-use Rattle.my_run.specs.Handle.{Handle, Joined}
+use Rattle.my_run.specs.Handle.{Joined}
 use Rattle.my_client.specs.Ready.{StandsBy}
 use Rattle.my_link.specs.Looks.{Looks}
 use Rattle.my_client.specs.Rests.{Rests, IsAsked}

@@ -1,5 +1,5 @@
 -- How an open call is cancelled, and what tells without a call.
-use Rattle.std.proofs.Common.{ℕ, ◌≡◌, ◌⊎◌, inl, inr, List, [], ◌&&◌, not, Bool, true, false, cond, Option, Some, refl, sym, ap, ◌∙◌, subst}
+use Rattle.std.proofs.Common.{ℕ, ◌≡◌, List, [], ◌&&◌, not, Bool, true, false, cond, Option, Some, refl, sym, ap, ◌∙◌, subst}
 use Rattle.my_grammar.specs.declared.login.Login.{Login}
 use Rattle.my_reply.specs.declared.ok.OkPacket.{OkPacket}
 use Rattle.my_session.specs.declared.task.Task.{Task}
@@ -21,9 +21,8 @@ use Rattle.my_script.specs.declared.transcript.Outcome.{Outcome}
 use Rattle.my_script.specs.declared.transcript.Outcome.TheVariants.{Done, Fields, NoSuchHandle}
 use Rattle.my_script.specs.declared.transcript.Use.{Use}
 use Rattle.my_run.specs.Did.{Did}
-use Rattle.my_run.specs.Grows.{OnConnection, CollectsAt, CollectsOn, Cancels, CancelsWith, TellsFields, TellsWith}
+use Rattle.my_run.specs.Grows.{CollectsAt, CollectsOn, Cancels, CancelsWith, TellsFields, TellsWith}
 use Rattle.my_run.specs.Handle.{Handle, Joined}
-use Rattle.my_world.specs.World.{Plans}
 use Rattle.my_client.specs.Ready.{StandsBy}
 use Rattle.my_run.specs.Keeps.{IsStood}
 use Rattle.my_client.specs.Kept.{Asked, Kept, ended_by}
