@@ -17,12 +17,17 @@ use Rattle.my_link.specs.Spent.{spelled, HasGot, IsLeft, Whole, Part, ReadsSpent
 use Rattle.my_link.proofs.Spending.{used_spent}
 use Rattle.my_reading.specs.declared.answer.Answer.TheVariants as answers
 use Rattle.my_handshake.specs.declared.version.ServerVersion.{ServerVersion}
-use Rattle.my_reading.specs.declared.call.Call.TheVariants.{Ping}
+use Rattle.my_reading.specs.declared.call.Call.TheVariants.{Ping, Quit}
 use Rattle.my_reading.specs.Calls.{kind_of}
-use Rattle.my_reading.specs.declared.error.IoKind.TheVariants.{Dial}
+use Rattle.my_reading.specs.declared.error.IoKind.TheVariants.{Dial, Link}
 use Rattle.my_reading.specs.Errors.{connection_closed, io_error, unexpected_eof}
+use Rattle.my_session.specs.declared.answer.SessionStep.TheVariants as doings
+use Rattle.my_session.specs.declared.task.Task.TheVariants.{Leaving}
 use Rattle.my_session.specs.History.{has_closed}
-use Rattle.my_session.specs.Steps.{is_refused}
+use Rattle.my_session.specs.Machine.{next}
+use Rattle.my_session.specs.Seen.{Seen}
+use Rattle.my_session.specs.Stands.{owes}
+use Rattle.my_session.specs.Steps.{with_end, is_refused}
 use Rattle.my_script.specs.declared.step.Step.{Step}
 use Rattle.my_script.specs.declared.step.Step.TheVariants as steps
 use Rattle.my_script.specs.declared.transcript.Outcome.{Outcome}
@@ -34,8 +39,11 @@ use Rattle.my_script.specs.declared.transcript.Transcript.{Transcript}
 use Rattle.my_script.specs.declared.transcript.Use.{Use}
 use Rattle.my_client.specs.declared.poll.After.{After}
 use Rattle.my_client.specs.declared.poll.After.TheVariants as after
-use Rattle.my_client.specs.Causes.{IsPolled, PollEnds}
+use Rattle.my_client.specs.Causes.{IsPolled, PollEnds, Asks, Waiting}
 use Rattle.my_client.specs.Kept.{Asked, Kept, made_of, asking, asked_by, first_asked, first_kept}
+use Rattle.my_client.specs.Poll.{Owes, Awaits}
+use Rattle.my_client.proofs.Hearing.Beginning.{closed_kept}
+use Rattle.my_client.proofs.Hearing.Failing.{is_leaving, leaving_told}
 use Rattle.my_world.specs.World.{Plans, WorldSeen, DialCounts, no_dials}
 use Rattle.my_run.specs.declared.tool.Status.{Status}
 use Rattle.my_run.specs.declared.tool.Status.TheVariants as ends
@@ -46,7 +54,7 @@ use Rattle.my_run.specs.Headline.{AnswerView, answer_view, steps_of, answers_of,
 use Rattle.my_run.specs.Sums.{use_of, quiet, failed_use}
 use Rattle.my_run.specs.Tapes.{TapeView, tape_view, tape_call, open_call, tapes_in, tape_of, tape_at}
 use Rattle.my_run.specs.Tool.{IsReport, ToolEnds}
-use Rattle.my_run.specs.WrongRuns.{IsFailedDial, NoPlannedDialFault, NoHeldDialFault, DialFault, NoEarlyEnd, NoHoldAfterTurn, NoHoldInTurn, NoZeroSent, NoOtherTaken, HasRead, NoBrokenInput}
+use Rattle.my_run.specs.WrongRuns.{IsFailedDial, NoPlannedDialFault, NoHeldDialFault, DialFault, NoEarlyEnd, NoHoldAfterTurn, NoHoldInTurn, NoZeroSent, NoOtherTaken, NoFaultAtRest, HasRead, NoBrokenInput}
 
 -- what was told
 told_some : {I : Type 0} (x y : Option (List I)) (is : List I) (R : List I → List I → Type 0) → x ≡ Some is → Told x y R → (js : List I) × (y ≡ Some js) × R is js
@@ -446,6 +454,29 @@ pub no_other_taken : NoOtherTaken
 no_other_taken login plans before later more a t told number taken w =
     let r = lone login plans before later a (t ∷ []) w in
     taken_there login (plans.reads 0) more r.made (tape_view t) told taken r.shown r.explained
+
+-- a quit on a closed session
+no_owing : (login : Login) (s : Seen) (k : Kept) (w : Asks login k Owes) → has_closed (made_of k.calls) ≡ true → ⊥
+no_owing login s k w closed =
+    let shut : w.session.closed ≡ true = closed_kept login w.session k w.heard ∙ closed in
+    let leaving = is_leaving w.session.task w.session.closed shut w.asks.0 w.sound w.heard.stands.heard.alive in
+    w.asks.1 (w.heard.stands.settled (ap owes leaving))
+
+no_awaiting : (login : Login) (k : Kept) (w : Asks login k Awaits) → has_closed (made_of k.calls) ≡ true → ⊥
+no_awaiting login k w closed =
+    let s : Seen = w.session in
+    let shut : s.closed ≡ true = closed_kept login s k w.heard ∙ closed in
+    let leaving = is_leaving s.task s.closed shut w.asks.needs.0 w.sound w.heard.stands.heard.alive in
+    let quiet : s.owed ≡ [] = w.heard.stands.settled (ap owes leaving) in
+    w.asks.fails (next (with_end s)).seen (doings.Done answers.Ready) (record { count = 0; go = tt; last = record { seen = refl; does = leaving_told (with_end s) leaving quiet } })
+
+pub no_fault_at_rest : NoFaultAtRest
+no_fault_at_rest login k end x y u place closed w =
+    let shut : has_closed (made_of w.following.calls) ≡ true = ap (λ cs. has_closed (made_of cs)) w.calls ∙ closed in
+    elim w.ends.2.1 as (λ _. ⊥) [
+      | inl asks ↦ no_owing login asks.session w.following asks shut
+      | inr asks ↦ no_awaiting login w.following asks shut
+    ]
 
 -- an input that broke off
 broken_off : (words : List (List ℕ)) (world later : WorldSeen) (s r : SourceSeen) (w v : SinkSeen) (t : Transcript) (status : Status) → s.ends ≡ 0 → r.ends ≡ 0 → HasRead status → ToolEnds words world later s r w v t status → ⊥

@@ -9,9 +9,10 @@ use Rattle.my_link.specs.declared.met.Met.{Met}
 use Rattle.my_link.specs.Looks.{Looks}
 use Rattle.my_link.specs.Met.{nothing_met}
 use Rattle.my_handshake.specs.declared.version.ServerVersion.{ServerVersion}
-use Rattle.my_reading.specs.declared.call.Call.TheVariants.{Ping}
-use Rattle.my_reading.specs.declared.error.IoKind.TheVariants.{Dial}
+use Rattle.my_reading.specs.declared.call.Call.TheVariants.{Ping, Quit}
+use Rattle.my_reading.specs.declared.error.IoKind.TheVariants.{Dial, Link}
 use Rattle.my_reading.specs.Errors.{io_error, unexpected_eof}
+use Rattle.my_session.specs.History.{has_closed}
 use Rattle.my_script.specs.declared.step.Step.TheVariants as steps
 use Rattle.my_script.specs.declared.transcript.Outcome.TheVariants.{Connected, Failed, Pending}
 use Rattle.my_script.specs.declared.transcript.StepAnswer.{StepAnswer}
@@ -20,7 +21,7 @@ use Rattle.my_script.specs.declared.transcript.TapeCall.{TapeCall}
 use Rattle.my_client.specs.declared.poll.After.{After}
 use Rattle.my_client.specs.declared.poll.After.TheVariants as after
 use Rattle.my_client.specs.Causes.{IsPolled}
-use Rattle.my_client.specs.Kept.{Asked, Kept}
+use Rattle.my_client.specs.Kept.{Asked, Kept, made_of, asking, asked_by}
 use Rattle.my_world.specs.World.{Plans, WorldSeen, DialCounts, no_dials}
 use Rattle.my_run.specs.declared.tool.Report.{Report}
 use Rattle.my_run.specs.declared.tool.Status.{Status}
@@ -88,6 +89,11 @@ abbrev pub NoOtherTaken : Type 0
 NoOtherTaken = (login : Login) (plans : Plans) (before later : DialCounts) (more : List ReadItem) (a : StepAnswer) (t : Tape)
     → plans.reads 0 ≡ Some (Bytes (2 ∷ []) ∷ more) → t.number ≡ 0 → t.taken.items ≡ 1 ∷ []
     → Headline login plans before later (steps.Conn ∷ []) (a ∷ []) (t ∷ []) → ⊥
+
+-- a quit on a closed session owes and awaits nothing, so no fault of the link is its answer
+abbrev pub NoFaultAtRest : Type 0
+NoFaultAtRest = (login : Login) (k end : Kept) (x y : Looks) (u : Met) (place : ℕ) → has_closed (made_of k.calls) ≡ true
+    → IsPolled login (asked_by k Quit) (asking k Quit None) x u (after.Failed (io_error Link place)) end y → ⊥
 
 -- a report that all steps were run, that a line doesn't read, or that the sink failed
 abbrev pub HasRead : Status → Type 0

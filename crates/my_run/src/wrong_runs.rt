@@ -1,5 +1,5 @@
 //! Runs that no user would call right, each of which the headline refutes, and beside them runs that it accepts.
-ghost use Rattle.my_run.specs.WrongRuns.{NoPlannedDialFault, NoHeldDialFault, DialFault, NoEarlyEnd, NoHoldAfterTurn, NoHoldInTurn, NoZeroSent, NoOtherTaken, NoBrokenInput};
+ghost use Rattle.my_run.specs.WrongRuns.{NoPlannedDialFault, NoHeldDialFault, DialFault, NoEarlyEnd, NoHoldAfterTurn, NoHoldInTurn, NoZeroSent, NoOtherTaken, NoFaultAtRest, NoBrokenInput};
 
 /// Over a world that told the link's plan, no dial is said to have failed.
 pub fn no_planned_dial_fault()
@@ -39,6 +39,11 @@ pub fn no_zero_sent()
 /// A tape takes no other bytes than the plan's.
 pub fn no_other_taken()
     ensures { NoOtherTaken }
+{}
+
+/// A call that owes nothing and awaits nothing doesn't fail by its link.
+pub fn no_fault_at_rest()
+    ensures { NoFaultAtRest }
 {}
 
 /// An input that broke off isn't run as if it were whole.
