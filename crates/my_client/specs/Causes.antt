@@ -1,5 +1,5 @@
 -- Why a poll came to what it came to.
-use Rattle.std.specs.Prelude.{ℕ, ◌≡◌, ◌<◌, ◌≤◌, ◌⊎◌, List, ◌++◌, Some, true}
+use Rattle.std.specs.Prelude.{ℕ, ◌≡◌, ◌<◌, ◌≤◌, ◌⊎◌, List, ◌++◌, Some, None, true}
 use Rattle.my_frame.specs.declared.limits.TheConstants.{MOST_TAKEN}
 use Rattle.my_grammar.specs.declared.login.Login.{Login}
 use Rattle.my_reading.specs.declared.error.Error.{Error}
@@ -16,6 +16,7 @@ use Rattle.my_session.specs.Complete.{FailsOutside}
 use Rattle.my_reading.specs.Told.{told}
 use Rattle.my_session.specs.History.{History}
 use Rattle.my_session.specs.Seen.{Seen}
+use Rattle.my_session.specs.Tasks.{fault_in}
 use Rattle.my_client.specs.declared.poll.After.{After}
 use Rattle.my_client.specs.declared.poll.After.TheVariants.{Pending, Answered, Failed}
 use Rattle.my_client.specs.declared.tape.Said.TheVariants as says
@@ -25,10 +26,11 @@ use Rattle.my_link.specs.Moves.{Stop, NoStop, ReadHold, WriteHold, ReadFault, Wr
 use Rattle.my_client.specs.Kept.{Asked, Kept, IsOf, IsHeard, ended_by}
 use Rattle.my_client.specs.Poll.{IsOfCall, Owes, Awaits}
 
--- a session that stands for what was kept owes bytes, or awaits some
+-- a session that stands for what was kept, and whose call wasn't made to fail, owes bytes, or awaits some
 pub record Asks (login : Login) (k : Kept) (Step : Seen → Type 0) : Type 0 where
   pub session : Seen
   pub heard : IsHeard login session k
+  pub sound : fault_in session.task ≡ None
   pub asks : Step session
 
 abbrev pub Waiting : Login → Kept → Type 0

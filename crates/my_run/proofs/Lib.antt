@@ -1,3 +1,4 @@
 pub mod Outputs
 pub mod Runs
 pub mod Working
+pub mod WrongRuns

@@ -13,3 +13,4 @@ pub mod Connecting
 pub mod Gathering
 pub mod Headline
 pub mod Tool
+pub mod WrongRuns

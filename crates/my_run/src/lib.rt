@@ -15,6 +15,7 @@ mod slot;
 mod tape;
 mod tool;
 mod work;
+pub mod wrong_runs;
 
 pub use output::write_all;
 pub use tool::{Report, Status, run_tool};

@@ -6,7 +6,7 @@ use Rattle.my_link.specs.declared.link.WriteItem.{WriteItem}
 use Rattle.my_world.specs.declared.world.DialStep.{DialStep}
 use Rattle.my_world.specs.declared.world.DialStep.TheVariants.{Link, NotYet, Failed}
 
--- for the link of each number, where contracts see it: what can be read, and what becomes of writes
+-- for the link of each number, where the world tells it: what can be read, and what becomes of writes
 pub record Plans : Type 0 where
   pub reads : ℕ → Option (List ReadItem)
   pub writes : ℕ → Option (List WriteItem)
@@ -67,7 +67,7 @@ CountsDial c d (Link l) = d ≡ c
 CountsDial c d NotYet = DialHeld c d
 CountsDial c d Failed = DialFailed c d
 
--- nothing was sent yet, where contracts see what was
+-- nothing was sent yet, where that is told
 abbrev pub IsFresh : Option (List ℕ) → Type 0
 IsFresh None = Unit {0}
 IsFresh (Some bytes) = bytes ≡ []

@@ -31,13 +31,13 @@ use Rattle.my_client.specs.Poll.{Awaits, Waits}
 use Rattle.my_client.specs.declared.tape.Said.TheVariants as says
 use Rattle.my_client.specs.Kept.{Asked, Kept, IsHeard, ended_by}
 use Rattle.my_client.specs.Reads.{RestRead}
-use Rattle.my_client.specs.Rests.{IsAsked, IsHeld, FailsNow, HasFailed, AwaitsBytes}
+use Rattle.my_client.specs.Rests.{Rests, IsAsked, IsHeld, FailsNow, HasFailed, AwaitsBytes}
 use Rattle.my_client.proofs.Hearing.{heard_end, heard_failing}
 use Rattle.my_client.proofs.Hearing.Stepping.{StepStands, asked_read, fails_now, nothing_faults}
 use Rattle.my_client.proofs.TapeRead.Sessions.{broke_read, end_read, fault_read}
 
 -- a quit of a closed session doesn't fail
-leaving_told : (s : Seen) → s.task ≡ Leaving → s.owed ≡ [] → (next s).does ≡ Tells ToldReady
+pub leaving_told : (s : Seen) → s.task ≡ Leaving → s.owed ≡ [] → (next s).does ≡ Tells ToldReady
 leaving_told s e o = ap (λ t. (next_by (fault_in t) s).does) e ∙ ap (λ bytes. (when_owed bytes s).does) o ∙ ap (λ t. (planned s (plan_of t s.context.spot s.untold)).does) e
 
 leaving_now : (s t : Seen) (e : Error) → (next s).does ≡ Tells ToldReady → FaultIs (next s) s t e → e ≡ errors.NoMemory
@@ -119,9 +119,9 @@ waits_open : (s : Seen) → Waits s → is_open s.task ≡ true
 waits_open s (inl w) = w.0
 waits_open s (inr w) = w.needs.0
 
-waiting_by : (login : Login) (s : Seen) (k : Kept) → IsHeard login s k → Waits s → Waiting login k
-waiting_by login s k w (inl a) = inl (record { session = s; heard = w; asks = a })
-waiting_by login s k w (inr a) = inr (record { session = s; heard = w; asks = a })
+waiting_by : (login : Login) (s : Seen) (k : Kept) → Rests login s k → Waits s → Waiting login k
+waiting_by login s k w (inl a) = inl (record { session = s; heard = w.heard; sound = w.sound; asks = a })
+waiting_by login s k w (inr a) = inr (record { session = s; heard = w.heard; sound = w.sound; asks = a })
 
 pub broke : (login : Login) (s r t : Seen) (k : Kept) (a : Asked) (e : Error) → e ≢ errors.NoMemory → IsHeld login s k a → Waits s → r ≡ with_failing s faults.Link → FailsNow login r t k a e → HasFailed login t k a e 1 0
 broke login s r t k a e ne w asks is u =
@@ -136,7 +136,7 @@ broke login s r t k a e ne w asks is u =
         read = broke_read login s r t k a e w.asked.rests.heard.login_is ne op is fault u.step w.stopped;
       };
       why = u.why;
-      by = link_by login k e ne (waiting_by login s k w.asked.rests.heard asks) link;
+      by = link_by login k e ne (waiting_by login s k w.asked.rests asks) link;
     }
 
 -- the link told its end where bytes were awaited
@@ -173,7 +173,7 @@ broke_so login s r t k g a e ne asks is st fails s1 t1 c1 p1 w =
 pub ended_so : (login : Login) (s r t : Seen) (k g : Kept) (a : Asked) (e : Error) → e ≢ errors.NoMemory → r ≡ with_end s → ((h : History) → Stands s h → Stands r (ending h)) → ((login : Login) (a : Asked) → IsHeard login r k → k.pending ≡ Some a → FailsNow login r t k a e) → g.sent ≡ k.sent → g.taken ≡ k.taken → g.calls ≡ k.calls → g.pending ≡ k.pending → AwaitsBytes s → Awaits s → IsHeld login s k a → HasFailed login t g a e 0 1
 ended_so login s r t k g a e ne is st fails s1 t1 c1 p1 waits asks w =
     subst (λ (x : Kept). HasFailed login t x a e 0 1) (sym (same_kept k g s1 t1 c1 p1))
-    (ended login s r t k a e ne w waits (record { session = s; heard = w.asked.rests.heard; asks = asks }) is (fails login a (heard_end login s r k is st w.asked.rests.heard) w.asked.asked))
+    (ended login s r t k a e ne w waits (record { session = s; heard = w.asked.rests.heard; sound = w.asked.rests.sound; asks = asks }) is (fails login a (heard_end login s r k is st w.asked.rests.heard) w.asked.asked))
 
 pub faulted_same : (login : Login) (s t : Seen) (k : Kept) (a : Asked) (e x : Error) → x ≡ e → x ≢ errors.NoMemory → IsAsked login s k a → is_open s.task ≡ true → Steps s t (steps.Fault e) → t.task ≡ Nothing → StepStands s t (steps.Fault e) → EachStepReads s t (steps.Fault e) → HasFailed login t k a x 0 0
 faulted_same login s t k a e x is ne w op v n st rd = subst (λ (y : Error). HasFailed login t k a y 0 0) (sym is) (faulted login s t k a e (λ z. ne (is ∙ z)) w op v n st rd)

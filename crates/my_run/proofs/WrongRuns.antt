@@ -1,0 +1,493 @@
+-- How wrong runs are refuted.
+use Rattle.std.proofs.Common.{ℕ, ◌≡◌, ◌<◌, ◌+◌, ◌⊎◌, inl, inr, zero, suc, List, [], ◌∷◌, ◌++◌, length, map, Option, Some, None, Bool, true, false, refl, sym, ap, ◌∙◌, subst, arith}
+use Rattle.std.proofs.lemmas.List.{append-nil, length-append}
+use Rattle.my_grammar.specs.declared.login.Login.{Login}
+use Rattle.my_frame.specs.Outside.{Rose}
+use Rattle.my_frame.specs.Sources.{SourceSeen}
+use Rattle.my_frame.specs.Sinks.{SinkSeen}
+use Rattle.my_link.specs.declared.link.ReadItem.{ReadItem}
+use Rattle.my_link.specs.declared.link.ReadItem.TheVariants.{Bytes, Turn}
+use Rattle.my_link.specs.declared.link.WriteItem.{WriteItem}
+use Rattle.my_link.specs.declared.met.Met.{Met}
+use Rattle.my_link.specs.Link.{Told, after_hold, after_end, after_write, after_taken, after_write_hold, taken_of}
+use Rattle.my_link.specs.Looks.{Looks}
+use Rattle.my_link.specs.Met.{nothing_met}
+use Rattle.my_link.specs.Moves.{Move, Received, Sent, Leads, received_by, sent_by, Stop, NoStop, ReadHold, WriteHold, ReadFault, WriteFault, LinkEnd, StopsAt, holds_at, ends_at, IsUsed}
+use Rattle.my_link.specs.Spent.{spelled, HasGot, IsLeft, Whole, Part, ReadsSpent, IsSpent}
+use Rattle.my_link.proofs.Spending.{used_spent}
+use Rattle.my_reading.specs.declared.answer.Answer.TheVariants as answers
+use Rattle.my_handshake.specs.declared.version.ServerVersion.{ServerVersion}
+use Rattle.my_reading.specs.declared.call.Call.TheVariants.{Ping, Quit}
+use Rattle.my_reading.specs.Calls.{kind_of}
+use Rattle.my_reading.specs.declared.error.IoKind.TheVariants.{Dial, Link}
+use Rattle.my_reading.specs.Errors.{connection_closed, io_error, unexpected_eof}
+use Rattle.my_session.specs.declared.answer.SessionStep.TheVariants as doings
+use Rattle.my_session.specs.declared.task.Task.TheVariants.{Leaving}
+use Rattle.my_session.specs.History.{has_closed}
+use Rattle.my_session.specs.Machine.{next}
+use Rattle.my_session.specs.Seen.{Seen}
+use Rattle.my_session.specs.Stands.{owes}
+use Rattle.my_session.specs.Steps.{with_end, is_refused}
+use Rattle.my_script.specs.declared.step.Step.{Step}
+use Rattle.my_script.specs.declared.step.Step.TheVariants as steps
+use Rattle.my_script.specs.declared.transcript.Outcome.{Outcome}
+use Rattle.my_script.specs.declared.transcript.Outcome.TheVariants.{Connected, Failed, NoSuchHandle, Pending}
+use Rattle.my_script.specs.declared.transcript.StepAnswer.{StepAnswer}
+use Rattle.my_script.specs.declared.transcript.Tape.{Tape}
+use Rattle.my_script.specs.declared.transcript.TapeCall.{TapeCall}
+use Rattle.my_script.specs.declared.transcript.Transcript.{Transcript}
+use Rattle.my_script.specs.declared.transcript.Use.{Use}
+use Rattle.my_client.specs.declared.poll.After.{After}
+use Rattle.my_client.specs.declared.poll.After.TheVariants as after
+use Rattle.my_client.specs.Causes.{IsPolled, PollEnds, Asks, Waiting}
+use Rattle.my_client.specs.Kept.{Asked, Kept, made_of, asking, asked_by, first_asked, first_kept}
+use Rattle.my_client.specs.Poll.{Owes, Awaits}
+use Rattle.my_client.proofs.Hearing.Beginning.{closed_kept}
+use Rattle.my_client.proofs.Hearing.Failing.{is_leaving, leaving_told}
+use Rattle.my_world.specs.World.{Plans, WorldSeen, DialCounts, no_dials}
+use Rattle.my_run.specs.declared.tool.Status.{Status}
+use Rattle.my_run.specs.declared.tool.Status.TheVariants as ends
+use Rattle.my_run.specs.Dialing.{DialsTo, dial_met, has_dialed, AreDialed}
+use Rattle.my_run.specs.Grows.{Line, handles_after, AreGrown, StepGrows, DialsNext, HasPlan, Dials, Holds, Fails, Links, ConnectShows, Connects, PolledOnce, Begins, BeginsOn, Calls, At, shown}
+use Rattle.my_run.specs.Handle.{Handle, Absent, Dialing, Joined, at_number, put_at}
+use Rattle.my_run.specs.Headline.{AnswerView, answer_view, steps_of, answers_of, Headline, IsExplained, EachExplained}
+use Rattle.my_run.specs.Sums.{use_of, quiet, failed_use}
+use Rattle.my_run.specs.Tapes.{TapeView, tape_view, tape_call, open_call, tapes_in, tape_of, tape_at}
+use Rattle.my_run.specs.Tool.{IsReport, ToolEnds}
+use Rattle.my_run.specs.WrongRuns.{IsFailedDial, NoPlannedDialFault, NoHeldDialFault, DialFault, NoEarlyEnd, NoHoldAfterTurn, NoHoldInTurn, NoZeroSent, NoOtherTaken, NoFaultAtRest, HasRead, NoBrokenInput}
+
+-- what was told
+told_some : {I : Type 0} (x y : Option (List I)) (is : List I) (R : List I → List I → Type 0) → x ≡ Some is → Told x y R → (js : List I) × (y ≡ Some js) × R is js
+told_some None y is R e t = cc
+told_some (Some old) None is R e t = absurd t
+told_some {I} (Some old) (Some new) is R e t = let same : old ≡ is = cc in (new, refl, subst (λ (os : List I). R os new) same t)
+
+no_bytes : (xs bs : List ℕ) → xs ++ bs ≡ [] → 0 < length bs → ⊥
+no_bytes xs bs e h = omega (arith, ap length e, length-append xs bs, h)
+
+first_of : List ℕ → ℕ
+first_of [] = 0
+first_of (b ∷ bs) = b
+
+rest_of : List ℕ → List ℕ
+rest_of [] = []
+rest_of (b ∷ bs) = bs
+
+cancel_front : (a b c : List ℕ) → a ++ b ≡ a ++ c → b ≡ c
+unfolding rest_of
+cancel_front [] b c e = e
+cancel_front (x ∷ a) b c e = cancel_front a b c (ap rest_of e)
+
+nil_of : (xs : List ℕ) → 0 ≡ length xs → xs ≡ []
+nil_of [] e = refl
+nil_of (x ∷ xs) e = absurd (omega (arith, e))
+
+-- bytes stay first where none was received
+stays_first : (ms : List Move) (x z : Looks) (bytes : List ℕ) (more : List ReadItem) → x.items ≡ Some (Bytes bytes ∷ more) → Leads ms x z → received_by ms ≡ [] → z.items ≡ Some (Bytes bytes ∷ more)
+stays_first [] x z bytes more h w e = ap (λ (l : Looks). l.items) w ∙ h
+stays_first (Received bs ∷ ms) x z bytes more h w e = absurd (no_bytes (received_by ms) bs e w.2.0)
+stays_first (Sent offered bs ∷ ms) x z bytes more h w e =
+    let t = told_some w.0.items z.items (Bytes bytes ∷ more) (λ is js. js ≡ after_write is) (stays_first ms x w.0 bytes more h w.1 e) w.2.1.items in
+    t.1 ∙ ap Some t.2
+
+-- no planned write is left where none was
+stays_open : (ms : List Move) (x z : Looks) → x.writes ≡ Some [] → Leads ms x z → z.writes ≡ Some []
+stays_open [] x z h w = ap (λ (l : Looks). l.writes) w ∙ h
+stays_open (Received bs ∷ ms) x z h w = w.2.1.writes ∙ stays_open ms x w.0 h w.1
+stays_open (Sent offered bs ∷ ms) x z h w =
+    let t = told_some w.0.writes z.writes [] (λ ws vs. (taken_of offered ws ≡ Some (length bs)) × (vs ≡ after_taken (length bs) ws)) (stays_open ms x w.0 h w.1) w.2.1.writes in
+    t.1 ∙ ap Some t.2.1
+
+-- a turn that is first is met by a sending
+turned : (ms : List Move) (x z : Looks) (bytes : List ℕ) (more : List ReadItem) → x.items ≡ Some (Turn ∷ Bytes bytes ∷ more) → Leads ms x z → received_by ms ≡ [] → ((z.items ≡ Some (Turn ∷ Bytes bytes ∷ more)) × (sent_by ms ≡ [])) ⊎ (z.items ≡ Some (Bytes bytes ∷ more))
+turned [] x z bytes more h w e = inl (ap (λ (l : Looks). l.items) w ∙ h, refl)
+turned (Received bs ∷ ms) x z bytes more h w e = absurd (no_bytes (received_by ms) bs e w.2.0)
+turned (Sent offered bs ∷ ms) x z bytes more h w e = by_state (turned ms x w.0 bytes more h w.1 e)
+  where
+    by_state : ((w.0.items ≡ Some (Turn ∷ Bytes bytes ∷ more)) × (sent_by ms ≡ [])) ⊎ (w.0.items ≡ Some (Bytes bytes ∷ more)) → ((z.items ≡ Some (Turn ∷ Bytes bytes ∷ more)) × (sent_by ms ++ bs ≡ [])) ⊎ (z.items ≡ Some (Bytes bytes ∷ more))
+    by_state (inl s) = let t = told_some w.0.items z.items (Turn ∷ Bytes bytes ∷ more) (λ is js. js ≡ after_write is) s.0 w.2.1.items in inr (t.1 ∙ ap Some t.2)
+    by_state (inr s) = let t = told_some w.0.items z.items (Bytes bytes ∷ more) (λ is js. js ≡ after_write is) s w.2.1.items in inr (t.1 ∙ ap Some t.2)
+
+-- nothing can hold where bytes are first and no planned write is left
+no_hold_at : (stop : Stop) (z y : Looks) (bytes : List ℕ) (more : List ReadItem) → z.items ≡ Some (Bytes bytes ∷ more) → z.writes ≡ Some [] → StopsAt stop z y → 1 ≡ holds_at stop → ⊥
+no_hold_at NoStop z y bytes more h o s e = omega (arith, e)
+no_hold_at ReadHold z y bytes more h o s e = let t = told_some z.items y.items (Bytes bytes ∷ more) (λ is js. after_hold is ≡ Some js) h s.items in let no : None ≡ Some t.0 = t.2 in cc
+no_hold_at WriteHold z y bytes more h o s e = let t = told_some z.writes y.writes [] (λ ws vs. after_write_hold ws ≡ Some vs) o s.writes in let no : None ≡ Some t.0 = t.2 in cc
+no_hold_at ReadFault z y bytes more h o s e = omega (arith, e)
+no_hold_at WriteFault z y bytes more h o s e = omega (arith, e)
+no_hold_at LinkEnd z y bytes more h o s e = omega (arith, e)
+
+-- a poll that sends a byte and receives none, from a turn or from bytes
+abbrev IsMet : Looks → List ℕ → List ReadItem → Type 0
+IsMet x bytes more = (x.items ≡ Some (Turn ∷ Bytes bytes ∷ more)) ⊎ (x.items ≡ Some (Bytes bytes ∷ more))
+
+met_after : (ms : List Move) (x z : Looks) (bytes : List ℕ) (more : List ReadItem) → IsMet x bytes more → Leads ms x z → received_by ms ≡ [] → 0 < length (sent_by ms) → z.items ≡ Some (Bytes bytes ∷ more)
+met_after ms x z bytes more (inl h) w e some = elim (turned ms x z bytes more h w e) as (λ _. z.items ≡ Some (Bytes bytes ∷ more)) [
+  | inl s ↦ absurd (omega (arith, some, ap length s.1))
+  | inr s ↦ s
+]
+met_after ms x z bytes more (inr h) w e some = stays_first ms x z bytes more h w e
+
+no_hold_met : (login : Login) (a : Asked) (k end : Kept) (x y : Looks) (u : Met) (bytes sent : List ℕ) (more : List ReadItem) → u ≡ record nothing_met { holds = 1 } → IsMet x bytes more → x.writes ≡ Some [] → 0 < length sent → end.sent ≡ k.sent ++ sent → IsPolled login a k x u after.Pending end y → ⊥
+no_hold_met login a k end x y u bytes sent more is h unheld some grown w =
+    let none : received_by w.used.moves ≡ [] = w.used.received_is ∙ nil_of w.taken (sym (ap (λ (m : Met). m.taken) is) ∙ w.met.taken) in
+    let same : k.sent ++ w.sent ≡ k.sent ++ sent = sym w.sent_is ∙ sym (ap (λ (m : Kept). m.sent) w.ends.0) ∙ grown in
+    let more_sent : 0 < length (sent_by w.used.moves) = omega (arith, some, ap length same, length-append k.sent w.sent, length-append k.sent sent, ap length w.used.sent_is) in
+    no_hold_at w.stop w.used.moved y bytes more (met_after w.used.moves x w.used.moved bytes more h w.used.leads none more_sent) (stays_open w.used.moves x w.used.moved unheld w.used.leads) w.used.stops (sym (ap (λ (m : Met). m.holds) is) ∙ w.met.holds)
+
+pub no_hold_after_turn : NoHoldAfterTurn
+no_hold_after_turn login a k end x y bytes sent more h unheld some grown w = no_hold_met login a k end x y (record nothing_met { holds = 1 }) bytes sent more refl (inl h) unheld some grown w
+
+-- what a poll came to keeps the bytes that were sent
+ends_sent : (login : Login) (a : Asked) (k end : Kept) (u : Met) (stop : Stop) (p : After) → PollEnds login a k u stop p end → end.sent ≡ k.sent
+ends_sent login a k end u stop after.Pending e = ap (λ (m : Kept). m.sent) e.0
+ends_sent login a k end u stop (after.Answered answer) e = ap (λ (m : Kept). m.sent) e.0
+ends_sent login a k end u stop (after.Failed x) e = ap (λ (m : Kept). m.sent) e.0
+
+has_got : (x : Option (List ℕ)) (got : List ℕ) → x ≡ Some got → HasGot x got
+has_got x got e = subst (λ o. HasGot o got) (sym e) refl
+
+pub no_zero_sent : NoZeroSent
+unfolding first_of
+no_zero_sent login a k end x y u p got old new grown w =
+    let spent : IsSpent None None x got [] 0 = record { got = has_got x.got got old; reads = tt; failed = tt } in
+    let later = used_spent None None x y got [] w.sent w.taken w.stop 0 w.used spent in
+    let told : got ++ 0 ∷ [] ≡ got ++ w.sent = subst (λ o. HasGot o (got ++ w.sent)) new later.got in
+    let kept : k.sent ++ w.sent ≡ k.sent ++ 1 ∷ [] = sym w.sent_is ∙ sym (ends_sent login a w.following end u w.stop p w.ends) ∙ grown in
+    let differs : 0 ∷ [] ≡ 1 ∷ [] = cancel_front got (0 ∷ []) w.sent told ∙ cancel_front k.sent w.sent (1 ∷ []) kept in
+    omega (arith, ap first_of differs)
+
+-- a transcript of one line
+one_line : (lines : List Line) (s : Step) → steps_of lines ≡ s ∷ [] → (l : Line) × (lines ≡ l ∷ []) × (l.step ≡ s)
+one_line [] s e = cc
+one_line (l ∷ []) s e = let same : l.step ∷ [] ≡ s ∷ [] = e in (l, refl, cc)
+one_line (l ∷ (m ∷ ms)) s e = absurd (omega (arith, ap length e, length-append (steps_of ms ++ m.step ∷ []) (l.step ∷ []), length-append (steps_of ms) (m.step ∷ [])))
+
+-- what a run of one `conn` was
+record IsLone (login : Login) (plans : Plans) (before later : DialCounts) (a : StepAnswer) (tapes : List TapeView) : Type 0 where
+  made : Handle
+  dials : Dials login (plans.reads 0) (plans.writes 0) 0 a.outcome a.uses.items made
+  counts : DialsTo before later (dial_met true a.uses.items)
+  explained : IsExplained login (plans.reads 0) made
+  shown : tapes ≡ tape_at 0 made ++ []
+
+lone : (login : Login) (plans : Plans) (before later : DialCounts) (a : StepAnswer) (tapes : List Tape) → Headline login plans before later (steps.Conn ∷ []) (a ∷ []) tapes → IsLone login plans before later a (map tape_view tapes)
+lone login plans before later a tapes w =
+    let o = one_line w.lines steps.Conn w.steps_are in
+    let l : Line = o.0 in
+    let answered : answer_view a ∷ [] ≡ record { number = l.number; outcome = l.outcome; uses = l.uses } ∷ [] = w.answered ∙ ap answers_of o.1 in
+    let outcome : l.outcome ≡ a.outcome = sym (ap outcome_in answered) in
+    let uses : l.uses ≡ a.uses.items = sym (ap uses_in answered) in
+    let grown = subst (AreGrown login plans) o.1 w.grown in
+    let next : DialsNext login plans [] a.outcome a.uses.items l.handles =
+    subst (λ (x : Outcome). DialsNext login plans [] x a.uses.items l.handles) outcome
+    (subst (λ (us : List Use). DialsNext login plans [] l.outcome us l.handles) uses
+    (subst (λ (s : Step). StepGrows login plans [] s l.outcome l.uses l.handles) o.2 grown.0.answer)) in
+    let dialed = subst (λ (ls : List Line). AreDialed before ls later) o.1 w.dialed in
+    let explained = subst (EachExplained login plans) o.1 w.explained in
+    record {
+      made = next.made;
+      dials = next.dials;
+      counts = subst (λ (c : DialCounts). DialsTo c later (dial_met true a.uses.items)) dialed.1
+          (subst (λ (us : List Use). DialsTo dialed.0 later (dial_met true us)) uses
+          (subst (λ (s : Step). DialsTo dialed.0 later (dial_met (has_dialed s []) l.uses)) o.2 dialed.2));
+      explained = subst (λ (hs : List Handle). IsExplained login (plans.reads 0) (at_number hs 0)) next.others (explained.0 0);
+      shown = w.tapes_are ∙ ap (λ (ls : List Line). tapes_in 0 (handles_after ls)) o.1 ∙ ap (tapes_in 0) next.others;
+    }
+  where
+    outcome_in : List AnswerView → Outcome
+    outcome_in [] = Pending
+    outcome_in (v ∷ vs) = v.outcome
+
+    uses_in : List AnswerView → List Use
+    uses_in [] = []
+    uses_in (v ∷ vs) = v.uses
+
+-- a dial that failed
+dial_untold : (login : Login) (plan : Option (List ReadItem)) (rules : Option (List WriteItem)) (o : Outcome) (us : List Use) (t : Handle) → Dials login plan rules 0 o us t → o ≡ Failed (io_error Dial 0) → us ≡ failed_use 0 ∷ [] → plan ≡ None
+dial_untold login plan rules o us t (Holds e f g h) oe ue = let no : Pending ≡ Failed (io_error Dial 0) = sym e ∙ oe in cc
+dial_untold login plan rules o us t (Fails e f g h) oe ue = h
+dial_untold login plan rules o us t (Links used x is new conn) oe ue = let no : quiet 0 ∷ used ∷ [] ≡ failed_use 0 ∷ [] = sym is ∙ ue in cc
+
+pub no_planned_dial_fault : NoPlannedDialFault
+no_planned_dial_fault login plans plan before later a told is w =
+    let r = lone login plans before later a [] w in
+    let no : Some plan ≡ None = sym told ∙ dial_untold login (plans.reads 0) (plans.writes 0) a.outcome a.uses.items r.made r.dials is.outcome is.uses in
+    cc
+
+pub no_held_dial_fault : NoHeldDialFault
+no_held_dial_fault login plans a is w =
+    let r = lone login plans no_dials (record { faults = 0; holds = 1 }) a [] w in
+    let rose : Rose 0 0 = (subst (λ (us : List Use). DialsTo no_dials (record { faults = 0; holds = 1 }) (dial_met true us)) is.uses r.counts).faults in
+    omega (arith, rose.1)
+
+pub dial_fault : DialFault
+dial_fault login plans a untold is = record {
+  lines = record { step = steps.Conn; number = 1; outcome = a.outcome; uses = a.uses.items; handles = Absent ∷ [] } ∷ [];
+  steps_are = refl;
+  answered = ap (λ (n : ℕ). record { number = n; outcome = a.outcome; uses = a.uses.items } ∷ []) is.number;
+  grown = (record { number = refl; answer = record { made = Absent; dials = Fails is.outcome is.uses refl untold; others = refl } }, tt);
+  dialed = (no_dials, refl, subst (λ (us : List Use). DialsTo no_dials (record { faults = 1; holds = 0 }) (dial_met true us)) (sym is.uses) (record { faults = (omega arith, omega arith); holds = refl }));
+  explained = (nothing, tt);
+  tapes_are = refl;
+}
+  where
+    nothing : (n : ℕ) → IsExplained login (plans.reads n) (at_number (Absent ∷ []) n)
+    nothing zero = tt
+    nothing (suc n) = tt
+
+-- a transcript of two lines
+two_lines : (lines : List Line) (s t : Step) → steps_of lines ≡ s ∷ t ∷ [] → (l : Line) × (m : Line) × (lines ≡ m ∷ l ∷ []) × (l.step ≡ s) × (m.step ≡ t)
+two_lines [] s t e = cc
+two_lines (m ∷ []) s t e = let no : m.step ∷ [] ≡ s ∷ t ∷ [] = e in cc
+two_lines (m ∷ (l ∷ [])) s t e = let same : l.step ∷ m.step ∷ [] ≡ s ∷ t ∷ [] = e in (l, m, refl, cc, cc)
+two_lines (m ∷ (l ∷ (n ∷ ns))) s t e = absurd (omega (arith, ap length e, length-append ((steps_of ns ++ n.step ∷ []) ++ l.step ∷ []) (m.step ∷ []), length-append (steps_of ns ++ n.step ∷ []) (l.step ∷ []), length-append (steps_of ns) (n.step ∷ [])))
+
+-- what a `conn` that connected made
+record IsMade (login : Login) (rules : Option (List WriteItem)) (made : Handle) : Type 0 where
+  kept : Kept
+  link : Looks
+  is : made ≡ Joined true kept link
+  open_writes : rules ≡ Some [] → link.writes ≡ Some []
+
+made_by : (login : Login) (plan : List ReadItem) (rules : Option (List WriteItem)) (n id : ℕ) (v : ServerVersion) (x : Looks) (o : Outcome) (used : Use) (t : Handle) → o ≡ Connected n id v → HasPlan (Some plan) rules x → (w : Connects login 0 first_asked first_kept x o used t) → ConnectShows login 0 w.after w.end w.link o t → PollEnds login first_asked w.polled.following used.met w.polled.stop w.after w.end → IsMade login rules t
+made_by login plan rules n id v x o used t shown planned w = by_after w.after
+  where
+    by_after : (p : After) → ConnectShows login 0 p w.end w.link o t → PollEnds login first_asked w.polled.following used.met w.polled.stop p w.end → IsMade login rules t
+    by_after after.Pending s e = let no : Pending ≡ Connected n id v = sym s.0 ∙ shown in cc
+    by_after (after.Answered answer) s e = record {
+      kept = w.end;
+      link = w.link;
+      is = s.1;
+      open_writes = λ r. ap (λ (l : Looks). l.writes) (subst (λ (st : Stop). StopsAt st w.polled.used.moved w.link) e.3 w.polled.used.stops) ∙ stays_open w.polled.used.moves x w.polled.used.moved (planned.1 ∙ r) w.polled.used.leads;
+    }
+    by_after (after.Failed x) s e = let no : Failed x ≡ Connected n id v = sym s.0 ∙ shown in cc
+
+dialed_made : (login : Login) (plan : Option (List ReadItem)) (is : List ReadItem) (rules : Option (List WriteItem)) (n id : ℕ) (v : ServerVersion) (o : Outcome) (us : List Use) (t : Handle) → plan ≡ Some is → o ≡ Connected n id v → Dials login plan rules 0 o us t → IsMade login rules t
+dialed_made login None is rules n id v o us t told shown d = cc
+dialed_made login (Some plan) is rules n id v o us t told shown (Holds e f g h) = cc
+dialed_made login (Some plan) is rules n id v o us t told shown (Fails e f g h) = cc
+dialed_made login (Some plan) is rules n id v o us t told shown (Links used x same new conn) = made_by login plan rules n id v x o used t shown new.planned conn conn.shows conn.polled.ends
+
+-- `ping` on what it made
+pinged : (q : Option Asked) (login : Login) (k : Kept) (y : Looks) (o : Outcome) (us : List Use) (t : Handle) → o ≡ Pending → BeginsOn q login 0 Ping k y o us t → PolledOnce login 0 (asked_by k Ping) (asking k Ping None) y o us t
+pinged None login k y o us t shown r = by_closed (is_refused (has_closed (made_of k.calls)) (kind_of Ping)) r
+  where
+    by_closed : (b : Bool) → Begins b login 0 Ping k y o us t → PolledOnce login 0 (asked_by k Ping) (asking k Ping None) y o us t
+    by_closed true r = let no : Failed connection_closed ≡ Pending = sym r.outcome ∙ shown in cc
+    by_closed false r = r
+pinged (Some a) login k y o us t shown r = let no : NoSuchHandle ≡ Pending = sym r.outcome ∙ shown in cc
+
+pending_after : (p : After) → Pending ≡ shown p → p ≡ after.Pending
+pending_after after.Pending e = refl
+pending_after (after.Answered answers.Ready) e = cc
+pending_after (after.Answered (answers.Row row)) e = cc
+pending_after (after.Answered answers.SetEnd) e = cc
+pending_after (after.Answered answers.NoSet) e = cc
+pending_after (after.Failed x) e = cc
+
+last_call : (xs : List TapeCall) (x c y : TapeCall) → xs ++ x ∷ [] ≡ c ∷ y ∷ [] → x ≡ y
+last_call [] x c y e = cc
+last_call (a ∷ []) x c y e = let same : a ∷ x ∷ [] ≡ c ∷ y ∷ [] = e in cc
+last_call (a ∷ (b ∷ r)) x c y e = absurd (omega (arith, ap length e, length-append r (x ∷ [])))
+
+-- what is left of a plan with a turn before the last bytes
+module _ (greeting ok pong : List ℕ) (some_ok : 0 < length ok) (some_pong : 0 < length pong) where
+  abbrev the_plan : List ReadItem
+  the_plan = Bytes greeting ∷ Turn ∷ Bytes ok ∷ Turn ∷ Bytes pong ∷ []
+
+  abbrev IsTurnOrBytes : List ReadItem → Type 0
+  IsTurnOrBytes js = (js ≡ Turn ∷ Bytes pong ∷ []) ⊎ ((bs : List ℕ) × (more : List ReadItem) × (js ≡ Bytes bs ∷ more))
+
+  sizes : (js : List ReadItem) → spelled the_plan ≡ (greeting ++ ok) ++ spelled js → length (spelled js) ≡ length pong
+  sizes js e = omega (arith, ap length e, length-append greeting (ok ++ (pong ++ [])), length-append ok (pong ++ []), length-append pong [], length-append (greeting ++ ok) (spelled js), length-append greeting ok)
+
+  whole_left : (used js : List ReadItem) → the_plan ≡ used ++ js → length (spelled js) ≡ length pong → IsTurnOrBytes js
+  whole_left [] js e n = inr (greeting, Turn ∷ Bytes ok ∷ Turn ∷ Bytes pong ∷ [], sym e)
+  whole_left (i ∷ []) js e n =
+      let is : Turn ∷ Bytes ok ∷ Turn ∷ Bytes pong ∷ [] ≡ js = cc in
+      absurd (omega (arith, n, ap (λ (xs : List ReadItem). length (spelled xs)) is, length-append ok (pong ++ []), length-append pong [], some_ok))
+  whole_left (i ∷ (j ∷ [])) js e n = let is : js ≡ Bytes ok ∷ Turn ∷ Bytes pong ∷ [] = cc in inr (ok, Turn ∷ Bytes pong ∷ [], is)
+  whole_left (i ∷ (j ∷ (k ∷ []))) js e n = let is : js ≡ Turn ∷ Bytes pong ∷ [] = cc in inl is
+  whole_left (i ∷ (j ∷ (k ∷ (l ∷ [])))) js e n = let is : js ≡ Bytes pong ∷ [] = cc in inr (pong, [], is)
+  whole_left (i ∷ (j ∷ (k ∷ (l ∷ (m ∷ []))))) js e n = let is : [] ≡ js = cc in absurd (omega (arith, n, ap (λ (xs : List ReadItem). length (spelled xs)) is, some_pong))
+  whole_left (i ∷ (j ∷ (k ∷ (l ∷ (m ∷ (o ∷ used)))))) js e n = cc
+
+  left_of : (js : List ReadItem) → length (spelled js) ≡ length pong → IsLeft the_plan js → IsTurnOrBytes js
+  left_of js n (Whole used e) = whole_left used js e n
+  left_of js n (Part used more read rest e f) = inr (rest, more, f)
+
+  items_left : (plan left : Option (List ReadItem)) (taken : List ℕ) → plan ≡ Some the_plan → taken ≡ greeting ++ ok → ReadsSpent plan left taken → (left ≡ Some (Turn ∷ Bytes pong ∷ [])) ⊎ ((bs : List ℕ) × (more : List ReadItem) × (left ≡ Some (Bytes bs ∷ more)))
+  items_left None left taken e f s = cc
+  items_left (Some plan) None taken e f s = absurd s
+  items_left (Some plan) (Some js) taken e f s =
+      let is : plan ≡ the_plan = cc in
+      let bytes : spelled the_plan ≡ (greeting ++ ok) ++ spelled js = sym (ap spelled is) ∙ s.bytes ∙ ap (λ bs. bs ++ spelled js) f in
+      elim (left_of js (sizes js bytes) (subst (λ (p : List ReadItem). IsLeft p js) is s.left_is)) as (λ _. (Some js ≡ Some (Turn ∷ Bytes pong ∷ [])) ⊎ ((bs : List ℕ) × (more : List ReadItem) × (Some js ≡ Some (Bytes bs ∷ more)))) [
+        | inl x ↦ inl (ap Some x)
+        | inr x ↦ inr (x.0, x.1, ap Some x.2)
+      ]
+
+pub no_hold_in_turn : NoHoldInTurn
+no_hold_in_turn login plans before later greeting ok pong a b t c n id v some_ok some_pong told rules shown pending uses taken calls longer w =
+    let o = two_lines w.lines steps.Conn (steps.Ping 0) w.steps_are in
+    let l : Line = o.0 in
+    let m : Line = o.1 in
+    let answered : answer_view a ∷ answer_view b ∷ [] ≡ record { number = l.number; outcome = l.outcome; uses = l.uses } ∷ record { number = m.number; outcome = m.outcome; uses = m.uses } ∷ [] = w.answered ∙ ap answers_of o.2 in
+    let first : l.outcome ≡ Connected 0 id v = sym (ap first_outcome answered) ∙ shown in
+    let second : m.outcome ≡ Pending = sym (ap second_outcome answered) ∙ pending in
+    let second_uses : m.uses ≡ use_of 0 (record nothing_met { holds = 1 }) ∷ [] = sym (ap uses_second answered) ∙ uses in
+    let grown = subst (AreGrown login plans) o.2 w.grown in
+    let next : DialsNext login plans [] l.outcome l.uses l.handles = subst (λ (s : Step). StepGrows login plans [] s l.outcome l.uses l.handles) o.3 grown.1.0.answer in
+    let there : At 0 (Calls login 0 Ping) l.handles m.outcome m.uses m.handles = subst (λ (s : Step). StepGrows login plans l.handles s m.outcome m.uses m.handles) o.4 grown.0.answer in
+    let made = dialed_made login (plans.reads 0) _ (plans.writes 0) 0 id v l.outcome l.uses next.made told first next.dials in
+    let handles : l.handles ≡ Joined true made.kept made.link ∷ [] = next.others ∙ ap (λ (h : Handle). h ∷ []) made.is in
+    let begun : BeginsOn made.kept.pending login 0 Ping made.kept made.link m.outcome m.uses there.made = subst (λ (hs : List Handle). Calls login 0 Ping (at_number hs 0) m.outcome m.uses there.made) handles there.does in
+    let r = pinged made.kept.pending login made.kept made.link m.outcome m.uses there.made second begun in
+    let explained = subst (EachExplained login plans) o.2 w.explained in
+    let fits : IsExplained login (plans.reads 0) (Joined true made.kept made.link) = subst (λ (hs : List Handle). IsExplained login (plans.reads 0) (at_number hs 0)) handles (explained.1.0 0) in
+    let after_is : r.after ≡ after.Pending = pending_after r.after (sym second ∙ r.outcome) in
+    let polled : IsPolled login (asked_by made.kept Ping) (asking made.kept Ping None) made.link r.used.met after.Pending r.end r.link = subst (λ (p : After). IsPolled login (asked_by made.kept Ping) (asking made.kept Ping None) made.link r.used.met p r.end r.link) after_is r.polled in
+    let met_is : r.used.met ≡ record nothing_met { holds = 1 } = ap first_met (sym r.uses ∙ second_uses) in
+    let tapes : tape_view t ∷ [] ≡ tape_of 0 r.end ∷ [] =
+    w.tapes_are ∙ ap (λ (ls : List Line). tapes_in 0 (handles_after ls)) o.2 ∙ ap (tapes_in 0) (there.others ∙ ap (put_at 0 there.made) handles) ∙ ap (λ (h : Handle). tapes_in 0 (h ∷ [])) r.left in
+    let end_is : r.end ≡ polled.following = polled.ends.0 in
+    let sent_is : t.sent.items ≡ made.kept.sent ++ polled.sent = ap sent_in tapes ∙ ap (λ (x : Kept). x.sent) end_is ∙ polled.sent_is in
+    let none : polled.taken ≡ [] = nil_of polled.taken (sym (ap (λ (u : Met). u.taken) met_is) ∙ polled.met.taken) in
+    let taken_is : made.kept.taken ≡ greeting ++ ok = sym (append-nil made.kept.taken) ∙ ap (λ bs. made.kept.taken ++ bs) (sym none) ∙ sym polled.taken_is ∙ sym (ap (λ (x : Kept). x.taken) end_is) ∙ sym (ap taken_in tapes) ∙ taken in
+    let open_is : map tape_call r.end.calls ++ record { call = Ping; sent_from = length made.kept.sent; answer = None } ∷ [] ≡ c ∷ record { call = Ping; sent_from = n; answer = None } ∷ [] =
+    ap (λ (q : Option Asked). map tape_call r.end.calls ++ open_call q) (sym (ap (λ (x : Kept). x.pending) end_is ∙ polled.pending)) ∙ sym (ap calls_in tapes) ∙ calls in
+    let from : length made.kept.sent ≡ n = ap (λ (x : TapeCall). x.sent_from) (last_call (map tape_call r.end.calls) _ c _ open_is) in
+    let some : 0 < length polled.sent = omega (arith, longer, ap length sent_is, length-append made.kept.sent polled.sent, from) in
+    let end_sent : r.end.sent ≡ made.kept.sent ++ polled.sent = ap (λ (x : Kept). x.sent) end_is ∙ polled.sent_is in
+    let unheld : made.link.writes ≡ Some [] = made.open_writes rules in
+    elim (items_left greeting ok pong some_ok some_pong (plans.reads 0) made.link.items made.kept.taken told taken_is fits.1.reads) as (λ _. ⊥) [
+      | inl x ↦ no_hold_met login (asked_by made.kept Ping) (asking made.kept Ping None) r.end made.link r.link r.used.met pong polled.sent [] met_is (inl x) unheld some end_sent polled
+      | inr x ↦ no_hold_met login (asked_by made.kept Ping) (asking made.kept Ping None) r.end made.link r.link r.used.met x.0 polled.sent x.1 met_is (inr x.2) unheld some end_sent polled
+    ]
+  where
+    first_outcome : List AnswerView → Outcome
+    first_outcome [] = Pending
+    first_outcome (v ∷ vs) = v.outcome
+
+    second_outcome : List AnswerView → Outcome
+    second_outcome (v ∷ (u ∷ vs)) = u.outcome
+    second_outcome vs = Pending
+
+    uses_second : List AnswerView → List Use
+    uses_second (v ∷ (u ∷ vs)) = u.uses
+    uses_second vs = []
+
+    first_met : List Use → Met
+    first_met [] = nothing_met
+    first_met (u ∷ us) = u.met
+
+    sent_in : List TapeView → List ℕ
+    sent_in [] = []
+    sent_in (v ∷ vs) = v.sent
+
+    taken_in : List TapeView → List ℕ
+    taken_in [] = []
+    taken_in (v ∷ vs) = v.taken
+
+    calls_in : List TapeView → List TapeCall
+    calls_in [] = []
+    calls_in (v ∷ vs) = v.calls
+
+-- an end that isn't the plan's
+early_end : (stop : Stop) (z y : Looks) (bytes : List ℕ) (more : List ReadItem) → z.items ≡ Some (Bytes bytes ∷ more) → StopsAt stop z y → 1 ≡ ends_at stop → ⊥
+early_end NoStop z y bytes more h s e = omega (arith, e)
+early_end ReadHold z y bytes more h s e = omega (arith, e)
+early_end WriteHold z y bytes more h s e = omega (arith, e)
+early_end ReadFault z y bytes more h s e = omega (arith, e)
+early_end WriteFault z y bytes more h s e = omega (arith, e)
+early_end LinkEnd z y bytes more h s e = let t = told_some z.items y.items (Bytes bytes ∷ more) (λ is js. after_end is ≡ Some js) h s.items in let no : None ≡ Some t.0 = t.2 in cc
+
+has_plan : (plan : Option (List ReadItem)) (rules : Option (List WriteItem)) (x : Looks) (is : List ReadItem) → plan ≡ Some is → HasPlan plan rules x → x.items ≡ Some is
+has_plan None rules x is e h = cc
+has_plan (Some plan) rules x is e h = h.0 ∙ e
+
+connect_end : (login : Login) (x : Looks) (o : Outcome) (used : Use) (t : Handle) (bytes : List ℕ) (more : List ReadItem) → x.items ≡ Some (Bytes bytes ∷ more) → used ≡ use_of 0 (record nothing_met { ends = 1 }) → Connects login 0 first_asked first_kept x o used t → ⊥
+connect_end login x o used t bytes more h is w =
+    let met : Met = record nothing_met { ends = 1 } in
+    let met_is : used.met ≡ met = ap (λ (u : Use). u.met) is in
+    let p = w.polled in
+    let none : received_by p.used.moves ≡ [] = p.used.received_is ∙ nil_of p.taken (sym (ap (λ (m : Met). m.taken) met_is) ∙ p.met.taken) in
+    early_end p.stop p.used.moved w.link bytes more (stays_first p.used.moves x p.used.moved bytes more h p.used.leads none) p.used.stops (sym (ap (λ (m : Met). m.ends) met_is) ∙ p.met.ends)
+
+dial_end : (login : Login) (plan : Option (List ReadItem)) (rules : Option (List WriteItem)) (o : Outcome) (us : List Use) (t : Handle) (bytes : List ℕ) (more : List ReadItem) → plan ≡ Some (Bytes bytes ∷ more) → us ≡ quiet 0 ∷ use_of 0 (record nothing_met { ends = 1 }) ∷ [] → Dials login plan rules 0 o us t → ⊥
+dial_end login plan rules o us t bytes more told ue (Holds e f g h) = let no : None ≡ Some (Bytes bytes ∷ more) = sym h ∙ told in cc
+dial_end login plan rules o us t bytes more told ue (Fails e f g h) = let no : None ≡ Some (Bytes bytes ∷ more) = sym h ∙ told in cc
+dial_end login plan rules o us t bytes more told ue (Links used x is new conn) =
+    let both : quiet 0 ∷ used ∷ [] ≡ quiet 0 ∷ use_of 0 (record nothing_met { ends = 1 }) ∷ [] = sym is ∙ ue in
+    connect_end login x o used t bytes more (has_plan plan rules x (Bytes bytes ∷ more) told new.planned) (ap second both) conn
+  where
+    second : List Use → Use
+    second (u ∷ (v ∷ vs)) = v
+    second us = quiet 0
+
+pub no_early_end : NoEarlyEnd
+no_early_end login plans before later greeting more a t some told shown uses w =
+    let r = lone login plans before later a (t ∷ []) w in
+    dial_end login (plans.reads 0) (plans.writes 0) a.outcome a.uses.items r.made greeting more told uses r.dials
+
+-- bytes that the plan doesn't have
+other_first : (plan left : Option (List ReadItem)) (more : List ReadItem) (taken : List ℕ) → plan ≡ Some (Bytes (2 ∷ []) ∷ more) → taken ≡ 1 ∷ [] → ReadsSpent plan left taken → ⊥
+unfolding first_of
+other_first None left more taken e f s = let no : None ≡ Some (Bytes (2 ∷ []) ∷ more) = e in cc
+other_first (Some plan) None more taken e f s = s
+other_first (Some plan) (Some left) more taken e f s =
+    let is : plan ≡ Bytes (2 ∷ []) ∷ more = cc in
+    let bytes : 2 ∷ spelled more ≡ 1 ∷ spelled left = sym (ap spelled is) ∙ s.bytes ∙ ap (λ bs. bs ++ spelled left) f in
+    omega (arith, ap first_of bytes)
+
+taken_there : (login : Login) (plan : Option (List ReadItem)) (more : List ReadItem) (h : Handle) (v : TapeView) → plan ≡ Some (Bytes (2 ∷ []) ∷ more) → v.taken ≡ 1 ∷ [] → v ∷ [] ≡ tape_at 0 h ++ [] → IsExplained login plan h → ⊥
+taken_there login plan more Absent v e f t w = let no : v ∷ [] ≡ [] = t in cc
+taken_there login plan more Dialing v e f t w = let no : v ∷ [] ≡ [] = t in cc
+taken_there login plan more (Joined there k x) v e f t w = other_first plan x.items more k.taken e (sym (ap taken_in t) ∙ f) w.1.reads
+  where
+    taken_in : List TapeView → List ℕ
+    taken_in [] = []
+    taken_in (v ∷ vs) = v.taken
+
+pub no_other_taken : NoOtherTaken
+no_other_taken login plans before later more a t told number taken w =
+    let r = lone login plans before later a (t ∷ []) w in
+    taken_there login (plans.reads 0) more r.made (tape_view t) told taken r.shown r.explained
+
+-- a quit on a closed session
+no_owing : (login : Login) (s : Seen) (k : Kept) (w : Asks login k Owes) → has_closed (made_of k.calls) ≡ true → ⊥
+no_owing login s k w closed =
+    let shut : w.session.closed ≡ true = closed_kept login w.session k w.heard ∙ closed in
+    let leaving = is_leaving w.session.task w.session.closed shut w.asks.0 w.sound w.heard.stands.heard.alive in
+    w.asks.1 (w.heard.stands.settled (ap owes leaving))
+
+no_awaiting : (login : Login) (k : Kept) (w : Asks login k Awaits) → has_closed (made_of k.calls) ≡ true → ⊥
+no_awaiting login k w closed =
+    let s : Seen = w.session in
+    let shut : s.closed ≡ true = closed_kept login s k w.heard ∙ closed in
+    let leaving = is_leaving s.task s.closed shut w.asks.needs.0 w.sound w.heard.stands.heard.alive in
+    let quiet : s.owed ≡ [] = w.heard.stands.settled (ap owes leaving) in
+    w.asks.fails (next (with_end s)).seen (doings.Done answers.Ready) (record { count = 0; go = tt; last = record { seen = refl; does = leaving_told (with_end s) leaving quiet } })
+
+pub no_fault_at_rest : NoFaultAtRest
+no_fault_at_rest login k end x y u place closed w =
+    let shut : has_closed (made_of w.following.calls) ≡ true = ap (λ cs. has_closed (made_of cs)) w.calls ∙ closed in
+    elim w.ends.2.1 as (λ _. ⊥) [
+      | inl asks ↦ no_owing login asks.session w.following asks shut
+      | inr asks ↦ no_awaiting login w.following asks shut
+    ]
+
+-- an input that broke off
+broken_off : (words : List (List ℕ)) (world later : WorldSeen) (s r : SourceSeen) (w v : SinkSeen) (t : Transcript) (status : Status) → s.ends ≡ 0 → r.ends ≡ 0 → HasRead status → ToolEnds words world later s r w v t status → ⊥
+broken_off words world later s r w v t ends.Done e f h c = omega (arith, e, f, c.ends.ends.read.ended.1)
+broken_off words world later s r w v t ends.NoCommand e f h c = h
+broken_off words world later s r w v t (ends.Unread line) e f h c = omega (arith, e, f, c.ends.ends.read.ended.1)
+broken_off words world later s r w v t ends.SourceFailed e f h c = h
+broken_off words world later s r w v t ends.SinkFailed e f h c = omega (arith, e, f, c.ends.ends.read.ended.1)
+broken_off words world later s r w v t (ends.Refused fault) e f h c = h
+broken_off words world later s r w v t ends.TooLong e f h c = h
+broken_off words world later s r w v t ends.NoMemory e f h c = h
+
+pub no_broken_input : NoBrokenInput
+no_broken_input words world later s r w v report e f h c = broken_off words world later s r w v report.transcript report.status e f h c

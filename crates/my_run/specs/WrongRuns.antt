@@ -1,0 +1,108 @@
+-- Runs that no user would call right, each refuted; and beside them runs that are accepted.
+use Rattle.std.specs.Prelude.{ℕ, ◌≡◌, ◌<◌, List, [], ◌∷◌, ◌++◌, length, Some, None, true}
+use Rattle.my_grammar.specs.declared.login.Login.{Login}
+use Rattle.my_frame.specs.Sources.{SourceSeen}
+use Rattle.my_frame.specs.Sinks.{SinkSeen}
+use Rattle.my_link.specs.declared.link.ReadItem.{ReadItem}
+use Rattle.my_link.specs.declared.link.ReadItem.TheVariants.{Bytes, Turn}
+use Rattle.my_link.specs.declared.met.Met.{Met}
+use Rattle.my_link.specs.Looks.{Looks}
+use Rattle.my_link.specs.Met.{nothing_met}
+use Rattle.my_handshake.specs.declared.version.ServerVersion.{ServerVersion}
+use Rattle.my_reading.specs.declared.call.Call.TheVariants.{Ping, Quit}
+use Rattle.my_reading.specs.declared.error.IoKind.TheVariants.{Dial, Link}
+use Rattle.my_reading.specs.Errors.{io_error, unexpected_eof}
+use Rattle.my_session.specs.History.{has_closed}
+use Rattle.my_script.specs.declared.step.Step.TheVariants as steps
+use Rattle.my_script.specs.declared.transcript.Outcome.TheVariants.{Connected, Failed, Pending}
+use Rattle.my_script.specs.declared.transcript.StepAnswer.{StepAnswer}
+use Rattle.my_script.specs.declared.transcript.Tape.{Tape}
+use Rattle.my_script.specs.declared.transcript.TapeCall.{TapeCall}
+use Rattle.my_client.specs.declared.poll.After.{After}
+use Rattle.my_client.specs.declared.poll.After.TheVariants as after
+use Rattle.my_client.specs.Causes.{IsPolled}
+use Rattle.my_client.specs.Kept.{Asked, Kept, made_of, asking, asked_by}
+use Rattle.my_world.specs.World.{Plans, WorldSeen, DialCounts, no_dials}
+use Rattle.my_run.specs.declared.tool.Report.{Report}
+use Rattle.my_run.specs.declared.tool.Status.{Status}
+use Rattle.my_run.specs.declared.tool.Status.TheVariants.{Done, Unread, SinkFailed}
+use Rattle.my_run.specs.Headline.{Headline}
+use Rattle.my_run.specs.Sums.{use_of, quiet, failed_use}
+use Rattle.my_run.specs.Tool.{IsReport}
+
+-- `conn` prints `error Io Dial`
+pub record IsFailedDial (a : StepAnswer) : Type 0 where
+  pub number : a.number ≡ 1
+  pub outcome : a.outcome ≡ Failed (io_error Dial 0)
+  pub uses : a.uses.items ≡ failed_use 0 ∷ []
+
+-- over a world that told the link's plan
+abbrev pub NoPlannedDialFault : Type 0
+NoPlannedDialFault = (login : Login) (plans : Plans) (plan : List ReadItem) (before later : DialCounts) (a : StepAnswer)
+    → plans.reads 0 ≡ Some plan → IsFailedDial a → Headline login plans before later (steps.Conn ∷ []) (a ∷ []) [] → ⊥
+
+-- over a world whose dialer counted a dial that wasn't ready, and none that failed
+abbrev pub NoHeldDialFault : Type 0
+NoHeldDialFault = (login : Login) (plans : Plans) (a : StepAnswer) → IsFailedDial a
+    → Headline login plans no_dials (record { faults = 0; holds = 1 }) (steps.Conn ∷ []) (a ∷ []) [] → ⊥
+
+-- it is right over a world that told no plan and counted the fault
+abbrev pub DialFault : Type 0
+DialFault = (login : Login) (plans : Plans) (a : StepAnswer) → plans.reads 0 ≡ None → IsFailedDial a
+    → Headline login plans no_dials (record { faults = 1; holds = 0 }) (steps.Conn ∷ []) (a ∷ []) []
+
+-- the plan has a greeting and then the end, and `conn` prints an end that came too early though no byte was taken
+abbrev pub NoEarlyEnd : Type 0
+NoEarlyEnd = (login : Login) (plans : Plans) (before later : DialCounts) (greeting : List ℕ) (more : List ReadItem)
+    (a : StepAnswer) (t : Tape) → 0 < length greeting → plans.reads 0 ≡ Some (Bytes greeting ∷ more)
+    → a.outcome ≡ Failed (unexpected_eof 0)
+    → a.uses.items ≡ quiet 0 ∷ use_of 0 (record nothing_met { ends = 1 }) ∷ []
+    → Headline login plans before later (steps.Conn ∷ []) (a ∷ []) (t ∷ []) → ⊥
+
+-- A turn is first of what is left, then more bytes, and no write is planned not to be ready: a poll that sends a byte meets the
+-- turn, and then can't stay pending on a read that isn't ready.
+abbrev pub NoHoldAfterTurn : Type 0
+NoHoldAfterTurn = (login : Login) (a : Asked) (k end : Kept) (x y : Looks) (bytes sent : List ℕ) (more : List ReadItem)
+    → x.items ≡ Some (Turn ∷ Bytes bytes ∷ more) → x.writes ≡ Some [] → 0 < length sent → end.sent ≡ k.sent ++ sent
+    → IsPolled login a k x (record nothing_met { holds = 1 }) after.Pending end y → ⊥
+
+-- The plan has a greeting, a turn, the rest of the login, a turn and the reply to a ping. `conn` connects; then `ping` sends a
+-- byte, takes none, and prints `pending` because the link wasn't ready, though the turn was met and the reply can be read.
+abbrev pub NoHoldInTurn : Type 0
+NoHoldInTurn = (login : Login) (plans : Plans) (before later : DialCounts) (greeting ok pong : List ℕ) (a b : StepAnswer)
+    (t : Tape) (c : TapeCall) (n id : ℕ) (version : ServerVersion) → 0 < length ok → 0 < length pong
+    → plans.reads 0 ≡ Some (Bytes greeting ∷ Turn ∷ Bytes ok ∷ Turn ∷ Bytes pong ∷ []) → plans.writes 0 ≡ Some []
+    → a.outcome ≡ Connected 0 id version
+    → b.outcome ≡ Pending → b.uses.items ≡ use_of 0 (record nothing_met { holds = 1 }) ∷ []
+    → t.taken.items ≡ greeting ++ ok
+    → t.calls.items ≡ c ∷ record { call = Ping; sent_from = n; answer = None } ∷ [] → n < length t.sent.items
+    → Headline login plans before later (steps.Conn ∷ steps.Ping 0 ∷ []) (a ∷ b ∷ []) (t ∷ []) → ⊥
+
+-- the tape says that a byte was sent, and the link was sent a zero in its place
+abbrev pub NoZeroSent : Type 0
+NoZeroSent = (login : Login) (a : Asked) (k end : Kept) (x y : Looks) (u : Met) (p : After) (got : List ℕ)
+    → x.got ≡ Some got → y.got ≡ Some (got ++ 0 ∷ []) → end.sent ≡ k.sent ++ 1 ∷ []
+    → IsPolled login a k x u p end y → ⊥
+
+-- the tape says that a byte was taken, and the link's plan has another in its place
+abbrev pub NoOtherTaken : Type 0
+NoOtherTaken = (login : Login) (plans : Plans) (before later : DialCounts) (more : List ReadItem) (a : StepAnswer) (t : Tape)
+    → plans.reads 0 ≡ Some (Bytes (2 ∷ []) ∷ more) → t.number ≡ 0 → t.taken.items ≡ 1 ∷ []
+    → Headline login plans before later (steps.Conn ∷ []) (a ∷ []) (t ∷ []) → ⊥
+
+-- a quit on a closed session owes and awaits nothing, so no fault of the link is its answer
+abbrev pub NoFaultAtRest : Type 0
+NoFaultAtRest = (login : Login) (k end : Kept) (x y : Looks) (u : Met) (place : ℕ) → has_closed (made_of k.calls) ≡ true
+    → IsPolled login (asked_by k Quit) (asking k Quit None) x u (after.Failed (io_error Link place)) end y → ⊥
+
+-- a report that all steps were run, that a line doesn't read, or that the sink failed
+abbrev pub HasRead : Status → Type 0
+HasRead Done = Unit {0}
+HasRead (Unread line) = Unit {0}
+HasRead SinkFailed = Unit {0}
+HasRead _ = ⊥
+
+-- of a source that never returned its end: its input broke off
+abbrev pub NoBrokenInput : Type 0
+NoBrokenInput = (words : List (List ℕ)) (world later : WorldSeen) (s r : SourceSeen) (w v : SinkSeen) (report : Report)
+    → s.ends ≡ 0 → r.ends ≡ 0 → HasRead report.status → IsReport words world later s r w v report → ⊥

@@ -1,0 +1,52 @@
+//! Runs that no user would call right, each of which the headline refutes, and beside them runs that it accepts.
+ghost use Rattle.my_run.specs.WrongRuns.{NoPlannedDialFault, NoHeldDialFault, DialFault, NoEarlyEnd, NoHoldAfterTurn, NoHoldInTurn, NoZeroSent, NoOtherTaken, NoFaultAtRest, NoBrokenInput};
+
+/// Over a world that told the link's plan, no dial is said to have failed.
+pub fn no_planned_dial_fault()
+    ensures { NoPlannedDialFault }
+{}
+
+/// A dial that wasn't ready isn't said to have failed.
+pub fn no_held_dial_fault()
+    ensures { NoHeldDialFault }
+{}
+
+/// A dial that failed, as the world counted it, is accepted.
+pub fn dial_fault()
+    ensures { DialFault }
+{}
+
+/// The link's end isn't returned before the bytes that the plan has in front of it.
+pub fn no_early_end()
+    ensures { NoEarlyEnd }
+{}
+
+/// After a turn was met no poll stays pending on a read, where a byte can be read.
+pub fn no_hold_after_turn()
+    ensures { NoHoldAfterTurn }
+{}
+
+/// So it is in a run of `conn` and `ping`.
+pub fn no_hold_in_turn()
+    ensures { NoHoldInTurn }
+{}
+
+/// A link isn't sent other bytes than its tape says.
+pub fn no_zero_sent()
+    ensures { NoZeroSent }
+{}
+
+/// A tape takes no other bytes than the plan's.
+pub fn no_other_taken()
+    ensures { NoOtherTaken }
+{}
+
+/// A call that owes nothing and awaits nothing doesn't fail by its link.
+pub fn no_fault_at_rest()
+    ensures { NoFaultAtRest }
+{}
+
+/// An input that broke off isn't run as if it were whole.
+pub fn no_broken_input()
+    ensures { NoBrokenInput }
+{}
