@@ -274,3 +274,7 @@ open_is_read login s k a pending w =
         subst (λ (p : Place). IsCall login (record { span = span; closed = r.closed; halt = halt_of login r.closed span p })) (sym w.so_far.ended.place_is)
         (subst (λ (b : Bool). IsCall login (record { span = span; closed = b; halt = halt_of login b span w.so_far.before })) (sym w.so_far.ended.closed_is) here) in
     subst (λ (x : Reading). AreCalls login x.calls) (sym all) (calls_more login r.calls (one_read login r span) w.so_far.ended.calls now)
+
+pub is_read : (login : Login) (s : Seen) (k : Kept) (q : Option Asked) → k.pending ≡ q → ReadsAs login s k q → StopsRead login s k q → IsRead login k
+is_read login s k None e r w = rest_is_read login s k e r
+is_read login s k (Some a) e r w = open_is_read login s k a e w

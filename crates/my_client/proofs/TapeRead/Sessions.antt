@@ -258,13 +258,13 @@ module _ (s : Seen) (call : Call) (parts : List Part) (p : Place) (o : OpenAt s 
     settled = λ _. o.at.settled (owes_not s.task refl e);
   }, o.alive)
 
-pub cancel_read : (login : Login) (s t : Seen) (k : Kept) (a : Asked) (closing : Bool) → is_begun s.task ≡ false → (s.task ≡ tasks.Leaving → s.closed ≡ true) → t ≡ dropped s → closing ≡ t.closed → StoppedRead login s k a
+pub cancel_read : (login : Login) (s t : Seen) (k : Kept) (a : Asked) (closing : Bool) → is_begun s.task ≡ false → (s.task ≡ tasks.Leaving → s.closed ≡ true) → t ≡ dropped s → closing ≡ closes_when_cancelled s.task s.context.spot → StoppedRead login s k a
     → RestRead login t (ended_by k a (says.Cancelled closing))
 cancel_read login s t k a closing stepped shut e is w =
     let o = w.so_far.at in
     let d = dropped_at s a.call w.so_far.parts w.so_far.place o stepped shut (closes_when_cancelled s.task s.context.spot) refl in
     let closes = closes_is s a.call w.so_far.parts w.so_far.place o stepped shut s.task refl o.at.task_at in
-    cancels_open login s t k a closing w (is ∙ ap (λ (x : Seen). x.closed) e ∙ d.1 ∙ closes) (sym is) (subst (λ (x : Seen). StandsAt x w.so_far.place) (sym e) d.0)
+    cancels_open login s t k a closing w (is ∙ closes) (ap (λ (x : Seen). x.closed) e ∙ d.1 ∙ sym is) (subst (λ (x : Seen). StandsAt x w.so_far.place) (sym e) d.0)
 
 -- a call begins
 module _ (login : Login) (s t : Seen) (k : Kept) (call : Call) where
