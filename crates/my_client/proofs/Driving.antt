@@ -13,6 +13,7 @@ use Rattle.my_link.specs.declared.met.Met.{Met}
 use Rattle.my_client.specs.Causes.{Asks, Waiting, Pends, PollEnds}
 use Rattle.my_client.specs.Drives.{Drives, kept_after}
 use Rattle.my_client.specs.Kept.{Asked, Kept}
+use Rattle.my_client.specs.Reads.{IsStepped, StopsRead}
 use Rattle.my_client.specs.Poll.{Owes, Awaits, Waits, PendsAt, Causes, Polls}
 use Rattle.my_client.specs.Conn.{kept_of, seen_by}
 use Rattle.my_link.specs.Looks.{Looks}
@@ -42,10 +43,10 @@ poll_ends login t k a u stop Pending c w = (refl, pends_so login t k u stop w.as
 poll_ends login t k a u stop (Answered answer) c w = (refl, w.why, w.fits, c.1)
 poll_ends login t k a u stop (Failed e) c w = (refl, w.why, w.by, c.1)
 
-poll_rests : (login : Login) (t : Seen) (k : Kept) (a : Asked) (u : Met) (stop : Stop) (after : After) → Causes t u stop after → PollRests login t k a u after → Rests login t (kept_after k a after) × (is_begun t.task ≡ false)
-poll_rests login t k a u stop Pending c w = (w.asked.rests, w.stepped)
-poll_rests login t k a u stop (Answered answer) c w = (w.rests, nothing_begun t.task c.0)
-poll_rests login t k a u stop (Failed e) c w = (w.rests, nothing_begun t.task c.0)
+poll_rests : (login : Login) (t : Seen) (k : Kept) (a : Asked) (u : Met) (stop : Stop) (after : After) → Causes t u stop after → PollRests login t k a u after → Rests login t (kept_after k a after) × IsStepped login t (kept_after k a after)
+poll_rests login t k a u stop Pending c w = (w.asked.rests, record { begun = w.stepped; stops = subst (StopsRead login t k) (sym w.asked.asked) w.stopped })
+poll_rests login t k a u stop (Answered answer) c w = (w.rests, record { begun = nothing_begun t.task c.0; stops = tt })
+poll_rests login t k a u stop (Failed e) c w = (w.rests, record { begun = nothing_begun t.task c.0; stops = tt })
 
 pub drives : {L : Type 0} (look : L → Looks) (login : Login) (a : Asked) (c b : Conn L) (end : Kept) (m : Met) (after : After) → Polls (seen_by look c) (seen_by look b) m after → (kept_of b).calls ≡ (kept_of c).calls → (kept_of b).pending ≡ Some a → PollRests login b.session.seen (kept_of b) a m after → end ≡ kept_after (kept_of b) a after → Drives login a b.session.seen (look c.link) (look b.link) (kept_of c) end m after
 drives look login a c b end m after w calls pending r is =

@@ -90,7 +90,7 @@ ended_of k a h said e n w =
     record {
       sent_is = w.sent_is;
       taken_is = w.taken_is;
-      calls_are = answers_more h.pending (told_by said) h.calls a.call open_is n ∙ ap (λ ms. record { call = a.call; what = told_by said } ∷ ms) w.calls_are ∙ sym (made_more k.calls (record { call = a.call; sent_from = a.sent_from; said = said }));
+      calls_are = answers_more h.pending (told_by said) h.calls a.call open_is n ∙ ap (λ ms. record { call = a.call; what = told_by said } ∷ ms) w.calls_are ∙ sym (made_more k.calls (record { call = a.call; sent_from = a.sent_from; taken_from = a.taken_from; said = said }));
       pending_is = refl;
       lost_is = w.lost_is;
     }

@@ -1,3 +1,4 @@
 pub mod Hearing
+pub mod TapeRead
 pub mod Rounds
 pub mod Driving

@@ -9,7 +9,7 @@ use Rattle.my_client.specs.Kept.{Asked, Kept}
 abbrev pub asked_in : Option OpenCall → Option Asked
 asked_in None = None
 asked_in (Some o) =
-    Some (record { call = o.call; sent_from = o.sent_from; rows = option_map (λ rows. rows.items) o.rows })
+    Some (record { call = o.call; sent_from = o.sent_from; taken_from = o.taken_from; rows = option_map (λ rows. rows.items) o.rows })
 
 abbrev pub kept_of : {L : Type 0} → Conn L → Kept
 kept_of c = record { sent = c.sent.items; taken = c.taken.items; calls = c.calls.items; pending = asked_in c.pending }

@@ -2,7 +2,6 @@
 use Rattle.std.specs.Prelude.{◌≡◌, ◌&&◌, List, Option, Some, Bool, false, not}
 use Rattle.my_value.specs.RowParts.{RowParts}
 use Rattle.my_grammar.specs.declared.login.Login.{Login}
-use Rattle.my_session.specs.Fits.{is_begun}
 use Rattle.my_session.specs.Seen.{Seen}
 use Rattle.my_client.specs.declared.poll.After.{After}
 use Rattle.my_client.specs.declared.poll.After.TheVariants.{Pending, Answered, Failed}
@@ -18,6 +17,7 @@ use Rattle.my_client.specs.Causes.{IsPolled}
 use Rattle.my_client.specs.Kept.{Asked, Kept, ended_by}
 use Rattle.my_link.specs.Looks.{Looks}
 use Rattle.my_client.specs.Conn.{kept_of}
+use Rattle.my_client.specs.Reads.{IsStepped}
 use Rattle.my_client.specs.Rests.{Rests, IsAsked}
 
 -- what a poll came to is kept
@@ -31,7 +31,7 @@ pub record Drives (login : Login) (a : Asked) (t : Seen) (x y : Looks) (k end : 
     : Type 0 where
   pub polled : IsPolled login a k x m after end y
   pub rests : Rests login t end
-  pub stepped : is_begun t.task ≡ false
+  pub stepped : IsStepped login t end
 
 -- of each call that may be open
 abbrev pub EachDrives : {L : Type 0} → (L → Looks) → Conn L → Conn L → Met → After → Type 0

@@ -15,10 +15,11 @@ use Rattle.my_client.specs.declared.tape.DoneCall.{DoneCall}
 use Rattle.my_client.specs.declared.tape.Said.{Said}
 use Rattle.my_client.specs.declared.tape.Said.TheVariants.{Answered, Failed, Cancelled}
 
--- a call that hasn't returned: how many bytes were sent when it began, and the rows so far where it gathers a set's rows
+-- a call that hasn't returned: how many bytes were sent and received when it began, and the rows so far where it gathers a set's rows
 pub record Asked : Type 0 where
   pub call : Call
   pub sent_from : ℕ
+  pub taken_from : ℕ
   pub rows : Option (List RowParts)
 
 -- the bytes that were sent and taken, the calls that ended, the oldest first, and the one that is open
@@ -90,19 +91,19 @@ asking k call rows = record {
   sent = k.sent;
   taken = k.taken;
   calls = k.calls;
-  pending = Some (record { call = call; sent_from = length k.sent; rows = rows });
+  pending = Some (record { call = call; sent_from = length k.sent; taken_from = length k.taken; rows = rows });
 }
 
 -- that call, which gathers no rows
 abbrev pub asked_by : Kept → Call → Asked
-asked_by k call = record { call = call; sent_from = length k.sent; rows = None }
+asked_by k call = record { call = call; sent_from = length k.sent; taken_from = length k.taken; rows = None }
 
 -- the open call ends
 abbrev pub ended_by : Kept → Asked → Said → Kept
 ended_by k a said = record {
   sent = k.sent;
   taken = k.taken;
-  calls = k.calls ++ record { call = a.call; sent_from = a.sent_from; said = said } ∷ [];
+  calls = k.calls ++ record { call = a.call; sent_from = a.sent_from; taken_from = a.taken_from; said = said } ∷ [];
   pending = None;
 }
 

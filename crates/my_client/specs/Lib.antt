@@ -1,5 +1,6 @@
 pub mod Login
 pub mod Kept
+pub mod Reads
 pub mod Conn
 pub mod Causes
 pub mod Rests

@@ -4,7 +4,6 @@ use Rattle.my_grammar.specs.declared.login.Login.{Login}
 use Rattle.my_reading.specs.declared.answer.Answer.TheVariants as answers
 use Rattle.my_session.specs.declared.task.Task.TheVariants.{Nothing}
 use Rattle.my_reading.specs.Calls.{kind_of, is_connect}
-use Rattle.my_session.specs.Fits.{is_begun}
 use Rattle.my_session.specs.Entries.{has_connected}
 use Rattle.my_session.specs.History.{Made, has_closed}
 use Rattle.my_session.specs.Seen.{Seen}
@@ -13,13 +12,14 @@ use Rattle.my_client.specs.declared.poll.After.{After}
 use Rattle.my_client.specs.declared.poll.After.TheVariants.{Pending, Answered, Failed}
 use Rattle.my_client.specs.declared.conn.Conn.{Conn}
 use Rattle.my_client.specs.Kept.{Asked, Kept, made_of}
+use Rattle.my_client.specs.Reads.{IsStepped}
 use Rattle.my_client.specs.Rests.{Rests, IsAsked}
 use Rattle.my_client.specs.Conn.{kept_of}
 
 -- a connection's session stands for what the connection kept, and its open call, if there is one, was stepped
 pub record StandsBy {L : Type 0} (login : Login) (c : Conn L) : Type 0 where
   pub rests : Rests login c.session.seen (kept_of c)
-  pub stepped : is_begun c.session.seen.task ≡ false
+  pub stepped : IsStepped login c.session.seen (kept_of c)
 
 -- at rest an open session is connected, and awaits no answer
 abbrev pub IsReady : Seen → Type 0

@@ -13,6 +13,7 @@ use Rattle.my_reading.specs.Calls.{kind_of}
 use Rattle.my_session.specs.Tasks.{fault_in}
 use Rattle.my_session.specs.Fits.{may_be, is_begun, FaultFits}
 use Rattle.my_reading.specs.Told.{told}
+use Rattle.my_session.specs.Mirror.{EachStepReads}
 use Rattle.my_session.specs.Seen.{Seen}
 use Rattle.my_client.specs.declared.poll.After.{After}
 use Rattle.my_client.specs.declared.poll.After.TheVariants as after
@@ -24,12 +25,14 @@ use Rattle.my_client.specs.declared.conn.Conn.{Conn}
 use Rattle.my_client.specs.Conn.{asked_in, kept_of}
 use Rattle.my_client.specs.Causes.{WhyFailed, WhyAnswered, ErrorBy}
 use Rattle.my_client.specs.Kept.{Asked, Kept, IsHeard, ended_by}
+use Rattle.my_client.specs.Reads.{ReadsAs, StoppedRead}
 
--- the session stands for what was kept, wasn't made to fail, and while it isn't closed the link hasn't ended
+-- the session stands for what was kept, wasn't made to fail, and while it isn't closed the link hasn't ended; the tape is read so
 pub record Rests (login : Login) (s : Seen) (k : Kept) : Type 0 where
   pub heard : IsHeard login s k
   pub sound : fault_in s.task ≡ None
   pub alive : s.closed ≡ false → s.ended ≡ false
+  pub read : ReadsAs login s k k.pending
 
 -- so it is while this call is open
 pub record IsAsked (login : Login) (s : Seen) (k : Kept) (a : Asked) : Type 0 where
@@ -40,6 +43,7 @@ pub record IsAsked (login : Login) (s : Seen) (k : Kept) (a : Asked) : Type 0 wh
 pub record IsHeld (login : Login) (s : Seen) (k : Kept) (a : Asked) : Type 0 where
   pub asked : IsAsked login s k a
   pub stepped : is_begun s.task ≡ false
+  pub stopped : StoppedRead login s k a
 
 -- the call was answered as a call of its kind may be
 pub record IsAnswered (login : Login) (s : Seen) (k : Kept) (a : Asked) (answer : Answer) : Type 0 where
@@ -62,6 +66,7 @@ pub record FailsNow (login : Login) (old new : Seen) (k : Kept) (a : Asked) (e :
   pub fits : FaultFits (fault_in old.task) old.ended e
   pub nothing : new.task ≡ Nothing
   pub step : Steps old new (Fault e)
+  pub reads : EachStepReads old new (Fault e)
   pub shut : (io : IoError) → e ≡ errors.Io io → new.closed ≡ true
 
 -- the session asked for bytes: where the link ends now, it fails by an end that came too early

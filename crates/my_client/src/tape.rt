@@ -27,8 +27,9 @@ pub enum Said {
 #[derive(Drop)]
 pub struct DoneCall {
     pub call: Call,
-    /// How many bytes were sent when it began.
+    /// How many bytes were sent, and received, when it began.
     pub sent_from: u64,
+    pub taken_from: u64,
     pub said: Said,
 }
 
@@ -36,8 +37,9 @@ pub struct DoneCall {
 #[derive(Drop)]
 pub struct OpenCall {
     pub call: Call,
-    /// How many bytes were sent when it began.
+    /// How many bytes were sent, and received, when it began.
     pub sent_from: u64,
+    pub taken_from: u64,
     /// The rows that came so far, where it gathers a set's rows.
     pub rows: Option<Vec<Row>>,
 }
@@ -49,9 +51,11 @@ pub fn ask<L>(conn: &mut Conn<L>, call: Call, rows: Option<Vec<Row>>)
     ensures link { conn.new.link ≡ conn.old.link }
 {
     let sent_from = conn.sent.len() as u64;
+    let taken_from = conn.taken.len() as u64;
     conn.pending = Some(OpenCall {
         call,
         sent_from,
+        taken_from,
         rows,
     });
 }
@@ -69,6 +73,7 @@ pub fn note<L>(conn: &mut Conn<L>, said: Said) -> Result<Option<Vec<Row>>, NoMem
             conn.calls.push(DoneCall {
                 call: open.call,
                 sent_from: open.sent_from,
+                taken_from: open.taken_from,
                 said,
             })?;
             Ok(open.rows)

@@ -25,10 +25,11 @@ use Rattle.my_link.specs.Looks.{Looks}
 use Rattle.my_client.specs.Conn.{kept_of}
 use Rattle.my_run.specs.Slot.{handle_of}
 use Rattle.my_run.specs.Tapes.{tape_view, tapes_in}
+use Rattle.my_client.proofs.TapeRead.{is_read}
 use Rattle.my_run.proofs.Runs.Fitting.{IsFit, AllFit, step_fits}
 
 said : {L : Type 0} (login : Login) (c : Conn L) → StandsBy login c → IsSaid login (kept_of c)
-said login c w = record { session = c.session.seen; history = w.rests.heard.history; login_is = w.rests.heard.login_is; kept = w.rests.heard.kept; says = each_history c.session.seen w.rests.heard.history w.rests.heard.stands }
+said login c w = record { session = c.session.seen; history = w.rests.heard.history; login_is = w.rests.heard.login_is; kept = w.rests.heard.kept; says = each_history c.session.seen w.rests.heard.history w.rests.heard.stands; read = is_read login c.session.seen (kept_of c) (kept_of c).pending refl w.rests.read w.stepped.stops }
 
 -- what stands at each number is explained
 said_at : {L : Type 0} (look : L → Looks) (login : Login) (plan : Option (List ReadItem)) (s : Slot L) → IsStood login s → IsFit plan (handle_of look s) → IsExplained login plan (handle_of look s)

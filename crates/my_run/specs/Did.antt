@@ -4,7 +4,6 @@ use Rattle.my_grammar.specs.declared.login.Login.{Login}
 use Rattle.my_link.specs.Looks.{Looks}
 use Rattle.my_reading.specs.Calls.{is_connect, kind_of}
 use Rattle.my_reading.specs.declared.call.Call.TheVariants as calls
-use Rattle.my_session.specs.Fits.{is_begun}
 use Rattle.my_session.specs.Seen.{Seen}
 use Rattle.my_world.specs.World.{Plans, SameFrom}
 use Rattle.my_script.specs.declared.step.Step.{Step}
@@ -15,6 +14,7 @@ use Rattle.my_client.specs.declared.conn.Conn.{Conn}
 use Rattle.my_client.specs.Conn.{kept_of}
 use Rattle.my_client.specs.Kept.{Asked, Kept}
 use Rattle.my_client.specs.Ready.{StandsBy}
+use Rattle.my_client.specs.Reads.{IsStepped}
 use Rattle.my_client.specs.Rests.{Rests, IsAsked}
 use Rattle.my_run.specs.declared.outcome.StepResult.{StepResult}
 use Rattle.my_run.specs.declared.slot.Slot.{Slot}
@@ -33,7 +33,7 @@ pub record OpenPolled (login : Login) (n : ℕ) (a : Asked) (t : Seen) (x y : Lo
     (us : List Use) : Type 0 where
   pub once : PolledOnce login n a k x o us (Joined true end y)
   pub rests : Rests login t end
-  pub stepped : is_begun t.task ≡ false
+  pub stepped : IsStepped login t end
 
 -- at number n: what stands there is kept, and the transcript's fact holds
 pub record Did {L : Type 0} (look : L → Looks) (login : Login) (R : Handle → Outcome → List Use → Handle → Type 0)

@@ -4,7 +4,7 @@ use Rattle.my_value.specs.RowParts.{RowParts}
 use Rattle.my_grammar.specs.declared.login.Login.{Login}
 use Rattle.my_reading.specs.declared.answer.Answer.TheVariants as answers
 use Rattle.my_reading.specs.declared.call.Call.TheVariants.{NextRow}
-use Rattle.my_session.specs.Fits.{is_begun}
+use Rattle.my_session.specs.declared.task.Task.TheVariants.{Nothing}
 use Rattle.my_session.specs.History.{History, began}
 use Rattle.my_session.specs.Seen.{Seen}
 use Rattle.my_session.specs.Stands.{Stands}
@@ -24,6 +24,7 @@ use Rattle.my_run.specs.Handle.{Handle, Joined}
 use Rattle.my_client.specs.Kept.{Asked, Kept, asking}
 use Rattle.my_run.specs.declared.outcome.StepResult.{StepResult}
 use Rattle.my_link.specs.Looks.{Looks}
+use Rattle.my_client.specs.Reads.{IsStepped}
 use Rattle.my_client.specs.Rests.{Rests, IsAsked}
 use Rattle.my_client.specs.Conn.{kept_of}
 
@@ -45,6 +46,7 @@ abbrev pub BeginStands : Seen → Seen → Type 0
 BeginStands s t = (h : History) → Stands s h → Stands t (began h NextRow)
 
 pub record AsksNext {L : Type 0} (c d : Conn L) (rows : List RowParts) : Type 0 where
+  pub idle : c.session.seen.task ≡ Nothing
   pub kept : kept_of d ≡ asking (kept_of c) NextRow (Some rows)
   pub seen : d.session.seen ≡ begun c.session.seen NextRow
   pub stands : (h : History) → Stands c.session.seen h → Stands d.session.seen (began h NextRow)
@@ -67,7 +69,7 @@ pub record GatherDid {L : Type 0} (look : L → Looks) (login : Login) (n : ℕ)
     (o : Outcome) (us : List Use) : Type 0 where
   pub gathers : Gathers login n us a (kept_of c) (look c.link) o (Joined true (kept_of d) (look d.link))
   pub rests : Rests login d.session.seen (kept_of d)
-  pub stepped : is_begun d.session.seen.task ≡ false
+  pub stepped : IsStepped login d.session.seen (kept_of d)
 
 -- so far in a gathering
 pub record GatherSoFar {L : Type 0} (look : L → Looks) (login : Login) (n : ℕ) (a : Asked) (c d : Conn L)

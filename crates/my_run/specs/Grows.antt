@@ -153,7 +153,7 @@ gathered a = unwrap_or a.rows []
 
 -- the next row is asked for, after these rows
 abbrev pub next_asked : Kept → List RowParts → Asked
-next_asked k rows = record { call = NextRow; sent_from = length k.sent; rows = Some rows }
+next_asked k rows = record { call = NextRow; sent_from = length k.sent; taken_from = length k.taken; rows = Some rows }
 
 -- after a row the next one is asked for; after anything else the gathering ends, or waits
 abbrev pub GathersOn : (Asked → Kept → Looks → Outcome → Handle → Type 0) → Asked → After → Kept → Looks → Outcome

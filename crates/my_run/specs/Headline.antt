@@ -16,6 +16,7 @@ use Rattle.my_script.specs.declared.transcript.Use.{Use}
 use Rattle.my_run.specs.Dialing.{AreDialed}
 use Rattle.my_run.specs.Grows.{Line, AreGrown, handles_after}
 use Rattle.my_run.specs.Handle.{Handle, Absent, Dialing, Joined, at_number}
+use Rattle.my_client.specs.Reads.{IsRead}
 use Rattle.my_client.specs.Kept.{Kept, IsOf}
 use Rattle.my_world.specs.World.{Plans, SamePlans, DialCounts}
 use Rattle.my_run.specs.Keeps.{AreStood}
@@ -42,13 +43,15 @@ answers_of (l ∷ ls) = answers_of ls ++ record { number = l.number; outcome = l
 
 -- The tape is explained: some history is what was kept, and the session's law holds of it: the calls' commands by the table
 -- were sent, the last perhaps cut, the grammar finds the responses in the bytes taken, and of each set callers were given
--- a beginning.
+-- a beginning. And the tape is one that its reading accepts.
 pub record IsSaid (login : Login) (k : Kept) : Type 0 where
   pub session : Seen
   pub history : History
   pub login_is : session.login ≡ login
   pub kept : IsOf k history
   pub says : Says session history
+  -- each call ended, or is open, exactly as the one reading of the tape says
+  pub read : IsRead login k
 
 -- Where the link tells the bytes that it was sent, these are they; and where its plan is told, the bytes that it gave and those
 -- that it has left are the planned ones.

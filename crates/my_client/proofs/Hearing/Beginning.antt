@@ -1,5 +1,5 @@
 -- How a call begins on a connection.
-use Rattle.std.proofs.Common.{ℕ, ◌≡◌, List, [], ◌∷◌, length, ◌||◌, Bool, true, false, cond, Option, Some, None, refl, sym, ap, ◌∙◌, subst}
+use Rattle.std.proofs.Common.{ℕ, ◌≡◌, List, [], ◌∷◌, length, ◌||◌, ◌&&◌, not, ◌⊎◌, inl, inr, Bool, true, false, cond, Option, Some, None, refl, sym, ap, ◌∙◌, subst}
 use Rattle.my_grammar.specs.declared.login.Login.{Login}
 use Rattle.my_value.specs.RowParts.{RowParts}
 use Rattle.my_reading.specs.declared.call.Call.{Call}
@@ -8,19 +8,27 @@ use Rattle.my_reading.specs.declared.call.CallKind.{CallKind}
 use Rattle.my_reading.specs.declared.call.CallKind.TheVariants.{Connect, Query, NextRow, DropResult, Ping, Quit}
 use Rattle.my_session.specs.declared.task.Task.{Task}
 use Rattle.my_session.specs.declared.task.Task.TheVariants.{Nothing, Begun, Cleaning, Own, Arranging, Reading, Dropping, Leaving, Failing}
-use Rattle.my_reading.specs.Calls.{kind_of, call_of}
+use Rattle.my_grammar.specs.declared.spot.Spot.{Spot}
+use Rattle.my_reading.specs.Calls.{kind_of, call_of, is_quit}
+use Rattle.my_reading.specs.Course.{is_greeting}
+use Rattle.my_reading.specs.Place.{Place, Exchange, exchanges, connects_in}
 use Rattle.my_session.specs.Tasks.{kind_in, fault_in, is_open}
 use Rattle.my_reading.specs.Errors.{connection_closed}
 use Rattle.my_reading.specs.Told.{Told, ToldReady, ToldRow, ToldEnd, ToldNone, ToldError, Dropped, closes}
 use Rattle.my_session.specs.History.{History, Made, beginning, began, answered, has_closed}
 use Rattle.my_session.specs.Seen.{Seen}
-use Rattle.my_session.specs.Stands.{Stands, call_with}
-use Rattle.my_session.specs.Steps.{begun, fresh}
+use Rattle.my_session.specs.Entries.{connecting_in, has_connected}
+use Rattle.my_session.specs.Mirror.{BegunStandsAt}
+use Rattle.my_session.specs.Stands.{Stands, BegunAt, TaskIs, call_with}
+use Rattle.my_session.proofs.Stands.Spots.{settled_not_greeting, settled_reads}
+use Rattle.my_session.specs.Steps.{begun, fresh, is_refused}
 use Rattle.my_client.specs.declared.tape.Said.TheVariants as says
 use Rattle.my_client.specs.Kept.{asked_by, first_asked, first_kept, nothing_kept, Asked, Kept, IsHeard, made_of, is_note, answers_in, call_in, asking, ended_by}
 use Rattle.my_client.specs.declared.conn.Conn.{Conn}
 use Rattle.my_client.specs.Conn.{kept_of}
+use Rattle.my_client.specs.Reads.{OpenRead, QuitRead, RestRead, ReadsAs}
 use Rattle.my_client.specs.Rests.{Rests, IsAsked}
+use Rattle.my_client.proofs.TapeRead.Sessions.{begin_open, begin_quit, fresh_read, refuse_read}
 use Rattle.my_client.proofs.Hearing.{answer_counts, ended_of}
 
 -- notes close nothing
@@ -84,13 +92,53 @@ no_call (Failing c fault) text p (Some a) o e f = cc
 pub is_idle : (login : Login) (s : Seen) (k : Kept) → is_open s.task ≡ false → IsHeard login s k → k.pending ≡ None
 is_idle login s k o w = no_call s.task s.text w.history.pending k.pending o w.stands.heard.pending_is w.kept.pending_is
 
+-- where it begins, by the histories
+begun_stands : (c : CallKind) (spot : Spot) (connected : Bool) (p : Place) → BegunAt c spot connected → (is_greeting spot ≡ true → (p.call ≡ calls.Connect) × (p.older ≡ []) × (p.end_left ≡ false)) → BegunStandsAt c spot (connects_in (exchanges p))
+begun_stands Connect spot connected p w first =
+    let f = first (ap is_greeting w.1) in
+    (w.1, ap (λ (c : Call). connects_in (record { call = c; talk = p.talk } ∷ p.older)) f.0 ∙ ap (λ (es : List Exchange). connects_in (record { call = calls.Connect; talk = p.talk } ∷ es)) f.1)
+begun_stands Query spot connected p w first = settled_not_greeting spot (settled_reads spot w.1)
+begun_stands NextRow spot connected p w first = settled_not_greeting spot (settled_reads spot w.1)
+begun_stands DropResult spot connected p w first = settled_not_greeting spot (settled_reads spot w.1)
+begun_stands Ping spot connected p w first = settled_not_greeting spot (settled_reads spot w.1)
+begun_stands Quit spot connected p w first = settled_not_greeting spot (settled_reads spot w.1)
+
+idle_task : (t : Task) → is_open t ≡ false → t ≡ Nothing
+idle_task Nothing e = refl
+idle_task (Begun c) e = cc
+idle_task (Cleaning c) e = cc
+idle_task (Own c) e = cc
+idle_task (Arranging n) e = cc
+idle_task Reading e = cc
+idle_task Dropping e = cc
+idle_task Leaving e = cc
+idle_task (Failing c fault) e = cc
+
+begins_read : (login : Login) (s t : Seen) (k : Kept) (call : Call) (rows : Option (List RowParts)) → is_open s.task ≡ false → t ≡ begun s call → (h : History) → Stands t (began h call) → s.login ≡ login → RestRead login s k
+    → OpenRead login t (asking k call rows) (record { call = call; sent_from = length k.sent; taken_from = length k.taken; rows = rows }) ⊎ QuitRead login t (asking k call rows) (record { call = call; sent_from = length k.sent; taken_from = length k.taken; rows = rows })
+begins_read login s t k call rows idle e h st log w = by_closed s.closed refl
+  where
+    task_is : (b : Bool) → s.closed ≡ b → t.task ≡ cond b Leaving (Begun (kind_of call))
+    task_is b c = ap (λ (x : Seen). x.task) e ∙ ap (λ b. cond b Leaving (Begun (kind_of call))) c
+    spot_is : t.context.spot ≡ s.context.spot
+    spot_is = ap (λ (x : Seen). x.context.spot) e
+    by_closed : (b : Bool) → s.closed ≡ b → OpenRead login t (asking k call rows) (record { call = call; sent_from = length k.sent; taken_from = length k.taken; rows = rows }) ⊎ QuitRead login t (asking k call rows) (record { call = call; sent_from = length k.sent; taken_from = length k.taken; rows = rows })
+    by_closed false c =
+        let at = subst (λ (u : Task). TaskIs u t.context.spot t.closed (has_connected h.calls) (connecting_in (st.newest ∷ st.older)) st.newest) (task_is false c) st.heard.at in
+        inl (begin_open login s t k call e log (idle_task s.task idle) w rows c
+        (begun_stands (kind_of call) s.context.spot (has_connected h.calls) w.place (subst (λ x. BegunAt (kind_of call) x (has_connected h.calls)) spot_is at) w.at.mirrors.first))
+    by_closed true c =
+        let quit : Some call ≡ Some calls.Quit = st.heard.pending_is ∙ ap (λ (u : Task). call_with (kind_in u) t.text) (task_is true c) in
+        let is : call ≡ calls.Quit = cc in
+        inr (begin_quit login s t k call e log (idle_task s.task idle) w rows c (ap kind_of is))
+
 -- the call begins
 begun_fault : (b : Bool) (c : CallKind) → fault_in (cond b Leaving (Begun c)) ≡ None
 begun_fault true c = refl
 begun_fault false c = refl
 
-pub begins : (login : Login) (s t : Seen) (k : Kept) (call : Call) (rows : Option (List RowParts)) → t ≡ begun s call → ((h : History) → Stands s h → Stands t (began h call)) → Rests login s k → IsAsked login t (asking k call rows) (record { call = call; sent_from = length k.sent; rows = rows })
-begins login s t k call rows e st w = record {
+pub begins : (login : Login) (s t : Seen) (k : Kept) (call : Call) (rows : Option (List RowParts)) → is_open s.task ≡ false → t ≡ begun s call → ((h : History) → Stands s h → Stands t (began h call)) → Rests login s k → IsAsked login t (asking k call rows) (record { call = call; sent_from = length k.sent; taken_from = length k.taken; rows = rows })
+begins login s t k call rows idle e st w = record {
   rests = record {
     heard = record {
       history = began w.heard.history call;
@@ -100,13 +148,19 @@ begins login s t k call rows e st w = record {
     };
     sound = ap (λ (s : Seen). fault_in s.task) e ∙ begun_fault s.closed (kind_of call);
     alive = λ c. ap (λ (s : Seen). s.ended) e ∙ w.alive (sym (ap (λ (s : Seen). s.closed) e) ∙ c);
+    read = begins_read login s t k call rows idle e w.heard.history (st w.heard.history w.heard.stands) w.heard.login_is (subst (ReadsAs login s k) (is_idle login s k idle w.heard) w.read);
   };
   asked = refl;
 }
 
+refused_so : (closed quit : Bool) → closed && not quit ≡ true → (closed ≡ true) × (quit ≡ false)
+refused_so true false e = (refl, refl)
+refused_so true true e = cc
+refused_so false quit e = cc
+
 -- the closed session refuses it
-pub refuses : (login : Login) (s t : Seen) (k : Kept) (call : Call) → t ≡ s → ((h : History) → Stands s h → Stands t (answered (began h call) (ToldError connection_closed))) → Rests login s k → Rests login t (ended_by (asking k call None) (asked_by k call) (says.Failed connection_closed))
-refuses login s t k call e st w = record {
+pub refuses : (login : Login) (s t : Seen) (k : Kept) (call : Call) → is_open s.task ≡ false → is_refused s.closed (kind_of call) ≡ true → t ≡ s → ((h : History) → Stands s h → Stands t (answered (began h call) (ToldError connection_closed))) → Rests login s k → Rests login t (ended_by (asking k call None) (asked_by k call) (says.Failed connection_closed))
+refuses login s t k call idle shut e st w = record {
   heard = record {
     history = answered (began w.heard.history call) (ToldError connection_closed);
     stands = st w.heard.history w.heard.stands;
@@ -116,6 +170,8 @@ refuses login s t k call e st w = record {
   };
   sound = ap (λ (s : Seen). fault_in s.task) e ∙ w.sound;
   alive = λ c. ap (λ (s : Seen). s.ended) e ∙ w.alive (sym (ap (λ (s : Seen). s.closed) e) ∙ c);
+  read = let f = refused_so s.closed (is_quit (kind_of call)) shut in
+      refuse_read login s t k call e f.0 f.1 (subst (ReadsAs login s k) (is_idle login s k idle w.heard) w.read);
 }
 
 -- a new session stands for nothing
@@ -129,6 +185,7 @@ fresh_rests login s e st = record {
   };
   sound = ap (λ (s : Seen). fault_in s.task) e;
   alive = λ c. ap (λ (s : Seen). s.ended) e;
+  read = fresh_read login s e;
 }
 
 -- the handshake of a new connection begins
@@ -137,4 +194,4 @@ first_begins login c b t seen st kept bkept bsession is begun_st =
     let here : kept_of b ≡ first_kept = bkept ∙ ap (λ (k : Kept). asking k calls.Connect None) kept in
     let same : b.session.seen ≡ c.session.seen = ap (λ s. s.seen) bsession in
     let rests : Rests login b.session.seen nothing_kept = fresh_rests login b.session.seen (same ∙ seen) (subst (λ (s : Seen). Stands s beginning) (sym same) st) in
-    subst (λ (k : Kept). IsAsked login t k first_asked) (sym here) (begins login b.session.seen t nothing_kept calls.Connect None is begun_st rests)
+    subst (λ (k : Kept). IsAsked login t k first_asked) (sym here) (begins login b.session.seen t nothing_kept calls.Connect None (ap (λ (s : Seen). is_open s.task) (same ∙ seen)) is begun_st rests)

@@ -20,6 +20,7 @@ use Rattle.my_session.specs.Machine.{Tells, Does, FaultIs, next, next_by, when_o
 use Rattle.my_session.specs.Tables.{plan_of}
 use Rattle.my_reading.specs.Told.{ToldReady, ToldError}
 use Rattle.my_session.specs.History.{History, ending}
+use Rattle.my_session.specs.Mirror.{EachStepReads}
 use Rattle.my_session.specs.Seen.{Seen}
 use Rattle.my_session.specs.Stands.{Stands, is_alive, owes}
 use Rattle.my_session.specs.Steps.{Steps, AllGo, goes_on, moved, with_end, with_failing, failing}
@@ -27,10 +28,13 @@ use Rattle.my_session.proofs.Ends.{first_goes}
 use Rattle.my_client.specs.declared.tape.DoneCall.{DoneCall}
 use Rattle.my_client.specs.Causes.{Asks, Waiting, KindBy, IoBy, ErrorBy}
 use Rattle.my_client.specs.Poll.{Awaits, Waits}
-use Rattle.my_client.specs.Kept.{Asked, Kept, IsHeard}
+use Rattle.my_client.specs.declared.tape.Said.TheVariants as says
+use Rattle.my_client.specs.Kept.{Asked, Kept, IsHeard, ended_by}
+use Rattle.my_client.specs.Reads.{RestRead}
 use Rattle.my_client.specs.Rests.{Rests, IsAsked, IsHeld, FailsNow, HasFailed, AwaitsBytes}
 use Rattle.my_client.proofs.Hearing.{heard_end, heard_failing}
-use Rattle.my_client.proofs.Hearing.Stepping.{StepStands, fails_now, nothing_faults}
+use Rattle.my_client.proofs.Hearing.Stepping.{StepStands, asked_read, fails_now, nothing_faults}
+use Rattle.my_client.proofs.TapeRead.Sessions.{broke_read, end_read, fault_read}
 
 -- a quit of a closed session doesn't fail
 pub leaving_told : (s : Seen) → s.task ≡ Leaving → s.owed ≡ [] → (next s).does ≡ Tells ToldReady
@@ -82,12 +86,12 @@ own_by login k (errors.Server e) ended ne n o = refl
 own_by login k errors.NoMemory ended ne n o = absurd (ne refl)
 
 -- the step failed the call, and the link had no part in it
-pub faulted : (login : Login) (s t : Seen) (k : Kept) (a : Asked) (e : Error) → e ≢ errors.NoMemory → IsAsked login s k a → is_open s.task ≡ true → Steps s t (steps.Fault e) → t.task ≡ Nothing → StepStands s t (steps.Fault e) → HasFailed login t k a e 0 0
-faulted login s t k a e ne w op v n st =
-    let u = fails_now login s t k a e w.rests.heard w.asked v n st in
+pub faulted : (login : Login) (s t : Seen) (k : Kept) (a : Asked) (e : Error) → e ≢ errors.NoMemory → IsAsked login s k a → is_open s.task ≡ true → Steps s t (steps.Fault e) → t.task ≡ Nothing → StepStands s t (steps.Fault e) → EachStepReads s t (steps.Fault e) → HasFailed login t k a e 0 0
+faulted login s t k a e ne w op v n st rd =
+    let u = fails_now login s t k a e w.rests.heard w.asked v n st rd in
     let own : OwnError s.ended e = subst (λ (f : Option LinkFault). FaultFits f s.ended e) w.rests.sound u.fits in
     record {
-      rests = record { heard = u.heard; sound = nothing_faults t.task n; alive = λ c. u.ended ∙ w.rests.alive (u.closed c) };
+      rests = record { heard = u.heard; sound = nothing_faults t.task n; alive = λ c. u.ended ∙ w.rests.alive (u.closed c); read = fault_read login s t k a w.rests.heard.login_is e ne rd v (asked_read login s k a w) };
       why = u.why;
       by = own_by login k e s.ended ne (λ ended. never_ended login s t k a e s.closed refl w op v ne ended) own;
     }
@@ -129,25 +133,26 @@ broke login s r t k a e ne w asks is u =
         heard = u.heard;
         sound = nothing_faults t.task u.nothing;
         alive = λ c. u.ended ∙ ap (λ (s : Seen). s.ended) is ∙ w.asked.rests.alive (sym (ap (λ (s : Seen). s.closed) is) ∙ u.closed c);
+        read = broke_read login s r t k a e w.asked.rests.heard.login_is ne op is fault u.step w.stopped;
       };
       why = u.why;
       by = link_by login k e ne (waiting_by login s k w.asked.rests asks) link;
     }
 
 -- the link told its end where bytes were awaited
-eof_by : (login : Login) (r t : Seen) (k : Kept) (a : Asked) (e : Error) (place : ℕ) → e ≡ unexpected_eof place → Asks login k Awaits → FailsNow login r t k a e → HasFailed login t k a e 0 1
-eof_by login r t k a e place is asks u =
+eof_by : (login : Login) (r t : Seen) (k : Kept) (a : Asked) (e : Error) (place : ℕ) → e ≡ unexpected_eof place → Asks login k Awaits → RestRead login t (ended_by k a (says.Failed e)) → FailsNow login r t k a e → HasFailed login t k a e 0 1
+eof_by login r t k a e place is asks read u =
     let shut : t.closed ≡ true = u.shut _ is in
     record {
-      rests = record { heard = u.heard; sound = nothing_faults t.task u.nothing; alive = λ c. let no : true ≡ false = sym shut ∙ c in cc };
+      rests = record { heard = u.heard; sound = nothing_faults t.task u.nothing; alive = λ c. let no : true ≡ false = sym shut ∙ c in cc; read = read };
       why = u.why;
       by = subst (λ (x : Error). ErrorBy login k x 0 1) (sym is) (refl, omega arith, asks);
     }
 
-pub ended : (login : Login) (s r t : Seen) (k : Kept) (a : Asked) (e : Error) → e ≢ errors.NoMemory → AwaitsBytes s → Asks login k Awaits → r ≡ with_end s → FailsNow login r t k a e → HasFailed login t k a e 0 1
-ended login s r t k a e ne waits asks is u =
+pub ended : (login : Login) (s r t : Seen) (k : Kept) (a : Asked) (e : Error) → e ≢ errors.NoMemory → IsHeld login s k a → AwaitsBytes s → Asks login k Awaits → r ≡ with_end s → FailsNow login r t k a e → HasFailed login t k a e 0 1
+ended login s r t k a e ne w waits asks is u =
     elim (waits t e (subst (λ (r : Seen). Steps r t (steps.Fault e)) is u.step)) as (λ _. HasFailed login t k a e 0 1) [
-      | inl eof ↦ eof_by login r t k a e s.facts.place eof asks u
+      | inl eof ↦ eof_by login r t k a e s.facts.place eof asks (fault_read login r t k a (ap (λ (x : Seen). x.login) is ∙ w.asked.rests.heard.login_is) e ne u.reads u.step (inl (end_read login s r k a is w.stopped.so_far))) u
       | inr memory ↦ absurd (ne memory)
     ]
 
@@ -168,7 +173,7 @@ broke_so login s r t k g a e ne asks is st fails s1 t1 c1 p1 w =
 pub ended_so : (login : Login) (s r t : Seen) (k g : Kept) (a : Asked) (e : Error) → e ≢ errors.NoMemory → r ≡ with_end s → ((h : History) → Stands s h → Stands r (ending h)) → ((login : Login) (a : Asked) → IsHeard login r k → k.pending ≡ Some a → FailsNow login r t k a e) → g.sent ≡ k.sent → g.taken ≡ k.taken → g.calls ≡ k.calls → g.pending ≡ k.pending → AwaitsBytes s → Awaits s → IsHeld login s k a → HasFailed login t g a e 0 1
 ended_so login s r t k g a e ne is st fails s1 t1 c1 p1 waits asks w =
     subst (λ (x : Kept). HasFailed login t x a e 0 1) (sym (same_kept k g s1 t1 c1 p1))
-    (ended login s r t k a e ne waits (record { session = s; heard = w.asked.rests.heard; sound = w.asked.rests.sound; asks = asks }) is (fails login a (heard_end login s r k is st w.asked.rests.heard) w.asked.asked))
+    (ended login s r t k a e ne w waits (record { session = s; heard = w.asked.rests.heard; sound = w.asked.rests.sound; asks = asks }) is (fails login a (heard_end login s r k is st w.asked.rests.heard) w.asked.asked))
 
-pub faulted_same : (login : Login) (s t : Seen) (k : Kept) (a : Asked) (e x : Error) → x ≡ e → x ≢ errors.NoMemory → IsAsked login s k a → is_open s.task ≡ true → Steps s t (steps.Fault e) → t.task ≡ Nothing → StepStands s t (steps.Fault e) → HasFailed login t k a x 0 0
-faulted_same login s t k a e x is ne w op v n st = subst (λ (y : Error). HasFailed login t k a y 0 0) (sym is) (faulted login s t k a e (λ z. ne (is ∙ z)) w op v n st)
+pub faulted_same : (login : Login) (s t : Seen) (k : Kept) (a : Asked) (e x : Error) → x ≡ e → x ≢ errors.NoMemory → IsAsked login s k a → is_open s.task ≡ true → Steps s t (steps.Fault e) → t.task ≡ Nothing → StepStands s t (steps.Fault e) → EachStepReads s t (steps.Fault e) → HasFailed login t k a x 0 0
+faulted_same login s t k a e x is ne w op v n st rd = subst (λ (y : Error). HasFailed login t k a y 0 0) (sym is) (faulted login s t k a e (λ z. ne (is ∙ z)) w op v n st rd)

@@ -1,5 +1,5 @@
 -- What a step of the session leaves of the open call.
-use Rattle.std.proofs.Common.{ℕ, ◌≡◌, List, [], ◌++◌, ◌||◌, Bool, true, false, Option, Some, None, refl, sym, ap, ◌∙◌, subst}
+use Rattle.std.proofs.Common.{ℕ, ◌≡◌, ◌⊎◌, List, [], ◌++◌, take, drop, inl, ◌||◌, Bool, true, false, Option, Some, None, refl, sym, ap, ◌∙◌, subst}
 use Rattle.my_grammar.specs.declared.login.Login.{Login}
 use Rattle.my_reading.specs.declared.answer.Answer.{Answer}
 use Rattle.my_session.specs.declared.answer.SessionStep.{SessionStep}
@@ -18,6 +18,7 @@ use Rattle.my_reading.specs.Told.{Told, ToldError, told}
 use Rattle.my_session.specs.History.{History, Made, answered, passing, gone, took, has_closed}
 use Rattle.my_session.specs.Causes.{HasCause}
 use Rattle.my_session.specs.Passed.{ArePassed}
+use Rattle.my_session.specs.Mirror.{EachStepReads}
 use Rattle.my_session.specs.Seen.{Seen}
 use Rattle.my_session.specs.Stands.{Stands, call_with}
 use Rattle.my_session.specs.Steps.{Steps, after_step, with_owed, with_unread}
@@ -26,8 +27,10 @@ use Rattle.my_session.proofs.Ends.{each_end}
 use Rattle.my_session.proofs.Fits.{each_answer_fits}
 use Rattle.my_client.specs.declared.tape.Said.TheVariants as says
 use Rattle.my_client.specs.Kept.{Asked, Kept, IsOf, IsHeard, call_in, ended_by}
+use Rattle.my_client.specs.Reads.{OpenRead, QuitRead, ReadsAs, StoppedRead}
 use Rattle.my_client.specs.Rests.{IsAsked, IsHeld, IsAnswered, FailsNow, AwaitsBytes}
 use Rattle.my_client.proofs.Hearing.{answer_counts, asked_kind, ended_of, heard_gone, heard_took, passing_of, pending_passing}
+use Rattle.my_client.proofs.TapeRead.Sessions.{done_read, need_read, send_read, sent_read, taken_read}
 
 -- what a step says of histories
 abbrev pub StepStands : Seen → Seen → SessionStep → Type 0
@@ -51,8 +54,8 @@ fits_of login s t k step v w = each_answer_fits s t w.history step w.stands v
 shut_by : (p : Option Call) (c : Call) (io : IoError) (ms : List Made) (lost : Bool) → p ≡ Some c → has_closed (answered (record { sent = []; taken = []; calls = ms; pending = p; ended = false; lost = false }) (ToldError (errors.Io io))).calls || lost ≡ true
 shut_by p c io ms lost e = subst (λ (p : Option Call). has_closed (answered (record { sent = []; taken = []; calls = ms; pending = p; ended = false; lost = false }) (ToldError (errors.Io io))).calls || lost ≡ true) (sym e) refl
 
-pub fails_now : (login : Login) (s t : Seen) (k : Kept) (a : Asked) (e : Error) → IsHeard login s k → k.pending ≡ Some a → Steps s t (steps.Fault e) → t.task ≡ Nothing → StepStands s t (steps.Fault e) → FailsNow login s t k a e
-fails_now login s t k a e w p v n st =
+pub fails_now : (login : Login) (s t : Seen) (k : Kept) (a : Asked) (e : Error) → IsHeard login s k → k.pending ≡ Some a → Steps s t (steps.Fault e) → t.task ≡ Nothing → StepStands s t (steps.Fault e) → EachStepReads s t (steps.Fault e) → FailsNow login s t k a e
+fails_now login s t k a e w p v n st rd =
     let f = fits_of login s t k (steps.Fault e) v w in
     let heard : IsHeard login t (ended_by k a (says.Failed e)) = heard_on login s t k (steps.Fault e) (ended_by k a (says.Failed e)) f.login st w (λ h i. ended_of k a h (says.Failed e) p (answer_counts (kind_of a.call) (ToldError e) refl) i) in
     let u = st w.history w.stands in
@@ -68,6 +71,7 @@ fails_now login s t k a e w p v n st =
       };
       heard = heard;
       step = v;
+      reads = rd;
       closed = f.alive;
       ended = f.ended;
       fits = f.error;
@@ -76,8 +80,8 @@ fails_now login s t k a e w p v n st =
     }
 
 -- the step asks for something
-held : (login : Login) (s t : Seen) (k : Kept) (a : Asked) (step : SessionStep) → IsAsked login s k a → Steps s t step → StepStands s t step → ((h : History) → after_step h step ≡ h) → ((u : Task) → WasStepped u step → (is_begun u ≡ false) × (fault_in u ≡ None)) → IsHeld login t k a
-held login s t k a step w v st same asks =
+held : (login : Login) (s t : Seen) (k : Kept) (a : Asked) (step : SessionStep) → IsAsked login s k a → Steps s t step → StepStands s t step → StoppedRead login t k a → ((h : History) → after_step h step ≡ h) → ((u : Task) → WasStepped u step → (is_begun u ≡ false) × (fault_in u ≡ None)) → IsHeld login t k a
+held login s t k a step w v st stopped same asks =
     let f = fits_of login s t k step v w.rests.heard in
     let q = asks t.task f.stepped in
     record {
@@ -86,11 +90,17 @@ held login s t k a step w v st same asks =
           heard = heard_on login s t k step k f.login st w.rests.heard (λ h i. subst (IsOf k) (sym (same h)) i);
           sound = q.1;
           alive = λ e. f.ended ∙ w.rests.alive (f.alive e);
+          read = subst (ReadsAs login t k) (sym w.asked) (inl stopped.so_far);
         };
         asked = w.asked;
       };
       stepped = q.0;
+      stopped = stopped;
     }
+
+-- the open call's reading
+pub asked_read : (login : Login) (s : Seen) (k : Kept) (a : Asked) → IsAsked login s k a → OpenRead login s k a ⊎ QuitRead login s k a
+asked_read login s k a w = subst (ReadsAs login s k) w.asked w.rests.read
 
 pub nothing_faults : (t : Task) → t ≡ Nothing → fault_in t ≡ None
 nothing_faults t e = ap fault_in e
@@ -99,8 +109,8 @@ nothing_faults t e = ap fault_in e
 told_asked : (c : Option CallKind) (call : Call) (text : List ℕ) (t : Told) → Some call ≡ call_with c text → may_be_told c t ≡ true → may_be (kind_of call) t ≡ true
 told_asked c call text t e m = subst (λ (c : Option CallKind). may_be_told c t ≡ true) (asked_kind call c text e) m
 
-pub is_answered : (login : Login) (s t : Seen) (k : Kept) (a : Asked) (answer : Answer) → IsAsked login s k a → Steps s t (steps.Done answer) → t.task ≡ Nothing → StepStands s t (steps.Done answer) → IsAnswered login t k a answer
-is_answered login s t k a answer w v n st =
+pub is_answered : (login : Login) (s t : Seen) (k : Kept) (a : Asked) (answer : Answer) → IsAsked login s k a → Steps s t (steps.Done answer) → t.task ≡ Nothing → StepStands s t (steps.Done answer) → EachStepReads s t (steps.Done answer) → IsAnswered login t k a answer
+is_answered login s t k a answer w v n st rd =
     let heard = w.rests.heard in
     let f = fits_of login s t k (steps.Done answer) v heard in
     let open_is : Some a.call ≡ call_with (kind_in s.task) s.text = sym (ap call_in w.asked) ∙ sym heard.kept.pending_is ∙ heard.stands.heard.pending_is in
@@ -118,6 +128,7 @@ is_answered login s t k a answer w v n st =
         heard = heard_on login s t k (steps.Done answer) (ended_by k a (says.Answered answer)) f.login st heard (λ h i. ended_of k a h (says.Answered answer) w.asked (answer_counts (kind_of a.call) (told answer) fits) i);
         sound = nothing_faults t.task n;
         alive = λ e. f.ended ∙ w.rests.alive (f.alive e);
+        read = done_read login s t k a heard.login_is answer rd v (asked_read login s k a w);
       };
       fits = fits;
     }
@@ -126,28 +137,32 @@ pub awaits : (s t : Seen) → Steps s t steps.Need → AwaitsBytes t
 awaits s t v = λ following e w. each_end s t following e v w
 
 -- by what a turn did, where the session follows it
-pub asked_gone : (login : Login) (s t : Seen) (k : Kept) (a : Asked) (owed out sent : List ℕ) → t ≡ with_owed s owed → ((h : History) → Stands s h → Stands t (gone h out)) → sent ≡ k.sent ++ out → IsHeld login s k a → IsAsked login t (record { sent = sent; taken = k.taken; calls = k.calls; pending = k.pending }) a
-asked_gone login s t k a owed out sent e st same w = record {
+pub asked_gone : (login : Login) (s t : Seen) (k : Kept) (a : Asked) (n : ℕ) (sent : List ℕ) → t ≡ with_owed s (drop n s.owed) → ((h : History) → Stands s h → Stands t (gone h (take n s.owed))) → sent ≡ k.sent ++ take n s.owed → IsHeld login s k a → IsAsked login t (record { sent = sent; taken = k.taken; calls = k.calls; pending = k.pending }) a
+asked_gone login s t k a n sent e st same w = record {
   rests = record {
-    heard = subst (λ (bytes : List ℕ). IsHeard login t (record { sent = bytes; taken = k.taken; calls = k.calls; pending = k.pending })) (sym same) (heard_gone login s t k owed out e st w.asked.rests.heard);
+    heard = subst (λ (bytes : List ℕ). IsHeard login t (record { sent = bytes; taken = k.taken; calls = k.calls; pending = k.pending })) (sym same) (heard_gone login s t k (drop n s.owed) (take n s.owed) e st w.asked.rests.heard);
     sound = ap (λ (s : Seen). fault_in s.task) e ∙ w.asked.rests.sound;
     alive = λ c. ap (λ (s : Seen). s.ended) e ∙ w.asked.rests.alive (sym (ap (λ (s : Seen). s.closed) e) ∙ c);
+    read = subst (ReadsAs login t (record { sent = sent; taken = k.taken; calls = k.calls; pending = k.pending })) (sym w.asked.asked)
+        (inl (subst (λ (bytes : List ℕ). OpenRead login t (record { sent = bytes; taken = k.taken; calls = k.calls; pending = k.pending }) a) (sym same) (sent_read login s t k a n e w.stopped.so_far)));
   };
   asked = w.asked.asked;
 }
 
-pub asked_took : (login : Login) (s t : Seen) (k : Kept) (a : Asked) (unread bytes taken : List ℕ) → t ≡ with_unread s unread → ((h : History) → Stands s h → Stands t (took h bytes)) → taken ≡ k.taken ++ bytes → IsHeld login s k a → IsAsked login t (record { sent = k.sent; taken = taken; calls = k.calls; pending = k.pending }) a
-asked_took login s t k a unread bytes taken e st same w = record {
+pub asked_took : (login : Login) (s t : Seen) (k : Kept) (a : Asked) (bytes taken : List ℕ) → t ≡ with_unread s (s.unread ++ bytes) → ((h : History) → Stands s h → Stands t (took h bytes)) → taken ≡ k.taken ++ bytes → IsHeld login s k a → IsAsked login t (record { sent = k.sent; taken = taken; calls = k.calls; pending = k.pending }) a
+asked_took login s t k a bytes taken e st same w = record {
   rests = record {
-    heard = subst (λ (bs : List ℕ). IsHeard login t (record { sent = k.sent; taken = bs; calls = k.calls; pending = k.pending })) (sym same) (heard_took login s t k unread bytes e st w.asked.rests.heard);
+    heard = subst (λ (bs : List ℕ). IsHeard login t (record { sent = k.sent; taken = bs; calls = k.calls; pending = k.pending })) (sym same) (heard_took login s t k (s.unread ++ bytes) bytes e st w.asked.rests.heard);
     sound = ap (λ (s : Seen). fault_in s.task) e ∙ w.asked.rests.sound;
     alive = λ c. ap (λ (s : Seen). s.ended) e ∙ w.asked.rests.alive (sym (ap (λ (s : Seen). s.closed) e) ∙ c);
+    read = subst (ReadsAs login t (record { sent = k.sent; taken = taken; calls = k.calls; pending = k.pending })) (sym w.asked.asked)
+        (inl (subst (λ (bs : List ℕ). OpenRead login t (record { sent = k.sent; taken = bs; calls = k.calls; pending = k.pending }) a) (sym same) (taken_read login s t k a bytes e w.stopped.so_far)));
   };
   asked = w.asked.asked;
 }
 
-pub held_send : (login : Login) (s t : Seen) (k : Kept) (a : Asked) → IsAsked login s k a → Steps s t steps.Send → StepStands s t steps.Send → IsHeld login t k a
-held_send login s t k a w v st = held login s t k a steps.Send w v st (λ h. refl) (λ u f. f)
+pub held_send : (login : Login) (s t : Seen) (k : Kept) (a : Asked) → IsAsked login s k a → Steps s t steps.Send → StepStands s t steps.Send → EachStepReads s t steps.Send → IsHeld login t k a
+held_send login s t k a w v st rd = held login s t k a steps.Send w v st (send_read login s t k a w.rests.heard.login_is rd v (asked_read login s k a w)) (λ h. refl) (λ u f. f)
 
-pub held_need : (login : Login) (s t : Seen) (k : Kept) (a : Asked) → IsAsked login s k a → Steps s t steps.Need → StepStands s t steps.Need → IsHeld login t k a
-held_need login s t k a w v st = held login s t k a steps.Need w v st (λ h. refl) (λ u f. f)
+pub held_need : (login : Login) (s t : Seen) (k : Kept) (a : Asked) → IsAsked login s k a → Steps s t steps.Need → StepStands s t steps.Need → EachStepReads s t steps.Need → IsHeld login t k a
+held_need login s t k a w v st rd = held login s t k a steps.Need w v st (need_read login s t k a w.rests.heard.login_is rd v (asked_read login s k a w)) (λ h. refl) (λ u f. f)

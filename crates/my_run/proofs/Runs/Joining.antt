@@ -56,7 +56,7 @@ made_joined : (m : Made) (ms : List Made) → WereJoined ms → WereJoined (m �
 made_joined m ms w e = or_true (connects m.what (kind_of m.call)) (has_connected ms) (w (or_false (closes m.what (kind_of m.call)) (has_closed ms) e))
 
 ended_joined : (k : Kept) (a : Asked) (said : Said) → WasJoined k → WasJoined (ended_by k a said)
-ended_joined k a said w = subst WereJoined (sym (made_more k.calls (record { call = a.call; sent_from = a.sent_from; said = said }))) (made_joined (record { call = a.call; what = told_by said }) (made_of k.calls) w)
+ended_joined k a said w = subst WereJoined (sym (made_more k.calls (record { call = a.call; sent_from = a.sent_from; taken_from = a.taken_from; said = said }))) (made_joined (record { call = a.call; what = told_by said }) (made_of k.calls) w)
 
 same_joined : (k m : Kept) → m.calls ≡ k.calls → WasJoined k → WasJoined m
 same_joined k m e w = subst (λ cs. WereJoined (made_of cs)) (sym e) w
@@ -109,7 +109,7 @@ shown_joined login n a k b end y u st o t after.Pending c calls e g r s =
     let still : end.pending ≡ Some a = ap (λ (k : Kept). k.pending) r.0 ∙ e in
     subst IsJoined (sym s.1) (subst (λ (q : Option Asked). JoinedBy q end) (sym still) (λ f. absurd (no_connect (is_connect (kind_of a.call)) c f), λ some. subst IsOpen (sym r.0) (same_open k b calls (g some))))
 shown_joined login n a k b end y u st o t (after.Answered answer) c calls e g r s =
-    let joined : has_connected (made_of (ended_by b a (says.Answered answer)).calls) ≡ true = ap has_connected (made_more b.calls (record { call = a.call; sent_from = a.sent_from; said = says.Answered answer })) ∙ first_true (connects (told answer) (kind_of a.call)) (has_connected (made_of b.calls)) (connect_ready (kind_of a.call) answer c r.2) in
+    let joined : has_connected (made_of (ended_by b a (says.Answered answer)).calls) ≡ true = ap has_connected (made_more b.calls (record { call = a.call; sent_from = a.sent_from; taken_from = a.taken_from; said = says.Answered answer })) ∙ first_true (connects (told answer) (kind_of a.call)) (has_connected (made_of b.calls)) (connect_ready (kind_of a.call) answer c r.2) in
     subst IsJoined (sym s.1) (rested_joined end y (ap (λ (k : Kept). k.pending) r.0) (subst WasJoined (sym r.0) (λ _. joined)))
 shown_joined login n a k b end y u st o t (after.Failed x) c calls e g r s = subst IsJoined (sym s.1) tt
 
@@ -128,7 +128,7 @@ dials_joined login plan rules n o us t (Links u x e new r) = connects_joined log
 pub row_open : (login : Login) (a : Asked) (k b end : Kept) (u : Met) (st : Stop) (p : After) (row : RowParts) → p ≡ after.Answered (answers.Row row) → b.calls ≡ k.calls → IsOpen k → PollEnds login a b u st p end → IsOpen end
 row_open login a k b end u st p row is e w r =
     let now = subst (λ (x : After). PollEnds login a b u st x end) is r in
-    ap (λ (m : Kept). has_closed (made_of m.calls)) now.0 ∙ ap has_closed (made_more b.calls (record { call = a.call; sent_from = a.sent_from; said = says.Answered (answers.Row row) })) ∙ same_open k b e w
+    ap (λ (m : Kept). has_closed (made_of m.calls)) now.0 ∙ ap has_closed (made_more b.calls (record { call = a.call; sent_from = a.sent_from; taken_from = a.taken_from; said = says.Answered (answers.Row row) })) ∙ same_open k b e w
 
 -- a gathering
 gathers_on : (More : Asked → Kept → Looks → Outcome → Handle → Type 0) (us : List Use) (a : Asked) (end : Kept) (y : Looks) (o : Outcome) (t : Handle) (p : After) → ((b : Asked) (k : Kept) (z : Looks) → WasJoined k → IsOpen k → More b k z o t → IsJoined t) → WasJoined end → IsJoined (Joined true end y) → ((row : RowParts) → p ≡ after.Answered (answers.Row row) → IsOpen end) → GathersOn More a p end y o us t → IsJoined t

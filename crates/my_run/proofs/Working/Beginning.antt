@@ -30,6 +30,7 @@ use Rattle.my_client.specs.Kept.{asked_by, Asked, Kept, made_of, asking, ended_b
 use Rattle.my_run.specs.Handle.{Joined}
 use Rattle.my_client.specs.Ready.{StandsBy}
 use Rattle.my_link.specs.Looks.{Looks}
+use Rattle.my_client.specs.Reads.{StopsRead}
 use Rattle.my_client.specs.Rests.{Rests, IsAsked}
 
 -- a poll of the open call, as a step shows it
@@ -66,7 +67,7 @@ closed_did {L} look login n call c d o us idle shut w rests seen kept link e f =
     let left : Joined true (kept_of d) (look d.link) ≡ Joined true (ended_by (asking (kept_of c) call None) (asked_by (kept_of c) call) (says.Failed connection_closed)) (look c.link) = ap (λ (k : Kept). Joined true k (look d.link)) kept ∙ ap (λ (l : L). Joined true (ended_by (asking (kept_of c) call None) (asked_by (kept_of c) call) (says.Failed connection_closed)) (look l)) link in
     let known : is_refused (has_closed (made_of (kept_of c).calls)) (kind_of call) ≡ true = ap (λ (b : Bool). is_refused b (kind_of call)) (sym (closed_kept login c.session.seen (kept_of c) w.rests.heard)) ∙ shut in
     record {
-      stood = record { rests = subst (Rests login d.session.seen) (sym kept) rests; stepped = ap (λ (s : Seen). is_begun s.task) seen ∙ w.stepped };
+      stood = record { rests = subst (Rests login d.session.seen) (sym kept) rests; stepped = record { begun = ap (λ (s : Seen). is_begun s.task) seen ∙ w.stepped.begun; stops = subst (λ (x : Kept). StopsRead login d.session.seen x x.pending) (sym kept) tt } };
       does = subst (λ (p : Option Asked). BeginsOn p login n call (kept_of c) (look c.link) o us (Joined true (kept_of d) (look d.link))) (sym pending) (subst (λ (b : Bool). Begins b login n call (kept_of c) (look c.link) o us (Joined true (kept_of d) (look d.link))) (sym known) (record { outcome = e; uses = f; left = left }));
     }
 
@@ -79,7 +80,7 @@ pub begun_so : {L : Type 0} (look : L → Looks) (login : Login) (n : ℕ) (call
 begun_so look login n call copy c b d s t o us same idle open_still seen is st kept link w polled =
     let here : kept_of b ≡ asking (kept_of c) call None = kept ∙ ap (λ (x : Call). asking (kept_of c) x None) same in
     let rests : Rests login s (kept_of c) = subst (λ (s : Seen). Rests login s (kept_of c)) (sym seen) w.rests in
-    let asked : IsAsked login t (kept_of b) (asked_by (kept_of c) call) = subst (λ (k : Kept). IsAsked login t k (asked_by (kept_of c) call)) (sym here) (begins login s t (kept_of c) call None is st rests) in
+    let asked : IsAsked login t (kept_of b) (asked_by (kept_of c) call) = subst (λ (k : Kept). IsAsked login t k (asked_by (kept_of c) call)) (sym here) (begins login s t (kept_of c) call None (ap (λ (x : Seen). is_open x.task) seen ∙ idle) is st rests) in
     let p : OpenPolled login n (asked_by (kept_of c) call) d.session.seen (look b.link) (look d.link) (kept_of b) (kept_of d) o us = polled (asked_by (kept_of c) call) asked in
     begun_did look login n call c d o us idle (ap (λ (s : Seen). is_refused s.closed (kind_of call)) (sym seen) ∙ open_still) w
     (subst (λ (l : _). OpenPolled login n (asked_by (kept_of c) call) d.session.seen (look l) (look d.link) (asking (kept_of c) call None) (kept_of d) o us) link
@@ -89,7 +90,7 @@ pub closed_so : {L : Type 0} (look : L → Looks) (login : Login) (n : ℕ) (cal
 closed_so look login n call copy c b d s t e o us same idle shut seen is st kept link why noted session dlink w shown none =
     let here : kept_of b ≡ asking (kept_of c) call None = kept ∙ ap (λ (x : Call). asking (kept_of c) x None) same in
     let rests : Rests login s (kept_of c) = subst (λ (s : Seen). Rests login s (kept_of c)) (sym seen) w.rests in
-    let following : Rests login t (ended_by (asking (kept_of c) call None) (asked_by (kept_of c) call) (says.Failed connection_closed)) = refuses login s t (kept_of c) call is st rests in
+    let following : Rests login t (ended_by (asking (kept_of c) call None) (asked_by (kept_of c) call) (says.Failed connection_closed)) = refuses login s t (kept_of c) call (ap (λ (x : Seen). is_open x.task) seen ∙ idle) shut is st rests in
     let end : kept_of d ≡ ended_by (asking (kept_of c) call None) (asked_by (kept_of c) call) (says.Failed connection_closed) = noted (asked_by (kept_of c) call) (ap (λ (k : Kept). k.pending) here) ∙ ap (λ (k : Kept). ended_by k (asked_by (kept_of c) call) (says.Failed e)) here ∙ ap (λ (x : Error). ended_by (asking (kept_of c) call None) (asked_by (kept_of c) call) (says.Failed x)) why in
     closed_did look login n call c d o us idle (ap (λ (s : Seen). is_refused s.closed (kind_of call)) (sym seen) ∙ shut) w
     (subst (λ (s : Seen). Rests login s (ended_by (asking (kept_of c) call None) (asked_by (kept_of c) call) (says.Failed connection_closed))) (sym session) following)

@@ -1,5 +1,5 @@
 -- How an open call is cancelled, and what tells without a call.
-use Rattle.std.proofs.Common.{ℕ, ◌≡◌, List, [], ◌&&◌, not, Bool, true, false, cond, Option, Some, refl, sym, ap, ◌∙◌, subst}
+use Rattle.std.proofs.Common.{ℕ, ◌≡◌, ◌⊎◌, inl, inr, List, [], ◌∷◌, ◌&&◌, not, Bool, true, false, cond, Option, Some, refl, sym, ap, ◌∙◌, subst}
 use Rattle.my_grammar.specs.declared.login.Login.{Login}
 use Rattle.my_reply.specs.declared.ok.OkPacket.{OkPacket}
 use Rattle.my_session.specs.declared.task.Task.{Task}
@@ -11,7 +11,8 @@ use Rattle.my_reading.specs.Told.{Dropped}
 use Rattle.my_session.specs.History.{History, answered}
 use Rattle.my_session.specs.Machine.{dropped, fell, with_task}
 use Rattle.my_session.specs.Seen.{Seen}
-use Rattle.my_session.specs.Stands.{Stands}
+use Rattle.my_session.specs.Entries.{connecting_in, has_connected}
+use Rattle.my_session.specs.Stands.{Stands, TaskIs}
 use Rattle.my_session.specs.Tables.{closes_when_cancelled}
 use Rattle.my_client.specs.declared.conn.Conn.{Conn}
 use Rattle.my_run.specs.declared.slot.Slot.{Slot}
@@ -21,16 +22,19 @@ use Rattle.my_script.specs.declared.transcript.Outcome.{Outcome}
 use Rattle.my_script.specs.declared.transcript.Outcome.TheVariants.{Done, Fields, NoSuchHandle}
 use Rattle.my_script.specs.declared.transcript.Use.{Use}
 use Rattle.my_run.specs.Did.{Did}
-use Rattle.my_run.specs.Grows.{CollectsAt, CollectsOn, Cancels, CancelsWith, TellsFields, TellsWith}
+use Rattle.my_run.specs.Grows.{OnConnection, CollectsAt, CollectsOn, Cancels, CancelsWith, TellsFields, TellsWith}
 use Rattle.my_run.specs.Handle.{Handle, Joined}
+use Rattle.my_world.specs.World.{Plans}
 use Rattle.my_client.specs.Ready.{StandsBy}
 use Rattle.my_run.specs.Keeps.{IsStood}
 use Rattle.my_client.specs.Kept.{Asked, Kept, ended_by}
 use Rattle.my_link.specs.Looks.{Looks}
+use Rattle.my_client.specs.Reads.{StopsRead}
 use Rattle.my_client.specs.Rests.{Rests}
 use Rattle.my_run.specs.Slot.{handle_of}
 use Rattle.my_client.specs.Conn.{kept_of}
 use Rattle.my_client.proofs.Hearing.Beginning.{is_asked, is_idle}
+use Rattle.my_client.proofs.TapeRead.Sessions.{cancel_read}
 use Rattle.my_client.proofs.Hearing.{answer_counts, ended_of}
 use Rattle.my_client.proofs.Hearing.Failing.{is_leaving}
 
@@ -89,10 +93,15 @@ cancelled {L} look login n c d connecting o us op seen st link kept kind e f w =
       };
       sound = ap (λ (t : Seen). fault_in t.task) seen ∙ ap fault_in (dropped_task s closes);
       alive = λ b. ap (λ (t : Seen). t.ended) seen ∙ dropped_ended s closes ∙ w.rests.alive (dropped_open s closes (sym (ap (λ (t : Seen). t.closed) seen) ∙ b));
+      read = cancel_read login s d.session.seen k a closes w.stepped.begun (λ leaving. subst (λ (u : Task). TaskIs u s.context.spot s.closed (has_connected w.rests.heard.history.calls) (connecting_in (w.rests.heard.stands.newest ∷ w.rests.heard.stands.older)) w.rests.heard.stands.newest) leaving w.rests.heard.stands.heard.at)
+          seen refl (subst (StopsRead login s k) asked.1 w.stepped.stops);
     } in
     let stands : StandsBy login d = record {
       rests = subst (Rests login d.session.seen) (sym end) rests;
-      stepped = ap (λ (t : Seen). is_begun t.task) seen ∙ ap is_begun (dropped_task s closes);
+      stepped = record {
+        begun = ap (λ (t : Seen). is_begun t.task) seen ∙ ap is_begun (dropped_task s closes);
+        stops = subst (λ (x : Kept). StopsRead login d.session.seen x x.pending) (sym end) tt;
+      };
     } in
     let kept_so : Joined (not connecting) (kept_of d) (look d.link) ≡ Joined (not connecting) (ended_by k a (says.Cancelled closes)) (look c.link) = ap (λ (x : Kept). Joined (not connecting) x (look d.link)) end ∙ ap (λ (l : L). Joined (not connecting) (ended_by k a (says.Cancelled closes)) (look l)) link in
     record {
@@ -100,7 +109,7 @@ cancelled {L} look login n c d connecting o us op seen st link kept kind e f w =
       does = subst (λ (p : Option Asked). CancelsWith p login k (look c.link) o us (handle_of look (cond connecting (Ended d) (There d)))) (sym asked.1) (record {
         session = s;
         heard = w.rests.heard;
-        stepped = w.stepped;
+        stepped = w.stepped.begun;
         outcome = e;
         uses = f;
         left = left_handle look d connecting ∙ kept_so ∙ ap (λ (b : Bool). Joined (not b) (ended_by k a (says.Cancelled closes)) (look c.link)) (kind a asked.1);

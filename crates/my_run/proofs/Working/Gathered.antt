@@ -72,10 +72,10 @@ module _ {L : Type 0} (look : L → Looks) (login : Login) (n : ℕ) (a : Asked)
       let rows_are : rows ≡ so.now.rows = subst (λ (x : After). RowsOf so.now x rows) next.1 r in
       let all : unwrap_or rows [] ++ row ∷ [] ≡ gathered so.now ++ row ∷ [] = ap (λ (x : Option (List RowParts)). unwrap_or x [] ++ row ∷ []) rows_are in
       let kept : kept_of f ≡ asking (kept_of e) NextRow (Some (gathered so.now ++ row ∷ [])) = asks.kept ∙ ap (λ xs. asking (kept_of e) NextRow (Some xs)) all in
-      let now : Asked = record { call = NextRow; sent_from = length (kept_of e).sent; rows = Some (gathered so.now ++ row ∷ []) } in
+      let now : Asked = record { call = NextRow; sent_from = length (kept_of e).sent; taken_from = length (kept_of e).taken; rows = Some (gathered so.now ++ row ∷ []) } in
       record {
         now = now;
-        asked = subst (λ (k : Kept). IsAsked login f.session.seen k now) (sym kept) (begins login e.session.seen f.session.seen (kept_of e) NextRow (Some (gathered so.now ++ row ∷ [])) asks.seen asks.stands w.rests);
+        asked = subst (λ (k : Kept). IsAsked login f.session.seen k now) (sym kept) (begins login e.session.seen f.session.seen (kept_of e) NextRow (Some (gathered so.now ++ row ∷ [])) (ap is_open asks.idle) asks.seen asks.stands w.rests);
         onto = λ vs o t h. onto_more vs o t (subst (λ (x : After). GathersOn (Gathers login n vs) so.now x (kept_of e) (look e.link) o vs t) (sym next.1) (subst (λ (k : Kept). Gathers login n vs now k (look e.link) o t) kept (subst (λ l. Gathers login n vs now (kept_of f) (look l) o t) asks.link h)));
       }
 
@@ -104,9 +104,9 @@ and_true false e = refl
 pub collect_begun : {L : Type 0} (look : L → Looks) (login : Login) (n : ℕ) (c b d : Conn L) (s t : Seen) (o : Outcome) (us : List Use) → is_open c.session.seen.task ≡ false → is_refused s.closed (kind_of NextRow) ≡ false → s ≡ c.session.seen → t ≡ begun s NextRow → ((h : History) → Stands s h → Stands t (began h NextRow)) → kept_of b ≡ asking (kept_of c) NextRow (Some []) → b.link ≡ c.link → StandsBy login c → ((a : Asked) → IsAsked login t (kept_of b) a → GatherDid look login n a b d o us) → Did look login (CollectsAt login n) o us (There c) (There d)
 collect_begun {L} look login n c b d s t o us idle open_still seen is st kept link w did =
     let k = kept_of c in
-    let a : Asked = record { call = NextRow; sent_from = length k.sent; rows = Some [] } in
+    let a : Asked = record { call = NextRow; sent_from = length k.sent; taken_from = length k.taken; rows = Some [] } in
     let rests : Rests login s k = subst (λ (s : Seen). Rests login s k) (sym seen) w.rests in
-    let asked : IsAsked login t (kept_of b) a = subst (λ (x : Kept). IsAsked login t x a) (sym kept) (begins login s t k NextRow (Some []) is st rests) in
+    let asked : IsAsked login t (kept_of b) a = subst (λ (x : Kept). IsAsked login t x a) (sym kept) (begins login s t k NextRow (Some []) (ap (λ (x : Seen). is_open x.task) seen ∙ idle) is st rests) in
     let g = did a asked in
     let pending : k.pending ≡ None = is_idle login c.session.seen k idle w.rests.heard in
     let closed : has_closed (made_of k.calls) ≡ false = sym (closed_kept login c.session.seen k w.rests.heard) ∙ sym (ap (λ (s : Seen). s.closed) seen) ∙ and_true s.closed open_still in
@@ -122,9 +122,9 @@ closed_true false e = e
 pub collect_closed : {L : Type 0} (look : L → Looks) (login : Login) (n : ℕ) (c b d : Conn L) (s t : Seen) (e : Error) (o : Outcome) (us : List Use) → is_open c.session.seen.task ≡ false → is_refused s.closed (kind_of NextRow) ≡ true → s ≡ c.session.seen → t ≡ s → ((h : History) → Stands s h → Stands t (answered (began h NextRow) (ToldError connection_closed))) → kept_of b ≡ asking (kept_of c) NextRow (Some []) → b.link ≡ c.link → e ≡ connection_closed → ((a : Asked) → (kept_of b).pending ≡ Some a → kept_of d ≡ ended_by (kept_of b) a (says.Failed e)) → d.session.seen ≡ t → d.link ≡ b.link → StandsBy login c → o ≡ Failed e → us ≡ [] → Did look login (CollectsAt login n) o us (There c) (There d)
 collect_closed {L} look login n c b d s t e o us idle shut seen is st kept link why noted session dlink w shown none =
     let k = kept_of c in
-    let a : Asked = record { call = NextRow; sent_from = length k.sent; rows = Some [] } in
+    let a : Asked = record { call = NextRow; sent_from = length k.sent; taken_from = length k.taken; rows = Some [] } in
     let rests : Rests login s k = subst (λ (s : Seen). Rests login s k) (sym seen) w.rests in
-    let following : Rests login t (ended_by (asking k NextRow None) (asked_by k NextRow) (says.Failed connection_closed)) = refuses login s t k NextRow is st rests in
+    let following : Rests login t (ended_by (asking k NextRow None) (asked_by k NextRow) (says.Failed connection_closed)) = refuses login s t k NextRow (ap (λ (x : Seen). is_open x.task) seen ∙ idle) shut is st rests in
     let end : kept_of d ≡ ended_by (asking k NextRow None) (asked_by k NextRow) (says.Failed connection_closed) = noted a (ap (λ (x : Kept). x.pending) kept) ∙ ap (λ (x : Kept). ended_by x a (says.Failed e)) kept ∙ ap (λ (x : Error). ended_by (asking k NextRow (Some [])) a (says.Failed x)) why in
     let pending : k.pending ≡ None = is_idle login c.session.seen k idle w.rests.heard in
     let closed : has_closed (made_of k.calls) ≡ true = sym (closed_kept login c.session.seen k w.rests.heard) ∙ sym (ap (λ (s : Seen). s.closed) seen) ∙ closed_true s.closed shut in

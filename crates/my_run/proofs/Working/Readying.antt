@@ -59,9 +59,9 @@ pub asked_first : {L : Type 0} (c d : Conn L) (s : Seen) → ConnReady c → is_
 asked_first c d s r idle same still is st kept =
     let none : (kept_of c).pending ≡ None = is_idle r.0 c.session.seen (kept_of c) idle r.1.rests.heard in
     let rests : Rests r.0 s (kept_of c) = subst (λ (t : Seen). Rests r.0 t (kept_of c)) (sym same) r.1.rests in
-    let a : Asked = record { call = NextRow; sent_from = length (kept_of c).sent; rows = Some [] } in
+    let a : Asked = record { call = NextRow; sent_from = length (kept_of c).sent; taken_from = length (kept_of c).taken; rows = Some [] } in
     let alive : IsOpen (kept_of c) = sym (closed_kept r.0 c.session.seen (kept_of c) r.1.rests.heard) ∙ sym (ap (λ (t : Seen). t.closed) same) ∙ still_open s.closed still in
-    (r.0, a, subst (λ (k : Kept). IsAsked r.0 d.session.seen k a) (sym kept) (begins r.0 s d.session.seen (kept_of c) NextRow (Some []) is st rests), subst WasJoined (sym kept) (subst (λ (q : Option Asked). JoinedBy q (kept_of c)) none r.2), subst IsOpen (sym kept) alive)
+    (r.0, a, subst (λ (k : Kept). IsAsked r.0 d.session.seen k a) (sym kept) (begins r.0 s d.session.seen (kept_of c) NextRow (Some []) (ap (λ (t : Seen). is_open t.task) same ∙ idle) is st rests), subst WasJoined (sym kept) (subst (λ (q : Option Asked). JoinedBy q (kept_of c)) none r.2), subst IsOpen (sym kept) alive)
 
 pub asked_again : {L : Type 0} (c : Conn L) (connecting gathering : Bool) → ConnReady c → is_open c.session.seen.task ≡ true → ((a : Asked) → (kept_of c).pending ≡ Some a → connecting ≡ is_connect (kind_of a.call)) → connecting ≡ false → ((a : Asked) → (kept_of c).pending ≡ Some a → gathering ≡ is_some a.rows) → gathering ≡ true → AskedReady c
 asked_again c connecting gathering r op kind other rows some =
@@ -98,5 +98,5 @@ module _ {L : Type 0} (x y : Looks) (d e : Conn L) (met : Met) (p : After) (r : 
       let next = next_row e f rows p g in
       let asks = next.2 in
       let more : Option (List RowParts) = Some (unwrap_or rows [] ++ next.0 ∷ []) in
-      let a : Asked = record { call = NextRow; sent_from = length (kept_of e).sent; rows = more } in
-      (r.0, a, subst (λ (k : Kept). IsAsked r.0 f.session.seen k a) (sym asks.kept) (begins r.0 e.session.seen f.session.seen (kept_of e) NextRow more asks.seen asks.stands following.rests), subst WasJoined (sym asks.kept) joined_after, subst IsOpen (sym asks.kept) (open_after next.0 next.1))
+      let a : Asked = record { call = NextRow; sent_from = length (kept_of e).sent; taken_from = length (kept_of e).taken; rows = more } in
+      (r.0, a, subst (λ (k : Kept). IsAsked r.0 f.session.seen k a) (sym asks.kept) (begins r.0 e.session.seen f.session.seen (kept_of e) NextRow more (ap is_open asks.idle) asks.seen asks.stands following.rests), subst WasJoined (sym asks.kept) joined_after, subst IsOpen (sym asks.kept) (open_after next.0 next.1))

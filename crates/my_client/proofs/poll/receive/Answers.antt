@@ -3,6 +3,7 @@ use Rattle.my_session.specs.Ends.{Fails}
 use Rattle.my_session.specs.declared.task.LinkFault.TheVariants.{Link}
 use Rattle.my_session.proofs.Ends.{failing_fails}
 use Rattle.my_client.specs.Conn.{asked_in, kept_of}
+use Rattle.my_client.proofs.Hearing.Stepping.{asked_took}
 use Rattle.my_client.proofs.Hearing.Failing.{broke_so, ended_so}
 use Rattle.my_client.proofs.poll.receive.Goals as goal
 
@@ -23,3 +24,8 @@ fail_now-requires-in-Failed-clause-fails g c = failing_fails c.args.conn.now.ses
 
 pub fail_now-requires-clause-fails : goal.fail_now-requires-clause-fails
 fail_now-requires-clause-fails g c = subst Fails (sym c.end.ensures.seen) c.requires.ends
+
+pub returns-in_ok-extend_from_slice-in-Got-clause-rests : goal.returns-in_ok-extend_from_slice-in-Got-clause-rests
+returns-in_ok-extend_from_slice-in-Got-clause-rests g c =
+    λ login a w waits. asked_took login c.args.conn.now.session.seen c.take.new.self.seen (kept_of c.args.conn.now) a _ c.extend_from_slice.new.self.items
+    c.in_ok-take-in-Got.ensures.ok c.in_ok-take-in-Got.ensures.stands c.in_ok-extend_from_slice-in-Got.ensures.items w

@@ -9,7 +9,7 @@ use Rattle.my_client.proofs.poll.send.Goals as goal
 pub returns-in_ok-extend_from_slice-in-Took-clause-rests : goal.returns-in_ok-extend_from_slice-in-Took-clause-rests
 returns-in_ok-extend_from_slice-in-Took-clause-rests g c =
     let out : c.extend_from_slice.new.self.items ≡ c.args.conn.now.sent.items ++ take c.in-Took.n c.args.conn.now.session.seen.owed = search rules in
-    λ login a w. asked_gone login c.args.conn.now.session.seen c.sent.new.self.seen (kept_of c.args.conn.now) a _ (take c.in-Took.n c.args.conn.now.session.seen.owed) c.extend_from_slice.new.self.items c.sent.ensures.seen c.sent.ensures.stands out w
+    λ login a w. asked_gone login c.args.conn.now.session.seen c.sent.new.self.seen (kept_of c.args.conn.now) a c.in-Took.n c.extend_from_slice.new.self.items c.sent.ensures.seen c.sent.ensures.stands out w
 
 pub returns-in_ok-fail_now-in-Failed-clause-rests : goal.returns-in_ok-fail_now-in-Failed-clause-rests
 returns-in_ok-fail_now-in-Failed-clause-rests g c =
