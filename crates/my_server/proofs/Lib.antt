@@ -1,2 +1,11 @@
+pub mod Conversing
+pub mod Exchanges
+pub mod Goodness
+pub mod Heads
+pub mod Hearing
 pub mod LoginLaws
+pub mod Opening
+pub mod PayloadKinds
 pub mod Sendable
+pub mod SetHearing
+pub mod Standing

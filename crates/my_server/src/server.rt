@@ -1,6 +1,6 @@
 //! The core of a scripted server: it is handed what a client sent, and says what is to be sent.
 
-ghost use Rattle.std.specs.Prelude.{◌≡◌, ◌≤◌, ◌↔◌, ◌++◌, [], None, true, length, drop, IfOk, IsErr, IsOk, MatchResult, OnErr, OnOk};
+ghost use Rattle.std.specs.Prelude.{◌≡◌, ◌≤◌, ◌↔◌, ◌++◌, [], None, true, length, drop, take as front, IfOk, IsErr, IsOk, MatchResult, OnErr, OnOk};
 ghost use Rattle.my_frame.specs.Chunks.{chunks};
 ghost use Rattle.my_frame.specs.Front.{front_at};
 ghost use Rattle.my_server.specs.Arrival.{Arrives};
@@ -32,28 +32,30 @@ pub struct ServerCore {
 }
 
 impl Model for ServerCore {
-    ghost use Rattle.std.specs.Prelude.{◌≡◌, true};
-    ghost use Rattle.my_server.specs.Faults.{is_served};
+    ghost use Rattle.my_server.specs.Core.{IsSound, served};
     ghost use Rattle.my_server.specs.Machine.{Served};
 
     ghost Value = { Served };
 
-    ghost view = { λ c. record { script = c.script; phase = c.phase; unread = c.unread; owed = c.owed } };
+    ghost view = { served };
 
-    ghost invariant = { λ c. is_served c.script ≡ true };
+    ghost invariant = { IsSound };
 }
 
 impl ServerCore {
+    ghost use Rattle.my_frame.specs.FrontLaws.{AreBytes};
     ghost use Rattle.my_server.specs.ClientLogin.{login_at};
     ghost use Rattle.my_server.specs.Command.{command_kind};
+    ghost use Rattle.my_server.specs.History.{History, Stands, beginning, gone, stepped, took};
     ghost use Rattle.my_server.specs.Machine.{Steps, answers, closes, command_move, fresh, is_closed, judges, login_move, longest, next, replies, with_bytes, with_sent};
 
     /// A server that is to greet its client. The first fault of the script is returned: its version, or its first
     /// reply without a set, with a set of no or more than 65,535 columns, with a row of another number of cells, with
     /// an OK of another status, or with a payload above 1,073,741,824 bytes.
     pub fn new(alloc: Global, script: ServerScript) -> Result<ServerCore, ScriptFault>
-        ensures { MatchResult result (λ core. (core ≡ fresh script) × (script_fault script ≡ None))
+        ensures made { MatchResult result (λ core. (core ≡ fresh script) × (script_fault script ≡ None))
             (λ e. Blames e (script_fault script)) }
+        ensures stands { IfOk result (λ core. Stands core (beginning script)) }
     {
         check_script(alloc, &script)?;
         let greeting = greeting_payload(alloc, &script)?;
@@ -72,6 +74,8 @@ impl ServerCore {
         ensures ok { OnOk result (self.new ≡ with_bytes self.old bytes.now) }
         ensures err { OnErr result (self.new ≡ self.old) }
         ensures closed { is_closed self.old.phase ≡ true → IsOk result }
+        ensures stands { OnOk result ((h : History) → Stands self.old h
+            → Stands self.new (took self.old.phase h bytes.now)) }
     {
         match self.phase {
             Phase::Closed(_) => Ok(()),
@@ -89,7 +93,9 @@ impl ServerCore {
     /// `count` of the bytes owed were sent.
     pub fn sent(&mut self, count: usize)
         requires { count ≤ length self.old.owed }
-        ensures { self.new ≡ with_sent self.old count }
+        ensures core { self.new ≡ with_sent self.old count }
+        ensures stands { (h : History) → Stands self.old h
+            → Stands self.new (gone h (front count self.old.owed)) }
     {
         self.owed.skip(count);
     }
@@ -190,9 +196,9 @@ impl ServerCore {
         }
     }
 
-    /// Reads the next payload, where nothing is owed and the core isn't closed, and answers it.
-    pub fn step(&mut self, alloc: Global) -> ServerStep
-        ensures { Steps (next self.old) self.old self.new result }
+    fn advance(&mut self, alloc: Global) -> ServerStep
+        ensures steps { Steps (next self.old) self.old self.new result }
+        ensures bytes { AreBytes self.old.unread }
     {
         if !self.owed.is_empty() {
             return ServerStep::Send;
@@ -202,5 +208,13 @@ impl ServerCore {
             Phase::Commands(kept) => self.step_command(alloc, kept),
             Phase::Closed(cause) => ServerStep::Closed(cause),
         }
+    }
+
+    /// Reads the next payload, where nothing is owed and the core isn't closed, and answers it.
+    pub fn step(&mut self, alloc: Global) -> ServerStep
+        ensures steps { Steps (next self.old) self.old self.new result }
+        ensures stands { (h : History) → Stands self.old h → Stands self.new (stepped self.old result h) }
+    {
+        self.advance(alloc)
     }
 }
