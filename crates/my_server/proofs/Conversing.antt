@@ -20,7 +20,7 @@ use Rattle.my_server.specs.declared.phase.CloseCause.TheVariants.{Quit, Denied, 
 use Rattle.my_server.specs.declared.script.ServerScript.{ServerScript}
 use Rattle.my_server.specs.ClientLogin.{LoginParts, login_at}
 use Rattle.my_server.specs.Command.{command_kind}
-use Rattle.my_server.specs.Conversation.{EndEach, IsClient, IsHeard, IsTyped, began, client_terms}
+use Rattle.my_server.specs.Conversation.{EndEach, IsClient, IsHeard, IsTyped, exchange_of, client_terms}
 use Rattle.my_server.specs.Faults.{is_served}
 use Rattle.my_server.specs.History.{History, IsJudged, IsNew, Stands, StandsAt, answer_bytes, kept_after, kept_by, server_side, verdict, verdict_bytes}
 use Rattle.my_server.specs.Machine.{Served, admits, all_chunks, answer_payloads, greeting_payload, kept_of}
@@ -31,7 +31,7 @@ use Rattle.my_server.proofs.PayloadKinds.{PacketLaws}
 -- what the exchanges of commands are cut into
 record AreEnded (script : ServerScript) (terms : Terms) (kept : CapabilityFlags) (cs : List (List ℕ)) : Type 0 where
   pub talks : List Talk
-  pub cut_is : cut (map (began terms) cs) (flat_map (answer_bytes script kept) cs) ≡ record { talks = talks; rest = Trailing [] }
+  pub cut_is : cut (map (exchange_of terms) cs) (flat_map (answer_bytes script kept) cs) ≡ record { talks = talks; rest = Trailing [] }
   pub ends : EndEach script terms cs talks
 
 exchanges : (laws : PacketLaws) (script : ServerScript) (terms : Terms) (kept : CapabilityFlags) (cs : List (List ℕ)) → deprecates_eof terms.kept ≡ true → deprecates_eof kept ≡ true → is_served script ≡ true → IsTyped script
@@ -45,7 +45,7 @@ exchanges laws script terms kept (c ∷ cs) d k served typed none within =
     let first : f c ≡ server_bytes (turns t) = ap (λ (b : Bool). all_chunks (answer_payloads script b c) (number_after_payload c 0)) k ∙ sym w.1.bytes in
     record {
       talks = t ∷ rest.talks;
-      cut_is = ap (λ x. cut (map (began terms) (c ∷ cs)) x) (flat_map-cons f c cs) ∙ ap (λ x. cut (map (began terms) (c ∷ cs)) (x ++ flat_map f cs)) first ∙ ap (λ x. cut (x ∷ map (began terms) cs) (server_bytes (turns t) ++ flat_map f cs)) (sym w.1.origin_is) ∙ over_is_cut t (map (began terms) cs) (flat_map f cs) w.1.fits w.1.over ∙ ap (onto t) rest.cut_is;
+      cut_is = ap (λ x. cut (map (exchange_of terms) (c ∷ cs)) x) (flat_map-cons f c cs) ∙ ap (λ x. cut (map (exchange_of terms) (c ∷ cs)) (x ++ flat_map f cs)) first ∙ ap (λ x. cut (x ∷ map (exchange_of terms) cs) (server_bytes (turns t) ++ flat_map f cs)) (sym w.1.origin_is) ∙ over_is_cut t (map (exchange_of terms) cs) (flat_map f cs) w.1.fits w.1.over ∙ ap (onto t) rest.cut_is;
       ends = (w.1.ends, rest.ends);
     }
 
@@ -84,7 +84,7 @@ heard laws login limit s h st typed client =
     let begun = opening laws script login user st.served typed in
     let t = begun.0 in
     let rest = exchanges laws script terms kept h.commands client.deprecates k st.served typed st.none_quits client.within in
-    let ts = map (began terms) h.commands in
+    let ts = map (exchange_of terms) h.commands in
     let answers = flat_map (answer_bytes script kept) h.commands in
     let said : verdict_bytes script h.login ≡ chunks (verdict script (Some user)) (number_after_payload p 1) = ap (verdict_bytes script) client.answered ∙ ap (λ u. chunks (verdict script u) (number_after_payload p 1)) read.user_is in
     let bytes : h.sent ++ s.owed ≡ server_bytes (turns t) ++ answers = st.said ∙ ap (λ x. (chunks (greeting_payload script) 0 ++ x) ++ answers) said ∙ ap (λ x. x ++ answers) (sym begun.1.bytes) in

@@ -34,9 +34,9 @@ use Rattle.my_server.specs.declared.script.ServerScript.{ServerScript}
 use Rattle.my_server.specs.declared.script.ServerSet.{ServerSet}
 use Rattle.my_server.specs.Answer.{ok_of, reply_payloads, sets_payloads}
 use Rattle.my_server.specs.Command.{command_kind, query_text}
-use Rattle.my_server.specs.Conversation.{EndsBadly, EndsBy, EndsQuery, EndsWell, IsLoneErr, IsLoneOk, IsTyped, IsTypedAnswer, Says, SaysReply, began, began_by}
+use Rattle.my_server.specs.Conversation.{EndsBadly, EndsBy, EndsQuery, EndsWell, IsLoneErr, IsLoneOk, IsTyped, IsTypedAnswer, Says, SaysReply, exchange_of, exchange_by}
 use Rattle.my_server.specs.Faults.{is_answer, is_reply, is_sent, is_served, is_set}
-use Rattle.my_server.specs.Machine.{all_chunks, answer_payloads, command_payloads, denied, fine_payload, found_payloads, no_reply, refusal_payload, reply_for}
+use Rattle.my_server.specs.Machine.{all_chunks, answer_payloads, command_payloads, denial, fine_payload, found_payloads, no_reply, refusal_payload, reply_for}
 use Rattle.my_server.proofs.Goodness.{IsWithin, all_within, sets_are_good}
 use Rattle.my_server.proofs.Hearing.{Heard, heard_one}
 use Rattle.my_server.proofs.PayloadKinds.{PacketLaws, head_err, head_ok, single_err, single_ok, typed_ok}
@@ -47,7 +47,7 @@ use Rattle.my_server.proofs.SetHearing.{sets_are_over, sets_are_read, sets_from,
 pub record IsExchange (script : ServerScript) (terms : Terms) (c : List ℕ) (t : Talk) : Type 0 where
   pub fits : Fits t
   pub over : is_over t ≡ true
-  pub origin_is : origin t ≡ began terms c
+  pub origin_is : origin t ≡ exchange_of terms c
   pub bytes : server_bytes (turns t) ≡ all_chunks (answer_payloads script true c) (number_after_payload c 0)
   pub ends : EndsBy script terms c (command_kind c) t
 
@@ -67,7 +67,7 @@ ascii_from_test (b ∷ bytes) e =
 pub typed_no_reply : IsSentErr no_reply
 typed_no_reply = record { code = lit< tt; state = refl; message = IsUtf8-from_ascii (codes "no reply") (ascii_from_test (codes "no reply") refl) }
 
-pub typed_denied : IsSentErr denied
+pub typed_denied : IsSentErr denial
 typed_denied = record { code = lit< tt; state = refl; message = IsUtf8-from_ascii (codes "Access denied") (ascii_from_test (codes "Access denied") refl) }
 
 pub single_fine : (laws : PacketLaws) → single_kind fine_payload ≡ kinds.Good DONE
@@ -87,7 +87,7 @@ answer_is : (script : ServerScript) (c : List ℕ) (k : CommandKind) → command
 answer_is script c k e = ap (λ k. command_payloads script true k (query_text c)) e
 
 -- what was heard of a command's exchange
-from_heard : (script : ServerScript) (terms : Terms) (c : List ℕ) (t u : Talk) (ps : List (List ℕ)) → t ≡ began terms c → server_bytes (turns t) ≡ [] → number_of (turns t) ≡ number_after_payload c 0 → origin t ≡ t
+from_heard : (script : ServerScript) (terms : Terms) (c : List ℕ) (t u : Talk) (ps : List (List ℕ)) → t ≡ exchange_of terms c → server_bytes (turns t) ≡ [] → number_of (turns t) ≡ number_after_payload c 0 → origin t ≡ t
     → answer_payloads script true c ≡ ps → Heard t ps u → is_over u ≡ true → EndsBy script terms c (command_kind c) u → IsExchange script terms c u
 from_heard script terms c t u ps began_is none n own answers heard over ends = record {
   fits = heard.fits;
@@ -101,7 +101,7 @@ abbrev EachWithin : ℕ → List (List ℕ) → Type 0
 EachWithin limit ps = AllByRecursion (λ p. length p ≤ limit) ps
 
 -- a command that one OK or one ERR answers
-well : (laws : PacketLaws) (script : ServerScript) (terms : Terms) (c : List ℕ) (k : CommandKind) → command_kind c ≡ k → Asked terms c ≡ began_by terms c k → command_payloads script true k (query_text c) ≡ fine_payload ∷ []
+well : (laws : PacketLaws) (script : ServerScript) (terms : Terms) (c : List ℕ) (k : CommandKind) → command_kind c ≡ k → Asked terms c ≡ exchange_by terms c k → command_payloads script true k (query_text c) ≡ fine_payload ∷ []
     → ((t : Talk) → EndsWell terms c t → EndsBy script terms c k t) → EachWithin terms.limit (answer_payloads script true c) → (t : Talk) × IsExchange script terms c t
 well laws script terms c k e began_is fine ends within =
     let answers = answer_is script c k e ∙ fine in
@@ -110,7 +110,7 @@ well laws script terms c k e began_is fine ends within =
     let u = Replied terms c fine_payload (kinds.Good DONE) in
     let heard = heard_one t (kinds.Good DONE) fine_payload (single_fine laws) refl refl short.0 (asked_fits terms c) in
     let said = ends u (record { payload = fine_payload; talk = refl; packet = fine_back laws }) in
-    (u, from_heard script terms c t u (fine_payload ∷ []) (began_is ∙ ap (began_by terms c) (sym e)) refl refl refl answers heard refl (subst (λ k. EndsBy script terms c k u) (sym e) said))
+    (u, from_heard script terms c t u (fine_payload ∷ []) (began_is ∙ ap (exchange_by terms c) (sym e)) refl refl refl answers heard refl (subst (λ k. EndsBy script terms c k u) (sym e) said))
 
 badly : (laws : PacketLaws) (script : ServerScript) (terms : Terms) (c : List ℕ) → command_kind c ≡ commands.Other → EachWithin terms.limit (answer_payloads script true c) → (t : Talk) × IsExchange script terms c t
 badly laws script terms c e within =
@@ -121,7 +121,7 @@ badly laws script terms c e within =
     let u = Replied terms c p kinds.Failed in
     let heard = heard_one t kinds.Failed p (single_err laws no_reply typed_no_reply) refl refl short.0 (asked_fits terms c) in
     let said : EndsBadly terms c u = record { payload = p; talk = refl; packet = laws.err no_reply typed_no_reply } in
-    (u, from_heard script terms c t u (p ∷ []) (ap (began_by terms c) (sym e)) refl refl refl answers heard refl (subst (λ k. EndsBy script terms c k u) (sym e) said))
+    (u, from_heard script terms c t u (p ∷ []) (ap (exchange_by terms c) (sym e)) refl refl refl answers heard refl (subst (λ k. EndsBy script terms c k u) (sym e) said))
 
 -- A query's answer, heard as sets that say it.
 record IsAnswered (terms : Terms) (c : List ℕ) (ps : List (List ℕ)) (SaysIt : Sets → Type 0) : Type 0 where
@@ -193,7 +193,7 @@ queried laws script terms c e d served typed within =
     let w = by_found laws script terms c o refl d served typed short in
     let u = Queried terms c w.sets in
     let said : EndsQuery script terms c u = record { sets = w.sets; talk = refl; says = w.says } in
-    (u, from_heard script terms c (Queried terms c NoSets) u (found_payloads true o) (ap (began_by terms c) (sym e)) refl refl refl answers w.heard (ap is_idle w.over) (subst (λ k. EndsBy script terms c k u) (sym e) said))
+    (u, from_heard script terms c (Queried terms c NoSets) u (found_payloads true o) (ap (exchange_by terms c) (sym e)) refl refl refl answers w.heard (ap is_idle w.over) (subst (λ k. EndsBy script terms c k u) (sym e) said))
 
 pub exchange : (laws : PacketLaws) (script : ServerScript) (terms : Terms) (c : List ℕ) → deprecates_eof terms.kept ≡ true → is_served script ≡ true → IsTyped script → command_kind c ≢ commands.Quit
     → EachWithin terms.limit (answer_payloads script true c) → (t : Talk) × IsExchange script terms c t

@@ -6,6 +6,7 @@ pub mod Hearing
 pub mod LoginLaws
 pub mod Opening
 pub mod PayloadKinds
+pub mod ResponseLaws
 pub mod Sendable
 pub mod SetHearing
 pub mod Standing

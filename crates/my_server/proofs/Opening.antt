@@ -38,7 +38,7 @@ use Rattle.my_server.specs.ClientLogin.{LoginParts, login_at}
 use Rattle.my_server.specs.Conversation.{IsTyped, OpensBadly, OpensWell}
 use Rattle.my_server.specs.Faults.{is_served, is_version}
 use Rattle.my_server.specs.History.{verdict}
-use Rattle.my_server.specs.Machine.{admits, denied, fine_payload, greeting_of, greeting_payload, kept_of, refusal_payload}
+use Rattle.my_server.specs.Machine.{admits, denial, fine_payload, greeting_of, greeting_payload, kept_of, refusal_payload}
 use Rattle.my_server.proofs.Exchanges.{fine_back, single_fine, typed_denied}
 use Rattle.my_server.proofs.LoginLaws.{login_found}
 use Rattle.my_server.proofs.PayloadKinds.{PacketLaws, single_err}
@@ -163,7 +163,7 @@ fine_is_short : length fine_payload ≤ 400
 unfolding le_bytes len_bytes
 fine_is_short = lit≤ tt
 
-denied_is_short : length (refusal_payload denied) ≤ 400
+denied_is_short : length (refusal_payload denial) ≤ 400
 unfolding le_bytes
 denied_is_short = lit≤ tt
 
@@ -181,16 +181,16 @@ opening laws script login user served typed = by_verdict (admits script user) re
             fits = w.0;
             over = refl;
             origin_is = refl;
-            bytes = w.1 ∙ ap (λ (b : Bool). chunks (greeting_payload script) 0 ++ chunks (cond b fine_payload (refusal_payload denied)) n) (sym e);
+            bytes = w.1 ∙ ap (λ (b : Bool). chunks (greeting_payload script) 0 ++ chunks (cond b fine_payload (refusal_payload denial)) n) (sym e);
             opens = subst (λ (b : Bool). MatchBool b (OpensWell script login t) (OpensBadly script login t)) (sym e) says;
           },
         )
     by_verdict false e =
-        let last = refusal_payload denied in
-        let w = opened laws script login last kinds.Failed served typed (single_err laws denied typed_denied) refl denied_is_short in
+        let last = refusal_payload denial in
+        let w = opened laws script login last kinds.Failed served typed (single_err laws denial typed_denied) refl denied_is_short in
         let t = Settled login (greeting_payload script) OFFERED last kinds.Failed in
         let n = number_after_payload (response login (greeting_payload script)) 1 in
-        let says : OpensBadly script login t = record { payload = last; talk = refl; packet = laws.err denied typed_denied } in (
+        let says : OpensBadly script login t = record { payload = last; talk = refl; packet = laws.err denial typed_denied } in (
           t,
           record {
             fits = w.0;

@@ -23,8 +23,8 @@ use Rattle.my_server.specs.declared.script.ServerScript.{ServerScript}
 use Rattle.my_server.specs.ClientLogin.{LoginParts, login_at}
 use Rattle.my_server.specs.Command.{command_kind, query_text}
 use Rattle.my_server.specs.Faults.{is_served, script_fault}
-use Rattle.my_server.specs.History.{Begins, BeginsBad, History, IsDenied, IsJudged, IsNew, Quits, Stands, StandsAt, after_command, after_login, after_owed, after_phase, answer_bytes, beginning, client_side, gone, kept_after, kept_by, login_bytes, server_side, stepped, took, verdict, verdict_bytes, with_command, with_login}
-use Rattle.my_server.specs.Machine.{Move, Served, Steps, admits, all_chunks, answer_payloads, answers, closes, command_move, command_payloads, denied, fine_payload, fresh, greeting_payload, judges, kept_of, login_move, longest, next, owed_move, phase_move, refusal_payload, replies, taken_by, with_bytes, with_sent}
+use Rattle.my_server.specs.History.{Begins, BeginsBad, History, IsDenied, IsJudged, IsNew, Quits, Stands, StandsAt, after_command, after_login, after_owed, after_phase, answer_bytes, beginning, client_side, after_send, kept_after, kept_by, login_bytes, server_side, after_step, after_take, verdict, verdict_bytes, with_command, with_login}
+use Rattle.my_server.specs.Machine.{Move, Served, Steps, admits, all_chunks, answer_payloads, answer_move, close_move, command_move, command_payloads, denial, fine_payload, fresh, greeting_payload, judge_move, kept_of, login_move, longest, next, owed_move, phase_move, refusal_payload, reply_move, taken_by, with_bytes, with_sent}
 
 pub new_stands : (script : ServerScript) → script_fault script ≡ None → Stands (fresh script) (beginning script)
 new_stands script e = record {
@@ -57,7 +57,7 @@ place_moves h taken sent (Closed (causes.BadPacket place)) unread w =
 place_moves h taken sent (Closed (causes.Codec fault)) unread w =
     elim w [ inl a ↦ inl (new_moves h taken sent a.0, a.1) | inr b ↦ inr (b.0, judged_moves h taken sent true b.0 b.1, b.2) ]
 
-pub sent_stands : (s : Served) (h : History) (count : ℕ) → Stands s h → Stands (with_sent s count) (gone h (take count s.owed))
+pub sent_stands : (s : Served) (h : History) (count : ℕ) → Stands s h → Stands (with_sent s count) (after_send h (take count s.owed))
 sent_stands s h count st = record {
   script = st.script;
   served = st.served;
@@ -70,19 +70,19 @@ sent_stands s h count st = record {
 abbrev at_phase : Served → Phase → List ℕ → List ℕ → Served
 at_phase s phase unread owed = record { script = s.script; phase = phase; unread = unread; owed = owed }
 
-pub took_stands : (s : Served) (h : History) (bytes : List ℕ) → Stands s h → Stands (with_bytes s bytes) (took s.phase h bytes)
+pub took_stands : (s : Served) (h : History) (bytes : List ℕ) → Stands s h → Stands (with_bytes s bytes) (after_take s.phase h bytes)
 took_stands s h bytes st = by_phase s.phase st.place
   where
     more : h.taken ++ bytes ≡ client_side h ++ (s.unread ++ bytes)
     more = ap (λ x. x ++ bytes) st.heard ∙ append_assoc (client_side h) s.unread bytes
 
-    by_phase : (phase : Phase) → StandsAt phase h s.unread → Stands (at_phase s phase (taken_by phase s.unread bytes) s.owed) (took phase h bytes)
+    by_phase : (phase : Phase) → StandsAt phase h s.unread → Stands (at_phase s phase (taken_by phase s.unread bytes) s.owed) (after_take phase h bytes)
     by_phase Login place = record { script = st.script; served = st.served; place = place_moves h (h.taken ++ bytes) h.sent Login (s.unread ++ bytes) place; heard = more; said = st.said; none_quits = st.none_quits }
     by_phase (Commands kept) place = record { script = st.script; served = st.served; place = place_moves h (h.taken ++ bytes) h.sent (Commands kept) (s.unread ++ bytes) place; heard = more; said = st.said; none_quits = st.none_quits }
     by_phase (Closed cause) place = record { script = st.script; served = st.served; place = place; heard = st.heard; said = st.said; none_quits = st.none_quits }
 
 -- the core stands where it closes
-closed_stands : (s : Served) (h : History) (cause : CloseCause) → Stands s h → StandsAt (Closed cause) h s.unread → Stands (closes s cause).after h
+closed_stands : (s : Served) (h : History) (cause : CloseCause) → Stands s h → StandsAt (Closed cause) h s.unread → Stands (close_move s cause).after h
 closed_stands s h cause st place = record { script = st.script; served = st.served; place = place; heard = st.heard; said = st.said; none_quits = st.none_quits }
 
 whole_is : (n : ℕ) (bytes p rest : List ℕ) (next : ℕ) → AreBytes bytes → front_at n longest bytes ≡ Whole p rest next → (bytes ≡ chunks p n ++ rest) × (next ≡ number_after_payload p n)
@@ -90,7 +90,7 @@ whole_is n bytes p rest next are e = let w = whole_stands n longest bytes p rest
 
 -- a login that is read is judged
 judged_stands : (s : Served) (h : History) (p rest : List ℕ) (n : ℕ) (login : LoginParts) → AreBytes s.unread → Stands s h → IsNew h → front_at 1 longest s.unread ≡ Whole p rest n → login_at p ≡ Some login
-    → (phase : Phase) (admitted : Bool) (said : List ℕ) → admits h.script login ≡ admitted → said ≡ cond admitted fine_payload (refusal_payload denied) → StandsAt phase (with_login h p (Some login)) rest
+    → (phase : Phase) (admitted : Bool) (said : List ℕ) → admits h.script login ≡ admitted → said ≡ cond admitted fine_payload (refusal_payload denial) → StandsAt phase (with_login h p (Some login)) rest
     → Stands (at_phase s phase rest (s.owed ++ chunks said n)) (with_login h p (Some login))
 judged_stands s h p rest n login are st fresh_ front is phase admitted said judged said_is place =
     let w = whole_is 1 s.unread p rest n are front in
@@ -101,7 +101,7 @@ judged_stands s h p rest n login are st fresh_ front is phase admitted said judg
     let greeting = chunks (greeting_payload script) 0 in
     let answers : (l : Option (List ℕ)) → flat_map (answer_bytes script (kept_after l)) h.commands ≡ [] = λ l. ap (flat_map (answer_bytes script (kept_after l))) fresh_.commands in
     let old : server_side h ≡ greeting = ap (λ x. (greeting ++ verdict_bytes script h.login) ++ x) (answers h.login) ∙ append-nil _ ∙ ap (λ l. greeting ++ verdict_bytes script l) fresh_.login ∙ append-nil greeting in
-    let verdict_is : chunks said n ≡ verdict_bytes script (Some p) = ap (λ x. chunks x n) (said_is ∙ ap (λ (b : Bool). cond b fine_payload (refusal_payload denied)) (sym judged) ∙ ap (verdict script) (sym is)) ∙ ap (λ m. chunks (verdict script (login_at p)) m) w.1 in
+    let verdict_is : chunks said n ≡ verdict_bytes script (Some p) = ap (λ x. chunks x n) (said_is ∙ ap (λ (b : Bool). cond b fine_payload (refusal_payload denial)) (sym judged) ∙ ap (verdict script) (sym is)) ∙ ap (λ m. chunks (verdict script (login_at p)) m) w.1 in
     record {
       script = st.script;
       served = st.served;
@@ -116,15 +116,15 @@ login_stands s h are st fresh_ Waiting e = st
 login_stands s h are st fresh_ (Broken fault) e = closed_stands s h (causes.Codec fault) st (inl (fresh_, e))
 login_stands s h are st fresh_ (Whole p rest n) e = by_login (login_at p) refl
   where
-    by_verdict : (login : LoginParts) → login_at p ≡ Some login → (b : Bool) → admits s.script login ≡ b → Stands (cond b (replies s (Commands (kept_of login)) rest (chunks fine_payload n)) (replies s (Closed causes.Denied) rest (chunks (refusal_payload denied) n))).after (with_login h p (Some login))
+    by_verdict : (login : LoginParts) → login_at p ≡ Some login → (b : Bool) → admits s.script login ≡ b → Stands (cond b (reply_move s (Commands (kept_of login)) rest (chunks fine_payload n)) (reply_move s (Closed causes.Denied) rest (chunks (refusal_payload denial) n))).after (with_login h p (Some login))
     by_verdict login is true judged =
         let here : admits h.script login ≡ true = subst (λ x. admits x login ≡ true) st.script judged in
         judged_stands s h p rest n login are st fresh_ e is (Commands (kept_of login)) true fine_payload here refl (record { payload = p; login = login; payload_is = refl; login_is = is; judged = here; kept_is = refl })
     by_verdict login is false judged =
         let here : admits h.script login ≡ false = subst (λ x. admits x login ≡ false) st.script judged in
-        judged_stands s h p rest n login are st fresh_ e is (Closed causes.Denied) false (refusal_payload denied) here refl (record { kept = kept_of login; judged = record { payload = p; login = login; payload_is = refl; login_is = is; judged = here; kept_is = refl }; commands = fresh_.commands })
+        judged_stands s h p rest n login are st fresh_ e is (Closed causes.Denied) false (refusal_payload denial) here refl (record { kept = kept_of login; judged = record { payload = p; login = login; payload_is = refl; login_is = is; judged = here; kept_is = refl }; commands = fresh_.commands })
 
-    by_login : (o : Option LoginParts) → login_at p ≡ o → Stands (judges s rest n o).after (with_login h p o)
+    by_login : (o : Option LoginParts) → login_at p ≡ o → Stands (judge_move s rest n o).after (with_login h p o)
     by_login None is = closed_stands s h (causes.BadPacket 0) st (record { payload = p; is_new = fresh_; begins = record { rest = rest; next = n; front = e }; bad = is; place_is = refl })
     by_login (Some login) is = by_verdict login is (admits s.script login) refl
 
@@ -168,7 +168,7 @@ command_stands s h kept are st judged Waiting e = st
 command_stands s h kept are st judged (Broken fault) e = closed_stands s h (causes.Codec fault) st (inr (kept, judged, e))
 command_stands s h kept are st judged (Whole p rest n) e = by_kind (command_kind p) refl
   where
-    by_kind : (k : CommandKind) → command_kind p ≡ k → Stands (answers s kept p rest n k).after (with_command h p k)
+    by_kind : (k : CommandKind) → command_kind p ≡ k → Stands (answer_move s kept p rest n k).after (with_command h p k)
     by_kind commands.Quit is = closed_stands s h causes.Quit st (record { kept = kept; payload = p; judged = judged; begins = record { rest = rest; next = n; front = e }; quits = is })
     by_kind commands.Ping is = answered_stands s h kept p rest n commands.Ping are st judged e is (λ z. cc)
     by_kind commands.ResetConnection is = answered_stands s h kept p rest n commands.ResetConnection are st judged e is (λ z. cc)
@@ -184,7 +184,7 @@ owed_stands : (s : Served) (h : History) → AreBytes s.unread → Stands s h �
 owed_stands s h are st [] = phase_stands s h are st s.phase st.place
 owed_stands s h are st (b ∷ bytes) = st
 
-pub step_stands : (old new : Served) (h : History) (step : ServerStep) → AreBytes old.unread → Steps (next old) old new step → Stands old h → Stands new (stepped old step h)
+pub step_stands : (old new : Served) (h : History) (step : ServerStep) → AreBytes old.unread → Steps (next old) old new step → Stands old h → Stands new (after_step old step h)
 step_stands old new h steps.Send are w st = subst (λ s. Stands s (after_owed old old.owed h)) (sym w.0) (owed_stands old h are st old.owed)
 step_stands old new h steps.Need are w st = subst (λ s. Stands s (after_owed old old.owed h)) (sym w.0) (owed_stands old h are st old.owed)
 step_stands old new h (steps.Closed cause) are w st = subst (λ s. Stands s (after_owed old old.owed h)) (sym w.0) (owed_stands old h are st old.owed)

@@ -30,7 +30,7 @@ use Rattle.my_server.specs.declared.script.ServerSet.{ServerSet}
 use Rattle.my_server.specs.Answer.{column_of, ok_of}
 use Rattle.my_server.specs.ClientLogin.{LoginParts, login_at}
 use Rattle.my_server.specs.Command.{command_kind, query_text}
-use Rattle.my_server.specs.Machine.{Served, admits, answer_payloads, denied, greeting_payload, no_reply, reply_for}
+use Rattle.my_server.specs.Machine.{Served, admits, answer_payloads, denial, greeting_payload, no_reply, reply_for}
 use Rattle.my_server.specs.History.{History}
 
 -- The numbers and texts of an answer are those of their types.
@@ -50,13 +50,13 @@ abbrev pub client_terms : Login → ℕ → Terms
 client_terms login limit = record { kept = intersection login.capabilities OFFERED; limit = limit }
 
 -- the exchange that a command begins
-abbrev pub began_by : Terms → List ℕ → CommandKind → Talk
-began_by terms c commands.Quit = Silent terms c
-began_by terms c commands.Query = Queried terms c NoSets
-began_by terms c kind = Asked terms c
+abbrev pub exchange_by : Terms → List ℕ → CommandKind → Talk
+exchange_by terms c commands.Quit = Silent terms c
+exchange_by terms c commands.Query = Queried terms c NoSets
+exchange_by terms c kind = Asked terms c
 
-abbrev pub began : Terms → List ℕ → Talk
-began terms c = began_by terms c (command_kind c)
+abbrev pub exchange_of : Terms → List ℕ → Talk
+exchange_of terms c = exchange_by terms c (command_kind c)
 
 -- The client logs in as the grammar says, deprecates EOF packets, and reads payloads as long as those that its commands are
 -- answered by.
@@ -138,7 +138,7 @@ pub record OpensWell (script : ServerScript) (login : Login) (t : Talk) : Type 0
 pub record OpensBadly (script : ServerScript) (login : Login) (t : Talk) : Type 0 where
   pub payload : List ℕ
   pub talk : t ≡ Settled login (greeting_payload script) OFFERED payload kinds.Failed
-  pub packet : err_at false payload ≡ Some denied
+  pub packet : err_at false payload ≡ Some denial
 
 -- What the client reads, once its login was read: the grammar cuts the bytes sent and owed into the opening and one exchange for
 -- each command, nothing is left over, the opening ends well exactly where the formula admits the login, and each command's
@@ -148,7 +148,7 @@ pub record IsHeard (login : Login) (limit : ℕ) (s : Served) (h : History) : Ty
   pub user_is : login_at (response login (greeting_payload h.script)) ≡ Some user
   pub opening : Talk
   pub ended : List Talk
-  pub cut_is : cut (Start login ∷ map (began (client_terms login limit)) h.commands) (h.sent ++ s.owed)
+  pub cut_is : cut (Start login ∷ map (exchange_of (client_terms login limit)) h.commands) (h.sent ++ s.owed)
       ≡ record { talks = opening ∷ ended; rest = Trailing [] }
   pub opens : MatchBool (admits h.script user) (OpensWell h.script login opening) (OpensBadly h.script login opening)
   pub ends : EndEach h.script (client_terms login limit) h.commands ended

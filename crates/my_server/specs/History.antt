@@ -18,7 +18,7 @@ use Rattle.my_server.specs.declared.script.ServerScript.{ServerScript}
 use Rattle.my_server.specs.ClientLogin.{LoginParts, login_at}
 use Rattle.my_server.specs.Command.{command_kind}
 use Rattle.my_server.specs.Faults.{is_served}
-use Rattle.my_server.specs.Machine.{Served, admits, all_chunks, answer_payloads, denied, fine_payload, greeting_payload, kept_of, longest, refusal_payload}
+use Rattle.my_server.specs.Machine.{Served, admits, all_chunks, answer_payloads, denial, fine_payload, greeting_payload, kept_of, longest, refusal_payload}
 
 -- The script; the client's login, once it was read, and the commands that were read after it; and the bytes that were received
 -- while the core was open, and sent.
@@ -44,7 +44,7 @@ client_side h = login_bytes h.login ++ flat_map (λ c. chunks c 0) h.commands
 -- what is said to a login
 abbrev pub verdict : ServerScript → Option LoginParts → List ℕ
 verdict script None = []
-verdict script (Some login) = if admits script login then fine_payload else refusal_payload denied
+verdict script (Some login) = if admits script login then fine_payload else refusal_payload denial
 
 abbrev pub verdict_bytes : ServerScript → Option (List ℕ) → List ℕ
 verdict_bytes script None = []
@@ -167,16 +167,16 @@ after_owed s [] h = after_phase s s.phase h
 after_owed s (b ∷ bytes) h = h
 
 -- the history after a step: with the payload that it read
-abbrev pub stepped : Served → ServerStep → History → History
-stepped s steps.NoMemory h = h
-stepped s steps.Send h = after_owed s s.owed h
-stepped s steps.Need h = after_owed s s.owed h
-stepped s (steps.Closed cause) h = after_owed s s.owed h
+abbrev pub after_step : Served → ServerStep → History → History
+after_step s steps.NoMemory h = h
+after_step s steps.Send h = after_owed s s.owed h
+after_step s steps.Need h = after_owed s s.owed h
+after_step s (steps.Closed cause) h = after_owed s s.owed h
 
 -- bytes were received, and sent
-abbrev pub took : Phase → History → List ℕ → History
-took (Closed cause) h bytes = h
-took phase h bytes = record { script = h.script; login = h.login; commands = h.commands; taken = h.taken ++ bytes; sent = h.sent }
+abbrev pub after_take : Phase → History → List ℕ → History
+after_take (Closed cause) h bytes = h
+after_take phase h bytes = record { script = h.script; login = h.login; commands = h.commands; taken = h.taken ++ bytes; sent = h.sent }
 
-abbrev pub gone : History → List ℕ → History
-gone h bytes = record { script = h.script; login = h.login; commands = h.commands; taken = h.taken; sent = h.sent ++ bytes }
+abbrev pub after_send : History → List ℕ → History
+after_send h bytes = record { script = h.script; login = h.login; commands = h.commands; taken = h.taken; sent = h.sent ++ bytes }

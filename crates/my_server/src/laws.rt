@@ -1,8 +1,10 @@
 //! Laws of a served conversation. Each function's clause is the law.
 
-ghost use Rattle.std.specs.Prelude.{◌≡◌, ℕ, List, true};
+ghost use Rattle.std.specs.Prelude.{◌≡◌, ℕ, List, Some, true};
 ghost use Rattle.my_grammar.specs.declared.login.Login.{Login as AnyLogin};
-ghost use Rattle.my_server.specs.ClientLogin.{IsLogin, login_at};
+ghost use Rattle.my_handshake.specs.declared.login.HandshakeResponse.{HandshakeResponse as AnyResponse};
+ghost use Rattle.my_handshake.specs.Login.{response_bytes};
+ghost use Rattle.my_server.specs.ClientLogin.{IsLogin, IsSentResponse, login_at, login_of};
 ghost use Rattle.my_frame.specs.Reading.{FindsExactly};
 ghost use Rattle.my_server.specs.Conversation.{IsClient, IsHeard, IsTyped};
 ghost use Rattle.my_server.specs.History.{History, Stands};
@@ -26,4 +28,10 @@ pub fn each_conversation()
 /// A payload is at most one login, which is what reading gives.
 pub fn login_is_read()
     ensures { FindsExactly login_at IsLogin }
+{}
+
+/// A response to a greeting that `put_response` writes is read as a login, with its capabilities, its user and its
+/// scramble, under the premises that `IsSentResponse` names.
+pub fn responses_are_read()
+    ensures { (r : AnyResponse) → IsSentResponse r → login_at (response_bytes r) ≡ Some (login_of r) }
 {}

@@ -46,8 +46,8 @@ impl ServerCore {
     ghost use Rattle.my_frame.specs.FrontLaws.{AreBytes};
     ghost use Rattle.my_server.specs.ClientLogin.{login_at};
     ghost use Rattle.my_server.specs.Command.{command_kind};
-    ghost use Rattle.my_server.specs.History.{History, Stands, beginning, gone, stepped, took};
-    ghost use Rattle.my_server.specs.Machine.{Steps, answers, closes, command_move, fresh, is_closed, judges, login_move, longest, next, replies, with_bytes, with_sent};
+    ghost use Rattle.my_server.specs.History.{History, Stands, beginning, after_send, after_step, after_take};
+    ghost use Rattle.my_server.specs.Machine.{Steps, answer_move, close_move, command_move, fresh, is_closed, judge_move, login_move, longest, next, reply_move, with_bytes, with_sent};
 
     /// A server that is to greet its client. The first fault of the script is returned: its version, or its first
     /// reply without a set, with a set of no or more than 65,535 columns, with a row of another number of cells, with
@@ -75,7 +75,7 @@ impl ServerCore {
         ensures err { OnErr result (self.new ≡ self.old) }
         ensures closed { is_closed self.old.phase ≡ true → IsOk result }
         ensures stands { OnOk result ((h : History) → Stands self.old h
-            → Stands self.new (took self.old.phase h bytes.now)) }
+            → Stands self.new (after_take self.old.phase h bytes.now)) }
     {
         match self.phase {
             Phase::Closed(_) => Ok(()),
@@ -95,13 +95,13 @@ impl ServerCore {
         requires { count ≤ length self.old.owed }
         ensures core { self.new ≡ with_sent self.old count }
         ensures stands { (h : History) → Stands self.old h
-            → Stands self.new (gone h (front count self.old.owed)) }
+            → Stands self.new (after_send h (front count self.old.owed)) }
     {
         self.owed.skip(count);
     }
 
     fn close(&mut self, cause: CloseCause) -> ServerStep
-        ensures { Steps (closes self.old cause) self.old self.new result }
+        ensures { Steps (close_move self.old cause) self.old self.new result }
     {
         self.phase = Phase::Closed(cause);
         ServerStep::Closed(cause)
@@ -112,7 +112,7 @@ impl ServerCore {
         requires done { self.old.owed ≡ [] }
         requires room { len ≤ length self.old.unread }
         ensures { MatchResult answer
-            (λ bytes. Steps (replies self.old phase (drop len self.old.unread) bytes) self.old self.new result)
+            (λ bytes. Steps (reply_move self.old phase (drop len self.old.unread) bytes) self.old self.new result)
             (λ _. (self.new ≡ self.old) × (result ≡ ServerStep.NoMemory)) }
     {
         match answer {
@@ -130,7 +130,7 @@ impl ServerCore {
         requires done { self.old.owed ≡ [] }
         requires room { found.now.span.len ≤ length self.old.unread }
         ensures { let s = self.old in let f = found.now in
-            Steps (judges s (drop f.span.len s.unread) f.span.next (login_at f.payload)) s self.new result }
+            Steps (judge_move s (drop f.span.len s.unread) f.span.next (login_at f.payload)) s self.new result }
     {
         let Some(login) = read_login(found.payload.as_slice()) else {
             return self.close(CloseCause::BadPacket(0));
@@ -154,7 +154,7 @@ impl ServerCore {
         requires room { found.now.span.len ≤ length self.old.unread }
         ensures { let s = self.old in let f = found.now in
             let rest = drop f.span.len s.unread in
-            Steps (answers s kept f.payload rest f.span.next (command_kind f.payload)) s self.new result }
+            Steps (answer_move s kept f.payload rest f.span.next (command_kind f.payload)) s self.new result }
     {
         let kind = command_kind(found.payload.as_slice());
         if kind == CommandKind::Quit {
@@ -213,7 +213,7 @@ impl ServerCore {
     /// Reads the next payload, where nothing is owed and the core isn't closed, and answers it.
     pub fn step(&mut self, alloc: Global) -> ServerStep
         ensures steps { Steps (next self.old) self.old self.new result }
-        ensures stands { (h : History) → Stands self.old h → Stands self.new (stepped self.old result h) }
+        ensures stands { (h : History) → Stands self.old h → Stands self.new (after_step self.old result h) }
     {
         self.advance(alloc)
     }
