@@ -1,2 +1,12 @@
+pub mod Conversing
+pub mod Exchanges
+pub mod Goodness
+pub mod Heads
+pub mod Hearing
 pub mod LoginLaws
+pub mod Opening
+pub mod PayloadKinds
+pub mod ResponseLaws
 pub mod Sendable
+pub mod SetHearing
+pub mod Standing

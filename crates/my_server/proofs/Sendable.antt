@@ -1,7 +1,7 @@
 -- What was tested can be sent.
 use Rattle.std.specs.Prelude.{find, is_none}
 use Rattle.std.proofs.Common.{◌≡◌, inl, inr, subst, ℕ, ◌+◌, ◌^◌, ◌<◌, ◌&&◌, Bool, true, false, List, [], ◌∷◌, length, Option, Some, None, nat_lt, nat_le, arith, refl}
-use Rattle.std.specs.List.{list_all}
+use Rattle.std.specs.List.{AllByRecursion, list_all}
 use Rattle.std.proofs.lemmas.Bool.Decides.{nat_tests}
 use Rattle.my_server.specs.declared.script.Reply.{Reply}
 use Rattle.my_server.specs.declared.script.ReplyAnswer.{ReplyAnswer}
@@ -70,11 +70,18 @@ served_parts script e =
 pub served_replies : (script : ServerScript) → is_served script ≡ true → AreSendable script.replies
 served_replies script e = are_sendable 0 script.replies (served_parts script e).1
 
--- the reply that is found can be sent
-pub found_sends : (test : Reply → Bool) (replies : List Reply) (reply : Reply) → find test replies ≡ Some reply → AreSendable replies → CanSend reply.answer
-found_sends test [] reply e w = absurd cc
-found_sends test (first ∷ replies) reply e w =
-    elim (chosen (test first) (Some first) (find test replies) (Some reply) e) [
-      | inl v ↦ let some = v.1 in let is : first ≡ reply = cc in subst (λ r. CanSend r.answer) is w.0
-      | inr v ↦ found_sends test replies reply v.1 w.1
+-- what holds of each item holds of the one that is found
+pub found_has : {X : Type 0} (P : X → Type 0) (test : X → Bool) (xs : List X) (x : X) → find test xs ≡ Some x → AllByRecursion P xs → P x
+found_has {X} P test [] x e w = absurd cc
+found_has {X} P test (first ∷ xs) x e w =
+    elim (chosen (test first) (Some first) (find test xs) (Some x) e) [
+      | inl v ↦ let some = v.1 in let is : first ≡ x = cc in subst P is w.0
+      | inr v ↦ found_has P test xs x v.1 w.1
     ]
+
+-- each reply was tested
+pub replies_are_fine : (index : ℕ) (replies : List Reply) → reply_fault index replies ≡ None → AllByRecursion (λ reply. is_reply reply ≡ true) replies
+replies_are_fine index [] e = tt
+replies_are_fine index (reply ∷ replies) e =
+    let w = reply_step index reply replies e in
+    (w.0, replies_are_fine (index + 1) replies w.1)

@@ -1,10 +1,13 @@
 -- How a client logs in. MySQL client/server protocol, "Connection Phase Packets": Protocol::HandshakeResponse41, with
 -- SECURE_CONNECTION and without PLUGIN_AUTH_LENENC_CLIENT_DATA.
-use Rattle.std.specs.Prelude.{◌≡◌, ℕ, ◌⊎◌, Bool, true, false, IsTrue, List, Option, Some, None, if◌then◌else◌}
+use Rattle.std.specs.Prelude.{◌≡◌, ℕ, ◌^◌, ◌<◌, ◌==◌, Bool, true, false, IsTrue, List, length, Option, Some, None, if◌then◌else◌}
+use Rattle.std.specs.List.{before_first, flat_map}
 use Rattle.my_flags.specs.declared.flags.CapabilityFlags.{CapabilityFlags}
 use Rattle.my_flags.specs.declared.flags.TheConstants.CapabilityFlags.{CLIENT_PLUGIN_AUTH}
 use Rattle.my_flags.specs.Sets.{connects_with_db, contains, sends_connect_attrs}
 use Rattle.my_frame.specs.Numbers.{IsBytes, IsNumber, IsText, IsText0, bytes_at, number_at, text_at, text0_at, ◌>>=◌}
+use Rattle.my_handshake.specs.declared.login.HandshakeResponse.{HandshakeResponse}
+use Rattle.my_handshake.specs.Attributes.{pair_bytes}
 use Rattle.my_server.specs.declared.login.ClientLogin.{ClientLogin}
 use Rattle.my_server.specs.declared.login.TheConstants.{LOGIN_CAPABILITIES}
 
@@ -100,3 +103,18 @@ login_at payload = do
   scramble ← short_at user.1
   rest ← after_parts (flags_of bits.0) scramble.1
   login_from (flags_of bits.0) user.0 scramble.0
+
+-- Which responses to a greeting are read as logins: numbers and lengths fit their bytes, and the needed capabilities are there, with
+-- that of naming a plugin.
+pub record IsSentResponse (r : HandshakeResponse) : Type 0 where
+  pub capabilities : r.capabilities.0 < 2 ^ 32
+  pub needed : IsTrue (contains r.capabilities LOGIN_CAPABILITIES)
+  pub plugin : names_plugin r.capabilities ≡ true
+  pub max_packet : r.max_packet < 2 ^ 32
+  pub charset : r.charset < 2 ^ 8
+  pub scramble : length r.scramble < 2 ^ 8
+  pub attributes : length (flat_map pair_bytes r.attributes) < 2 ^ 64
+
+-- what a server reads of a response; its user is cut before a zero
+abbrev pub login_of : HandshakeResponse → LoginParts
+login_of r = record { capabilities = r.capabilities; user = before_first (λ b. b == 0) r.user; scramble = r.scramble }

@@ -50,8 +50,8 @@ greeting_payload script = server_bytes (packets.Greeting (greeting_of script))
 abbrev pub fine_payload : List ℕ
 fine_payload = server_bytes (packets.Fine (ok_of DONE))
 
-abbrev pub denied : ErrPacket
-denied = record { code = 1045; state = codes "28000"; message = codes "Access denied" }
+abbrev pub denial : ErrPacket
+denial = record { code = 1045; state = codes "28000"; message = codes "Access denied" }
 
 abbrev pub no_reply : ErrPacket
 no_reply = record { code = 1064; state = codes "42000"; message = codes "no reply" }
@@ -120,43 +120,43 @@ pub record Move : Type 0 where
   pub step : ServerStep
 
 -- the core closes with nothing more to be sent
-abbrev pub closes : Served → CloseCause → Move
-closes s cause = record {
+abbrev pub close_move : Served → CloseCause → Move
+close_move s cause = record {
   after = record { script = s.script; phase = Closed cause; unread = s.unread; owed = s.owed };
   step = steps.Closed cause;
 }
 
 -- a payload was read, and these bytes answer it
-abbrev pub replies : Served → Phase → List ℕ → List ℕ → Move
-replies s phase rest owed = record {
+abbrev pub reply_move : Served → Phase → List ℕ → List ℕ → Move
+reply_move s phase rest owed = record {
   after = record { script = s.script; phase = phase; unread = rest; owed = s.owed ++ owed };
   step = steps.Send;
 }
 
 -- a login, which is admitted or denied; the next sequence id is n
-abbrev pub judges : Served → List ℕ → ℕ → Option LoginParts → Move
-judges s rest n None = closes s (causes.BadPacket 0)
-judges s rest n (Some login) =
+abbrev pub judge_move : Served → List ℕ → ℕ → Option LoginParts → Move
+judge_move s rest n None = close_move s (causes.BadPacket 0)
+judge_move s rest n (Some login) =
     if admits s.script login
-    then replies s (Commands (kept_of login)) rest (chunks fine_payload n)
-    else replies s (Closed causes.Denied) rest (chunks (refusal_payload denied) n)
+    then reply_move s (Commands (kept_of login)) rest (chunks fine_payload n)
+    else reply_move s (Closed causes.Denied) rest (chunks (refusal_payload denial) n)
 
 -- a command, which is answered; a quit closes
-abbrev pub answers : Served → CapabilityFlags → List ℕ → List ℕ → ℕ → CommandKind → Move
-answers s kept p rest n commands.Quit = closes s causes.Quit
-answers s kept p rest n kind =
-    replies s (Commands kept) rest (all_chunks (command_payloads s.script (deprecates_eof kept) kind (query_text p)) n)
+abbrev pub answer_move : Served → CapabilityFlags → List ℕ → List ℕ → ℕ → CommandKind → Move
+answer_move s kept p rest n commands.Quit = close_move s causes.Quit
+answer_move s kept p rest n kind =
+    reply_move s (Commands kept) rest (all_chunks (command_payloads s.script (deprecates_eof kept) kind (query_text p)) n)
 
 -- by what the bytes that weren't read begin with
 abbrev pub login_move : Served → Front → Move
 login_move s Waiting = record { after = s; step = steps.Need }
-login_move s (Broken fault) = closes s (causes.Codec fault)
-login_move s (Whole p rest next) = judges s rest next (login_at p)
+login_move s (Broken fault) = close_move s (causes.Codec fault)
+login_move s (Whole p rest next) = judge_move s rest next (login_at p)
 
 abbrev pub command_move : Served → CapabilityFlags → Front → Move
 command_move s kept Waiting = record { after = s; step = steps.Need }
-command_move s kept (Broken fault) = closes s (causes.Codec fault)
-command_move s kept (Whole p rest next) = answers s kept p rest next (command_kind p)
+command_move s kept (Broken fault) = close_move s (causes.Codec fault)
+command_move s kept (Whole p rest next) = answer_move s kept p rest next (command_kind p)
 
 -- the longest payload that is read
 abbrev pub longest : ℕ

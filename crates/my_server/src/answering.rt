@@ -3,7 +3,7 @@
 ghost use Rattle.std.specs.Prelude.{◌≡◌, ◌++◌, ◌∷◌, [], IfOk, OnOk};
 ghost use Rattle.std.specs.Option.{option_copied};
 ghost use Rattle.my_frame.specs.Chunks.{chunks};
-ghost use Rattle.my_server.specs.Machine.{AreSendable, all_chunks, command_payloads, denied, fine_payload, found_payloads, refusal_payload, reply_for};
+ghost use Rattle.my_server.specs.Machine.{AreSendable, all_chunks, command_payloads, denial, fine_payload, found_payloads, refusal_payload, reply_for};
 
 use crate::answer::reply_payloads;
 use crate::command::CommandKind;
@@ -106,7 +106,7 @@ pub fn fine_answer(alloc: Global, number: u8) -> Result<Queue, NoMemory>
 
 /// The bytes of the ERR for a login that isn't admitted.
 pub fn denied_answer(alloc: Global, number: u8) -> Result<Queue, NoMemory>
-    ensures { IfOk result (λ bytes. bytes ≡ chunks (refusal_payload denied) number) }
+    ensures { IfOk result (λ bytes. bytes ≡ chunks (refusal_payload denial) number) }
 {
     lone(alloc, &denied_payload(alloc)?, number)
 }

@@ -5,7 +5,7 @@ ghost use Rattle.my_reply.specs.Server.{server_bytes};
 ghost use Rattle.my_grammar.specs.Scramble.{xor_bytes};
 ghost use Rattle.sha1.specs.Sha1.{sha1};
 ghost use Rattle.my_server.specs.ClientLogin.{parts_of};
-ghost use Rattle.my_server.specs.Machine.{admits, denied, fine_payload, greeting_of, greeting_payload, knows_password, no_reply, refusal_payload};
+ghost use Rattle.my_server.specs.Machine.{admits, denial, fine_payload, greeting_of, greeting_payload, knows_password, no_reply, refusal_payload};
 
 use crate::answer::{DONE, ok_of, written};
 use crate::login::ClientLogin;
@@ -64,7 +64,7 @@ pub fn fine_payload(alloc: Global) -> Result<Blob, NoMemory>
 
 /// The ERR for a login that isn't admitted.
 pub fn denied_payload(alloc: Global) -> Result<Blob, NoMemory>
-    ensures { IfOk result (λ payload. payload ≡ refusal_payload denied) }
+    ensures { IfOk result (λ payload. payload ≡ refusal_payload denial) }
 {
     let err = ErrPacket {
         code: 1_045,

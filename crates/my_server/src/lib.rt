@@ -8,6 +8,7 @@ mod arrival;
 mod check;
 mod command;
 mod greet;
+pub mod laws;
 mod login;
 mod phase;
 mod script;

@@ -1,6 +1,6 @@
 //! The core of a scripted server: it is handed what a client sent, and says what is to be sent.
 
-ghost use Rattle.std.specs.Prelude.{◌≡◌, ◌≤◌, ◌↔◌, ◌++◌, [], None, true, length, drop, IfOk, IsErr, IsOk, MatchResult, OnErr, OnOk};
+ghost use Rattle.std.specs.Prelude.{◌≡◌, ◌≤◌, ◌↔◌, ◌++◌, [], None, true, length, drop, take as front, IfOk, IsErr, IsOk, MatchResult, OnErr, OnOk};
 ghost use Rattle.my_frame.specs.Chunks.{chunks};
 ghost use Rattle.my_frame.specs.Front.{front_at};
 ghost use Rattle.my_server.specs.Arrival.{Arrives};
@@ -32,28 +32,30 @@ pub struct ServerCore {
 }
 
 impl Model for ServerCore {
-    ghost use Rattle.std.specs.Prelude.{◌≡◌, true};
-    ghost use Rattle.my_server.specs.Faults.{is_served};
+    ghost use Rattle.my_server.specs.Core.{IsSound, served};
     ghost use Rattle.my_server.specs.Machine.{Served};
 
     ghost Value = { Served };
 
-    ghost view = { λ c. record { script = c.script; phase = c.phase; unread = c.unread; owed = c.owed } };
+    ghost view = { served };
 
-    ghost invariant = { λ c. is_served c.script ≡ true };
+    ghost invariant = { IsSound };
 }
 
 impl ServerCore {
+    ghost use Rattle.my_frame.specs.FrontLaws.{AreBytes};
     ghost use Rattle.my_server.specs.ClientLogin.{login_at};
     ghost use Rattle.my_server.specs.Command.{command_kind};
-    ghost use Rattle.my_server.specs.Machine.{Steps, answers, closes, command_move, fresh, is_closed, judges, login_move, longest, next, replies, with_bytes, with_sent};
+    ghost use Rattle.my_server.specs.History.{History, Stands, beginning, after_send, after_step, after_take};
+    ghost use Rattle.my_server.specs.Machine.{Steps, answer_move, close_move, command_move, fresh, is_closed, judge_move, login_move, longest, next, reply_move, with_bytes, with_sent};
 
     /// A server that is to greet its client. The first fault of the script is returned: its version, or its first
     /// reply without a set, with a set of no or more than 65,535 columns, with a row of another number of cells, with
     /// an OK of another status, or with a payload above 1,073,741,824 bytes.
     pub fn new(alloc: Global, script: ServerScript) -> Result<ServerCore, ScriptFault>
-        ensures { MatchResult result (λ core. (core ≡ fresh script) × (script_fault script ≡ None))
+        ensures made { MatchResult result (λ core. (core ≡ fresh script) × (script_fault script ≡ None))
             (λ e. Blames e (script_fault script)) }
+        ensures stands { IfOk result (λ core. Stands core (beginning script)) }
     {
         check_script(alloc, &script)?;
         let greeting = greeting_payload(alloc, &script)?;
@@ -72,6 +74,8 @@ impl ServerCore {
         ensures ok { OnOk result (self.new ≡ with_bytes self.old bytes.now) }
         ensures err { OnErr result (self.new ≡ self.old) }
         ensures closed { is_closed self.old.phase ≡ true → IsOk result }
+        ensures stands { OnOk result ((h : History) → Stands self.old h
+            → Stands self.new (after_take self.old.phase h bytes.now)) }
     {
         match self.phase {
             Phase::Closed(_) => Ok(()),
@@ -89,13 +93,15 @@ impl ServerCore {
     /// `count` of the bytes owed were sent.
     pub fn sent(&mut self, count: usize)
         requires { count ≤ length self.old.owed }
-        ensures { self.new ≡ with_sent self.old count }
+        ensures core { self.new ≡ with_sent self.old count }
+        ensures stands { (h : History) → Stands self.old h
+            → Stands self.new (after_send h (front count self.old.owed)) }
     {
         self.owed.skip(count);
     }
 
     fn close(&mut self, cause: CloseCause) -> ServerStep
-        ensures { Steps (closes self.old cause) self.old self.new result }
+        ensures { Steps (close_move self.old cause) self.old self.new result }
     {
         self.phase = Phase::Closed(cause);
         ServerStep::Closed(cause)
@@ -106,7 +112,7 @@ impl ServerCore {
         requires done { self.old.owed ≡ [] }
         requires room { len ≤ length self.old.unread }
         ensures { MatchResult answer
-            (λ bytes. Steps (replies self.old phase (drop len self.old.unread) bytes) self.old self.new result)
+            (λ bytes. Steps (reply_move self.old phase (drop len self.old.unread) bytes) self.old self.new result)
             (λ _. (self.new ≡ self.old) × (result ≡ ServerStep.NoMemory)) }
     {
         match answer {
@@ -124,7 +130,7 @@ impl ServerCore {
         requires done { self.old.owed ≡ [] }
         requires room { found.now.span.len ≤ length self.old.unread }
         ensures { let s = self.old in let f = found.now in
-            Steps (judges s (drop f.span.len s.unread) f.span.next (login_at f.payload)) s self.new result }
+            Steps (judge_move s (drop f.span.len s.unread) f.span.next (login_at f.payload)) s self.new result }
     {
         let Some(login) = read_login(found.payload.as_slice()) else {
             return self.close(CloseCause::BadPacket(0));
@@ -148,7 +154,7 @@ impl ServerCore {
         requires room { found.now.span.len ≤ length self.old.unread }
         ensures { let s = self.old in let f = found.now in
             let rest = drop f.span.len s.unread in
-            Steps (answers s kept f.payload rest f.span.next (command_kind f.payload)) s self.new result }
+            Steps (answer_move s kept f.payload rest f.span.next (command_kind f.payload)) s self.new result }
     {
         let kind = command_kind(found.payload.as_slice());
         if kind == CommandKind::Quit {
@@ -190,9 +196,9 @@ impl ServerCore {
         }
     }
 
-    /// Reads the next payload, where nothing is owed and the core isn't closed, and answers it.
-    pub fn step(&mut self, alloc: Global) -> ServerStep
-        ensures { Steps (next self.old) self.old self.new result }
+    fn advance(&mut self, alloc: Global) -> ServerStep
+        ensures steps { Steps (next self.old) self.old self.new result }
+        ensures bytes { AreBytes self.old.unread }
     {
         if !self.owed.is_empty() {
             return ServerStep::Send;
@@ -202,5 +208,13 @@ impl ServerCore {
             Phase::Commands(kept) => self.step_command(alloc, kept),
             Phase::Closed(cause) => ServerStep::Closed(cause),
         }
+    }
+
+    /// Reads the next payload, where nothing is owed and the core isn't closed, and answers it.
+    pub fn step(&mut self, alloc: Global) -> ServerStep
+        ensures steps { Steps (next self.old) self.old self.new result }
+        ensures stands { (h : History) → Stands self.old h → Stands self.new (after_step self.old result h) }
+    {
+        self.advance(alloc)
     }
 }

@@ -1,0 +1,37 @@
+//! Laws of a served conversation. Each function's clause is the law.
+
+ghost use Rattle.std.specs.Prelude.{◌≡◌, ℕ, List, Some, true};
+ghost use Rattle.my_grammar.specs.declared.login.Login.{Login as AnyLogin};
+ghost use Rattle.my_handshake.specs.declared.login.HandshakeResponse.{HandshakeResponse as AnyResponse};
+ghost use Rattle.my_handshake.specs.Login.{response_bytes};
+ghost use Rattle.my_server.specs.ClientLogin.{IsLogin, IsSentResponse, login_at, login_of};
+ghost use Rattle.my_frame.specs.Reading.{FindsExactly};
+ghost use Rattle.my_server.specs.Conversation.{IsClient, IsHeard, IsTyped};
+ghost use Rattle.my_server.specs.History.{History, Stands};
+ghost use Rattle.my_server.specs.Machine.{Served};
+
+use my_reply::laws::written_packets_are_read;
+
+/// What a client of the grammar reads, whose login was read: of each core and each history for which it stands, the
+/// grammar cuts the bytes sent and owed into the opening and one exchange for each command, and nothing is left over. The
+/// opening ends with an OK exactly where the formula of native passwords admits the login, else with the ERR 1045. Each
+/// exchange holds what the script says to its command, set by set, columns and cells included.
+///
+/// The client deprecates EOF packets; to others, ends are EOF packets, which the grammar doesn't read.
+pub fn each_conversation()
+    ensures { (s : Served) (h : History) (login : AnyLogin) (limit : ℕ) → Stands s h → IsTyped h.script
+        → IsClient login limit h → IsHeard login limit s h }
+{
+    written_packets_are_read();
+}
+
+/// A payload is at most one login, which is what reading gives.
+pub fn login_is_read()
+    ensures { FindsExactly login_at IsLogin }
+{}
+
+/// A response to a greeting that `put_response` writes is read as a login, with its capabilities, its user and its
+/// scramble, under the premises that `IsSentResponse` names.
+pub fn responses_are_read()
+    ensures { (r : AnyResponse) → IsSentResponse r → login_at (response_bytes r) ≡ Some (login_of r) }
+{}
