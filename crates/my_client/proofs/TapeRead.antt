@@ -84,15 +84,15 @@ ended_one login k a said closed now before after w is_call place_is now_is =
     let ss = spans_to k.sent k.taken k.calls a.sent_from a.taken_from in
     let span : Span = record { call = a.call; sent = drop a.sent_from k.sent; taken = drop a.taken_from k.taken; ending = Some (told_by said) } in
     let span_is : span_to k.sent k.taken d (length k.sent) (length k.taken) ≡ span =
-        ap (λ (x : List ℕ). let s : Span = record { call = a.call; sent = x; taken = between a.taken_from (length k.taken) k.taken; ending = Some (told_by said) } in s) (between_end a.sent_from k.sent)
-        ∙ ap (λ (x : List ℕ). let s : Span = record { call = a.call; sent = drop a.sent_from k.sent; taken = x; ending = Some (told_by said) } in s) (between_end a.taken_from k.taken) in
+    ap (λ (x : List ℕ). let s : Span = record { call = a.call; sent = x; taken = between a.taken_from (length k.taken) k.taken; ending = Some (told_by said) } in s) (between_end a.sent_from k.sent)
+    ∙ ap (λ (x : List ℕ). let s : Span = record { call = a.call; sent = drop a.sent_from k.sent; taken = x; ending = Some (told_by said) } in s) (between_end a.taken_from k.taken) in
     let all : read_calls login (spans_to k.sent k.taken (k.calls ++ d ∷ []) (length k.sent) (length k.taken)) false (first_place login) ≡ with_one login (read_calls login ss false (first_place login)) span =
-        ap (λ (xs : List Span). read_calls login xs false (first_place login)) (spans_end k.sent k.taken k.calls d (length k.sent) (length k.taken) ∙ ap (λ x. ss ++ x ∷ []) span_is)
-        ∙ read_one_more login ss span false (first_place login) in
+    ap (λ (xs : List Span). read_calls login xs false (first_place login)) (spans_end k.sent k.taken k.calls d (length k.sent) (length k.taken) ∙ ap (λ x. ss ++ x ∷ []) span_is)
+    ∙ read_one_more login ss span false (first_place login) in
     let r : Reading = read_calls login ss false (first_place login) in
     let here : IsCall login (one_read login r span) =
-        subst (λ (p : Place). IsCall login (record { span = span; closed = r.closed; halt = halt_of login r.closed span p })) (sym w.place_is)
-        (subst (λ (b : Bool). IsCall login (record { span = span; closed = b; halt = halt_of login b span before })) (sym w.closed_is) is_call) in
+    subst (λ (p : Place). IsCall login (record { span = span; closed = r.closed; halt = halt_of login r.closed span p })) (sym w.place_is)
+    (subst (λ (b : Bool). IsCall login (record { span = span; closed = b; halt = halt_of login b span before })) (sym w.closed_is) is_call) in
     record {
       within = within_end k.sent k.taken k.calls d w.within w.sent_within w.taken_within;
       sent_within = omega arith;
@@ -164,6 +164,7 @@ faults_open login s t k a e o log some w = by_error e some (subst (λ l. Leads l
         ends_open login s t k a (says.Failed e) o w.place Awaits (course_is login s k a o w.rest w.place w.place Awaits l v.stops)
         (λ c h call ending. IsLinkEnd (ap (λ x. x.stop) h) (ending ∙ ap Some v.error_is ∙ ap (λ (x : Place). Some (ToldError (unexpected_eof (facts_at login x).place))) (sym (ap (λ x. x.place) h))))
         v.at (v.closed_is ∙ sym (ap (λ x. closes x (kind_of a.call)) v.error_is))
+
     by_error : (e : Error) → e ≢ errors.NoMemory → Leads login a.call o.parts o.place w.rest w.place → FailsAt login a.call w.rest w.place e t → RestRead login t (ended_by k a (says.Failed e))
     by_error (errors.Driver e) some l v = by_place (errors.Driver e) l v refl
     by_error (errors.Io e) some l v = by_place (errors.Io e) l v refl
@@ -177,10 +178,10 @@ pub breaks_open : (login : Login) (s t : Seen) (k : Kept) (a : Asked) (e : Error
 breaks_open login s t k a e w is log at shut =
     let stop = stop_of login s k a w in
     let place : (facts_at login w.so_far.place).place ≡ s.facts.place =
-        ap (λ l. (facts_at l w.so_far.place).place) (sym log) ∙ ap (λ (f : Facts). f.place) (sym w.so_far.at.at.mirrors.facts_are) in
+    ap (λ l. (facts_at l w.so_far.place).place) (sym log) ∙ ap (λ (f : Facts). f.place) (sym w.so_far.at.at.mirrors.facts_are) in
     ends_open login s t k a (says.Failed e) w.so_far w.so_far.place stop.0 stop.2
     (λ c h call ending. cut_ends login c stop.0 stop.1 (IsLinkFailure (ending ∙ ap (λ x. Some (ToldError x)) is
-        ∙ ap (λ n. Some (ToldError (io_error kinds.Link n))) (sym (ap (λ x. (facts_at login x.place).place) h ∙ place)))))
+    ∙ ap (λ n. Some (ToldError (io_error kinds.Link n))) (sym (ap (λ x. (facts_at login x.place).place) h ∙ place)))))
     at (shut ∙ sym (ap (λ x. closes (ToldError x) (kind_of a.call)) is))
 
 -- the call is cancelled
@@ -191,8 +192,8 @@ cancels_open login s t k a closing w is shut at =
     let stop = stop_of login s k a w in
     ends_open login s t k a (says.Cancelled closing) w.so_far w.so_far.place stop.0 stop.2
     (λ c h call ending. cut_ends login c stop.0 stop.1 (IsCancelled (ending ∙ ap (λ b. Some (Dropped b)) is
-        ∙ ap (λ (x : Call). Some (Dropped (closes_cancelled (kind_of x) w.so_far.place))) (sym call)
-        ∙ ap (λ (x : Place). Some (Dropped (closes_cancelled (kind_of c.span.call) x))) (sym (ap (λ x. x.place) h)))))
+    ∙ ap (λ (x : Call). Some (Dropped (closes_cancelled (kind_of x) w.so_far.place))) (sym call)
+    ∙ ap (λ (x : Place). Some (Dropped (closes_cancelled (kind_of c.span.call) x))) (sym (ap (λ x. x.place) h)))))
     at shut
 
 -- a call on a closed session returns at once
@@ -202,7 +203,7 @@ ends_closed login s t k a said before w sent taken is at shut =
     let no_sent : drop a.sent_from k.sent ≡ [] = drop_all a.sent_from k.sent (omega (arith, sent)) in
     let no_taken : drop a.taken_from k.taken ≡ [] = drop_all a.taken_from k.taken (omega (arith, taken)) in
     let none : with_bytes (drop a.sent_from k.sent) (drop a.taken_from k.taken) before ≡ before =
-        ap (λ x. with_bytes x (drop a.taken_from k.taken) before) no_sent ∙ ap (λ x. with_bytes [] x before) no_taken ∙ no_bytes before in
+    ap (λ x. with_bytes x (drop a.taken_from k.taken) before) no_sent ∙ ap (λ x. with_bytes [] x before) no_taken ∙ no_bytes before in
     record {
       place = before;
       ended = ended_one login k a said true t.closed before before w
@@ -222,8 +223,8 @@ open_bytes login s t k a out come o at =
     let sent : drop a.sent_from (k.sent ++ out) ≡ drop a.sent_from k.sent ++ out = drop-append-le a.sent_from k.sent out o.ended.sent_within in
     let taken : drop a.taken_from (k.taken ++ come) ≡ drop a.taken_from k.taken ++ come = drop-append-le a.taken_from k.taken come o.ended.taken_within in
     let same : with_bytes (drop a.sent_from (k.sent ++ out)) (drop a.taken_from (k.taken ++ come)) o.before ≡ with_bytes out come (with_bytes (drop a.sent_from k.sent) (drop a.taken_from k.taken) o.before) =
-        ap (λ x. with_bytes x (drop a.taken_from (k.taken ++ come)) o.before) sent ∙ ap (λ x. with_bytes (drop a.sent_from k.sent ++ out) x o.before) taken
-        ∙ bytes_more (drop a.sent_from k.sent) (drop a.taken_from k.taken) out come o.before in
+    ap (λ x. with_bytes x (drop a.taken_from (k.taken ++ come)) o.before) sent ∙ ap (λ x. with_bytes (drop a.sent_from k.sent ++ out) x o.before) taken
+    ∙ bytes_more (drop a.sent_from k.sent) (drop a.taken_from k.taken) out come o.before in
     record {
       before = o.before;
       ended = ended_more login k a.sent_from a.taken_from false o.before out come o.ended;
@@ -259,8 +260,8 @@ open_is_read login s k a pending w =
     let ss = spans_to k.sent k.taken k.calls a.sent_from a.taken_from in
     let span : Span = record { call = a.call; sent = drop a.sent_from k.sent; taken = drop a.taken_from k.taken; ending = None } in
     let span_is : open_span k.sent k.taken (tape_kept k) refl refl a ≡ span =
-        ap (λ (x : List ℕ). let s : Span = record { call = a.call; sent = x; taken = between a.taken_from (length k.taken) k.taken; ending = None } in s) (between_end a.sent_from k.sent)
-        ∙ ap (λ (x : List ℕ). let s : Span = record { call = a.call; sent = drop a.sent_from k.sent; taken = x; ending = None } in s) (between_end a.taken_from k.taken) in
+    ap (λ (x : List ℕ). let s : Span = record { call = a.call; sent = x; taken = between a.taken_from (length k.taken) k.taken; ending = None } in s) (between_end a.sent_from k.sent)
+    ∙ ap (λ (x : List ℕ). let s : Span = record { call = a.call; sent = drop a.sent_from k.sent; taken = x; ending = None } in s) (between_end a.taken_from k.taken) in
     let spans_are = ap (λ p. spans_from (tape_kept k) (calls_kept k.calls p)) pending ∙ spans_open k.sent k.taken (tape_kept k) refl refl a k.calls ∙ ap (λ x. ss ++ x ∷ []) span_is in
     let r : Reading = read_calls login ss false (first_place login) in
     let all = ap (λ (xs : List Span). read_calls login xs false (first_place login)) spans_are ∙ read_one_more login ss span false (first_place login) in
@@ -271,8 +272,8 @@ open_is_read login s k a pending w =
       quiet = refl;
     } in
     let now : IsCall login (one_read login r span) =
-        subst (λ (p : Place). IsCall login (record { span = span; closed = r.closed; halt = halt_of login r.closed span p })) (sym w.so_far.ended.place_is)
-        (subst (λ (b : Bool). IsCall login (record { span = span; closed = b; halt = halt_of login b span w.so_far.before })) (sym w.so_far.ended.closed_is) here) in
+    subst (λ (p : Place). IsCall login (record { span = span; closed = r.closed; halt = halt_of login r.closed span p })) (sym w.so_far.ended.place_is)
+    (subst (λ (b : Bool). IsCall login (record { span = span; closed = b; halt = halt_of login b span w.so_far.before })) (sym w.so_far.ended.closed_is) here) in
     subst (λ (x : Reading). AreCalls login x.calls) (sym all) (calls_more login r.calls (one_read login r span) w.so_far.ended.calls now)
 
 pub is_read : (login : Login) (s : Seen) (k : Kept) (q : Option Asked) → k.pending ≡ q → ReadsAs login s k q → StopsRead login s k q → IsRead login k

@@ -33,7 +33,10 @@ IsRead login k = AreCalls login (reading login (tape_kept k)).calls
 -- the calls that ended, each with its bytes up to the beginning of the next one, the last up to these counts
 abbrev pub span_to : List ℕ → List ℕ → DoneCall → ℕ → ℕ → Span
 span_to sent taken d n m = record {
-  call = d.call; sent = between d.sent_from n sent; taken = between d.taken_from m taken; ending = Some (told_by d.said);
+  call = d.call;
+  sent = between d.sent_from n sent;
+  taken = between d.taken_from m taken;
+  ending = Some (told_by d.said);
 }
 
 abbrev pub spans_to : List ℕ → List ℕ → List DoneCall → ℕ → ℕ → List Span

@@ -85,14 +85,14 @@ module _ (login : Login) (sent taken : List ℕ) where
     long_more : (new : Place) (payload : List ℕ) (b : Bool)
         → nat_lt (limit_of p.talk) (length (response login payload)) ≡ b
         → unless_long_response login (more p) payload (Goes (part ∷ parts) (more new))
-          ≡ lift sent taken (unless_long_response login p payload (Goes (part ∷ parts) new))
+        ≡ lift sent taken (unless_long_response login p payload (Goes (part ∷ parts) new))
     unfolding lift
     long_more new payload true e = rw e refl
     long_more new payload false e = rw e refl
 
     payload_more : (new : Place) (payload : List ℕ) (k : Kind)
         → after_payload login part parts (more p) (more new) payload k
-          ≡ lift sent taken (after_payload login part parts p new payload k)
+        ≡ lift sent taken (after_payload login part parts p new payload k)
     unfolding lift
     payload_more new payload kinds.Bad = refl
     payload_more new payload kinds.Failed = err_more new (err_at (is_greeting (context_of p.talk).spot) payload)
@@ -158,11 +158,11 @@ step_stays login call parts p sent taken rest q e = by_owed (owed p) refl e
   where
     by_owed : (x : List ℕ) → owed p ≡ x → unless_owed x p (step_of login call parts p) ≡ Goes rest q
         → unless_owed (owed (with_bytes sent taken p)) (with_bytes sent taken p) (step_of login call parts (with_bytes sent taken p))
-          ≡ Goes rest (with_bytes sent taken q)
+        ≡ Goes rest (with_bytes sent taken q)
     by_owed (b ∷ bytes) o e = cc
     by_owed [] o e =
         ap (λ x. unless_owed x (with_bytes sent taken p) (step_of login call parts (with_bytes sent taken p)))
-           (drop_more p.sent sent (client_side (exchanges p)) o)
+        (drop_more p.sent sent (client_side (exchanges p)) o)
         ∙ part_more login sent taken call p rest q parts e
 
 pub leading_stays : LeadingStays

@@ -70,7 +70,12 @@ next_exchange login call p = opening login (terms_of login (exchanges p)) call (
 -- bytes are sent and received
 abbrev pub with_bytes : List ℕ → List ℕ → Place → Place
 with_bytes sent taken p = record {
-  call = p.call; talk = p.talk; older = p.older; end_left = p.end_left; unread = p.unread ++ taken; sent = p.sent ++ sent;
+  call = p.call;
+  talk = p.talk;
+  older = p.older;
+  end_left = p.end_left;
+  unread = p.unread ++ taken;
+  sent = p.sent ++ sent;
 }
 
 -- the end that was left is passed over, or is left

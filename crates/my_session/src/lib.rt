@@ -9,7 +9,8 @@ mod task;
 
 pub use answer::{SessionStep, Tick};
 pub use law::{
-    each_answer_fits, each_end, each_fault, each_history, each_move_reads, each_setting, each_whole_call,
+    each_answer_fits, each_end, each_fault, each_history, each_move_reads, each_setting,
+    each_whole_call,
 };
 pub use session::Session;
 pub use tables::{Plan, Reaction};

@@ -9,8 +9,8 @@ mod receiving;
 mod sending;
 mod stepping;
 
-use crate::task::{LinkFault, Task};
 use crate::tables::closes_when_cancelled;
+use crate::task::{LinkFault, Task};
 use my_frame::{Blob, NoMemory};
 use my_grammar::{Context, Login, Queue, Spot};
 use my_reading::{Call, CallKind, DriverError, Error, Facts};

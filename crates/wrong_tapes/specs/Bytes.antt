@@ -53,8 +53,16 @@ row text = record {
 -- who logs in: with both settings, with neither, and with a password
 abbrev pub login_by : Option (List ℕ) → Option ℕ → Option ℕ → Login
 login_by password limit wait = record {
-  user = Some (codes "root"); password = password; database = None; max_packet = 4194304; attributes = [];
-  capabilities = record { 0 = 0x010fa281 }; packet_limit = limit; wait_timeout = wait; init = []; setup = [];
+  user = Some (codes "root");
+  password = password;
+  database = None;
+  max_packet = 4194304;
+  attributes = [];
+  capabilities = record { 0 = 0x010fa281 };
+  packet_limit = limit;
+  wait_timeout = wait;
+  init = [];
+  setup = [];
 }
 
 abbrev pub root : Login

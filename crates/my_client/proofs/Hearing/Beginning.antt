@@ -120,8 +120,10 @@ begins_read login s t k call rows idle e h st log w = by_closed s.closed refl
   where
     task_is : (b : Bool) → s.closed ≡ b → t.task ≡ cond b Leaving (Begun (kind_of call))
     task_is b c = ap (λ (x : Seen). x.task) e ∙ ap (λ b. cond b Leaving (Begun (kind_of call))) c
+
     spot_is : t.context.spot ≡ s.context.spot
     spot_is = ap (λ (x : Seen). x.context.spot) e
+
     by_closed : (b : Bool) → s.closed ≡ b → OpenRead login t (asking k call rows) (record { call = call; sent_from = length k.sent; taken_from = length k.taken; rows = rows }) ⊎ QuitRead login t (asking k call rows) (record { call = call; sent_from = length k.sent; taken_from = length k.taken; rows = rows })
     by_closed false c =
         let at = subst (λ (u : Task). TaskIs u t.context.spot t.closed (has_connected h.calls) (connecting_in (st.newest ∷ st.older)) st.newest) (task_is false c) st.heard.at in

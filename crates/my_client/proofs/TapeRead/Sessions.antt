@@ -142,25 +142,39 @@ sent_at : (s t : Seen) (call : Call) (parts : List Part) (p : Place) (n : ℕ) �
 sent_at s t call parts p n e o = subst (λ (x : Seen). OpenAt x call parts (with_bytes (take n s.owed) [] p)) (sym e) (record {
   at = record {
     mirrors = mirrors_sent s.context s.number s.unread s.owed s.closed s.facts s.login p n o.alive o.at.mirrors;
-    end_is = o.at.end_is; own_end = o.at.own_end; task_at = o.at.task_at;
+    end_is = o.at.end_is;
+    own_end = o.at.own_end;
+    task_at = o.at.task_at;
     settled = λ quiet. ap (drop n) (o.at.settled quiet) ∙ drop-nil {A = ℕ} n;
   };
-  alive = o.alive; sound = o.sound; call_is = o.call_is; parts_are = o.parts_are;
+  alive = o.alive;
+  sound = o.sound;
+  call_is = o.call_is;
+  parts_are = o.parts_are;
 })
 
 taken_at : (s t : Seen) (call : Call) (parts : List Part) (p : Place) (bytes : List ℕ) → t ≡ with_unread s (s.unread ++ bytes) → OpenAt s call parts p → OpenAt t call parts (with_bytes [] bytes p)
 taken_at s t call parts p bytes e o = subst (λ (x : Seen). OpenAt x call parts (with_bytes [] bytes p)) (sym e) (record {
   at = record {
     mirrors = mirrors_taken s.context s.number s.unread s.owed s.closed s.facts s.login p bytes o.at.mirrors;
-    end_is = o.at.end_is; own_end = o.at.own_end; task_at = o.at.task_at; settled = o.at.settled;
+    end_is = o.at.end_is;
+    own_end = o.at.own_end;
+    task_at = o.at.task_at;
+    settled = o.at.settled;
   };
-  alive = o.alive; sound = o.sound; call_is = o.call_is; parts_are = o.parts_are;
+  alive = o.alive;
+  sound = o.sound;
+  call_is = o.call_is;
+  parts_are = o.parts_are;
 })
 
 ended_at : (s t : Seen) (call : Call) (parts : List Part) (p : Place) → t ≡ with_end s → OpenAt s call parts p → OpenAt t call parts p
 ended_at s t call parts p e o = subst (λ (x : Seen). OpenAt x call parts p) (sym e) (record {
   at = record { mirrors = o.at.mirrors; end_is = o.at.end_is; own_end = o.at.own_end; task_at = o.at.task_at; settled = o.at.settled };
-  alive = o.alive; sound = o.sound; call_is = o.call_is; parts_are = o.parts_are;
+  alive = o.alive;
+  sound = o.sound;
+  call_is = o.call_is;
+  parts_are = o.parts_are;
 })
 
 pub sent_read : (login : Login) (s t : Seen) (k : Kept) (a : Asked) (n : ℕ) → t ≡ with_owed s (drop n s.owed) → OpenRead login s k a → OpenRead login t (record { sent = k.sent ++ take n s.owed; taken = k.taken; calls = k.calls; pending = k.pending }) a
@@ -250,13 +264,16 @@ module _ (s : Seen) (call : Call) (parts : List Part) (p : Place) (o : OpenAt s 
 
   dropped_at : (b : Bool) → closes_when_cancelled s.task s.context.spot ≡ b → StandsAt (cond b (fell s) (with_task s tasks.Nothing s.untold)) p × ((cond {A = Seen} b (fell s) (with_task s tasks.Nothing s.untold)).closed ≡ b)
   dropped_at true e = (fallen_at s p s o.at.mirrors, refl)
-  dropped_at false e = (record {
-    mirrors = o.at.mirrors;
-    end_is = λ _ _. o.at.end_is o.alive o.sound ∙ ap (λ b. s.untold && not b) (keeps_end s.task refl e);
-    own_end = λ no. cc;
-    task_at = tt;
-    settled = λ _. o.at.settled (owes_not s.task refl e);
-  }, o.alive)
+  dropped_at false e = (
+    record {
+      mirrors = o.at.mirrors;
+      end_is = λ _ _. o.at.end_is o.alive o.sound ∙ ap (λ b. s.untold && not b) (keeps_end s.task refl e);
+      own_end = λ no. cc;
+      task_at = tt;
+      settled = λ _. o.at.settled (owes_not s.task refl e);
+    },
+    o.alive,
+  )
 
 pub cancel_read : (login : Login) (s t : Seen) (k : Kept) (a : Asked) (closing : Bool) → is_begun s.task ≡ false → (s.task ≡ tasks.Leaving → s.closed ≡ true) → t ≡ dropped s → closing ≡ closes_when_cancelled s.task s.context.spot → StoppedRead login s k a
     → RestRead login t (ended_by k a (says.Cancelled closing))
@@ -343,7 +360,7 @@ module _ (login : Login) (s t : Seen) (k : Kept) (call : Call) where
   refuse_read e shut other w = subst (λ (x : Seen). RestRead login x (ended_by (asking k call None) (asked_by k call) (says.Failed connection_closed))) (sym e)
       (ends_closed login s s (asking k call None) (asked_by k call) (says.Failed connection_closed) w.place
       (subst (λ b. EndedRead login (asking k call None) (length k.sent) (length k.taken) b w.place) shut
-          (record { within = w.ended.within; sent_within = w.ended.sent_within; taken_within = w.ended.taken_within; calls = w.ended.calls; place_is = w.ended.place_is; closed_is = w.ended.closed_is }))
+      (record { within = w.ended.within; sent_within = w.ended.sent_within; taken_within = w.ended.taken_within; calls = w.ended.calls; place_is = w.ended.place_is; closed_is = w.ended.closed_is }))
       refl refl (sym (ap (λ b. cond b ToldReady (ToldError connection_closed)) other)) w.at shut)
 
 -- a new session

@@ -103,7 +103,8 @@ module _ (s : Seen) (call : Call) (p : Place) (m : Mirrors s.context s.number s.
               sound = sound;
               call_is = ap (λ c. call_with c s.text) same ∙ call_is;
               parts_are = left;
-            });
+            },
+          );
         })
 
   -- what a command of the call's own begins
@@ -148,10 +149,10 @@ module _ (s : Seen) (call : Call) (p : Place) (m : Mirrors s.context s.number s.
     arranges (Some text) e =
         let talk : Talk = Queried (next_terms s) (packet_bytes (packets.Query text)) NoSets in
         let opens : next_exchange s.login call p ≡ Some talk =
-            ap (λ x. opening s.login (terms_of s.login (exchanges p)) x (connects_in (exchanges p))) is
-            ∙ ap (λ k. connecting s.login (terms_of s.login (exchanges p)) k) count
-            ∙ ap (query_of (terms_of s.login (exchanges p))) e
-            ∙ ap (λ t. query_of t (Some text)) (terms_here s.context s.number s.unread s.owed s.closed s.facts s.login p m) in
+        ap (λ x. opening s.login (terms_of s.login (exchanges p)) x (connects_in (exchanges p))) is
+        ∙ ap (λ k. connecting s.login (terms_of s.login (exchanges p)) k) count
+        ∙ ap (query_of (terms_of s.login (exchanges p))) e
+        ∙ ap (λ t. query_of t (Some text)) (terms_here s.context s.number s.unread s.owed s.closed s.facts s.login p m) in
         subst (λ xs. MoveReads s call (All ∷ parts_of_texts xs) p (arranged s n (Some talk))) (sym (texts_go_on (arranging_texts s.login) n text e))
         (begun (tasks.Arranging (suc n)) (All ∷ parts_of_texts (drop (suc n) (arranging_texts s.login))) talk opens (ap kind_in (sym task)) refl refl refl refl refl (record { kinds = tt; within = tt }) refl refl refl
         (some_bytes (packet_bytes (packets.Query text)) 0)

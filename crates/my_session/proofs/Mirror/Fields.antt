@@ -29,39 +29,77 @@ module _ (context : Context) (number : ℕ) (unread bytes_owed : List ℕ) (clos
   -- the session is closed
   pub mirrors_fallen : Mirrors context number unread bytes_owed closed facts login p → Mirrors context number unread [] true facts login p
   mirrors_fallen m = record {
-    context_is = m.context_is; number_is = m.number_is; unread_is = m.unread_is; facts_are = m.facts_are; login_is = m.login_is; fits = m.fits;
-    unsent = m.unsent; all_is = m.all_is; owed_is = λ no. cc; first = m.first;
+    context_is = m.context_is;
+    number_is = m.number_is;
+    unread_is = m.unread_is;
+    facts_are = m.facts_are;
+    login_is = m.login_is;
+    fits = m.fits;
+    unsent = m.unsent;
+    all_is = m.all_is;
+    owed_is = λ no. cc;
+    first = m.first;
   }
 
   -- whether an end is left is no matter
   pub mirrors_without_end : Mirrors context number unread bytes_owed closed facts login p → Mirrors context number unread bytes_owed closed facts login (without_end p)
   mirrors_without_end m = record {
-    context_is = m.context_is; number_is = m.number_is; unread_is = m.unread_is; facts_are = m.facts_are; login_is = m.login_is; fits = m.fits;
-    unsent = m.unsent; all_is = m.all_is; owed_is = m.owed_is; first = λ greets. let f = m.first greets in (f.0, f.1, refl);
+    context_is = m.context_is;
+    number_is = m.number_is;
+    unread_is = m.unread_is;
+    facts_are = m.facts_are;
+    login_is = m.login_is;
+    fits = m.fits;
+    unsent = m.unsent;
+    all_is = m.all_is;
+    owed_is = m.owed_is;
+    first = λ greets. let f = m.first greets in (f.0, f.1, refl);
   }
 
   pub mirrors_with_end : is_greeting context.spot ≡ false → Mirrors context number unread bytes_owed closed facts login p → Mirrors context number unread bytes_owed closed facts login (with_end p)
   mirrors_with_end past m = record {
-    context_is = m.context_is; number_is = m.number_is; unread_is = m.unread_is; facts_are = m.facts_are; login_is = m.login_is; fits = m.fits;
-    unsent = m.unsent; all_is = m.all_is; owed_is = m.owed_is; first = λ greets. let no : true ≡ false = sym greets ∙ past in cc;
+    context_is = m.context_is;
+    number_is = m.number_is;
+    unread_is = m.unread_is;
+    facts_are = m.facts_are;
+    login_is = m.login_is;
+    fits = m.fits;
+    unsent = m.unsent;
+    all_is = m.all_is;
+    owed_is = m.owed_is;
+    first = λ greets. let no : true ≡ false = sym greets ∙ past in cc;
   }
 
   -- bytes are received
   pub mirrors_taken : (bytes : List ℕ) → Mirrors context number unread bytes_owed closed facts login p
       → Mirrors context number (unread ++ bytes) bytes_owed closed facts login (with_bytes [] bytes p)
   mirrors_taken bytes m = record {
-    context_is = m.context_is; number_is = m.number_is; unread_is = ap (λ bs. bs ++ bytes) m.unread_is; facts_are = m.facts_are; login_is = m.login_is; fits = m.fits;
-    unsent = m.unsent; all_is = ap (λ bs. bs ++ m.unsent) (append-nil p.sent) ∙ m.all_is; owed_is = m.owed_is; first = m.first;
+    context_is = m.context_is;
+    number_is = m.number_is;
+    unread_is = ap (λ bs. bs ++ bytes) m.unread_is;
+    facts_are = m.facts_are;
+    login_is = m.login_is;
+    fits = m.fits;
+    unsent = m.unsent;
+    all_is = ap (λ bs. bs ++ m.unsent) (append-nil p.sent) ∙ m.all_is;
+    owed_is = m.owed_is;
+    first = m.first;
   }
 
   -- n bytes of those that are owed are sent
   pub mirrors_sent : (n : ℕ) → closed ≡ false → Mirrors context number unread bytes_owed closed facts login p
       → Mirrors context number unread (drop n bytes_owed) closed facts login (with_bytes (take n bytes_owed) [] p)
   mirrors_sent n alive m = record {
-    context_is = m.context_is; number_is = m.number_is; unread_is = m.unread_is ∙ sym (append-nil p.unread); facts_are = m.facts_are; login_is = m.login_is; fits = m.fits;
+    context_is = m.context_is;
+    number_is = m.number_is;
+    unread_is = m.unread_is ∙ sym (append-nil p.unread);
+    facts_are = m.facts_are;
+    login_is = m.login_is;
+    fits = m.fits;
     unsent = drop n bytes_owed;
     all_is = append_assoc p.sent (take n bytes_owed) (drop n bytes_owed) ∙ ap (λ bs. p.sent ++ bs) (take-append-drop n bytes_owed ∙ m.owed_is alive) ∙ m.all_is;
-    owed_is = λ _. refl; first = m.first;
+    owed_is = λ _. refl;
+    first = m.first;
   }
 
   -- what is owed of the reading is what the session owes

@@ -152,7 +152,7 @@ module _ (s : Seen) (call : Call) (p : Place) (m : Mirrors s.context s.number s.
   reads_it part parts k e =
       ap (with_front s.login part parts p) (front_here s.context s.number s.unread s.owed s.closed s.facts s.login p m ∙ at)
       ∙ ap (λ x. after_payload s.login part parts p (with_talk p (grow x p.talk payload) rest) payload x)
-           (kind_here s.context s.number s.unread s.owed s.closed s.facts s.login p payload m ∙ e)
+      (kind_here s.context s.number s.unread s.owed s.closed s.facts s.login p payload m ∙ e)
 
   -- the session goes on with this task
   goes_to : (t : Task) (k : Kind) → kind_there s.context payload ≡ k → is_bad k ≡ false → kind_in t ≡ kind_in s.task → fault_in t ≡ None
@@ -249,7 +249,7 @@ module _ (s : Seen) (call : Call) (p : Place) (m : Mirrors s.context s.number s.
         → (b : Bool) → is_connecting s.task ≡ b → is_connect (call_kind call) ≡ b
         → (k : Kind) → kind_there s.context payload ≡ k
         → MoveReads s call (All ∷ parts) p (cond (is_breaking (react_whole t k)) (failed_by s (invalid_data s.facts.place))
-            (unless_above s (above s.context.terms.limit (reply_to s.login k payload)) (reacted s (following k) payload (react_whole t k))))
+        (unless_above s (above s.context.terms.limit (reply_to s.login k payload)) (reacted s (following k) payload (react_whole t k))))
     whole_reads t left same sound past stands b on c (kinds.Greets n) e = absurd (no_greeting (All ∷ parts) n past e)
     whole_reads t left same sound past stands b on c (kinds.Good status) e = all_goes t (kinds.Good status) left e refl refl same sound (stands _) (all_is (kinds.Good status) e)
     whole_reads t left same sound past stands b on c kinds.Failed e = errs (All ∷ parts) (err_at (is_greeting s.context.spot) payload) refl e b on c (all_is kinds.Failed e)
@@ -278,7 +278,7 @@ module _ (s : Seen) (call : Call) (p : Place) (m : Mirrors s.context s.number s.
       let rows : s.context.spot ≡ spots.Rows = row_spot s.context.spot (knows kinds.Row e) in
       let there : (context_of p.talk).spot ≡ spots.Rows = ap (λ (c : Context). c.spot) (sym m.context_is) ∙ rows in
       let same : s.context.columns ≡ length s.facts.columns =
-          ap (λ (c : Context). c.columns) m.context_is ∙ told_columns p.talk (facts_of s.login p.older) m.fits there ∙ ap (λ (f : Facts). length f.columns) (sym m.facts_are) in
+      ap (λ (c : Context). c.columns) m.context_is ∙ told_columns p.talk (facts_of s.login p.older) m.fits there ∙ ap (λ (f : Facts). length f.columns) (sym m.facts_are) in
       row_reads s.facts.columns (deprecates_eof s.context.terms.kept) s.context.columns payload same
       (ap (λ (x : Spot). kind_there (record { spot = x; columns = s.context.columns; terms = s.context.terms }) payload) (sym rows) ∙ e)
 
@@ -313,8 +313,8 @@ module _ (s : Seen) (call : Call) (p : Place) (m : Mirrors s.context s.number s.
         → MoveReads s call (own_parts s.login Connect) p (move_at (tasks.Own Connect) (kinds.Greets n))
     greets n e b is = by_length b is
         (reading ∙ reads_it All setting_up (kinds.Greets n) e
-         ∙ ap (λ l. cond (nat_lt l (length (response s.login payload))) (failure p (codec_error (TooLarge (length (response s.login payload)) l))) (Goes (All ∷ setting_up) (new (kinds.Greets n))))
-              (sym (limit_is p.talk) ∙ ap (λ (c : Context). c.terms.limit) (sym m.context_is)))
+        ∙ ap (λ l. cond (nat_lt l (length (response s.login payload))) (failure p (codec_error (TooLarge (length (response s.login payload)) l))) (Goes (All ∷ setting_up) (new (kinds.Greets n))))
+        (sym (limit_is p.talk) ∙ ap (λ (c : Context). c.terms.limit) (sym m.context_is)))
       where
         by_length : (b : Bool) → nat_lt s.context.terms.limit (length (response s.login payload)) ≡ b
             → step s.login call (own_parts s.login Connect) p ≡ cond (nat_lt s.context.terms.limit (length (response s.login payload))) (failure p (codec_error (TooLarge (length (response s.login payload)) s.context.terms.limit))) (Goes (All ∷ setting_up) (new (kinds.Greets n)))
@@ -360,10 +360,10 @@ module _ (s : Seen) (call : Call) (p : Place) (m : Mirrors s.context s.number s.
         let owed_none = none_owed k refl in
         let n = following k in
         let over : is_over (grow k p.talk payload) ≡ true =
-            ap (λ (c : Context). is_idle c.spot) (sym w.context_is) ∙ ap (λ (x : Spot). is_idle (spot_after (deprecates_eof s.context.terms.kept) x k)) single in
+        ap (λ (c : Context). is_idle c.spot) (sym w.context_is) ∙ ap (λ (x : Spot). is_idle (spot_after (deprecates_eof s.context.terms.kept) x k)) single in
         let second : step s.login call (All ∷ []) (new k) ≡ Goes [] (new k) =
-            step_here n.context n.number rest n.owed s.closed n.facts s.login (new k) call (All ∷ []) alive w owed_none
-            ∙ ap (λ b. cond b (Goes [] (new k)) (reads s.login All [] (new k))) over in
+        step_here n.context n.number rest n.owed s.closed n.facts s.login (new k) call (All ∷ []) alive w owed_none
+        ∙ ap (λ b. cond b (Goes [] (new k)) (reads s.login All [] (new k))) over in
         let third : step s.login call [] (new k) ≡ return (new k) ToldReady = step_here n.context n.number rest n.owed s.closed n.facts s.login (new k) call [] alive w owed_none in
         record {
           rest = [];
@@ -396,7 +396,7 @@ module _ (s : Seen) (call : Call) (p : Place) (m : Mirrors s.context s.number s.
         let n = following k in
         let w = mirrors_with_end n.context n.number rest n.owed s.closed n.facts s.login (new k) (not_greeting s.context.spot (deprecates_eof s.context.terms.kept) k) (mirrors_new k e refl) in
         let last : step s.login call [] (with_end (new k)) ≡ return (with_end (new k)) ToldReady =
-            step_here n.context n.number rest n.owed s.closed n.facts s.login (with_end (new k)) call [] alive w (none_owed k refl) in
+        step_here n.context n.number rest n.owed s.closed n.facts s.login (with_end (new k)) call [] alive w (none_owed k refl) in
         record {
           rest = [];
           place = with_end (new k);
@@ -469,5 +469,5 @@ module _ (s : Seen) (call : Call) (p : Place) (m : Mirrors s.context s.number s.
       → is_greeting s.context.spot ≡ false → ((k : Kind) → TaskStandsAt t (spot_by k) (connects_in (exchanges p))) → (b : Bool) → is_connecting s.task ≡ b → is_connect (call_kind call) ≡ b
       → (k : Kind) → kind_there s.context payload ≡ k
       → MoveReads s call (All ∷ parts) p (cond (is_breaking (react_whole t k)) (failed_by s (invalid_data s.facts.place))
-          (unless_above s (above s.context.terms.limit (reply_to s.login k payload)) (reacted s (following k) payload (react_whole t k))))
+      (unless_above s (above s.context.terms.limit (reply_to s.login k payload)) (reacted s (following k) payload (react_whole t k))))
   whole_reads_all parts reading = whole_reads parts reading

@@ -120,8 +120,8 @@ module _ (s : Seen) (call : Call) (p : Place) (o : OpenAt s call (parts_left s.l
   -- what the machine makes of the payload in front is what the reading makes of it, where it is so for whole payloads
   module _ (part : Part) (parts : List Part) (t : Task) (task : s.task ≡ t) (it : step s.login call (part ∷ parts) p ≡ reads s.login part parts p)
       (each : (payload rest : List ℕ) (next : ℕ) → front_at s.number s.context.terms.limit s.unread ≡ Whole payload rest next → IsWhole s.number s.context.terms.limit s.unread payload rest next
-        → (k : Kind) → kind_there s.context payload ≡ k → MoveReads s call (part ∷ parts) p (cond (is_breaking (react t k)) (failed_by s (invalid_data s.facts.place))
-            (unless_above s (above s.context.terms.limit (reply_to s.login k payload)) (reacted s (advanced s k payload rest next) payload (react t k)))))
+      → (k : Kind) → kind_there s.context payload ≡ k → MoveReads s call (part ∷ parts) p (cond (is_breaking (react t k)) (failed_by s (invalid_data s.facts.place))
+      (unless_above s (above s.context.terms.limit (reply_to s.login k payload)) (reacted s (advanced s k payload rest next) payload (react t k)))))
       (left : part ∷ parts ≡ parts_left s.login s.task) where
     at_front : (f : Front) → front_at s.number s.context.terms.limit s.unread ≡ f → step s.login call (part ∷ parts) p ≡ with_front s.login part parts p f
     at_front f e = it ∙ ap (with_front s.login part parts p) (front_here s.context s.number s.unread s.owed s.closed s.facts s.login p m ∙ e)
@@ -158,7 +158,7 @@ module _ (s : Seen) (call : Call) (p : Place) (o : OpenAt s call (parts_left s.l
     by_front (Whole payload rest next) e =
         let whole = whole_stands s.number s.context.terms.limit s.unread payload rest next bytes e in
         subst (λ (u : Task). MoveReads s call (part ∷ parts) p (cond (is_breaking (react u (kind_there s.context payload))) (failed_by s (invalid_data s.facts.place))
-            (unless_above s (above s.context.terms.limit (reply_to s.login (kind_there s.context payload) payload)) (reacted s (advanced s (kind_there s.context payload) payload rest next) payload (react u (kind_there s.context payload))))))
+        (unless_above s (above s.context.terms.limit (reply_to s.login (kind_there s.context payload) payload)) (reacted s (advanced s (kind_there s.context payload) payload rest next) payload (react u (kind_there s.context payload))))))
         (sym task) (each payload rest next e whole (kind_there s.context payload) refl)
 
     reads_front : MoveReads s call (part ∷ parts) p (planned s plans.Reads)
@@ -227,8 +227,8 @@ module _ (s : Seen) (call : Call) (p : Place) (o : OpenAt s call (parts_left s.l
     cleans_on : is_idle s.context.spot ≡ false → MoveReads s call (All ∷ parts) p (planned s plans.Reads)
     cleans_on on = reads_front All parts t task (all_here parts none_left on)
         (λ payload rest next e whole k kind. subst (λ r. MoveReads s call (All ∷ parts) p (cond (is_breaking r) (failed_by s (invalid_data s.facts.place))
-              (unless_above s (above s.context.terms.limit (reply_to s.login k payload)) (reacted s (advanced s k payload rest next) payload r)))) (sym (same_react k))
-            (whole_reads_all s call p m o.alive nothing o.call_is payload rest next e whole parts (all_here parts none_left on) t left (ap kind_in (sym task)) sound past stays b connecting connect k kind))
+        (unless_above s (above s.context.terms.limit (reply_to s.login k payload)) (reacted s (advanced s k payload rest next) payload r)))) (sym (same_react k))
+        (whole_reads_all s call p m o.alive nothing o.call_is payload rest next e whole parts (all_here parts none_left on) t left (ap kind_in (sym task)) sound past stays b connecting connect k kind))
         (left ∙ ap (parts_left s.login) (sym task))
 
     cleans_over : (u : Bool) → s.untold ≡ u → is_idle s.context.spot ≡ true → MoveReads s call (All ∷ parts) p (planned s (cond u plans.Hears plan))

@@ -6,8 +6,8 @@ ghost use Rattle.my_session.specs.Machine.{above};
 
 use super::Session;
 use crate::answer::Tick;
-use crate::task::Task;
 use crate::tables::{Reaction, is_breaking, is_connecting, react_to};
+use crate::task::Task;
 use my_frame::{
     Blob, CodecError, CodecFault, FramedPayload, NoMemory, ReadError, Span, Text, payload_in_front,
 };

@@ -5,8 +5,8 @@ ghost use Rattle.my_session.specs.Tasks.{fault_in};
 
 use super::Session;
 use crate::answer::{SessionStep, Tick};
-use crate::task::{LinkFault, Task};
 use crate::tables::{Plan, plan_for};
+use crate::task::{LinkFault, Task};
 use my_frame::CodecFault;
 use my_reading::{Answer, DriverError, Error, IoError, IoFault, IoKind};
 use std::alloc::Global;
