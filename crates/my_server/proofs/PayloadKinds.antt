@@ -20,7 +20,7 @@ use Rattle.my_reply.specs.Sent.{IsSentColumn, IsSentCount, IsSentEndOk, IsSentEr
 use Rattle.my_reply.specs.Server.{cell_bytes, server_bytes}
 use Rattle.my_value.specs.TextRow.{text_row_at}
 use Rattle.my_value.specs.WrittenRow.{TextsFit, sent_value}
-use Rattle.my_value.proofs.WrittenRowLaws.{text_row_read_back}
+use Rattle.my_value.proofs.Rows.WrittenRows.{text_row_read_back}
 use Rattle.my_grammar.specs.declared.spot.Kind.TheVariants as kinds
 use Rattle.my_grammar.specs.Kinds.{cells_kind, column_kind, count_kind, ended_kind, failed_kind, good_kind, head_kind, or_else, row_kind, single_kind, described_kind}
 use Rattle.my_server.specs.Answer.{column_of, column_payload, ok_of, row_payload}
