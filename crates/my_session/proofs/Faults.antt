@@ -42,7 +42,7 @@ use Rattle.my_reading.specs.declared.answer.Answer.TheVariants as answers
 use Rattle.my_session.specs.declared.answer.Tick.TheVariants as ticks
 use Rattle.my_reading.specs.Calls.{call_of, asks}
 use Rattle.my_session.specs.Tasks.{kind_in, fault_in, is_open}
-use Rattle.my_session.specs.Causes.{Stops, Cause, Because, NothingLeft, AnswerCause, EachFault, place_in}
+use Rattle.my_session.specs.Causes.{Stops, Cause, SessionBecause, NothingLeft, AnswerCause, EachFault, place_in}
 use Rattle.my_reading.specs.Commands.{opening, command_of, connecting, command_in}
 use Rattle.my_session.specs.Entries.{Entry, facts_of, terms_by, connecting_in}
 use Rattle.my_reading.specs.Errors.{invalid_data, unexpected_eof}
@@ -82,7 +82,7 @@ module _ (s : Seen) (h : History) (st : Stands s h) (op : is_open s.task ≡ tru
   ToldBy (ToldRow row) = Unit {0}
   ToldBy ToldEnd = Unit {0}
   ToldBy ToldNone = AllRead
-  ToldBy (ToldError e) = Cause s h st.newest st.older e
+  ToldBy (ToldError e) = Cause s.login (fault_in s.task) s.unread h st.newest st.older e
   ToldBy (Dropped closing) = Unit {0}
 
   abbrev pub TellsBy : Doing → Type 0
@@ -124,14 +124,14 @@ module _ (s : Seen) (h : History) (st : Stands s h) (op : is_open s.task ≡ tru
         rest_is = rest_found st.newest st.older h.taken s.unread st.wire.taken_is st.wire.done st.wire.fits ∙ ap (λ (c : Cut). c.rest) here;
       }
 
-  link : (fault : LinkFault) → fault_in s.task ≡ Some fault → Cause s h st.newest st.older (link_error fault s.facts.place)
+  link : (fault : LinkFault) → fault_in s.task ≡ Some fault → Cause s.login (fault_in s.task) s.unread h st.newest st.older (link_error fault s.facts.place)
   link faults.Link e = (place, e)
   link faults.TooLong e = e
   link faults.NoMemory e = tt
 
   -- the payload in front
   module _ (waits : is_idle s.context.spot ≡ false) (p rest : List ℕ) (next : ℕ) (at : front_at s.number s.context.terms.limit s.unread ≡ Whole p rest next) where
-    unfit : is_bad (kind_there s.context p) ≡ true → Cause s h st.newest st.older (invalid_data s.facts.place)
+    unfit : is_bad (kind_there s.context p) ≡ true → Cause s.login (fault_in s.task) s.unread h st.newest st.older (invalid_data s.facts.place)
     unfit bad = (place, record { payload = p; stops = stops (Whole p rest next) at (ap is_bad (kind_here p) ∙ bad) waits })
 
     refused_told : (n : Seen) (x : Option ErrPacket) → kind_there s.context p ≡ kinds.Failed → err_at (is_greeting s.context.spot) p ≡ x → Explained (refused s n x)
@@ -377,24 +377,24 @@ module _ (s : Seen) (h : History) (st : Stands s h) (op : is_open s.task ≡ tru
   told_as : (t : Told) → (next s).does ≡ Tells t → ToldBy t
   told_as t is = subst (λ (d : Doing). TellsBy d) is next_told
 
-  pub because : (e : Error) → (next s).does ≡ Tells (ToldError e) → Because s h e
+  pub because : (e : Error) → (next s).does ≡ Tells (ToldError e) → SessionBecause s h e
   unfolding each_history
-  because e is = record { says = each_history s h st; cause = told_as (ToldError e) is }
+  because e is = record { law = (each_history s h st).law; cause = told_as (ToldError e) is }
 
   pub nothing_left : (next s).does ≡ Tells ToldNone → NothingLeft s h
   unfolding each_history
   nothing_left is = let all = told_as ToldNone is in record { says = each_history s h st; stops = all.0; told = all.1 }
 
-  did_because : (e : Error) (new : Seen) → Did (next s) new (ticks.Fault e) → Because s h e
+  did_because : (e : Error) (new : Seen) → Did (next s) new (ticks.Fault e) → SessionBecause s h e
   did_because e new d = because e d.does
 
   -- the code's error, or out of memory
-  pub fault_because : (e : Error) (new : Seen) → FaultIs (next s) s new e → Because s h e
+  pub fault_because : (e : Error) (new : Seen) → FaultIs (next s) s new e → SessionBecause s h e
   unfolding each_history
   fault_because (errors.Driver e) new d = did_because (errors.Driver e) new d
   fault_because (errors.Io e) new d = did_because (errors.Io e) new d
   fault_because (errors.Server e) new d = did_because (errors.Server e) new d
-  fault_because errors.NoMemory new d = record { says = each_history s h st; cause = tt }
+  fault_because errors.NoMemory new d = record { law = (each_history s h st).law; cause = tt }
 
   pub answer_cause : (a : Answer) (new : Seen) → Did (next s) new (ticks.Done a) → AnswerCause s h a
   answer_cause answers.Ready new d = tt

@@ -8,7 +8,8 @@ use Rattle.my_grammar.specs.declared.spot.Kind.{Kind}
 use Rattle.my_grammar.specs.declared.spot.Spot.{Spot}
 use Rattle.my_grammar.specs.Contexts.{is_bad}
 use Rattle.my_grammar.specs.Growth.{grow}
-use Rattle.my_grammar.specs.Talk.{Talk}
+use Rattle.my_grammar.specs.declared.spot.Context.{Context}
+use Rattle.my_grammar.specs.Talk.{Talk, context_of}
 use Rattle.my_grammar.specs.Cut.{Read, front_of, kind_of, read_front, read_within, read_from, cut}
 use Rattle.my_reading.specs.declared.error.ServerError.{ServerError}
 use Rattle.my_reading.specs.declared.call.Call.{Call}
@@ -103,25 +104,31 @@ each_history s h st =
     let left = unheard e es s.unread in
     let read : AreGiven (in_order (shares (e ∷ es))) (cut (in_order (origins (e ∷ es))) h.taken).talks = subst (AreGiven (in_order (shares (e ∷ es)))) (sym all) (push (in_order (shares es)) (in_order (talks es)) e.given now (given_in_order es st.heard.each.1) (later e.given e.talk s.unread st.heard.each.0)) in
     record {
-      newest = e;
-      older = es;
-      table = st.wire.table;
-      calls = subst (λ (c : Option Call). AreOf c h.calls (begun_of s.context.spot e.call es)) (sym st.heard.pending_is) (calls_are s.task s.text s.context.spot h.calls e.call es st.heard.tie);
-      arranged = st.arranged;
-      taken = st.wire.taken_is;
-      done = st.wire.done;
-      fits = st.wire.fits;
-      gone = st.wire.gone;
-      rest = st.wire.cut;
-      sent = st.wire.sent_is;
-      all = st.wire.all_is;
-      whole = λ none alive. sym (st.wire.owed_is alive) ∙ st.settled (rests_owe s.task s.text (sym st.heard.pending_is ∙ none));
-      answered = st.wire.answered;
-      given_is = st.heard.given_is;
-      read = read;
-      fronts = given_fronts _ _ read;
-      unheard = left.new;
-      errors = ap (λ (ts : List Talk). errors_along ts) all ∙ left.errors ∙ ap (λ (xs : List ServerError). in_order xs ++ at_most_one left.new) (sym st.heard.errors);
+      law = record {
+        newest = e;
+        older = es;
+        table = st.wire.table;
+        calls = subst (λ (c : Option Call). AreOf c h.calls (begun_of (context_of e.talk).spot e.call es)) (sym st.heard.pending_is)
+            (subst (λ (c : Context). AreOf (call_with (kind_in s.task) s.text) h.calls (begun_of c.spot e.call es)) st.wire.context_is
+            (calls_are s.task s.text s.context.spot h.calls e.call es st.heard.tie));
+        arranged = st.arranged;
+        unread = s.unread;
+        taken = st.wire.taken_is;
+        done = st.wire.done;
+        fits = st.wire.fits;
+        gone = st.wire.gone;
+        rest = st.wire.cut;
+        sent = st.wire.sent_is;
+        all = st.wire.all_is;
+        whole = λ none alive. sym (st.wire.owed_is (st.heard.closed_is ∙ alive)) ∙ st.settled (rests_owe s.task s.text (sym st.heard.pending_is ∙ none));
+        answered = st.wire.answered;
+        given_is = st.heard.given_is;
+        read = read;
+        fronts = given_fronts _ _ read;
+        unheard = left.new;
+        errors = ap (λ (ts : List Talk). errors_along ts) all ∙ left.errors ∙ ap (λ (xs : List ServerError). in_order xs ++ at_most_one left.new) (sym st.heard.errors);
+      };
+      unread = refl;
       facts = st.wire.facts_are;
       closed_is = st.heard.closed_is;
     }

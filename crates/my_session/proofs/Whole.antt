@@ -10,6 +10,7 @@ use Rattle.my_grammar.specs.CutLaws.{RestStays, RestGoesOn}
 use Rattle.my_grammar.specs.Growth.{grow}
 use Rattle.my_grammar.specs.Talk.{Talk, context_of}
 use Rattle.my_grammar.proofs.Staying.{cut_stays, cut_goes_on}
+use Rattle.my_grammar.specs.declared.login.Login.{Login}
 use Rattle.my_reading.specs.declared.error.Error.{Error}
 use Rattle.my_reading.specs.declared.error.Error.TheVariants as errors
 use Rattle.my_reading.specs.declared.error.IoError.{IoError}
@@ -24,7 +25,7 @@ use Rattle.my_reading.specs.Errors.{server_error}
 use Rattle.my_session.specs.History.{History}
 use Rattle.my_session.specs.Law.{in_order, talks, origins, errors_along}
 use Rattle.my_session.specs.Machine.{is_greeting}
-use Rattle.my_session.specs.Seen.{Seen}
+use Rattle.my_session.specs.declared.task.LinkFault.{LinkFault}
 use Rattle.my_session.specs.ServerErrors.{error_onto, errors_in}
 use Rattle.my_session.proofs.Stands.Blames.{failed_blames}
 
@@ -64,8 +65,8 @@ module _ (es : List Entry) (own : List Talk) (taken more : List ℕ) (w : AreWho
       let last : cut (in_order (origins es) ++ own) (taken ++ more) ≡ record { talks = (found es taken).talks ++ (cut own (bytes ++ more)).talks; rest = (cut own (bytes ++ more)).rest } = subst (λ (c : Cut). RestGoesOn own c.talks c.rest (cut (in_order (origins es) ++ own) (taken ++ more))) stays (cut_goes_on (in_order (origins es)) own (taken ++ more)) in
       sym (along_more (found es taken).talks (cut own (bytes ++ more)).talks) ∙ ap length (sym (ap (λ (c : Cut). errors_along c.talks) last) ∙ w.no_error)
 
-module _ (s : Seen) (h : History) (newest : Entry) (older : List Entry) (own : List Talk) (more : List ℕ) (w : AreWhole (newest ∷ older) own (h.taken ++ more)) where
-  refused_never : (e : ServerError) → IsRefused s h newest older e → ⊥
+module _ (login : Login) (made : Option LinkFault) (unread : List ℕ) (h : History) (newest : Entry) (older : List Entry) (own : List Talk) (more : List ℕ) (w : AreWhole (newest ∷ older) own (h.taken ++ more)) where
+  refused_never : (e : ServerError) → IsRefused unread h newest older e → ⊥
   refused_never e r =
       let all = after_stays (newest ∷ older) own h.taken more w r.rest (r.rest_is) in
       let before = in_order (talks older) in
@@ -75,22 +76,22 @@ module _ (s : Seen) (h : History) (newest : Entry) (older : List Entry) (own : L
       let c = one_error newest.talk r.payload r.packet r.kind r.reads in
       absurd (omega (arith, all, a, b, c))
 
-  kind_outside : (kind : IoKind) → IoCause s h (newest ∷ older) kind → OutsideKind s h kind
+  kind_outside : (kind : IoKind) → IoCause made unread h (newest ∷ older) kind → OutsideKind made h kind
   kind_outside Link c = c
   kind_outside Dial c = c
   kind_outside UnexpectedEof c = c.0
-  kind_outside InvalidData c = unfit_never (newest ∷ older) own h.taken more w c.payload s.unread c.stops.rest_is
+  kind_outside InvalidData c = unfit_never (newest ∷ older) own h.taken more w c.payload unread c.stops.rest_is
 
-  io_outside : (e : IoError) → IoErrorCause s h newest older e → OutsideIo s h newest older e
+  io_outside : (e : IoError) → IoErrorCause login made unread h newest older e → OutsideIo login made unread h newest older e
   io_outside (ios.Io fault) c = kind_outside fault.kind c.1
-  io_outside (ios.Codec fault) (inl c) = absurd (blamed_never (newest ∷ older) own h.taken more w fault s.unread c.rest_is)
+  io_outside (ios.Codec fault) (inl c) = absurd (blamed_never (newest ∷ older) own h.taken more w fault unread c.rest_is)
   io_outside (ios.Codec fault) (inr c) = c
 
-  pub is_outside : (e : Error) → Cause s h newest older e → IsOutside s h newest older e
+  pub is_outside : (e : Error) → Cause login made unread h newest older e → IsOutside login made unread h newest older e
   is_outside (errors.Driver e) c = c
   is_outside (errors.Io e) c = io_outside e c
   is_outside (errors.Server e) c = refused_never e c
   is_outside errors.NoMemory c = tt
 
 pub each_whole_call : EachWholeCall
-each_whole_call s h e b own more w = is_outside s h b.says.newest b.says.older own more w e b.cause
+each_whole_call login made h e b own more w = is_outside login made b.law.unread h b.law.newest b.law.older own more w e b.cause

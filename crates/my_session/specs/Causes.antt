@@ -1,6 +1,6 @@
 -- Why a call returned an error, in the words of what the grammar finds in the bytes taken.
 -- MySQL client/server protocol, "MySQL Packets" (sequence ids and lengths of packets) and "ERR_Packet".
-use Rattle.std.specs.Prelude.{◌≡◌, ℕ, ◌-◌, ◌^◌, ◌<◌, min, List, [], ◌∷◌, ◌++◌, ◌⊎◌, length, Some, true, false}
+use Rattle.std.specs.Prelude.{◌≡◌, ℕ, ◌-◌, ◌^◌, ◌<◌, min, List, [], ◌∷◌, ◌++◌, ◌⊎◌, length, Option, Some, true, false}
 use Rattle.my_flags.specs.declared.flags.CapabilityFlags.{CapabilityFlags}
 use Rattle.my_frame.specs.declared.fault.CodecFault.{CodecFault}
 use Rattle.my_frame.specs.declared.fault.CodecFault.TheVariants.{TooLarge}
@@ -8,11 +8,13 @@ use Rattle.my_reply.specs.declared.err.ErrPacket.{ErrPacket}
 use Rattle.my_reply.specs.ErrPacket.{err_at}
 use Rattle.my_frame.specs.Front.{Whole}
 use Rattle.my_grammar.specs.declared.spot.Kind.TheVariants.{Greets, Failed}
+use Rattle.my_grammar.specs.declared.login.Login.{Login}
 use Rattle.my_grammar.specs.Cut.{Cut, Rest, Trailing, Unfinished, Unfit, Blamed, cut, place_of, front_of, kind_of}
 use Rattle.my_grammar.specs.Growth.{grow}
 use Rattle.my_grammar.specs.Response.{response}
 use Rattle.my_grammar.specs.Talk.{Talk, context_of, limit_of}
 use Rattle.my_reading.specs.declared.call.Call.{Call}
+use Rattle.my_session.specs.declared.task.LinkFault.{LinkFault}
 use Rattle.my_session.specs.declared.task.LinkFault.TheVariants as faults
 use Rattle.my_reading.specs.declared.error.Error.{Error}
 use Rattle.my_reading.specs.declared.error.Error.TheVariants as errors
@@ -33,7 +35,7 @@ use Rattle.my_session.specs.Entries.{Entry, terms_by, connecting_in}
 use Rattle.my_reading.specs.Errors.{server_error}
 use Rattle.my_reading.specs.Told.{ToldError}
 use Rattle.my_session.specs.History.{History}
-use Rattle.my_session.specs.Law.{Says, in_order, talks, origins}
+use Rattle.my_session.specs.Law.{IsLawful, Says, in_order, talks, origins}
 use Rattle.my_session.specs.Machine.{Tells, is_greeting, next}
 use Rattle.my_session.specs.Seen.{Seen}
 use Rattle.my_session.specs.Stands.{Stands}
@@ -58,32 +60,32 @@ pub record IsUnfit (es : List Entry) (taken unread : List ℕ) : Type 0 where
   pub stops : Stops es taken (Unfit payload unread)
 
 -- The next command of the open call is longer than the settings allow.
-pub record IsLongCommand (s : Seen) (h : History) (es : List Entry) (fault : CodecFault) : Type 0 where
+pub record IsLongCommand (login : Login) (h : History) (es : List Entry) (fault : CodecFault) : Type 0 where
   pub call : Call
   pub pending : h.pending ≡ Some call
   pub talk : Talk
-  pub opens : opening s.login (terms_by s.login es) call (connecting_in es) ≡ Some talk
-  pub above : (terms_by s.login es).limit < length (command_in talk)
-  pub fault_is : fault ≡ TooLarge (length (command_in talk)) (terms_by s.login es).limit
+  pub opens : opening login (terms_by login es) call (connecting_in es) ≡ Some talk
+  pub above : (terms_by login es).limit < length (command_in talk)
+  pub fault_is : fault ≡ TooLarge (length (command_in talk)) (terms_by login es).limit
 
 -- The greeting follows, and the client's response to it is longer than a payload may be.
-pub record IsLongResponse (s : Seen) (talk : Talk) (fault : CodecFault) : Type 0 where
+pub record IsLongResponse (login : Login) (unread : List ℕ) (talk : Talk) (fault : CodecFault) : Type 0 where
   pub payload : List ℕ
   pub rest : List ℕ
   pub number : ℕ
   pub capabilities : CapabilityFlags
-  pub front : front_of talk s.unread ≡ Whole payload rest number
+  pub front : front_of talk unread ≡ Whole payload rest number
   pub kind : kind_of talk payload ≡ Greets capabilities
-  pub above : limit_of talk < length (response s.login payload)
-  pub fault_is : fault ≡ TooLarge (length (response s.login payload)) (limit_of talk)
+  pub above : limit_of talk < length (response login payload)
+  pub fault_is : fault ≡ TooLarge (length (response login payload)) (limit_of talk)
 
 -- An ERR that says this follows, and the grammar finds it as the end of the newest exchange.
-pub record IsRefused (s : Seen) (h : History) (newest : Entry) (older : List Entry) (error : ServerError) : Type 0 where
+pub record IsRefused (unread : List ℕ) (h : History) (newest : Entry) (older : List Entry) (error : ServerError) : Type 0 where
   pub payload : List ℕ
   pub rest : List ℕ
   pub number : ℕ
   pub packet : ErrPacket
-  pub front : front_of newest.talk s.unread ≡ Whole payload rest number
+  pub front : front_of newest.talk unread ≡ Whole payload rest number
   pub kind : kind_of newest.talk payload ≡ Failed
   pub reads : err_at (is_greeting (context_of newest.talk).spot) payload ≡ Some packet
   pub error_is : error ≡ server_error packet
@@ -91,44 +93,50 @@ pub record IsRefused (s : Seen) (h : History) (newest : Entry) (older : List Ent
   pub rest_is : (found (newest ∷ older) h.taken).rest ≡ Trailing rest
 
 -- The call was made to fail; the link reported its end, while a payload was awaited that isn't whole; a payload fits no case. No other.
-abbrev pub IoCause : Seen → History → List Entry → IoKind → Type 0
-IoCause s h es Link = fault_in s.task ≡ Some faults.Link
-IoCause s h es Dial = ⊥
-IoCause s h es UnexpectedEof = (h.ended ≡ true) × Stops es h.taken (Unfinished s.unread)
-IoCause s h es InvalidData = IsUnfit es h.taken s.unread
+abbrev pub IoCause : Option LinkFault → List ℕ → History → List Entry → IoKind → Type 0
+IoCause made unread h es Link = made ≡ Some faults.Link
+IoCause made unread h es Dial = ⊥
+IoCause made unread h es UnexpectedEof = (h.ended ≡ true) × Stops es h.taken (Unfinished unread)
+IoCause made unread h es InvalidData = IsUnfit es h.taken unread
 
 -- The first faulty header has this fault; or what the client was to send is too long.
-abbrev pub CodecCause : Seen → History → Entry → List Entry → CodecFault → Type 0
-CodecCause s h newest older fault = Stops (newest ∷ older) h.taken (Blamed fault s.unread) ⊎ (IsLongCommand s h (newest ∷ older) fault ⊎ IsLongResponse s newest.talk fault)
+abbrev pub CodecCause : Login → List ℕ → History → Entry → List Entry → CodecFault → Type 0
+CodecCause login unread h newest older fault = Stops (newest ∷ older) h.taken (Blamed fault unread)
+    ⊎ (IsLongCommand login h (newest ∷ older) fault ⊎ IsLongResponse login unread newest.talk fault)
 
 -- A closed session refuses as a call begins, and in no step.
-abbrev pub DriverCause : Seen → DriverError → Type 0
-DriverCause s drivers.TooLong = fault_in s.task ≡ Some faults.TooLong
-DriverCause s e = ⊥
+abbrev pub DriverCause : Option LinkFault → DriverError → Type 0
+DriverCause made drivers.TooLong = made ≡ Some faults.TooLong
+DriverCause made e = ⊥
 
-abbrev pub IoErrorCause : Seen → History → Entry → List Entry → IoError → Type 0
-IoErrorCause s h newest older (ios.Io fault) = (fault.place ≡ place_in (newest ∷ older)) × IoCause s h (newest ∷ older) fault.kind
-IoErrorCause s h newest older (ios.Codec fault) = CodecCause s h newest older fault
+abbrev pub IoErrorCause : Login → Option LinkFault → List ℕ → History → Entry → List Entry → IoError → Type 0
+IoErrorCause login made unread h newest older (ios.Io fault) = (fault.place ≡ place_in (newest ∷ older))
+    × IoCause made unread h (newest ∷ older) fault.kind
+IoErrorCause login made unread h newest older (ios.Codec fault) = CodecCause login unread h newest older fault
 
--- why the open call returns this error; out of memory is free
-abbrev pub Cause : Seen → History → Entry → List Entry → Error → Type 0
-Cause s h newest older (errors.Driver e) = DriverCause s e
-Cause s h newest older (errors.Io e) = IoErrorCause s h newest older e
-Cause s h newest older (errors.Server e) = IsRefused s h newest older e
-Cause s h newest older errors.NoMemory = Unit {0}
+-- Why the open call returns this error, where it was made to fail so, or wasn't, and these bytes weren't read; out of memory is free.
+abbrev pub Cause : Login → Option LinkFault → List ℕ → History → Entry → List Entry → Error → Type 0
+Cause login made unread h newest older (errors.Driver e) = DriverCause made e
+Cause login made unread h newest older (errors.Io e) = IoErrorCause login made unread h newest older e
+Cause login made unread h newest older (errors.Server e) = IsRefused unread h newest older e
+Cause login made unread h newest older errors.NoMemory = Unit {0}
 
 -- The cause, over the exchanges that the history's law speaks of.
-pub record Because (s : Seen) (h : History) (e : Error) : Type 0 where
-  pub says : Says s h
-  pub cause : Cause s h says.newest says.older e
+pub record Because (login : Login) (made : Option LinkFault) (h : History) (e : Error) : Type 0 where
+  pub law : IsLawful login h
+  pub cause : Cause login made law.unread h law.newest law.older e
+
+-- so it is of a session's open call
+abbrev pub SessionBecause : Seen → History → Error → Type 0
+SessionBecause s h e = Because s.login (fault_in s.task) h e
 
 abbrev pub EachFault : Type 0
-EachFault = (s : Seen) (h : History) → Stands s h → is_open s.task ≡ true → (e : Error) → (next s).does ≡ Tells (ToldError e) → Because s h e
+EachFault = (s : Seen) (h : History) → Stands s h → is_open s.task ≡ true → (e : Error) → (next s).does ≡ Tells (ToldError e) → SessionBecause s h e
 
 -- The answer that nothing is left: all that the grammar finds was read, its newest exchange is over, and no end is left to be returned.
 pub record NothingLeft (s : Seen) (h : History) : Type 0 where
   pub says : Says s h
-  pub stops : Stops (says.newest ∷ says.older) h.taken (Trailing s.unread)
+  pub stops : Stops (says.law.newest ∷ says.law.older) h.taken (Trailing s.unread)
   pub told : s.untold ≡ false
 
 abbrev pub AnswerCause : Seen → History → Answer → Type 0
@@ -139,7 +147,7 @@ abbrev pub EndCause : Seen → History → SessionStep → Type 0
 EndCause s h steps.Send = Unit {0}
 EndCause s h steps.Need = Unit {0}
 EndCause s h (steps.Done a) = AnswerCause s h a
-EndCause s h (steps.Fault e) = Because s h e
+EndCause s h (steps.Fault e) = SessionBecause s h e
 
 -- The session as it was when a step ended, after count moves of the same call.
 pub record HasCause (old : Seen) (h : History) (step : SessionStep) : Type 0 where

@@ -1,6 +1,7 @@
 -- What holds of each history of a session.
 use Rattle.std.specs.Prelude.{◌≡◌, ℕ, List, [], ◌∷◌, ◌++◌, ◌⊎◌, Option, Some, None, true, false}
-use Rattle.my_grammar.specs.Talk.{Talk, Fits, turns, client_bytes, origin}
+use Rattle.my_grammar.specs.declared.login.Login.{Login}
+use Rattle.my_grammar.specs.Talk.{Talk, Fits, turns, client_bytes, context_of, origin}
 use Rattle.my_grammar.specs.Cut.{cut}
 use Rattle.my_reading.specs.declared.call.Call.{Call}
 use Rattle.my_reading.specs.declared.error.ServerError.{ServerError}
@@ -55,16 +56,18 @@ OwnsOpen (Some c) made cs = OwnsFirst c cs (IsTied made)
 abbrev pub AreOf : Option Call → List Made → List Call → Type 0
 AreOf pending made cs = OwnsOpen pending made cs ⊎ IsTied made cs
 
-pub record Says (s : Seen) (h : History) : Type 0 where
+-- What was said on the connection of a client that logs in so: its exchanges, whose they are, and what callers were given of them.
+pub record IsLawful (login : Login) (h : History) : Type 0 where
   -- the exchanges that began, each by the table, and each of a call
   pub newest : Entry
   pub older : List Entry
-  pub table : Follow s.login (newest ∷ older)
-  pub calls : AreOf h.pending h.calls (begun_of s.context.spot newest.call older)
+  pub table : Follow login (newest ∷ older)
+  pub calls : AreOf h.pending h.calls (begun_of (context_of newest.talk).spot newest.call older)
   -- a connection that was made was set up by all queries that it needs, and each was answered
-  pub arranged : IsArranged s.login h.calls newest older
+  pub arranged : IsArranged login h.calls newest older
   -- what was taken is the server's part of them, each as the protocol has it and all but the newest over, and bytes that weren't read
-  pub taken : h.taken ≡ taken_by (newest ∷ older) ++ s.unread
+  pub unread : List ℕ
+  pub taken : h.taken ≡ taken_by (newest ∷ older) ++ unread
   pub done : AllDone older
   pub fits : Fits newest.talk
   -- what was sent is what the client says in them, the newest perhaps cut; at rest it is whole, and where the server answered
@@ -72,7 +75,7 @@ pub record Says (s : Seen) (h : History) : Type 0 where
   pub rest : List ℕ
   pub sent : h.sent ≡ sent_by older ++ gone
   pub all : gone ++ rest ≡ client_bytes (turns newest.talk)
-  pub whole : h.pending ≡ None → s.closed ≡ false → rest ≡ []
+  pub whole : h.pending ≡ None → is_closed h ≡ false → rest ≡ []
   pub answered : is_answered newest.talk ≡ true → rest ≡ []
   -- what callers were given is what was at some moment in the exchanges that the grammar finds in the bytes taken
   pub given_is : given h.calls ≡ givens (newest ∷ older)
@@ -82,8 +85,13 @@ pub record Says (s : Seen) (h : History) : Type 0 where
   -- callers got each ERR that the grammar finds there, once and in order, but perhaps the last
   pub unheard : Option ServerError
   pub errors : errors_along (cut (in_order (origins (newest ∷ older))) h.taken).talks ≡ in_order (errors_told h.calls) ++ at_most_one unheard
-  -- what is known of the server is what it sent in them
-  pub facts : s.facts ≡ facts_of s.login (newest ∷ older)
+
+-- So it was said on a session's connection, and the session knows it.
+pub record Says (s : Seen) (h : History) : Type 0 where
+  pub law : IsLawful s.login h
+  pub unread : s.unread ≡ law.unread
+  -- what is known of the server is what it sent in the exchanges
+  pub facts : s.facts ≡ facts_of s.login (law.newest ∷ law.older)
   -- closed exactly by a fatal error, a call that was cancelled while its answer was awaited, a quit, or bytes that were lost
   pub closed_is : s.closed ≡ is_closed h
 
