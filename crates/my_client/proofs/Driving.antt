@@ -1,5 +1,5 @@
 -- A poll, with what it came to kept.
-use Rattle.std.proofs.Common.{◌≡◌, inl, inr, Some, false, refl, sym, ap, subst}
+use Rattle.std.proofs.Common.{◌≡◌, Some, false, refl, sym, ap, subst}
 use Rattle.my_grammar.specs.declared.login.Login.{Login}
 use Rattle.my_session.specs.declared.task.Task.{Task}
 use Rattle.my_session.specs.declared.task.Task.TheVariants.{Nothing}
@@ -10,37 +10,31 @@ use Rattle.my_client.specs.declared.poll.After.{After}
 use Rattle.my_client.specs.declared.poll.After.TheVariants.{Pending, Answered, Failed}
 use Rattle.my_client.specs.declared.conn.Conn.{Conn}
 use Rattle.my_link.specs.declared.met.Met.{Met}
-use Rattle.my_client.specs.Causes.{Asks, Waiting, Pends, PollEnds}
+use Rattle.my_client.specs.Causes.{Pends, PollEnds}
 use Rattle.my_client.specs.Drives.{Drives, kept_after}
 use Rattle.my_client.specs.Kept.{Asked, Kept}
 use Rattle.my_client.specs.Reads.{IsStepped, StopsRead}
-use Rattle.my_client.specs.Poll.{Owes, Awaits, Waits, PendsAt, Causes, Polls}
+use Rattle.my_client.specs.Poll.{PendsAt, Causes, Polls}
+use Rattle.my_client.proofs.TapeRead.Stopping.{awaits_kept, owes_kept, waits_kept}
 use Rattle.my_client.specs.Conn.{kept_of, seen_by}
 use Rattle.my_link.specs.Looks.{Looks}
-use Rattle.my_client.specs.Rests.{Rests, PollRests}
+use Rattle.my_client.specs.Rests.{Rests, IsHeld, PollRests}
 
 nothing_begun : (t : Task) → t ≡ Nothing → is_begun t ≡ false
 nothing_begun t e = ap is_begun e
 
 -- what a poll of the session and the link says of the connection's tape
-asks_so : (login : Login) (t : Seen) (k : Kept) (Step : Seen → Type 0) → Rests login t k → Step t → Asks login k Step
-asks_so login t k Step w a = record { session = t; heard = w.heard; sound = w.sound; asks = a }
-
-waits_so : (login : Login) (t : Seen) (k : Kept) → Rests login t k → Waits t → Waiting login k
-waits_so login t k w (inl a) = inl (asks_so login t k Owes w a)
-waits_so login t k w (inr a) = inr (asks_so login t k Awaits w a)
-
-pends_so : (login : Login) (t : Seen) (k : Kept) (u : Met) (stop : Stop) → Rests login t k → PendsAt t u stop → Pends login k u stop
-pends_so login t k u NoStop w c = (waits_so login t k w c.0, c.1)
-pends_so login t k u ReadHold w c = asks_so login t k Awaits w c
-pends_so login t k u WriteHold w c = asks_so login t k Owes w c
-pends_so login t k u ReadFault w c = absurd c
-pends_so login t k u WriteFault w c = absurd c
-pends_so login t k u LinkEnd w c = absurd c
+pends_so : (login : Login) (t : Seen) (k : Kept) (a : Asked) (u : Met) (stop : Stop) → IsHeld login t k a → PendsAt t u stop → Pends login k u stop
+pends_so login t k a u NoStop w c = (waits_kept login t k a w.stopped w.asked.asked, c.1)
+pends_so login t k a u ReadHold w c = awaits_kept login t k a w.stopped w.asked.asked c.needs.1
+pends_so login t k a u WriteHold w c = owes_kept login t k a w.stopped w.asked.asked c.1
+pends_so login t k a u ReadFault w c = absurd c
+pends_so login t k a u WriteFault w c = absurd c
+pends_so login t k a u LinkEnd w c = absurd c
 
 poll_ends : (login : Login) (t : Seen) (k : Kept) (a : Asked) (u : Met) (stop : Stop) (after : After) → Causes t u stop after → PollRests login t k a u after → PollEnds login a k u stop after (kept_after k a after)
-poll_ends login t k a u stop Pending c w = (refl, pends_so login t k u stop w.asked.rests c)
-poll_ends login t k a u stop (Answered answer) c w = (refl, w.why, w.fits, c.1)
+poll_ends login t k a u stop Pending c w = (refl, pends_so login t k a u stop w c)
+poll_ends login t k a u stop (Answered answer) c w = (refl, w.comes, c.1)
 poll_ends login t k a u stop (Failed e) c w = (refl, w.why, w.by, c.1)
 
 poll_rests : (login : Login) (t : Seen) (k : Kept) (a : Asked) (u : Met) (stop : Stop) (after : After) → Causes t u stop after → PollRests login t k a u after → Rests login t (kept_after k a after) × IsStepped login t (kept_after k a after)

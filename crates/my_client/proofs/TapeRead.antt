@@ -1,6 +1,7 @@
 -- What a connection kept goes on being what the reading of its tape says.
 pub mod Lists
 pub mod Sessions
+pub mod Stopping
 use Rattle.std.proofs.Common.{◌≡◌, ◌≢◌, ◌⊎◌, ◌≤◌, ℕ, List, [], ◌∷◌, ◌++◌, length, take, drop, Bool, true, false, ◌||◌, ◌&&◌, not, Option, Some, None, inl, inr, refl, sym, ap, ◌∙◌, subst, arith, length-append}
 use Rattle.std.proofs.lemmas.Bool.Decides.{nat_tests}
 use Rattle.std.proofs.lemmas.List.{append-nil, append_assoc, drop-append-le, drop_all}
@@ -34,7 +35,7 @@ use Rattle.my_client.specs.declared.tape.DoneCall.{DoneCall}
 use Rattle.my_client.specs.declared.tape.Said.{Said}
 use Rattle.my_client.specs.declared.tape.Said.TheVariants as says
 use Rattle.my_client.specs.Kept.{Asked, Kept, told_by, ended_by}
-use Rattle.my_client.specs.Reads.{calls_kept, tape_kept, IsRead, span_to, spans_to, AreWithin, EndedRead, RestRead, OpenRead, QuitRead, ReadsAs, StoppedRead, StopsRead}
+use Rattle.my_client.specs.Reads.{calls_kept, tape_kept, IsRead, span_to, spans_to, AreWithin, AsksAt, EndedRead, RestRead, OpenRead, QuitRead, ReadsAs, StoppedRead, StopsRead}
 use Rattle.my_client.proofs.TapeRead.Lists.{between_end, between_none, within_more, within_end, spans_more, spans_end, one_read, with_one, read_one_more, calls_more, spans_at_rest, spans_open, open_span}
 
 -- a list begins with its front
@@ -136,21 +137,16 @@ returns_open login s t k a said o rest r l w =
     ends_open login s t k a said o w.place (Returns (told_by said)) (course_is login s k a o rest r w.place (Returns (told_by said)) l w.stops) (λ c h call e. e) w.at w.closed_is
 
 -- the link's fault, where bytes are owed or awaited
-cut_ends : (login : Login) (c : ReadCall) (stop : Stop) → (stop ≡ Owes) ⊎ (stop ≡ Awaits) → IsCut login c → Ends login c stop
-cut_ends login c Owes e i = i
-cut_ends login c Awaits e i = i
-cut_ends login c (Returns t) (inl e) i = cc
-cut_ends login c (Returns t) (inr e) i = cc
+cut_ends : (login : Login) (s : Seen) (c : ReadCall) (stop : Stop) → AsksAt s stop → IsCut login c → Ends login c stop
+cut_ends login s c Owes e i = i
+cut_ends login s c Awaits e i = i
+cut_ends login s c (Returns t) e i = absurd e
 
--- the stop, in one word
-stop_of : (login : Login) (s : Seen) (k : Kept) (a : Asked) (w : StoppedRead login s k a)
-    → (stop : Stop) × ((stop ≡ Owes) ⊎ (stop ≡ Awaits)) × (course login a.call (with_bytes (drop a.sent_from k.sent) (drop a.taken_from k.taken) w.so_far.before) ≡ halt w.so_far.place stop)
-stop_of login s k a w = by_stop w.stops
-  where
-    by_stop : (step login a.call w.so_far.parts w.so_far.place ≡ Stops w.so_far.place Owes) ⊎ (step login a.call w.so_far.parts w.so_far.place ≡ Stops w.so_far.place Awaits)
-        → (stop : Stop) × ((stop ≡ Owes) ⊎ (stop ≡ Awaits)) × (course login a.call (with_bytes (drop a.sent_from k.sent) (drop a.taken_from k.taken) w.so_far.before) ≡ halt w.so_far.place stop)
-    by_stop (inl e) = (Owes, inl refl, course_is login s k a w.so_far w.so_far.parts w.so_far.place w.so_far.place Owes (Here w.so_far.parts w.so_far.place) e)
-    by_stop (inr e) = (Awaits, inr refl, course_is login s k a w.so_far w.so_far.parts w.so_far.place w.so_far.place Awaits (Here w.so_far.parts w.so_far.place) e)
+-- what the open call comes to where it stops
+pub stopped_course : (login : Login) (s : Seen) (k : Kept) (a : Asked) (w : StoppedRead login s k a)
+    → course login a.call (with_bytes (drop a.sent_from k.sent) (drop a.taken_from k.taken) w.so_far.before) ≡ halt w.so_far.place w.stop
+stopped_course login s k a w =
+    course_is login s k a w.so_far w.so_far.parts w.so_far.place w.so_far.place w.stop (Here w.so_far.parts w.so_far.place) w.stops
 
 -- the call failed by its own, or by the link's end
 pub faults_open : (login : Login) (s t : Seen) (k : Kept) (a : Asked) (e : Error) (o : OpenRead login s k a) → s.login ≡ login → e ≢ errors.NoMemory
@@ -176,11 +172,10 @@ pub breaks_open : (login : Login) (s t : Seen) (k : Kept) (a : Asked) (e : Error
     → e ≡ io_error kinds.Link s.facts.place → s.login ≡ login → StandsAt t w.so_far.place → t.closed ≡ true
     → RestRead login t (ended_by k a (says.Failed e))
 breaks_open login s t k a e w is log at shut =
-    let stop = stop_of login s k a w in
     let place : (facts_at login w.so_far.place).place ≡ s.facts.place =
     ap (λ l. (facts_at l w.so_far.place).place) (sym log) ∙ ap (λ (f : Facts). f.place) (sym w.so_far.at.at.mirrors.facts_are) in
-    ends_open login s t k a (says.Failed e) w.so_far w.so_far.place stop.0 stop.2
-    (λ c h call ending. cut_ends login c stop.0 stop.1 (IsLinkFailure (ending ∙ ap (λ x. Some (ToldError x)) is
+    ends_open login s t k a (says.Failed e) w.so_far w.so_far.place w.stop (stopped_course login s k a w)
+    (λ c h call ending. cut_ends login s c w.stop w.asks (IsLinkFailure (ending ∙ ap (λ x. Some (ToldError x)) is
     ∙ ap (λ n. Some (ToldError (io_error kinds.Link n))) (sym (ap (λ x. (facts_at login x.place).place) h ∙ place)))))
     at (shut ∙ sym (ap (λ x. closes (ToldError x) (kind_of a.call)) is))
 
@@ -189,9 +184,8 @@ pub cancels_open : (login : Login) (s t : Seen) (k : Kept) (a : Asked) (closing 
     → closing ≡ closes_cancelled (kind_of a.call) w.so_far.place → t.closed ≡ closing → StandsAt t w.so_far.place
     → RestRead login t (ended_by k a (says.Cancelled closing))
 cancels_open login s t k a closing w is shut at =
-    let stop = stop_of login s k a w in
-    ends_open login s t k a (says.Cancelled closing) w.so_far w.so_far.place stop.0 stop.2
-    (λ c h call ending. cut_ends login c stop.0 stop.1 (IsCancelled (ending ∙ ap (λ b. Some (Dropped b)) is
+    ends_open login s t k a (says.Cancelled closing) w.so_far w.so_far.place w.stop (stopped_course login s k a w)
+    (λ c h call ending. cut_ends login s c w.stop w.asks (IsCancelled (ending ∙ ap (λ b. Some (Dropped b)) is
     ∙ ap (λ (x : Call). Some (Dropped (closes_cancelled (kind_of x) w.so_far.place))) (sym call)
     ∙ ap (λ (x : Place). Some (Dropped (closes_cancelled (kind_of c.span.call) x))) (sym (ap (λ x. x.place) h)))))
     at shut
@@ -254,21 +248,39 @@ rest_is_read login s k none w =
     subst (λ (ss : List Span). AreCalls login (read_calls login ss false (first_place login)).calls)
     (sym (ap (λ p. spans_from (tape_kept k) (calls_kept k.calls p)) none ∙ spans_are)) w.ended.calls
 
-pub open_is_read : (login : Login) (s : Seen) (k : Kept) (a : Asked) → k.pending ≡ Some a → StoppedRead login s k a → IsRead login k
+-- the open call with its bytes, and the reading up to it
+abbrev pub span_open : Kept → Asked → Span
+span_open k a = record { call = a.call; sent = drop a.sent_from k.sent; taken = drop a.taken_from k.taken; ending = None }
+
+abbrev pub reading_before : Login → Kept → Asked → Reading
+reading_before login k a = read_calls login (spans_to k.sent k.taken k.calls a.sent_from a.taken_from) false (first_place login)
+
+pub open_reading : (login : Login) (k : Kept) (a : Asked) → k.pending ≡ Some a
+    → reading login (tape_kept k) ≡ with_one login (reading_before login k a) (span_open k a)
 unfolding reading
-open_is_read login s k a pending w =
+open_reading login k a pending =
     let ss = spans_to k.sent k.taken k.calls a.sent_from a.taken_from in
-    let span : Span = record { call = a.call; sent = drop a.sent_from k.sent; taken = drop a.taken_from k.taken; ending = None } in
-    let span_is : open_span k.sent k.taken (tape_kept k) refl refl a ≡ span =
+    let span_is : open_span k.sent k.taken (tape_kept k) refl refl a ≡ span_open k a =
     ap (λ (x : List ℕ). let s : Span = record { call = a.call; sent = x; taken = between a.taken_from (length k.taken) k.taken; ending = None } in s) (between_end a.sent_from k.sent)
     ∙ ap (λ (x : List ℕ). let s : Span = record { call = a.call; sent = drop a.sent_from k.sent; taken = x; ending = None } in s) (between_end a.taken_from k.taken) in
     let spans_are = ap (λ p. spans_from (tape_kept k) (calls_kept k.calls p)) pending ∙ spans_open k.sent k.taken (tape_kept k) refl refl a k.calls ∙ ap (λ x. ss ++ x ∷ []) span_is in
-    let r : Reading = read_calls login ss false (first_place login) in
-    let all = ap (λ (xs : List Span). read_calls login xs false (first_place login)) spans_are ∙ read_one_more login ss span false (first_place login) in
-    let stop = stop_of login s k a w in
+    ap (λ (xs : List Span). read_calls login xs false (first_place login)) spans_are ∙ read_one_more login ss (span_open k a) false (first_place login)
+
+-- where the open call is, after the calls that ended
+pub open_halt : (login : Login) (k : Kept) (a : Asked) (closed : Bool) (before : Place) → EndedRead login k a.sent_from a.taken_from closed before
+    → (one_read login (reading_before login k a) (span_open k a)).halt ≡ halt_of login closed (span_open k a) before
+open_halt login k a closed before w =
+    ap (λ (p : Place). halt_of login (reading_before login k a).closed (span_open k a) p) w.place_is ∙ ap (λ (b : Bool). halt_of login b (span_open k a) before) w.closed_is
+
+pub open_is_read : (login : Login) (s : Seen) (k : Kept) (a : Asked) → k.pending ≡ Some a → StoppedRead login s k a → IsRead login k
+open_is_read login s k a pending w =
+    let r : Reading = reading_before login k a in
+    let span : Span = span_open k a in
+    let all = open_reading login k a pending in
+    let stop = stopped_course login s k a w in
     let here : IsCall login (record { span = span; closed = false; halt = halt_of login false span w.so_far.before }) = record {
-      ends = subst (λ (x : Stop). Ends login (record { span = span; closed = false; halt = halt_of login false span w.so_far.before }) x) (sym (ap (λ h. h.stop) stop.2)) (cut_ends login _ stop.0 stop.1 (IsOpen refl));
-      sent = subst (λ (x : Place). begins_with (client_side (exchanges x)) x.sent ≡ true) (sym (ap (λ h. h.place) stop.2)) (said_of s w.so_far.place w.so_far.at.at);
+      ends = subst (λ (x : Stop). Ends login (record { span = span; closed = false; halt = halt_of login false span w.so_far.before }) x) (sym (ap (λ h. h.stop) stop)) (cut_ends login s _ w.stop w.asks (IsOpen refl));
+      sent = subst (λ (x : Place). begins_with (client_side (exchanges x)) x.sent ≡ true) (sym (ap (λ h. h.place) stop)) (said_of s w.so_far.place w.so_far.at.at);
       quiet = refl;
     } in
     let now : IsCall login (one_read login r span) =

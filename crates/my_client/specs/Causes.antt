@@ -1,5 +1,5 @@
 -- Why a poll came to what it came to.
-use Rattle.std.specs.Prelude.{ℕ, ◌≡◌, ◌<◌, ◌≤◌, ◌⊎◌, List, ◌++◌, Some, None, true}
+use Rattle.std.specs.Prelude.{ℕ, ◌≡◌, ◌<◌, ◌≤◌, List, ◌++◌, Option, Some}
 use Rattle.my_frame.specs.declared.limits.TheConstants.{MOST_TAKEN}
 use Rattle.my_grammar.specs.declared.login.Login.{Login}
 use Rattle.my_reading.specs.declared.error.Error.{Error}
@@ -8,77 +8,57 @@ use Rattle.my_reading.specs.declared.error.IoError.{IoError}
 use Rattle.my_reading.specs.declared.error.IoError.TheVariants as ios
 use Rattle.my_reading.specs.declared.error.IoKind.{IoKind}
 use Rattle.my_reading.specs.declared.error.IoKind.TheVariants as kinds
-use Rattle.my_reading.specs.Calls.{kind_of}
-use Rattle.my_session.specs.Fits.{may_be}
-use Rattle.my_reading.specs.declared.answer.Answer.{Answer}
-use Rattle.my_session.specs.Causes.{Because, AnswerCause}
+use Rattle.my_reading.specs.Course.{Owes, Awaits}
+use Rattle.my_reading.specs.Told.{ToldError, told}
+use Rattle.my_session.specs.declared.task.LinkFault.{LinkFault}
+use Rattle.my_session.specs.Causes.{Because}
 use Rattle.my_session.specs.Complete.{FailsOutside}
-use Rattle.my_reading.specs.Told.{told}
 use Rattle.my_session.specs.History.{History}
-use Rattle.my_session.specs.Seen.{Seen}
-use Rattle.my_session.specs.Tasks.{fault_in}
 use Rattle.my_client.specs.declared.poll.After.{After}
 use Rattle.my_client.specs.declared.poll.After.TheVariants.{Pending, Answered, Failed}
 use Rattle.my_client.specs.declared.tape.Said.TheVariants as says
 use Rattle.my_link.specs.declared.met.Met.{Met}
 use Rattle.my_link.specs.Looks.{Looks}
 use Rattle.my_link.specs.Moves.{Stop, NoStop, ReadHold, WriteHold, ReadFault, WriteFault, LinkEnd, holds_at, IsUsed, IsMet}
-use Rattle.my_client.specs.Kept.{Asked, Kept, IsOf, IsHeard, ended_by}
-use Rattle.my_client.specs.Poll.{IsOfCall, Owes, Awaits}
-
--- a session that stands for what was kept, and whose call wasn't made to fail, owes bytes, or awaits some
-pub record Asks (login : Login) (k : Kept) (Step : Seen → Type 0) : Type 0 where
-  pub session : Seen
-  pub heard : IsHeard login session k
-  pub sound : fault_in session.task ≡ None
-  pub asks : Step session
-
-abbrev pub Waiting : Login → Kept → Type 0
-Waiting login k = Asks login k Owes ⊎ Asks login k Awaits
+use Rattle.my_client.specs.Kept.{Asked, Kept, IsOf, ended_by}
+use Rattle.my_client.specs.Poll.{IsOfCall}
+use Rattle.my_client.specs.Reads.{ComesTo, IsWaiting, stop_kept}
 
 -- Which errors a poll may come to in which the link failed `faults` times and ended `ends` times: a link's fault only where it
--- failed, an end that came too early only where it ended, and both only where the session asked for something; each other
--- error only where the link didn't fail.
-abbrev pub KindBy : Login → Kept → IoKind → ℕ → ℕ → Type 0
-KindBy login k kinds.Link faults ends = (0 < faults) × Waiting login k
-KindBy login k kinds.Dial faults ends = ⊥
-KindBy login k kinds.UnexpectedEof faults ends = (faults ≡ 0) × (0 < ends) × Asks login k Awaits
-KindBy login k kinds.InvalidData faults ends = faults ≡ 0
+-- failed, an end that came too early only where it ended, and both only where the call stopped for bytes; each other error only
+-- where the link didn't fail, and the call comes to it by its bytes.
+abbrev pub KindBy : Login → Kept → Error → IoKind → ℕ → ℕ → Type 0
+KindBy login k e kinds.Link faults ends = (0 < faults) × IsWaiting login k
+KindBy login k e kinds.Dial faults ends = ⊥
+KindBy login k e kinds.UnexpectedEof faults ends = (faults ≡ 0) × (0 < ends) × (stop_kept login k ≡ Some Awaits)
+KindBy login k e kinds.InvalidData faults ends = (faults ≡ 0) × ComesTo login k (ToldError e)
 
-abbrev pub IoBy : Login → Kept → IoError → ℕ → ℕ → Type 0
-IoBy login k (ios.Io fault) faults ends = KindBy login k fault.kind faults ends
-IoBy login k (ios.Codec fault) faults ends = faults ≡ 0
+abbrev pub IoBy : Login → Kept → Error → IoError → ℕ → ℕ → Type 0
+IoBy login k e (ios.Io fault) faults ends = KindBy login k e fault.kind faults ends
+IoBy login k e (ios.Codec fault) faults ends = (faults ≡ 0) × ComesTo login k (ToldError e)
 
 abbrev pub ErrorBy : Login → Kept → Error → ℕ → ℕ → Type 0
 ErrorBy login k (errors.Driver e) faults ends = ⊥
-ErrorBy login k (errors.Io e) faults ends = IoBy login k e faults ends
-ErrorBy login k (errors.Server e) faults ends = faults ≡ 0
+ErrorBy login k (errors.Io e) faults ends = IoBy login k (errors.Io e) e faults ends
+ErrorBy login k (errors.Server e) faults ends = (faults ≡ 0) × ComesTo login k (ToldError (errors.Server e))
 ErrorBy login k errors.NoMemory faults ends = ⊥
 
--- The error has its cause in what the grammar finds in the bytes taken, over a history that is what was kept. Where these
--- bytes, with those that may still come, are whole exchanges and bring no further ERR, the cause is none of them.
+-- The error has its cause in what the grammar finds in the bytes taken, over a history that is what was kept, of a call that was
+-- made to fail so, or wasn't. Where these bytes, with those that may still come, are whole exchanges and bring no further ERR, the
+-- cause is none of them.
 pub record WhyFailed (login : Login) (k : Kept) (e : Error) : Type 0 where
-  pub session : Seen
+  pub made : Option LinkFault
   pub history : History
-  pub login_is : session.login ≡ login
   pub kept : IsOf k history
-  pub because : Because session history e
-  pub whole : FailsOutside session history e because
+  pub because : Because login made history e
+  pub whole : FailsOutside login made history e because
 
--- And so has an answer that nothing is left to be read.
-pub record WhyAnswered (login : Login) (k : Kept) (answer : Answer) : Type 0 where
-  pub session : Seen
-  pub history : History
-  pub login_is : session.login ≡ login
-  pub kept : IsOf k history
-  pub because : AnswerCause session history answer
-
--- why a poll stays pending: a read wasn't ready where the session asks for bytes, a write where it asks to send, or the
--- poll took all that it may, and the session still asks for something
+-- why a poll stays pending: a read wasn't ready where the call awaits bytes, a write where it owes some, or the poll took all
+-- that it may, and the call still stops for bytes
 abbrev pub Pends : Login → Kept → Met → Stop → Type 0
-Pends login k u ReadHold = Asks login k Awaits
-Pends login k u WriteHold = Asks login k Owes
-Pends login k u NoStop = Waiting login k × (MOST_TAKEN ≤ u.taken)
+Pends login k u ReadHold = stop_kept login k ≡ Some Awaits
+Pends login k u WriteHold = stop_kept login k ≡ Some Owes
+Pends login k u NoStop = IsWaiting login k × (MOST_TAKEN ≤ u.taken)
 Pends login k u ReadFault = ⊥
 Pends login k u WriteFault = ⊥
 Pends login k u LinkEnd = ⊥
@@ -87,7 +67,7 @@ Pends login k u LinkEnd = ⊥
 abbrev pub PollEnds : Login → Asked → Kept → Met → Stop → After → Kept → Type 0
 PollEnds login a k u stop Pending end = (end ≡ k) × Pends login k u stop
 PollEnds login a k u stop (Answered answer) end = (end ≡ ended_by k a (says.Answered answer))
-    × WhyAnswered login k answer × (may_be (kind_of a.call) (told answer) ≡ true) × (stop ≡ NoStop)
+    × ComesTo login k (told answer) × (stop ≡ NoStop)
 PollEnds login a k u stop (Failed e) end = (end ≡ ended_by k a (says.Failed e)) × WhyFailed login k e
     × ErrorBy login k e u.faults u.ends × (holds_at stop ≡ 0)
 

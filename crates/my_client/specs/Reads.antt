@@ -1,14 +1,16 @@
 -- What a connection kept, by the one reading of its tape.
-use Rattle.std.specs.Prelude.{◌≡◌, ◌≤◌, ◌⊎◌, ℕ, List, [], ◌∷◌, ◌++◌, length, drop, Option, Some, None, Bool, true, false}
+use Rattle.std.specs.Prelude.{◌≡◌, ◌≢◌, ◌≤◌, ◌⊎◌, ℕ, List, [], ◌∷◌, ◌++◌, length, drop, Option, Some, None, Bool, true, false}
 use Rattle.my_grammar.specs.declared.login.Login.{Login}
 use Rattle.my_reading.specs.declared.call.CallKind.TheVariants.{Quit}
+use Rattle.my_reading.specs.declared.facts.Facts.{Facts}
 use Rattle.my_reading.specs.Calls.{kind_of}
-use Rattle.my_reading.specs.Course.{Part, Stop, Owes, Awaits, Stops, step, parts_of}
+use Rattle.my_reading.specs.Course.{Part, Stop, Owes, Awaits, Returns, Stops, step, parts_of}
 use Rattle.my_reading.specs.Endings.{AreCalls}
 use Rattle.my_reading.specs.Leads.{Leads}
-use Rattle.my_reading.specs.Place.{Place, first_place, with_bytes}
-use Rattle.my_reading.specs.Reading.{Reading, read_calls, reading}
+use Rattle.my_reading.specs.Place.{Place, first_place, facts_at, with_bytes}
+use Rattle.my_reading.specs.Reading.{ReadCall, Reading, read_calls, reading}
 use Rattle.my_reading.specs.Tape.{Tape, TapeCall, Span, between}
+use Rattle.my_reading.specs.Told.{Told}
 use Rattle.my_session.specs.declared.task.Task.TheVariants.{Leaving}
 use Rattle.my_session.specs.Fits.{is_begun}
 use Rattle.my_session.specs.Mirror.{StandsAt, OpenAt}
@@ -29,6 +31,30 @@ tape_kept k = record { sent = k.sent; taken = k.taken; calls = calls_kept k.call
 -- Each call of it ended, or is open, exactly as the reading of the tape says.
 abbrev pub IsRead : Login → Kept → Type 0
 IsRead login k = AreCalls login (reading login (tape_kept k)).calls
+
+-- where the reading stands, and what the server said by then
+abbrev pub place_kept : Login → Kept → Place
+place_kept login k = (reading login (tape_kept k)).place
+
+abbrev pub facts_kept : Login → Kept → Facts
+facts_kept login k = facts_at login (place_kept login k)
+
+-- where the newest call stops
+abbrev pub newest_stop : List ReadCall → Option Stop
+newest_stop [] = None
+newest_stop (c ∷ []) = Some c.halt.stop
+newest_stop (c ∷ d ∷ cs) = newest_stop (d ∷ cs)
+
+abbrev pub stop_kept : Login → Kept → Option Stop
+stop_kept login k = newest_stop (reading login (tape_kept k)).calls
+
+-- the newest call comes to this by its bytes
+abbrev pub ComesTo : Login → Kept → Told → Type 0
+ComesTo login k t = stop_kept login k ≡ Some (Returns t)
+
+-- the newest call owes bytes, or awaits some
+abbrev pub IsWaiting : Login → Kept → Type 0
+IsWaiting login k = (stop_kept login k ≡ Some Owes) ⊎ (stop_kept login k ≡ Some Awaits)
 
 -- the calls that ended, each with its bytes up to the beginning of the next one, the last up to these counts
 abbrev pub span_to : List ℕ → List ℕ → DoneCall → ℕ → ℕ → Span
@@ -89,10 +115,18 @@ abbrev pub ReadsAs : Login → Seen → Kept → Option Asked → Type 0
 ReadsAs login s k None = RestRead login s k
 ReadsAs login s k (Some a) = OpenRead login s k a ⊎ QuitRead login s k a
 
+-- what a session asks for where its open call stops so
+abbrev pub AsksAt : Seen → Stop → Type 0
+AsksAt s Owes = s.owed ≢ []
+AsksAt s Awaits = s.owed ≡ []
+AsksAt s (Returns t) = ⊥
+
 -- the open call owes bytes, or awaits some
 pub record StoppedRead (login : Login) (s : Seen) (k : Kept) (a : Asked) : Type 0 where
   pub so_far : OpenRead login s k a
-  pub stops : (step login a.call so_far.parts so_far.place ≡ Stops so_far.place Owes) ⊎ (step login a.call so_far.parts so_far.place ≡ Stops so_far.place Awaits)
+  pub stop : Stop
+  pub asks : AsksAt s stop
+  pub stops : step login a.call so_far.parts so_far.place ≡ Stops so_far.place stop
 
 -- so it is where a call is open
 abbrev pub StopsRead : Login → Seen → Kept → Option Asked → Type 0

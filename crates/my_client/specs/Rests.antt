@@ -9,9 +9,8 @@ use Rattle.my_reading.specs.declared.error.IoError.{IoError}
 use Rattle.my_reading.specs.Errors.{unexpected_eof}
 use Rattle.my_session.specs.Steps.{Steps, with_end}
 use Rattle.my_session.specs.declared.task.Task.TheVariants.{Nothing}
-use Rattle.my_reading.specs.Calls.{kind_of}
 use Rattle.my_session.specs.Tasks.{fault_in}
-use Rattle.my_session.specs.Fits.{may_be, is_begun, FaultFits}
+use Rattle.my_session.specs.Fits.{is_begun, FaultFits}
 use Rattle.my_reading.specs.Told.{told}
 use Rattle.my_session.specs.Mirror.{EachStepReads}
 use Rattle.my_session.specs.Seen.{Seen}
@@ -23,9 +22,9 @@ use Rattle.my_client.specs.declared.tape.Said.TheVariants as says
 use Rattle.my_link.specs.declared.met.Met.{Met}
 use Rattle.my_client.specs.declared.conn.Conn.{Conn}
 use Rattle.my_client.specs.Conn.{asked_in, kept_of}
-use Rattle.my_client.specs.Causes.{WhyFailed, WhyAnswered, ErrorBy}
+use Rattle.my_client.specs.Causes.{WhyFailed, ErrorBy}
 use Rattle.my_client.specs.Kept.{Asked, Kept, IsHeard, ended_by}
-use Rattle.my_client.specs.Reads.{ReadsAs, StoppedRead}
+use Rattle.my_client.specs.Reads.{ComesTo, ReadsAs, StoppedRead}
 
 -- the session stands for what was kept, wasn't made to fail, and while it isn't closed the link hasn't ended; the tape is read so
 pub record Rests (login : Login) (s : Seen) (k : Kept) : Type 0 where
@@ -45,11 +44,10 @@ pub record IsHeld (login : Login) (s : Seen) (k : Kept) (a : Asked) : Type 0 whe
   pub stepped : is_begun s.task ≡ false
   pub stopped : StoppedRead login s k a
 
--- the call was answered as a call of its kind may be
+-- the call was answered by what it comes to
 pub record IsAnswered (login : Login) (s : Seen) (k : Kept) (a : Asked) (answer : Answer) : Type 0 where
   pub rests : Rests login s (ended_by k a (says.Answered answer))
-  pub why : WhyAnswered login k answer
-  pub fits : may_be (kind_of a.call) (told answer) ≡ true
+  pub comes : ComesTo login k (told answer)
 
 -- the call failed, in a poll in which the link failed `faults` times and ended `ends` times
 pub record HasFailed (login : Login) (s : Seen) (k : Kept) (a : Asked) (e : Error) (faults ends : ℕ) : Type 0 where

@@ -6,6 +6,7 @@ use Rattle.std.proofs.Common.{◌≤◌, ℕ, ◌≡◌, ◌+◌, ◌<◌, suc, 
 use Rattle.std.proofs.lemmas.List.{length-append, map-append}
 use Rattle.my_grammar.specs.declared.login.Login.{Login}
 use Rattle.my_session.proofs.History.{each_history}
+use Rattle.my_session.specs.Law.{IsLawful}
 use Rattle.my_link.specs.declared.link.ReadItem.{ReadItem}
 use Rattle.my_client.specs.declared.conn.Conn.{Conn}
 use Rattle.my_run.specs.declared.slot.Slot.{Slot}
@@ -29,7 +30,7 @@ use Rattle.my_client.proofs.TapeRead.{is_read}
 use Rattle.my_run.proofs.Runs.Fitting.{IsFit, AllFit, step_fits}
 
 said : {L : Type 0} (login : Login) (c : Conn L) → StandsBy login c → IsSaid login (kept_of c)
-said login c w = record { session = c.session.seen; history = w.rests.heard.history; login_is = w.rests.heard.login_is; kept = w.rests.heard.kept; says = each_history c.session.seen w.rests.heard.history w.rests.heard.stands; read = is_read login c.session.seen (kept_of c) (kept_of c).pending refl w.rests.read w.stepped.stops }
+said login c w = record { history = w.rests.heard.history; kept = w.rests.heard.kept; law = subst (λ l. IsLawful l w.rests.heard.history) w.rests.heard.login_is (each_history c.session.seen w.rests.heard.history w.rests.heard.stands).law; read = is_read login c.session.seen (kept_of c) (kept_of c).pending refl w.rests.read w.stepped.stops }
 
 -- what stands at each number is explained
 said_at : {L : Type 0} (look : L → Looks) (login : Login) (plan : Option (List ReadItem)) (s : Slot L) → IsStood login s → IsFit plan (handle_of look s) → IsExplained login plan (handle_of look s)

@@ -38,7 +38,10 @@ use Rattle.my_script.specs.declared.transcript.Transcript.{Transcript}
 use Rattle.my_script.specs.declared.transcript.Use.{Use}
 use Rattle.my_client.specs.declared.poll.After.{After}
 use Rattle.my_client.specs.declared.poll.After.TheVariants as after
-use Rattle.my_client.specs.Causes.{IsPolled, PollEnds, Asks}
+use Rattle.my_reading.specs.Course as reading
+use Rattle.my_reading.specs.Told.{ToldReady}
+use Rattle.my_client.proofs.TapeRead.Stopping.{stop_closed}
+use Rattle.my_client.specs.Causes.{IsPolled, PollEnds}
 use Rattle.my_client.specs.Kept.{Asked, Kept, made_of, asking, asked_by, first_asked, first_kept}
 use Rattle.my_client.specs.Poll.{Owes, Awaits}
 use Rattle.my_client.proofs.Hearing.Beginning.{closed_kept}
@@ -258,7 +261,7 @@ made_by login plan rules n id v x o used t shown planned w = by_after w.after
       kept = w.end;
       link = w.link;
       is = s.1;
-      open_writes = λ r. ap (λ (l : Looks). l.writes) (subst (λ (st : Stop). StopsAt st w.polled.used.moved w.link) e.3 w.polled.used.stops) ∙ stays_open w.polled.used.moves x w.polled.used.moved (planned.1 ∙ r) w.polled.used.leads;
+      open_writes = λ r. ap (λ (l : Looks). l.writes) (subst (λ (st : Stop). StopsAt st w.polled.used.moved w.link) e.2 w.polled.used.stops) ∙ stays_open w.polled.used.moves x w.polled.used.moved (planned.1 ∙ r) w.polled.used.leads;
     }
     by_after (after.Failed x) s e = let no : Failed x ≡ Connected n id v = sym s.0 ∙ shown in cc
 
@@ -455,26 +458,13 @@ no_other_taken login plans before later more a t told number taken w =
     taken_there login (plans.reads 0) more r.made (tape_view t) told taken r.shown r.explained
 
 -- a quit on a closed session
-no_owing : (login : Login) (s : Seen) (k : Kept) (w : Asks login k Owes) → has_closed (made_of k.calls) ≡ true → ⊥
-no_owing login s k w closed =
-    let shut : w.session.closed ≡ true = closed_kept login w.session k w.heard ∙ closed in
-    let leaving = is_leaving w.session.task w.session.closed shut w.asks.0 w.sound w.heard.stands.heard.alive in
-    w.asks.1 (w.heard.stands.settled (ap owes leaving))
-
-no_awaiting : (login : Login) (k : Kept) (w : Asks login k Awaits) → has_closed (made_of k.calls) ≡ true → ⊥
-no_awaiting login k w closed =
-    let s : Seen = w.session in
-    let shut : s.closed ≡ true = closed_kept login s k w.heard ∙ closed in
-    let leaving = is_leaving s.task s.closed shut w.asks.needs.0 w.sound w.heard.stands.heard.alive in
-    let quiet : s.owed ≡ [] = w.heard.stands.settled (ap owes leaving) in
-    w.asks.fails (next (with_end s)).seen (doings.Done answers.Ready) (record { count = 0; go = tt; last = record { seen = refl; does = leaving_told (with_end s) leaving quiet } })
-
 pub no_fault_at_rest : NoFaultAtRest
 no_fault_at_rest login k end x y u place closed w =
     let shut : has_closed (made_of w.following.calls) ≡ true = ap (λ cs. has_closed (made_of cs)) w.calls ∙ closed in
+    let returns = stop_closed login w.following (asked_by k Quit) w.pending shut in
     elim w.ends.2.1 as (λ _. ⊥) [
-      | inl asks ↦ no_owing login asks.session w.following asks shut
-      | inr asks ↦ no_awaiting login w.following asks shut
+      | inl owes ↦ let no : Some (reading.Returns ToldReady) ≡ Some reading.Owes = sym returns ∙ owes in cc
+      | inr awaits ↦ let no : Some (reading.Returns ToldReady) ≡ Some reading.Awaits = sym returns ∙ awaits in cc
     ]
 
 -- an input that broke off

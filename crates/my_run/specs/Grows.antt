@@ -8,12 +8,10 @@ use Rattle.my_reading.specs.declared.answer.Answer.TheVariants as answers
 use Rattle.my_reading.specs.declared.call.Call.{Call}
 use Rattle.my_reading.specs.declared.call.Call.TheVariants.{Query, NextRow, DropResult, Ping, Quit}
 use Rattle.my_reading.specs.Calls.{kind_of, is_connect}
+use Rattle.my_reading.specs.Endings.{closes_cancelled}
 use Rattle.my_reading.specs.Errors.{connection_closed, io_error}
-use Rattle.my_session.specs.Fits.{is_begun}
 use Rattle.my_session.specs.History.{has_closed}
-use Rattle.my_session.specs.Seen.{Seen}
 use Rattle.my_session.specs.Steps.{is_refused}
-use Rattle.my_session.specs.Tables.{closes_when_cancelled}
 use Rattle.my_reading.specs.declared.error.IoKind.TheVariants.{Dial}
 use Rattle.my_client.specs.declared.poll.After.{After}
 use Rattle.my_client.specs.declared.poll.After.TheVariants as after
@@ -25,7 +23,8 @@ use Rattle.my_script.specs.declared.transcript.Outcome.TheVariants.{Done, Pendin
 use Rattle.my_script.specs.declared.transcript.Use.{Use}
 use Rattle.my_client.specs.Causes.{IsPolled}
 use Rattle.my_run.specs.Handle.{Handle, Absent, Dialing, Joined, at_number, put_at}
-use Rattle.my_client.specs.Kept.{Asked, Kept, IsHeard, made_of, asking, ended_by, asked_by, first_asked, first_kept}
+use Rattle.my_client.specs.Reads.{facts_kept, place_kept}
+use Rattle.my_client.specs.Kept.{Asked, Kept, made_of, asking, ended_by, asked_by, first_asked, first_kept}
 use Rattle.my_run.specs.Sums.{quiet, held_use, failed_use}
 use Rattle.my_link.specs.declared.link.ReadItem.{ReadItem}
 use Rattle.my_link.specs.declared.link.WriteItem.{WriteItem}
@@ -91,11 +90,9 @@ BeginsOn (Some a) login n call k x o us t = IsRefused (Joined true k x) o us t
 abbrev pub Calls : Login → ℕ → Call → Handle → Outcome → List Use → Handle → Type 0
 Calls login n call h o us t = OnConnection (λ k. BeginsOn k.pending login n call k) h o us t
 
--- the answer tells the connection's number, and what the server told of itself
-pub record IsGreeted (login : Login) (n : ℕ) (k : Kept) (o : Outcome) : Type 0 where
-  pub session : Seen
-  pub heard : IsHeard login session k
-  pub outcome : o ≡ Connected n session.facts.connection (version_of session.facts.version)
+-- the answer has the connection's number, and what the server said of itself
+abbrev pub IsGreeted : Login → ℕ → Kept → Outcome → Type 0
+IsGreeted login n k o = o ≡ Connected n (facts_kept login k).connection (version_of (facts_kept login k).version)
 
 -- a connection that couldn't connect isn't there any more
 abbrev pub ConnectShows : Login → ℕ → After → Kept → Looks → Outcome → Handle → Type 0
@@ -205,17 +202,14 @@ GoesOn login n Dialing o us t = Dials login None None n o us t
 GoesOn login n (Joined false k x) o us t = IsRefused (Joined false k x) o us t
 GoesOn login n (Joined true k x) o us t = GoesOnWith k.pending login n k x o us t
 
--- The open call was cancelled, which closed the session by the table of its task and place. A connection whose handshake was
--- cancelled isn't there any more.
+-- The open call was cancelled, which closed the connection by the kind of the call and where its reading stands. A connection
+-- whose handshake was cancelled isn't there any more.
 pub record IsCancelled (login : Login) (a : Asked) (k : Kept) (x : Looks) (o : Outcome) (us : List Use) (t : Handle)
     : Type 0 where
-  pub session : Seen
-  pub heard : IsHeard login session k
-  pub stepped : is_begun session.task ≡ false
   pub outcome : o ≡ Done
   pub uses : us ≡ []
   pub left : t ≡ Joined (not (is_connect (kind_of a.call)))
-      (ended_by k a (says.Cancelled (closes_when_cancelled session.task session.context.spot))) x
+      (ended_by k a (says.Cancelled (closes_cancelled (kind_of a.call) (place_kept login k)))) x
 
 -- the held dial was dropped
 pub record IsDropped (o : Outcome) (us : List Use) (t : Handle) : Type 0 where
@@ -233,11 +227,9 @@ Cancels login Dialing o us t = IsDropped o us t
 Cancels login (Joined false k x) o us t = IsRefused (Joined false k x) o us t
 Cancels login (Joined true k x) o us t = CancelsWith k.pending login k x o us t
 
--- the last OK, as the server told it
+-- the last OK, as the server sent it
 pub record IsTold (login : Login) (k : Kept) (x : Looks) (o : Outcome) (us : List Use) (t : Handle) : Type 0 where
-  pub session : Seen
-  pub heard : IsHeard login session k
-  pub outcome : o ≡ Fields session.facts.ok
+  pub outcome : o ≡ Fields (facts_kept login k).ok
   pub uses : us ≡ []
   pub left : t ≡ Joined true k x
 

@@ -2,8 +2,7 @@
 use Rattle.std.specs.Prelude.{ℕ, ◌≡◌, List, [], ◌∷◌, ◌++◌, map, Option, None}
 use Rattle.my_grammar.specs.declared.login.Login.{Login}
 use Rattle.my_session.specs.History.{History}
-use Rattle.my_session.specs.Law.{Says}
-use Rattle.my_session.specs.Seen.{Seen}
+use Rattle.my_session.specs.Law.{IsLawful}
 use Rattle.my_link.specs.declared.link.ReadItem.{ReadItem}
 use Rattle.my_link.specs.Looks.{Looks}
 use Rattle.my_link.specs.Spent.{HasGot, ReadsSpent}
@@ -41,15 +40,13 @@ abbrev pub answers_of : List Line → List AnswerView
 answers_of [] = []
 answers_of (l ∷ ls) = answers_of ls ++ record { number = l.number; outcome = l.outcome; uses = l.uses } ∷ []
 
--- The tape is explained: some history is what was kept, and the session's law holds of it: the calls' commands by the table
+-- The tape is explained: some history is what was kept, and the law of histories holds of it: the calls' commands by the table
 -- were sent, the last perhaps cut, the grammar finds the responses in the bytes taken, and of each set callers were given
 -- a beginning. And the tape is one that its reading accepts.
 pub record IsSaid (login : Login) (k : Kept) : Type 0 where
-  pub session : Seen
   pub history : History
-  pub login_is : session.login ≡ login
   pub kept : IsOf k history
-  pub says : Says session history
+  pub law : IsLawful login history
   -- each call ended, or is open, exactly as the one reading of the tape says
   pub read : IsRead login k
 

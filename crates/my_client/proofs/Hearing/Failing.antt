@@ -1,5 +1,5 @@
 -- Why the open call failed: by its own, by the link's fault, or by the link's end.
-use Rattle.std.proofs.Common.{ℕ, ◌≡◌, ◌≢◌, suc, zero, List, [], Bool, true, false, Option, Some, None, Result, Ok, Err, IfOk, inl, inr, refl, sym, ap, ◌∙◌, subst, arith}
+use Rattle.std.proofs.Common.{ℕ, ◌≡◌, ◌≢◌, suc, zero, List, [], Bool, true, false, Option, Some, None, Result, Ok, Err, IfOk, ◌⊎◌, inl, inr, refl, sym, ap, ◌∙◌, subst, arith}
 use Rattle.my_grammar.specs.declared.login.Login.{Login}
 use Rattle.my_session.specs.declared.answer.SessionStep.TheVariants as steps
 use Rattle.my_session.specs.declared.task.LinkFault.{LinkFault}
@@ -26,15 +26,18 @@ use Rattle.my_session.specs.Stands.{Stands, is_alive, owes}
 use Rattle.my_session.specs.Steps.{Steps, AllGo, goes_on, moved, with_end, with_failing, failing}
 use Rattle.my_session.proofs.Ends.{first_goes}
 use Rattle.my_client.specs.declared.tape.DoneCall.{DoneCall}
-use Rattle.my_client.specs.Causes.{Asks, Waiting, KindBy, IoBy, ErrorBy}
+use Rattle.my_reading.specs.declared.error.IoFault.{IoFault}
+use Rattle.my_client.specs.Causes.{KindBy, IoBy, ErrorBy}
 use Rattle.my_client.specs.Poll.{Awaits, Waits}
 use Rattle.my_client.specs.declared.tape.Said.TheVariants as says
 use Rattle.my_client.specs.Kept.{Asked, Kept, IsHeard, ended_by}
-use Rattle.my_client.specs.Reads.{RestRead}
+use Rattle.my_client.specs.Reads.{ComesTo, IsWaiting, RestRead, stop_kept}
 use Rattle.my_client.specs.Rests.{Rests, IsAsked, IsHeld, FailsNow, HasFailed, AwaitsBytes}
 use Rattle.my_client.proofs.Hearing.{heard_end, heard_failing}
 use Rattle.my_client.proofs.Hearing.Stepping.{StepStands, asked_read, fails_now, nothing_faults}
-use Rattle.my_client.proofs.TapeRead.Sessions.{broke_read, end_read, fault_read}
+use Rattle.my_client.proofs.TapeRead.Sessions.{broke_read, end_read, fault_read, fault_stop}
+use Rattle.my_client.proofs.TapeRead.Stopping.{awaits_kept, waits_kept}
+use Rattle.my_reading.specs.Course as stops
 
 -- a quit of a closed session doesn't fail
 pub leaving_told : (s : Seen) → s.task ≡ Leaving → s.owed ≡ [] → (next s).does ≡ Tells ToldReady
@@ -69,21 +72,31 @@ never_ended login s t k a e true c w op v ne ended =
     let quiet : s.owed ≡ [] = w.rests.heard.stands.settled (ap owes leaving) in
     ne (leaving_from s t e v.count (leaving_told s leaving quiet) v.go v.last)
 
-kind_by : (login : Login) (k : Kept) (kind : IoKind) (ended : Bool) → (ended ≡ true → ⊥) → OwnKind ended kind → KindBy login k kind 0 0
-kind_by login k kinds.Link ended n o = absurd o
-kind_by login k kinds.Dial ended n o = absurd o
-kind_by login k kinds.UnexpectedEof ended n o = absurd (n o)
-kind_by login k kinds.InvalidData ended n o = refl
+-- the call comes to its error by its bytes, unless that is the link's end
+abbrev IsOwn : Login → Kept → Error → Type 0
+IsOwn login k e = ComesTo login k (ToldError e) ⊎ ((n : ℕ) × (e ≡ unexpected_eof n))
 
-io_by : (login : Login) (k : Kept) (e : IoError) (ended : Bool) → (ended ≡ true → ⊥) → OwnIo ended e → IoBy login k e 0 0
-io_by login k (ios.Io fault) ended n o = kind_by login k fault.kind ended n o
-io_by login k (ios.Codec fault) ended n o = refl
+kind_by : (login : Login) (k : Kept) (fault : IoFault) (kind : IoKind) (ended : Bool) → fault.kind ≡ kind → (ended ≡ true → ⊥) → OwnKind ended kind → IsOwn login k (errors.Io (ios.Io fault)) → KindBy login k (errors.Io (ios.Io fault)) kind 0 0
+kind_by login k fault kinds.Link ended is n o c = absurd o
+kind_by login k fault kinds.Dial ended is n o c = absurd o
+kind_by login k fault kinds.UnexpectedEof ended is n o c = absurd (n o)
+kind_by login k fault kinds.InvalidData ended is n o (inl c) = (refl, c)
+kind_by login k fault kinds.InvalidData ended is n o (inr c) =
+    let e : errors.Io (ios.Io fault) ≡ unexpected_eof c.0 = c.1 in
+    let same : fault ≡ record { kind = kinds.UnexpectedEof; place = c.0 } = cc in
+    let no : kinds.InvalidData ≡ kinds.UnexpectedEof = sym is ∙ ap (λ (f : IoFault). f.kind) same in cc
 
-own_by : (login : Login) (k : Kept) (e : Error) (ended : Bool) → e ≢ errors.NoMemory → (ended ≡ true → ⊥) → OwnError ended e → ErrorBy login k e 0 0
-own_by login k (errors.Driver e) ended ne n o = absurd o
-own_by login k (errors.Io e) ended ne n o = io_by login k e ended n o
-own_by login k (errors.Server e) ended ne n o = refl
-own_by login k errors.NoMemory ended ne n o = absurd (ne refl)
+io_by : (login : Login) (k : Kept) (e : IoError) (ended : Bool) → (ended ≡ true → ⊥) → OwnIo ended e → IsOwn login k (errors.Io e) → IoBy login k (errors.Io e) e 0 0
+io_by login k (ios.Io fault) ended n o c = kind_by login k fault fault.kind ended refl n o c
+io_by login k (ios.Codec fault) ended n o (inl c) = (refl, c)
+io_by login k (ios.Codec fault) ended n o (inr c) = let e : errors.Io (ios.Codec fault) ≡ unexpected_eof c.0 = c.1 in cc
+
+own_by : (login : Login) (k : Kept) (e : Error) (ended : Bool) → e ≢ errors.NoMemory → (ended ≡ true → ⊥) → OwnError ended e → IsOwn login k e → ErrorBy login k e 0 0
+own_by login k (errors.Driver e) ended ne n o c = absurd o
+own_by login k (errors.Io e) ended ne n o c = io_by login k e ended n o c
+own_by login k (errors.Server e) ended ne n o (inl c) = (refl, c)
+own_by login k (errors.Server e) ended ne n o (inr c) = let is : errors.Server e ≡ unexpected_eof c.0 = c.1 in cc
+own_by login k errors.NoMemory ended ne n o c = absurd (ne refl)
 
 -- the step failed the call, and the link had no part in it
 pub faulted : (login : Login) (s t : Seen) (k : Kept) (a : Asked) (e : Error) → e ≢ errors.NoMemory → IsAsked login s k a → is_open s.task ≡ true → Steps s t (steps.Fault e) → t.task ≡ Nothing → StepStands s t (steps.Fault e) → EachStepReads s t (steps.Fault e) → HasFailed login t k a e 0 0
@@ -93,7 +106,8 @@ faulted login s t k a e ne w op v n st rd =
     record {
       rests = record { heard = u.heard; sound = nothing_faults t.task n; alive = λ c. u.ended ∙ w.rests.alive (u.closed c); read = fault_read login s t k a w.rests.heard.login_is e ne rd v (asked_read login s k a w) };
       why = u.why;
-      by = own_by login k e s.ended ne (λ ended. never_ended login s t k a e s.closed refl w op v ne ended) own;
+      by = own_by login k e s.ended ne (λ ended. never_ended login s t k a e s.closed refl w op v ne ended) own
+          (fault_stop login s t k a w.rests.heard.login_is e ne w.asked rd v (asked_read login s k a w));
     }
 
 -- the link failed, and the call was told so
@@ -108,7 +122,7 @@ told_to_fail Dropping fault o = refl
 told_to_fail Leaving fault o = refl
 told_to_fail (Failing c old) fault o = refl
 
-link_by : (login : Login) (k : Kept) (e : Error) → e ≢ errors.NoMemory → Waiting login k → IsLinkError faults.Link e → ErrorBy login k e 1 0
+link_by : (login : Login) (k : Kept) (e : Error) → e ≢ errors.NoMemory → IsWaiting login k → IsLinkError faults.Link e → ErrorBy login k e 1 0
 link_by login k e ne waits l = elim l.1 as (λ _. ErrorBy login k e 1 0) [
   | inl is ↦ subst (λ (x : Error). ErrorBy login k x 1 0) (sym is) (omega arith, waits)
   | inr is ↦ absurd (ne is)
@@ -118,10 +132,6 @@ link_by login k e ne waits l = elim l.1 as (λ _. ErrorBy login k e 1 0) [
 waits_open : (s : Seen) → Waits s → is_open s.task ≡ true
 waits_open s (inl w) = w.0
 waits_open s (inr w) = w.needs.0
-
-waiting_by : (login : Login) (s : Seen) (k : Kept) → Rests login s k → Waits s → Waiting login k
-waiting_by login s k w (inl a) = inl (record { session = s; heard = w.heard; sound = w.sound; asks = a })
-waiting_by login s k w (inr a) = inr (record { session = s; heard = w.heard; sound = w.sound; asks = a })
 
 pub broke : (login : Login) (s r t : Seen) (k : Kept) (a : Asked) (e : Error) → e ≢ errors.NoMemory → IsHeld login s k a → Waits s → r ≡ with_failing s faults.Link → FailsNow login r t k a e → HasFailed login t k a e 1 0
 broke login s r t k a e ne w asks is u =
@@ -136,11 +146,11 @@ broke login s r t k a e ne w asks is u =
         read = broke_read login s r t k a e w.asked.rests.heard.login_is ne op is fault u.step w.stopped;
       };
       why = u.why;
-      by = link_by login k e ne (waiting_by login s k w.asked.rests asks) link;
+      by = link_by login k e ne (waits_kept login s k a w.stopped w.asked.asked) link;
     }
 
 -- the link told its end where bytes were awaited
-eof_by : (login : Login) (r t : Seen) (k : Kept) (a : Asked) (e : Error) (place : ℕ) → e ≡ unexpected_eof place → Asks login k Awaits → RestRead login t (ended_by k a (says.Failed e)) → FailsNow login r t k a e → HasFailed login t k a e 0 1
+eof_by : (login : Login) (r t : Seen) (k : Kept) (a : Asked) (e : Error) (place : ℕ) → e ≡ unexpected_eof place → stop_kept login k ≡ Some stops.Awaits → RestRead login t (ended_by k a (says.Failed e)) → FailsNow login r t k a e → HasFailed login t k a e 0 1
 eof_by login r t k a e place is asks read u =
     let shut : t.closed ≡ true = u.shut _ is in
     record {
@@ -149,7 +159,7 @@ eof_by login r t k a e place is asks read u =
       by = subst (λ (x : Error). ErrorBy login k x 0 1) (sym is) (refl, omega arith, asks);
     }
 
-pub ended : (login : Login) (s r t : Seen) (k : Kept) (a : Asked) (e : Error) → e ≢ errors.NoMemory → IsHeld login s k a → AwaitsBytes s → Asks login k Awaits → r ≡ with_end s → FailsNow login r t k a e → HasFailed login t k a e 0 1
+pub ended : (login : Login) (s r t : Seen) (k : Kept) (a : Asked) (e : Error) → e ≢ errors.NoMemory → IsHeld login s k a → AwaitsBytes s → stop_kept login k ≡ Some stops.Awaits → r ≡ with_end s → FailsNow login r t k a e → HasFailed login t k a e 0 1
 ended login s r t k a e ne w waits asks is u =
     elim (waits t e (subst (λ (r : Seen). Steps r t (steps.Fault e)) is u.step)) as (λ _. HasFailed login t k a e 0 1) [
       | inl eof ↦ eof_by login r t k a e s.facts.place eof asks (fault_read login r t k a (ap (λ (x : Seen). x.login) is ∙ w.asked.rests.heard.login_is) e ne u.reads u.step (inl (end_read login s r k a is w.stopped.so_far))) u
@@ -173,7 +183,7 @@ broke_so login s r t k g a e ne asks is st fails s1 t1 c1 p1 w =
 pub ended_so : (login : Login) (s r t : Seen) (k g : Kept) (a : Asked) (e : Error) → e ≢ errors.NoMemory → r ≡ with_end s → ((h : History) → Stands s h → Stands r (ending h)) → ((login : Login) (a : Asked) → IsHeard login r k → k.pending ≡ Some a → FailsNow login r t k a e) → g.sent ≡ k.sent → g.taken ≡ k.taken → g.calls ≡ k.calls → g.pending ≡ k.pending → AwaitsBytes s → Awaits s → IsHeld login s k a → HasFailed login t g a e 0 1
 ended_so login s r t k g a e ne is st fails s1 t1 c1 p1 waits asks w =
     subst (λ (x : Kept). HasFailed login t x a e 0 1) (sym (same_kept k g s1 t1 c1 p1))
-    (ended login s r t k a e ne w waits (record { session = s; heard = w.asked.rests.heard; sound = w.asked.rests.sound; asks = asks }) is (fails login a (heard_end login s r k is st w.asked.rests.heard) w.asked.asked))
+    (ended login s r t k a e ne w waits (awaits_kept login s k a w.stopped w.asked.asked asks.needs.1) is (fails login a (heard_end login s r k is st w.asked.rests.heard) w.asked.asked))
 
 pub faulted_same : (login : Login) (s t : Seen) (k : Kept) (a : Asked) (e x : Error) → x ≡ e → x ≢ errors.NoMemory → IsAsked login s k a → is_open s.task ≡ true → Steps s t (steps.Fault e) → t.task ≡ Nothing → StepStands s t (steps.Fault e) → EachStepReads s t (steps.Fault e) → HasFailed login t k a x 0 0
 faulted_same login s t k a e x is ne w op v n st rd = subst (λ (y : Error). HasFailed login t k a y 0 0) (sym is) (faulted login s t k a e (λ z. ne (is ∙ z)) w op v n st rd)

@@ -16,12 +16,12 @@ use Rattle.my_session.specs.Tasks.{kind_in, fault_in}
 use Rattle.my_session.specs.Fits.{may_be, may_be_told, is_begun, WasStepped, StepFits}
 use Rattle.my_reading.specs.Told.{Told, ToldError, told}
 use Rattle.my_session.specs.History.{History, Made, answered, passing, gone, took, has_closed}
-use Rattle.my_session.specs.Causes.{HasCause}
+use Rattle.my_session.specs.Causes.{Because, HasCause}
 use Rattle.my_session.specs.Passed.{ArePassed}
 use Rattle.my_session.specs.Mirror.{EachStepReads}
 use Rattle.my_session.specs.Seen.{Seen}
 use Rattle.my_session.specs.Stands.{Stands, call_with}
-use Rattle.my_session.specs.Steps.{Steps, after_step, with_owed, with_unread}
+use Rattle.my_session.specs.Steps.{Steps, StepIs, after_step, with_owed, with_unread}
 use Rattle.my_session.proofs.Whole.{each_whole_call}
 use Rattle.my_session.proofs.Ends.{each_end}
 use Rattle.my_session.proofs.Fits.{each_answer_fits}
@@ -30,7 +30,7 @@ use Rattle.my_client.specs.Kept.{Asked, Kept, IsOf, IsHeard, call_in, ended_by}
 use Rattle.my_client.specs.Reads.{OpenRead, QuitRead, ReadsAs, StoppedRead}
 use Rattle.my_client.specs.Rests.{IsAsked, IsHeld, IsAnswered, FailsNow, AwaitsBytes}
 use Rattle.my_client.proofs.Hearing.{answer_counts, asked_kind, ended_of, heard_gone, heard_took, passing_of, pending_passing}
-use Rattle.my_client.proofs.TapeRead.Sessions.{done_read, need_read, send_read, sent_read, taken_read}
+use Rattle.my_client.proofs.TapeRead.Sessions.{done_read, done_stop, need_read, send_read, sent_read, taken_read}
 
 -- what a step says of histories
 abbrev pub StepStands : Seen → Seen → SessionStep → Type 0
@@ -59,15 +59,15 @@ fails_now login s t k a e w p v n st rd =
     let f = fits_of login s t k (steps.Fault e) v w in
     let heard : IsHeard login t (ended_by k a (says.Failed e)) = heard_on login s t k (steps.Fault e) (ended_by k a (says.Failed e)) f.login st w (λ h i. ended_of k a h (says.Failed e) p (answer_counts (kind_of a.call) (ToldError e) refl) i) in
     let u = st w.history w.stands in
+    let because : Because login (fault_in u.3.here.task) (passing w.history u.0) e = subst (λ l. Because l (fault_in u.3.here.task) (passing w.history u.0) e) (u.3.login ∙ w.login_is) u.3.cause in
     let closed_then : t.closed ≡ has_closed (answered (passing w.history u.0) (ToldError e)).calls || (passing w.history u.0).lost = u.2.heard.closed_is in
     record {
       why = record {
-        session = u.3.here;
+        made = fault_in u.3.here.task;
         history = passing w.history u.0;
-        login_is = u.3.login ∙ w.login_is;
         kept = passing_of k w.history (kind_in s.task) s.text u.0 w.stands.heard.pending_is u.1 w.kept;
-        because = u.3.cause;
-        whole = each_whole_call u.3.here (passing w.history u.0) e u.3.cause;
+        because = because;
+        whole = each_whole_call login (fault_in u.3.here.task) (passing w.history u.0) e because;
       };
       heard = heard;
       step = v;
@@ -115,22 +115,14 @@ is_answered login s t k a answer w v n st rd =
     let f = fits_of login s t k (steps.Done answer) v heard in
     let open_is : Some a.call ≡ call_with (kind_in s.task) s.text = sym (ap call_in w.asked) ∙ sym heard.kept.pending_is ∙ heard.stands.heard.pending_is in
     let fits : may_be (kind_of a.call) (told answer) ≡ true = told_asked (kind_in s.task) a.call s.text (told answer) open_is f.answer in
-    let u = st heard.history heard.stands in
     record {
-      why = record {
-        session = u.3.here;
-        history = passing heard.history u.0;
-        login_is = u.3.login ∙ heard.login_is;
-        kept = passing_of k heard.history (kind_in s.task) s.text u.0 heard.stands.heard.pending_is u.1 heard.kept;
-        because = u.3.cause;
-      };
       rests = record {
         heard = heard_on login s t k (steps.Done answer) (ended_by k a (says.Answered answer)) f.login st heard (λ h i. ended_of k a h (says.Answered answer) w.asked (answer_counts (kind_of a.call) (told answer) fits) i);
         sound = nothing_faults t.task n;
         alive = λ e. f.ended ∙ w.rests.alive (f.alive e);
         read = done_read login s t k a heard.login_is answer rd v (asked_read login s k a w);
       };
-      fits = fits;
+      comes = done_stop login s t k a heard.login_is answer w.asked rd v (asked_read login s k a w);
     }
 
 pub awaits : (s t : Seen) → Steps s t steps.Need → AwaitsBytes t
@@ -161,8 +153,8 @@ asked_took login s t k a bytes taken e st same w = record {
   asked = w.asked.asked;
 }
 
-pub held_send : (login : Login) (s t : Seen) (k : Kept) (a : Asked) → IsAsked login s k a → Steps s t steps.Send → StepStands s t steps.Send → EachStepReads s t steps.Send → IsHeld login t k a
-held_send login s t k a w v st rd = held login s t k a steps.Send w v st (send_read login s t k a w.rests.heard.login_is rd v (asked_read login s k a w)) (λ h. refl) (λ u f. f)
+pub held_send : (login : Login) (s t : Seen) (k : Kept) (a : Asked) → IsAsked login s k a → StepIs t steps.Send → Steps s t steps.Send → StepStands s t steps.Send → EachStepReads s t steps.Send → IsHeld login t k a
+held_send login s t k a w is v st rd = held login s t k a steps.Send w v st (send_read login s t k a w.rests.heard.login_is is.1 rd v (asked_read login s k a w)) (λ h. refl) (λ u f. f)
 
-pub held_need : (login : Login) (s t : Seen) (k : Kept) (a : Asked) → IsAsked login s k a → Steps s t steps.Need → StepStands s t steps.Need → EachStepReads s t steps.Need → IsHeld login t k a
-held_need login s t k a w v st rd = held login s t k a steps.Need w v st (need_read login s t k a w.rests.heard.login_is rd v (asked_read login s k a w)) (λ h. refl) (λ u f. f)
+pub held_need : (login : Login) (s t : Seen) (k : Kept) (a : Asked) → IsAsked login s k a → StepIs t steps.Need → Steps s t steps.Need → StepStands s t steps.Need → EachStepReads s t steps.Need → IsHeld login t k a
+held_need login s t k a w is v st rd = held login s t k a steps.Need w v st (need_read login s t k a w.rests.heard.login_is is.1 rd v (asked_read login s k a w)) (λ h. refl) (λ u f. f)

@@ -18,11 +18,11 @@ use Rattle.my_reading.specs.declared.call.CallKind.TheVariants.{Connect, Query, 
 use Rattle.my_reading.specs.declared.error.Error.{Error}
 use Rattle.my_reading.specs.declared.error.Error.TheVariants as errors
 use Rattle.my_reading.specs.Calls.{asks, kind_of, call_of, text_of, is_quit}
-use Rattle.my_reading.specs.Course.{Part, Owes, Awaits, Stops, step, parts_of, is_greeting}
+use Rattle.my_reading.specs.Course.{Part, Owes, Awaits, Returns, Stops, step, parts_of, is_greeting}
 use Rattle.my_reading.specs.Endings.{closes_cancelled, awaits_head}
-use Rattle.my_reading.specs.Errors.{io_error, connection_closed}
+use Rattle.my_reading.specs.Errors.{io_error, connection_closed, unexpected_eof}
 use Rattle.my_reading.specs.Leads.{Leads, Here, Then}
-use Rattle.my_reading.specs.Place.{Place, first_place, exchanges, connects_in, with_bytes}
+use Rattle.my_reading.specs.Place.{Place, first_place, exchanges, connects_in, facts_at, with_bytes}
 use Rattle.my_reading.specs.Reading.{read_calls, closed_answer}
 use Rattle.my_reading.specs.Told.{Told, ToldReady, ToldError, told}
 use Rattle.my_session.specs.declared.answer.SessionStep.{SessionStep}
@@ -35,7 +35,7 @@ use Rattle.my_session.specs.declared.task.Task.TheVariants as tasks
 use Rattle.my_session.specs.Fits.{is_begun}
 use Rattle.my_session.specs.LinkErrors.{link_error}
 use Rattle.my_session.specs.Machine.{Doing, Goes, Sends, Needs, Tells, Did, Does, FaultIs, Move, fell, failed_by, next, next_by, when_owed, planned, with_task, dropped, doing}
-use Rattle.my_session.specs.Mirror.{Mirrors, OwnStandsAt, TaskStandsAt, StandsAt, OpenAt, BegunStandsAt, EachStepReads, StepReads, StepsTo, parts_left, passes_end, is_own}
+use Rattle.my_session.specs.Mirror.{Mirrors, OwnStandsAt, TaskStandsAt, StandsAt, OpenAt, BegunStandsAt, EachStepReads, EndsAt, FailsAt, ReturnsAt, StepReads, StepsTo, parts_left, passes_end, is_own}
 use Rattle.my_session.specs.Seen.{Seen}
 use Rattle.my_session.specs.Stands.{Stands, BegunAt, TaskIs, call_with, owes}
 use Rattle.my_session.specs.Steps.{Steps, AllGo, goes_on, moved, begun, fresh, failing, with_owed, with_unread, with_end, with_failing, is_settled, is_refused}
@@ -46,7 +46,8 @@ use Rattle.my_session.proofs.Mirror.Fields.{mirrors_sent, mirrors_taken, mirrors
 use Rattle.my_session.proofs.Mirror.Payloads.{fallen_at}
 use Rattle.my_client.specs.declared.tape.Said.TheVariants as says
 use Rattle.my_client.specs.Kept.{Asked, Kept, nothing_kept, asking, asked_by, ended_by}
-use Rattle.my_client.specs.Reads.{EndedRead, RestRead, OpenRead, QuitRead, ReadsAs, StoppedRead}
+use Rattle.my_client.specs.Reads.{ComesTo, place_kept, EndedRead, RestRead, OpenRead, QuitRead, ReadsAs, StoppedRead}
+use Rattle.my_client.proofs.TapeRead.Stopping.{place_here, stop_led, stop_open}
 use Rattle.my_client.proofs.TapeRead.{open_on, open_bytes, returns_open, faults_open, breaks_open, cancels_open, ends_closed, no_bytes}
 
 -- a quit on a closed session returns at once
@@ -99,27 +100,31 @@ module _ (s t : Seen) (fault : LinkFault) (made : fault_in s.task ≡ Some fault
 
 -- what a step of the open call leaves
 module _ (login : Login) (s t : Seen) (k : Kept) (a : Asked) (log : s.login ≡ login) where
-  send_stops : (o : OpenRead login s k a) → StepReads s t a.call o.parts o.place steps.Send → StoppedRead login t k a
+  send_stops : t.owed ≢ [] → (o : OpenRead login s k a) → StepReads s t a.call o.parts o.place steps.Send → StoppedRead login t k a
   unfolding open_on
-  send_stops o w = record {
+  send_stops some o w = record {
     so_far = open_on login s t k a o w.rest w.place (subst (λ l. Leads l a.call o.parts o.place w.rest w.place) log w.leads) w.comes.1;
-    stops = inl (subst (λ l. step l a.call w.rest w.place ≡ Stops w.place Owes) log w.comes.0);
+    stop = Owes;
+    asks = some;
+    stops = subst (λ l. step l a.call w.rest w.place ≡ Stops w.place Owes) log w.comes.0;
   }
 
-  need_stops : (o : OpenRead login s k a) → StepReads s t a.call o.parts o.place steps.Need → StoppedRead login t k a
+  need_stops : t.owed ≡ [] → (o : OpenRead login s k a) → StepReads s t a.call o.parts o.place steps.Need → StoppedRead login t k a
   unfolding open_on
-  need_stops o w = record {
+  need_stops none o w = record {
     so_far = open_on login s t k a o w.rest w.place (subst (λ l. Leads l a.call o.parts o.place w.rest w.place) log w.leads) w.comes.1;
-    stops = inr (subst (λ l. step l a.call w.rest w.place ≡ Stops w.place Awaits) log w.comes.0);
+    stop = Awaits;
+    asks = none;
+    stops = subst (λ l. step l a.call w.rest w.place ≡ Stops w.place Awaits) log w.comes.0;
   }
 
-  pub send_read : EachStepReads s t steps.Send → Steps s t steps.Send → OpenRead login s k a ⊎ QuitRead login s k a → StoppedRead login t k a
-  send_read r v (inl o) = send_stops o (r a.call o.parts o.place o.at)
-  send_read r v (inr q) = absurd (quit_sends s t q.leaving (q.at.settled (ap owes q.leaving)) v.count v.go v.last)
+  pub send_read : t.owed ≢ [] → EachStepReads s t steps.Send → Steps s t steps.Send → OpenRead login s k a ⊎ QuitRead login s k a → StoppedRead login t k a
+  send_read some r v (inl o) = send_stops some o (r a.call o.parts o.place o.at)
+  send_read some r v (inr q) = absurd (quit_sends s t q.leaving (q.at.settled (ap owes q.leaving)) v.count v.go v.last)
 
-  pub need_read : EachStepReads s t steps.Need → Steps s t steps.Need → OpenRead login s k a ⊎ QuitRead login s k a → StoppedRead login t k a
-  need_read r v (inl o) = need_stops o (r a.call o.parts o.place o.at)
-  need_read r v (inr q) = absurd (quit_needs s t q.leaving (q.at.settled (ap owes q.leaving)) v.count v.go v.last)
+  pub need_read : t.owed ≡ [] → EachStepReads s t steps.Need → Steps s t steps.Need → OpenRead login s k a ⊎ QuitRead login s k a → StoppedRead login t k a
+  need_read none r v (inl o) = need_stops none o (r a.call o.parts o.place o.at)
+  need_read none r v (inr q) = absurd (quit_needs s t q.leaving (q.at.settled (ap owes q.leaving)) v.count v.go v.last)
 
   quit_answer : (call : Call) → kind_of call ≡ Quit → closed_answer call ≡ ToldReady
   quit_answer call e = ap (λ c. cond (is_quit c) ToldReady (ToldError connection_closed)) e
@@ -132,6 +137,35 @@ module _ (login : Login) (s t : Seen) (k : Kept) (a : Asked) (log : s.login ≡ 
       let d = quit_done s t q.leaving (q.at.settled (ap owes q.leaving)) answer v.count v.go v.last in
       ends_closed login s t k a (says.Answered answer) q.before q.ended q.nothing_sent q.nothing_taken (d.0 ∙ sym (quit_answer a.call q.quit))
       (subst (λ (n : Seen). StandsAt n q.before) (sym d.1) (fallen_at s q.before s q.at.mirrors)) (ap (λ (n : Seen). n.closed) d.1)
+
+  -- what the call came to then
+  pub done_stop : (answer : Answer) → k.pending ≡ Some a → EachStepReads s t (steps.Done answer) → Steps s t (steps.Done answer) → OpenRead login s k a ⊎ QuitRead login s k a → ComesTo login k (told answer)
+  done_stop answer p r v (inl o) =
+      let w = r a.call o.parts o.place o.at in
+      let c = subst (λ l. StepsTo l a.call w.rest w.place (steps.Done answer) t) log w.comes in
+      stop_led login s k a o w.rest w.place c.place (Returns (told answer)) p (subst (λ l. Leads l a.call o.parts o.place w.rest w.place) log w.leads) c.stops
+  done_stop answer p r v (inr q) =
+      let d = quit_done s t q.leaving (q.at.settled (ap owes q.leaving)) answer v.count v.go v.last in
+      stop_open login k a true q.before q.ended p ∙ ap (λ x. Some (Returns x)) (quit_answer a.call q.quit ∙ sym d.0)
+
+  pub fault_stop : (e : Error) → e ≢ errors.NoMemory → k.pending ≡ Some a → EachStepReads s t (steps.Fault e) → Steps s t (steps.Fault e) → OpenRead login s k a ⊎ QuitRead login s k a
+      → ComesTo login k (ToldError e) ⊎ ((n : ℕ) × (e ≡ unexpected_eof n))
+  fault_stop e some p r v (inl o) =
+      let w = r a.call o.parts o.place o.at in
+      by_error e some w.rest w.place (subst (λ l. Leads l a.call o.parts o.place w.rest w.place) log w.leads) (subst (λ l. FailsAt l a.call w.rest w.place e t) log w.comes)
+    where
+      by_place : (e : Error) (rest : List Part) (q : Place) → Leads login a.call o.parts o.place rest q → ReturnsAt login a.call rest q (ToldError e) t ⊎ EndsAt login a.call rest q (ToldError e) t
+          → ComesTo login k (ToldError e) ⊎ ((n : ℕ) × (e ≡ unexpected_eof n))
+      by_place e rest q l (inl c) = inl (stop_led login s k a o rest q c.place (Returns (ToldError e)) p l c.stops)
+      by_place e rest q l (inr c) = let same : ToldError e ≡ ToldError (unexpected_eof (facts_at login q).place) = c.error_is in let is : e ≡ unexpected_eof (facts_at login q).place = cc in inr ((facts_at login q).place, is)
+
+      by_error : (e : Error) → e ≢ errors.NoMemory → (rest : List Part) (q : Place) → Leads login a.call o.parts o.place rest q → FailsAt login a.call rest q e t
+          → ComesTo login k (ToldError e) ⊎ ((n : ℕ) × (e ≡ unexpected_eof n))
+      by_error (errors.Driver e) some rest q l c = by_place (errors.Driver e) rest q l c
+      by_error (errors.Io e) some rest q l c = by_place (errors.Io e) rest q l c
+      by_error (errors.Server e) some rest q l c = by_place (errors.Server e) rest q l c
+      by_error errors.NoMemory some rest q l c = absurd (some refl)
+  fault_stop e some p r v (inr q) = absurd (some (quit_fails s t q.leaving (q.at.settled (ap owes q.leaving)) e v.count v.go v.last))
 
   pub fault_read : (e : Error) → e ≢ errors.NoMemory → EachStepReads s t (steps.Fault e) → Steps s t (steps.Fault e) → OpenRead login s k a ⊎ QuitRead login s k a → RestRead login t (ended_by k a (says.Failed e))
   fault_read e some r v (inl o) = faults_open login s t k a e o log some (r a.call o.parts o.place o.at)
@@ -274,6 +308,13 @@ module _ (s : Seen) (call : Call) (parts : List Part) (p : Place) (o : OpenAt s 
     },
     o.alive,
   )
+
+-- a cancelling closes exactly where the reading says so
+pub cancel_closes : (login : Login) (s : Seen) (k : Kept) (a : Asked) → is_begun s.task ≡ false → (s.task ≡ tasks.Leaving → s.closed ≡ true) → StoppedRead login s k a → k.pending ≡ Some a
+    → closes_when_cancelled s.task s.context.spot ≡ closes_cancelled (kind_of a.call) (place_kept login k)
+cancel_closes login s k a stepped shut w pending =
+    closes_is s a.call w.so_far.parts w.so_far.place w.so_far.at stepped shut s.task refl w.so_far.at.at.task_at
+    ∙ ap (λ (p : Place). closes_cancelled (kind_of a.call) p) (sym (place_here login s k a w pending))
 
 pub cancel_read : (login : Login) (s t : Seen) (k : Kept) (a : Asked) (closing : Bool) → is_begun s.task ≡ false → (s.task ≡ tasks.Leaving → s.closed ≡ true) → t ≡ dropped s → closing ≡ closes_when_cancelled s.task s.context.spot → StoppedRead login s k a
     → RestRead login t (ended_by k a (says.Cancelled closing))

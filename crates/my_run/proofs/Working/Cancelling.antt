@@ -1,9 +1,10 @@
 -- How an open call is cancelled, and what tells without a call.
-use Rattle.std.proofs.Common.{ℕ, ◌≡◌, ◌⊎◌, inl, inr, List, [], ◌∷◌, ◌&&◌, not, Bool, true, false, cond, Option, Some, refl, sym, ap, ◌∙◌, subst}
+use Rattle.my_reading.specs.declared.facts.Facts.{Facts}
+use Rattle.std.proofs.Common.{ℕ, ◌≡◌, ◌⊎◌, inl, inr, List, [], ◌∷◌, ◌&&◌, not, Bool, true, false, cond, Option, Some, None, refl, sym, ap, ◌∙◌, subst}
 use Rattle.my_grammar.specs.declared.login.Login.{Login}
 use Rattle.my_reply.specs.declared.ok.OkPacket.{OkPacket}
 use Rattle.my_session.specs.declared.task.Task.{Task}
-use Rattle.my_session.specs.declared.task.Task.TheVariants.{Nothing}
+use Rattle.my_session.specs.declared.task.Task.TheVariants.{Nothing, Leaving}
 use Rattle.my_reading.specs.Calls.{kind_of, is_connect}
 use Rattle.my_session.specs.Tasks.{fault_in, is_open}
 use Rattle.my_session.specs.Fits.{is_begun}
@@ -29,12 +30,14 @@ use Rattle.my_client.specs.Ready.{StandsBy}
 use Rattle.my_run.specs.Keeps.{IsStood}
 use Rattle.my_client.specs.Kept.{Asked, Kept, ended_by}
 use Rattle.my_link.specs.Looks.{Looks}
-use Rattle.my_client.specs.Reads.{StopsRead}
+use Rattle.my_reading.specs.Endings.{closes_cancelled}
+use Rattle.my_client.specs.Reads.{ReadsAs, StopsRead, StoppedRead, place_kept}
 use Rattle.my_client.specs.Rests.{Rests}
 use Rattle.my_run.specs.Slot.{handle_of}
 use Rattle.my_client.specs.Conn.{kept_of}
 use Rattle.my_client.proofs.Hearing.Beginning.{is_asked, is_idle}
-use Rattle.my_client.proofs.TapeRead.Sessions.{cancel_read}
+use Rattle.my_client.proofs.TapeRead.Sessions.{cancel_closes, cancel_read}
+use Rattle.my_client.proofs.TapeRead.Stopping.{facts_rest}
 use Rattle.my_client.proofs.Hearing.{answer_counts, ended_of}
 use Rattle.my_client.proofs.Hearing.Failing.{is_leaving}
 
@@ -84,6 +87,9 @@ cancelled {L} look login n c d connecting o us op seen st link kept kind e f w =
     let a = asked.0 in
     let closing : d.session.seen.closed && not s.closed ≡ closes = ap (λ (t : Seen). t.closed && not s.closed) seen ∙ closing_is login s k w.rests op in
     let end : kept_of d ≡ ended_by k a (says.Cancelled closes) = kept a asked.1 ∙ ap (λ (b : Bool). ended_by k a (says.Cancelled b)) closing in
+    let shut : s.task ≡ Leaving → s.closed ≡ true =
+    λ leaving. subst (λ (u : Task). TaskIs u s.context.spot s.closed (has_connected w.rests.heard.history.calls) (connecting_in (w.rests.heard.stands.newest ∷ w.rests.heard.stands.older)) w.rests.heard.stands.newest) leaving w.rests.heard.stands.heard.at in
+    let stopped : StoppedRead login s k a = subst (StopsRead login s k) asked.1 w.stepped.stops in
     let rests : Rests login d.session.seen (ended_by k a (says.Cancelled closes)) = record {
       heard = record {
         history = answered w.rests.heard.history (Dropped closes);
@@ -93,8 +99,7 @@ cancelled {L} look login n c d connecting o us op seen st link kept kind e f w =
       };
       sound = ap (λ (t : Seen). fault_in t.task) seen ∙ ap fault_in (dropped_task s closes);
       alive = λ b. ap (λ (t : Seen). t.ended) seen ∙ dropped_ended s closes ∙ w.rests.alive (dropped_open s closes (sym (ap (λ (t : Seen). t.closed) seen) ∙ b));
-      read = cancel_read login s d.session.seen k a closes w.stepped.begun (λ leaving. subst (λ (u : Task). TaskIs u s.context.spot s.closed (has_connected w.rests.heard.history.calls) (connecting_in (w.rests.heard.stands.newest ∷ w.rests.heard.stands.older)) w.rests.heard.stands.newest) leaving w.rests.heard.stands.heard.at)
-          seen refl (subst (StopsRead login s k) asked.1 w.stepped.stops);
+      read = cancel_read login s d.session.seen k a closes w.stepped.begun shut seen refl stopped;
     } in
     let stands : StandsBy login d = record {
       rests = subst (Rests login d.session.seen) (sym end) rests;
@@ -103,16 +108,15 @@ cancelled {L} look login n c d connecting o us op seen st link kept kind e f w =
         stops = subst (λ (x : Kept). StopsRead login d.session.seen x x.pending) (sym end) tt;
       };
     } in
+    let closes_so : closes ≡ closes_cancelled (kind_of a.call) (place_kept login k) = cancel_closes login s k a w.stepped.begun shut stopped asked.1 in
     let kept_so : Joined (not connecting) (kept_of d) (look d.link) ≡ Joined (not connecting) (ended_by k a (says.Cancelled closes)) (look c.link) = ap (λ (x : Kept). Joined (not connecting) x (look d.link)) end ∙ ap (λ (l : L). Joined (not connecting) (ended_by k a (says.Cancelled closes)) (look l)) link in
     record {
       stood = left_is (IsStood login) d connecting stands stands;
       does = subst (λ (p : Option Asked). CancelsWith p login k (look c.link) o us (handle_of look (cond connecting (Ended d) (There d)))) (sym asked.1) (record {
-        session = s;
-        heard = w.rests.heard;
-        stepped = w.stepped.begun;
         outcome = e;
         uses = f;
-        left = left_handle look d connecting ∙ kept_so ∙ ap (λ (b : Bool). Joined (not b) (ended_by k a (says.Cancelled closes)) (look c.link)) (kind a asked.1);
+        left = left_handle look d connecting ∙ kept_so ∙ ap (λ (b : Bool). Joined (not b) (ended_by k a (says.Cancelled closes)) (look c.link)) (kind a asked.1)
+            ∙ ap (λ (b : Bool). Joined (not (is_connect (kind_of a.call))) (ended_by k a (says.Cancelled b)) (look c.link)) closes_so;
       });
     }
 
@@ -148,8 +152,11 @@ collect_refused look login n c o us op e f w = same_did look login (CollectsAt l
 
 -- the last OK is told
 pub fields_did : {L : Type 0} (look : L → Looks) (login : Login) (n : ℕ) (c : Conn L) (fields : Option OkPacket) (us : List Use) → is_open c.session.seen.task ≡ false → fields ≡ c.session.seen.facts.ok → us ≡ [] → StandsBy login c → Did look login (TellsFields login) (Fields fields) us (There c) (There c)
-fields_did look login n c fields us idle e f w = same_did look login (TellsFields login) (Fields fields) us (There c) w
-    (subst (λ (p : Option Asked). TellsWith p login (kept_of c) (look c.link) (Fields fields) us (Joined true (kept_of c) (look c.link))) (sym (is_idle login c.session.seen (kept_of c) idle w.rests.heard)) (record { session = c.session.seen; heard = w.rests.heard; outcome = ap Fields e; uses = f; left = refl }))
+fields_did look login n c fields us idle e f w =
+    let none : (kept_of c).pending ≡ None = is_idle login c.session.seen (kept_of c) idle w.rests.heard in
+    let facts = facts_rest login c.session.seen (kept_of c) none w.rests.heard.login_is (subst (ReadsAs login c.session.seen (kept_of c)) none w.rests.read) in
+    same_did look login (TellsFields login) (Fields fields) us (There c) w
+    (subst (λ (p : Option Asked). TellsWith p login (kept_of c) (look c.link) (Fields fields) us (Joined true (kept_of c) (look c.link))) (sym none) (record { outcome = ap Fields (e ∙ ap (λ (x : Facts). x.ok) facts); uses = f; left = refl }))
 
 -- as the step shows it
 pub fields_so : {L : Type 0} (look : L → Looks) (login : Login) (n : ℕ) (c : Conn L) (fields : Option OkPacket) (o : Outcome) (us : List Use) → is_open c.session.seen.task ≡ false → fields ≡ c.session.seen.facts.ok → o ≡ Fields fields → us ≡ [] → StandsBy login c → Did look login (TellsFields login) o us (There c) (There c)

@@ -17,7 +17,7 @@ use Rattle.my_client.specs.declared.conn.Conn.{Conn}
 use Rattle.my_run.specs.declared.slot.Slot.{Slot}
 use Rattle.my_run.specs.declared.slot.Slot.TheVariants.{Gone, Held, There, Ended}
 use Rattle.my_script.specs.declared.transcript.Outcome.{Outcome}
-use Rattle.my_script.specs.declared.transcript.Outcome.TheVariants.{Pending, Failed}
+use Rattle.my_script.specs.declared.transcript.Outcome.TheVariants.{Connected, Pending, Failed}
 use Rattle.my_script.specs.declared.transcript.Use.{Use}
 use Rattle.my_run.specs.Connecting.{Settles, Joins, Dialed}
 use Rattle.my_run.specs.Did.{Stepped}
@@ -28,15 +28,24 @@ use Rattle.my_world.specs.World.{Plans, SameAt, SameFrom, IsFresh, DialCounts}
 use Rattle.my_client.specs.Ready.{StandsBy}
 use Rattle.my_run.specs.Keeps.{IsStood, AreStood}
 use Rattle.my_link.specs.Looks.{Looks}
+use Rattle.my_handshake.specs.Version.{version_of}
+use Rattle.my_reading.specs.declared.facts.Facts.{Facts}
+use Rattle.my_link.specs.Moves.{Stop}
+use Rattle.my_client.specs.Causes.{PollEnds}
+use Rattle.my_client.specs.Reads.{ReadsAs}
+use Rattle.my_client.proofs.TapeRead.Stopping.{facts_rest}
 use Rattle.my_client.specs.Rests.{Rests, IsAsked}
 use Rattle.my_client.specs.Conn.{kept_of}
 use Rattle.my_run.specs.Slot.{handle_of}
 
 -- the handshake was polled
-shows : {L : Type 0} (look : L → Looks) (login : Login) (n : ℕ) (c : Conn L) (after : After) (slot : Slot L) (o : Outcome) → Rests login c.session.seen (kept_of c) → Settles c n after slot o → ConnectShows login n after (kept_of c) (look c.link) o (handle_of look slot)
-shows look login n c after.Pending slot o w s = (s.1, ap (handle_of look) s.0)
-shows look login n c (after.Answered answer) slot o w s = (record { session = c.session.seen; heard = w.heard; outcome = s.1 }, ap (handle_of look) s.0)
-shows look login n c (after.Failed x) slot o w s = (s.1, ap (handle_of look) s.0)
+shows : {L : Type 0} (look : L → Looks) (login : Login) (n : ℕ) (c : Conn L) (after : After) (slot : Slot L) (o : Outcome) (a : Asked) (k : Kept) (u : Met) (stop : Stop) → PollEnds login a k u stop after (kept_of c) → Rests login c.session.seen (kept_of c) → Settles c n after slot o → ConnectShows login n after (kept_of c) (look c.link) o (handle_of look slot)
+shows look login n c after.Pending slot o a k u stop ends w s = (s.1, ap (handle_of look) s.0)
+shows look login n c (after.Answered answer) slot o a k u stop ends w s =
+    let none : (kept_of c).pending ≡ None = ap (λ (x : Kept). x.pending) ends.0 in
+    let facts = facts_rest login c.session.seen (kept_of c) none w.heard.login_is (subst (ReadsAs login c.session.seen (kept_of c)) none w.read) in
+    (s.1 ∙ ap (λ (x : Facts). Connected n x.connection (version_of x.version)) facts, ap (handle_of look) s.0)
+shows look login n c (after.Failed x) slot o a k u stop ends w s = (s.1, ap (handle_of look) s.0)
 
 slot_is : {L : Type 0} (P : Slot L → Type 0) (c : Conn L) (n : ℕ) (after : After) (slot : Slot L) (o : Outcome) → Settles c n after slot o → P (There c) → P (Ended c) → P slot
 slot_is P c n after.Pending slot o s p q = subst P (sym s.0) p
@@ -49,7 +58,7 @@ joins {L} look login n a k x c met p slot o w s =
     record {
       stood = slot_is (IsStood login) c n p slot o s stands stands;
       number = refl;
-      does = record { number = refl; after = p; end = kept_of c; link = look c.link; polled = w.polled; shows = shows look login n c p slot o w.rests s };
+      does = record { number = refl; after = p; end = kept_of c; link = look c.link; polled = w.polled; shows = shows look login n c p slot o a w.polled.following met w.polled.stop w.polled.ends w.rests s };
     }
 
 -- as the step shows it
