@@ -34,7 +34,7 @@ pends_so login t k a u LinkEnd w c = absurd c
 
 poll_ends : (login : Login) (t : Seen) (k : Kept) (a : Asked) (u : Met) (stop : Stop) (after : After) → Causes t u stop after → PollRests login t k a u after → PollEnds login a k u stop after (kept_after k a after)
 poll_ends login t k a u stop Pending c w = (refl, pends_so login t k a u stop w c)
-poll_ends login t k a u stop (Answered answer) c w = (refl, w.comes, c.1)
+poll_ends login t k a u stop (Answered answer) c w = (refl, w.comes, w.fits, c.1)
 poll_ends login t k a u stop (Failed e) c w = (refl, w.why, w.by, c.1)
 
 poll_rests : (login : Login) (t : Seen) (k : Kept) (a : Asked) (u : Met) (stop : Stop) (after : After) → Causes t u stop after → PollRests login t k a u after → Rests login t (kept_after k a after) × IsStepped login t (kept_after k a after)

@@ -1,5 +1,5 @@
 -- Why a poll came to what it came to.
-use Rattle.std.specs.Prelude.{ℕ, ◌≡◌, ◌<◌, ◌≤◌, List, ◌++◌, Option, Some}
+use Rattle.std.specs.Prelude.{ℕ, ◌≡◌, ◌<◌, ◌≤◌, List, ◌++◌, Option, Some, true}
 use Rattle.my_frame.specs.declared.limits.TheConstants.{MOST_TAKEN}
 use Rattle.my_grammar.specs.declared.login.Login.{Login}
 use Rattle.my_reading.specs.declared.error.Error.{Error}
@@ -8,11 +8,13 @@ use Rattle.my_reading.specs.declared.error.IoError.{IoError}
 use Rattle.my_reading.specs.declared.error.IoError.TheVariants as ios
 use Rattle.my_reading.specs.declared.error.IoKind.{IoKind}
 use Rattle.my_reading.specs.declared.error.IoKind.TheVariants as kinds
+use Rattle.my_reading.specs.Calls.{kind_of}
 use Rattle.my_reading.specs.Course.{Owes, Awaits}
 use Rattle.my_reading.specs.Told.{ToldError, told}
 use Rattle.my_session.specs.declared.task.LinkFault.{LinkFault}
 use Rattle.my_session.specs.Causes.{Because}
 use Rattle.my_session.specs.Complete.{FailsOutside}
+use Rattle.my_session.specs.Fits.{may_be}
 use Rattle.my_session.specs.History.{History}
 use Rattle.my_client.specs.declared.poll.After.{After}
 use Rattle.my_client.specs.declared.poll.After.TheVariants.{Pending, Answered, Failed}
@@ -67,7 +69,7 @@ Pends login k u LinkEnd = ⊥
 abbrev pub PollEnds : Login → Asked → Kept → Met → Stop → After → Kept → Type 0
 PollEnds login a k u stop Pending end = (end ≡ k) × Pends login k u stop
 PollEnds login a k u stop (Answered answer) end = (end ≡ ended_by k a (says.Answered answer))
-    × ComesTo login k (told answer) × (stop ≡ NoStop)
+    × ComesTo login k (told answer) × (may_be (kind_of a.call) (told answer) ≡ true) × (stop ≡ NoStop)
 PollEnds login a k u stop (Failed e) end = (end ≡ ended_by k a (says.Failed e)) × WhyFailed login k e
     × ErrorBy login k e u.faults u.ends × (holds_at stop ≡ 0)
 

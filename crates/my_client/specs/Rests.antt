@@ -9,8 +9,9 @@ use Rattle.my_reading.specs.declared.error.IoError.{IoError}
 use Rattle.my_reading.specs.Errors.{unexpected_eof}
 use Rattle.my_session.specs.Steps.{Steps, with_end}
 use Rattle.my_session.specs.declared.task.Task.TheVariants.{Nothing}
+use Rattle.my_reading.specs.Calls.{kind_of}
 use Rattle.my_session.specs.Tasks.{fault_in}
-use Rattle.my_session.specs.Fits.{is_begun, FaultFits}
+use Rattle.my_session.specs.Fits.{may_be, is_begun, FaultFits}
 use Rattle.my_reading.specs.Told.{told}
 use Rattle.my_session.specs.Mirror.{EachStepReads}
 use Rattle.my_session.specs.Seen.{Seen}
@@ -44,10 +45,11 @@ pub record IsHeld (login : Login) (s : Seen) (k : Kept) (a : Asked) : Type 0 whe
   pub stepped : is_begun s.task ≡ false
   pub stopped : StoppedRead login s k a
 
--- the call was answered by what it comes to
+-- the call was answered by what it comes to, as a call of its kind may be
 pub record IsAnswered (login : Login) (s : Seen) (k : Kept) (a : Asked) (answer : Answer) : Type 0 where
   pub rests : Rests login s (ended_by k a (says.Answered answer))
   pub comes : ComesTo login k (told answer)
+  pub fits : may_be (kind_of a.call) (told answer) ≡ true
 
 -- the call failed, in a poll in which the link failed `faults` times and ended `ends` times
 pub record HasFailed (login : Login) (s : Seen) (k : Kept) (a : Asked) (e : Error) (faults ends : ℕ) : Type 0 where

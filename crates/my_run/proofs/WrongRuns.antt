@@ -17,7 +17,7 @@ use Rattle.my_link.specs.Spent.{spelled, HasGot, IsLeft, Whole, Part, ReadsSpent
 use Rattle.my_link.proofs.Spending.{used_spent}
 use Rattle.my_reading.specs.declared.answer.Answer.TheVariants as answers
 use Rattle.my_handshake.specs.declared.version.ServerVersion.{ServerVersion}
-use Rattle.my_reading.specs.declared.call.Call.TheVariants.{Ping}
+use Rattle.my_reading.specs.declared.call.Call.TheVariants.{Ping, Quit}
 use Rattle.my_reading.specs.Calls.{kind_of}
 use Rattle.my_reading.specs.declared.error.IoKind.TheVariants.{Dial}
 use Rattle.my_reading.specs.Errors.{connection_closed, io_error}
@@ -261,7 +261,7 @@ made_by login plan rules n id v x o used t shown planned w = by_after w.after
       kept = w.end;
       link = w.link;
       is = s.1;
-      open_writes = λ r. ap (λ (l : Looks). l.writes) (subst (λ (st : Stop). StopsAt st w.polled.used.moved w.link) e.2 w.polled.used.stops) ∙ stays_open w.polled.used.moves x w.polled.used.moved (planned.1 ∙ r) w.polled.used.leads;
+      open_writes = λ r. ap (λ (l : Looks). l.writes) (subst (λ (st : Stop). StopsAt st w.polled.used.moved w.link) e.3 w.polled.used.stops) ∙ stays_open w.polled.used.moves x w.polled.used.moved (planned.1 ∙ r) w.polled.used.leads;
     }
     by_after (after.Failed x) s e = let no : Failed x ≡ Connected n id v = sym s.0 ∙ shown in cc
 

@@ -123,6 +123,7 @@ is_answered login s t k a answer w v n st rd =
         read = done_read login s t k a heard.login_is answer rd v (asked_read login s k a w);
       };
       comes = done_stop login s t k a heard.login_is answer w.asked rd v (asked_read login s k a w);
+      fits = fits;
     }
 
 pub awaits : (s t : Seen) → Steps s t steps.Need → AwaitsBytes t

@@ -1,0 +1,3 @@
+pub mod Chain
+pub mod Shown
+pub mod Wrong

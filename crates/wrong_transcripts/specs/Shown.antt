@@ -1,0 +1,67 @@
+-- What a transcript shows of one connection, of which each call was polled once.
+use Rattle.std.specs.Prelude.{ℕ, ◌≡◌, ◌+◌, List, [], ◌∷◌, length, map, Option, Some, None, Bool, false, not, ◌&&◌}
+use Rattle.my_handshake.specs.declared.version.ServerVersion.{ServerVersion}
+use Rattle.my_grammar.specs.declared.login.Login.{Login}
+use Rattle.my_reading.specs.declared.call.Call.{Call}
+use Rattle.my_reading.specs.declared.call.Call.TheVariants as calls
+use Rattle.my_reading.specs.Calls.{kind_of, is_connect}
+use Rattle.my_reading.specs.Tape.{Span, TapeCall as ReadCall}
+use Rattle.my_reading.specs.Told.{Told, ToldReady, ToldRow, ToldEnd, ToldNone, ToldError, Dropped}
+use Rattle.my_script.specs.declared.step.Step.{Step}
+use Rattle.my_script.specs.declared.step.Step.TheVariants as steps
+use Rattle.my_script.specs.declared.transcript.Outcome.{Outcome}
+use Rattle.my_script.specs.declared.transcript.Outcome.TheVariants.{Done, Pending, SetEnd, NoSet, Row, Connected, Failed, NoSuchHandle}
+use Rattle.my_script.specs.declared.transcript.StepAnswer.{StepAnswer}
+use Rattle.my_script.specs.declared.transcript.Tape.{Tape}
+use Rattle.my_script.specs.declared.transcript.Use.{Use}
+use Rattle.my_world.specs.World.{Plans, DialCounts}
+use Rattle.my_run.specs.Headline.{Headline}
+use Rattle.wrong_tapes.specs.Bytes.{all_sent, all_taken, calls_from}
+
+-- the step that makes a call on connection 0
+abbrev pub step_of : Call → Step
+step_of calls.Connect = steps.Conn
+step_of (calls.Query text) = steps.Query 0 text
+step_of calls.NextRow = steps.Next 0
+step_of calls.DropResult = steps.Drop 0
+step_of calls.Ping = steps.Ping 0
+step_of calls.Quit = steps.Quit 0
+
+-- the answer of a step whose call ended so, or is open
+abbrev pub outcome_of : Option Told → Outcome
+outcome_of None = Pending
+outcome_of (Some ToldReady) = Done
+outcome_of (Some (ToldRow row)) = Row row
+outcome_of (Some ToldEnd) = SetEnd
+outcome_of (Some ToldNone) = NoSet
+outcome_of (Some (ToldError e)) = Failed e
+outcome_of (Some (Dropped closing)) = NoSuchHandle
+
+-- how many bytes were received by the polls of a step
+abbrev pub taken_in : List Use → ℕ
+taken_in [] = 0
+taken_in (u ∷ us) = u.met.taken + taken_in us
+
+-- calls that a step begins
+abbrev pub begun_by_step : List Span → Bool
+begun_by_step [] = not false
+begun_by_step (s ∷ ss) = not (is_connect (kind_of s.call)) && begun_by_step ss
+
+-- The transcript's first answer is that the connection was made; each other one is how its call ended. The uses say how many bytes
+-- each call received, and the tape has the bytes of all calls, and where those sent by each begin.
+pub record Shows (a : StepAnswer) (answers : List StepAnswer) (t : Tape) (s : Span) (ss : List Span) : Type 0 where
+  pub id : ℕ
+  pub version : ServerVersion
+  pub made : a.outcome ≡ Connected 0 id version
+  pub made_taken : taken_in a.uses.items ≡ length s.taken
+  pub outcomes : map (λ b. b.outcome) answers ≡ map (λ c. outcome_of c.ending) ss
+  pub taken : map (λ b. taken_in b.uses.items) answers ≡ map (λ c. length c.taken) ss
+  pub sent_is : t.sent.items ≡ all_sent (s ∷ ss)
+  pub taken_is : t.taken.items ≡ all_taken (s ∷ ss)
+  pub starts : map (λ c. c.sent_from) t.calls.items ≡ map (λ c. c.sent_from) (calls_from 0 0 (s ∷ ss))
+
+-- No run of these steps has a transcript that shows these calls.
+abbrev pub NoTranscript : Login → Span → List Span → Type 0
+NoTranscript login s ss = (plans : Plans) (before later : DialCounts) (a : StepAnswer) (answers : List StepAnswer) (t : Tape)
+    → Shows a answers t s ss
+    → Headline login plans before later (steps.Conn ∷ map (λ c. step_of c.call) ss) (a ∷ answers) (t ∷ []) → ⊥

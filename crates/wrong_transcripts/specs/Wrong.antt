@@ -1,0 +1,46 @@
+-- Transcripts that no run has.
+use Rattle.std.specs.Prelude.{List, [], ◌∷◌, ◌++◌, codes, Some, None, true, false}
+use Rattle.my_reading.specs.declared.call.Call.TheVariants.{Query, NextRow, DropResult, Ping, Quit}
+use Rattle.my_reading.specs.declared.error.Error.TheVariants.{Server}
+use Rattle.my_reading.specs.declared.error.IoKind.TheVariants.{Link}
+use Rattle.my_reading.specs.Errors.{io_error, unexpected_eof, invalid_data}
+use Rattle.my_reading.specs.Told.{ToldReady, ToldRow, ToldEnd, ToldNone, ToldError}
+use Rattle.my_reading.specs.Tape.{Span}
+use Rattle.wrong_tapes.specs.Bytes.{root, connected, selected, asked, asks, returned, call_with, row, one, end, fine, refusal, head, packet}
+use Rattle.wrong_tapes.specs.Right.{error}
+use Rattle.wrong_transcripts.specs.Shown.{NoTranscript}
+
+-- after `conn` these calls are in no transcript of a client that logs in as root
+abbrev pub NoneShow : List Span → Type 0
+NoneShow ss = NoTranscript root connected ss
+
+pub record AreWrong : Type 0 where
+  -- `query`, `next`: a row of other cells than the payload's
+  pub other_cells : NoneShow (selected ∷ returned NextRow [] (one 3) (ToldRow (row (codes "2"))) ∷ [])
+  -- `next`: a row, though no query was sent
+  pub invented_row : NoneShow (returned NextRow [] [] (ToldRow (row (codes "1"))) ∷ [])
+  -- `query`, `next`: an end before the row that is there
+  pub early_end : NoneShow (selected ∷ returned NextRow [] (one 3 ++ end 4) ToldEnd ∷ [])
+  -- `query`, `next`: nothing left, where the end of a lone OK is
+  pub early_none : NoneShow (asked (codes "DO 1") (fine 1 2) ∷ returned NextRow [] [] ToldNone ∷ [])
+  -- `query`, `next`: pending, though its row is there
+  pub pending_answer : NoneShow (selected ∷ call_with NextRow [] (one 3) None ∷ [])
+  -- `quit`: it sent a query; it sent nothing; and a second one sent on a closed connection
+  pub querying_quit : NoneShow (returned Quit (asks (codes "SELECT 1")) [] ToldReady ∷ [])
+  pub silent_quit : NoneShow (returned Quit [] [] ToldReady ∷ [])
+  pub second_quit : NoneShow (returned Quit (packet 0 (1 ∷ [])) [] ToldReady ∷ returned Quit (packet 0 (1 ∷ [])) [] ToldReady ∷ [])
+  -- `query`: another command was sent
+  pub other_command : NoneShow (returned (Query (codes "SELECT 1")) (asks (codes "SELECT 2")) head ToldReady ∷ [])
+  -- `query`, `query`: the second returned an earlier error, and sent its command
+  pub command_after_error : NoneShow (selected
+      ∷ returned (Query (codes "SELECT 2")) (asks (codes "SELECT 2")) (refusal 3) (ToldError (Server error)) ∷ [])
+  -- `query`: ok before its response
+  pub early_ready : NoneShow (returned (Query (codes "SELECT 1")) (asks (codes "SELECT 1")) [] ToldReady ∷ [])
+  -- `query`, `drop`: ok, though the set's rest wasn't read
+  pub idle_drop : NoneShow (selected ∷ returned DropResult [] (one 3) ToldReady ∷ [])
+  -- `query`, `next`: a fault or an end of the link, or a payload that fits no case, where the row is there
+  pub late_link_fault : NoneShow (selected ∷ returned NextRow [] (one 3) (ToldError (io_error Link 4)) ∷ [])
+  pub late_link_end : NoneShow (selected ∷ returned NextRow [] (one 3) (ToldError (unexpected_eof 4)) ∷ [])
+  pub invented_fault : NoneShow (selected ∷ returned NextRow [] (one 3) (ToldError (invalid_data 4)) ∷ [])
+  -- `query`, `next`: the server's error is passed over
+  pub lost_error : NoneShow (selected ∷ returned NextRow [] (refusal 3) ToldNone ∷ [])
