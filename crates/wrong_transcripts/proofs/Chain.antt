@@ -10,15 +10,15 @@ use Rattle.my_run.specs.Headline.{AnswerView, steps_of, answers_of}
 module _ (login : Login) (plans : Plans) where
   abbrev pub Chain : List Handle → List Step → List AnswerView → List Handle → Type 0
   Chain hs [] [] ts = ts ≡ hs
-  Chain hs [] (a ∷ as) ts = ⊥
+  Chain hs [] (a ∷ vs) ts = ⊥
   Chain hs (s ∷ ss) [] ts = ⊥
-  Chain hs (s ∷ ss) (a ∷ as) ts = (ms : List Handle) × StepGrows login plans hs s a.outcome a.uses ms × Chain ms ss as ts
+  Chain hs (s ∷ ss) (a ∷ vs) ts = (ms : List Handle) × StepGrows login plans hs s a.outcome a.uses ms × Chain ms ss vs ts
 
-  chain_more : (hs : List Handle) (ss : List Step) (as : List AnswerView) (ms : List Handle) (s : Step) (a : AnswerView) (ts : List Handle) → Chain hs ss as ms → StepGrows login plans ms s a.outcome a.uses ts → Chain hs (ss ++ s ∷ []) (as ++ a ∷ []) ts
+  chain_more : (hs : List Handle) (ss : List Step) (vs : List AnswerView) (ms : List Handle) (s : Step) (a : AnswerView) (ts : List Handle) → Chain hs ss vs ms → StepGrows login plans ms s a.outcome a.uses ts → Chain hs (ss ++ s ∷ []) (vs ++ a ∷ []) ts
   chain_more hs [] [] ms s a ts c g = (ts, subst (λ (xs : List Handle). StepGrows login plans xs s a.outcome a.uses ts) c g, refl)
-  chain_more hs [] (b ∷ as) ms s a ts c g = absurd c
+  chain_more hs [] (b ∷ vs) ms s a ts c g = absurd c
   chain_more hs (x ∷ ss) [] ms s a ts c g = absurd c
-  chain_more hs (x ∷ ss) (b ∷ as) ms s a ts c g = (c.0, c.1, chain_more c.0 ss as ms s a ts c.2 g)
+  chain_more hs (x ∷ ss) (b ∷ vs) ms s a ts c g = (c.0, c.1, chain_more c.0 ss vs ms s a ts c.2 g)
 
   pub grown_chain : (ls : List Line) → AreGrown login plans ls → Chain [] (steps_of ls) (answers_of ls) (handles_after ls)
   grown_chain [] w = refl

@@ -208,6 +208,10 @@ and_right : (a b : Bool) → a && b ≡ true → b ≡ true
 and_right true b e = e
 and_right false b e = cc
 
+and_both : (a b : Bool) → a ≡ true → b ≡ true → a && b ≡ true
+and_both true b e f = f
+and_both false b e f = cc
+
 or_right : (a b : Bool) → a ≡ false → a || b ≡ true → b ≡ true
 or_right true b f e = cc
 or_right false b f e = e
@@ -244,31 +248,31 @@ module _ (login : Login) (plans : Plans) where
   -- one step at connection 0
   step_went : (call : Call) → not (is_connect (kind_of call)) ≡ true → (k : Kept) (x : Looks) (hs : List Handle) (o : Outcome) (us : List Use) (ms : List Handle) → hs ≡ Joined true k x ∷ [] → k.pending ≡ None → StepGrows login plans hs (step_of call) o us ms
       → (h : Handle) × (ms ≡ h ∷ []) × Went k call o (taken_in us) h
-  step_went calls.Connect no k x hs o us ms is rest g = cc
-  step_went (calls.Query text) no k x hs o us ms is rest g = at_went (calls.Query text) k x hs o us ms is rest g.made g.does g.others
-  step_went calls.NextRow no k x hs o us ms is rest g = at_went calls.NextRow k x hs o us ms is rest g.made g.does g.others
-  step_went calls.DropResult no k x hs o us ms is rest g = at_went calls.DropResult k x hs o us ms is rest g.made g.does g.others
-  step_went calls.Ping no k x hs o us ms is rest g = at_went calls.Ping k x hs o us ms is rest g.made g.does g.others
-  step_went calls.Quit no k x hs o us ms is rest g = at_went calls.Quit k x hs o us ms is rest g.made g.does g.others
+  step_went calls.Connect plain k x hs o us ms is rest g = cc
+  step_went (calls.Query text) plain k x hs o us ms is rest g = at_went (calls.Query text) k x hs o us ms is rest g.made g.does g.others
+  step_went calls.NextRow plain k x hs o us ms is rest g = at_went calls.NextRow k x hs o us ms is rest g.made g.does g.others
+  step_went calls.DropResult plain k x hs o us ms is rest g = at_went calls.DropResult k x hs o us ms is rest g.made g.does g.others
+  step_went calls.Ping plain k x hs o us ms is rest g = at_went calls.Ping k x hs o us ms is rest g.made g.does g.others
+  step_went calls.Quit plain k x hs o us ms is rest g = at_went calls.Quit k x hs o us ms is rest g.made g.does g.others
 
-  through : (ss : List Span) → are_plain ss ≡ true → (k : Kept) (x : Looks) (hs : List Handle) → hs ≡ Joined true k x ∷ [] → (is_last ss ≡ false → k.pending ≡ None) → (as : List AnswerView) → map (λ b. b.outcome) as ≡ map (λ s. outcome_of s.ending) ss → map (λ b. taken_in b.uses) as ≡ map (λ s. length s.taken) ss
-      → (ts : List Handle) → Chain login plans hs (map (λ s. step_of s.call) ss) as ts → Led k ss ts
+  through : (ss : List Span) → are_plain ss ≡ true → (k : Kept) (x : Looks) (hs : List Handle) → hs ≡ Joined true k x ∷ [] → (is_last ss ≡ false → k.pending ≡ None) → (vs : List AnswerView) → map (λ b. b.outcome) vs ≡ map (λ s. outcome_of s.ending) ss → map (λ b. taken_in b.uses) vs ≡ map (λ s. length s.taken) ss
+      → (ts : List Handle) → Chain login plans hs (map (λ s. step_of s.call) ss) vs ts → Led k ss ts
   through [] plain k x hs is rest [] outs taken ts c = record { kept = k; link = x; left = c ∙ is; more = []; calls = sym (append-nil (calls_kept k.calls k.pending)); are = tt }
-  through [] plain k x hs is rest (a ∷ as) outs taken ts c = absurd c
+  through [] plain k x hs is rest (a ∷ vs) outs taken ts c = absurd c
   through (s ∷ ss) plain k x hs is rest [] outs taken ts c = absurd c
-  through (s ∷ ss) plain k x hs is rest (a ∷ as) outs taken ts c =
-      let no = and_left (not (is_connect (kind_of s.call))) _ plain in
+  through (s ∷ ss) plain k x hs is rest (a ∷ vs) outs taken ts c =
+      let begins = and_left (not (is_connect (kind_of s.call))) _ plain in
       let others = and_right (not (is_connect (kind_of s.call))) _ plain in
       let shows = and_left (is_shown s.ending) _ others in
       let later = and_right (is_shown s.ending) _ others in
       let ends = and_left (is_last ss || is_told s.ending) _ later in
       let plain_on = and_right (is_last ss || is_told s.ending) _ later in
-      let g = step_went s.call no k x hs a.outcome a.uses c.0 is (rest refl) c.1 in
+      let g = step_went s.call begins k x hs a.outcome a.uses c.0 is (rest refl) c.1 in
       let w = g.2 in
       let ending : w.ending ≡ s.ending = w.ending_is ∙ ap ending_by (head_same a.outcome (outcome_of s.ending) _ _ outs) ∙ ending_back s.ending shows in
       let told : is_last ss ≡ false → is_told w.ending ≡ true = λ more. ap is_told ending ∙ or_right (is_last ss) (is_told s.ending) more ends in
       joined k s ss ts a.outcome (taken_in a.uses) g.0 w (rest refl) ending (head_same (taken_in a.uses) (length s.taken) _ _ taken)
-      (through ss plain_on w.kept w.link c.0 (g.1 ∙ ap (λ (h : Handle). h ∷ []) w.left) (λ more. w.rests (told more)) as (tail_same a.outcome (outcome_of s.ending) _ _ outs) (tail_same (taken_in a.uses) (length s.taken) _ _ taken) ts c.2)
+      (through ss plain_on w.kept w.link c.0 (g.1 ∙ ap (λ (h : Handle). h ∷ []) w.left) (λ more. w.rests (told more)) vs (tail_same a.outcome (outcome_of s.ending) _ _ outs) (tail_same (taken_in a.uses) (length s.taken) _ _ taken) ts c.2)
 
 -- the connection is made
 ready_answer : (answer : Answer) → may_be Connect (told answer) ≡ true → told answer ≡ ToldReady
@@ -280,13 +284,13 @@ ready_answer answers.NoSet e = cc
 connects_went : (login : Login) (x : Looks) (o : Outcome) (us : List Use) (used : Use) (t : Handle) (id : ℕ) (version : ServerVersion) → o ≡ Connected 0 id version → us ≡ quiet 0 ∷ used ∷ [] → Connects login 0 first_asked first_kept x o used t → Went nothing_kept calls.Connect o (taken_in us) t
 unfolding ending_by
 connects_went login x o us used t id version is uses w =
-    let count : length w.polled.following.taken ≡ taken_in us =
+    let count : length w.polled.following.taken ≡ 0 + taken_in us =
     let e = ap length w.polled.taken_is in
     let u : taken_in us ≡ 0 + (used.met.taken + 0) = ap taken_in uses in
     omega (arith, e, u, w.polled.met.taken) in
     by_after w.after count w.polled.ends w.shows
   where
-    by_after : (p : After) → length w.polled.following.taken ≡ taken_in us → PollEnds login first_asked w.polled.following used.met w.polled.stop p w.end → ConnectShows login 0 p w.end w.link o t → Went nothing_kept calls.Connect o (taken_in us) t
+    by_after : (p : After) → length w.polled.following.taken ≡ 0 + taken_in us → PollEnds login first_asked w.polled.following used.met w.polled.stop p w.end → ConnectShows login 0 p w.end w.link o t → Went nothing_kept calls.Connect o (taken_in us) t
     by_after after.Pending count e s = let no : Pending ≡ Connected 0 id version = sym s.0 ∙ is in cc
     by_after (after.Answered answer) count e s =
         ended_went nothing_kept w.polled.following first_asked (says.Answered answer) o (taken_in us) w.link t calls.Connect refl refl refl w.polled.calls count
@@ -321,13 +325,9 @@ none_connects : (login : Login) (ss : List Span) → are_plain ss ≡ true → (
 unfolding read_calls
 none_connects login [] plain t n m closed p = refl
 none_connects login (s ∷ ss) plain t n m closed p =
-    let no = and_left (not (is_connect (kind_of s.call))) _ plain in
+    let begins = and_left (not (is_connect (kind_of s.call))) _ plain in
     let on = and_right (is_last ss || is_told s.ending) _ (and_right (is_shown s.ending) _ (and_right (not (is_connect (kind_of s.call))) _ plain)) in
-    both _ _ no (none_connects login ss on t (n + length s.sent) (m + length s.taken) _ _)
-  where
-    both : (a b : Bool) → a ≡ true → b ≡ true → a && b ≡ true
-    both true b e f = f
-    both false b e f = cc
+    and_both _ _ begins (none_connects login ss on t (n + length s.sent) (m + length s.taken) _ _)
 
 explained_now : (login : Login) (plans : Plans) (lines : List Line) → EachExplained login plans lines → (n : ℕ) → IsExplained login (plans.reads n) (at_number (handles_after lines) n)
 explained_now login plans [] w n = tt
@@ -338,18 +338,18 @@ first_view [] = record { number = 0; sent = []; taken = []; calls = [] }
 first_view (v ∷ vs) = v
 
 -- what the transcript shows is a tape that its reading accepts
-pub shown_tape : (login : Login) (plans : Plans) (before later : DialCounts) (a : StepAnswer) (as : List StepAnswer) (t : Tape) (s : Span) (ss : List Span) → s.call ≡ calls.Connect → s.ending ≡ Some ToldReady → are_plain ss ≡ true → Shows a as t s ss
-    → Headline login plans before later (steps.Conn ∷ map (λ c. step_of c.call) ss) (a ∷ as) (t ∷ []) → IsTape login (tape_of (s ∷ ss))
-unfolding reading read_calls first_view
-shown_tape login plans before later a as t s ss connects ready plain w h =
-    let chain : Chain login plans [] (steps.Conn ∷ map (λ c. step_of c.call) ss) (map answer_view (a ∷ as)) (handles_after h.lines) =
+pub shown_tape : (login : Login) (plans : Plans) (before later : DialCounts) (a : StepAnswer) (vs : List StepAnswer) (t : Tape) (s : Span) (ss : List Span) → s.call ≡ calls.Connect → s.ending ≡ Some ToldReady → are_plain ss ≡ true → Shows a vs t s ss
+    → Headline login plans before later (steps.Conn ∷ map (λ c. step_of c.call) ss) (a ∷ vs) (t ∷ []) → IsTape login (tape_of (s ∷ ss))
+unfolding reading read_calls first_view ending_by
+shown_tape login plans before later a vs t s ss connects ready plain w h =
+    let chain : Chain login plans [] (steps.Conn ∷ map (λ c. step_of c.call) ss) (map answer_view (a ∷ vs)) (handles_after h.lines) =
     subst (λ (vs : List AnswerView). Chain login plans [] (steps.Conn ∷ map (λ c. step_of c.call) ss) vs (handles_after h.lines)) (sym h.answered)
     (subst (λ (xs : List Step). Chain login plans [] xs (answers_of h.lines) (handles_after h.lines)) h.steps_are (grown_chain login plans h.lines h.grown)) in
     let made = dials_went login (plans.reads 0) (plans.writes 0) a.outcome a.uses.items chain.1.made w.id w.version w.made chain.1.dials in
     let made_so : Went nothing_kept s.call a.outcome (taken_in a.uses.items) chain.1.made = subst (λ (c : Call). Went nothing_kept c a.outcome (taken_in a.uses.items) chain.1.made) (sym connects) made in
     let ending : made_so.ending ≡ s.ending = made_so.ending_is ∙ ap ending_by w.made ∙ connected_ending w.id w.version ∙ sym ready in
     let told : is_told made_so.ending ≡ true = ap is_told (ending ∙ ready) in
-    let rest = through login plans ss plain made_so.kept made_so.link chain.0 (chain.1.others ∙ ap (λ (x : Handle). x ∷ []) made_so.left) (λ more. made_so.rests told) (map answer_view as) (views_outcomes as ∙ w.outcomes) (views_taken as ∙ w.taken) (handles_after h.lines) chain.2 in
+    let rest = through login plans ss plain made_so.kept made_so.link chain.0 (chain.1.others ∙ ap (λ (x : Handle). x ∷ []) made_so.left) (λ more. made_so.rests told) (map answer_view vs) (views_outcomes vs ∙ w.outcomes) (views_taken vs ∙ w.taken) (handles_after h.lines) chain.2 in
     let all = joined nothing_kept s ss (handles_after h.lines) a.outcome (taken_in a.uses.items) chain.1.made made_so refl ending w.made_taken rest in
     let k : Kept = all.kept in
     let view : tape_view t ≡ record { number = 0; sent = k.sent; taken = k.taken; calls = map tape_call k.calls ++ open_call k.pending } =
@@ -365,18 +365,17 @@ shown_tape login plans before later a as t s ss connects ready plain w h =
     ∙ ap (λ (x : List TapeCall). let r : ReadTape = record { sent = all_sent (s ∷ ss); taken = all_taken (s ∷ ss); calls = x } in r) calls in
     let explained : IsExplained login (plans.reads 0) (Joined true k all.link) = subst (λ (hs : List Handle). IsExplained login (plans.reads 0) (at_number hs 0)) all.left (explained_now login plans h.lines h.explained 0) in
     record {
-      first = ap (λ (c : Call). is_connect (kind_of c) && connects_none (read_calls login (spans_from (tape_of (s ∷ ss)) (calls_from (length s.sent) (length s.taken) ss)) _ _).calls) connects ∙ none_connects login ss plain (tape_of (s ∷ ss)) (length s.sent) (length s.taken) _ _;
+      first = and_both _ _ (ap (λ (c : Call). is_connect (kind_of c)) connects) (none_connects login ss plain (tape_of (s ∷ ss)) (0 + length s.sent) (0 + length s.taken) _ _);
       calls = subst (λ (r : ReadTape). AreCalls login (reading login r).calls) tape explained.0.read;
     }
   where
     connected_ending : (id : ℕ) (version : ServerVersion) → ending_by (Connected 0 id version) ≡ Some ToldReady
-    unfolding ending_by
     connected_ending id version = refl
 
-    views_outcomes : (as : List StepAnswer) → map (λ (b : AnswerView). b.outcome) (map answer_view as) ≡ map (λ (b : StepAnswer). b.outcome) as
+    views_outcomes : (vs : List StepAnswer) → map (λ (b : AnswerView). b.outcome) (map answer_view vs) ≡ map (λ (b : StepAnswer). b.outcome) vs
     views_outcomes [] = refl
-    views_outcomes (a ∷ as) = ap (λ xs. a.outcome ∷ xs) (views_outcomes as)
+    views_outcomes (a ∷ vs) = ap (λ xs. a.outcome ∷ xs) (views_outcomes vs)
 
-    views_taken : (as : List StepAnswer) → map (λ (b : AnswerView). taken_in b.uses) (map answer_view as) ≡ map (λ (b : StepAnswer). taken_in b.uses.items) as
+    views_taken : (vs : List StepAnswer) → map (λ (b : AnswerView). taken_in b.uses) (map answer_view vs) ≡ map (λ (b : StepAnswer). taken_in b.uses.items) vs
     views_taken [] = refl
-    views_taken (a ∷ as) = ap (λ xs. taken_in a.uses.items ∷ xs) (views_taken as)
+    views_taken (a ∷ vs) = ap (λ xs. taken_in a.uses.items ∷ xs) (views_taken vs)
