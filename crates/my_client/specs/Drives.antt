@@ -1,5 +1,5 @@
 -- What a poll of the open call does, once what it came to is kept.
-use Rattle.std.specs.Prelude.{◌≡◌, ◌&&◌, List, Option, Some, Bool, false, not}
+use Rattle.std.specs.Prelude.{◌≡◌, ◌&&◌, List, Option, Some, Bool, not}
 use Rattle.my_value.specs.RowParts.{RowParts}
 use Rattle.my_grammar.specs.declared.login.Login.{Login}
 use Rattle.my_session.specs.Seen.{Seen}

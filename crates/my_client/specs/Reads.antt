@@ -1,5 +1,5 @@
 -- What a connection kept, by the one reading of its tape.
-use Rattle.std.specs.Prelude.{◌≡◌, ◌≢◌, ◌≤◌, ◌⊎◌, ℕ, List, [], ◌∷◌, ◌++◌, length, drop, Option, Some, None, Bool, true, false}
+use Rattle.std.specs.Prelude.{◌≡◌, ◌≢◌, ◌≤◌, ◌⊎◌, ℕ, List, [], ◌∷◌, length, drop, Option, Some, None, Bool, true, false}
 use Rattle.my_grammar.specs.declared.login.Login.{Login}
 use Rattle.my_reading.specs.declared.call.CallKind.TheVariants.{Quit}
 use Rattle.my_reading.specs.declared.facts.Facts.{Facts}
@@ -8,7 +8,7 @@ use Rattle.my_reading.specs.Course.{Part, Stop, Owes, Awaits, Returns, Stops, st
 use Rattle.my_reading.specs.Endings.{AreCalls}
 use Rattle.my_reading.specs.Leads.{Leads}
 use Rattle.my_reading.specs.Place.{Place, first_place, facts_at, with_bytes}
-use Rattle.my_reading.specs.Reading.{ReadCall, Reading, read_calls, reading}
+use Rattle.my_reading.specs.Reading.{ReadCall, read_calls, reading}
 use Rattle.my_reading.specs.Tape.{Tape, TapeCall, Span, between}
 use Rattle.my_reading.specs.Told.{Told}
 use Rattle.my_session.specs.declared.task.Task.TheVariants.{Leaving}

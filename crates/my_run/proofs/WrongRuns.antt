@@ -1,5 +1,5 @@
 -- How wrong runs are refuted.
-use Rattle.std.proofs.Common.{ℕ, ◌≡◌, ◌<◌, ◌+◌, ◌⊎◌, inl, inr, zero, suc, List, [], ◌∷◌, ◌++◌, length, map, Option, Some, None, Bool, true, false, refl, sym, ap, ◌∙◌, subst, arith}
+use Rattle.std.proofs.Common.{ℕ, ◌≡◌, ◌<◌, ◌⊎◌, inl, inr, zero, suc, List, [], ◌∷◌, ◌++◌, length, map, Option, Some, None, Bool, true, false, refl, sym, ap, ◌∙◌, subst, arith}
 use Rattle.std.proofs.lemmas.List.{append-nil, length-append}
 use Rattle.my_grammar.specs.declared.login.Login.{Login}
 use Rattle.my_frame.specs.Outside.{Rose}
@@ -21,12 +21,9 @@ use Rattle.my_reading.specs.declared.call.Call.TheVariants.{Ping, Quit}
 use Rattle.my_reading.specs.Calls.{kind_of}
 use Rattle.my_reading.specs.declared.error.IoKind.TheVariants.{Dial}
 use Rattle.my_reading.specs.Errors.{connection_closed, io_error}
-use Rattle.my_session.specs.declared.answer.SessionStep.TheVariants as doings
 use Rattle.my_session.specs.History.{has_closed}
-use Rattle.my_session.specs.Machine.{next}
-use Rattle.my_session.specs.Seen.{Seen}
 use Rattle.my_session.specs.Stands.{owes}
-use Rattle.my_session.specs.Steps.{with_end, is_refused}
+use Rattle.my_session.specs.Steps.{is_refused}
 use Rattle.my_script.specs.declared.step.Step.{Step}
 use Rattle.my_script.specs.declared.step.Step.TheVariants as steps
 use Rattle.my_script.specs.declared.transcript.Outcome.{Outcome}
@@ -43,9 +40,6 @@ use Rattle.my_reading.specs.Told.{ToldReady}
 use Rattle.my_client.proofs.TapeRead.Stopping.{stop_closed}
 use Rattle.my_client.specs.Causes.{IsPolled, PollEnds}
 use Rattle.my_client.specs.Kept.{Asked, Kept, made_of, asking, asked_by, first_asked, first_kept}
-use Rattle.my_client.specs.Poll.{Owes, Awaits}
-use Rattle.my_client.proofs.Hearing.Beginning.{closed_kept}
-use Rattle.my_client.proofs.Hearing.Failing.{is_leaving, leaving_told}
 use Rattle.my_world.specs.World.{Plans, WorldSeen, DialCounts, no_dials}
 use Rattle.my_run.specs.declared.tool.Status.{Status}
 use Rattle.my_run.specs.declared.tool.Status.TheVariants as ends

@@ -10,7 +10,6 @@ use Rattle.my_reply.specs.ErrPacket.{err_at}
 use Rattle.my_value.specs.RowParts.{RowParts}
 use Rattle.my_grammar.specs.declared.login.Login.{Login}
 use Rattle.my_grammar.specs.declared.spot.Spot.{Spot}
-use Rattle.my_grammar.specs.declared.spot.Spot.TheVariants as spots
 use Rattle.my_grammar.specs.declared.spot.Terms.{Terms}
 use Rattle.my_grammar.specs.declared.spot.Kind.{Kind}
 use Rattle.my_grammar.specs.declared.spot.Kind.TheVariants.{Greets}

@@ -1,5 +1,5 @@
 -- Where a session stands in the reading of its connection.
-use Rattle.std.specs.Prelude.{◌≡◌, ◌⊎◌, ℕ, suc, ◌&&◌, not, List, [], ◌∷◌, ◌++◌, drop, Option, Some, None, Bool, true, false}
+use Rattle.std.specs.Prelude.{◌≡◌, ◌⊎◌, ℕ, suc, ◌&&◌, not, List, [], ◌∷◌, ◌++◌, drop, Some, None, Bool, true, false}
 use Rattle.my_frame.specs.FrontLaws.{AreBytes}
 use Rattle.my_grammar.specs.declared.login.Login.{Login}
 use Rattle.my_grammar.specs.declared.spot.Context.{Context}

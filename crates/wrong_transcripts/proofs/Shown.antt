@@ -22,24 +22,21 @@ use Rattle.my_handshake.specs.declared.version.ServerVersion.{ServerVersion}
 use Rattle.my_link.specs.declared.link.ReadItem.{ReadItem}
 use Rattle.my_link.specs.declared.link.WriteItem.{WriteItem}
 use Rattle.my_link.specs.Looks.{Looks}
-use Rattle.my_link.specs.declared.met.Met.{Met}
-use Rattle.my_link.specs.Moves.{Stop}
 use Rattle.my_script.specs.declared.step.Step.{Step}
 use Rattle.my_script.specs.declared.step.Step.TheVariants as steps
 use Rattle.my_script.specs.declared.transcript.Outcome.{Outcome}
 use Rattle.my_script.specs.declared.transcript.Outcome.TheVariants.{Done, Pending, SetEnd, NoSet, Row, Rows, Fields, Connected, Failed, NoSuchHandle}
 use Rattle.my_script.specs.declared.transcript.StepAnswer.{StepAnswer}
 use Rattle.my_script.specs.declared.transcript.Tape.{Tape}
-use Rattle.my_script.specs.declared.transcript.TapeCall.{TapeCall as ShownCall}
 use Rattle.my_script.specs.declared.transcript.Use.{Use}
 use Rattle.my_client.specs.declared.poll.After.{After}
 use Rattle.my_client.specs.declared.poll.After.TheVariants as after
 use Rattle.my_client.specs.declared.tape.DoneCall.{DoneCall}
 use Rattle.my_client.specs.declared.tape.Said.{Said}
 use Rattle.my_client.specs.declared.tape.Said.TheVariants as says
-use Rattle.my_client.specs.Causes.{PollEnds, IsPolled}
+use Rattle.my_client.specs.Causes.{PollEnds}
 use Rattle.my_client.specs.Kept.{Asked, Kept, nothing_kept, told_by, made_of, asking, asked_by, ended_by, first_asked, first_kept}
-use Rattle.my_client.specs.Reads.{calls_kept, tape_kept, IsRead}
+use Rattle.my_client.specs.Reads.{calls_kept, tape_kept}
 use Rattle.my_world.specs.World.{Plans, DialCounts}
 use Rattle.my_run.specs.Grows.{Begins, BeginsOn, Calls, Connects, ConnectShows, Dials, Holds, Fails, Links, Line, PolledOnce, StepGrows, answer_shown, shown, handles_after}
 use Rattle.my_run.specs.Handle.{Handle, Joined, at_number, put_at}

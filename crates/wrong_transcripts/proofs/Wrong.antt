@@ -1,5 +1,5 @@
 -- The wrong transcripts: each shows a wrong tape.
-use Rattle.std.proofs.Common.{◌≡◌, List, [], ◌∷◌, true, refl}
+use Rattle.std.proofs.Common.{◌≡◌, List, ◌∷◌, true, refl}
 use Rattle.my_reading.specs.Endings.{IsTape}
 use Rattle.my_reading.specs.Tape.{Span}
 use Rattle.wrong_tapes.specs.Bytes.{root, connected, tape_of}

@@ -1,6 +1,6 @@
 -- Transcripts that no run has.
-use Rattle.std.specs.Prelude.{List, [], ◌∷◌, ◌++◌, codes, Some, None, true, false}
-use Rattle.my_reading.specs.declared.call.Call.TheVariants.{Query, NextRow, DropResult, Ping, Quit}
+use Rattle.std.specs.Prelude.{List, [], ◌∷◌, ◌++◌, codes, None}
+use Rattle.my_reading.specs.declared.call.Call.TheVariants.{Query, NextRow, DropResult, Quit}
 use Rattle.my_reading.specs.declared.error.Error.TheVariants.{Server}
 use Rattle.my_reading.specs.declared.error.IoKind.TheVariants.{Link}
 use Rattle.my_reading.specs.Errors.{io_error, unexpected_eof, invalid_data}

@@ -32,7 +32,7 @@ use Rattle.my_client.specs.Poll.{Awaits, Waits}
 use Rattle.my_client.specs.declared.tape.Said.TheVariants as says
 use Rattle.my_client.specs.Kept.{Asked, Kept, IsHeard, ended_by}
 use Rattle.my_client.specs.Reads.{ComesTo, IsWaiting, RestRead, stop_kept}
-use Rattle.my_client.specs.Rests.{Rests, IsAsked, IsHeld, FailsNow, HasFailed, AwaitsBytes}
+use Rattle.my_client.specs.Rests.{IsAsked, IsHeld, FailsNow, HasFailed, AwaitsBytes}
 use Rattle.my_client.proofs.Hearing.{heard_end, heard_failing}
 use Rattle.my_client.proofs.Hearing.Stepping.{StepStands, asked_read, fails_now, nothing_faults}
 use Rattle.my_client.proofs.TapeRead.Sessions.{broke_read, end_read, fault_read, fault_stop}

@@ -1,14 +1,14 @@
 -- A tape's calls with their bytes, when bytes come or a call ends.
-use Rattle.std.proofs.Common.{◌≡◌, ℕ, zero, suc, ◌+◌, ◌-◌, ◌≤◌, List, [], ◌∷◌, ◌++◌, length, take, drop, Bool, true, false, ◌||◌, Option, Some, None, refl, sym, ap, ◌∙◌, subst, arith, length-append}
-use Rattle.std.proofs.lemmas.List.{append-nil, append_assoc, take-append-le, take_rest}
+use Rattle.std.proofs.Common.{◌≡◌, ℕ, zero, suc, ◌-◌, ◌≤◌, List, [], ◌∷◌, ◌++◌, length, take, drop, Bool, ◌||◌, Some, None, refl, sym, ap, ◌∙◌, arith, length-append}
+use Rattle.std.proofs.lemmas.List.{take-append-le, take_rest}
 use Rattle.my_grammar.specs.declared.login.Login.{Login}
 use Rattle.my_reading.specs.Endings.{IsCall, AreCalls}
 use Rattle.my_reading.specs.Place.{Place}
 use Rattle.my_reading.specs.Reading.{ReadCall, Reading, read_calls, halt_of, is_closing, with_call}
-use Rattle.my_reading.specs.Tape.{Tape, TapeCall, Span, between, spans, spans_from, sent_to, taken_to}
+use Rattle.my_reading.specs.Tape.{Tape, Span, between, spans_from}
 use Rattle.my_client.specs.declared.tape.DoneCall.{DoneCall}
-use Rattle.my_client.specs.Kept.{Asked, Kept, told_by}
-use Rattle.my_client.specs.Reads.{calls_kept, tape_kept, span_to, spans_to, AreWithin}
+use Rattle.my_client.specs.Kept.{Asked, told_by}
+use Rattle.my_client.specs.Reads.{calls_kept, span_to, spans_to, AreWithin}
 
 less_none : (n : ℕ) → zero - n ≡ zero
 less_none n = omega arith

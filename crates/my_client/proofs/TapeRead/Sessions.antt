@@ -1,16 +1,13 @@
 -- What a session does to the reading of its connection's tape.
-use Rattle.std.proofs.Common.{◌≡◌, ◌≢◌, ◌⊎◌, ◌≤◌, ℕ, zero, suc, List, [], ◌∷◌, ◌++◌, length, take, drop, Bool, true, false, cond, ◌||◌, ◌&&◌, not, Option, Some, None, inl, inr, refl, sym, ap, ◌∙◌, subst, arith}
+use Rattle.std.proofs.Common.{◌≡◌, ◌≢◌, ◌⊎◌, ℕ, zero, suc, List, [], ◌++◌, length, take, drop, Bool, true, false, cond, ◌&&◌, not, Option, Some, None, inl, inr, refl, sym, ap, ◌∙◌, subst, arith}
 use Rattle.std.proofs.lemmas.List.{append-nil, drop_all}
 use Rattle.std.proofs.Math.Seq.{drop-nil}
 use Rattle.my_grammar.specs.declared.login.Login.{Login}
 use Rattle.my_value.specs.RowParts.{RowParts}
 use Rattle.my_grammar.specs.declared.spot.Context.{Context}
 use Rattle.my_reading.specs.declared.error.IoKind.TheVariants.{Link}
-use Rattle.my_grammar.specs.declared.spot.Spot.{Spot}
-use Rattle.my_grammar.specs.declared.spot.Spot.TheVariants as spots
 use Rattle.my_grammar.specs.Talk.{context_of}
 use Rattle.my_reading.specs.declared.answer.Answer.{Answer}
-use Rattle.my_reading.specs.declared.answer.Answer.TheVariants as answers
 use Rattle.my_reading.specs.declared.call.Call.{Call}
 use Rattle.my_reading.specs.declared.call.Call.TheVariants as calls
 use Rattle.my_reading.specs.declared.call.CallKind.{CallKind}
@@ -18,14 +15,13 @@ use Rattle.my_reading.specs.declared.call.CallKind.TheVariants.{Connect, Query, 
 use Rattle.my_reading.specs.declared.error.Error.{Error}
 use Rattle.my_reading.specs.declared.error.Error.TheVariants as errors
 use Rattle.my_reading.specs.Calls.{asks, kind_of, call_of, text_of, is_quit}
-use Rattle.my_reading.specs.Course.{Part, Owes, Awaits, Returns, Stops, step, parts_of, is_greeting}
+use Rattle.my_reading.specs.Course.{Part, Owes, Awaits, Returns, Stops, step, parts_of}
 use Rattle.my_reading.specs.Endings.{closes_cancelled, awaits_head}
 use Rattle.my_reading.specs.Errors.{io_error, connection_closed, unexpected_eof}
-use Rattle.my_reading.specs.Leads.{Leads, Here, Then}
+use Rattle.my_reading.specs.Leads.{Leads, Here}
 use Rattle.my_reading.specs.Place.{Place, first_place, exchanges, connects_in, facts_at, with_bytes}
 use Rattle.my_reading.specs.Reading.{read_calls, closed_answer}
-use Rattle.my_reading.specs.Told.{Told, ToldReady, ToldError, told}
-use Rattle.my_session.specs.declared.answer.SessionStep.{SessionStep}
+use Rattle.my_reading.specs.Told.{ToldReady, ToldError, told}
 use Rattle.my_session.specs.declared.answer.SessionStep.TheVariants as steps
 use Rattle.my_session.specs.declared.answer.Tick.TheVariants as ticks
 use Rattle.my_session.specs.declared.task.LinkFault.{LinkFault}
@@ -34,19 +30,19 @@ use Rattle.my_session.specs.declared.task.Task.{Task}
 use Rattle.my_session.specs.declared.task.Task.TheVariants as tasks
 use Rattle.my_session.specs.Fits.{is_begun}
 use Rattle.my_session.specs.LinkErrors.{link_error}
-use Rattle.my_session.specs.Machine.{Doing, Goes, Sends, Needs, Tells, Did, Does, FaultIs, Move, fell, failed_by, next, next_by, when_owed, planned, with_task, dropped, doing}
-use Rattle.my_session.specs.Mirror.{Mirrors, OwnStandsAt, TaskStandsAt, StandsAt, OpenAt, BegunStandsAt, EachStepReads, EndsAt, FailsAt, ReturnsAt, StepReads, StepsTo, parts_left, passes_end, is_own}
+use Rattle.my_session.specs.Machine.{Sends, Needs, Tells, Does, FaultIs, Move, fell, failed_by, next, next_by, when_owed, planned, with_task, dropped}
+use Rattle.my_session.specs.Mirror.{OwnStandsAt, TaskStandsAt, StandsAt, OpenAt, BegunStandsAt, EachStepReads, EndsAt, FailsAt, ReturnsAt, StepReads, StepsTo, passes_end}
 use Rattle.my_session.specs.Seen.{Seen}
-use Rattle.my_session.specs.Stands.{Stands, BegunAt, TaskIs, call_with, owes}
-use Rattle.my_session.specs.Steps.{Steps, AllGo, goes_on, moved, begun, fresh, failing, with_owed, with_unread, with_end, with_failing, is_settled, is_refused}
+use Rattle.my_session.specs.Stands.{call_with, owes}
+use Rattle.my_session.specs.Steps.{Steps, AllGo, goes_on, moved, begun, fresh, with_owed, with_unread, with_end, with_failing}
 use Rattle.my_session.specs.Tables.{plan_of, closes_when_cancelled}
 use Rattle.my_session.specs.Tasks.{kind_in, fault_in, is_open}
 use Rattle.my_session.proofs.Ends.{first_goes}
-use Rattle.my_session.proofs.Mirror.Fields.{mirrors_sent, mirrors_taken, mirrors_fallen}
+use Rattle.my_session.proofs.Mirror.Fields.{mirrors_sent, mirrors_taken}
 use Rattle.my_session.proofs.Mirror.Payloads.{fallen_at}
 use Rattle.my_client.specs.declared.tape.Said.TheVariants as says
 use Rattle.my_client.specs.Kept.{Asked, Kept, nothing_kept, asking, asked_by, ended_by}
-use Rattle.my_client.specs.Reads.{ComesTo, place_kept, EndedRead, RestRead, OpenRead, QuitRead, ReadsAs, StoppedRead}
+use Rattle.my_client.specs.Reads.{ComesTo, place_kept, EndedRead, RestRead, OpenRead, QuitRead, StoppedRead}
 use Rattle.my_client.proofs.TapeRead.Stopping.{place_here, stop_led, stop_open}
 use Rattle.my_client.proofs.TapeRead.{open_on, open_bytes, returns_open, faults_open, breaks_open, cancels_open, ends_closed, no_bytes}
 

@@ -1,8 +1,7 @@
 -- Where the newest call of what was kept stops, and where its reading stands.
-use Rattle.std.proofs.Common.{◌≡◌, ◌≢◌, ◌⊎◌, ℕ, List, [], ◌∷◌, ◌++◌, Bool, true, false, ◌||◌, Option, Some, None, inl, inr, refl, sym, ap, ◌∙◌}
+use Rattle.std.proofs.Common.{◌≡◌, ◌≢◌, ℕ, List, [], ◌∷◌, ◌++◌, Bool, true, false, ◌||◌, Some, None, inl, inr, refl, sym, ap, ◌∙◌}
 use Rattle.my_grammar.specs.declared.login.Login.{Login}
-use Rattle.my_reading.specs.declared.facts.Facts.{Facts}
-use Rattle.my_reading.specs.Course.{Part, Stop, Owes, Awaits, Returns, Stops, Halt, halt, step}
+use Rattle.my_reading.specs.Course.{Part, Stop, Owes, Awaits, Returns, Stops, Halt, step}
 use Rattle.my_reading.specs.Leads.{Leads}
 use Rattle.my_reading.specs.Place.{Place, first_place, facts_at}
 use Rattle.my_reading.specs.Calls.{kind_of}

@@ -1,6 +1,6 @@
 -- How an open call is cancelled, and what tells without a call.
 use Rattle.my_reading.specs.declared.facts.Facts.{Facts}
-use Rattle.std.proofs.Common.{ℕ, ◌≡◌, ◌⊎◌, inl, inr, List, [], ◌∷◌, ◌&&◌, not, Bool, true, false, cond, Option, Some, None, refl, sym, ap, ◌∙◌, subst}
+use Rattle.std.proofs.Common.{ℕ, ◌≡◌, List, [], ◌∷◌, ◌&&◌, not, Bool, true, false, cond, Option, Some, None, refl, sym, ap, ◌∙◌, subst}
 use Rattle.my_grammar.specs.declared.login.Login.{Login}
 use Rattle.my_reply.specs.declared.ok.OkPacket.{OkPacket}
 use Rattle.my_session.specs.declared.task.Task.{Task}
@@ -23,9 +23,8 @@ use Rattle.my_script.specs.declared.transcript.Outcome.{Outcome}
 use Rattle.my_script.specs.declared.transcript.Outcome.TheVariants.{Done, Fields, NoSuchHandle}
 use Rattle.my_script.specs.declared.transcript.Use.{Use}
 use Rattle.my_run.specs.Did.{Did}
-use Rattle.my_run.specs.Grows.{OnConnection, CollectsAt, CollectsOn, Cancels, CancelsWith, TellsFields, TellsWith}
+use Rattle.my_run.specs.Grows.{CollectsAt, CollectsOn, Cancels, CancelsWith, TellsFields, TellsWith}
 use Rattle.my_run.specs.Handle.{Handle, Joined}
-use Rattle.my_world.specs.World.{Plans}
 use Rattle.my_client.specs.Ready.{StandsBy}
 use Rattle.my_run.specs.Keeps.{IsStood}
 use Rattle.my_client.specs.Kept.{Asked, Kept, ended_by}

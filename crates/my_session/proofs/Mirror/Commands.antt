@@ -1,14 +1,10 @@
 -- A command that the machine begins is the reading's next one.
 use Rattle.std.proofs.Common.{◌≡◌, ◌≢◌, ℕ, zero, suc, List, [], ◌∷◌, ◌++◌, length, drop, nat_lt, ◌&&◌, not, Bool, true, false, cond, Option, Some, None, inl, refl, sym, ap, ◌∙◌, subst}
 use Rattle.std.specs.List.{slice_get}
-use Rattle.my_frame.specs.Chunks.{chunks}
 use Rattle.my_frame.specs.declared.fault.CodecFault.TheVariants.{TooLarge}
 use Rattle.my_command.specs.declared.client.ClientPacket.TheVariants as packets
 use Rattle.my_command.specs.Client.Packet.{client_bytes as packet_bytes}
-use Rattle.my_grammar.specs.declared.login.Login.{Login}
 use Rattle.my_grammar.specs.declared.spot.Context.{Context}
-use Rattle.my_grammar.specs.declared.spot.Spot.{Spot}
-use Rattle.my_grammar.specs.declared.spot.Spot.TheVariants as spots
 use Rattle.my_grammar.specs.declared.spot.Terms.{Terms}
 use Rattle.my_grammar.specs.Cut.{is_over, is_idle}
 use Rattle.my_grammar.specs.Sets.{NoSets}
@@ -19,16 +15,16 @@ use Rattle.my_reading.specs.declared.call.CallKind.{CallKind}
 use Rattle.my_reading.specs.declared.call.CallKind.TheVariants.{Connect, Query, NextRow, DropResult, Ping, Quit}
 use Rattle.my_reading.specs.Calls.{kind_of, call_of, asks}
 use Rattle.my_reading.specs.Commands.{opening, connecting, query_of, command_of, command_in, arranging_texts}
-use Rattle.my_reading.specs.Course.{Part, All, Head, Command, Goes, Stops, Owes, step, step_of, failure, return, with_command, reads, parts_of_texts, is_greeting}
+use Rattle.my_reading.specs.Course.{Part, All, Head, Command, Goes, step, failure, return, with_command, reads, parts_of_texts, is_greeting}
 use Rattle.my_reading.specs.Errors.{codec_error}
-use Rattle.my_reading.specs.Leads.{Leads, Here, Then}
+use Rattle.my_reading.specs.Leads.{Here, Then}
 use Rattle.my_reading.specs.Place.{Place, exchanges, connects_in, next_exchange, terms_of, with_exchange, without_end}
-use Rattle.my_reading.specs.Told.{Told, ToldReady, ToldError, closes}
+use Rattle.my_reading.specs.Told.{ToldReady, closes}
 use Rattle.my_session.specs.declared.tables.Plan.TheVariants as plans
 use Rattle.my_session.specs.declared.task.Task.{Task}
 use Rattle.my_session.specs.declared.task.Task.TheVariants as tasks
-use Rattle.my_session.specs.Machine.{Sends, Tells, Move, queued, too_large, begins, asked, arranged, planned, next_terms, with_task}
-use Rattle.my_session.specs.Mirror.{Mirrors, StandsAt, OpenAt, MoveReads, TaskStandsAt, own_parts, parts_left, passes_end}
+use Rattle.my_session.specs.Machine.{queued, begins, arranged, planned, next_terms}
+use Rattle.my_session.specs.Mirror.{Mirrors, MoveReads, TaskStandsAt, own_parts, parts_left, passes_end}
 use Rattle.my_session.specs.Seen.{Seen}
 use Rattle.my_session.specs.Stands.{owes, call_with}
 use Rattle.my_session.specs.Tasks.{kind_in, fault_in}

@@ -1,21 +1,20 @@
 -- What moves do to what a session knows, and how its next step of the reading is found.
-use Rattle.std.proofs.Common.{◌≡◌, ℕ, ◌≤◌, List, [], ◌∷◌, ◌++◌, length, take, drop, Bool, true, false, cond, Option, Some, None, refl, sym, ap, ◌∙◌, subst}
+use Rattle.std.proofs.Common.{◌≡◌, ℕ, ◌≤◌, List, [], ◌∷◌, ◌++◌, length, take, drop, Bool, true, false, refl, sym, ap, ◌∙◌, subst}
 use Rattle.std.proofs.lemmas.List.{append_assoc, append-nil, take-append-drop, drop_at}
-use Rattle.my_frame.specs.Front.{Front, Waiting, Broken, Whole, front_at}
+use Rattle.my_frame.specs.Front.{front_at}
 use Rattle.my_frame.specs.FrontLaws.{IsWhole}
-use Rattle.my_frame.specs.Chunks.{chunks, number_after_payload}
+use Rattle.my_frame.specs.Chunks.{number_after_payload}
 use Rattle.my_grammar.specs.declared.login.Login.{Login}
 use Rattle.my_grammar.specs.declared.spot.Context.{Context}
 use Rattle.my_grammar.specs.declared.spot.Kind.{Kind}
 use Rattle.my_grammar.specs.declared.spot.Terms.{Terms}
 use Rattle.my_grammar.specs.Contexts.{context_after, is_bad}
 use Rattle.my_grammar.specs.Cut.{front_of, kind_of}
-use Rattle.my_grammar.specs.Growth.{grow, replies, Grows, Reads, said, number_next}
+use Rattle.my_grammar.specs.Growth.{grow, replies, Grows, Reads}
 use Rattle.my_grammar.specs.Kinds.{kind_there}
 use Rattle.my_grammar.specs.Talk.{Talk, Server, turns, number_of, client_bytes, context_of, packets_of, Fits, login_in, limit_of}
 use Rattle.my_grammar.proofs.Growth.{grows, reads}
 use Rattle.my_reading.specs.declared.call.Call.{Call}
-use Rattle.my_reading.specs.declared.call.Call.TheVariants as calls
 use Rattle.my_reading.specs.declared.facts.Facts.{Facts}
 use Rattle.my_reading.specs.Course.{Part, Stops, Owes, step, step_of, unless_owed, is_greeting}
 use Rattle.my_reading.specs.Facts.{facts_after, facts_by}

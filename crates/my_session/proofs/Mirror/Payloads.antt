@@ -1,5 +1,5 @@
 -- A payload that the machine reads is one that the reading reads, and both make the same of it.
-use Rattle.std.proofs.Common.{◌≡◌, ℕ, suc, List, [], ◌∷◌, ◌++◌, length, nat_lt, ◌&&◌, not, Bool, true, false, cond, Option, Some, None, inl, refl, sym, ap, ◌∙◌, subst}
+use Rattle.std.proofs.Common.{◌≡◌, ℕ, List, [], ◌∷◌, ◌++◌, length, nat_lt, Bool, true, false, cond, Option, Some, None, inl, refl, sym, ap, ◌∙◌, subst}
 use Rattle.my_flags.specs.declared.flags.CapabilityFlags.{CapabilityFlags}
 use Rattle.my_flags.specs.declared.flags.StatusFlags.{StatusFlags}
 use Rattle.my_flags.specs.Sets.{deprecates_eof}
@@ -9,40 +9,36 @@ use Rattle.my_frame.specs.FrontLaws.{IsWhole}
 use Rattle.my_reply.specs.declared.err.ErrPacket.{ErrPacket}
 use Rattle.my_reply.specs.ErrPacket.{err_at}
 use Rattle.my_value.specs.RowParts.{RowParts}
-use Rattle.my_grammar.specs.declared.login.Login.{Login}
 use Rattle.my_grammar.specs.declared.spot.Context.{Context}
 use Rattle.my_grammar.specs.declared.spot.Kind.{Kind}
 use Rattle.my_grammar.specs.declared.spot.Kind.TheVariants as kinds
 use Rattle.my_grammar.specs.declared.spot.Spot.{Spot}
 use Rattle.my_grammar.specs.declared.spot.Spot.TheVariants as spots
 use Rattle.my_grammar.specs.Contexts.{is_bad, spot_after}
-use Rattle.my_grammar.specs.Cut.{kind_of, is_over, is_idle}
+use Rattle.my_grammar.specs.Cut.{is_over, is_idle}
 use Rattle.my_grammar.specs.Growth.{grow, not_greets}
 use Rattle.my_grammar.specs.Kinds.{kind_there}
 use Rattle.my_grammar.specs.Response.{response}
-use Rattle.my_grammar.specs.Talk.{context_of, limit_of}
+use Rattle.my_grammar.specs.Talk.{context_of}
 use Rattle.my_reading.specs.declared.call.Call.{Call}
-use Rattle.my_reading.specs.declared.call.CallKind.{CallKind}
-use Rattle.my_reading.specs.declared.call.CallKind.TheVariants.{Connect, Query, NextRow, DropResult, Ping, Quit}
-use Rattle.my_reading.specs.declared.error.Error.{Error}
+use Rattle.my_reading.specs.declared.call.CallKind.TheVariants.{Connect, Query, NextRow, Ping}
 use Rattle.my_reading.specs.declared.error.Error.TheVariants as errors
 use Rattle.my_reading.specs.declared.facts.Facts.{Facts}
 use Rattle.my_reading.specs.Calls.{kind_of as call_kind, is_connect}
 use Rattle.my_reading.specs.Commands.{arranging_texts}
-use Rattle.my_reading.specs.Course.{Part, All, Head, Item, Command, Goes, Stops, Returns, Step, step, step_of, failure, unfit, return, with_front, reads, after_payload, parts_of_texts, is_rows, is_greeting}
+use Rattle.my_reading.specs.Course.{Part, All, Head, Item, Goes, step, failure, unfit, return, with_front, reads, after_payload, parts_of_texts, is_rows, is_greeting}
 use Rattle.my_reading.specs.Errors.{codec_error, invalid_data, server_error}
 use Rattle.my_reading.specs.Leads.{Leads, Here, Then}
 use Rattle.my_reading.specs.Place.{Place, exchanges, facts_at, facts_of, connects_in, with_end, with_talk}
 use Rattle.my_reading.specs.Rows.{row_at, row_or}
-use Rattle.my_reading.specs.Told.{Told, ToldReady, ToldRow, ToldEnd, ToldError, closes, closes_by}
-use Rattle.my_session.specs.declared.tables.Reaction.{Reaction}
+use Rattle.my_reading.specs.Told.{Told, ToldReady, ToldRow, ToldEnd, ToldError, closes}
 use Rattle.my_session.specs.declared.task.Task.{Task}
 use Rattle.my_session.specs.declared.task.Task.TheVariants as tasks
 use Rattle.my_session.specs.Machine.{Goes as MachineGoes, Passes, Tells, Move, advanced, fell, failed_by, with_task, refused, gave, passed, reacted, above, unless_above, reply_to, reply_bytes}
-use Rattle.my_session.specs.Mirror.{Mirrors, StandsAt, OpenAt, ReturnsAt, MoveReads, TaskStandsAt, own_parts, parts_left, passes_end}
+use Rattle.my_session.specs.Mirror.{Mirrors, StandsAt, OpenAt, MoveReads, TaskStandsAt, own_parts, parts_left}
 use Rattle.my_session.specs.Seen.{Seen}
 use Rattle.my_session.specs.Stands.{owes, call_with, is_shaking}
-use Rattle.my_session.specs.Tables.{react, react_whole, react_connect, react_query, react_ping, react_reading, react_dropping, is_breaking, is_connecting}
+use Rattle.my_session.specs.Tables.{react, react_whole, is_breaking, is_connecting}
 use Rattle.my_session.specs.Tasks.{kind_in, fault_in}
 use Rattle.my_session.proofs.Faults.Payloads.{told_columns, row_reads}
 use Rattle.my_session.proofs.Mirror.Fields.{mirrors_fallen, mirrors_read, mirrors_with_end, step_here, front_here, kind_here, place_here}

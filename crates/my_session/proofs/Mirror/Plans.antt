@@ -1,9 +1,8 @@
 -- What a task does next is what the reading does.
-use Rattle.std.proofs.Common.{◌≡◌, ℕ, suc, List, [], ◌∷◌, ◌++◌, length, drop, ◌&&◌, not, Bool, true, false, cond, Option, Some, None, inl, inr, refl, sym, ap, ◌∙◌, subst}
+use Rattle.std.proofs.Common.{◌≡◌, ℕ, List, [], ◌∷◌, drop, ◌&&◌, not, Bool, true, false, cond, Some, None, inl, inr, refl, sym, ap, ◌∙◌, subst}
 use Rattle.my_frame.specs.Front.{Front, Waiting, Broken, Whole, front_at}
 use Rattle.my_frame.specs.FrontLaws.{AreBytes, IsWhole}
 use Rattle.my_frame.proofs.Meanings.{whole_stands}
-use Rattle.my_grammar.specs.declared.login.Login.{Login}
 use Rattle.my_grammar.specs.declared.spot.Context.{Context}
 use Rattle.my_grammar.specs.declared.spot.Kind.{Kind}
 use Rattle.my_grammar.specs.declared.spot.Spot.{Spot}
@@ -11,28 +10,25 @@ use Rattle.my_grammar.specs.declared.spot.Spot.TheVariants as spots
 use Rattle.my_grammar.specs.Contexts.{spot_after}
 use Rattle.my_grammar.specs.Cut.{is_over, is_idle}
 use Rattle.my_grammar.specs.Kinds.{kind_there}
-use Rattle.my_grammar.specs.Talk.{context_of}
 use Rattle.my_flags.specs.Sets.{deprecates_eof}
 use Rattle.my_reading.specs.declared.call.Call.{Call}
-use Rattle.my_reading.specs.declared.call.Call.TheVariants as calls
 use Rattle.my_reading.specs.declared.call.CallKind.{CallKind}
 use Rattle.my_reading.specs.declared.call.CallKind.TheVariants.{Connect, Query, NextRow, DropResult, Ping, Quit}
 use Rattle.my_reading.specs.Calls.{kind_of, call_of, asks, is_connect}
 use Rattle.my_reading.specs.Commands.{arranging_texts}
-use Rattle.my_reading.specs.Course.{Part, All, Head, Item, Command, Goes, Stops, Owes, Awaits, Step, step, step_of, failure, return, with_front, reads, parts_of, parts_of_texts, is_rows, is_greeting}
-use Rattle.my_reading.specs.Errors.{codec_error, invalid_data, unexpected_eof}
-use Rattle.my_reading.specs.Leads.{Leads, Here, Then}
-use Rattle.my_reading.specs.Place.{Place, exchanges, facts_at, connects_in, without_end}
-use Rattle.my_reading.specs.Told.{Told, ToldReady, ToldEnd, ToldNone, ToldError, closes}
+use Rattle.my_reading.specs.Course.{Part, All, Head, Item, Command, Goes, step, step_of, return, with_front, reads, parts_of, parts_of_texts, is_rows, is_greeting}
+use Rattle.my_reading.specs.Errors.{invalid_data, unexpected_eof}
+use Rattle.my_reading.specs.Leads.{Here, Then}
+use Rattle.my_reading.specs.Place.{Place, exchanges, connects_in, without_end}
+use Rattle.my_reading.specs.Told.{ToldReady, ToldEnd, ToldNone, ToldError, closes}
 use Rattle.my_session.specs.declared.tables.Plan.{Plan}
 use Rattle.my_session.specs.declared.tables.Plan.TheVariants as plans
-use Rattle.my_session.specs.declared.task.LinkFault.{LinkFault}
 use Rattle.my_session.specs.declared.task.Task.{Task}
 use Rattle.my_session.specs.declared.task.Task.TheVariants as tasks
-use Rattle.my_session.specs.Machine.{Goes as MachineGoes, Passes, Needs, Tells, Move, failed_by, fell, with_task, reading, read_by, read_kind, reacted, above, unless_above, reply_to, advanced, planned, when_owed, next_by, next}
+use Rattle.my_session.specs.Machine.{Needs, failed_by, with_task, reading, reacted, above, unless_above, reply_to, advanced, planned, when_owed, next_by, next}
 use Rattle.my_session.specs.Mirror.{Mirrors, StandsAt, OpenAt, MoveReads, EachMoveReads, TaskStandsAt, OwnStandsAt, BegunStandsAt, is_own, own_parts, parts_left, passes_end}
 use Rattle.my_session.specs.Seen.{Seen}
-use Rattle.my_session.specs.Stands.{owes, call_with, is_shaking}
+use Rattle.my_session.specs.Stands.{call_with, is_shaking}
 use Rattle.my_session.specs.Tables.{plan_of, clean_plan, read_plan, drop_plan, query_plan, own_plan, first_task, react, react_whole, is_breaking, is_connecting}
 use Rattle.my_session.specs.Tasks.{kind_in, fault_in}
 use Rattle.my_session.proofs.Mirror.Fields.{mirrors_without_end, step_here, owes_here, front_here, place_here}

@@ -1,5 +1,5 @@
 -- A step is moves, and each of them is steps of the reading.
-use Rattle.std.proofs.Common.{◌≡◌, List, Bool, sym, subst}
+use Rattle.std.proofs.Common.{◌≡◌, List, subst}
 use Rattle.my_grammar.specs.declared.login.Login.{Login}
 use Rattle.my_reading.specs.declared.call.Call.{Call}
 use Rattle.my_reading.specs.Course.{Part}
@@ -9,7 +9,6 @@ use Rattle.my_session.specs.declared.answer.SessionStep.{SessionStep}
 use Rattle.my_session.specs.declared.answer.Tick.{Tick}
 use Rattle.my_session.specs.Mirror.{OpenAt, TickReads, TicksTo, StepReads, StepsTo}
 use Rattle.my_session.specs.Seen.{Seen}
-use Rattle.my_session.specs.Steps.{last_tick}
 
 -- steps that lead on from where others led
 pub then_leads : (login : Login) (call : Call) (parts : List Part) (p : Place) (more : List Part) (q : Place) (rest : List Part) (r : Place)
