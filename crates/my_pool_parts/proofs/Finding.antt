@@ -106,6 +106,14 @@ change-none key f (x ∷ xs) e =
       | false ↦ λ h. ap (λ ys. x ∷ ys) (change-none key f xs h)
     ] e
 
+pub without-unfound : {X : Type 0} (key : X → Bool) (xs : List X) → find key xs ≡ None → without key xs ≡ xs
+without-unfound key [] e = refl
+without-unfound key (x ∷ xs) e =
+    elim (key x) as (λ b. cond b (Some x) (find key xs) ≡ None → cond b xs (x ∷ without key xs) ≡ x ∷ xs) [
+      | true ↦ λ h. absurd (cc)
+      | false ↦ λ h. ap (λ ys. x ∷ ys) (without-unfound key xs h)
+    ] e
+
 -- none passes where none is found
 pub count-none : {X : Type 0} (key : X → Bool) (xs : List X) → find key xs ≡ None → how_many key xs ≡ 0
 count-none key [] e = refl
