@@ -123,12 +123,7 @@ fn queue(alloc: Global, lists: &Lists) -> Result<String, AllocError> {
 }
 
 /// What is seen of a pool.
-fn seen(
-    alloc: Global,
-    core: &Core,
-    lists: &Lists,
-    word: &str,
-) -> Result<String, AllocError> {
+fn seen(alloc: Global, core: &Core, lists: &Lists, word: &str) -> Result<String, AllocError> {
     match word {
         "counted" => format!(in alloc; "{}", lists.connections.len()),
         "places" => format!(in alloc; "{:?}", lists.connections),

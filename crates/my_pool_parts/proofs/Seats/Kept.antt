@@ -104,7 +104,7 @@ seated-ended {es} {fs} {free} {next} {room} {held} {after} {dialing} {queued} {d
     let rs : remove (requests_of es) i ≡ requests_of fs = sym (ap requests_of is ∙ map-remove (λ (e : ℕ × Seat). e.1.request) es i) in
     let all : remove (slots_of es ++ free) i ++ get_or (slots_of es ++ free) i 0 ∷ [] ≡ slots_of fs ++ next =
     ap (λ s. remove (slots_of es ++ free) i ++ s ∷ []) (sym r.slot_is) ∙ ap (λ xs. xs ++ here.slot ∷ []) (remove-append_left (slots_of es) free i long) ∙ append_assoc (remove (slots_of es) i) free (here.slot ∷ [])
-        ∙ ap (λ xs. xs ++ (free ++ here.slot ∷ [])) (sym (ap slots_of is ∙ map-remove (λ (e : ℕ × Seat). e.1.slot) es i)) ∙ ap (λ xs. slots_of fs ++ xs) (sym n) in
+    ∙ ap (λ xs. xs ++ (free ++ here.slot ∷ [])) (sym (ap slots_of is ∙ map-remove (λ (e : ℕ × Seat). e.1.slot) es i)) ∙ ap (λ xs. slots_of fs ++ xs) (sym n) in
     record {
       keyed = subst IsKeyed (sym is) (keyed-remove es i f.there.within h.keyed);
       live = live-as live rs all;
