@@ -1,5 +1,4 @@
 -- The slots of the requests beside those of the heap, on plain lists.
-pub mod Searching
 pub mod Lived
 pub mod Waking
 pub mod Costs
@@ -16,7 +15,7 @@ abbrev weight : Option ℕ → ℕ
 weight None = 0
 weight (Some a) = 1
 
-held-within : (xs : List (Option ℕ)) (s a : ℕ) → age_of xs s ≡ Some a → s < length xs
+pub held-within : (xs : List (Option ℕ)) (s a : ℕ) → age_of xs s ≡ Some a → s < length xs
 held-within [] s a e = absurd (cc)
 held-within (x ∷ xs) zero a e = omega arith
 held-within (x ∷ xs) (suc s) a e = omega (arith, held-within xs s a e)

@@ -6,7 +6,7 @@ use Rattle.std.specs.declared.cmp.Ordering.{Ordering}
 use Rattle.std.specs.declared.cmp.Ordering.TheVariants.{Less, Equal, Greater}
 use Rattle.std.specs.Ordering.{nat_cmp, is_eq, match_ordering}
 use Rattle.std.specs.List.{list_any}
-use Rattle.std.specs.Map.{lookup, remove_entry}
+use Rattle.std.specs.Map.{lookup, remove_entry, set_value}
 use Rattle.std.specs.BTreeMap.{is_at, insert_entry}
 use Rattle.std.proofs.lemmas.Bool.Decides.{nat_tests}
 use Rattle.std.proofs.lemmas.Bool.{eqb-true}
@@ -38,7 +38,7 @@ pub record IsSeatAt (es : List (ℕ × Seat)) (age i : ℕ) (seat : Seat) : Type
   pub entry : (d : ℕ × Seat) → get_or es i d ≡ (age, seat)
   pub changes : (f : Request → Request) → change_first (has_age age) f (requests_of es) ≡ set (requests_of es) i (f seat.request)
   pub leaves : without (has_age age) (requests_of es) ≡ remove (requests_of es) i
-  pub put : (next : Seat) → insert_entry nat_cmp es age next ≡ set es i (age, next)
+  pub written : (next : Seat) → set_value (is_at (nat_cmp age)) es next ≡ set es i (age, next)
   pub taken : remove_entry (is_at (nat_cmp age)) es ≡ remove es i
 
 -- a key that is found isn't below those that rise from a number on
@@ -71,7 +71,7 @@ seat-at low age (x ∷ es) seat k h e = by_order (nat_cmp age x.0) refl (seat-at
             entry = λ d. pair-is x age seat same found;
             changes = λ f. ap (λ b. cond b (f x.1.request ∷ requests_of es) (x.1.request ∷ change_first (has_age age) f (requests_of es))) key ∙ ap (λ (s : Seat). f s.request ∷ requests_of es) found;
             leaves = ap (λ b. cond b (requests_of es) (x.1.request ∷ without (has_age age) (requests_of es))) key;
-            put = λ next. ap (λ r. match_ordering r ((age, next) ∷ x ∷ es) ((x.0, next) ∷ es) (x ∷ insert_entry nat_cmp es age next)) o ∙ ap (λ n. (n, next) ∷ es) same;
+            written = λ next. ap (λ r. cond (is_eq r) ((x.0, next) ∷ es) (x ∷ set_value (is_at (nat_cmp age)) es next)) o ∙ ap (λ n. (n, next) ∷ es) same;
             taken = ap (λ r. cond (is_eq r) es (x ∷ remove_entry (is_at (nat_cmp age)) es)) o;
           },
         )
@@ -89,7 +89,7 @@ seat-at low age (x ∷ es) seat k h e = by_order (nat_cmp age x.0) refl (seat-at
             entry = r.1.entry;
             changes = λ f. ap (λ b. cond b (f x.1.request ∷ requests_of es) (x.1.request ∷ change_first (has_age age) f (requests_of es))) key ∙ ap (λ xs. x.1.request ∷ xs) (r.1.changes f);
             leaves = ap (λ b. cond b (requests_of es) (x.1.request ∷ without (has_age age) (requests_of es))) key ∙ ap (λ xs. x.1.request ∷ xs) r.1.leaves;
-            put = λ next. ap (λ r. match_ordering r ((age, next) ∷ x ∷ es) ((x.0, next) ∷ es) (x ∷ insert_entry nat_cmp es age next)) o ∙ ap (λ xs. x ∷ xs) (r.1.put next);
+            written = λ next. ap (λ r. cond (is_eq r) ((x.0, next) ∷ es) (x ∷ set_value (is_at (nat_cmp age)) es next)) o ∙ ap (λ xs. x ∷ xs) (r.1.written next);
             taken = ap (λ r. cond (is_eq r) es (x ∷ remove_entry (is_at (nat_cmp age)) es)) o ∙ ap (λ xs. x ∷ xs) r.1.taken;
           },
         )

@@ -134,17 +134,15 @@ impl Live {
         ensures requests { self.new ≡ change_first (has_age age) (changed waited standing) self.old }
         ensures cost { (d : ℕ) → length self.old < 2 ^ d → C.noted steps.new ≤ C.noted steps.old + 2 * d + 1 }
     {
-        let Some(seat) = self.seats.get(&age) else {
+        let Some(seat) = self.seats.get_mut(&age) else {
             return;
         };
         let Seat { request: old, slot } = *seat;
         let next = old.changed(waited, standing);
+        seat.request = next;
         set_held(&mut self.waiting, slot, age, next.is_waiting(), steps);
         self.dialing = recount(self.dialing, old.is_dialing(), next.is_dialing());
         self.queued = recount(self.queued, old.is_queued(), next.is_queued());
-        let request = next;
-        let put: Result<_, _> = self.seats.insert(age, Seat { request, slot });
-        put.unwrap();
     }
 
     /// There is one more request, which is younger than each. Out of memory, nothing changes.

@@ -2,19 +2,18 @@
 use Rattle.std.proofs.Common.{◌≡◌, ℕ, ◌+◌, ◌^◌, ◌<◌, ◌≤◌, Bool, false, Option, Some, None, List, [], ◌∷◌, ◌++◌, length, get_or, set, map, zero, suc, refl, sym, ap, ◌∙◌, subst, arith, append_assoc, length-append, length-set, take, drop}
 use Rattle.std.specs.Prelude.{remove}
 use Rattle.std.specs.Ordering.{nat_cmp}
-use Rattle.std.specs.Map.{lookup, remove_entry}
+use Rattle.std.specs.Map.{lookup, remove_entry, set_value}
 use Rattle.std.specs.BTreeMap.{is_at, insert_entry}
 use Rattle.std.proofs.lemmas.List.{length-map, get_or-map, map-set, map-append, get_or_append_left, set-get_or, take-map, drop-map, length_push}
 use Rattle.std.proofs.lemmas.List.Edits.{remove-append_left, length-remove}
-use Rattle.my_wait_heap.specs.Ages.{age_of, how_many as how_many_held}
 use Rattle.my_pool_parts.specs.declared.request.Request.{Request}
 use Rattle.my_pool_parts.specs.declared.seat.Seat.{Seat}
 use Rattle.my_pool_parts.specs.Lists.{how_many, without, change_first}
 use Rattle.my_pool_parts.specs.Requests.{asking, has_age, is_dialing, is_queued, IsRising}
-use Rattle.my_pool_parts.specs.Live.{age_if, IsQueue, IsLive, requests_of, slots_of, IsKeyed, IsSeated}
+use Rattle.my_pool_parts.specs.Live.{age_if, IsQueue, requests_of, slots_of, IsKeyed, IsSeated}
 use Rattle.my_pool_parts.proofs.Finding.{one}
 use Rattle.my_pool_parts.proofs.Queue.{queue-turned}
-use Rattle.my_pool_parts.proofs.Queue.Lived.{IsReadAt, read-at, IsRecount, live-set, live-removed, live-added, live-queue, live-as, held-few, live-counted, live-few}
+use Rattle.my_pool_parts.proofs.Queue.Lived.{IsReadAt, read-at, IsRecount, live-set, live-removed, live-added, live-queue, live-as, live-counted, live-few}
 use Rattle.my_pool_parts.proofs.Seats.{IsSeatAt, seat-at, put-last}
 
 abbrev pub seat : Request → ℕ → Seat
@@ -67,12 +66,12 @@ keyed-push (x ∷ es) age next e h = (h.0, keyed-push es age next e h.1)
 
 -- a request in the map gets another standing
 pub seated-changed : {es fs : List (ℕ × Seat)} {free : List ℕ} {room : ℕ} {held after : List (Option ℕ)} {dialing queued dialing' queued' age : ℕ} {here : Seat} (next : Request) → IsSeated es free room held dialing queued → IsFound es free held age here → next.age ≡ age
-    → fs ≡ insert_entry nat_cmp es age (seat next here.slot) → after ≡ set held here.slot (age_if next) → IsRecount (is_dialing here.request) (is_dialing next) dialing dialing' → IsRecount (is_queued here.request) (is_queued next) queued queued' → IsSeated fs free room after dialing' queued'
+    → fs ≡ set_value (is_at (nat_cmp age)) es (seat next here.slot) → after ≡ set held here.slot (age_if next) → IsRecount (is_dialing here.request) (is_dialing next) dialing dialing' → IsRecount (is_queued here.request) (is_queued next) queued queued' → IsSeated fs free room after dialing' queued'
 seated-changed {es} {fs} {free} {room} {held} {after} {dialing} {queued} {dialing'} {queued'} {age} {here} next h f same e a di qu =
     let i = f.i in
     let r = f.read next in
     let new = seat next here.slot in
-    let is : fs ≡ set es i (age, new) = e ∙ f.there.put new in
+    let is : fs ≡ set es i (age, new) = e ∙ f.there.written new in
     let own = same ∙ sym f.age_is ∙ ap (λ (q : Request). q.age) r.old_is in
     let live = live-set i next here.request next h.live r.within r.old_is own (a ∙ ap (λ s. set held s (age_if next)) r.slot_is) di qu in
     let rs : set (requests_of es) i next ≡ requests_of fs = sym (ap requests_of is ∙ map-set (λ (e : ℕ × Seat). e.1.request) es i (age, new)) in
@@ -85,9 +84,9 @@ seated-changed {es} {fs} {free} {room} {held} {after} {dialing} {queued} {dialin
     }
 
 pub changed-list : {es fs : List (ℕ × Seat)} {free : List ℕ} {held : List (Option ℕ)} {age : ℕ} {here : Seat} (f : Request → Request) (next : Request) → IsFound es free held age here → f here.request ≡ next
-    → fs ≡ insert_entry nat_cmp es age (seat next here.slot) → requests_of fs ≡ change_first (has_age age) f (requests_of es)
+    → fs ≡ set_value (is_at (nat_cmp age)) es (seat next here.slot) → requests_of fs ≡ change_first (has_age age) f (requests_of es)
 changed-list {es} {fs} {free} {held} {age} {here} f next h is e =
-    ap requests_of (e ∙ h.there.put (seat next here.slot)) ∙ map-set (λ (e : ℕ × Seat). e.1.request) es h.i (age, seat next here.slot) ∙ ap (set (requests_of es) h.i) (sym is) ∙ sym (h.there.changes f)
+    ap requests_of (e ∙ h.there.written (seat next here.slot)) ∙ map-set (λ (e : ℕ × Seat). e.1.request) es h.i (age, seat next here.slot) ∙ ap (set (requests_of es) h.i) (sym is) ∙ sym (h.there.changes f)
 
 map-remove : {X : Type 0} (f : ℕ × Seat → X) (es : List (ℕ × Seat)) (i : ℕ) → map f (remove es i) ≡ remove (map f es) i
 map-remove f es i = map-append f (take i es) (drop (suc i) es) ∙ ap (λ xs. xs ++ map f (drop (suc i) es)) (sym (take-map f i es)) ∙ ap (λ xs. take i (map f es) ++ xs) (sym (drop-map f (suc i) es))

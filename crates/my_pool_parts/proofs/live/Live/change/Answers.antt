@@ -1,4 +1,5 @@
-use Rattle.std.proofs.Common.{Some, None, cond, set, sym, ap, ◌∙◌, arith, refl}
+use Rattle.std.proofs.Common.{ℕ, Some, None, cond, set, sym, ap, ◌∙◌, arith}
+use Rattle.std.specs.BTreeMap.{BTreeMap}
 use Rattle.std.specs.Option.{option_map}
 use Rattle.my_pool_parts.specs.declared.request.Request.{Request}
 use Rattle.my_pool_parts.specs.declared.seat.Seat.{Seat}
@@ -14,7 +15,7 @@ use Rattle.my_pool_parts.proofs.live.Live.change.Goals as goal
 pub returns-in_default-clause-requests : goal.returns-in_default-clause-requests
 returns-in_default-clause-requests g c =
     let none = sym (found-in c.args.age c.self.inside.seats.entries c.self.invariant.keyed) ∙ ap (option_map (λ (s : Seat). s.request)) (sym c.in_default.ensures.value) in
-    sym (sym (ap (change_first (has_age c.args.age) (changed c.args.waited c.args.standing)) c.self.view_is) ∙ change-none (has_age c.args.age) (changed c.args.waited c.args.standing) (requests_of c.self.inside.seats.entries) none ∙ c.self.view_is)
+    ap (λ (m : BTreeMap ℕ Seat). requests_of m.entries) c.get_mut.follows.holds-at-none ∙ c.self.view_is ∙ sym (sym (ap (change_first (has_age c.args.age) (changed c.args.waited c.args.standing)) c.self.view_is) ∙ change-none (has_age c.args.age) (changed c.args.waited c.args.standing) (requests_of c.self.inside.seats.entries) none ∙ c.self.view_is)
 
 pub set_held-requires-clause-reserved : goal.set_held-requires-clause-reserved
 set_held-requires-clause-reserved g c = ((found c.args.age c.in-Some.seat.now c.self.invariant (sym c.in-Some.ensures.value)).read c.in-Some.seat.now.request).reserved
@@ -49,21 +50,21 @@ recount-self-inside-requires-2-clause-there g c =
     let f = found c.args.age c.in-Some.seat.now c.self.invariant (sym c.in-Some.ensures.value) in
     found-counted is_queued c.self.inside.queued c.is_queued.result f c.is_queued.ensures c.self.invariant.live.queued_counted
 
-pub invariant_of-self : goal.invariant_of-self
-invariant_of-self g c =
+pub invariant_of-self-2 : goal.invariant_of-self-2
+invariant_of-self-2 g c =
     let here = c.in-Some.seat.now in
     let f = found c.args.age here c.self.invariant (sym c.in-Some.ensures.value) in
     let next = c.changed-next.result in
     let own = ap (λ (r : Request). r.age) c.changed-next.ensures ∙ f.age_is in
     let held = c.set_held.ensures.ages ∙ ap (λ b. set c.self.inside.waiting here.slot (cond b (Some c.args.age) None)) c.is_waiting.ensures ∙ ap (λ n. set c.self.inside.waiting here.slot (age_if (record next { age = n }))) (sym own) in
-    seated-changed next c.self.invariant f own (rw c.unwrap.ensures at c.insert-put.ensures.entries) held
+    seated-changed next c.self.invariant f own (c.get_mut.follows.holds (record { request = next; slot = here.slot })).0 held
     (record { was = c.is_dialing.result; is = c.is_dialing-2.result; was_is = c.is_dialing.ensures; is_is = c.is_dialing-2.ensures; same = c.recount-self-inside.ensures })
     (record { was = c.is_queued.result; is = c.is_queued-2.result; was_is = c.is_queued.ensures; is_is = c.is_queued-2.ensures; same = c.recount-self-inside-2.ensures })
 
 pub returns-clause-requests : goal.returns-clause-requests
 returns-clause-requests g c =
     let f = found c.args.age c.in-Some.seat.now c.self.invariant (sym c.in-Some.ensures.value) in
-    changed-list (changed c.args.waited c.args.standing) c.changed-next.result f (sym c.changed-next.ensures) (rw c.unwrap.ensures at c.insert-put.ensures.entries) ∙ ap (change_first (has_age c.args.age) (changed c.args.waited c.args.standing)) c.self.view_is
+    changed-list (changed c.args.waited c.args.standing) c.changed-next.result f (sym c.changed-next.ensures) (c.get_mut.follows.holds (record { request = c.changed-next.result; slot = c.in-Some.seat.now.slot })).0 ∙ ap (change_first (has_age c.args.age) (changed c.args.waited c.args.standing)) c.self.view_is
 
 pub returns-clause-cost : goal.returns-clause-cost
 returns-clause-cost g c = λ d lt. c.set_held.ensures.cost d (held-few d c.self.invariant.live c.self.view_is lt)
