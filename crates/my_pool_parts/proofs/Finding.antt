@@ -106,6 +106,14 @@ change-none key f (x ∷ xs) e =
       | false ↦ λ h. ap (λ ys. x ∷ ys) (change-none key f xs h)
     ] e
 
+pub without-unfound : {X : Type 0} (key : X → Bool) (xs : List X) → find key xs ≡ None → without key xs ≡ xs
+without-unfound key [] e = refl
+without-unfound key (x ∷ xs) e =
+    elim (key x) as (λ b. cond b (Some x) (find key xs) ≡ None → cond b xs (x ∷ without key xs) ≡ x ∷ xs) [
+      | true ↦ λ h. absurd (cc)
+      | false ↦ λ h. ap (λ ys. x ∷ ys) (without-unfound key xs h)
+    ] e
+
 -- none passes where none is found
 pub count-none : {X : Type 0} (key : X → Bool) (xs : List X) → find key xs ≡ None → how_many key xs ≡ 0
 count-none key [] e = refl
@@ -184,10 +192,6 @@ some-counted p (x ∷ xs) e =
 
 -- ---- by the place of the first element that passes ----
 
--- the first place
-abbrev pub first_place : {X : Type 0} → (X → Bool) → List X → ℕ
-first_place key xs = position_or_len key xs
-
 next-place : (n : ℕ) → 1 + n ≡ suc n
 next-place n = omega arith
 
@@ -197,14 +201,6 @@ without-at key (x ∷ xs) lt =
     elim (key x) as (λ b. cond (not b) (1 + position_or_len key xs) 0 < length (x ∷ xs) → cond b xs (x ∷ without key xs) ≡ remove (x ∷ xs) (cond (not b) (1 + position_or_len key xs) 0)) [
       | true ↦ λ l. refl
       | false ↦ λ l. subst (λ n. x ∷ without key xs ≡ remove (x ∷ xs) n) (sym (next-place (position_or_len key xs))) (ap (λ ys. x ∷ ys) (without-at key xs (omega arith)))
-    ] lt
-
-pub change-at : {X : Type 0} (key : X → Bool) (f : X → X) (xs : List X) (d : X) → position_or_len key xs < length xs → change_first key f xs ≡ set xs (position_or_len key xs) (f (get_or xs (position_or_len key xs) d))
-change-at key f [] d lt = absurd (omega arith)
-change-at key f (x ∷ xs) d lt =
-    elim (key x) as (λ b. cond (not b) (1 + position_or_len key xs) 0 < length (x ∷ xs) → cond b (f x ∷ xs) (x ∷ change_first key f xs) ≡ set (x ∷ xs) (cond (not b) (1 + position_or_len key xs) 0) (f (get_or (x ∷ xs) (cond (not b) (1 + position_or_len key xs) 0) d))) [
-      | true ↦ λ l. refl
-      | false ↦ λ l. subst (λ n. x ∷ change_first key f xs ≡ set (x ∷ xs) n (f (get_or (x ∷ xs) n d))) (sym (next-place (position_or_len key xs))) (ap (λ ys. x ∷ ys) (change-at key f xs d (omega arith)))
     ] lt
 
 pub found-get : {X : Type 0} (key : X → Bool) (xs : List X) (d : X) → position_or_len key xs < length xs → find key xs ≡ Some (get_or xs (position_or_len key xs) d)
@@ -229,14 +225,6 @@ without-none key (x ∷ xs) e =
     elim (key x) as (λ b. (b || list_any key xs) ≡ false → cond b xs (x ∷ without key xs) ≡ x ∷ xs) [
       | true ↦ λ k. absurd (cc)
       | false ↦ λ k. ap (λ ys. x ∷ ys) (without-none key xs k)
-    ] e
-
-pub unchanged-none : {X : Type 0} (key : X → Bool) (f : X → X) (xs : List X) → list_any key xs ≡ false → change_first key f xs ≡ xs
-unchanged-none key f [] e = refl
-unchanged-none key f (x ∷ xs) e =
-    elim (key x) as (λ b. (b || list_any key xs) ≡ false → cond b (f x ∷ xs) (x ∷ change_first key f xs) ≡ x ∷ xs) [
-      | true ↦ λ k. absurd (cc)
-      | false ↦ λ k. ap (λ ys. x ∷ ys) (unchanged-none key f xs k)
     ] e
 
 -- what `position` tells
@@ -264,14 +252,6 @@ without-position key xs i e =
 
 pub without-nothing : {X : Type 0} (key : X → Bool) (xs : List X) → position key xs ≡ None → without key xs ≡ xs
 without-nothing key xs e = without-none key xs (position-isnt key xs e)
-
-pub change-position : {X : Type 0} (key : X → Bool) (f : X → X) (xs : List X) (i : ℕ) (d : X) → position key xs ≡ Some i → change_first key f xs ≡ set xs i (f (get_or xs i d))
-change-position key f xs i d e =
-    let p = position-is key xs i e in
-    change-at key f xs d (omega (arith, p.0, p.1)) ∙ ap (λ n. set xs n (f (get_or xs n d))) p.1
-
-pub change-nothing : {X : Type 0} (key : X → Bool) (f : X → X) (xs : List X) → position key xs ≡ None → change_first key f xs ≡ xs
-change-nothing key f xs e = unchanged-none key f xs (position-isnt key xs e)
 
 -- what is found is there
 pub found-any : {X : Type 0} (t key : X → Bool) (xs : List X) → found_is t (find key xs) ≡ true → list_any key xs ≡ true

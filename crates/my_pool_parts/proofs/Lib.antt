@@ -1,3 +1,4 @@
 pub mod Finding
 pub mod Queue
 pub mod Retiring
+pub mod Seats

@@ -1,12 +1,11 @@
 -- The slots of the requests beside those of the heap, on plain lists.
-pub mod Searching
 pub mod Lived
 pub mod Waking
 pub mod Costs
 use Rattle.std.proofs.Common.{◌≡◌, ℕ, ◌+◌, ◌-◌, ◌<◌, ◌≤◌, ◌⊎◌, ◌++◌, Option, Some, None, List, [], ◌∷◌, length, get_or, set, take, drop, length-set, length-append, get_or-set_same, get_or-set_other, zero, suc, refl, sym, ap, ◌∙◌, subst, arith, inl, inr}
 use Rattle.std.specs.Prelude.{replicate, remove}
 use Rattle.std.proofs.lemmas.Bool.{cases_eq, cases_lt}
-use Rattle.std.proofs.lemmas.List.{get_or_append_left, get_or_past, length_push, get_or_push, take-set, drop-set-lt}
+use Rattle.std.proofs.lemmas.List.{get_or_append_left, get_or-append-add, get_or_past, length_push, get_or_push, take-set, drop-set-lt}
 use Rattle.std.proofs.lemmas.List.Edits.{length-remove, get_or-remove_below, get_or-remove_above}
 use Rattle.my_wait_heap.specs.Ages.{age_of, how_many}
 use Rattle.my_pool_parts.specs.Live.{IsQueue}
@@ -16,7 +15,7 @@ abbrev weight : Option ℕ → ℕ
 weight None = 0
 weight (Some a) = 1
 
-held-within : (xs : List (Option ℕ)) (s a : ℕ) → age_of xs s ≡ Some a → s < length xs
+pub held-within : (xs : List (Option ℕ)) (s a : ℕ) → age_of xs s ≡ Some a → s < length xs
 held-within [] s a e = absurd (cc)
 held-within (x ∷ xs) zero a e = omega arith
 held-within (x ∷ xs) (suc s) a e = omega (arith, held-within xs s a e)
@@ -255,3 +254,113 @@ queue-pushed {ages} {held} {slots} h room = record {
   found = h.found;
   counted = h.counted ∙ sym (count-free ages 1);
 }
+
+-- ---- the last slot comes in front of others that are free ----
+
+-- where each slot stood before, and where it stands now
+record Turn (ages : List (Option ℕ)) (old new : List ℕ) (a k : ℕ) : Type 0 where
+  m : ℕ
+  m_in : m < length old
+  same : get_or new k 0 ≡ get_or old m 0
+  age : age_of ages k ≡ age_of ages m
+  where_ : ((k < a) × (m ≡ k)) ⊎ (((k ≡ a) × (m + 1 ≡ length old)) ⊎ ((a < k) × (k ≡ m + 1)))
+
+turn : (ages : List (Option ℕ)) (xs ys : List ℕ) (s k : ℕ) → length ages ≤ length xs → k < length xs + length ys + 1 → Turn ages (xs ++ (ys ++ s ∷ [])) ((xs ++ s ∷ []) ++ ys) (length xs) k
+turn ages xs ys s k few l =
+    let a = length xs in
+    let n = length ys in
+    let long : length (xs ++ (ys ++ s ∷ [])) ≡ a + n + 1 = omega (arith, length-append xs (ys ++ s ∷ []), length_push ys s) in
+    let front = length_push xs s in
+    elim (cases_lt k a) [
+      | inl below ↦ record {
+        m = k;
+        m_in = omega (arith, long);
+        same = get_or_append_left (xs ++ s ∷ []) ys 0 k (omega (arith, front)) ∙ get_or_append_left xs (s ∷ []) 0 k below ∙ sym (get_or_append_left xs (ys ++ s ∷ []) 0 k below);
+        age = refl;
+        where_ = inl (below, refl);
+      }
+      | inr above ↦ elim (cases_eq k a) [
+        | inl e ↦ record {
+          m = a + n;
+          m_in = omega (arith, long);
+          same = get_or_append_left (xs ++ s ∷ []) ys 0 k (omega (arith, front)) ∙ get_or_push xs s 0 k (sym e) ∙ sym (get_or-append-add xs (ys ++ s ∷ []) n 0 ∙ get_or_push ys s 0 n refl);
+          age = get_or_past ages k None (omega (arith, few)) ∙ sym (get_or_past ages (a + n) None (omega (arith, few)));
+          where_ = inr (inl (e, omega (arith, long)));
+        }
+        | inr ne ↦
+            let j = k - (a + 1) in
+            let here : k ≡ length (xs ++ s ∷ []) + j = omega (arith, front) in
+            let there : k - 1 ≡ a + j = omega arith in
+            record {
+              m = k - 1;
+              m_in = omega (arith, long);
+              same = ap (λ i. get_or ((xs ++ s ∷ []) ++ ys) i 0) here ∙ get_or-append-add (xs ++ s ∷ []) ys j 0
+                  ∙ sym (ap (λ i. get_or (xs ++ (ys ++ s ∷ [])) i 0) there ∙ get_or-append-add xs (ys ++ s ∷ []) j 0 ∙ get_or_append_left ys (s ∷ []) 0 j (omega arith));
+              age = get_or_past ages k None (omega (arith, few)) ∙ sym (get_or_past ages (k - 1) None (omega (arith, few)));
+              where_ = inr (inr (omega arith, omega arith));
+            }
+      ]
+    ]
+
+turned-from : (a n m : ℕ) → m < n → a < n → (k : ℕ) × (k < n) × (((k < a) × (m ≡ k)) ⊎ (((k ≡ a) × (m + 1 ≡ n)) ⊎ ((a < k) × (k ≡ m + 1))))
+turned-from a n m l la = elim (cases_lt m a) [
+  | inl below ↦ (m, l, inl (below, refl))
+  | inr above ↦ elim (cases_eq (m + 1) n) [
+    | inl e ↦ (a, la, inr (inl (refl, e)))
+    | inr ne ↦ (m + 1, omega arith, inr (inr (omega arith, refl)))
+  ]
+]
+
+turned-once : (a n k l p q : ℕ) → p ≡ q → p < n → q < n
+    → ((k < a) × (p ≡ k)) ⊎ (((k ≡ a) × (p + 1 ≡ n)) ⊎ ((a < k) × (k ≡ p + 1)))
+    → ((l < a) × (q ≡ l)) ⊎ (((l ≡ a) × (q + 1 ≡ n)) ⊎ ((a < l) × (l ≡ q + 1))) → k < n → l < n → k ≡ l
+turned-once a n k l p q e lp lq (inl x) (inl y) lk ll = omega arith
+turned-once a n k l p q e lp lq (inl x) (inr (inl y)) lk ll = omega arith
+turned-once a n k l p q e lp lq (inl x) (inr (inr y)) lk ll = omega arith
+turned-once a n k l p q e lp lq (inr (inl x)) (inl y) lk ll = omega arith
+turned-once a n k l p q e lp lq (inr (inl x)) (inr (inl y)) lk ll = omega arith
+turned-once a n k l p q e lp lq (inr (inl x)) (inr (inr y)) lk ll = omega arith
+turned-once a n k l p q e lp lq (inr (inr x)) (inl y) lk ll = omega arith
+turned-once a n k l p q e lp lq (inr (inr x)) (inr (inl y)) lk ll = omega arith
+turned-once a n k l p q e lp lq (inr (inr x)) (inr (inr y)) lk ll = omega arith
+
+turned-back : (a n k p q : ℕ) → k < n
+    → ((k < a) × (p ≡ k)) ⊎ (((k ≡ a) × (p + 1 ≡ n)) ⊎ ((a < k) × (k ≡ p + 1)))
+    → ((k < a) × (q ≡ k)) ⊎ (((k ≡ a) × (q + 1 ≡ n)) ⊎ ((a < k) × (k ≡ q + 1))) → p ≡ q
+turned-back a n k p q l (inl x) (inl y) = omega arith
+turned-back a n k p q l (inl x) (inr (inl y)) = omega arith
+turned-back a n k p q l (inl x) (inr (inr y)) = omega arith
+turned-back a n k p q l (inr (inl x)) (inl y) = omega arith
+turned-back a n k p q l (inr (inl x)) (inr (inl y)) = omega arith
+turned-back a n k p q l (inr (inl x)) (inr (inr y)) = omega arith
+turned-back a n k p q l (inr (inr x)) (inl y) = omega arith
+turned-back a n k p q l (inr (inr x)) (inr (inl y)) = omega arith
+turned-back a n k p q l (inr (inr x)) (inr (inr y)) = omega arith
+
+pub queue-turned : {ages held : List (Option ℕ)} (xs ys : List ℕ) (s : ℕ) → IsQueue ages (xs ++ (ys ++ s ∷ [])) held → length ages ≤ length xs → IsQueue ages ((xs ++ s ∷ []) ++ ys) held
+queue-turned {ages} {held} xs ys s h few =
+    let a = length xs in
+    let old = xs ++ (ys ++ s ∷ []) in
+    let new = (xs ++ s ∷ []) ++ ys in
+    let n = a + length ys + 1 in
+    let long : length old ≡ n = omega (arith, length-append xs (ys ++ s ∷ []), length_push ys s) in
+    let len : length new ≡ n = omega (arith, length-append (xs ++ s ∷ []) ys, length_push xs s) in
+    let from = λ (k : ℕ) (l : k < length new). turn ages xs ys s k few (omega (arith, len)) in
+    record {
+      few = omega (arith, len, few);
+      full = omega (arith, len, long, h.full);
+      reserved = λ k l. let t = from k l in omega (arith, t.same, h.reserved t.m t.m_in, len, long);
+      apart = λ k j lk lj e.
+          let t = from k lk in
+          let u = from j lj in
+          turned-once a (length old) k j t.m u.m (h.apart t.m u.m t.m_in u.m_in (sym t.same ∙ e ∙ u.same)) t.m_in u.m_in t.where_ u.where_ (omega (arith, len, long)) (omega (arith, len, long));
+      linked = λ k l. let t = from k l in ap (age_of held) t.same ∙ h.linked t.m t.m_in ∙ sym t.age;
+      found = λ slot age e.
+          let f = h.found slot age e in
+          let b = turned-from a (length old) f.0 f.1 (omega (arith, long)) in
+          let l : b.0 < length new = omega (arith, b.1, len, long) in
+          let t = from b.0 l in
+          let same = turned-back a (length old) b.0 t.m f.0 b.1 t.where_ b.2 in
+          (b.0, l, t.same ∙ ap (λ i. get_or old i 0) same ∙ f.2);
+      counted = h.counted;
+    }

@@ -1,7 +1,8 @@
 -- The live requests beside the heap of those that wait.
-use Rattle.std.specs.Prelude.{◌≡◌, ℕ, ◌<◌, ◌≤◌, Option, Some, None, List, length, map, slice_index, if◌then◌else◌}
+use Rattle.std.specs.Prelude.{◌≡◌, ℕ, ◌+◌, ◌<◌, ◌≤◌, Option, Some, None, List, [], ◌∷◌, ◌++◌, length, map, slice_index, if◌then◌else◌}
 use Rattle.my_wait_heap.specs.Ages.{age_of, how_many as how_many_held}
 use Rattle.my_pool_parts.specs.declared.request.Request.{Request}
+use Rattle.my_pool_parts.specs.declared.seat.Seat.{Seat}
 use Rattle.my_pool_parts.specs.Lists.{how_many}
 use Rattle.my_pool_parts.specs.Requests.{is_waiting, is_dialing, is_queued, IsRising}
 
@@ -26,3 +27,21 @@ pub record IsLive (rs : List Request) (slots : List ℕ) (held : List (Option �
   pub dialing_counted : dialing ≡ how_many is_dialing rs
   pub queued_counted : queued ≡ how_many is_queued rs
   pub queue : IsQueue (map age_if rs) slots held
+
+-- the requests of a map by age, and their slots
+abbrev pub requests_of : List (ℕ × Seat) → List Request
+requests_of es = map (λ e. e.1.request) es
+
+abbrev pub slots_of : List (ℕ × Seat) → List ℕ
+slots_of es = map (λ e. e.1.slot) es
+
+-- each request is under its own age
+abbrev pub IsKeyed : List (ℕ × Seat) → Type 0
+IsKeyed [] = Unit {0}
+IsKeyed (e ∷ es) = (e.0 ≡ e.1.request.age) × IsKeyed es
+
+-- a map of requests beside the free slots, of which there may be as many as there are slots
+pub record IsSeated (es : List (ℕ × Seat)) (free : List ℕ) (room : ℕ) (held : List (Option ℕ)) (dialing queued : ℕ) : Type 0 where
+  pub keyed : IsKeyed es
+  pub live : IsLive (requests_of es) (slots_of es ++ free) held dialing queued
+  pub roomy : length es + length free ≤ room

@@ -65,12 +65,16 @@ is_free r = not (is_dialing r || is_checking r)
 abbrev pub holds : ℕ → Request → Bool
 holds number r = holds_number number r.standing
 
+-- a request with another standing, which counts as having waited from then on where it is to
+abbrev pub changed : Bool → Standing → Request → Request
+changed waited standing r = record { age = r.age; waited = waited || r.waited; standing = standing }
+
 -- a request with another standing; one that waits counts as having waited from then on
 abbrev pub standing_as : Standing → Request → Request
-standing_as standing r = record { age = r.age; waited = r.waited; standing = standing }
+standing_as standing r = changed false standing r
 
 abbrev pub now_waiting : Request → Request
-now_waiting r = record { age = r.age; waited = true; standing = Waits }
+now_waiting r = changed true Waits r
 
 -- the request of this age with another standing
 abbrev pub set_standing : ℕ → Standing → List Request → List Request

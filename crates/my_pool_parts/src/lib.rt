@@ -5,7 +5,7 @@ mod connection;
 pub mod connections;
 mod live;
 mod request;
-mod search;
+mod seat;
 
 pub use connection::{Connection, Place, PlaceKind, Times};
 pub use live::Live;

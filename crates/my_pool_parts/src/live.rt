@@ -1,25 +1,30 @@
-//! The live requests with the heap of those that wait: what is looked for among them is found by comparing few ages.
+//! The live requests, by age, with the heap of those that wait.
+//!
+//! Each comparison of two ages by the heap is counted. A request is found in a map, whose own comparisons no clause
+//! counts: they go down one path of its tree.
 
-ghost use Rattle.std.specs.Prelude.{◌≡◌, ℕ, ◌+◌, ◌*◌, ◌^◌, ◌≤◌, ◌<◌, ◌++◌, [], ◌∷◌, Some, None, true, false, length, find, position, remove, List, Option, slice_index_or, slice_set, OnOk, OnErr, if◌then◌else◌};
+ghost use Rattle.std.specs.Prelude.{◌≡◌, ℕ, ◌+◌, ◌*◌, ◌^◌, ◌≤◌, ◌<◌, ◌++◌, [], ◌∷◌, Some, None, true, false, length, find, List, Option, slice_set, vec_capacity, IfOk, OnOk, OnErr, if◌then◌else◌};
 ghost use Rattle.std.specs.List.{list_any};
 ghost use Rattle.my_wait_heap.specs.Ages.{age_of, how_many as how_many_held};
-ghost use Rattle.my_pool_parts.specs.Lists.{how_many, found_is};
-ghost use Rattle.my_pool_parts.specs.Requests.{last_age, asking, is_free, holds, has_age, is_waiting, is_queued, is_dialing, may_dial, set_standing, set_waiting, ended, wake, wake_all, waits_up_to, has_waited, is_live, let_go, with_last, IsRising, oldest_in};
+ghost use Rattle.my_pool_parts.specs.Lists.{how_many, found_is, change_first};
+ghost use Rattle.my_pool_parts.specs.Requests.{last_age, asking, is_free, holds, has_age, is_waiting, is_queued, is_dialing, may_dial, set_standing, set_waiting, ended, wake, wake_all, waits_up_to, has_waited, is_live, let_go, with_last, IsRising, oldest_in, changed};
 ghost use Rattle.my_pool_parts.specs.Live.{IsQueue};
 
 use crate::request::{LAST, Request, Standing};
-use crate::search::index_of;
+use crate::seat::Seat;
 use my_frame::NoMemory;
-use my_wait_heap::{Ledger, Uncounted, WaitHeap};
+use my_wait_heap::{Ledger, WaitHeap};
 use std::alloc::Global;
+use std::collections::BTreeMap;
 use std::marker::Model;
 
-/// The live requests, from the oldest on.
+/// The live requests.
 #[derive(Debug, Drop)]
 pub struct Live {
-    requests: Vec<Request>,
-    /// The slot of each request in the heap, and after them the slots that are free.
-    slots: Vec<usize>,
+    /// Each request with its slot, by its age.
+    seats: BTreeMap<u64, Seat>,
+    /// The slots that no request has.
+    free: Vec<usize>,
     /// The ages of those that wait.
     waiting: WaitHeap,
     /// How many make a connection.
@@ -29,15 +34,15 @@ pub struct Live {
 }
 
 impl Model for Live {
-    ghost use Rattle.std.specs.Prelude.{List};
+    ghost use Rattle.std.specs.Prelude.{List, vec_capacity};
     ghost use Rattle.my_pool_parts.specs.declared.request.Request.{Request};
-    ghost use Rattle.my_pool_parts.specs.Live.{IsLive};
+    ghost use Rattle.my_pool_parts.specs.Live.{requests_of, IsSeated};
 
     ghost Value = { List Request };
 
-    ghost view = { λ l. l.requests.items };
+    ghost view = { λ l. requests_of l.seats.entries };
 
-    ghost invariant = { λ l. IsLive l.requests.items l.slots.items l.waiting l.dialing l.queued };
+    ghost invariant = { λ l. IsSeated l.seats.entries l.free.items (vec_capacity l.free) l.waiting l.dialing l.queued };
 }
 
 /// A count, where one that was counted or not is counted or not from now on.
@@ -72,19 +77,22 @@ fn set_held<C: Ledger>(heap: &mut WaitHeap, slot: usize, age: u64, holds: bool, 
     }
 }
 
-/// Afterwards there is a free slot beside those of `count` requests. Out of memory, the slots stay as they are.
-fn have_slot(slots: &mut Vec<usize>, heap: &mut WaitHeap, count: usize) -> Result<(), NoMemory>
-    requires { count ≤ length slots.old.items }
-    ensures queue { (ages : List (Option ℕ)) → IsQueue ages slots.old.items heap.old
-        → IsQueue ages slots.new.items heap.new }
-    ensures room { OnOk result (count < length slots.new.items) }
+/// Afterwards there is a free slot beside those of `count` requests, and room for the slots that these free. Out of
+/// memory, the slots stay as they are.
+fn have_slot(free: &mut Vec<usize>, heap: &mut WaitHeap, count: usize) -> Result<(), NoMemory>
+    requires small { count < 2 ^ 63 }
+    requires roomy { count + length free.old.items ≤ vec_capacity free.old }
+    ensures queue { (ages : List (Option ℕ)) (slots : List ℕ) → length slots ≡ count
+        → IsQueue ages (slots ++ free.old.items) heap.old → IsQueue ages (slots ++ free.new.items) heap.new }
+    ensures free { OnOk result (0 < length free.new.items) }
+    ensures roomy { count + length free.new.items ≤ vec_capacity free.new }
 {
-    if count < slots.len() {
+    if !free.is_empty() {
         return Ok(());
     }
-    let next = slots.len();
-    heap.reserve(next + 1)?;
-    slots.push(next)?;
+    free.reserve(count + 1)?;
+    heap.reserve(count + 1)?;
+    free.push(count).unwrap();
     Ok(())
 }
 
@@ -94,8 +102,8 @@ impl Live {
         ensures { result ≡ [] }
     {
         Live {
-            requests: Vec::new(alloc),
-            slots: Vec::new(alloc),
+            seats: BTreeMap::new(alloc),
+            free: Vec::new(alloc),
             waiting: WaitHeap::new(alloc),
             dialing: 0,
             queued: 0,
@@ -103,10 +111,14 @@ impl Live {
     }
 
     /// The requests, from the oldest on.
-    pub fn as_slice(&self) -> &[Request]
-        ensures { result.now ≡ self.now }
+    pub fn list(&self, alloc: Global) -> Result<Vec<Request>, NoMemory>
+        ensures { IfOk result (λ requests. requests.items ≡ self.now) }
     {
-        &self.requests
+        let mut requests = Vec::new(alloc);
+        for seat in self.seats.values() {
+            requests.push(seat.request)?;
+        }
+        Ok(requests)
     }
 
     /// How many there are.
@@ -114,38 +126,23 @@ impl Live {
         ensures count { result ≡ length self.now }
         ensures small { result < 2 ^ 63 }
     {
-        self.requests.len()
+        self.seats.len()
     }
 
-    /// The request at an index becomes another one of its age.
-    fn put<C: Ledger>(&mut self, index: usize, next: Request, steps: &mut C)
-        requires within { index < length self.old }
-        requires age { next.age ≡ (slice_index_or self.old index next).age }
-        ensures items { self.new ≡ slice_set self.old index next }
+    /// The request of an age gets another standing, and counts as having waited from now on where it is to.
+    fn change<C: Ledger>(&mut self, age: u64, waited: bool, standing: Standing, steps: &mut C)
+        ensures requests { self.new ≡ change_first (has_age age) (changed waited standing) self.old }
         ensures cost { (d : ℕ) → length self.old < 2 ^ d → C.noted steps.new ≤ C.noted steps.old + 2 * d + 1 }
     {
-        let old = self.requests[index];
-        let slot = self.slots[index];
-        set_held(&mut self.waiting, slot, next.age, next.is_waiting(), steps);
+        let Some(seat) = self.seats.get_mut(&age) else {
+            return;
+        };
+        let Seat { request: old, slot } = *seat;
+        let next = old.changed(waited, standing);
+        seat.request = next;
+        set_held(&mut self.waiting, slot, age, next.is_waiting(), steps);
         self.dialing = recount(self.dialing, old.is_dialing(), next.is_dialing());
         self.queued = recount(self.queued, old.is_queued(), next.is_queued());
-        self.requests[index] = next;
-    }
-
-    /// The request at an index ends.
-    fn remove_at<C: Ledger>(&mut self, index: usize, steps: &mut C)
-        requires { index < length self.old }
-        ensures items { self.new ≡ remove self.old index }
-        ensures cost { (d : ℕ) → length self.old < 2 ^ d → C.noted steps.new ≤ C.noted steps.old + 2 * d + 1 }
-    {
-        let old = self.requests[index];
-        let slot = self.slots[index];
-        set_held(&mut self.waiting, slot, old.age, false, steps);
-        self.dialing = recount(self.dialing, old.is_dialing(), false);
-        self.queued = recount(self.queued, old.is_queued(), false);
-        self.requests.remove(index);
-        self.slots.remove(index);
-        self.slots.push(slot).unwrap();
     }
 
     /// There is one more request, which is younger than each. Out of memory, nothing changes.
@@ -154,28 +151,20 @@ impl Live {
         ensures ok { OnOk result (self.new ≡ self.old ++ asking age ∷ []) }
         ensures err { OnErr result (self.new ≡ self.old) }
     {
-        self.requests.reserve(1)?;
-        let count = self.requests.len();
-        have_slot(&mut self.slots, &mut self.waiting, count)?;
-        self.requests.push(Request::asking(age)).unwrap();
+        have_slot(&mut self.free, &mut self.waiting, self.seats.len())?;
+        let slot = self.free[self.free.len() - 1];
+        let request = Request::asking(age);
+        self.seats.insert(age, Seat { request, slot })?;
+        self.free.pop();
         Ok(())
     }
 
-    /// The index of the request of an age.
-    fn index_of<C: Ledger>(&self, age: u64, steps: &mut C) -> Option<usize>
-        ensures answer { result ≡ position (has_age age) self.now }
-        ensures cost { (d : ℕ) → length self.now < 2 ^ d → C.noted steps.new ≤ C.noted steps.old + d + 1 }
-    {
-        index_of(&self.requests, age, steps)
-    }
-
     /// The request of an age.
-    pub fn find<C: Ledger>(&self, age: u64, steps: &mut C) -> Option<Request>
-        ensures answer { result ≡ find (has_age age) self.now }
-        ensures cost { (d : ℕ) → length self.now < 2 ^ d → C.noted steps.new ≤ C.noted steps.old + d + 1 }
+    pub fn find(&self, age: u64) -> Option<Request>
+        ensures { result ≡ find (has_age age) self.now }
     {
-        match self.index_of(age, steps) {
-            Some(index) => Some(self.requests[index]),
+        match self.seats.get(&age) {
+            Some(seat) => Some(seat.request),
             None => None,
         }
     }
@@ -184,14 +173,14 @@ impl Live {
     pub fn is_live(&self, age: u64) -> bool
         ensures { result ≡ found_is is_live (find (has_age age) self.now) }
     {
-        self.find(age, &mut Uncounted).is_some()
+        self.find(age).is_some()
     }
 
     /// Whether the request of an age is live and has no connection.
     pub fn is_free(&self, age: u64) -> bool
         ensures { result ≡ found_is is_free (find (has_age age) self.now) }
     {
-        match self.find(age, &mut Uncounted) {
+        match self.find(age) {
             Some(request) => request.is_free(),
             None => false,
         }
@@ -201,18 +190,17 @@ impl Live {
     pub fn is_held(&self, age: u64, number: u64) -> bool
         ensures { result ≡ found_is (holds number) (find (has_age age) self.now) }
     {
-        match self.find(age, &mut Uncounted) {
+        match self.find(age) {
             Some(request) => request.holds(number),
             None => false,
         }
     }
 
     /// Whether the request of an age ever waited.
-    pub fn has_waited<C: Ledger>(&self, age: u64, steps: &mut C) -> bool
-        ensures answer { result ≡ found_is has_waited (find (has_age age) self.now) }
-        ensures cost { (d : ℕ) → length self.now < 2 ^ d → C.noted steps.new ≤ C.noted steps.old + d + 1 }
+    pub fn has_waited(&self, age: u64) -> bool
+        ensures { result ≡ found_is has_waited (find (has_age age) self.now) }
     {
-        match self.find(age, steps) {
+        match self.find(age) {
             Some(request) => request.waited,
             None => false,
         }
@@ -223,10 +211,7 @@ impl Live {
         ensures requests { self.new ≡ set_standing age standing self.old }
         ensures cost { (d : ℕ) → length self.old < 2 ^ d → C.noted steps.new ≤ C.noted steps.old + 3 * d + 2 }
     {
-        if let Some(index) = self.index_of(age, steps) {
-            let next = self.requests[index].with_standing(standing);
-            self.put(index, next, steps);
-        }
+        self.change(age, false, standing, steps);
     }
 
     /// The request of an age waits.
@@ -234,10 +219,7 @@ impl Live {
         ensures requests { self.new ≡ set_waiting age self.old }
         ensures cost { (d : ℕ) → length self.old < 2 ^ d → C.noted steps.new ≤ C.noted steps.old + 3 * d + 2 }
     {
-        if let Some(index) = self.index_of(age, steps) {
-            let next = self.requests[index].now_waiting();
-            self.put(index, next, steps);
-        }
+        self.change(age, true, Standing::Waits, steps);
     }
 
     /// The request of an age ends, unless its age is the last one.
@@ -248,9 +230,14 @@ impl Live {
         if age == LAST {
             return;
         }
-        if let Some(index) = self.index_of(age, steps) {
-            self.remove_at(index, steps);
-        }
+        let Some(seat) = self.seats.remove(&age) else {
+            return;
+        };
+        let Seat { request: old, slot } = seat;
+        set_held(&mut self.waiting, slot, age, false, steps);
+        self.dialing = recount(self.dialing, old.is_dialing(), false);
+        self.queued = recount(self.queued, old.is_queued(), false);
+        self.free.push(slot).unwrap();
     }
 
     /// The request of an age ends where it makes a connection, and else asks again.
@@ -258,7 +245,7 @@ impl Live {
         ensures requests { self.new ≡ let_go age self.old }
         ensures cost { (d : ℕ) → length self.old < 2 ^ d → C.noted steps.new ≤ C.noted steps.old + 4 * d + 3 }
     {
-        let dials = match self.find(age, steps) {
+        let dials = match self.find(age) {
             Some(request) => request.is_dialing(),
             None => false,
         };
@@ -315,28 +302,26 @@ impl Live {
     pub fn is_waiting(&self, age: u64) -> bool
         ensures { result ≡ found_is is_waiting (find (has_age age) self.now) }
     {
-        match self.find(age, &mut Uncounted) {
+        match self.find(age) {
             Some(request) => request.is_waiting(),
             None => false,
         }
     }
 
     /// Whether the request of the last age is live.
-    pub fn has_last<C: Ledger>(&self, steps: &mut C) -> bool
-        ensures answer { result ≡ list_any (has_age last_age) self.now }
-        ensures cost { (d : ℕ) → length self.now < 2 ^ d → C.noted steps.new ≤ C.noted steps.old + d + 1 }
+    pub fn has_last(&self) -> bool
+        ensures { result ≡ list_any (has_age last_age) self.now }
     {
-        self.index_of(LAST, steps).is_some()
+        self.seats.contains_key(&LAST)
     }
 
     /// The request of the last age is live from now on. Out of memory, nothing changes.
-    pub fn add_last<C: Ledger>(&mut self, steps: &mut C) -> Result<(), NoMemory>
+    pub fn add_last(&mut self) -> Result<(), NoMemory>
         requires { IsRising 0 (with_last self.old) }
         ensures ok { OnOk result (self.new ≡ with_last self.old) }
         ensures err { OnErr result (self.new ≡ self.old) }
-        ensures cost { (d : ℕ) → length self.old < 2 ^ d → C.noted steps.new ≤ C.noted steps.old + d + 1 }
     {
-        if self.has_last(steps) {
+        if self.has_last() {
             return Ok(());
         }
         self.add(LAST)
@@ -353,7 +338,7 @@ impl Live {
     pub fn count_may_dial(&self) -> usize
         ensures { result ≡ how_many may_dial self.now }
     {
-        self.requests.len() - self.dialing
+        self.seats.len() - self.dialing
     }
 
     /// How many wait.

@@ -3,7 +3,7 @@
 ghost use Rattle.std.specs.Prelude.{◌≡◌};
 ghost use Rattle.std.specs.List.{list_any};
 ghost use Rattle.my_pool_parts.specs.Lists.{how_many, found_is};
-ghost use Rattle.my_pool_parts.specs.Requests.{last_age, asking, is_free, holds, has_age, is_waiting, is_waiting_standing, is_woken, is_woken_standing, is_dialing, is_dialing_standing, is_queued, may_dial, standing_as, now_waiting, set_standing, set_waiting, ended, roused, wake, wake_all, waits_up_to, has_waited, is_live, let_go, with_last};
+ghost use Rattle.my_pool_parts.specs.Requests.{last_age, asking, is_free, holds, has_age, is_waiting, is_waiting_standing, is_woken, is_woken_standing, is_dialing, is_dialing_standing, is_queued, may_dial, changed, set_standing, set_waiting, ended, roused, wake, wake_all, waits_up_to, has_waited, is_live, let_go, with_last};
 
 /// The last age and the last number.
 pub const LAST: u64 = u64::MAX;
@@ -86,25 +86,14 @@ impl Request {
         }
     }
 
-    /// The request with another standing.
-    pub fn with_standing(&self, standing: Standing) -> Request
-        ensures { result ≡ standing_as standing self.now }
+    /// The request with another standing; from now on it counts as having waited where it is to.
+    pub(crate) fn changed(&self, waited: bool, standing: Standing) -> Request
+        ensures { result ≡ changed waited standing self.now }
     {
         Request {
             age: self.age,
-            waited: self.waited,
+            waited: waited || self.waited,
             standing,
-        }
-    }
-
-    /// The request, waiting: from now on it has waited.
-    pub fn now_waiting(&self) -> Request
-        ensures { result ≡ now_waiting self.now }
-    {
-        Request {
-            age: self.age,
-            waited: true,
-            standing: Standing::Waits,
         }
     }
 

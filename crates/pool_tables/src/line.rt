@@ -1,6 +1,7 @@
 //! A list of events as lines: the word of an event with its numbers, or a word for what is seen of the pool; and after
 //! " = " what it returns, or what is seen.
 
+use crate::seen::Lists;
 use my_pool_core::{Core, Facts, Limits, PoolEvent};
 use std::alloc::{AllocError, Global};
 use std::process::Abort;
@@ -107,10 +108,10 @@ fn event_of(word: &str, words: &Words) -> Option<PoolEvent> {
 }
 
 /// The ages of the requests that wait, and of those that were woken.
-fn queue(alloc: Global, core: &Core) -> Result<String, AllocError> {
+fn queue(alloc: Global, lists: &Lists) -> Result<String, AllocError> {
     let mut waiting = Vec::new(alloc);
     let mut woken = Vec::new(alloc);
-    for request in core.requests() {
+    for request in &lists.requests {
         if request.is_waiting() {
             waiting.push(request.age)?;
         }
@@ -122,14 +123,14 @@ fn queue(alloc: Global, core: &Core) -> Result<String, AllocError> {
 }
 
 /// What is seen of a pool.
-fn seen(alloc: Global, core: &Core, word: &str) -> Result<String, AllocError> {
+fn seen(alloc: Global, core: &Core, lists: &Lists, word: &str) -> Result<String, AllocError> {
     match word {
-        "counted" => format!(in alloc; "{}", core.connections().len()),
-        "places" => format!(in alloc; "{:?}", core.connections()),
+        "counted" => format!(in alloc; "{}", lists.connections.len()),
+        "places" => format!(in alloc; "{:?}", lists.connections),
         "oldest" => format!(in alloc; "{:?}", core.oldest_waiting()),
-        "live" => format!(in alloc; "{}", core.requests().len()),
+        "live" => format!(in alloc; "{}", lists.requests.len()),
         "metrics" => format!(in alloc; "{:?}", core.metrics()),
-        _ => queue(alloc, core),
+        _ => queue(alloc, lists),
     }
 }
 
@@ -137,7 +138,8 @@ fn seen(alloc: Global, core: &Core, word: &str) -> Result<String, AllocError> {
 fn told(alloc: Global, core: &mut Core, line: &str) -> Result<String, Fail> {
     let (word, rest) = line.split_once(' ').unwrap_or((line, ""));
     let Some(event) = event_of(word, &words_of(rest)?) else {
-        return Ok(seen(alloc, core, word)?);
+        let lists = Lists::of(alloc, core)?;
+        return Ok(seen(alloc, core, &lists, word)?);
     };
     if !core.may(&event) {
         return Ok(String::from_str(alloc, "not now")?);

@@ -2,7 +2,7 @@
 
 use crate::scanned::scanned;
 use crate::seed::{Dice, some_event};
-use crate::seen::calls_agree;
+use crate::seen::{Lists, calls_agree};
 use crate::sound::{Next, connections_are_sound, end_is_sound, is_covered, requests_are_sound};
 use crate::tally::{NAMES, Tally, name_of};
 use my_opts_parts::{Millis, PoolConstraints, PoolOpts};
@@ -55,12 +55,19 @@ fn follow(next: &mut Next, answer: Answer) {
 }
 
 /// Whether a pool is as it should be.
-fn check(rt: &impl Abort, core: &Core, limits: Limits, next: &Next, event: PoolEvent) {
-    assert!(rt; connections_are_sound(core, limits, next), "{event:?}");
-    assert!(rt; requests_are_sound(core, next), "{event:?}");
-    assert!(rt; end_is_sound(core), "{event:?}");
-    assert!(rt; is_covered(core, limits.max), "{event:?}");
-    assert!(rt; calls_agree(core), "{event:?}");
+fn check(
+    rt: &impl Abort,
+    core: &Core,
+    lists: &Lists,
+    limits: Limits,
+    next: &Next,
+    event: PoolEvent,
+) {
+    assert!(rt; connections_are_sound(lists, limits, next), "{event:?}");
+    assert!(rt; requests_are_sound(core, lists, next), "{event:?}");
+    assert!(rt; end_is_sound(core, lists), "{event:?}");
+    assert!(rt; is_covered(core, lists, limits.max), "{event:?}");
+    assert!(rt; calls_agree(core, lists), "{event:?}");
 }
 
 /// A replay of the events of a pool is that pool; with an event more that may not happen there is none.
@@ -74,8 +81,9 @@ fn check_replay(
 ) -> Result<(), Fail> {
     let again = Core::replay(alloc, opts, first, events)?.ok_or("each event happened")?;
     assert_eq!(rt; again.metrics(), core.metrics());
-    assert_eq!(rt; again.connections(), core.connections());
-    assert_eq!(rt; again.requests(), core.requests());
+    let (lists, own) = (Lists::of(alloc, &again)?, Lists::of(alloc, core)?);
+    assert_eq!(rt; lists.connections, own.connections);
+    assert_eq!(rt; lists.requests, own.requests);
     events.push(PoolEvent::GiveBack {
         conn: first.wrapping_sub(1),
     })?;
@@ -108,9 +116,10 @@ fn play_round(rt: &impl Abort, alloc: Global, round: u64, tally: &mut Tally) -> 
     };
     let mut plain = Vec::new(alloc);
     let mut events = Vec::new(alloc);
+    let mut lists = Lists::of(alloc, &core)?;
     for turn in 0..4000u64 {
         let closes = events.len() > EVENTS / 4 * 3;
-        let Some(event) = some_event(&core, &mut dice, turn / 8, closes) else {
+        let Some(event) = some_event(&lists, &mut dice, turn / 8, closes) else {
             continue;
         };
         if events.len() < EVENTS && core.may(&event) {
@@ -118,9 +127,10 @@ fn play_round(rt: &impl Abort, alloc: Global, round: u64, tally: &mut Tally) -> 
             events.push(event)?;
             tally.count(name_of(event, answer))?;
             scanned(&mut plain, event, answer)?;
-            assert_eq!(rt; core.requests(), plain.as_slice(), "{event:?}");
+            lists = Lists::of(alloc, &core)?;
+            assert_eq!(rt; lists.requests, plain, "{event:?}");
             follow(&mut next, answer);
-            check(rt, &core, limits, &next, event);
+            check(rt, &core, &lists, limits, &next, event);
         }
     }
     assert_eq!(rt; events.len(), EVENTS, "{round}");

@@ -1,6 +1,7 @@
 //! Events from random numbers, each of which may happen.
 
-use my_pool_core::{Core, Facts, PoolEvent};
+use crate::seen::Lists;
+use my_pool_core::{Facts, PoolEvent};
 use my_pool_parts::{PlaceKind, Request, Standing};
 
 /// Random numbers, one after the other.
@@ -28,10 +29,10 @@ impl Dice {
 }
 
 /// Some live request that has a connection, or one that hasn't.
-fn some_request(core: &Core, dice: &mut Dice, free: bool) -> Option<Request> {
+fn some_request(lists: &Lists, dice: &mut Dice, free: bool) -> Option<Request> {
     let mut chosen = None;
     let mut count = 0u64;
-    for request in core.requests() {
+    for request in &lists.requests {
         if request.is_free() == free {
             count = count.saturating_add(1);
             if dice.below(count) == 0 {
@@ -43,10 +44,10 @@ fn some_request(core: &Core, dice: &mut Dice, free: bool) -> Option<Request> {
 }
 
 /// The number of some counted connection at a kind of place.
-fn some_number(core: &Core, dice: &mut Dice, kind: PlaceKind) -> Option<u64> {
+fn some_number(lists: &Lists, dice: &mut Dice, kind: PlaceKind) -> Option<u64> {
     let mut chosen = None;
     let mut count = 0u64;
-    for connection in core.connections() {
+    for connection in &lists.connections {
         if connection.place.is(kind) {
             count = count.saturating_add(1);
             if dice.below(count) == 0 {
@@ -58,8 +59,8 @@ fn some_number(core: &Core, dice: &mut Dice, kind: PlaceKind) -> Option<u64> {
 }
 
 /// The age of some request that has a connection, and that connection's number.
-fn some_holder(core: &Core, dice: &mut Dice) -> Option<(u64, u64)> {
-    let request = some_request(core, dice, false)?;
+fn some_holder(lists: &Lists, dice: &mut Dice) -> Option<(u64, u64)> {
+    let request = some_request(lists, dice, false)?;
     match request.standing {
         Standing::Dials(number) | Standing::Checks(number) => Some((request.age, number)),
         _ => None,
@@ -84,13 +85,13 @@ fn some_facts(dice: &mut Dice, now: u64) -> Facts {
 }
 
 /// The end of a reset or a close, or of a cleaning that failed.
-fn some_end(core: &Core, dice: &mut Dice, now: u64) -> Option<PoolEvent> {
+fn some_end(lists: &Lists, dice: &mut Dice, now: u64) -> Option<PoolEvent> {
     let kind = match dice.below(3) {
         0 => PlaceKind::Closing,
         1 => PlaceKind::Resetting,
         _ => PlaceKind::Cleaning,
     };
-    let conn = some_number(core, dice, kind)?;
+    let conn = some_number(lists, dice, kind)?;
     let ok = kind != PlaceKind::Cleaning && dice.below(6) > 0;
     let facts = some_facts(dice, now);
     Some(PoolEvent::Done {
@@ -102,41 +103,41 @@ fn some_end(core: &Core, dice: &mut Dice, now: u64) -> Option<PoolEvent> {
 }
 
 /// Some event that may happen now; None where there is none of the kind that was drawn.
-pub fn some_event(core: &Core, dice: &mut Dice, now: u64, closes: bool) -> Option<PoolEvent> {
+pub fn some_event(lists: &Lists, dice: &mut Dice, now: u64, closes: bool) -> Option<PoolEvent> {
     Some(match dice.below(64) {
         0..=3 => PoolEvent::Request,
         4..=13 => {
-            let age = some_request(core, dice, true)?.age;
+            let age = some_request(lists, dice, true)?.age;
             PoolEvent::PollRequest { age, now }
         }
         14..=16 => {
             let free = dice.below(2) == 0;
-            let age = some_request(core, dice, free)?.age;
+            let age = some_request(lists, dice, free)?.age;
             PoolEvent::Cancel { age }
         }
         17..=25 => {
-            let (age, conn) = some_holder(core, dice)?;
+            let (age, conn) = some_holder(lists, dice)?;
             PoolEvent::Ready { age, conn }
         }
         26..=27 => {
-            let (age, conn) = some_holder(core, dice)?;
+            let (age, conn) = some_holder(lists, dice)?;
             PoolEvent::Failed { age, conn }
         }
         28..=34 => {
-            let conn = some_number(core, dice, PlaceKind::Leased)?;
+            let conn = some_number(lists, dice, PlaceKind::Leased)?;
             PoolEvent::GiveBack { conn }
         }
         35..=36 => {
-            let conn = some_number(core, dice, PlaceKind::Leased)?;
+            let conn = some_number(lists, dice, PlaceKind::Leased)?;
             PoolEvent::Detach { conn }
         }
         37..=41 => PoolEvent::TakeReturned,
         42..=49 => {
-            let conn = some_number(core, dice, PlaceKind::Cleaning)?;
+            let conn = some_number(lists, dice, PlaceKind::Cleaning)?;
             let facts = some_facts(dice, now);
             PoolEvent::Decide { conn, facts, now }
         }
-        50..=58 => return some_end(core, dice, now),
+        50..=58 => return some_end(lists, dice, now),
         59..=61 => PoolEvent::CheckTtl {
             now: now.saturating_add(dice.below(10)),
         },

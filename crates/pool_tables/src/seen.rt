@@ -1,12 +1,31 @@
 //! What a pool's calls show, beside a look through its lists.
 
+use my_frame::NoMemory;
 use my_pool_core::Core;
-use my_pool_parts::PlaceKind;
+use my_pool_parts::{Connection, PlaceKind, Request};
+use std::alloc::Global;
+
+/// A pool's connections and live requests.
+#[derive(Drop)]
+pub struct Lists {
+    pub connections: Vec<Connection>,
+    pub requests: Vec<Request>,
+}
+
+impl Lists {
+    /// Those of a pool.
+    pub fn of(alloc: Global, core: &Core) -> Result<Lists, NoMemory> {
+        Ok(Lists {
+            connections: core.connections(alloc)?,
+            requests: core.requests(alloc)?,
+        })
+    }
+}
 
 /// The least number, not below `from`, that a look through the connections finds at a kind of place.
-fn scanned_next(core: &Core, kind: PlaceKind, from: u64) -> Option<u64> {
+fn scanned_next(lists: &Lists, kind: PlaceKind, from: u64) -> Option<u64> {
     let mut next: Option<u64> = None;
-    for connection in core.connections() {
+    for connection in &lists.connections {
         let number = connection.number;
         let lesser = match next {
             Some(found) => number < found,
@@ -20,23 +39,23 @@ fn scanned_next(core: &Core, kind: PlaceKind, from: u64) -> Option<u64> {
 }
 
 /// Whether the calls by age and by number return what a look through the lists finds.
-pub fn calls_agree(core: &Core) -> bool {
-    let oldest = core
-        .requests()
+pub fn calls_agree(core: &Core, lists: &Lists) -> bool {
+    let oldest = lists
+        .requests
         .iter()
         .find(|r| r.is_waiting())
         .map(|r| r.age);
     if core.oldest_waiting() != oldest {
         return false;
     }
-    for request in core.requests() {
+    for request in &lists.requests {
         if core.live_request(request.age) != Some(*request)
             || core.is_waiting(request.age) != request.is_waiting()
         {
             return false;
         }
     }
-    for connection in core.connections() {
+    for connection in &lists.connections {
         if core.connection(connection.number) != Some(*connection) {
             return false;
         }
@@ -47,7 +66,7 @@ pub fn calls_agree(core: &Core) -> bool {
             PlaceKind::Closing,
         ] {
             let from = connection.number;
-            if core.next_at(kind, from) != scanned_next(core, kind, from) {
+            if core.next_at(kind, from) != scanned_next(lists, kind, from) {
                 return false;
             }
         }

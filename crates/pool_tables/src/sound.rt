@@ -1,5 +1,6 @@
 //! What holds of each state of a pool, as tests of it.
 
+use crate::seen::Lists;
 use my_pool_core::{Core, Limits};
 use my_pool_parts::{Place, Request, Standing};
 
@@ -11,36 +12,38 @@ pub struct Next {
 }
 
 /// How many connections have a number.
-fn count_number(core: &Core, number: u64) -> usize {
-    core.connections()
+fn count_number(lists: &Lists, number: u64) -> usize {
+    lists
+        .connections
         .iter()
         .filter(|c| c.number == number)
         .count()
 }
 
 /// How many requests make or look at the connection of a number, as its standing says.
-fn holders(core: &Core, standing: Standing) -> usize {
-    core.requests()
+fn holders(lists: &Lists, standing: Standing) -> usize {
+    lists
+        .requests
         .iter()
         .filter(|r| r.standing == standing)
         .count()
 }
 
 /// How many connections are idle.
-fn count_idle(core: &Core) -> usize {
-    core.connections().iter().filter(|c| c.is_idle()).count()
+fn count_idle(lists: &Lists) -> usize {
+    lists.connections.iter().filter(|c| c.is_idle()).count()
 }
 
 /// Whether there are no more connections and no more idle ones than may be, each is counted once and below the next
 /// number, and each that is being made or looked at has the one request that does it.
-pub fn connections_are_sound(core: &Core, limits: Limits, next: &Next) -> bool {
-    for connection in core.connections() {
+pub fn connections_are_sound(lists: &Lists, limits: Limits, next: &Next) -> bool {
+    for connection in &lists.connections {
         let number = connection.number;
-        let making = holders(core, Standing::Dials(number));
-        let looking = holders(core, Standing::Checks(number));
+        let making = holders(lists, Standing::Dials(number));
+        let looking = holders(lists, Standing::Checks(number));
         let made = usize::from(matches!(connection.place, Place::Connecting));
         let looked_at = usize::from(matches!(connection.place, Place::Checking));
-        if count_number(core, number) != 1
+        if count_number(lists, number) != 1
             || number >= next.number
             || making != made
             || looking != looked_at
@@ -48,17 +51,17 @@ pub fn connections_are_sound(core: &Core, limits: Limits, next: &Next) -> bool {
             return false;
         }
     }
-    core.connections().len() as u64 <= limits.max && count_idle(core) as u64 <= limits.bound
+    lists.connections.len() as u64 <= limits.max && count_idle(lists) as u64 <= limits.bound
 }
 
 /// Whether a request is there as a state's soundness asks for: below the next age but for the last one, which asks and
 /// has closed the pool; marked where it waits or was woken; waiting only in an open pool; and its connection is counted.
-fn request_is_sound(core: &Core, request: &Request, next: &Next) -> bool {
+fn request_is_sound(core: &Core, lists: &Lists, request: &Request, next: &Next) -> bool {
     let last = request.age == u64::MAX;
     let asks = matches!(request.standing, Standing::Asks);
     let queued = request.is_waiting() || request.is_woken();
     let there = match request.standing {
-        Standing::Dials(number) | Standing::Checks(number) => count_number(core, number) == 1,
+        Standing::Dials(number) | Standing::Checks(number) => count_number(lists, number) == 1,
         _ => true,
     };
     (request.age < next.age || last)
@@ -69,15 +72,15 @@ fn request_is_sound(core: &Core, request: &Request, next: &Next) -> bool {
 }
 
 /// Whether the ages rise, each request is sound, and there are numbers and room for those that may dial.
-pub fn requests_are_sound(core: &Core, next: &Next) -> bool {
+pub fn requests_are_sound(core: &Core, lists: &Lists, next: &Next) -> bool {
     let mut before = None;
     let mut dialers = 0u64;
-    for request in core.requests() {
+    for request in &lists.requests {
         let rises = match before {
             Some(age) => age < request.age,
             None => true,
         };
-        if !rises || !request_is_sound(core, request, next) {
+        if !rises || !request_is_sound(core, lists, request, next) {
             return false;
         }
         before = Some(request.age);
@@ -90,17 +93,17 @@ pub fn requests_are_sound(core: &Core, next: &Next) -> bool {
 }
 
 /// Whether a pool that is gone is closed and counts nothing.
-pub fn end_is_sound(core: &Core) -> bool {
-    !core.poll_disconnect() || (core.is_closed() && core.connections().is_empty())
+pub fn end_is_sound(core: &Core, lists: &Lists) -> bool {
+    !core.poll_disconnect() || (core.is_closed() && lists.connections.is_empty())
 }
 
 /// Whether the woken requests before the first waiting one are as many as what they may have.
-pub fn is_covered(core: &Core, max: u64) -> bool {
+pub fn is_covered(core: &Core, lists: &Lists, max: u64) -> bool {
     let mut woken = 0u64;
-    for request in core.requests() {
+    for request in &lists.requests {
         if request.is_waiting() {
-            let idle = count_idle(core) as u64;
-            let left = max.saturating_sub(core.connections().len() as u64);
+            let idle = count_idle(lists) as u64;
+            let left = max.saturating_sub(lists.connections.len() as u64);
             return core.is_closed() || idle.saturating_add(left) <= woken;
         }
         if request.is_woken() {

@@ -16,12 +16,11 @@ use my_wait_heap::{Ledger, Uncounted};
 
 impl Core {
     /// Whether ages or numbers have reached their last one.
-    fn is_at_end<C: Ledger>(&self, steps: &mut C) -> bool
-        ensures answer { result ≡ is_at_end self.now }
-        ensures cost { (d : ℕ) → length self.now.requests < 2 ^ d → C.noted steps.new ≤ C.noted steps.old + d + 1 }
+    fn is_at_end(&self) -> bool
+        ensures { result ≡ is_at_end self.now }
     {
         self.next_age == LAST
-            || self.requests.has_last(steps)
+            || self.requests.has_last()
             || LAST - self.next_number <= self.requests.count_may_dial() as u64
     }
 
@@ -46,11 +45,11 @@ impl Core {
         ensures cost { (d : ℕ) → length self.old.requests < 2 ^ d → let waiting = how_many is_waiting self.old.requests
             in C.noted steps.new ≤ C.noted steps.old + 2 * d + 2 + waiting * (3 * d + 5) }
     {
-        let at_end = self.is_at_end(steps);
+        let at_end = self.is_at_end();
         let room = self.requests.len() + 1;
         self.connections.reserve(room)?;
         if at_end {
-            self.requests.add_last(steps)?;
+            self.requests.add_last()?;
             self.requests.wake_all(steps);
             self.spare = self.spare.max(room as u64);
             self.closed = true;
@@ -71,7 +70,7 @@ impl Core {
         ensures answer { result ≡ (queued age self.old).answer }
         ensures cost { (d : ℕ) → length self.old.requests < 2 ^ d → C.noted steps.new ≤ C.noted steps.old + 4 * d + 3 }
     {
-        if !self.requests.has_waited(age, steps)
+        if !self.requests.has_waited(age)
             && let Some(limit) = self.limits.waiting
         {
             let waiting = self.requests.count_queued() as u64;
@@ -175,7 +174,7 @@ impl Core {
         ensures state { self.new ≡ cancel age self.old }
         ensures cost { (d : ℕ) → length self.old.requests < 2 ^ d → C.noted steps.new ≤ C.noted steps.old + 7 * d + 5 }
     {
-        let Some(request) = self.requests.find(age, steps) else {
+        let Some(request) = self.requests.find(age) else {
             return;
         };
         self.requests.end(age, steps);

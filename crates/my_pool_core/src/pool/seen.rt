@@ -1,6 +1,6 @@
 //! What is seen of a pool.
 
-ghost use Rattle.std.specs.Prelude.{◌≡◌, MatchOption, None, find};
+ghost use Rattle.std.specs.Prelude.{◌≡◌, MatchOption, IfOk, None, find};
 ghost use Rattle.my_pool_parts.specs.Connections.{has_number};
 ghost use Rattle.my_pool_parts.specs.Requests.{has_age, IsRising};
 ghost use Rattle.my_pool_core.specs.Owners.{IsNextAt, IsNoneAt};
@@ -9,9 +9,10 @@ ghost use Rattle.my_pool_core.specs.Sound.{IsSound};
 ghost use Rattle.my_pool_core.specs.Wakes.{waits, oldest_waiting};
 
 use super::Core;
+use my_frame::NoMemory;
 use my_pool_parts::connections::{connection_of, next_at};
 use my_pool_parts::{Connection, PlaceKind, Request};
-use my_wait_heap::Uncounted;
+use std::alloc::Global;
 
 impl Core {
     /// The state of a pool is sound. This does nothing; it is for callers whose proof needs that fact.
@@ -39,7 +40,7 @@ impl Core {
     pub fn live_request(&self, age: u64) -> Option<Request>
         ensures { result ≡ find (has_age age) self.now.requests }
     {
-        self.requests.find(age, &mut Uncounted)
+        self.requests.find(age)
     }
 
     /// The counted connection of a number.
@@ -57,18 +58,18 @@ impl Core {
     }
 
     /// The counted connections with their places, in the order in which they came to them.
-    pub fn connections(&self) -> &[Connection]
-        ensures { result.now ≡ self.now.connections }
+    pub fn connections(&self, alloc: Global) -> Result<Vec<Connection>, NoMemory>
+        ensures { IfOk result (λ connections. connections.items ≡ self.now.connections) }
     {
-        &self.connections
+        Ok(Vec::from_slice(alloc, &self.connections)?)
     }
 
     /// The live requests, from the oldest on.
-    pub fn requests(&self) -> &[Request]
-        ensures list { result.now ≡ self.now.requests }
-        ensures rising { IsRising 0 result.now }
+    pub fn requests(&self, alloc: Global) -> Result<Vec<Request>, NoMemory>
+        ensures list { IfOk result (λ requests. requests.items ≡ self.now.requests) }
+        ensures rising { IsRising 0 self.now.requests }
     {
-        self.requests.as_slice()
+        self.requests.list(alloc)
     }
 
     /// Whether the pool is closed.

@@ -9,7 +9,7 @@ use Rattle.my_pool_parts.specs.Lists.{how_many}
 use Rattle.my_pool_parts.specs.Requests.{asking, is_waiting, is_dialing, is_queued, IsRising}
 use Rattle.my_pool_parts.specs.Live.{age_if, IsQueue, IsLive}
 use Rattle.my_pool_parts.proofs.Finding.{one, count-le-length, count-push}
-use Rattle.my_pool_parts.proofs.Queue.Searching.{rising-at}
+use Rattle.my_pool_parts.proofs.Finding.Rising.{rising-lower}
 use Rattle.my_pool_parts.proofs.Queue.{queue-set, queue-removed, queue-pushed}
 
 -- ---- counts at a place ----
@@ -31,18 +31,25 @@ count-remove p (r ∷ rs) (suc i) d lt = omega (arith, count-remove p rs i d (om
 
 -- ---- order ----
 
+rising-low : (low : ℕ) (rs : List Request) (j : ℕ) (d : Request) → IsRising low rs → j < length rs → low ≤ (get_or rs j d).age
+rising-low low [] j d h lt = absurd (omega arith)
+rising-low low (r ∷ rs) zero d h lt = h.0
+rising-low low (r ∷ rs) (suc j) d h lt = omega (arith, h.0, rising-low (r.age + 1) rs j d h.1 (omega arith))
+
+rising-at : (low : ℕ) (rs : List Request) (i j : ℕ) (d : Request) → IsRising low rs → i < j → j < length rs → (get_or rs i d).age < (get_or rs j d).age
+rising-at low [] i j d h lt within = absurd (omega arith)
+rising-at low (r ∷ rs) i zero d h lt within = absurd (omega arith)
+rising-at low (r ∷ rs) zero (suc j) d h lt within = omega (arith, rising-low (r.age + 1) rs j d h.1 (omega arith))
+rising-at low (r ∷ rs) (suc i) (suc j) d h lt within = rising-at (r.age + 1) rs i j d h.1 (omega arith) (omega arith)
+
 rising-set : (low : ℕ) (rs : List Request) (i : ℕ) (x d : Request) → i < length rs → x.age ≡ (get_or rs i d).age → IsRising low rs → IsRising low (set rs i x)
 rising-set low [] i x d lt e h = absurd (omega arith)
 rising-set low (r ∷ rs) zero x d lt e h = subst (λ a. (low ≤ a) × IsRising (a + 1) rs) (sym e) h
 rising-set low (r ∷ rs) (suc i) x d lt e h = (h.0, rising-set (r.age + 1) rs i x d (omega arith) e h.1)
 
-rising-from : (low lower : ℕ) (rs : List Request) → lower ≤ low → IsRising low rs → IsRising lower rs
-rising-from low lower [] le h = tt
-rising-from low lower (r ∷ rs) le h = (omega (arith, h.0), h.1)
-
 rising-remove : (low : ℕ) (rs : List Request) (i : ℕ) → i < length rs → IsRising low rs → IsRising low (remove rs i)
 rising-remove low [] i lt h = absurd (omega arith)
-rising-remove low (r ∷ rs) zero lt h = rising-from (r.age + 1) low rs (omega (arith, h.0)) h.1
+rising-remove low (r ∷ rs) zero lt h = rising-lower (r.age + 1) low rs (omega (arith, h.0)) h.1
 rising-remove low (r ∷ rs) (suc i) lt h = (h.0, rising-remove (r.age + 1) rs i (omega arith) h.1)
 
 same-place : (rs : List Request) (i j : ℕ) (d : Request) → IsRising 0 rs → i < length rs → j < length rs → (get_or rs i d).age ≡ (get_or rs j d).age → i ≡ j
@@ -87,10 +94,6 @@ pub live-slot : {rs : List Request} {slots : List ℕ} {held : List (Option ℕ)
 live-slot {rs} {slots} {held} {dialing} {queued} i h lt =
     let wide : i < length slots = omega (arith, h.queue.few, length-map rs age_if) in
     (wide, omega (arith, h.queue.reserved i wide, h.queue.full))
-
--- a count that was mended
-recounted : (p : Request → Bool) (count new : ℕ) (was is before : Bool) → was ≡ before → new + one was ≡ count + one is → new + one before ≡ count + one is
-recounted p count new was is before w e = omega (arith, e, ap one w)
 
 pub record IsRecount (old next : Bool) (count new : ℕ) : Type 0 where
   pub was : Bool

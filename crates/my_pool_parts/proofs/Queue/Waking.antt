@@ -1,7 +1,7 @@
 -- The oldest waiting request is that of the heap's least age.
 use Rattle.std.proofs.Common.{◌≡◌, ℕ, ◌+◌, ◌<◌, ◌≤◌, ◌++◌, Bool, true, false, cond, Option, Some, None, List, [], ◌∷◌, length, get_or, map, zero, suc, refl, sym, ap, ◌∙◌, subst, arith, inl, inr}
-use Rattle.std.specs.Prelude.{find, option_map, MatchOption, nat_le, is_some, ◌||◌, ◌&&◌, ◌==◌, not, if◌then◌else◌}
-use Rattle.std.specs.List.{list_any, position}
+use Rattle.std.specs.Prelude.{find, option_map, MatchOption, nat_le, ◌||◌, ◌&&◌, ◌==◌, not, if◌then◌else◌}
+use Rattle.std.specs.List.{list_any}
 use Rattle.std.proofs.lemmas.Bool.{cases_eq, ne_eqb, eq-eqb, leb-false, lt-leb}
 use Rattle.std.proofs.lemmas.List.{map-append}
 use Rattle.my_wait_heap.specs.Ages.{age_of, IsLeast, how_many as how_many_held}
@@ -10,7 +10,8 @@ use Rattle.my_pool_parts.specs.declared.request.Standing.TheVariants.{Woken}
 use Rattle.my_pool_parts.specs.Lists.{how_many, change_first}
 use Rattle.my_pool_parts.specs.Requests.{last_age, asking, has_age, is_waiting, is_dialing, may_dial, standing_as, roused, wake, wake_all, waits_up_to, with_last, IsRising, oldest_in}
 use Rattle.my_pool_parts.specs.Live.{age_if, IsLive}
-use Rattle.my_pool_parts.proofs.Finding.{one, any-position, position-isnt}
+use Rattle.my_pool_parts.proofs.Queue.{held-within}
+use Rattle.my_pool_parts.proofs.Finding.{one}
 
 pub count-waiting : (rs : List Request) → how_many_held (map age_if rs) ≡ how_many is_waiting rs
 count-waiting [] = refl
@@ -29,11 +30,6 @@ pub record IsOldest (rs : List Request) (a : ℕ) : Type 0 where
 same-some : (a b : ℕ) → ◌≡◌ {A = Option ℕ} (Some a) (Some b) → a ≡ b
 same-some a b e = cc
 
-held-below : (xs : List (Option ℕ)) (j b : ℕ) → age_of xs j ≡ Some b → j < length xs
-held-below [] j b e = absurd (cc)
-held-below (x ∷ xs) zero b e = omega arith
-held-below (x ∷ xs) (suc j) b e = omega (arith, held-below xs j b e)
-
 pub oldest : {rs : List Request} {slots : List ℕ} {held : List (Option ℕ)} {dialing queued : ℕ} (slot a : ℕ) → IsLive rs slots held dialing queued → IsLeast held slot a → IsOldest rs a
 oldest {rs} {slots} {held} {dialing} {queued} slot a h l =
     let f = h.queue.found slot a l.holds in
@@ -41,7 +37,7 @@ oldest {rs} {slots} {held} {dialing} {queued} slot a h l =
       place = f.0;
       there = sym (h.queue.linked f.0 f.1) ∙ ap (age_of held) f.2 ∙ l.holds;
       least = λ j b e.
-          let wide : j < length slots = omega (arith, held-below (map age_if rs) j b e, h.queue.few) in
+          let wide : j < length slots = omega (arith, held-within (map age_if rs) j b e, h.queue.few) in
           let at = h.queue.linked j wide ∙ e in
           elim (cases_eq (get_or slots j 0) slot) [
             | inl same ↦ let k = same-some a b (sym l.holds ∙ ap (age_of held) (sym same) ∙ at) in omega (arith, k)
@@ -188,13 +184,6 @@ waits-oldest age a rs o = by_test (nat_le a age) refl
     by_test false e = e ∙ sym (none-up-to age a rs e o.least)
 
 -- ---- the last one ----
-
-pub any-is-some : {X : Type 0} (key : X → Bool) (xs : List X) → is_some (position key xs) ≡ list_any key xs
-any-is-some {X} key xs = by_place (position key xs) refl
-  where
-    by_place : (o : Option ℕ) → position key xs ≡ o → is_some (position key xs) ≡ list_any key xs
-    by_place (Some i) e = ap is_some e ∙ sym (any-position key xs i e)
-    by_place None e = ap is_some e ∙ sym (position-isnt key xs e)
 
 roused-age : (r : Request) → (roused r).age ≡ r.age
 roused-age r = elim (is_waiting r) as (λ b. (cond b (standing_as Woken r) r).age ≡ r.age) [ true ↦ refl | false ↦ refl ]

@@ -1,20 +1,19 @@
-use Rattle.std.proofs.Common.{◌≡◌, ℕ, ◌+◌, ◌-◌, ◌++◌, ◌∷◌, [], Option, None, length, length-append, arith, sym, ap, ◌∙◌, subst}
-use Rattle.std.specs.Prelude.{replicate}
+use Rattle.std.proofs.Common.{◌≡◌, ℕ, ◌+◌, ◌-◌, ◌++◌, ◌∷◌, [], Option, None, length, length-append, append_assoc, arith, sym, ap, ◌∙◌, subst}
+use Rattle.std.specs.Prelude.{replicate, is_ok, if◌then◌else◌}
+use Rattle.std.proofs.lemmas.Bool.Decides.{nat_tests}
 use Rattle.std.proofs.lemmas.List.{length-replicate}
 use Rattle.my_pool_parts.specs.Live.{IsQueue}
 use Rattle.my_pool_parts.proofs.Queue.{queue-more, queue-slot}
 use Rattle.my_pool_parts.proofs.live.have_slot.Goals as goal
 
-pub returns-in_err-push-clause-queue : goal.returns-in_err-push-clause-queue
-returns-in_err-push-clause-queue c = λ ages h.
-    let more = queue-more (c.len-next.result + 1 - length c.args.heap.now) h in
-    subst (λ xs. IsQueue ages xs c.reserve.new.self) (sym c.in_err-push.ensures.items) (subst (λ hs. IsQueue ages c.args.slots.now.items hs) (sym c.in_ok-reserve.ensures.ok) more)
-
 pub returns-clause-queue : goal.returns-clause-queue
-returns-clause-queue c = λ ages h.
-    let k = c.len-next.result + 1 - length c.args.heap.now in
+returns-clause-queue c = λ ages slots count h.
+    let all = slots ++ c.args.free.now.items in
+    let k = c.args.count + 1 - length c.args.heap.now in
     let none : Option ℕ = None in
-    let len : c.len-next.result ≡ length c.args.slots.now.items = omega (arith, c.len-next.ensures, c.args.slots.now.ok.0) in
-    let all = queue-slot (queue-more k h) (omega (arith, length-append c.args.heap.now (replicate k none), length-replicate k none, len)) in
-    let slots = c.in_ok-push.ensures.items ∙ ap (λ n. c.args.slots.now.items ++ n ∷ []) len in
-    subst (λ xs. IsQueue ages xs c.reserve.new.self) (sym slots) (subst (λ hs. IsQueue ages (c.args.slots.now.items ++ length c.args.slots.now.items ∷ []) hs) (sym c.in_ok-reserve.ensures.ok) all)
+    let empty : length c.args.free.now.items ≡ 0 = grind (arith, nat_tests, c.if-not-is_empty.false, c.is_empty.ensures, c.args.free.now.ok.0) in
+    let n : length all ≡ c.args.count = omega (arith, length-append slots c.args.free.now.items, count, empty) in
+    let more = queue-slot (queue-more k h) (omega (arith, length-append c.args.heap.now (replicate k none), length-replicate k none, n)) in
+    let pushed = c.push.ensures.items ∙ ap (λ r. if is_ok r then c.reserve.new.self.items ++ c.args.count ∷ [] else c.reserve.new.self.items) c.unwrap.ensures ∙ ap (λ xs. xs ++ c.args.count ∷ []) c.reserve.ensures.items in
+    let items = ap (λ m. all ++ m ∷ []) n ∙ append_assoc slots c.args.free.now.items (c.args.count ∷ []) ∙ ap (λ xs. slots ++ xs) (sym pushed) in
+    subst (λ xs. IsQueue ages xs c.reserve-2.new.self) items (subst (λ hs. IsQueue ages (all ++ length all ∷ []) hs) (sym c.in_ok-reserve-2.ensures.ok) more)

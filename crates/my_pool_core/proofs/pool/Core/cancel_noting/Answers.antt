@@ -9,29 +9,29 @@ use Rattle.my_pool_core.proofs.pool.Core.cancel_noting.Goals as goal
 pub invariant_of-self : goal.invariant_of-self
 invariant_of-self g c =
     let may = subst (λ s. may_cancel c.args.age s ≡ true) (sym c.self.view_is) c.requires in
-    let found = sym c.find.ensures.answer ∙ c.in-Some.is in
+    let found = sym c.find.ensures ∙ c.in-Some.is in
     elim c.in-Asks.is [ inl is ↦ kept-cancel c.args.age (the_view c.self.inside) _ _ _ c.in-Some.request Asks c.self.invariant may found is (cc) (omega arith) | inr is ↦ kept-cancel c.args.age (the_view c.self.inside) _ _ _ c.in-Some.request Waits c.self.invariant may found is (cc) (omega arith) ]
 
 pub invariant_of-self-in-Woken-1 : goal.invariant_of-self-in-Woken-1
 invariant_of-self-in-Woken-1 g c =
     let may = subst (λ s. may_cancel c.args.age s ≡ true) (sym c.self.view_is) c.requires in
-    let found = sym c.find.ensures.answer ∙ c.in-Some.is in
+    let found = sym c.find.ensures ∙ c.in-Some.is in
     kept-cancel c.args.age (the_view c.self.inside) _ _ _ c.in-Some.request Woken c.self.invariant may found c.in-Woken.is (cc) (omega arith)
 
 pub invariant_of-self-in-Dials : goal.invariant_of-self-in-Dials
 invariant_of-self-in-Dials g c =
     let may = subst (λ s. may_cancel c.args.age s ≡ true) (sym c.self.view_is) c.requires in
-    let found = sym c.find.ensures.answer ∙ c.in-Some.is in
+    let found = sym c.find.ensures ∙ c.in-Some.is in
     elim c.in-Dials.is [ inl is ↦ kept-cancel c.args.age (the_view c.self.inside) _ _ _ c.in-Some.request (Dials c.in-Dials.number) c.self.invariant may found is (cc) (omega (arith, c.take_out.ensures.capacity)) | inr is ↦ kept-cancel c.args.age (the_view c.self.inside) _ _ _ c.in-Some.request (Checks c.in-Dials.number) c.self.invariant may found is (cc) (omega (arith, c.take_out.ensures.capacity)) ]
 
 pub returns-in-Woken-clause-cost : goal.returns-in-Woken-clause-cost
 returns-in-Woken-clause-cost g c = λ d lt.
     let before : length (the_view c.self.inside).requests < 2 ^ d = omega (arith, ap (λ s. length s.requests) c.self.view_is, lt) in
     let following : length c.end.new.self < 2 ^ d = omega (arith, ap length c.end.ensures.requests, ended-short c.args.age (the_view c.self.inside).requests, before) in
-    omega (arith, c.find.ensures.cost d before, c.end.ensures.cost d before, c.wake.ensures.cost d following)
+    omega (arith, c.end.ensures.cost d before, c.wake.ensures.cost d following)
 
 pub returns-in-Dials-clause-cost : goal.returns-in-Dials-clause-cost
 returns-in-Dials-clause-cost g c = λ d lt.
     let before : length (the_view c.self.inside).requests < 2 ^ d = omega (arith, ap (λ s. length s.requests) c.self.view_is, lt) in
     let following : length c.end.new.self < 2 ^ d = omega (arith, ap length c.end.ensures.requests, ended-short c.args.age (the_view c.self.inside).requests, before) in
-    omega (arith, c.find.ensures.cost d before, c.end.ensures.cost d before, c.wake-in-Dials.ensures.cost d following)
+    omega (arith, c.end.ensures.cost d before, c.wake-in-Dials.ensures.cost d following)

@@ -17,13 +17,13 @@ pub overflow_add-room : goal.overflow_add-room
 overflow_add-room g c = omega (arith, c.len-room.ensures.small)
 
 pub add_last-requires : goal.add_last-requires
-add_last-requires g c = last-rises (the_view c.self.inside) c.self.invariant.sound (ap is_at_end c.self.view_is ∙ sym c.is_at_end-at_end.ensures.answer ∙ c.if-at_end.true)
+add_last-requires g c = last-rises (the_view c.self.inside) c.self.invariant.sound (ap is_at_end c.self.view_is ∙ sym c.is_at_end-at_end.ensures ∙ c.if-at_end.true)
 
 pub invariant_of-self-then-at_end : goal.invariant_of-self-then-at_end
 invariant_of-self-then-at_end g c =
     let s : State = the_view c.self.inside in
     let n : c.len-room.result ≡ length s.requests = c.len-room.ensures.count in
-    let e : is_at_end s ≡ true = ap is_at_end c.self.view_is ∙ sym c.is_at_end-at_end.ensures.answer ∙ c.if-at_end.true in
+    let e : is_at_end s ≡ true = ap is_at_end c.self.view_is ∙ sym c.is_at_end-at_end.ensures ∙ c.if-at_end.true in
     let items = c.wake_all.ensures.requests ∙ ap wake_all c.in_ok-add_last.ensures.ok ∙ wake-all-last s.requests in
     let spare = c.max-self-inside.ensures ∙ ap (λ k. max s.spare (k + 1)) n in
     kept-request s _ _ _ _ c.self.invariant (request-end s e) (cc (items, spare, c.reserve.ensures.items)) (fits (length s.connections) s.spare (length s.requests + 1) _ _ c.self.invariant.reserved c.reserve.ensures.capacity (omega (arith, n, c.in_ok-reserve.ensures.ok, c.reserve.ensures.len, c.self.inside.connections.ok.0)))
@@ -32,19 +32,19 @@ pub returns-then-at_end-clause-ok : goal.returns-then-at_end-clause-ok
 returns-then-at_end-clause-ok g c =
     let s : State = the_view c.self.inside in
     let n : c.len-room.result ≡ length s.requests = c.len-room.ensures.count in
-    let e : is_at_end s ≡ true = ap is_at_end c.self.view_is ∙ sym c.is_at_end-at_end.ensures.answer ∙ c.if-at_end.true in
+    let e : is_at_end s ≡ true = ap is_at_end c.self.view_is ∙ sym c.is_at_end-at_end.ensures ∙ c.if-at_end.true in
     let items = c.wake_all.ensures.requests ∙ ap wake_all c.in_ok-add_last.ensures.ok ∙ wake-all-last s.requests in
     let spare = c.max-self-inside.ensures ∙ ap (λ k. max s.spare (k + 1)) n in
     request-is s _ _ _ (request-end s e) (cc (items, spare, c.reserve.ensures.items)) c.self.view_is
 
 pub add-requires : goal.add-requires
-add-requires g c = next-rises (the_view c.self.inside) c.self.invariant.sound (ap is_at_end c.self.view_is ∙ sym c.is_at_end-at_end.ensures.answer ∙ c.if-at_end.false)
+add-requires g c = next-rises (the_view c.self.inside) c.self.invariant.sound (ap is_at_end c.self.view_is ∙ sym c.is_at_end-at_end.ensures ∙ c.if-at_end.false)
 
 pub invariant_of-self-2 : goal.invariant_of-self-2
 invariant_of-self-2 g c =
     let s : State = the_view c.self.inside in
     let n : c.len-room.result ≡ length s.requests = c.len-room.ensures.count in
-    let e : is_at_end s ≡ false = ap is_at_end c.self.view_is ∙ sym c.is_at_end-at_end.ensures.answer ∙ c.if-at_end.false in
+    let e : is_at_end s ≡ false = ap is_at_end c.self.view_is ∙ sym c.is_at_end-at_end.ensures ∙ c.if-at_end.false in
     let spare = c.max-self-inside-2.ensures ∙ ap (λ k. max s.spare (k + 1)) n in
     kept-request s _ _ _ _ c.self.invariant (request-next s e) (cc (c.in_ok-add.ensures.ok, spare, c.reserve.ensures.items)) (fits (length s.connections) s.spare (length s.requests + 1) _ _ c.self.invariant.reserved c.reserve.ensures.capacity (omega (arith, n, c.in_ok-reserve.ensures.ok, c.reserve.ensures.len, c.self.inside.connections.ok.0)))
 
@@ -54,4 +54,4 @@ returns-then-at_end-clause-cost g c = λ d lt.
     let before : length s.requests < 2 ^ d = omega (arith, ap (λ t. length t.requests) c.self.view_is, lt) in
     let more : length c.add_last.new.self < 2 ^ (d + 1) = omega (arith, ap length c.in_ok-add_last.ensures.ok, last-few s.requests d before) in
     let woken = ap (λ rs. how_many is_waiting rs * (3 * (d + 1) + 2)) c.in_ok-add_last.ensures.ok ∙ woken-last s.requests d ∙ ap (λ t. how_many is_waiting t.requests * (3 * d + 5)) c.self.view_is in
-    omega (arith, c.is_at_end-at_end.ensures.cost d lt, c.add_last.ensures.cost d before, c.wake_all.ensures.cost (d + 1) more, woken)
+    omega (arith, c.wake_all.ensures.cost (d + 1) more, woken)

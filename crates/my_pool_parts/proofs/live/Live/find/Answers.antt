@@ -1,11 +1,13 @@
-use Rattle.std.proofs.Common.{Some, sym, ap, ◌∙◌, get_or}
+use Rattle.std.proofs.Common.{ap, ◌∙◌}
+use Rattle.std.specs.Prelude.{find}
+use Rattle.std.specs.Option.{option_map}
+use Rattle.my_pool_parts.specs.declared.seat.Seat.{Seat}
 use Rattle.my_pool_parts.specs.Requests.{has_age}
-use Rattle.my_pool_parts.proofs.Finding.{find-position, find-nothing}
+use Rattle.my_pool_parts.proofs.Seats.{found-in}
 use Rattle.my_pool_parts.proofs.live.Live.find.Goals as goal
 
-pub returns-in-Some-clause-answer : goal.returns-in-Some-clause-answer
-returns-in-Some-clause-answer g c =
-    ap Some (c.index.ensures ∙ ap (λ rs. get_or rs c.in-Some.index c.index.result.now) c.self.view_is) ∙ sym (find-position (has_age c.args.age) c.args.self.now c.in-Some.index c.index.result.now (sym c.index_of.ensures.answer ∙ c.in-Some.is))
+pub returns-in-Some : goal.returns-in-Some
+returns-in-Some c = ap (option_map (λ (s : Seat). s.request)) c.in-Some.ensures.value ∙ found-in c.args.age c.self.inside.seats.entries c.self.invariant.keyed ∙ ap (find (has_age c.args.age)) c.self.view_is
 
-pub returns-in-None-clause-answer : goal.returns-in-None-clause-answer
-returns-in-None-clause-answer g c = sym (find-nothing (has_age c.args.age) c.args.self.now (sym c.index_of.ensures.answer ∙ c.in-None.is))
+pub returns-in-None : goal.returns-in-None
+returns-in-None c = ap (option_map (λ (s : Seat). s.request)) c.in-None.ensures.value ∙ found-in c.args.age c.self.inside.seats.entries c.self.invariant.keyed ∙ ap (find (has_age c.args.age)) c.self.view_is
