@@ -1,0 +1,10 @@
+//! Whether a connection's tape is one that the reading of my_reading accepts: the plain program of that reading.
+#![tactic(auto)]
+
+mod part;
+mod stand;
+mod step;
+mod tape;
+mod texts;
+
+pub use tape::{Ending, Tape, TapeCall};
