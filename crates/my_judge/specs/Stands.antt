@@ -40,17 +40,24 @@ use Rattle.my_judge.specs.declared.step.Stop.TheVariants.{Owes, Awaits, Returns}
 use Rattle.my_judge.specs.declared.tape.Ending.{Ending}
 use Rattle.my_judge.specs.declared.tape.Ending.TheVariants.{Answered, Failed}
 
--- The program knows of this place all that its reading goes by.
+-- what is known of a place after n of the queries that set the connection up
+abbrev pub stand_of : Login → Place → ℕ → Stand
+stand_of login p n = record {
+  context = context_of p.talk;
+  number = number_of (turns p.talk);
+  facts = facts_at login p;
+  texts = arranging_texts login;
+  arranged = n;
+  end_left = p.end_left;
+  unread = p.unread;
+  said = client_side (exchanges p);
+  sent = p.sent;
+}
+
+-- The program is at this place, which a reading comes to.
 pub record IsAt (login : Login) (p : Place) (s : Stand) : Type 0 where
-  pub context_is : s.context ≡ context_of p.talk
-  pub number_is : s.number ≡ number_of (turns p.talk)
-  pub facts_are : s.facts ≡ facts_at login p
-  pub texts_are : s.texts ≡ arranging_texts login
+  pub stand_is : s ≡ stand_of login p s.arranged
   pub arranged_is : connects_in (exchanges p) ≡ suc s.arranged
-  pub end_is : s.end_left ≡ p.end_left
-  pub unread_is : s.unread ≡ p.unread
-  pub said_is : s.said ≡ client_side (exchanges p)
-  pub sent_is : s.sent ≡ p.sent
   pub fits : Fits p.talk
   pub login_is : login_in login p.talk ≡ login
 
