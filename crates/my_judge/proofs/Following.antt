@@ -3,6 +3,7 @@ use Rattle.std.proofs.Common.{◌≡◌, ℕ, zero, suc, ◌<◌, ◌≤◌, Lis
 use Rattle.std.proofs.lemmas.Bool.Decides.{nat_tests}
 use Rattle.my_command.specs.declared.client.ClientPacket.TheVariants as packets
 use Rattle.my_command.specs.Client.Packet.{client_bytes as packet_bytes}
+use Rattle.my_frame.specs.declared.fault.CodecFault.TheVariants.{TooLarge}
 use Rattle.my_frame.specs.Front.{Front, Waiting, Broken, Whole, front_at}
 use Rattle.my_reply.specs.declared.err.ErrPacket.{ErrPacket}
 use Rattle.my_reply.specs.ErrPacket.{err_at}
@@ -21,7 +22,7 @@ use Rattle.my_grammar.specs.Talk.{Talk, Asked, Queried, Silent, turns, number_of
 use Rattle.my_reading.specs.declared.call.Call.{Call}
 use Rattle.my_reading.specs.declared.call.Call.TheVariants as calls
 use Rattle.my_reading.specs.Commands.{arranging_texts, connecting, query_of, command_in}
-use Rattle.my_reading.specs.Course.{Part, Step, Goes, Stops, Owes, step, step_of, unless_owed, reads, with_front, after_payload, after_kind, after_err, unless_long_response, with_command, failure, is_greeting}
+use Rattle.my_reading.specs.Course.{Part, Step, Goes, Stops, Owes, step, step_of, unless_owed, reads, with_front, after_payload, after_kind, after_err, unless_long_response, with_command, failure, is_greeting, is_rows}
 use Rattle.my_reading.specs.Errors.{codec_error}
 use Rattle.my_reading.specs.Place.{Place, exchanges, facts_at, client_side, connects_in, terms_of, owed, next_exchange, with_end, with_talk, with_exchange}
 use Rattle.my_reading.specs.Rows.{row_of}
@@ -31,8 +32,10 @@ use Rattle.my_judge.specs.declared.part.Part.TheVariants as parts
 use Rattle.my_judge.specs.declared.stand.Stand.{Stand}
 use Rattle.my_judge.specs.declared.step.Step.{Step as CodeStep}
 use Rattle.my_judge.specs.declared.step.Step.TheVariants as steps
+use Rattle.my_judge.specs.declared.step.Stop.TheVariants as code_stops
+use Rattle.my_judge.specs.declared.tape.Ending.TheVariants as endings
 use Rattle.my_judge.specs.Parts.{part_of}
-use Rattle.my_judge.specs.Stands.{IsAt, Turn, stand_of, heard, turn, with_end as with_left, after_kind as code_kind, after_err as code_err, after_greeting as code_greeting, after_payload as code_payload, with_front as code_front, reads as code_reads, read_payload, asks, arranges, commands, begins, steps as code_step}
+use Rattle.my_judge.specs.Stands.{IsAt, Turn, stand_of, heard, asked, turn, with_end as with_left, after_kind as code_kind, after_err as code_err, after_greeting as code_greeting, after_payload as code_payload, with_front as code_front, reads as code_reads, read_payload, asks, arranges, commands, begins, steps as code_step}
 use Rattle.my_judge.specs.Tapes.{stop_of}
 use Rattle.my_judge.proofs.Places.{limit_is, at_here, at_end, at_no_end, at_heard}
 
@@ -92,3 +95,126 @@ module _ (login : Login) (part : CodePart) (more : List CodePart) (new : Place) 
       by_part parts.Item kinds.Row = (refl, at)
       by_part parts.Item (kinds.End status) = (refl, at)
       by_part parts.Item kinds.Bad = (refl, at)
+
+module _ (login : Login) (p : Place) (n : ℕ) (arranged : connects_in (exchanges p) ≡ suc n) (fits : Fits p.talk) (same : login_in login p.talk ≡ login) where
+  abbrev s : Stand
+  s = stand_of login p n
+
+  here : IsAt login p s
+  here = at_here login p n arranged fits same
+
+  module _ (part : CodePart) (more : List CodePart) (payload rest : List ℕ) (next : ℕ) (front : front_of p.talk p.unread ≡ Whole payload rest next) where
+    abbrev new : Kind → Place
+    new k = with_talk p (grow k p.talk payload) rest
+
+    abbrev row : RowParts
+    row = row_of (facts_at login p).columns payload
+
+    -- after a payload of this kind
+    abbrev Reads : Kind → Type 0
+    Reads k = TurnIs login (part ∷ more) (code_payload login part payload s (heard login k payload rest s) k) (after_payload login (part_of part) (map part_of more) p (new k) payload k)
+
+    heard_at : (k : Kind) → kind_of p.talk payload ≡ k → is_bad k ≡ false → IsAt login (new k) (heard login k payload rest s)
+    heard_at k e good = subst (λ x. IsAt login (new x) (heard login x payload rest s)) e (at_heard login p n arranged fits same payload rest next front (ap is_bad e ∙ good))
+
+    err_follows : kind_of p.talk payload ≡ kinds.Failed → (x : Option ErrPacket)
+        → TurnIs login (part ∷ more) (code_err x s (heard login kinds.Failed payload rest s)) (after_err login p (new kinds.Failed) x)
+    err_follows e None = (refl, here)
+    err_follows e (Some packet) = (refl, heard_at kinds.Failed e refl)
+
+    greeting_follows : (k : Kind) → kind_of p.talk payload ≡ k → is_bad k ≡ false → (limit : ℕ) → (context_of p.talk).terms.limit ≡ limit
+        → TurnIs login (part ∷ more) (code_greeting (length (response login payload)) s (heard login k payload rest s))
+        (cond (nat_lt limit (length (response login payload))) (failure p (codec_error (TooLarge (length (response login payload)) limit))) (Goes (part_of part ∷ map part_of more) (new k)))
+    greeting_follows k e good limit is = subst (λ l. TurnIs login (part ∷ more) (code_greeting (length (response login payload)) s (heard login k payload rest s))
+        (cond (nat_lt l (length (response login payload))) (failure p (codec_error (TooLarge (length (response login payload)) l))) (Goes (part_of part ∷ map part_of more) (new k)))) is
+        (either login (part ∷ more) (nat_lt (context_of p.talk).terms.limit (length (response login payload))) _ _ _ _ (λ _. (refl, here)) (λ _. (refl, heard_at k e good)))
+
+    plain_follows : (k : Kind) → kind_of p.talk payload ≡ k → is_bad k ≡ false
+        → TurnIs login (part ∷ more) (code_kind part k row (heard login k payload rest s)) (after_kind (part_of part) (map part_of more) k (new k) (ToldRow row))
+    plain_follows k e good = let at = heard_at k e good in kind_follows login part more (new k) row n at.arranged_is at.fits at.login_is (heard login k payload rest s) at.stand_is k
+
+    payload_follows : (k : Kind) → kind_of p.talk payload ≡ k → Reads k
+    payload_follows kinds.Bad e = (refl, here)
+    payload_follows kinds.Failed e = err_follows e (err_at (is_greeting (context_of p.talk).spot) payload)
+    payload_follows (kinds.Greets c) e = greeting_follows (kinds.Greets c) e refl (limit_of p.talk) (limit_is p.talk)
+    payload_follows (kinds.Good status) e = plain_follows (kinds.Good status) e refl
+    payload_follows (kinds.Count c) e = plain_follows (kinds.Count c) e refl
+    payload_follows kinds.Column e = plain_follows kinds.Column e refl
+    payload_follows kinds.ColumnsDone e = plain_follows kinds.ColumnsDone e refl
+    payload_follows kinds.Row e = plain_follows kinds.Row e refl
+    payload_follows (kinds.End status) e = plain_follows (kinds.End status) e refl
+
+  reads_follow : (part : CodePart) (more : List CodePart) → TurnIs login (part ∷ more) (code_reads login part s) (reads login (part_of part) (map part_of more) p)
+  reads_follow part more = subst (λ l. TurnIs login (part ∷ more) (code_front login part s (front_at (number_of (turns p.talk)) l p.unread)) (reads login (part_of part) (map part_of more) p)) (sym (limit_is p.talk))
+      (by_front (front_of p.talk p.unread) refl)
+    where
+      by_front : (x : Front) → front_of p.talk p.unread ≡ x → TurnIs login (part ∷ more) (code_front login part s x) (with_front login (part_of part) (map part_of more) p x)
+      by_front Waiting e = (refl, here)
+      by_front (Broken fault) e = (refl, here)
+      by_front (Whole payload rest next) e = payload_follows part more payload rest next e (kind_of p.talk payload) refl
+
+  -- a command of this exchange
+  asks_follows : (call : Call) (more : List CodePart) (talk : Talk) (t : Turn) (m : ℕ) → IsAt login (with_exchange p call talk) t.stand → t.does ≡ steps.Passes
+      → TurnIs login (parts.Command ∷ more)
+      (cond (nat_lt (limit_of talk) (length (command_in talk))) (turn (steps.Stops (code_stops.Returns (endings.Failed (codec_error (TooLarge (length (command_in talk)) (limit_of talk)))))) s) t)
+      (with_command call (map part_of more) p (Some talk))
+  asks_follows call more talk t m at passes = either login (parts.Command ∷ more) (nat_lt (limit_of talk) (length (command_in talk))) _ _ _ _ (λ _. (refl, here))
+      (λ _. subst (λ d. Follows login (parts.Command ∷ more) t.stand d (Goes (map part_of more) (with_exchange p call talk))) (sym passes) (refl, at))
+
+  -- an exchange of a call that doesn't connect
+  asked_at : (call : Call) (talk : Talk) (t : Stand) (m : ℕ) → t ≡ stand_of login (with_exchange p call talk) m → t.arranged ≡ m → connects_in (exchanges (with_exchange p call talk)) ≡ suc m → Fits talk → login_in login talk ≡ login
+      → IsAt login (with_exchange p call talk) t
+  asked_at call talk t m is count connects f l = record { stand_is = is ∙ ap (stand_of login (with_exchange p call talk)) (sym count); arranged_is = connects ∙ ap suc (sym count); fits = f; login_is = l }
+
+  abbrev terms : Terms
+  terms = terms_of login (exchanges p)
+
+  arranges_follow : (more : List CodePart) (x : Option (List ℕ)) → TurnIs login (parts.Command ∷ more) (arranges x s) (with_command calls.Connect (map part_of more) p (query_of terms x))
+  arranges_follow more None = (refl, here)
+  arranges_follow more (Some text) =
+      let talk : Talk = Queried terms (packet_bytes (packets.Query text)) NoSets in
+      asks_follows calls.Connect more talk (turn steps.Passes (asked spots.Head (packet_bytes (packets.Query text)) (suc n) s)) (suc n)
+      (asked_at calls.Connect talk _ (suc n) refl refl (ap suc arranged) (record { kinds = tt; within = tt }) refl) refl
+
+  commands_follow : (call : Call) (more : List CodePart) → TurnIs login (parts.Command ∷ more) (commands call s) (with_command call (map part_of more) p (next_exchange login call p))
+  commands_follow calls.Connect more = subst (λ k. TurnIs login (parts.Command ∷ more) (commands calls.Connect s) (with_command calls.Connect (map part_of more) p (connecting login terms k))) (sym arranged)
+      (arranges_follow more (slice_get (arranging_texts login) n))
+  commands_follow (calls.Query text) more =
+      let talk : Talk = Queried terms (packet_bytes (packets.Query text)) NoSets in
+      asks_follows (calls.Query text) more talk (turn steps.Passes (asked spots.Head (packet_bytes (packets.Query text)) n s)) n
+      (asked_at (calls.Query text) talk _ n refl refl arranged (record { kinds = tt; within = tt }) refl) refl
+  commands_follow calls.NextRow more = (refl, here)
+  commands_follow calls.DropResult more = (refl, here)
+  commands_follow calls.Ping more =
+      let talk : Talk = Asked terms (packet_bytes packets.Ping) in
+      asks_follows calls.Ping more talk (turn steps.Passes (asked spots.Single (packet_bytes packets.Ping) n s)) n
+      (asked_at calls.Ping talk _ n refl refl arranged (record { kinds = tt; within = tt }) refl) refl
+  commands_follow calls.Quit more =
+      let talk : Talk = Silent terms (packet_bytes packets.Quit) in
+      asks_follows calls.Quit more talk (turn steps.Passes (asked spots.Idle (packet_bytes packets.Quit) n s)) n
+      (asked_at calls.Quit talk _ n refl refl arranged (record { kinds = tt; within = tt }) refl) refl
+
+  begins_follow : (call : Call) (left : List CodePart) → TurnIs login left (begins login call left s) (step_of login call (map part_of left) p)
+  begins_follow call [] = (refl, here)
+  begins_follow call (parts.Command ∷ more) = commands_follow call more
+  begins_follow call (parts.All ∷ more) = either login (parts.All ∷ more) p.end_left _ _ _ _ (λ _. (refl, at_no_end login p n arranged fits same))
+      (λ _. either login (parts.All ∷ more) (is_over p.talk) _ _ _ _ (λ _. (refl, here)) (λ _. reads_follow parts.All more))
+  begins_follow call (parts.Head ∷ more) = either login (parts.Head ∷ more) (is_rows (context_of p.talk).spot) _ _ _ _ (λ _. (refl, here)) (λ _. reads_follow parts.Head more)
+  begins_follow call (parts.Item ∷ more) = either login (parts.Item ∷ more) p.end_left _ _ _ _ (λ _. (refl, at_no_end login p n arranged fits same))
+      (λ _. either login (parts.Item ∷ more) (is_over p.talk) _ _ _ _ (λ _. (refl, here)) (λ _. reads_follow parts.Item more))
+
+  step_follows : (call : Call) (left : List CodePart) → TurnIs login left (code_step login call left s) (step login call (map part_of left) p)
+  unfolding step
+  step_follows call left = by_owed (nat_lt (length p.sent) (length (client_side (exchanges p)))) refl
+    where
+      by_owed : (b : Bool) → nat_lt (length p.sent) (length (client_side (exchanges p))) ≡ b
+          → TurnIs login left (cond b (turn (steps.Stops code_stops.Owes) s) (begins login call left s)) (unless_owed (owed p) p (step_of login call (map part_of left) p))
+      by_owed true e = let some = some_left (length p.sent) (client_side (exchanges p)) (grind (arith, nat_tests)) in
+          subst (λ bs. TurnIs login left (turn (steps.Stops code_stops.Owes) s) (unless_owed bs p (step_of login call (map part_of left) p))) (sym some.2) (refl, here)
+      by_owed false e = let none = none_left (length p.sent) (client_side (exchanges p)) (grind (arith, nat_tests)) in
+          subst (λ bs. TurnIs login left (begins login call left s) (unless_owed bs p (step_of login call (map part_of left) p))) (sym none) (begins_follow call left)
+
+-- a step of the program, wherever it stands
+pub steps_follow : (login : Login) (p : Place) (s : Stand) (call : Call) (left : List CodePart) → IsAt login p s → TurnIs login left (code_step login call left s) (step login call (map part_of left) p)
+steps_follow login p s call left at = subst (λ (x : Stand). TurnIs login left (code_step login call left x) (step login call (map part_of left) p)) (sym at.stand_is)
+    (step_follows login p s.arranged at.arranged_is at.fits at.login_is call left)
