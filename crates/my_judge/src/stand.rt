@@ -5,6 +5,7 @@ ghost use Rattle.my_reading.specs.Place.{first_place};
 ghost use Rattle.my_judge.specs.Stands.{IsAt, with_bytes};
 
 mod asking;
+mod course;
 mod reading;
 mod stepping;
 
