@@ -6,6 +6,7 @@ ghost use Rattle.my_judge.specs.Stands.{IsAt, with_bytes};
 
 mod asking;
 mod course;
+mod ending;
 mod reading;
 mod stepping;
 
