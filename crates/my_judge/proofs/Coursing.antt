@@ -13,8 +13,7 @@ use Rattle.my_judge.specs.declared.step.Stop.{Stop as CodeStop}
 use Rattle.my_judge.specs.declared.step.Stop.TheVariants as stops
 use Rattle.my_judge.specs.Courses.{HaltIs, CourseIs}
 use Rattle.my_judge.specs.Parts.{part_of}
-use Rattle.my_judge.specs.Stands.{IsAt, Turn, Comes, steps as code_step}
-use Rattle.my_judge.specs.Tapes.{stop_of}
+use Rattle.my_judge.specs.Stands.{IsAt, Comes, steps as code_step}
 use Rattle.my_judge.proofs.Following.{Follows, steps_follow}
 
 -- the call is where these parts are left, and `most` steps at most
@@ -27,15 +26,17 @@ pub record InCourse (login : Login) (call : Call) (old : Stand) (most : ℕ) (le
   pub on : (p : Place) → IsAt login p old → IsOn login call most left now (course login call p)
 
 pub begins : (login : Login) (call : Call) (s : Stand) (left : List CodePart) (most : ℕ) → map part_of left ≡ parts_of login call → most ≡ 2 + length s.unread + 2 * length left → InCourse login call s most left s
-begins login call s left most is count = record { on = λ p at. record {
-  place = p;
-  at = at;
-  goes =
-      let bytes : length s.unread ≡ length p.unread = ap (λ (x : Stand). length x.unread) at.stand_is in
-      let parts : length left ≡ length (parts_of login call) = sym (length-map left part_of) ∙ ap length is in
-      let all : enough login call p ≡ most = omega arith in
-      ap (λ n. run n login call (Goes (parts_of login call) p)) all ∙ ap (λ ps. run most login call (Goes ps p)) (sym is);
-} }
+begins login call s left most is count = record {
+  on = λ p at. record {
+    place = p;
+    at = at;
+    goes =
+        let bytes : length s.unread ≡ length p.unread = ap (λ (x : Stand). length x.unread) at.stand_is in
+        let parts : length left ≡ length (parts_of login call) = sym (length-map left part_of) ∙ ap length is in
+        let all : enough login call p ≡ most = omega arith in
+        ap (λ n. run n login call (Goes (parts_of login call) p)) all ∙ ap (λ ps. run most login call (Goes ps p)) (sym is);
+  };
+}
 
 -- one step
 one : (login : Login) (call : Call) (most : ℕ) (left : List CodePart) (p : Place) → run (suc most) login call (Goes (map part_of left) p) ≡ run most login call (step login call (map part_of left) p)

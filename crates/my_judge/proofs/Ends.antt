@@ -1,5 +1,5 @@
 -- How calls end, by what the program knows.
-use Rattle.std.proofs.Common.{◌≡◌, ◌⊎◌, inl, inr, ℕ, zero, suc, List, [], ◌∷◌, length, take, arith, Option, Some, None, Bool, true, false, not, ◌&&◌, ◌||◌, ◌==◌, nat_eq, refl, sym, ap, ◌∙◌, subst}
+use Rattle.std.proofs.Common.{◌≡◌, inl, inr, ℕ, List, [], ◌∷◌, length, take, arith, Option, Some, None, Bool, true, false, not, ◌&&◌, ◌||◌, ◌==◌, nat_eq, refl, sym, ap, ◌∙◌, subst}
 use Rattle.std.specs.Bool.{Decides}
 use Rattle.std.specs.Option.{option_map}
 use Rattle.std.proofs.lemmas.Bool.Decides.{nat_tests}
@@ -12,15 +12,15 @@ use Rattle.my_reading.specs.declared.answer.Answer.TheVariants as answers
 use Rattle.my_reading.specs.declared.call.CallKind.{CallKind}
 use Rattle.my_reading.specs.declared.call.CallKind.TheVariants as kinds
 use Rattle.my_reading.specs.declared.error.Error.{Error}
-use Rattle.my_reading.specs.declared.error.IoKind.TheVariants.{Link, UnexpectedEof}
+use Rattle.my_reading.specs.declared.error.IoKind.TheVariants.{Link}
 use Rattle.my_reading.specs.Calls.{kind_of}
-use Rattle.my_reading.specs.Course.{Stop, Owes, Awaits, Returns}
-use Rattle.my_reading.specs.Endings.{Ends, IsCut, IsOpen, IsCancelled, IsLinkFailure, IsLinkEnd, IsCall, closes_cancelled, is_quiet, is_empty}
+use Rattle.my_reading.specs.Course.{Awaits}
+use Rattle.my_reading.specs.Endings.{Ends, IsCut, IsOpen, IsCancelled, IsLinkFailure, IsLinkEnd, closes_cancelled, is_quiet, is_empty}
 use Rattle.my_reading.specs.Errors.{io_error, unexpected_eof}
 use Rattle.my_reading.specs.Place.{Place, begins_with, client_side, exchanges, facts_at, with_bytes}
 use Rattle.my_reading.specs.Reading.{ReadCall, halt_of, is_closing}
 use Rattle.my_reading.specs.Tape.{Span}
-use Rattle.my_reading.specs.Told.{Told, ToldError, Dropped, told}
+use Rattle.my_reading.specs.Told.{ToldError, Dropped, told}
 use Rattle.my_judge.specs.declared.stand.Stand.{Stand}
 use Rattle.my_judge.specs.declared.step.Stop.{Stop as CodeStop}
 use Rattle.my_judge.specs.declared.step.Stop.TheVariants as stops

@@ -1,5 +1,5 @@
 -- A step of the program is the reading's step.
-use Rattle.std.proofs.Common.{◌≡◌, ℕ, zero, suc, ◌<◌, ◌≤◌, List, [], ◌∷◌, ◌++◌, length, drop, map, nat_lt, slice_get, Option, Some, None, Bool, true, false, cond, refl, sym, ap, ◌∙◌, subst, arith}
+use Rattle.std.proofs.Common.{◌≡◌, ℕ, zero, suc, ◌<◌, ◌≤◌, List, [], ◌∷◌, length, drop, map, nat_lt, slice_get, Option, Some, None, Bool, true, false, cond, refl, sym, ap, ◌∙◌, subst, arith}
 use Rattle.std.proofs.lemmas.Bool.Decides.{nat_tests}
 use Rattle.my_command.specs.declared.client.ClientPacket.TheVariants as packets
 use Rattle.my_command.specs.Client.Packet.{client_bytes as packet_bytes}
@@ -22,7 +22,7 @@ use Rattle.my_grammar.specs.Talk.{Talk, Asked, Queried, Silent, turns, number_of
 use Rattle.my_reading.specs.declared.call.Call.{Call}
 use Rattle.my_reading.specs.declared.call.Call.TheVariants as calls
 use Rattle.my_reading.specs.Commands.{arranging_texts, connecting, query_of, command_in}
-use Rattle.my_reading.specs.Course.{Part, Step, Goes, Stops, Owes, step, step_of, unless_owed, reads, with_front, after_payload, after_kind, after_err, unless_long_response, with_command, failure, is_greeting, is_rows}
+use Rattle.my_reading.specs.Course.{Step, Goes, Stops, step, step_of, unless_owed, reads, with_front, after_payload, after_kind, after_err, with_command, failure, is_greeting, is_rows}
 use Rattle.my_reading.specs.Errors.{codec_error}
 use Rattle.my_reading.specs.Place.{Place, exchanges, facts_at, client_side, connects_in, terms_of, owed, next_exchange, with_end, with_talk, with_exchange}
 use Rattle.my_reading.specs.Rows.{row_of}
@@ -35,7 +35,7 @@ use Rattle.my_judge.specs.declared.step.Step.TheVariants as steps
 use Rattle.my_judge.specs.declared.step.Stop.TheVariants as code_stops
 use Rattle.my_judge.specs.declared.tape.Ending.TheVariants as endings
 use Rattle.my_judge.specs.Parts.{part_of}
-use Rattle.my_judge.specs.Stands.{IsAt, Turn, stand_of, heard, asked, turn, with_end as with_left, after_kind as code_kind, after_err as code_err, after_greeting as code_greeting, after_payload as code_payload, with_front as code_front, reads as code_reads, read_payload, asks, arranges, commands, begins, steps as code_step}
+use Rattle.my_judge.specs.Stands.{IsAt, Turn, stand_of, heard, asked, turn, with_end as with_left, after_kind as code_kind, after_err as code_err, after_greeting as code_greeting, after_payload as code_payload, with_front as code_front, reads as code_reads, arranges, commands, begins, steps as code_step}
 use Rattle.my_judge.specs.Tapes.{stop_of}
 use Rattle.my_judge.proofs.Places.{limit_is, at_here, at_end, at_no_end, at_heard}
 

@@ -1,5 +1,5 @@
 -- The calls of a tape, one after the other.
-use Rattle.std.proofs.Common.{◌≡◌, ℕ, zero, suc, ◌+◌, ◌==◌, List, [], ◌∷◌, ◌++◌, length, take, map, Bool, true, false, not, ◌&&◌, ◌||◌, cond, refl, sym, ap, ◌∙◌, subst, arith}
+use Rattle.std.proofs.Common.{◌≡◌, ℕ, suc, ◌+◌, List, [], ◌∷◌, ◌++◌, length, take, map, Bool, true, false, not, ◌&&◌, ◌||◌, cond, refl, sym, ap, ◌∙◌, subst, arith}
 use Rattle.std.proofs.lemmas.List.{append_assoc, append-nil, length-append}
 use Rattle.std.proofs.Math.Dec.{eqb-suc-zero}
 use Rattle.my_grammar.specs.declared.login.Login.{Login}
@@ -7,23 +7,23 @@ use Rattle.my_reading.specs.Calls.{kind_of, is_connect}
 use Rattle.my_reading.specs.Endings.{AreCalls, IsCall, IsTape, connects_first, connects_none}
 use Rattle.my_reading.specs.Place.{Place, first_place}
 use Rattle.my_reading.specs.Reading.{ReadCall, reading, read_calls, is_closing}
-use Rattle.my_reading.specs.Tape.{Tape, spans_from}
+use Rattle.my_reading.specs.Tape.{spans_from}
 use Rattle.my_judge.specs.declared.reader.Reader.{Reader}
 use Rattle.my_judge.specs.declared.stand.Stand.{Stand}
 use Rattle.my_judge.specs.declared.tape.Tape.{Tape as CodeTape}
 use Rattle.my_judge.specs.declared.tape.TapeCall.{TapeCall as CodeCall}
 use Rattle.my_judge.specs.Reads.{TakesCall, may_stand, read_of, span_of}
-use Rattle.my_judge.specs.Stands.{IsAt, stand_of}
+use Rattle.my_judge.specs.Stands.{IsAt}
 use Rattle.my_judge.specs.Tapes.{call_of, tape_of}
 use Rattle.my_judge.specs.Verdicts.{AreRight, IsAtFirst, IsRefuted}
 use Rattle.my_reading.specs.Commands.{arranging_texts}
 
-and_true : (a b : Bool) → a && b ≡ true → (a ≡ true) × (b ≡ true)
+pub and_true : (a b : Bool) → a && b ≡ true → (a ≡ true) × (b ≡ true)
 and_true true true e = (refl, refl)
 and_true true false e = cc
 and_true false b e = cc
 
-and_both : (a b : Bool) → a ≡ true → b ≡ true → a && b ≡ true
+pub and_both : (a b : Bool) → a ≡ true → b ≡ true → a && b ≡ true
 and_both a b e f = cc
 
 -- a call after others
@@ -135,5 +135,5 @@ pub accepts : (login : Login) (tape : CodeTape) (index : ℕ) (left : List CodeC
 unfolding read_calls
 accepts login tape index left r is j =
     let all : (reading login (tape_of tape)).calls ≡ j.before = j.calls_are
-        ∙ ap (λ (cs : List CodeCall). j.before ++ (read_calls login (spans_from (tape_of tape) (map call_of cs)) r.closed j.place).calls) is ∙ append-nil j.before in
+    ∙ ap (λ (cs : List CodeCall). j.before ++ (read_calls login (spans_from (tape_of tape) (map call_of cs)) r.closed j.place).calls) is ∙ append-nil j.before in
     record { first = ap connects_first all ∙ j.right.first; calls = subst (AreCalls login) (sym all) j.right.calls }

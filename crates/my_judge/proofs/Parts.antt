@@ -1,7 +1,7 @@
 -- The parts of connecting, query by query.
 use Rattle.std.proofs.Common.{◌≡◌, ℕ, zero, suc, ◌<◌, List, [], ◌∷◌, ◌++◌, length, take, map, refl, ap, ◌∙◌, arith, append_assoc}
 use Rattle.std.proofs.lemmas.List.{map-append}
-use Rattle.my_reading.specs.Course.{Part, All, Command, parts_of_texts}
+use Rattle.my_reading.specs.Course.{All, Command, parts_of_texts}
 use Rattle.my_judge.specs.declared.part.Part.{Part as CodePart}
 use Rattle.my_judge.specs.declared.part.Part.TheVariants as parts
 use Rattle.my_judge.specs.Parts.{connecting_parts, part_of}

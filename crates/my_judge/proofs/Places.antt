@@ -1,19 +1,18 @@
 -- The places that steps lead to, and what is known of them.
-use Rattle.std.proofs.Common.{◌≡◌, ℕ, suc, ◌≤◌, List, [], ◌∷◌, ◌++◌, length, true, false, refl, sym, ap, ◌∙◌, subst, arith}
+use Rattle.std.proofs.Common.{◌≡◌, ℕ, suc, ◌≤◌, List, ◌∷◌, ◌++◌, length, true, false, refl, sym, ap, ◌∙◌, arith}
 use Rattle.std.proofs.lemmas.List.{append_assoc}
-use Rattle.my_frame.specs.Front.{Front, Whole}
+use Rattle.my_frame.specs.Front.{Whole}
 use Rattle.my_grammar.proofs.Cutting.Fronts.{takes_whole}
 use Rattle.my_grammar.proofs.Growth.{grows, reads}
 use Rattle.my_grammar.specs.declared.login.Login.{Login}
 use Rattle.my_grammar.specs.declared.spot.Context.{Context}
-use Rattle.my_grammar.specs.declared.spot.Kind.{Kind}
 use Rattle.my_grammar.specs.Contexts.{is_bad}
 use Rattle.my_grammar.specs.Cut.{front_of, kind_of}
-use Rattle.my_grammar.specs.Growth.{grow, replies, said, number_next, Grows, Reads}
+use Rattle.my_grammar.specs.Growth.{grow, replies, said, Grows, Reads}
 use Rattle.my_grammar.specs.Talk.{Talk, Start, Unwelcome, Greeted, Settled, Asked, Replied, Queried, Silent, Server, turns, number_of, client_bytes, context_of, limit_of, Fits, login_in}
 use Rattle.my_reading.specs.Commands.{arranging_texts}
 use Rattle.my_reading.specs.declared.facts.Facts.{Facts}
-use Rattle.my_reading.specs.Facts.{facts_after, facts_by}
+use Rattle.my_reading.specs.Facts.{facts_by}
 use Rattle.my_reading.specs.Place.{Place, exchanges, facts_at, facts_of, client_side, connects_in, with_bytes, with_end, without_end, with_talk}
 use Rattle.my_judge.specs.declared.stand.Stand.{Stand}
 use Rattle.my_judge.specs.Stands.{IsAt, stand_of, heard, with_bytes as with_more, with_end as with_left}

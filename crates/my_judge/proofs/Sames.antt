@@ -1,5 +1,5 @@
 -- When values, columns and rows are the same.
-use Rattle.std.proofs.Common.{◌≡◌, List, Bool, true, false, ◌&&◌, rules, arith, refl, sym, ap, ◌∙◌, subst}
+use Rattle.std.proofs.Common.{◌≡◌, List, Bool, ◌&&◌, rules, refl, sym, ap, ◌∙◌, subst}
 use Rattle.std.specs.Bool.{Decides}
 use Rattle.std.specs.Cmp.Lexicographic.{pointwise}
 use Rattle.std.proofs.lemmas.Bool.Decides.{Decides-and}

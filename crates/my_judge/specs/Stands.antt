@@ -35,9 +35,7 @@ use Rattle.my_judge.specs.declared.part.Part.TheVariants as parts
 use Rattle.my_judge.specs.declared.stand.Stand.{Stand}
 use Rattle.my_judge.specs.declared.step.Step.{Step}
 use Rattle.my_judge.specs.declared.step.Step.TheVariants.{Stays, Passes, Stops}
-use Rattle.my_judge.specs.declared.step.Stop.{Stop}
 use Rattle.my_judge.specs.declared.step.Stop.TheVariants.{Owes, Awaits, Returns}
-use Rattle.my_judge.specs.declared.tape.Ending.{Ending}
 use Rattle.my_judge.specs.declared.tape.Ending.TheVariants.{Answered, Failed}
 
 -- what is known of a place after n of the queries that set the connection up

@@ -29,3 +29,7 @@ IsVerdict login t (Refuted n) = IsRefuted login (reading login t).calls n
 pub record IsAtFirst (login : Login) (r : Reader) : Type 0 where
   pub at : IsAt login (first_place login) r.stand
   pub closed_is : r.closed ≡ false
+
+-- A tape has no two verdicts.
+abbrev pub OneVerdict : Type 0
+OneVerdict = (login : Login) (t : Tape) (v w : Verdict) → IsVerdict login t v → IsVerdict login t w → v ≡ w

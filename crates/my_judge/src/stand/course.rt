@@ -14,12 +14,7 @@ use std::alloc::Global;
 
 impl Stand {
     /// Where the call stops, over the bytes that were sent and received.
-    pub fn course(
-        &mut self,
-        alloc: Global,
-        login: &Login,
-        call: &Call,
-    ) -> Result<Stop, NoMemory>
+    pub fn course(&mut self, alloc: Global, login: &Login, call: &Call) -> Result<Stop, NoMemory>
         requires { self.old.texts ≡ arranging_texts login.now }
         ensures { IfOk result (λ stop. CourseIs login.now call.now self.old stop self.new) }
     {

@@ -10,8 +10,10 @@ pub take_call-requires : goal.take_call-requires
 take_call-requires c = texts_known c.args.login.now c.args.tape.now c.calls.index c.calls.left.now c.calls.reader c.calls.invariant
 
 pub returns-then-not-branch : goal.returns-then-not-branch
-returns-then-not-branch c = record { exact = refutes c.args.login.now c.args.tape.now c.calls.index c.in-Some.call.now c.calls.left.now c.in-Some.after.now c.calls.reader c.take_call.new.self c.in-Some.ensures.cases.0 c.calls.invariant
-    (rw c.if-not-branch.true at (c.in_ok-take_call.ensures c.calls.invariant.place c.calls.invariant.at)) }
+returns-then-not-branch c = record {
+  exact = refutes c.args.login.now c.args.tape.now c.calls.index c.in-Some.call.now c.calls.left.now c.in-Some.after.now c.calls.reader c.take_call.new.self c.in-Some.ensures.cases.0 c.calls.invariant
+      (rw c.if-not-branch.true at (c.in_ok-take_call.ensures c.calls.invariant.place c.calls.invariant.at));
+}
 
 pub overflow_add-index : goal.overflow_add-index
 overflow_add-index c =

@@ -1,5 +1,4 @@
-use Rattle.std.proofs.Common.{add-one, length, take, sym, ap, ◌∙◌, arith}
-use Rattle.my_judge.specs.Parts.{connecting_parts}
+use Rattle.std.proofs.Common.{add-one, arith}
 use Rattle.my_judge.proofs.Parts.{parts_more}
 use Rattle.my_judge.proofs.part.connecting_parts.Goals as goal
 
