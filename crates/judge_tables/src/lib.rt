@@ -1,5 +1,5 @@
-//! Tapes that `my_judge` accepts, and several hundred that differ in one place and are refuted. The bytes are those of the
-//! public pages of the protocol. This crate has tests alone.
+//! Tapes that `my_judge` accepts, and several hundred that differ in one place and are refuted. The bytes are those of
+//! the public pages of the protocol. This crate has tests alone.
 #![tactic(auto)]
 
 #[cfg(test)]

@@ -203,16 +203,23 @@ module _ (login : Login) (p : Place) (n : ℕ) (arranged : connects_in (exchange
   begins_follow call (parts.Item ∷ more) = either login (parts.Item ∷ more) p.end_left _ _ _ _ (λ _. (refl, at_no_end login p n arranged fits same))
       (λ _. either login (parts.Item ∷ more) (is_over p.talk) _ _ _ _ (λ _. (refl, here)) (λ _. reads_follow parts.Item more))
 
+  -- while bytes are owed the call waits
+  owing : (left : List CodePart) (x : Step) (bytes : List ℕ) (b : ℕ) (more : List ℕ) → bytes ≡ b ∷ more → TurnIs login left (turn (steps.Stops code_stops.Owes) s) (unless_owed bytes p x)
+  owing left x [] b more e = cc
+  owing left x (d ∷ bytes) b more e = (refl, here)
+
+  settled : (call : Call) (left : List CodePart) (bytes : List ℕ) → bytes ≡ [] → TurnIs login left (begins login call left s) (unless_owed bytes p (step_of login call (map part_of left) p))
+  settled call left [] e = begins_follow call left
+  settled call left (d ∷ bytes) e = cc
+
   step_follows : (call : Call) (left : List CodePart) → TurnIs login left (code_step login call left s) (step login call (map part_of left) p)
   unfolding step
   step_follows call left = by_owed (nat_lt (length p.sent) (length (client_side (exchanges p)))) refl
     where
       by_owed : (b : Bool) → nat_lt (length p.sent) (length (client_side (exchanges p))) ≡ b
           → TurnIs login left (cond b (turn (steps.Stops code_stops.Owes) s) (begins login call left s)) (unless_owed (owed p) p (step_of login call (map part_of left) p))
-      by_owed true e = let some = some_left (length p.sent) (client_side (exchanges p)) (grind (arith, nat_tests)) in
-          subst (λ bs. TurnIs login left (turn (steps.Stops code_stops.Owes) s) (unless_owed bs p (step_of login call (map part_of left) p))) (sym some.2) (refl, here)
-      by_owed false e = let none = none_left (length p.sent) (client_side (exchanges p)) (grind (arith, nat_tests)) in
-          subst (λ bs. TurnIs login left (begins login call left s) (unless_owed bs p (step_of login call (map part_of left) p))) (sym none) (begins_follow call left)
+      by_owed true e = let some = some_left (length p.sent) (client_side (exchanges p)) (grind (arith, nat_tests)) in owing left (step_of login call (map part_of left) p) (owed p) some.0 some.1 some.2
+      by_owed false e = settled call left (owed p) (none_left (length p.sent) (client_side (exchanges p)) (grind (arith, nat_tests)))
 
 -- a step of the program, wherever it stands
 pub steps_follow : (login : Login) (p : Place) (s : Stand) (call : Call) (left : List CodePart) → IsAt login p s → TurnIs login left (code_step login call left s) (step login call (map part_of left) p)

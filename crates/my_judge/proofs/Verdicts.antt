@@ -1,14 +1,13 @@
 -- A tape has one verdict.
-use Rattle.std.proofs.Common.{◌≡◌, ◌≢◌, ℕ, zero, suc, ◌<◌, ◌≤◌, List, [], ◌∷◌, take, Bool, true, false, not, ◌&&◌, nat_lt, refl, sym, ap, subst, arith}
+use Rattle.std.proofs.Common.{◌≡◌, ℕ, zero, suc, ◌<◌, ◌≤◌, List, [], ◌∷◌, take, Bool, true, false, not, nat_lt, refl, ap, subst, arith}
 use Rattle.std.proofs.lemmas.Bool.Decides.{nat_tests}
 use Rattle.my_grammar.specs.declared.login.Login.{Login}
 use Rattle.my_reading.specs.Calls.{kind_of, is_connect}
 use Rattle.my_reading.specs.Endings.{AreCalls, IsTape, connects_first, connects_none}
 use Rattle.my_reading.specs.Reading.{ReadCall, reading}
 use Rattle.my_reading.specs.Tape.{Tape}
-use Rattle.my_judge.specs.declared.judging.Verdict.{Verdict}
 use Rattle.my_judge.specs.declared.judging.Verdict.TheVariants.{Accepted, Refuted}
-use Rattle.my_judge.specs.Verdicts.{AreRight, IsRefuted, IsVerdict, OneVerdict}
+use Rattle.my_judge.specs.Verdicts.{AreRight, IsRefuted, OneVerdict}
 use Rattle.my_judge.proofs.Judged.{and_true, and_both}
 
 -- the first calls of right ones are right

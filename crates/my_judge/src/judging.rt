@@ -15,7 +15,7 @@ use std::alloc::Global;
 #[derive(Clone, Copy, Debug, PartialEq, Eq)]
 pub enum Verdict {
     Accepted,
-    /// The first call that isn't right, or that stands in a wrong place, counted from 0.
+    /// The first call that isn't right, or that stands in a wrong place, with its index from 0.
     Refuted(usize),
 }
 
@@ -29,9 +29,10 @@ fn first_reader(alloc: Global, login: &Login) -> Result<Reader, NoMemory>
     })
 }
 
-/// Whether the tape is one of a client that logs in so, by the reading of my_reading: its first call connects and no other
-/// does, each call ended as it comes to over its bytes, or is open there, what was sent is a beginning of what the calls
-/// say, and on a closed connection nothing was sent or received.
+/// Whether the tape is one of a client that logs in so, by the reading of `my_reading`: its first call connects and no
+/// other does; each call ended as it comes to over its bytes, or is open there; what was sent is a beginning of what the
+/// calls say; and on a closed connection nothing was sent or received. The time is that of one pass over the bytes, and
+/// for each call one over what was sent so far.
 pub fn judge(alloc: Global, login: &Login, tape: &Tape) -> Result<Verdict, NoMemory>
     ensures exact { IfOk result (λ verdict. IsVerdict login.now (tape_of tape.now) verdict) }
 {

@@ -10,13 +10,16 @@ use my_grammar::Login;
 use my_reading::Call;
 use std::alloc::Global;
 
-/// A part of a call: the rest of the newest exchange is read; it is read to the head of its first set, or to its next row
-/// or end; or the call's next command is sent.
+/// A part of a call.
 #[derive(Clone, Copy, Debug, PartialEq, Eq)]
 pub enum Part {
+    /// The rest of the newest exchange is read.
     All,
+    /// It is read to the head of its first set.
     Head,
+    /// It is read to its next row or end.
     Item,
+    /// The call's next command is sent.
     Command,
 }
 

@@ -33,13 +33,14 @@ fn closes_at(kind: CallKind, spot: Spot) -> bool
     }
 }
 
-// Whether this is the fault of a way, of this kind and after so many packets.
+// Whether the error is this fault, after so many packets.
 fn is_fault(error: &Error, kind: IoKind, place: u64) -> bool
     ensures { Decides result (error.now ≡ io_error kind place) }
 {
     *error == Error::Io(IoError::Io(IoFault { kind, place }))
 }
 
+// Whether both are the same.
 fn is_same_row(a: &Row, b: &Row) -> bool
     ensures { Decides result (a.now ≡ b.now) }
 {
@@ -69,6 +70,7 @@ fn is_same(a: &Ending, b: &Ending) -> bool
     }
 }
 
+// Whether the call ended and returned this.
 fn is_returned(ending: &Option<Ending>, told: &Ending) -> bool
     ensures { Decides result (ending.now ≡ Some told.now) }
 {

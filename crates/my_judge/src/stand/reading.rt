@@ -9,7 +9,8 @@ ghost use Rattle.my_reply.specs.ErrPacket.{err_at};
 ghost use Rattle.my_reading.specs.Course.{is_greeting};
 ghost use Rattle.my_reading.specs.Errors.{server_error};
 ghost use Rattle.my_reading.specs.Rows.{row_of};
-ghost use Rattle.my_judge.specs.Stands.{Comes, after_err, after_greeting, after_kind, failure, heard, read_payload, reads, unfit};
+ghost use Rattle.my_judge.specs.Stands.{Comes, failure, heard, reads, read_payload, unfit};
+ghost use Rattle.my_judge.specs.Stands.{after_err, after_greeting, after_kind};
 
 use super::Stand;
 use crate::part::Part;
