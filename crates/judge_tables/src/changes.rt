@@ -1,7 +1,7 @@
 //! The changes that are made of each tape, and what is found of it then.
 
 use crate::rows::{Line, Needs, Told};
-use crate::tapes::{Change, changed, login, spans_of, tape_of};
+use crate::tapes::{Change, SetUp, changed, login, spans_of, tape_of};
 use my_frame::NoMemory;
 use my_judge::{Verdict, judge};
 use std::alloc::Global;
@@ -28,14 +28,9 @@ const ENDINGS: [Told<'static>; 14] = [
 /// A tape, and how many changes of it were refuted.
 #[derive(Drop)]
 pub struct Table<'a> {
+    set_up: SetUp,
     lines: &'a [Line<'a>],
     refuted: usize,
-}
-
-// What is found of a tape with a change.
-fn found(alloc: Global, lines: &[Line], at: usize, change: Change) -> Result<Verdict, NoMemory> {
-    let tape = changed(alloc, lines, at, change)?;
-    judge(alloc, &login(alloc)?, &tape)
 }
 
 fn is_among(told: Told, all: &[Told]) -> bool {
@@ -47,12 +42,23 @@ impl<'a> Table<'a> {
     pub fn new(
         rt: &impl Abort,
         alloc: Global,
+        set_up: SetUp,
         lines: &'a [Line<'a>],
     ) -> Result<Table<'a>, NoMemory> {
         let tape = tape_of(alloc, spans_of(alloc, lines)?)?;
-        let verdict = judge(alloc, &login(alloc)?, &tape)?;
+        let verdict = judge(alloc, &login(alloc, set_up)?, &tape)?;
         assert_eq!(rt; verdict, Verdict::Accepted);
-        Ok(Table { lines, refuted: 0 })
+        Ok(Table {
+            set_up,
+            lines,
+            refuted: 0,
+        })
+    }
+
+    // What is found of the tape with a change.
+    fn found(&self, alloc: Global, at: usize, change: Change) -> Result<Verdict, NoMemory> {
+        let tape = changed(alloc, self.lines, at, change)?;
+        judge(alloc, &login(alloc, self.set_up)?, &tape)
     }
 
     /// The change of this call is refuted at that one.
@@ -64,7 +70,7 @@ impl<'a> Table<'a> {
         change: Change,
         by: usize,
     ) -> Result<(), NoMemory> {
-        let verdict = found(alloc, self.lines, at, change)?;
+        let verdict = self.found(alloc, at, change)?;
         assert_eq!(rt; verdict, Verdict::Refuted(by), "call {at}: {change:?}");
         self.refuted = self.refuted.saturating_add(1);
         Ok(())
@@ -78,7 +84,7 @@ impl<'a> Table<'a> {
         at: usize,
         change: Change,
     ) -> Result<(), NoMemory> {
-        let verdict = found(alloc, self.lines, at, change)?;
+        let verdict = self.found(alloc, at, change)?;
         assert_eq!(rt; verdict, Verdict::Accepted, "call {at}: {change:?}");
         Ok(())
     }
@@ -94,7 +100,7 @@ impl<'a> Table<'a> {
         for told in ENDINGS {
             let change = Change::Ending(told);
             if is_among(told, line.also) {
-                let verdict = found(alloc, self.lines, at, change)?;
+                let verdict = self.found(alloc, at, change)?;
                 assert!(rt; verdict != Verdict::Refuted(at), "call {at}: {change:?}");
             } else if told != line.ending {
                 self.refute(rt, alloc, at, change, at)?;

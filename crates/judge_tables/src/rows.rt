@@ -9,6 +9,18 @@ const RESPONSE: &[u8] =
     b"\x3c\x00\x00\x01\x81\xa2\x0f\x01\x00\x00\x40\x00\x2d\x00\x00\x00\x00\x00\x00\x00\x00\x00\x00\
     \x00\x00\x00\x00\x00\x00\x00\x00\x00\x00\x00\x00\x00root\x00\x00mysql_native_password\x00";
 
+// The response, the query for the longest packet, and the query that sets the connection up.
+const SET_UP: &[u8] =
+    b"\x3c\x00\x00\x01\x81\xa2\x0f\x01\x00\x00\x40\x00\x2d\x00\x00\x00\x00\x00\x00\x00\x00\x00\x00\
+    \x00\x00\x00\x00\x00\x00\x00\x00\x00\x00\x00\x00\x00root\x00\x00mysql_native_password\x00\
+    \x1c\x00\x00\x00\x03SELECT @@max_allowed_packet\x05\x00\x00\x00\x03DO 1";
+
+// The OK after the response, a set with 67,108,864 bytes, an OK.
+const SETTINGS: &[u8] = b"\x07\x00\x00\x02\x00\x00\x00\x02\x00\x00\x00\
+    \x01\x00\x00\x01\x01\x17\x00\x00\x02\x03def\x00\x00\x00\x011\x00\x0c\x3f\x00\x01\x00\x00\x00\x08\
+    \x81\x00\x00\x00\x00\x09\x00\x00\x03\x0867108864\x07\x00\x00\x04\xfe\x00\x00\x02\x00\x00\x00\
+    \x07\x00\x00\x01\x00\x00\x00\x02\x00\x00\x00";
+
 // An OK, with sequence ids 2 and 1, and one that another set follows.
 const LOGGED_IN: &[u8] = b"\x07\x00\x00\x02\x00\x00\x00\x02\x00\x00\x00";
 
@@ -142,6 +154,18 @@ pub fn connects() -> Line<'static> {
         call: Said::Connect,
         sent: RESPONSE,
         taken: [GREETING, LOGGED_IN],
+        ending: Told::Ready,
+        also: &[],
+        needs: Needs::All,
+    }
+}
+
+/// The login of a client that asks for the longest packet and sends `DO 1`.
+pub fn sets_up() -> Line<'static> {
+    Line {
+        call: Said::Connect,
+        sent: SET_UP,
+        taken: [GREETING, SETTINGS],
         ending: Told::Ready,
         also: &[],
         needs: Needs::All,

@@ -3,9 +3,9 @@
 use crate::changes::Table;
 use crate::rows::{
     DO, END, ERR, ERR_OF_ROW, Line, Needs, OK, OK_AND_MORE, PING, QUIT, ROW, Said, Told, closed,
-    connects, returns, selects, waits,
+    connects, returns, selects, sets_up, waits,
 };
-use crate::tapes::Change;
+use crate::tapes::{Change, SetUp};
 use std::alloc::Global;
 use std::process::Abort;
 use std::test::Fail;
@@ -17,10 +17,30 @@ const DO_ONE: Said<'static> = Said::Query(b"DO 1");
 fn a_login_is_read(rt: HostRuntime) -> Result<(), Fail> {
     let alloc = rt.alloc();
     let lines = [connects(), returns(Said::Ping, PING, OK, Told::Ready)];
-    let mut table = Table::new(&rt, alloc, &lines)?;
+    let mut table = Table::new(&rt, alloc, SetUp::Plain, &lines)?;
     table.refute(&rt, alloc, 0, Change::Missing, 0)?;
     table.refute(&rt, alloc, 0, Change::Swapped, 0)?;
     assert_eq!(rt; table.all(&rt, alloc, 0)?, 48);
+    Ok(())
+}
+
+// A connection is made once it is set up whole.
+#[test]
+fn a_connection_is_set_up(rt: HostRuntime) -> Result<(), Fail> {
+    let alloc = rt.alloc();
+    let lines = [sets_up(), returns(Said::Ping, PING, OK, Told::Ready)];
+    let mut table = Table::new(&rt, alloc, SetUp::Asking, &lines)?;
+    // The sequence ids of the set's packets and of the OK after them; bytes of both queries.
+    for place in [92, 97, 124, 137, 148] {
+        table.refute(&rt, alloc, 0, Change::TakenByte(place), 0)?;
+    }
+    for place in [70, 102] {
+        table.refute(&rt, alloc, 0, Change::SentByte(place), 0)?;
+    }
+    // The server may say another number, and warnings are no part of an answer.
+    table.allow(&rt, alloc, 0, Change::TakenByte(126))?;
+    table.allow(&rt, alloc, 0, Change::TakenByte(155))?;
+    assert_eq!(rt; table.all(&rt, alloc, 0)?, 53);
     Ok(())
 }
 
@@ -39,7 +59,7 @@ fn a_row_is_read(rt: HostRuntime) -> Result<(), Fail> {
         closed(Said::Ping, Told::Closed),
         closed(Said::Quit, Told::Ready),
     ];
-    let mut table = Table::new(&rt, alloc, &lines)?;
+    let mut table = Table::new(&rt, alloc, SetUp::Plain, &lines)?;
     // The cell; a row after its end; the end is gone.
     table.refute(&rt, alloc, 2, Change::TakenByte(5), 2)?;
     table.refute(&rt, alloc, 2, Change::Swapped, 2)?;
@@ -67,7 +87,7 @@ fn a_lone_ok_has_an_end(rt: HostRuntime) -> Result<(), Fail> {
         returns(DO_ONE, DO, ERR, Told::Server),
         returns(Said::DropResult, b"", b"", Told::Ready),
     ];
-    let mut table = Table::new(&rt, alloc, &lines)?;
+    let mut table = Table::new(&rt, alloc, SetUp::Plain, &lines)?;
     table.refute(&rt, alloc, 2, Change::Missing, 2)?;
     table.refute(&rt, alloc, 2, Change::Swapped, 2)?;
     // The code and the message of the ERR.
@@ -92,7 +112,7 @@ fn an_earlier_error_is_returned(rt: HostRuntime) -> Result<(), Fail> {
         returns(Said::DropResult, b"", b"", Told::Ready),
         returns(Said::NextRow, b"", b"", Told::NoSet),
     ];
-    let mut table = Table::new(&rt, alloc, &lines)?;
+    let mut table = Table::new(&rt, alloc, SetUp::Plain, &lines)?;
     table.refute(&rt, alloc, 2, Change::Swapped, 2)?;
     table.refute(&rt, alloc, 4, Change::Missing, 4)?;
     table.refute(&rt, alloc, 4, Change::Swapped, 4)?;
@@ -138,7 +158,7 @@ fn a_cancelled_read_goes_on(rt: HostRuntime) -> Result<(), Fail> {
         returns(Said::DropResult, b"", END, Told::Ready),
         returns(Said::Ping, PING, OK, Told::Ready),
     ];
-    let mut table = Table::new(&rt, alloc, &lines)?;
+    let mut table = Table::new(&rt, alloc, SetUp::Plain, &lines)?;
     table.allow(&rt, alloc, 4, Change::Missing)?;
     table.allow(&rt, alloc, 2, Change::TakenEarlier)?;
     table.allow(&rt, alloc, 2, Change::Ending(Told::Open))?;
@@ -156,7 +176,7 @@ fn an_unfit_payload_closes(rt: HostRuntime) -> Result<(), Fail> {
         returns(Said::NextRow, b"", b"\x00\x00\x00\x03", Told::Unfit(4)),
         closed(Said::Ping, Told::Closed),
     ];
-    let table = Table::new(&rt, alloc, &lines)?;
+    let table = Table::new(&rt, alloc, SetUp::Plain, &lines)?;
     assert_eq!(rt; table.all(&rt, alloc, 1)?, 58);
     Ok(())
 }
@@ -168,7 +188,7 @@ fn a_wrong_number_closes(rt: HostRuntime) -> Result<(), Fail> {
     let mut query = returns(DO_ONE, DO, b"\x01\x00\x00\x05\x01", Told::Number(1, 5));
     query.needs = Needs::Number;
     let lines = [connects(), query, closed(Said::NextRow, Told::Closed)];
-    let table = Table::new(&rt, alloc, &lines)?;
+    let table = Table::new(&rt, alloc, SetUp::Plain, &lines)?;
     assert_eq!(rt; table.all(&rt, alloc, 1)?, 38);
     Ok(())
 }
@@ -181,7 +201,7 @@ fn a_command_is_sent(rt: HostRuntime) -> Result<(), Fail> {
         connects(),
         waits(DO_ONE, b"\x05\x00", b"", Told::Open, &CLOSING),
     ];
-    let table = Table::new(&rt, alloc, &lines)?;
+    let table = Table::new(&rt, alloc, SetUp::Plain, &lines)?;
     table.allow(&rt, alloc, 1, Change::SentLess)?;
     table.allow(&rt, alloc, 1, Change::Ending(Told::Link(2)))?;
     assert_eq!(rt; table.all(&rt, alloc, 1)?, 18);
@@ -197,7 +217,7 @@ fn a_cancelled_query_closes(rt: HostRuntime) -> Result<(), Fail> {
         waits(DO_ONE, DO, b"", Told::Cancelled(true), &CLOSING),
         closed(Said::NextRow, Told::Closed),
     ];
-    let mut table = Table::new(&rt, alloc, &lines)?;
+    let mut table = Table::new(&rt, alloc, SetUp::Plain, &lines)?;
     table.refute(&rt, alloc, 1, Change::Ending(Told::Open), 2)?;
     table.allow(&rt, alloc, 1, Change::SentLess)?;
     table.allow(&rt, alloc, 1, Change::Ending(Told::Eof(2)))?;
@@ -215,7 +235,7 @@ fn a_cancelled_drop_closes(rt: HostRuntime) -> Result<(), Fail> {
         waits(Said::DropResult, b"", b"", Told::Cancelled(true), &CLOSING),
         closed(Said::NextRow, Told::Closed),
     ];
-    let mut table = Table::new(&rt, alloc, &lines)?;
+    let mut table = Table::new(&rt, alloc, SetUp::Plain, &lines)?;
     table.refute(&rt, alloc, 2, Change::Missing, 2)?;
     assert_eq!(rt; table.all(&rt, alloc, 1)?, 54);
     Ok(())
@@ -232,7 +252,7 @@ fn a_link_fails(rt: HostRuntime) -> Result<(), Fail> {
         closed(Said::Ping, Told::Closed),
         closed(Said::Quit, Told::Ready),
     ];
-    let mut table = Table::new(&rt, alloc, &lines)?;
+    let mut table = Table::new(&rt, alloc, SetUp::Plain, &lines)?;
     table.refute(&rt, alloc, 2, Change::Missing, 2)?;
     table.refute(&rt, alloc, 2, Change::Ending(Told::Link(3)), 2)?;
     table.allow(&rt, alloc, 3, Change::Swapped)?;

@@ -12,8 +12,24 @@ use my_value::{Columns, Row, Value};
 use std::alloc::{AllocError, Global};
 use std::sync::Arc;
 
-/// A user `root` without a password, with both settings.
-pub fn login(alloc: Global) -> Result<Login, NoMemory> {
+/// Whether a client asks for the longest packet and sends `DO 1` when its connection is made.
+#[derive(Clone, Copy)]
+pub enum SetUp {
+    Plain,
+    Asking,
+}
+
+fn init_of(alloc: Global, set_up: SetUp) -> Result<Listed<Blob>, NoMemory> {
+    let mut init = Listed::new(alloc);
+    match set_up {
+        SetUp::Plain => {}
+        SetUp::Asking => init.push(Blob::from_slice(alloc, b"DO 1")?)?,
+    }
+    Ok(init)
+}
+
+/// A user `root` without a password.
+pub fn login(alloc: Global, set_up: SetUp) -> Result<Login, NoMemory> {
     Ok(Login {
         user: Some(Blob::from_slice(alloc, b"root")?),
         password: None,
@@ -21,9 +37,12 @@ pub fn login(alloc: Global) -> Result<Login, NoMemory> {
         max_packet: 4_194_304,
         attributes: Attributes::new(alloc),
         capabilities: CapabilityFlags(0x10f_a281),
-        packet_limit: Some(4_194_304),
+        packet_limit: match set_up {
+            SetUp::Plain => Some(4_194_304),
+            SetUp::Asking => None,
+        },
         wait_timeout: Some(28_800),
-        init: Listed::new(alloc),
+        init: init_of(alloc, set_up)?,
         setup: Listed::new(alloc),
     })
 }
