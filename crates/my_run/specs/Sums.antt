@@ -1,4 +1,4 @@
--- What uses come to, connection by connection.
+-- What was met in a dial or a poll, with the connection's number.
 use Rattle.std.specs.Prelude.{ℕ}
 use Rattle.my_link.specs.Met.{nothing_met}
 use Rattle.my_link.specs.declared.met.Met.{Met}

@@ -1,0 +1,12 @@
+//! Tapes that `my_judge` accepts, and several hundred that differ in one place and are refuted. The bytes are those of
+//! the public pages of the protocol. This crate has tests alone.
+#![tactic(auto)]
+
+#[cfg(test)]
+mod changes;
+#[cfg(test)]
+mod rows;
+#[cfg(test)]
+mod tables;
+#[cfg(test)]
+mod tapes;

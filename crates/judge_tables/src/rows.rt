@@ -1,0 +1,178 @@
+//! Calls of connections, with their bytes and how they ended.
+
+// Version 8.0.36, connection 7.
+const GREETING: &[u8] =
+    b"\x4a\x00\x00\x00\x0a8.0.36\x00\x07\x00\x00\x00abcdefgh\x00\x8b\xa2\x2d\x02\x00\x1f\x01\x15\
+    \x00\x00\x00\x00\x00\x00\x00\x00\x00\x00ijklmnopqrst\x00mysql_native_password\x00";
+
+const RESPONSE: &[u8] =
+    b"\x3c\x00\x00\x01\x81\xa2\x0f\x01\x00\x00\x40\x00\x2d\x00\x00\x00\x00\x00\x00\x00\x00\x00\x00\
+    \x00\x00\x00\x00\x00\x00\x00\x00\x00\x00\x00\x00\x00root\x00\x00mysql_native_password\x00";
+
+// The response, the query for the longest packet, and the query that sets the connection up.
+const SET_UP: &[u8] =
+    b"\x3c\x00\x00\x01\x81\xa2\x0f\x01\x00\x00\x40\x00\x2d\x00\x00\x00\x00\x00\x00\x00\x00\x00\x00\
+    \x00\x00\x00\x00\x00\x00\x00\x00\x00\x00\x00\x00\x00root\x00\x00mysql_native_password\x00\
+    \x1c\x00\x00\x00\x03SELECT @@max_allowed_packet\x05\x00\x00\x00\x03DO 1";
+
+// The OK after the response, a set with 67,108,864 bytes, an OK.
+const SETTINGS: &[u8] = b"\x07\x00\x00\x02\x00\x00\x00\x02\x00\x00\x00\
+    \x01\x00\x00\x01\x01\x17\x00\x00\x02\x03def\x00\x00\x00\x011\x00\x0c\x3f\x00\x01\x00\x00\x00\x08\
+    \x81\x00\x00\x00\x00\x09\x00\x00\x03\x0867108864\x07\x00\x00\x04\xfe\x00\x00\x02\x00\x00\x00\
+    \x07\x00\x00\x01\x00\x00\x00\x02\x00\x00\x00";
+
+// An OK, with sequence ids 2 and 1, and one that another set follows.
+const LOGGED_IN: &[u8] = b"\x07\x00\x00\x02\x00\x00\x00\x02\x00\x00\x00";
+
+pub const OK: &[u8] = b"\x07\x00\x00\x01\x00\x00\x00\x02\x00\x00\x00";
+
+pub const OK_AND_MORE: &[u8] = b"\x07\x00\x00\x01\x00\x00\x00\x0a\x00\x00\x00";
+
+// A head of one column, which is named 1.
+pub const HEAD: &[u8] =
+    b"\x01\x00\x00\x01\x01\x17\x00\x00\x02\x03def\x00\x00\x00\x011\x00\x0c\x3f\x00\x01\x00\x00\x00\x08\
+    \x81\x00\x00\x00\x00";
+
+pub const ROW: &[u8] = b"\x02\x00\x00\x03\x011";
+
+pub const END: &[u8] = b"\x07\x00\x00\x04\xfe\x00\x00\x02\x00\x00\x00";
+
+// ERR 1064 42000 X, in the place of a head, of a row and of a further head.
+pub const ERR: &[u8] = b"\x0a\x00\x00\x01\xff\x28\x04#42000X";
+
+pub const ERR_OF_ROW: &[u8] = b"\x0a\x00\x00\x03\xff\x28\x04#42000X";
+
+pub const SELECT: &[u8] = b"\x09\x00\x00\x00\x03SELECT 1";
+
+pub const DO: &[u8] = b"\x05\x00\x00\x00\x03DO 1";
+
+pub const PING: &[u8] = b"\x01\x00\x00\x00\x0e";
+
+pub const QUIT: &[u8] = b"\x01\x00\x00\x00\x01";
+
+/// A call.
+#[derive(Clone, Copy)]
+pub enum Said<'a> {
+    Connect,
+    Query(&'a [u8]),
+    NextRow,
+    DropResult,
+    Ping,
+    Quit,
+}
+
+/// How a call ended, if it did.
+#[derive(Clone, Copy, Debug, PartialEq)]
+pub enum Told<'a> {
+    Ready,
+    /// A row of one cell.
+    Row(&'a [u8]),
+    SetEnd,
+    NoSet,
+    /// ERR 1064 42000 X.
+    Server,
+    Closed,
+    /// Faults after so many packets.
+    Link(u64),
+    Eof(u64),
+    Unfit(u64),
+    /// This sequence id is expected, that one was found.
+    Number(u8, u8),
+    Cancelled(bool),
+    Open,
+}
+
+/// What a call's bytes leave open.
+#[derive(Clone, Copy, PartialEq, Eq)]
+pub enum Needs {
+    /// Each byte of a header that was received.
+    All,
+    /// A sequence id alone, after which nothing is read.
+    Number,
+    /// Nothing: the call awaits more.
+    More,
+    /// The connection is closed.
+    Nothing,
+}
+
+/// A call with its bytes and how it ended; `also` are other endings that these bytes allow.
+#[derive(Clone, Copy)]
+pub struct Line<'a> {
+    pub call: Said<'a>,
+    pub sent: &'a [u8],
+    pub taken: [&'a [u8]; 2],
+    pub ending: Told<'a>,
+    pub also: &'a [Told<'a>],
+    pub needs: Needs,
+}
+
+/// A call that returns this once all its bytes came.
+pub fn returns<'a>(call: Said<'a>, sent: &'a [u8], taken: &'a [u8], ending: Told<'a>) -> Line<'a> {
+    Line {
+        call,
+        sent,
+        taken: [taken, b""],
+        ending,
+        also: &[],
+        needs: Needs::All,
+    }
+}
+
+/// A call that awaits more, and ended so or otherwise.
+pub fn waits<'a>(
+    call: Said<'a>,
+    sent: &'a [u8],
+    taken: &'a [u8],
+    ending: Told<'a>,
+    also: &'a [Told<'a>],
+) -> Line<'a> {
+    Line {
+        call,
+        sent,
+        taken: [taken, b""],
+        ending,
+        also,
+        needs: Needs::More,
+    }
+}
+
+/// A call on a closed connection.
+pub fn closed<'a>(call: Said<'a>, ending: Told<'a>) -> Line<'a> {
+    Line {
+        call,
+        sent: b"",
+        taken: [b"", b""],
+        ending,
+        also: &[],
+        needs: Needs::Nothing,
+    }
+}
+
+/// The login.
+pub fn connects() -> Line<'static> {
+    Line {
+        call: Said::Connect,
+        sent: RESPONSE,
+        taken: [GREETING, LOGGED_IN],
+        ending: Told::Ready,
+        also: &[],
+        needs: Needs::All,
+    }
+}
+
+/// The login of a client that asks for the longest packet and sends `DO 1`.
+pub fn sets_up() -> Line<'static> {
+    Line {
+        call: Said::Connect,
+        sent: SET_UP,
+        taken: [GREETING, SETTINGS],
+        ending: Told::Ready,
+        also: &[],
+        needs: Needs::All,
+    }
+}
+
+/// A query whose first set is begun.
+pub fn selects() -> Line<'static> {
+    returns(Said::Query(b"SELECT 1"), SELECT, HEAD, Told::Ready)
+}

@@ -1,0 +1,305 @@
+//! Tapes from calls, and changes of them.
+
+use crate::rows::{Line, Said, Told};
+use my_flags::CapabilityFlags;
+use my_frame::{Blob, CodecFault, Listed, NoMemory, Text};
+use my_grammar::Login;
+use my_handshake::Attributes;
+use my_judge::{Ending, Tape, TapeCall};
+use my_reading::{Answer, Call, DriverError, Error, IoError, IoFault, IoKind, ServerError};
+use my_reply::Column;
+use my_value::{Columns, Row, Value};
+use std::alloc::{AllocError, Global};
+use std::sync::Arc;
+
+/// Whether a client asks for the longest packet and sends `DO 1` when its connection is made.
+#[derive(Clone, Copy)]
+pub enum SetUp {
+    Plain,
+    Asking,
+}
+
+fn init_of(alloc: Global, set_up: SetUp) -> Result<Listed<Blob>, NoMemory> {
+    let mut init = Listed::new(alloc);
+    match set_up {
+        SetUp::Plain => {}
+        SetUp::Asking => init.push(Blob::from_slice(alloc, b"DO 1")?)?,
+    }
+    Ok(init)
+}
+
+/// A user `root` without a password.
+pub fn login(alloc: Global, set_up: SetUp) -> Result<Login, NoMemory> {
+    Ok(Login {
+        user: Some(Blob::from_slice(alloc, b"root")?),
+        password: None,
+        database: None,
+        max_packet: 4_194_304,
+        attributes: Attributes::new(alloc),
+        capabilities: CapabilityFlags(0x10f_a281),
+        packet_limit: match set_up {
+            SetUp::Plain => Some(4_194_304),
+            SetUp::Asking => None,
+        },
+        wait_timeout: Some(28_800),
+        init: init_of(alloc, set_up)?,
+        setup: Listed::new(alloc),
+    })
+}
+
+/// A call with its bytes and how it ended.
+#[derive(Drop)]
+pub struct Span {
+    pub call: Call,
+    pub sent: Vec<u8>,
+    pub taken: Vec<u8>,
+    pub ending: Option<Ending>,
+}
+
+fn call_of(alloc: Global, said: Said) -> Result<Call, NoMemory> {
+    Ok(match said {
+        Said::Connect => Call::Connect,
+        Said::Query(text) => Call::Query(Blob::from_slice(alloc, text)?),
+        Said::NextRow => Call::NextRow,
+        Said::DropResult => Call::DropResult,
+        Said::Ping => Call::Ping,
+        Said::Quit => Call::Quit,
+    })
+}
+
+// The column of `SELECT 1`.
+fn columns(alloc: Global) -> Result<Columns, NoMemory> {
+    let column = Column {
+        schema: Blob::new(alloc),
+        table: Blob::new(alloc),
+        org_table: Blob::new(alloc),
+        name: Blob::from_slice(alloc, b"1")?,
+        org_name: Blob::new(alloc),
+        charset: 63,
+        length: 1,
+        column_type: 8,
+        flags: 129,
+        decimals: 0,
+    };
+    let mut all = Vec::new(alloc);
+    all.push(column)?;
+    Ok(Arc::new(alloc, all)?)
+}
+
+fn row_of(alloc: Global, cell: &[u8]) -> Result<Answer, NoMemory> {
+    let mut cells = Vec::new(alloc);
+    cells.push(Value::Bytes(Blob::from_slice(alloc, cell)?))?;
+    Ok(Answer::Row(Row::new(cells, columns(alloc)?)))
+}
+
+fn server_error(alloc: Global) -> Result<Error, NoMemory> {
+    Ok(Error::Server(ServerError {
+        code: 1064,
+        state: Text::from_str(alloc, "42000")?,
+        message: Text::from_str(alloc, "X")?,
+    }))
+}
+
+fn fault(kind: IoKind, place: u64) -> Option<Ending> {
+    Some(Ending::Failed(Error::Io(IoError::Io(IoFault { kind, place }))))
+}
+
+fn ending_of(alloc: Global, told: Told) -> Result<Option<Ending>, NoMemory> {
+    Ok(match told {
+        Told::Ready => Some(Ending::Answered(Answer::Ready)),
+        Told::Row(cell) => Some(Ending::Answered(row_of(alloc, cell)?)),
+        Told::SetEnd => Some(Ending::Answered(Answer::SetEnd)),
+        Told::NoSet => Some(Ending::Answered(Answer::NoSet)),
+        Told::Server => Some(Ending::Failed(server_error(alloc)?)),
+        Told::Closed => Some(Ending::Failed(Error::Driver(DriverError::ConnectionClosed))),
+        Told::Link(place) => fault(IoKind::Link, place),
+        Told::Eof(place) => fault(IoKind::UnexpectedEof, place),
+        Told::Unfit(place) => fault(IoKind::InvalidData, place),
+        Told::Number(expected, found) => Some(Ending::Failed(Error::Io(IoError::Codec(
+            CodecFault::OutOfOrder { expected, found },
+        )))),
+        Told::Cancelled(closing) => Some(Ending::Cancelled(closing)),
+        Told::Open => None,
+    })
+}
+
+fn span_of(alloc: Global, line: &Line) -> Result<Span, NoMemory> {
+    let mut taken = Vec::new(alloc);
+    let [first, second] = line.taken;
+    taken.extend_from_slice(first)?;
+    taken.extend_from_slice(second)?;
+    Ok(Span {
+        call: call_of(alloc, line.call)?,
+        sent: Vec::from_slice(alloc, line.sent)?,
+        taken,
+        ending: ending_of(alloc, line.ending)?,
+    })
+}
+
+/// The calls of these lines.
+pub fn spans_of(alloc: Global, lines: &[Line]) -> Result<Vec<Span>, NoMemory> {
+    let mut spans = Vec::new(alloc);
+    for line in lines {
+        spans.push(span_of(alloc, line)?)?;
+    }
+    Ok(spans)
+}
+
+/// The tape of these calls.
+pub fn tape_of(alloc: Global, spans: Vec<Span>) -> Result<Tape, NoMemory> {
+    let mut sent = Vec::new(alloc);
+    let mut taken = Vec::new(alloc);
+    let mut calls = Listed::new(alloc);
+    for span in spans {
+        calls.push(TapeCall {
+            call: span.call,
+            sent_from: sent.len(),
+            taken_from: taken.len(),
+            ending: span.ending,
+        })?;
+        sent.extend_from_slice(span.sent.as_slice())?;
+        taken.extend_from_slice(span.taken.as_slice())?;
+    }
+    Ok(Tape {
+        sent: Blob::from(sent),
+        taken: Blob::from(taken),
+        calls,
+    })
+}
+
+/// One change of a tape, at one of its calls.
+#[derive(Clone, Copy, Debug)]
+pub enum Change<'a> {
+    /// Another ending.
+    Ending(Told<'a>),
+    /// A bit of the byte at this place of those that were sent, or received, is turned.
+    SentByte(usize),
+    TakenByte(usize),
+    /// The last byte is missing, or there is one more.
+    SentLess,
+    SentMore,
+    TakenLess,
+    TakenMore,
+    /// The call is missing, with its bytes or without them.
+    Missing,
+    MissingName,
+    /// The call and the next one stand in each other's place.
+    Swapped,
+    /// The last byte is counted for the next call.
+    SentLater,
+    TakenLater,
+    /// The next call's first byte is counted for the call.
+    SentEarlier,
+    TakenEarlier,
+}
+
+fn turn(bytes: &mut Vec<u8>, at: usize) {
+    if at < bytes.len() {
+        bytes[at] ^= 1;
+    }
+}
+
+fn change_span(alloc: Global, span: &mut Span, change: Change) -> Result<(), NoMemory> {
+    match change {
+        Change::Ending(told) => span.ending = ending_of(alloc, told)?,
+        Change::SentByte(at) => turn(&mut span.sent, at),
+        Change::TakenByte(at) => turn(&mut span.taken, at),
+        Change::SentLess => {
+            let _ = span.sent.pop();
+        }
+        Change::SentMore => span.sent.push(0x77)?,
+        Change::TakenLess => {
+            let _ = span.taken.pop();
+        }
+        Change::TakenMore => span.taken.push(0x77)?,
+        _ => {}
+    }
+    Ok(())
+}
+
+fn put_first(bytes: &mut Vec<u8>, byte: Option<u8>) -> Result<(), AllocError> {
+    if let Some(byte) = byte {
+        bytes.insert(0, byte)?;
+    }
+    Ok(())
+}
+
+fn put_last(bytes: &mut Vec<u8>, byte: Option<u8>) -> Result<(), AllocError> {
+    if let Some(byte) = byte {
+        bytes.push(byte)?;
+    }
+    Ok(())
+}
+
+fn take_first(bytes: &mut Vec<u8>) -> Option<u8> {
+    if bytes.is_empty() {
+        return None;
+    }
+    Some(bytes.remove(0))
+}
+
+// The bytes of a call that is gone go to the call before it.
+fn give_back(spans: &mut Vec<Span>, at: usize, gone: &Span) -> Result<(), NoMemory> {
+    if at > 0 && at <= spans.len() {
+        spans[at - 1].sent.extend_from_slice(gone.sent.as_slice())?;
+        spans[at - 1]
+            .taken
+            .extend_from_slice(gone.taken.as_slice())?;
+    }
+    Ok(())
+}
+
+fn change_order(spans: &mut Vec<Span>, at: usize, change: Change) -> Result<(), NoMemory> {
+    if at >= spans.len() {
+        return Ok(());
+    }
+    match change {
+        Change::Missing => {
+            let _ = spans.remove(at);
+        }
+        Change::MissingName => {
+            let gone = spans.remove(at);
+            give_back(spans, at, &gone)?;
+        }
+        _ => {}
+    }
+    Ok(())
+}
+
+fn change_two(spans: &mut Vec<Span>, at: usize, change: Change) -> Result<(), NoMemory> {
+    if at.saturating_add(1) >= spans.len() {
+        return Ok(());
+    }
+    match change {
+        Change::Swapped => spans.swap(at, at + 1),
+        Change::SentLater => {
+            let byte = spans[at].sent.pop();
+            put_first(&mut spans[at + 1].sent, byte)?;
+        }
+        Change::TakenLater => {
+            let byte = spans[at].taken.pop();
+            put_first(&mut spans[at + 1].taken, byte)?;
+        }
+        Change::SentEarlier => {
+            let byte = take_first(&mut spans[at + 1].sent);
+            put_last(&mut spans[at].sent, byte)?;
+        }
+        Change::TakenEarlier => {
+            let byte = take_first(&mut spans[at + 1].taken);
+            put_last(&mut spans[at].taken, byte)?;
+        }
+        _ => {}
+    }
+    Ok(())
+}
+
+/// The tape of these lines with one change.
+pub fn changed(alloc: Global, lines: &[Line], at: usize, change: Change) -> Result<Tape, NoMemory> {
+    let mut spans = spans_of(alloc, lines)?;
+    if at < spans.len() {
+        change_span(alloc, &mut spans[at], change)?;
+    }
+    change_order(&mut spans, at, change)?;
+    change_two(&mut spans, at, change)?;
+    tape_of(alloc, spans)
+}

@@ -1,0 +1,227 @@
+-- A step of the program is the reading's step.
+use Rattle.std.proofs.Common.{◌≡◌, ℕ, zero, suc, ◌<◌, ◌≤◌, List, [], ◌∷◌, length, drop, map, nat_lt, slice_get, Option, Some, None, Bool, true, false, cond, refl, sym, ap, ◌∙◌, subst, arith}
+use Rattle.std.proofs.lemmas.Bool.Decides.{nat_tests}
+use Rattle.my_command.specs.declared.client.ClientPacket.TheVariants as packets
+use Rattle.my_command.specs.Client.Packet.{client_bytes as packet_bytes}
+use Rattle.my_frame.specs.declared.fault.CodecFault.TheVariants.{TooLarge}
+use Rattle.my_frame.specs.Front.{Front, Waiting, Broken, Whole, front_at}
+use Rattle.my_reply.specs.declared.err.ErrPacket.{ErrPacket}
+use Rattle.my_reply.specs.ErrPacket.{err_at}
+use Rattle.my_value.specs.RowParts.{RowParts}
+use Rattle.my_grammar.specs.declared.login.Login.{Login}
+use Rattle.my_grammar.specs.declared.spot.Kind.{Kind}
+use Rattle.my_grammar.specs.declared.spot.Kind.TheVariants as kinds
+use Rattle.my_grammar.specs.declared.spot.Spot.TheVariants as spots
+use Rattle.my_grammar.specs.declared.spot.Terms.{Terms}
+use Rattle.my_grammar.specs.Contexts.{is_bad}
+use Rattle.my_grammar.specs.Cut.{front_of, kind_of, is_over}
+use Rattle.my_grammar.specs.Growth.{grow}
+use Rattle.my_grammar.specs.Response.{response}
+use Rattle.my_grammar.specs.Sets.{NoSets}
+use Rattle.my_grammar.specs.Talk.{Talk, Asked, Queried, Silent, turns, number_of, context_of, limit_of, Fits, login_in}
+use Rattle.my_reading.specs.declared.call.Call.{Call}
+use Rattle.my_reading.specs.declared.call.Call.TheVariants as calls
+use Rattle.my_reading.specs.Commands.{arranging_texts, connecting, query_of, command_in}
+use Rattle.my_reading.specs.Course.{Step, Goes, Stops, step, step_of, unless_owed, reads, with_front, after_payload, after_kind, after_err, with_command, failure, is_greeting, is_rows}
+use Rattle.my_reading.specs.Errors.{codec_error}
+use Rattle.my_reading.specs.Place.{Place, exchanges, facts_at, client_side, connects_in, terms_of, owed, next_exchange, with_end, with_talk, with_exchange}
+use Rattle.my_reading.specs.Rows.{row_of}
+use Rattle.my_reading.specs.Told.{ToldRow}
+use Rattle.my_judge.specs.declared.part.Part.{Part as CodePart}
+use Rattle.my_judge.specs.declared.part.Part.TheVariants as parts
+use Rattle.my_judge.specs.declared.stand.Stand.{Stand}
+use Rattle.my_judge.specs.declared.step.Step.{Step as CodeStep}
+use Rattle.my_judge.specs.declared.step.Step.TheVariants as steps
+use Rattle.my_judge.specs.declared.step.Stop.TheVariants as code_stops
+use Rattle.my_judge.specs.declared.tape.Ending.TheVariants as endings
+use Rattle.my_judge.specs.Parts.{part_of}
+use Rattle.my_judge.specs.Stands.{IsAt, Turn, stand_of, heard, asked, turn, with_end as with_left, after_kind as code_kind, after_err as code_err, after_greeting as code_greeting, after_payload as code_payload, with_front as code_front, reads as code_reads, arranges, commands, begins, steps as code_step}
+use Rattle.my_judge.specs.Tapes.{stop_of}
+use Rattle.my_judge.proofs.Places.{limit_is, at_here, at_end, at_no_end, at_heard}
+
+-- a step of a call of which these parts are left
+abbrev pub Follows : Login → List CodePart → Stand → CodeStep → Step → Type 0
+Follows login left new steps.Stays (Goes more q) = (more ≡ map part_of left) × IsAt login q new
+Follows login left new steps.Stays (Stops q s) = ⊥
+Follows login left new steps.Passes (Goes more q) = (more ≡ map part_of (drop 1 left)) × IsAt login q new
+Follows login left new steps.Passes (Stops q s) = ⊥
+Follows login left new (steps.Stops stop) (Goes more q) = ⊥
+Follows login left new (steps.Stops stop) (Stops q s) = (s ≡ stop_of stop) × IsAt login q new
+
+abbrev pub TurnIs : Login → List CodePart → Turn → Step → Type 0
+TurnIs login left t x = Follows login left t.stand t.does x
+
+either : (login : Login) (left : List CodePart) (b : Bool) (t u : Turn) (x y : Step) → (b ≡ true → TurnIs login left t x) → (b ≡ false → TurnIs login left u y) → TurnIs login left (cond b t u) (cond b x y)
+either login left true t u x y f g = f refl
+either login left false t u x y f g = g refl
+
+-- bytes are owed exactly where fewer were sent than are said
+some_left : (n : ℕ) (bytes : List ℕ) → n < length bytes → (b : ℕ) × (more : List ℕ) × (drop n bytes ≡ b ∷ more)
+some_left n [] h = absurd (omega arith)
+some_left zero (b ∷ bytes) h = (b, bytes, refl)
+some_left (suc n) (b ∷ bytes) h = some_left n bytes (omega arith)
+
+none_left : (n : ℕ) (bytes : List ℕ) → length bytes ≤ n → drop n bytes ≡ []
+none_left zero [] h = refl
+none_left (suc n) [] h = refl
+none_left zero (b ∷ bytes) h = absurd (omega arith)
+none_left (suc n) (b ∷ bytes) h = none_left n bytes (omega arith)
+
+module _ (login : Login) (part : CodePart) (more : List CodePart) (new : Place) (row : RowParts) (n : ℕ) (arranged : connects_in (exchanges new) ≡ suc n) (fits : Fits new.talk) (same : login_in login new.talk ≡ login) where
+  kind_follows : (s : Stand) → s ≡ stand_of login new n → (k : Kind) → TurnIs login (part ∷ more) (code_kind part k row s) (after_kind (part_of part) (map part_of more) k new (ToldRow row))
+  kind_follows s is k = by_part part k
+    where
+      at : IsAt login new s
+      at = subst (λ (x : Stand). IsAt login new x) (sym is) (at_here login new n arranged fits same)
+
+      by_part : (part : CodePart) (k : Kind) → TurnIs login (part ∷ more) (code_kind part k row s) (after_kind (part_of part) (map part_of more) k new (ToldRow row))
+      by_part parts.All k = (refl, at)
+      by_part parts.Command k = (refl, at)
+      by_part parts.Head (kinds.Good status) = (refl, subst (λ (x : Stand). IsAt login (with_end new) (with_left true x)) (sym is) (at_end login new n arranged fits same))
+      by_part parts.Head (kinds.Greets c) = (refl, at)
+      by_part parts.Head kinds.Failed = (refl, at)
+      by_part parts.Head (kinds.Count c) = (refl, at)
+      by_part parts.Head kinds.Column = (refl, at)
+      by_part parts.Head kinds.ColumnsDone = (refl, at)
+      by_part parts.Head kinds.Row = (refl, at)
+      by_part parts.Head (kinds.End status) = (refl, at)
+      by_part parts.Head kinds.Bad = (refl, at)
+      by_part parts.Item (kinds.Good status) = (refl, at)
+      by_part parts.Item (kinds.Greets c) = (refl, at)
+      by_part parts.Item kinds.Failed = (refl, at)
+      by_part parts.Item (kinds.Count c) = (refl, at)
+      by_part parts.Item kinds.Column = (refl, at)
+      by_part parts.Item kinds.ColumnsDone = (refl, at)
+      by_part parts.Item kinds.Row = (refl, at)
+      by_part parts.Item (kinds.End status) = (refl, at)
+      by_part parts.Item kinds.Bad = (refl, at)
+
+module _ (login : Login) (p : Place) (n : ℕ) (arranged : connects_in (exchanges p) ≡ suc n) (fits : Fits p.talk) (same : login_in login p.talk ≡ login) where
+  abbrev s : Stand
+  s = stand_of login p n
+
+  here : IsAt login p s
+  here = at_here login p n arranged fits same
+
+  module _ (part : CodePart) (more : List CodePart) (payload rest : List ℕ) (next : ℕ) (front : front_of p.talk p.unread ≡ Whole payload rest next) where
+    abbrev new : Kind → Place
+    new k = with_talk p (grow k p.talk payload) rest
+
+    abbrev row : RowParts
+    row = row_of (facts_at login p).columns payload
+
+    -- after a payload of this kind
+    abbrev Reads : Kind → Type 0
+    Reads k = TurnIs login (part ∷ more) (code_payload login part payload s (heard login k payload rest s) k) (after_payload login (part_of part) (map part_of more) p (new k) payload k)
+
+    heard_at : (k : Kind) → kind_of p.talk payload ≡ k → is_bad k ≡ false → IsAt login (new k) (heard login k payload rest s)
+    heard_at k e good = subst (λ x. IsAt login (new x) (heard login x payload rest s)) e (at_heard login p n arranged fits same payload rest next front (ap is_bad e ∙ good))
+
+    err_follows : kind_of p.talk payload ≡ kinds.Failed → (x : Option ErrPacket)
+        → TurnIs login (part ∷ more) (code_err x s (heard login kinds.Failed payload rest s)) (after_err login p (new kinds.Failed) x)
+    err_follows e None = (refl, here)
+    err_follows e (Some packet) = (refl, heard_at kinds.Failed e refl)
+
+    greeting_follows : (k : Kind) → kind_of p.talk payload ≡ k → is_bad k ≡ false → (limit : ℕ) → (context_of p.talk).terms.limit ≡ limit
+        → TurnIs login (part ∷ more) (code_greeting (length (response login payload)) s (heard login k payload rest s))
+        (cond (nat_lt limit (length (response login payload))) (failure p (codec_error (TooLarge (length (response login payload)) limit))) (Goes (part_of part ∷ map part_of more) (new k)))
+    greeting_follows k e good limit is = subst (λ l. TurnIs login (part ∷ more) (code_greeting (length (response login payload)) s (heard login k payload rest s))
+        (cond (nat_lt l (length (response login payload))) (failure p (codec_error (TooLarge (length (response login payload)) l))) (Goes (part_of part ∷ map part_of more) (new k)))) is
+        (either login (part ∷ more) (nat_lt (context_of p.talk).terms.limit (length (response login payload))) _ _ _ _ (λ _. (refl, here)) (λ _. (refl, heard_at k e good)))
+
+    plain_follows : (k : Kind) → kind_of p.talk payload ≡ k → is_bad k ≡ false
+        → TurnIs login (part ∷ more) (code_kind part k row (heard login k payload rest s)) (after_kind (part_of part) (map part_of more) k (new k) (ToldRow row))
+    plain_follows k e good = let at = heard_at k e good in kind_follows login part more (new k) row n at.arranged_is at.fits at.login_is (heard login k payload rest s) at.stand_is k
+
+    payload_follows : (k : Kind) → kind_of p.talk payload ≡ k → Reads k
+    payload_follows kinds.Bad e = (refl, here)
+    payload_follows kinds.Failed e = err_follows e (err_at (is_greeting (context_of p.talk).spot) payload)
+    payload_follows (kinds.Greets c) e = greeting_follows (kinds.Greets c) e refl (limit_of p.talk) (limit_is p.talk)
+    payload_follows (kinds.Good status) e = plain_follows (kinds.Good status) e refl
+    payload_follows (kinds.Count c) e = plain_follows (kinds.Count c) e refl
+    payload_follows kinds.Column e = plain_follows kinds.Column e refl
+    payload_follows kinds.ColumnsDone e = plain_follows kinds.ColumnsDone e refl
+    payload_follows kinds.Row e = plain_follows kinds.Row e refl
+    payload_follows (kinds.End status) e = plain_follows (kinds.End status) e refl
+
+  reads_follow : (part : CodePart) (more : List CodePart) → TurnIs login (part ∷ more) (code_reads login part s) (reads login (part_of part) (map part_of more) p)
+  reads_follow part more = subst (λ l. TurnIs login (part ∷ more) (code_front login part s (front_at (number_of (turns p.talk)) l p.unread)) (reads login (part_of part) (map part_of more) p)) (sym (limit_is p.talk))
+      (by_front (front_of p.talk p.unread) refl)
+    where
+      by_front : (x : Front) → front_of p.talk p.unread ≡ x → TurnIs login (part ∷ more) (code_front login part s x) (with_front login (part_of part) (map part_of more) p x)
+      by_front Waiting e = (refl, here)
+      by_front (Broken fault) e = (refl, here)
+      by_front (Whole payload rest next) e = payload_follows part more payload rest next e (kind_of p.talk payload) refl
+
+  -- a command of this exchange
+  asks_follows : (call : Call) (more : List CodePart) (talk : Talk) (t : Turn) (m : ℕ) → IsAt login (with_exchange p call talk) t.stand → t.does ≡ steps.Passes
+      → TurnIs login (parts.Command ∷ more)
+      (cond (nat_lt (limit_of talk) (length (command_in talk))) (turn (steps.Stops (code_stops.Returns (endings.Failed (codec_error (TooLarge (length (command_in talk)) (limit_of talk)))))) s) t)
+      (with_command call (map part_of more) p (Some talk))
+  asks_follows call more talk t m at passes = either login (parts.Command ∷ more) (nat_lt (limit_of talk) (length (command_in talk))) _ _ _ _ (λ _. (refl, here))
+      (λ _. subst (λ d. Follows login (parts.Command ∷ more) t.stand d (Goes (map part_of more) (with_exchange p call talk))) (sym passes) (refl, at))
+
+  -- an exchange of a call that doesn't connect
+  asked_at : (call : Call) (talk : Talk) (t : Stand) (m : ℕ) → t ≡ stand_of login (with_exchange p call talk) m → t.arranged ≡ m → connects_in (exchanges (with_exchange p call talk)) ≡ suc m → Fits talk → login_in login talk ≡ login
+      → IsAt login (with_exchange p call talk) t
+  asked_at call talk t m is count connects f l = record { stand_is = is ∙ ap (stand_of login (with_exchange p call talk)) (sym count); arranged_is = connects ∙ ap suc (sym count); fits = f; login_is = l }
+
+  abbrev terms : Terms
+  terms = terms_of login (exchanges p)
+
+  arranges_follow : (more : List CodePart) (x : Option (List ℕ)) → TurnIs login (parts.Command ∷ more) (arranges x s) (with_command calls.Connect (map part_of more) p (query_of terms x))
+  arranges_follow more None = (refl, here)
+  arranges_follow more (Some text) =
+      let talk : Talk = Queried terms (packet_bytes (packets.Query text)) NoSets in
+      asks_follows calls.Connect more talk (turn steps.Passes (asked spots.Head (packet_bytes (packets.Query text)) (suc n) s)) (suc n)
+      (asked_at calls.Connect talk _ (suc n) refl refl (ap suc arranged) (record { kinds = tt; within = tt }) refl) refl
+
+  commands_follow : (call : Call) (more : List CodePart) → TurnIs login (parts.Command ∷ more) (commands call s) (with_command call (map part_of more) p (next_exchange login call p))
+  commands_follow calls.Connect more = subst (λ k. TurnIs login (parts.Command ∷ more) (commands calls.Connect s) (with_command calls.Connect (map part_of more) p (connecting login terms k))) (sym arranged)
+      (arranges_follow more (slice_get (arranging_texts login) n))
+  commands_follow (calls.Query text) more =
+      let talk : Talk = Queried terms (packet_bytes (packets.Query text)) NoSets in
+      asks_follows (calls.Query text) more talk (turn steps.Passes (asked spots.Head (packet_bytes (packets.Query text)) n s)) n
+      (asked_at (calls.Query text) talk _ n refl refl arranged (record { kinds = tt; within = tt }) refl) refl
+  commands_follow calls.NextRow more = (refl, here)
+  commands_follow calls.DropResult more = (refl, here)
+  commands_follow calls.Ping more =
+      let talk : Talk = Asked terms (packet_bytes packets.Ping) in
+      asks_follows calls.Ping more talk (turn steps.Passes (asked spots.Single (packet_bytes packets.Ping) n s)) n
+      (asked_at calls.Ping talk _ n refl refl arranged (record { kinds = tt; within = tt }) refl) refl
+  commands_follow calls.Quit more =
+      let talk : Talk = Silent terms (packet_bytes packets.Quit) in
+      asks_follows calls.Quit more talk (turn steps.Passes (asked spots.Idle (packet_bytes packets.Quit) n s)) n
+      (asked_at calls.Quit talk _ n refl refl arranged (record { kinds = tt; within = tt }) refl) refl
+
+  begins_follow : (call : Call) (left : List CodePart) → TurnIs login left (begins login call left s) (step_of login call (map part_of left) p)
+  begins_follow call [] = (refl, here)
+  begins_follow call (parts.Command ∷ more) = commands_follow call more
+  begins_follow call (parts.All ∷ more) = either login (parts.All ∷ more) p.end_left _ _ _ _ (λ _. (refl, at_no_end login p n arranged fits same))
+      (λ _. either login (parts.All ∷ more) (is_over p.talk) _ _ _ _ (λ _. (refl, here)) (λ _. reads_follow parts.All more))
+  begins_follow call (parts.Head ∷ more) = either login (parts.Head ∷ more) (is_rows (context_of p.talk).spot) _ _ _ _ (λ _. (refl, here)) (λ _. reads_follow parts.Head more)
+  begins_follow call (parts.Item ∷ more) = either login (parts.Item ∷ more) p.end_left _ _ _ _ (λ _. (refl, at_no_end login p n arranged fits same))
+      (λ _. either login (parts.Item ∷ more) (is_over p.talk) _ _ _ _ (λ _. (refl, here)) (λ _. reads_follow parts.Item more))
+
+  -- while bytes are owed the call waits
+  owing : (left : List CodePart) (x : Step) (bytes : List ℕ) (b : ℕ) (more : List ℕ) → bytes ≡ b ∷ more → TurnIs login left (turn (steps.Stops code_stops.Owes) s) (unless_owed bytes p x)
+  owing left x [] b more e = cc
+  owing left x (d ∷ bytes) b more e = (refl, here)
+
+  settled : (call : Call) (left : List CodePart) (bytes : List ℕ) → bytes ≡ [] → TurnIs login left (begins login call left s) (unless_owed bytes p (step_of login call (map part_of left) p))
+  settled call left [] e = begins_follow call left
+  settled call left (d ∷ bytes) e = cc
+
+  step_follows : (call : Call) (left : List CodePart) → TurnIs login left (code_step login call left s) (step login call (map part_of left) p)
+  unfolding step
+  step_follows call left = by_owed (nat_lt (length p.sent) (length (client_side (exchanges p)))) refl
+    where
+      by_owed : (b : Bool) → nat_lt (length p.sent) (length (client_side (exchanges p))) ≡ b
+          → TurnIs login left (cond b (turn (steps.Stops code_stops.Owes) s) (begins login call left s)) (unless_owed (owed p) p (step_of login call (map part_of left) p))
+      by_owed true e = let some = some_left (length p.sent) (client_side (exchanges p)) (grind (arith, nat_tests)) in owing left (step_of login call (map part_of left) p) (owed p) some.0 some.1 some.2
+      by_owed false e = settled call left (owed p) (none_left (length p.sent) (client_side (exchanges p)) (grind (arith, nat_tests)))
+
+-- a step of the program, wherever it stands
+pub steps_follow : (login : Login) (p : Place) (s : Stand) (call : Call) (left : List CodePart) → IsAt login p s → TurnIs login left (code_step login call left s) (step login call (map part_of left) p)
+steps_follow login p s call left at = subst (λ (x : Stand). TurnIs login left (code_step login call left x) (step login call (map part_of left) p)) (sym at.stand_is)
+    (step_follows login p s.arranged at.arranged_is at.fits at.login_is call left)

@@ -1,0 +1,28 @@
+use Rattle.std.proofs.Common.{◌≡◌, length, arith, ap}
+use Rattle.std.proofs.lemmas.List.{nil_from_length}
+use Rattle.my_judge.proofs.Judged.{at_first, texts_known, goes_on, refutes, accepts}
+use Rattle.my_judge.proofs.judging.judge.Goals as goal
+
+pub calls-init : goal.calls-init
+calls-init c = at_first c.args.login.now c.args.tape.now c.as_slice-left.result.now c.in_ok-reader.reader c.as_slice-left.ensures c.in_ok-reader.ensures
+
+pub take_call-requires : goal.take_call-requires
+take_call-requires c = texts_known c.args.login.now c.args.tape.now c.calls.index c.calls.left.now c.calls.reader c.calls.invariant
+
+pub returns-then-not-branch : goal.returns-then-not-branch
+returns-then-not-branch c = record {
+  exact = refutes c.args.login.now c.args.tape.now c.calls.index c.in-Some.call.now c.calls.left.now c.in-Some.after.now c.calls.reader c.take_call.new.self c.in-Some.ensures.cases.0 c.calls.invariant
+      (rw c.if-not-branch.true at (c.in_ok-take_call.ensures c.calls.invariant.place c.calls.invariant.at));
+}
+
+pub overflow_add-index : goal.overflow_add-index
+overflow_add-index c =
+    let all : length c.as_slice-left.result.now ≡ length c.args.tape.now.calls = ap length c.as_slice-left.ensures in
+    omega (arith, c.calls.invariant.all, c.in-Some.ensures.cases.1, c.as_slice-left.type_inv.0)
+
+pub calls-preserved : goal.calls-preserved
+calls-preserved c = goes_on c.args.login.now c.args.tape.now c.calls.index c.in-Some.call.now c.calls.left.now c.in-Some.after.now c.calls.reader c.take_call.new.self c.in-Some.ensures.cases.0 c.calls.invariant
+    (rw c.if-not-branch.false at (c.in_ok-take_call.ensures c.calls.invariant.place c.calls.invariant.at))
+
+pub returns : goal.returns
+returns c = record { exact = accepts c.args.login.now c.args.tape.now c.calls.index c.calls.left.now c.calls.reader (nil_from_length c.calls.left.now c.in_default.ensures.cases) c.calls.invariant }

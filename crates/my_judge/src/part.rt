@@ -1,0 +1,67 @@
+//! The parts of a call.
+
+ghost use Rattle.std.specs.Prelude.{◌≡◌, IfOk, drop, map};
+ghost use Rattle.my_reading.specs.Commands.{arranging_texts};
+ghost use Rattle.my_reading.specs.Course.{parts_of};
+ghost use Rattle.my_judge.specs.Parts.{connecting_parts, part_of};
+
+use my_frame::{Blob, NoMemory};
+use my_grammar::Login;
+use my_reading::Call;
+use std::alloc::Global;
+
+/// A part of a call.
+#[derive(Clone, Copy, Debug, PartialEq, Eq)]
+pub enum Part {
+    /// The rest of the newest exchange is read.
+    All,
+    /// It is read to the head of its first set.
+    Head,
+    /// It is read to its next row or end.
+    Item,
+    /// The call's next command is sent.
+    Command,
+}
+
+// The parts of connecting, with these queries that set the connection up.
+fn connecting_parts(alloc: Global, texts: &[Blob]) -> Result<Vec<Part>, NoMemory>
+    ensures { IfOk result (λ parts. map part_of parts.items ≡ connecting_parts texts.now) }
+{
+    let mut parts = Vec::new(alloc);
+    parts.push(Part::All)?;
+    for _text in texts {
+        parts.push(Part::Command)?;
+        parts.push(Part::All)?;
+    }
+    Ok(parts)
+}
+
+/// The parts of a call, in order. `texts` are the queries that set a connection up.
+pub fn parts_of(
+    alloc: Global,
+    login: &Login,
+    texts: &[Blob],
+    call: &Call,
+) -> Result<Vec<Part>, NoMemory>
+    requires { texts.now ≡ arranging_texts login.now }
+    ensures { IfOk result (λ parts. map part_of parts.items ≡ parts_of login.now call.now) }
+{
+    match call {
+        Call::Connect => connecting_parts(alloc, texts),
+        Call::Query(_) => Ok(vec![in alloc; Part::All, Part::Command, Part::Head]?),
+        Call::NextRow => Ok(vec![in alloc; Part::Item]?),
+        Call::DropResult => Ok(vec![in alloc; Part::All]?),
+        Call::Ping => Ok(vec![in alloc; Part::All, Part::Command, Part::All]?),
+        Call::Quit => Ok(vec![in alloc; Part::All, Part::Command]?),
+    }
+}
+
+/// All but the first part.
+pub fn after_first(parts: &[Part]) -> &[Part]
+    ensures { result.now ≡ drop 1 parts.now }
+{
+    match parts.split_first() {
+        Some((_, rest)) => rest,
+        None => parts,
+    }
+}

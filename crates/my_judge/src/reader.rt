@@ -1,0 +1,207 @@
+//! The calls of a tape, read one after the other.
+
+ghost use Rattle.std.specs.Prelude.{◌≡◌, ◌&&◌, ◌||◌, IfOk, map, not};
+ghost use Rattle.std.specs.Option.{option_map};
+ghost use Rattle.my_reading.specs.Calls.{is_connect, is_quit, kind_of};
+ghost use Rattle.my_reading.specs.Commands.{arranging_texts};
+ghost use Rattle.my_reading.specs.Endings.{is_empty};
+ghost use Rattle.my_reading.specs.Reading.{closed_answer, is_closing};
+ghost use Rattle.my_reading.specs.Tape.{between, sent_to, taken_to};
+ghost use Rattle.my_reading.specs.Told.{closes, closes_by};
+ghost use Rattle.my_judge.specs.Reads.{IsRead, IsTaken, StopIs, may_stand, span_of, with_span};
+ghost use Rattle.my_judge.specs.Tapes.{call_of, tape_of, told_of};
+
+use crate::stand::Stand;
+use crate::step::Stop;
+use crate::tape::{Ending, Tape, TapeCall};
+use my_frame::NoMemory;
+use my_grammar::Login;
+use my_reading::{Answer, Call, CallKind, DriverError, Error};
+use std::alloc::Global;
+
+/// Where the reading of a tape is, and whether the connection is closed.
+#[derive(Drop)]
+pub struct Reader {
+    pub stand: Stand,
+    pub closed: bool,
+}
+
+// What a call on a closed connection returns.
+fn closed_answer(call: &Call) -> Ending
+    ensures { told_of result ≡ closed_answer call.now }
+{
+    match call {
+        Call::Quit => Ending::Answered(Answer::Ready),
+        _ => Ending::Failed(Error::Driver(DriverError::ConnectionClosed)),
+    }
+}
+
+fn is_quit(kind: CallKind) -> bool
+    ensures { result ≡ is_quit kind }
+{
+    match kind {
+        CallKind::Quit => true,
+        _ => false,
+    }
+}
+
+fn is_connect(kind: CallKind) -> bool
+    ensures { result ≡ is_connect kind }
+{
+    match kind {
+        CallKind::Connect => true,
+        _ => false,
+    }
+}
+
+// Whether the error closes a connection.
+fn closes_by(error: &Error, kind: CallKind) -> bool
+    ensures { result ≡ closes_by error.now kind }
+{
+    match error {
+        Error::Driver(DriverError::ConnectionClosed) => false,
+        Error::Driver(_) | Error::Io(_) | Error::NoMemory => true,
+        Error::Server(_) => is_connect(kind),
+    }
+}
+
+// Whether a call that ended so closes the connection.
+fn closes(ending: &Ending, kind: CallKind) -> bool
+    ensures { result ≡ closes (told_of ending.now) kind }
+{
+    match ending {
+        Ending::Answered(Answer::Ready) => is_quit(kind),
+        Ending::Answered(_) => false,
+        Ending::Failed(error) => closes_by(error, kind),
+        Ending::Cancelled(closing) => *closing,
+    }
+}
+
+fn is_closing(call: &TapeCall) -> bool
+    ensures { result ≡ is_closing call.now.call (option_map told_of call.now.ending) }
+{
+    match &call.ending {
+        Some(ending) => closes(ending, call.call.kind()),
+        None => false,
+    }
+}
+
+fn is_empty(bytes: &[u8]) -> bool
+    ensures { result ≡ is_empty bytes.now }
+{
+    match bytes {
+        [] => true,
+        _ => false,
+    }
+}
+
+// On a closed connection nothing is sent or received.
+fn is_quiet(closed: bool, sent: &[u8], taken: &[u8]) -> bool
+    ensures { result ≡ not closed || (is_empty sent.now && is_empty taken.now) }
+{
+    !closed || (is_empty(sent) && is_empty(taken))
+}
+
+// The bytes from one place to another.
+fn between(bytes: &[u8], from: usize, to: usize) -> &[u8]
+    ensures { result.now ≡ between from to bytes.now }
+{
+    let start = from.min(bytes.len());
+    let (_, rest) = bytes.split_at(start);
+    let count = to.saturating_sub(from).min(rest.len());
+    let (front, _) = rest.split_at(count);
+    front
+}
+
+// What was sent while the call was open, before these.
+fn sent_in<'a>(tape: &'a Tape, call: &TapeCall, after: &[TapeCall]) -> &'a [u8]
+    ensures { let end = sent_to (tape_of tape.now) (map call_of after.now) in
+        result.now ≡ between call.now.sent_from end tape.now.sent }
+{
+    let end = match after.first() {
+        Some(next) => next.sent_from,
+        None => tape.sent.len(),
+    };
+    between(tape.sent.as_slice(), call.sent_from, end)
+}
+
+// What was received while the call was open, before these.
+fn taken_in<'a>(tape: &'a Tape, call: &TapeCall, after: &[TapeCall]) -> &'a [u8]
+    ensures { let end = taken_to (tape_of tape.now) (map call_of after.now) in
+        result.now ≡ between call.now.taken_from end tape.now.taken }
+{
+    let end = match after.first() {
+        Some(next) => next.taken_from,
+        None => tape.taken.len(),
+    };
+    between(tape.taken.as_slice(), call.taken_from, end)
+}
+
+// The first call connects, and no other does.
+fn may_stand(index: usize, kind: CallKind) -> bool
+    ensures { result ≡ may_stand index kind }
+{
+    if index == 0 {
+        is_connect(kind)
+    } else {
+        !is_connect(kind)
+    }
+}
+
+impl Reader {
+    // Where the call stops.
+    fn stop(&mut self, alloc: Global, login: &Login, call: &Call) -> Result<Stop, NoMemory>
+        requires { self.old.stand.texts ≡ arranging_texts login.now }
+        ensures stop { IfOk result (λ stop. StopIs login.now call.now self.old stop self.new) }
+        ensures closed { self.new.closed ≡ self.old.closed }
+    {
+        if self.closed {
+            return Ok(Stop::Returns(closed_answer(call)));
+        }
+        self.stand.course(alloc, login, call)
+    }
+
+    // Reads a call over its bytes, and returns whether it is right.
+    fn read_call(
+        &mut self,
+        alloc: Global,
+        login: &Login,
+        call: &TapeCall,
+        sent: &[u8],
+        taken: &[u8],
+    ) -> Result<bool, NoMemory>
+        requires { self.old.stand.texts ≡ arranging_texts login.now }
+        ensures { let span = with_span (call_of call.now) sent.now taken.now in
+            IfOk result (λ right. IsRead login.now span self.old right self.new) }
+    {
+        self.stand.add_bytes(sent, taken)?;
+        let stop = self.stop(alloc, login, &call.call)?;
+        let ends = self.stand.ends_so(call.call.kind(), &stop, &call.ending);
+        let said = self.stand.is_sent_right();
+        let quiet = is_quiet(self.closed, sent, taken);
+        self.closed |= is_closing(call);
+        Ok(ends & said & quiet)
+    }
+
+    /// Reads the call at this place of a tape, before these, and returns whether it is right.
+    pub fn take_call(
+        &mut self,
+        alloc: Global,
+        login: &Login,
+        tape: &Tape,
+        index: usize,
+        call: &TapeCall,
+        after: &[TapeCall],
+    ) -> Result<bool, NoMemory>
+        requires { self.old.stand.texts ≡ arranging_texts login.now }
+        ensures { let span = span_of (tape_of tape.now) (call_of call.now) (map call_of after.now) in
+            IfOk result (λ right. IsTaken login.now index span self.old right self.new) }
+    {
+        if !may_stand(index, call.call.kind()) {
+            return Ok(false);
+        }
+        let sent = sent_in(tape, call, after);
+        let taken = taken_in(tape, call, after);
+        self.read_call(alloc, login, call, sent, taken)
+    }
+}

@@ -1,0 +1,74 @@
+//! Where the reading of a connection stands, as far as later bytes and calls depend on it.
+
+ghost use Rattle.std.specs.Prelude.{◌≡◌, ◌++◌, IfOk, OnOk, length, nat_lt};
+ghost use Rattle.my_reading.specs.Place.{first_place};
+ghost use Rattle.my_judge.specs.Stands.{IsAt, with_bytes};
+
+mod asking;
+mod course;
+mod ending;
+mod reading;
+mod stepping;
+
+use crate::texts::arranging_texts;
+use my_frame::{Blob, Listed, NoMemory};
+use my_grammar::{Context, Login, Queue};
+use my_reading::Facts;
+use std::alloc::Global;
+
+/// Where the reading stands.
+#[derive(Drop)]
+pub struct Stand {
+    /// What the newest exchange awaits.
+    pub context: Context,
+    /// The sequence id of the next packet.
+    pub number: u8,
+    /// What the server said so far.
+    pub facts: Facts,
+    /// The queries that set the connection up.
+    pub texts: Listed<Blob>,
+    /// How many of them were begun.
+    pub arranged: usize,
+    /// Whether the end of a lone OK is left for a read to return.
+    pub end_left: bool,
+    /// Bytes that were received and not read.
+    pub unread: Queue,
+    /// What the client says in the exchanges.
+    pub said: Queue,
+    /// What was sent.
+    pub sent: Queue,
+}
+
+impl Stand {
+    /// Before the first call.
+    pub fn first(alloc: Global, login: &Login) -> Result<Stand, NoMemory>
+        ensures { IfOk result (λ s. IsAt login.now (first_place login.now) s) }
+    {
+        Ok(Stand {
+            context: Context::start(login),
+            number: 0,
+            facts: Facts::new(alloc, login)?,
+            texts: arranging_texts(alloc, login)?,
+            arranged: 0,
+            end_left: false,
+            unread: Queue::new(alloc),
+            said: Queue::new(alloc),
+            sent: Queue::new(alloc),
+        })
+    }
+
+    /// Bytes were sent and received.
+    pub fn add_bytes(&mut self, sent: &[u8], taken: &[u8]) -> Result<(), NoMemory>
+        ensures { OnOk result (self.new ≡ with_bytes sent.now taken.now self.old) }
+    {
+        self.sent.push(sent)?;
+        self.unread.push(taken)
+    }
+
+    /// Whether bytes are to be sent.
+    pub fn owes(&self) -> bool
+        ensures { result ≡ nat_lt (length self.now.sent) (length self.now.said) }
+    {
+        self.sent.len() < self.said.len()
+    }
+}

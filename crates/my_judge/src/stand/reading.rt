@@ -1,0 +1,276 @@
+//! The payload in front is read.
+
+ghost use Rattle.std.specs.Prelude.{◌≡◌, [], ◌++◌, ◌≤◌, IfOk, OnOk, drop, length};
+ghost use Rattle.my_frame.specs.Chunks.{number_after_payload};
+ghost use Rattle.my_grammar.specs.Growth.{number_next, said};
+ghost use Rattle.my_grammar.specs.Kinds.{kind_there};
+ghost use Rattle.my_grammar.specs.Response.{response};
+ghost use Rattle.my_reply.specs.ErrPacket.{err_at};
+ghost use Rattle.my_reading.specs.Course.{is_greeting};
+ghost use Rattle.my_reading.specs.Errors.{server_error};
+ghost use Rattle.my_reading.specs.Rows.{row_of};
+ghost use Rattle.my_judge.specs.Stands.{Comes, failure, heard, reads, read_payload, unfit};
+ghost use Rattle.my_judge.specs.Stands.{after_err, after_greeting, after_kind};
+
+use super::Stand;
+use crate::part::Part;
+use crate::step::{Step, Stop};
+use crate::tape::Ending;
+use my_frame::{
+    CodecError, CodecFault, FramedPayload, NoMemory, ReadError, Text, payload_in_front,
+};
+use my_grammar::{Kind, Login, Spot, kind_at, login_response};
+use my_reading::{Answer, Error, IoError, IoFault, IoKind, ServerError};
+use my_reply::{ErrPacket, read_err};
+use my_value::{Row, read_text_row};
+use std::alloc::Global;
+use std::sync::Arc;
+
+// What an ERR says.
+fn server_error(alloc: Global, packet: ErrPacket) -> Result<ServerError, NoMemory>
+    ensures { IfOk result (λ e. e ≡ server_error packet) }
+{
+    let state = Text::from_utf8_lossy(alloc, &packet.state)?;
+    Ok(ServerError {
+        code: packet.code,
+        state,
+        message: packet.message,
+    })
+}
+
+// The call fails so.
+fn failure(error: Error) -> Step
+    ensures { result ≡ failure error }
+{
+    Step::Stops(Stop::Returns(Ending::Failed(error)))
+}
+
+/// The call fails by a fault of packets.
+pub(super) fn codec_failure(fault: CodecFault) -> Step
+    ensures { result ≡ failure (Error.Io (IoError.Codec fault)) }
+{
+    failure(Error::Io(IoError::Codec(fault)))
+}
+
+/// The call returns this answer.
+pub(super) fn answered(answer: Answer) -> Step
+    ensures { result ≡ Step.Stops (Stop.Returns (Ending.Answered answer)) }
+{
+    Step::Stops(Stop::Returns(Ending::Answered(answer)))
+}
+
+fn is_greeting(spot: Spot) -> bool
+    ensures { result ≡ is_greeting spot }
+{
+    match spot {
+        Spot::Greeting => true,
+        _ => false,
+    }
+}
+
+impl Stand {
+    // A payload that fits no case.
+    fn unfit(&self) -> Step
+        ensures { result ≡ unfit self.now }
+    {
+        failure(Error::Io(IoError::Io(IoFault {
+            kind: IoKind::InvalidData,
+            place: self.facts.place,
+        })))
+    }
+
+    // What the client says at once after a payload, and the next sequence id.
+    fn say(
+        &mut self,
+        alloc: Global,
+        login: &Login,
+        kind: Kind,
+        payload: &[u8],
+        next: u8,
+    ) -> Result<(), NoMemory>
+        requires { next ≡ number_after_payload payload.now self.old.number }
+        ensures { let s = self.old in
+            let all = s.said ++ said login.now kind payload.now s.number in
+            let number = number_next login.now kind payload.now s.number in
+            OnOk result (self.new ≡ record s { said = all; number = number }) }
+    {
+        match kind {
+            Kind::Greets(_) => {
+                let response = login_response(alloc, login, payload)?;
+                self.number = self.said.push_payload(response.as_slice(), next)?;
+            }
+            _ => self.number = next,
+        }
+        Ok(())
+    }
+
+    // The payload that was found is read.
+    fn hear(
+        &mut self,
+        alloc: Global,
+        login: &Login,
+        kind: Kind,
+        found: &FramedPayload,
+    ) -> Result<(), NoMemory>
+        requires next { found.now.span.next ≡ number_after_payload found.now.payload self.old.number }
+        requires fits { found.now.span.len ≤ length self.old.unread }
+        ensures { let s = self.old in
+            let rest = drop found.now.span.len s.unread in
+            OnOk result (self.new ≡ heard login.now kind found.now.payload rest s) }
+    {
+        let payload = found.payload.as_slice();
+        self.say(alloc, login, kind, payload, found.span.next)?;
+        self.facts.learn(alloc, kind, payload)?;
+        self.context = self.context.after(kind);
+        self.end_left = false;
+        self.unread.skip(found.span.len);
+        Ok(())
+    }
+
+    // A row without cells.
+    fn empty_row(&self, alloc: Global) -> Result<Row, NoMemory>
+        ensures { IfOk result (λ row. row ≡ record { cells = []; columns = self.now.facts.columns }) }
+    {
+        let columns = Arc::try_clone(self.facts.columns.shared())?;
+        Ok(Row::new(Vec::new(alloc), columns))
+    }
+
+    // The payload as a row.
+    fn row(&self, alloc: Global, payload: &[u8]) -> Result<Row, NoMemory>
+        ensures { IfOk result (λ row. row ≡ row_of self.now.facts.columns payload.now) }
+    {
+        match read_text_row(alloc, payload, self.facts.columns.shared()) {
+            Ok(row) => Ok(row),
+            Err(ReadError::Malformed) => self.empty_row(alloc),
+            Err(ReadError::NoMemory) => Err(NoMemory),
+        }
+    }
+
+    // What the part comes to after a payload of this kind, which is this row.
+    fn after_kind(&mut self, part: Part, kind: Kind, row: Row) -> Step
+        ensures { Comes (after_kind part kind row self.old) result self.new }
+    {
+        match (part, kind) {
+            (Part::Head, Kind::Good(_)) => {
+                self.end_left = true;
+                Step::Passes
+            }
+            (Part::Item, Kind::Good(_)) => answered(Answer::SetEnd),
+            (Part::Item, Kind::End(_)) => answered(Answer::SetEnd),
+            (Part::Item, Kind::Row) => answered(Answer::Row(row)),
+            _ => Step::Stays,
+        }
+    }
+
+    // The server's error ends the call.
+    fn refuse(
+        &mut self,
+        alloc: Global,
+        login: &Login,
+        found: &FramedPayload,
+    ) -> Result<Step, NoMemory>
+        requires next { found.now.span.next ≡ number_after_payload found.now.payload self.old.number }
+        requires fits { found.now.span.len ≤ length self.old.unread }
+        ensures { let s = self.old in
+            let packet = err_at (is_greeting s.context.spot) found.now.payload in
+            let new = heard login.now Kind.Failed found.now.payload (drop found.now.span.len s.unread) s in
+            IfOk result (λ step. Comes (after_err packet s new) step self.new) }
+    {
+        let payload = found.payload.as_slice();
+        match read_err(alloc, payload, is_greeting(self.context.spot)) {
+            Ok(packet) => {
+                let error = server_error(alloc, packet)?;
+                self.hear(alloc, login, Kind::Failed, found)?;
+                Ok(failure(Error::Server(error)))
+            }
+            Err(ReadError::Malformed) => Ok(self.unfit()),
+            Err(ReadError::NoMemory) => Err(NoMemory),
+        }
+    }
+
+    // The greeting is read, unless the response to it is above the limit.
+    fn greet(
+        &mut self,
+        alloc: Global,
+        login: &Login,
+        kind: Kind,
+        found: &FramedPayload,
+    ) -> Result<Step, NoMemory>
+        requires next { found.now.span.next ≡ number_after_payload found.now.payload self.old.number }
+        requires fits { found.now.span.len ≤ length self.old.unread }
+        ensures { let s = self.old in
+            let len = length (response login.now found.now.payload) in
+            let new = heard login.now kind found.now.payload (drop found.now.span.len s.unread) s in
+            IfOk result (λ step. Comes (after_greeting len s new) step self.new) }
+    {
+        let limit = self.context.terms.limit;
+        let length = login_response(alloc, login, found.payload.as_slice())?.len() as u64;
+        if length > limit {
+            return Ok(codec_failure(CodecFault::TooLarge { length, limit }));
+        }
+        self.hear(alloc, login, kind, found)?;
+        Ok(Step::Stays)
+    }
+
+    // A payload of another kind is read.
+    fn go_on(
+        &mut self,
+        alloc: Global,
+        login: &Login,
+        part: Part,
+        kind: Kind,
+        found: &FramedPayload,
+    ) -> Result<Step, NoMemory>
+        requires next { found.now.span.next ≡ number_after_payload found.now.payload self.old.number }
+        requires fits { found.now.span.len ≤ length self.old.unread }
+        ensures { let s = self.old in
+            let row = row_of s.facts.columns found.now.payload in
+            let new = heard login.now kind found.now.payload (drop found.now.span.len s.unread) s in
+            IfOk result (λ step. Comes (after_kind part kind row new) step self.new) }
+    {
+        let row = self.row(alloc, found.payload.as_slice())?;
+        self.hear(alloc, login, kind, found)?;
+        Ok(self.after_kind(part, kind, row))
+    }
+
+    // The payload that was found is read.
+    fn read_payload(
+        &mut self,
+        alloc: Global,
+        login: &Login,
+        part: Part,
+        found: &FramedPayload,
+    ) -> Result<Step, NoMemory>
+        requires next { found.now.span.next ≡ number_after_payload found.now.payload self.old.number }
+        requires fits { found.now.span.len ≤ length self.old.unread }
+        ensures { let s = self.old in
+            let rest = drop found.now.span.len s.unread in
+            IfOk result (λ step. Comes (read_payload login.now part found.now.payload rest s) step self.new) }
+    {
+        let kind = kind_at(self.context, found.payload.as_slice());
+        match kind {
+            Kind::Bad => Ok(self.unfit()),
+            Kind::Failed => self.refuse(alloc, login, found),
+            Kind::Greets(_) => self.greet(alloc, login, kind, found),
+            _ => self.go_on(alloc, login, part, kind, found),
+        }
+    }
+
+    /// The payload in front is read.
+    pub(super) fn read(
+        &mut self,
+        alloc: Global,
+        login: &Login,
+        part: Part,
+    ) -> Result<Step, NoMemory>
+        ensures { IfOk result (λ step. Comes (reads login.now part self.old) step self.new) }
+    {
+        let limit = self.context.terms.limit;
+        match payload_in_front(alloc, self.unread.as_slice(), self.number, limit) {
+            Ok(None) => Ok(Step::Stops(Stop::Awaits)),
+            Ok(Some(found)) => self.read_payload(alloc, login, part, &found),
+            Err(CodecError::Fault(fault)) => Ok(codec_failure(fault)),
+            Err(CodecError::NoMemory) => Err(NoMemory),
+        }
+    }
+}

@@ -1,0 +1,95 @@
+//! One step of a call.
+
+ghost use Rattle.std.specs.Prelude.{◌≡◌, ◌∷◌, [], IfOk};
+ghost use Rattle.my_grammar.specs.Cut.{is_idle};
+ghost use Rattle.my_reading.specs.Course.{is_rows};
+ghost use Rattle.my_judge.specs.Stands.{Comes, begins, steps};
+
+use super::Stand;
+use super::reading::answered;
+use crate::part::Part;
+use crate::step::{Step, Stop};
+use my_frame::NoMemory;
+use my_grammar::{Login, Spot};
+use my_reading::{Answer, Call};
+use std::alloc::Global;
+
+fn is_idle(spot: Spot) -> bool
+    ensures { result ≡ is_idle spot }
+{
+    match spot {
+        Spot::Idle => true,
+        _ => false,
+    }
+}
+
+fn is_rows(spot: Spot) -> bool
+    ensures { result ≡ is_rows spot }
+{
+    match spot {
+        Spot::Rows => true,
+        _ => false,
+    }
+}
+
+impl Stand {
+    // The rest of the newest exchange is read.
+    fn read_all(&mut self, alloc: Global, login: &Login, call: &Call) -> Result<Step, NoMemory>
+        ensures { IfOk result (λ step. Comes (begins login.now call.now (Part.All ∷ []) self.old) step self.new) }
+    {
+        if self.end_left {
+            self.end_left = false;
+            return Ok(Step::Stays);
+        }
+        if is_idle(self.context.spot) {
+            return Ok(Step::Passes);
+        }
+        self.read(alloc, login, Part::All)
+    }
+
+    // The newest exchange is read to the head of its first set.
+    fn read_head(&mut self, alloc: Global, login: &Login, call: &Call) -> Result<Step, NoMemory>
+        ensures { IfOk result (λ step. Comes (begins login.now call.now (Part.Head ∷ []) self.old) step self.new) }
+    {
+        if is_rows(self.context.spot) {
+            return Ok(Step::Passes);
+        }
+        self.read(alloc, login, Part::Head)
+    }
+
+    // The newest exchange is read to its next row or end.
+    fn read_item(&mut self, alloc: Global, login: &Login, call: &Call) -> Result<Step, NoMemory>
+        ensures { IfOk result (λ step. Comes (begins login.now call.now (Part.Item ∷ []) self.old) step self.new) }
+    {
+        if self.end_left {
+            self.end_left = false;
+            return Ok(answered(Answer::SetEnd));
+        }
+        if is_idle(self.context.spot) {
+            return Ok(answered(Answer::NoSet));
+        }
+        self.read(alloc, login, Part::Item)
+    }
+
+    /// One step of a call of which these parts are left.
+    pub fn step(
+        &mut self,
+        alloc: Global,
+        login: &Login,
+        call: &Call,
+        parts: &[Part],
+    ) -> Result<Step, NoMemory>
+        ensures { IfOk result (λ step. Comes (steps login.now call.now parts.now self.old) step self.new) }
+    {
+        if self.owes() {
+            return Ok(Step::Stops(Stop::Owes));
+        }
+        match parts {
+            [] => Ok(answered(Answer::Ready)),
+            [Part::All, ..] => self.read_all(alloc, login, call),
+            [Part::Head, ..] => self.read_head(alloc, login, call),
+            [Part::Item, ..] => self.read_item(alloc, login, call),
+            [Part::Command, ..] => self.command(alloc, call),
+        }
+    }
+}

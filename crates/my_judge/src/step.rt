@@ -1,0 +1,24 @@
+//! What a step of a call comes to.
+
+use crate::tape::Ending;
+
+/// Where a call stops.
+#[derive(Debug, Drop, PartialEq, Eq)]
+pub enum Stop {
+    /// Bytes are to be sent.
+    Owes,
+    /// More bytes are awaited.
+    Awaits,
+    /// It returns this.
+    Returns(Ending),
+}
+
+/// One step of a call.
+#[derive(Debug, Drop, PartialEq, Eq)]
+pub enum Step {
+    /// It goes on with the same part.
+    Stays,
+    /// It goes on with the next part.
+    Passes,
+    Stops(Stop),
+}
