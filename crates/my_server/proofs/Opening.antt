@@ -92,7 +92,7 @@ length-fitted : (nonce : List ℕ) → length (fitted nonce) ≤ 20
 unfolding fitted
 length-fitted nonce = simp length-take (omega arith)
 
-greeting_is_short : (script : ServerScript) → is_served script ≡ true → length (greeting_payload script) ≤ 400
+pub greeting_is_short : (script : ServerScript) → is_served script ≡ true → length (greeting_payload script) ≤ 400
 greeting_is_short script served =
     let short = (version_parts script.version (served_parts script served).0).0 in
     let a = length-text0 script.version in

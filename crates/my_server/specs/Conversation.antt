@@ -16,8 +16,8 @@ use Rattle.my_grammar.specs.declared.spot.Kind.TheVariants as kinds
 use Rattle.my_grammar.specs.declared.spot.Terms.{Terms}
 use Rattle.my_grammar.specs.Response.{response}
 use Rattle.my_grammar.specs.Sets.{SetHead, Sets, NoSets, Lone, Failed, Ended}
-use Rattle.my_grammar.specs.Talk.{Talk, Start, Settled, Asked, Replied, Queried, Silent}
-use Rattle.my_grammar.specs.Cut.{Trailing, cut}
+use Rattle.my_grammar.specs.Talk.{Talk, Start, Greeted, Settled, Asked, Replied, Queried, Silent}
+use Rattle.my_grammar.specs.Cut.{Trailing, Unfinished, cut}
 use Rattle.my_server.specs.declared.answer.TheConstants.{DONE}
 use Rattle.my_server.specs.declared.command.CommandKind.{CommandKind}
 use Rattle.my_server.specs.declared.command.CommandKind.TheVariants as commands
@@ -152,3 +152,9 @@ pub record IsHeard (login : Login) (limit : ℕ) (s : Served) (h : History) : Ty
       ≡ record { talks = opening ∷ ended; rest = Trailing [] }
   pub opens : MatchBool (admits h.script user) (OpensWell h.script login opening) (OpensBadly h.script login opening)
   pub ends : EndEach h.script (client_terms login limit) h.commands ended
+
+-- What the client reads before its login was read, whatever commands it is to send: the greeting, and nothing after it.
+abbrev pub IsGreeted : Login → List Talk → Served → History → Type 0
+IsGreeted login talks s h =
+    cut (Start login ∷ talks) (h.sent ++ s.owed)
+    ≡ record { talks = Greeted login (greeting_payload h.script) OFFERED ∷ []; rest = Unfinished [] }
