@@ -1,12 +1,12 @@
 -- What a client reads of a server's bytes before its login was read.
-use Rattle.std.proofs.Common.{◌≡◌, inl, inr, ℕ, List, [], ◌∷◌, ◌++◌, Bool, true, false, Option, None, refl, sym, ap, ◌∙◌, arith}
+use Rattle.std.proofs.Common.{◌≡◌, inl, inr, ℕ, List, [], ◌∷◌, ◌++◌, Bool, true, false, None, refl, ap, ◌∙◌, arith}
 use Rattle.std.specs.List.{flat_map}
 use Rattle.std.proofs.lemmas.List.{append-nil}
 use Rattle.my_flags.specs.declared.flags.CapabilityFlags.{CapabilityFlags}
 use Rattle.my_frame.specs.Chunks.{chunks}
 use Rattle.my_frame.specs.Front.{Waiting, front_at, front_from, front_within}
 use Rattle.my_grammar.specs.declared.login.Login.{Login}
-use Rattle.my_grammar.specs.Cut.{Cut, Read, Unfinished, cut, cut_after, front_of, read_from, read_within, rest_in_front}
+use Rattle.my_grammar.specs.Cut.{Cut, Read, cut, cut_after, read_from, read_within, rest_in_front}
 use Rattle.my_grammar.specs.Talk.{Talk, Start, Greeted, Fits, turns, server_bytes}
 use Rattle.my_grammar.proofs.Sound.{exchange_is_cut}
 use Rattle.my_server.specs.declared.greet.TheConstants.{OFFERED}

@@ -1,7 +1,6 @@
 -- What a server's bytes say to a client: the exchanges that the grammar cuts them into, and what the payloads of these hold.
-use Rattle.std.specs.Prelude.{◌≡◌, ℕ, ◌^◌, ◌<◌, ◌≤◌, List, [], ◌∷◌, ◌++◌, length, map, reverse, Bool, true, false, Option, Some, None, MatchBool}
+use Rattle.std.specs.Prelude.{◌≡◌, ℕ, ◌^◌, ◌<◌, ◌≤◌, List, [], ◌∷◌, ◌++◌, length, map, reverse, true, false, Option, Some, None, MatchBool}
 use Rattle.std.specs.List.{AllByRecursion}
-use Rattle.std.specs.Str.{IsUtf8}
 use Rattle.my_flags.specs.Sets.{deprecates_eof, intersection}
 use Rattle.my_reply.specs.declared.ok.OkPacket.{OkPacket}
 use Rattle.my_reply.specs.declared.err.ErrPacket.{ErrPacket}
