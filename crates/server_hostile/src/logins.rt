@@ -84,7 +84,7 @@ fn logins_are_answered(rt: HostRuntime) -> Result<(), Fail> {
     Ok(())
 }
 
-// A login whose packet has only its first `count` bytes is none; where fewer bytes came than the header says, more are needed.
+// A packet of only the first `count` bytes of a login is none; where fewer bytes came than the header says, more are needed.
 #[test]
 fn cut_logins_are_refused(rt: HostRuntime) -> Result<(), Fail> {
     let alloc = rt.alloc();
