@@ -9,3 +9,5 @@ mod logins;
 mod sets;
 #[cfg(test)]
 mod show;
+#[cfg(test)]
+mod visit;

@@ -1,44 +1,23 @@
 //! Scripts whose sets a session reads.
 
-use crate::carry::{PIECES, call, login_of};
-use crate::show::show_query;
-use my_reading::{Call, Error};
-use my_server::ServerCore;
-use my_session::Session;
+use crate::carry::{PIECES, login_of};
+use crate::visit::talk;
 use server_notation::script_of;
 use std::alloc::{AllocError, Global};
 use std::fmt::Write;
 use std::process::Abort;
 use std::test::Fail;
 
-// What is read of the first answer.
-const FIRST: &str = "n/2|0 0 0 2";
+// What is read of the first answer, and what the server says at the end.
+const FIRST: &str = "n/2|0 0 0 2 ";
 
-// Connects, and reads the answers to two queries.
-fn show_answers(
-    alloc: Global,
-    session: &mut Session,
-    server: &mut ServerCore,
-    most: usize,
-    text: &mut String,
-) -> Result<(), Error> {
-    call(alloc, session, server, most, Call::Connect)?;
-    for query in ["A", "B"] {
-        show_query(alloc, session, server, most, query, text)?;
-    }
-    Ok(())
-}
+const LAST: &str = "Closed(Quit)";
 
 // What a session reads of two answers, the second of which is this one.
 fn outcome(alloc: Global, answer: &str, most: usize) -> Result<String, Fail> {
+    let login = login_of(alloc, "root", None)?;
     let script = script_of(alloc, None, &[("A", "n/2"), ("B", answer), ("B", "n/3")])?;
-    let mut server = ServerCore::new(alloc, script)?;
-    let mut session = Session::new(alloc, login_of(alloc, "root", None)?)?;
-    let mut text = String::new(alloc);
-    if let Err(error) = show_answers(alloc, &mut session, &mut server, most, &mut text) {
-        write!(text, "{error}")?;
-    }
-    Ok(text)
+    talk(alloc, login, script, most, &["A", "B"])
 }
 
 fn expect_outcome(rt: &impl Abort, alloc: Global, answer: &str, want: &str) -> Result<(), Fail> {
@@ -53,7 +32,7 @@ fn expect_outcome(rt: &impl Abort, alloc: Global, answer: &str, want: &str) -> R
 // The answer's sets are read as they are written.
 fn expect_sets(rt: &impl Abort, alloc: Global, answer: &str) -> Result<(), Fail> {
     let mut want = String::new(alloc);
-    write!(want, "{answer}|0 0 0 2")?;
+    write!(want, "{answer}|0 0 0 2 {LAST}")?;
     expect_outcome(rt, alloc, answer, want.as_str())
 }
 
@@ -84,11 +63,11 @@ fn sets_are_read(rt: HostRuntime) -> Result<(), Fail> {
 fn answers_are_read(rt: HostRuntime) -> Result<(), Fail> {
     let alloc = rt.alloc();
     for (answer, want) in &[
-        ("ok", "|1 300 2 2"),
-        ("err", "ERROR 1146 (42S02): no table"),
-        ("n", "|0 0 0 2"),
-        ("n|m", "||0 0 0 2"),
-        ("n|m/1|n", "|m/1||0 0 0 2"),
+        ("ok", "|1 300 2 2 Closed(Quit)"),
+        ("err", "ERROR 1146 (42S02): no table Need"),
+        ("n", "|0 0 0 2 Closed(Quit)"),
+        ("n|m", "||0 0 0 2 Closed(Quit)"),
+        ("n|m/1|n", "|m/1||0 0 0 2 Closed(Quit)"),
     ] {
         expect_outcome(&rt, alloc, *answer, *want)?;
     }
@@ -106,6 +85,9 @@ fn ample_sets_are_read(rt: HostRuntime) -> Result<(), Fail> {
     write!(wide, "{names}/{names}")?;
     expect_sets(&rt, alloc, wide.as_str())?;
     let text = outcome(alloc, "n/#16777216/1", usize::MAX)?;
-    assert_eq!(rt; text.as_str(), "n/2|0 0 0 2n/#16777216/1|0 0 0 2");
+    assert_eq!(rt;
+        text.as_str(),
+        "n/2|0 0 0 2 n/#16777216/1|0 0 0 2 Closed(Quit)"
+    );
     Ok(())
 }

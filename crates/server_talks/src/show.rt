@@ -61,7 +61,7 @@ fn show_ok(text: &mut String, ok: Option<&OkPacket>) -> Result<(), NoMemory> {
         let insert = ok.insert;
         let warnings = ok.warnings;
         let status = ok.status.0;
-        write!(text, "{affected} {insert} {warnings} {status}")?;
+        write!(text, "{affected} {insert} {warnings} {status} ")?;
     }
     Ok(())
 }
