@@ -1,19 +1,17 @@
 -- What a client reads of a server's bytes.
-use Rattle.std.proofs.Common.{◌≡◌, ◌≢◌, inl, inr, ℕ, ◌≤◌, List, [], ◌∷◌, ◌++◌, length, map, Bool, true, false, Option, Some, None, refl, sym, ap, subst, ◌∙◌, append_assoc}
+use Rattle.std.proofs.Common.{◌≡◌, ◌≢◌, inl, inr, ℕ, ◌≤◌, List, [], ◌∷◌, ◌++◌, length, map, Bool, true, false, Some, refl, sym, ap, subst, ◌∙◌}
 use Rattle.std.specs.List.{AllByRecursion, flat_map}
-use Rattle.std.proofs.lemmas.List.{append-nil}
 use Rattle.std.proofs.lemmas.List.Concat.{flat_map-cons}
 use Rattle.my_flags.specs.declared.flags.CapabilityFlags.{CapabilityFlags}
-use Rattle.my_flags.specs.Sets.{deprecates_eof, intersection}
+use Rattle.my_flags.specs.Sets.{deprecates_eof}
 use Rattle.my_frame.specs.Chunks.{chunks, number_after_payload}
 use Rattle.my_grammar.specs.declared.login.Login.{Login}
 use Rattle.my_grammar.specs.declared.spot.Terms.{Terms}
-use Rattle.my_grammar.specs.Cut.{Cut, Trailing, cut, onto}
+use Rattle.my_grammar.specs.Cut.{Trailing, cut, onto}
 use Rattle.my_grammar.specs.Response.{response}
-use Rattle.my_grammar.specs.Talk.{Talk, Start, turns, server_bytes, origin}
+use Rattle.my_grammar.specs.Talk.{Talk, Start, turns, server_bytes}
 use Rattle.my_grammar.proofs.Sound.{over_is_cut}
 use Rattle.my_server.specs.declared.command.CommandKind.TheVariants as commands
-use Rattle.my_server.specs.declared.greet.TheConstants.{OFFERED}
 use Rattle.my_server.specs.declared.phase.Phase.{Phase}
 use Rattle.my_server.specs.declared.phase.Phase.TheVariants.{Login as AtLogin, Commands, Closed}
 use Rattle.my_server.specs.declared.phase.CloseCause.TheVariants.{Quit, Denied, BadPacket, Codec}
@@ -22,10 +20,10 @@ use Rattle.my_server.specs.ClientLogin.{LoginParts, login_at}
 use Rattle.my_server.specs.Command.{command_kind}
 use Rattle.my_server.specs.Conversation.{EndEach, IsClient, IsHeard, IsTyped, exchange_of, client_terms}
 use Rattle.my_server.specs.Faults.{is_served}
-use Rattle.my_server.specs.History.{History, IsJudged, IsNew, Stands, StandsAt, answer_bytes, kept_after, kept_by, server_side, verdict, verdict_bytes}
-use Rattle.my_server.specs.Machine.{Served, admits, all_chunks, answer_payloads, greeting_payload, kept_of}
-use Rattle.my_server.proofs.Exchanges.{IsExchange, exchange}
-use Rattle.my_server.proofs.Opening.{IsOpening, both_deprecate, opening}
+use Rattle.my_server.specs.History.{History, IsJudged, IsNew, Stands, StandsAt, answer_bytes, kept_after, kept_by, verdict, verdict_bytes}
+use Rattle.my_server.specs.Machine.{Served, all_chunks, answer_payloads, greeting_payload, kept_of}
+use Rattle.my_server.proofs.Exchanges.{exchange}
+use Rattle.my_server.proofs.Opening.{both_deprecate, opening}
 use Rattle.my_server.proofs.PayloadKinds.{PacketLaws}
 
 -- what the exchanges of commands are cut into

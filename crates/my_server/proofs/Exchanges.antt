@@ -1,11 +1,9 @@
 -- The exchange of each command.
-use Rattle.std.specs.Prelude.{find}
-use Rattle.std.proofs.Common.{◌≡◌, ◌≢◌, ℕ, ◌<◌, ◌≤◌, ◌&&◌, ◌==◌, zero, suc, get_or, List, [], ◌∷◌, ◌++◌, length, reverse, Bool, true, false, eqb, nat_lt, lit<, codes, Option, Some, None, refl, sym, ap, subst, ◌∙◌, arith}
+use Rattle.std.proofs.Common.{◌≡◌, ◌≢◌, ℕ, ◌<◌, ◌≤◌, ◌==◌, zero, suc, get_or, List, [], ◌∷◌, ◌++◌, length, Bool, true, nat_lt, lit<, codes, Option, Some, None, refl, sym, ap, subst, ◌∙◌, arith}
 use Rattle.std.specs.List.{AllByRecursion, list_all}
-use Rattle.std.specs.Str.{IsAscii, IsUtf8, bytes_eq}
+use Rattle.std.specs.Str.{IsAscii, bytes_eq}
 use Rattle.std.proofs.lemmas.Str.{IsUtf8-from_ascii}
 use Rattle.std.proofs.lemmas.Bool.Decides.{nat_tests}
-use Rattle.std.proofs.lemmas.List.{append-nil}
 use Rattle.my_flags.specs.declared.flags.StatusFlags.{StatusFlags}
 use Rattle.my_flags.specs.Sets.{deprecates_eof}
 use Rattle.my_frame.specs.Chunks.{number_after_payload}
@@ -16,7 +14,6 @@ use Rattle.my_reply.specs.OkPacket.{ok_at}
 use Rattle.my_reply.specs.Sent.{IsSentErr, IsSentOk}
 use Rattle.my_reply.specs.Server.{server_bytes as payload_of}
 use Rattle.my_grammar.specs.declared.spot.Kind.TheVariants as kinds
-use Rattle.my_grammar.specs.declared.spot.Spot.{Spot}
 use Rattle.my_grammar.specs.declared.spot.Spot.TheVariants as spots
 use Rattle.my_grammar.specs.declared.spot.Terms.{Terms}
 use Rattle.my_grammar.specs.Contexts.{more}
@@ -31,13 +28,12 @@ use Rattle.my_server.specs.declared.script.Reply.{Reply}
 use Rattle.my_server.specs.declared.script.ReplyAnswer.{ReplyAnswer}
 use Rattle.my_server.specs.declared.script.ReplyAnswer.TheVariants as answers
 use Rattle.my_server.specs.declared.script.ServerScript.{ServerScript}
-use Rattle.my_server.specs.declared.script.ServerSet.{ServerSet}
 use Rattle.my_server.specs.Answer.{ok_of, reply_payloads, sets_payloads}
 use Rattle.my_server.specs.Command.{command_kind, query_text}
 use Rattle.my_server.specs.Conversation.{EndsBadly, EndsBy, EndsQuery, EndsWell, IsLoneErr, IsLoneOk, IsTyped, IsTypedAnswer, Says, SaysReply, exchange_of, exchange_by}
 use Rattle.my_server.specs.Faults.{is_answer, is_reply, is_sent, is_served, is_set}
 use Rattle.my_server.specs.Machine.{all_chunks, answer_payloads, command_payloads, denial, fine_payload, found_payloads, no_reply, refusal_payload, reply_for}
-use Rattle.my_server.proofs.Goodness.{IsWithin, all_within, sets_are_good}
+use Rattle.my_server.proofs.Goodness.{all_within, sets_are_good}
 use Rattle.my_server.proofs.Hearing.{Heard, heard_one}
 use Rattle.my_server.proofs.PayloadKinds.{PacketLaws, head_err, head_ok, single_err, single_ok, typed_ok}
 use Rattle.my_server.proofs.Sendable.{both, found_has, replies_are_fine, served_parts}

@@ -1,11 +1,11 @@
 -- Sets that were tested are read back.
-use Rattle.std.proofs.Common.{◌≡◌, ℕ, ◌+◌, ◌<◌, ◌≤◌, ◌^◌, ◌&&◌, ◌==◌, List, [], ◌∷◌, ◌++◌, length, map, Bool, true, false, nat_lt, nat_le, Option, Some, None, refl, sym, ap, subst, ◌∙◌, arith, length-append}
+use Rattle.std.proofs.Common.{◌≡◌, ℕ, ◌+◌, ◌≤◌, ◌&&◌, ◌==◌, List, [], ◌∷◌, ◌++◌, length, map, true, nat_lt, nat_le, Option, Some, None, arith, length-append}
 use Rattle.std.specs.List.{AllByRecursion, flat_map, list_all}
 use Rattle.std.proofs.lemmas.Bool.Decides.{nat_tests}
 use Rattle.std.proofs.lemmas.List.Concat.{flat_map-cons}
 use Rattle.my_flags.specs.declared.flags.StatusFlags.{StatusFlags}
 use Rattle.my_frame.specs.declared.limits.TheConstants.{GREATEST_MAX_ALLOWED_PACKET}
-use Rattle.my_frame.specs.Writing.{le_bytes, len_bytes, text_bytes}
+use Rattle.my_frame.specs.Writing.{text_bytes}
 use Rattle.my_reply.specs.declared.server.ServerPacket.TheVariants as packets
 use Rattle.my_reply.specs.Server.{cell_bytes, server_bytes}
 use Rattle.my_value.specs.WrittenRow.{TextsFit}

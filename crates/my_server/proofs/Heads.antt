@@ -1,5 +1,5 @@
 -- The first byte of what a server writes.
-use Rattle.std.proofs.Common.{◌≡◌, ◌≢◌, ℕ, ◌+◌, ◌<◌, ◌≤◌, ◌^◌, ◌⊎◌, inl, inr, List, [], ◌∷◌, ◌++◌, length, Bool, true, false, cond, eqb, ltb, Option, Some, None, refl, sym, ap, subst, ◌∙◌, arith, length-append}
+use Rattle.std.proofs.Common.{◌≡◌, ◌≢◌, ℕ, ◌<◌, ◌≤◌, ◌⊎◌, inl, inr, List, [], ◌∷◌, ◌++◌, length, true, false, eqb, ltb, Option, Some, None, refl, sym, ap, subst, arith, length-append}
 use Rattle.std.specs.List.{flat_map}
 use Rattle.std.proofs.lemmas.Bool.{cases_lt}
 use Rattle.std.proofs.lemmas.Bool.Decides.{nat_tests}
@@ -7,7 +7,6 @@ use Rattle.std.proofs.lemmas.List.Concat.{flat_map-cons}
 use Rattle.my_frame.specs.declared.limits.TheConstants.{FULL_LENGTH}
 use Rattle.my_frame.specs.Numbers.{head_at, ◌>>=◌}
 use Rattle.my_frame.specs.Writing.{le_bytes, len_bytes, text_bytes}
-use Rattle.my_frame.proofs.WritingLaws.{length-le_bytes}
 use Rattle.my_reply.specs.Server.{cell_bytes}
 
 pub record BeginsLength (n : ℕ) (bytes : List ℕ) : Type 0 where

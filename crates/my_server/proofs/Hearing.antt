@@ -1,5 +1,5 @@
 -- An exchange with several payloads more.
-use Rattle.std.proofs.Common.{◌≡◌, ℕ, ◌≤◌, List, [], ◌∷◌, ◌++◌, length, Bool, true, false, refl, sym, ap, subst, ◌∙◌, append_assoc}
+use Rattle.std.proofs.Common.{◌≡◌, ℕ, ◌≤◌, List, [], ◌∷◌, ◌++◌, length, true, false, refl, sym, ap, ◌∙◌, append_assoc}
 use Rattle.std.proofs.lemmas.List.{append-nil}
 use Rattle.my_frame.specs.Chunks.{chunks, number_after_payload}
 use Rattle.my_grammar.specs.declared.login.Login.{Login}
@@ -7,8 +7,8 @@ use Rattle.my_grammar.specs.declared.spot.Kind.{Kind}
 use Rattle.my_grammar.specs.declared.spot.Kind.TheVariants as kinds
 use Rattle.my_grammar.specs.Contexts.{is_bad}
 use Rattle.my_grammar.specs.Kinds.{kind_there}
-use Rattle.my_grammar.specs.Talk.{Talk, Turn, Server, Fits, turns, number_of, server_bytes, context_of, limit_of, login_in, origin}
-use Rattle.my_grammar.specs.Growth.{Grows, Reads, grow, not_greets, number_next, replies}
+use Rattle.my_grammar.specs.Talk.{Talk, Fits, turns, number_of, server_bytes, context_of, limit_of, login_in, origin}
+use Rattle.my_grammar.specs.Growth.{grow, not_greets, number_next}
 use Rattle.my_grammar.proofs.Growth.{any_login, grows, reads}
 use Rattle.my_server.specs.Machine.{all_chunks}
 

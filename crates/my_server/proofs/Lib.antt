@@ -1,6 +1,7 @@
 pub mod Conversing
 pub mod Exchanges
 pub mod Goodness
+pub mod Greeted
 pub mod Heads
 pub mod Hearing
 pub mod LoginLaws

@@ -1,13 +1,12 @@
 -- A login, as a relation and as what is read.
 use Rattle.std.proofs.Common.{◌≡◌, ℕ, Bool, true, false, List, Option, Some, None, refl, sym, ap, subst, IfSome}
 use Rattle.std.specs.Option.{option_map}
-use Rattle.my_flags.specs.declared.flags.CapabilityFlags.{CapabilityFlags}
 use Rattle.my_flags.specs.Sets.{connects_with_db, contains, sends_connect_attrs}
 use Rattle.my_frame.specs.Numbers.{IsText, IsText0, bytes_at, number_at, text_at, text0_at}
-use Rattle.my_frame.proofs.NumberLaws.{bind_then, passed, same_pair, bytes_found, bytes_again, number_found, number_again, text_found, text_again, text0_found, text0_again}
+use Rattle.my_frame.proofs.NumberLaws.{bind_then, passed, bytes_found, bytes_again, number_found, number_again, text_found, text_again, text0_found, text0_again}
 use Rattle.my_server.specs.declared.login.ClientLogin.{ClientLogin}
 use Rattle.my_server.specs.declared.login.TheConstants.{LOGIN_CAPABILITIES}
-use Rattle.my_server.specs.ClientLogin.{IsLogin, IsShort, HasText, HasText0, LoginParts, after_parts, after_text, after_text0, flags_of, login_at, login_from, names_plugin, parts_of, short_at}
+use Rattle.my_server.specs.ClientLogin.{IsLogin, IsShort, HasText, HasText0, LoginParts, after_parts, after_text, after_text0, flags_of, login_at, names_plugin, parts_of, short_at}
 
 short_found : (bytes text rest : List ℕ) → short_at bytes ≡ Some (text, rest) → IsShort bytes text rest
 short_found bytes text rest e =

@@ -1,24 +1,22 @@
 -- The opening of a connection.
-use Rattle.std.proofs.Common.{◌≡◌, ◌≢◌, ℕ, ◌+◌, ◌<◌, ◌≤◌, ◌^◌, ◌&&◌, ◌==◌, ◌||◌, not, List, [], ◌∷◌, ◌++◌, length, take, drop, Bool, true, false, cond, eqb, nat_lt, nat_le, lit<, lit≤, codes, bit_and, inl, inr, Option, Some, None, MatchBool, refl, sym, ap, subst, ◌∙◌, arith, length-append, append_assoc}
-use Rattle.std.specs.List.{AllByRecursion, All, before_first, list_any}
+use Rattle.std.proofs.Common.{◌≡◌, ◌≢◌, ℕ, ◌+◌, ◌≤◌, ◌==◌, ◌||◌, not, List, [], ◌∷◌, ◌++◌, length, Bool, true, false, cond, nat_le, lit<, lit≤, codes, bit_and, inl, Some, MatchBool, refl, sym, ap, subst, ◌∙◌, arith, length-append, append_assoc}
+use Rattle.std.specs.List.{AllByRecursion, list_any}
 use Rattle.std.proofs.lemmas.Bool.Decides.{nat_tests}
 use Rattle.std.proofs.lemmas.List.Elements.{All-from_recursion}
 use Rattle.std.proofs.lemmas.List.{length-take, length-drop}
 use Rattle.std.specs.Prelude.{replicate}
 use Rattle.std.proofs.lemmas.Nat.{and_assoc, and_le_r}
-use Rattle.my_flags.specs.declared.flags.CapabilityFlags.{CapabilityFlags}
 use Rattle.my_flags.specs.declared.flags.TheConstants.CapabilityFlags.{CLIENT_DEPRECATE_EOF}
 use Rattle.my_flags.specs.Sets.{deprecates_eof, intersection}
-use Rattle.my_frame.specs.Chunks.{chunks, full_length, number_after_payload}
+use Rattle.my_frame.specs.Chunks.{chunks, number_after_payload}
 use Rattle.my_frame.specs.Numbers.{number_at}
 use Rattle.my_frame.specs.Writing.{le_bytes, len_bytes, text0_bytes}
 use Rattle.my_frame.proofs.ChunkLaws.{number_after_payload-short}
 use Rattle.my_frame.proofs.NumberLaws.{before_again, number_again, same_pair}
 use Rattle.my_frame.proofs.WritingLaws.{length-le_bytes, number_read_back}
-use Rattle.my_handshake.specs.declared.greeting.Greeting.{Greeting}
 use Rattle.my_handshake.specs.declared.login.HandshakeResponse.{HandshakeResponse}
 use Rattle.my_handshake.specs.Greeting.{greeting_at}
-use Rattle.my_handshake.specs.Login.{response_bytes, settings_bytes, names_bytes, kept_bytes}
+use Rattle.my_handshake.specs.Login.{response_bytes, names_bytes, kept_bytes}
 use Rattle.my_reply.specs.ErrPacket.{err_at}
 use Rattle.my_reply.specs.Sent.{HasNoZero, IsSentGreeting}
 use Rattle.my_reply.specs.Server.{fitted}
@@ -29,11 +27,10 @@ use Rattle.my_grammar.specs.Contexts.{is_bad}
 use Rattle.my_grammar.specs.Cut.{is_over}
 use Rattle.my_grammar.specs.Kinds.{failed_kind, greeting_kind, greets_kind, or_else, single_kind}
 use Rattle.my_grammar.specs.Response.{response, response_by, response_to}
-use Rattle.my_grammar.specs.Talk.{Talk, Start, Settled, Fits, turns, server_bytes, origin, default_limit}
+use Rattle.my_grammar.specs.Talk.{Talk, Start, Settled, Fits, turns, server_bytes, origin}
 use Rattle.my_server.specs.declared.answer.TheConstants.{DONE}
 use Rattle.my_server.specs.declared.greet.TheConstants.{OFFERED}
 use Rattle.my_server.specs.declared.script.ServerScript.{ServerScript}
-use Rattle.my_server.specs.Answer.{ok_of}
 use Rattle.my_server.specs.ClientLogin.{LoginParts, login_at}
 use Rattle.my_server.specs.Conversation.{IsTyped, OpensBadly, OpensWell}
 use Rattle.my_server.specs.Faults.{is_served, is_version}
@@ -92,7 +89,7 @@ length-fitted : (nonce : List ℕ) → length (fitted nonce) ≤ 20
 unfolding fitted
 length-fitted nonce = simp length-take (omega arith)
 
-greeting_is_short : (script : ServerScript) → is_served script ≡ true → length (greeting_payload script) ≤ 400
+pub greeting_is_short : (script : ServerScript) → is_served script ≡ true → length (greeting_payload script) ≤ 400
 greeting_is_short script served =
     let short = (version_parts script.version (served_parts script served).0).0 in
     let a = length-text0 script.version in

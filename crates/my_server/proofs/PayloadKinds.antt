@@ -1,10 +1,9 @@
 -- What the payloads of a scripted server are to the grammar.
-use Rattle.std.proofs.Common.{◌≡◌, ◌≢◌, ℕ, ◌<◌, ◌≤◌, ◌^◌, ◌⊎◌, inl, inr, List, [], ◌∷◌, ◌++◌, length, map, Bool, true, false, cond, ltb, lit<, Option, Some, None, refl, sym, ap, subst, ◌∙◌, arith, length-append}
-use Rattle.std.specs.List.{flat_map}
+use Rattle.std.proofs.Common.{◌≡◌, ◌≢◌, ℕ, ◌<◌, ◌≤◌, ◌^◌, inl, inr, List, ◌∷◌, length, map, Bool, true, false, cond, ltb, lit<, Option, Some, None, refl, ap, ◌∙◌, arith}
 use Rattle.std.proofs.lemmas.Bool.Decides.{nat_tests}
 use Rattle.my_flags.specs.declared.flags.StatusFlags.{StatusFlags}
 use Rattle.my_frame.specs.declared.limits.TheConstants.{FULL_LENGTH}
-use Rattle.my_frame.specs.Numbers.{head_at, number_at, ◌>>=◌}
+use Rattle.my_frame.specs.Numbers.{head_at, ◌>>=◌}
 use Rattle.my_frame.specs.Reading.{ReadsBack}
 use Rattle.my_frame.specs.Writing.{le_bytes, len_bytes}
 use Rattle.my_handshake.specs.Greeting.{greeting_at}
@@ -17,7 +16,7 @@ use Rattle.my_reply.specs.ColumnCount.{column_count_at}
 use Rattle.my_reply.specs.ErrPacket.{err_at}
 use Rattle.my_reply.specs.OkPacket.{end_ok_at, fields_at, ok_at}
 use Rattle.my_reply.specs.Sent.{IsSentColumn, IsSentCount, IsSentEndOk, IsSentErr, IsSentGreeting, IsSentOk}
-use Rattle.my_reply.specs.Server.{cell_bytes, server_bytes}
+use Rattle.my_reply.specs.Server.{server_bytes}
 use Rattle.my_value.specs.TextRow.{text_row_at}
 use Rattle.my_value.specs.WrittenRow.{TextsFit, sent_value}
 use Rattle.my_value.proofs.Rows.WrittenRows.{text_row_read_back}

@@ -1,17 +1,17 @@
 -- A response that is written is read as a login.
-use Rattle.std.proofs.Common.{◌≡◌, ℕ, ◌+◌, ◌<◌, ◌^◌, List, [], ◌∷◌, ◌++◌, length, take, Bool, true, false, cond, lit<, Option, Some, None, refl, sym, ap, subst, ◌∙◌, arith, length-append, append_assoc}
+use Rattle.std.proofs.Common.{◌≡◌, ℕ, ◌<◌, ◌^◌, List, [], ◌∷◌, ◌++◌, length, Bool, true, false, cond, Some, refl, sym, ap, subst, ◌∙◌, arith, length-append, append_assoc}
 use Rattle.std.specs.Prelude.{replicate, ◌==◌}
 use Rattle.std.proofs.lemmas.List.{append-nil}
 use Rattle.std.specs.List.{before_first, flat_map}
 use Rattle.my_flags.specs.Sets.{connects_with_db, sends_connect_attrs}
-use Rattle.my_frame.specs.Numbers.{IsBytes, IsNumber, IsText0, number_at, text_at, text0_at}
+use Rattle.my_frame.specs.Numbers.{IsNumber, IsText0, number_at, text_at}
 use Rattle.my_frame.specs.Writing.{le_bytes, short_bytes, text_bytes, text0_bytes}
 use Rattle.my_frame.proofs.NumberLaws.{number_found, text_found, text0_found}
 use Rattle.my_frame.proofs.WritingLaws.{length-le_bytes, number_read_back, text_read_back, text0_read_back}
 use Rattle.my_handshake.specs.declared.login.HandshakeResponse.{HandshakeResponse}
 use Rattle.my_handshake.specs.Attributes.{attributes_bytes, pair_bytes}
-use Rattle.my_handshake.specs.Login.{kept_bytes, response_bytes}
-use Rattle.my_server.specs.ClientLogin.{HasText, HasText0, IsLogin, IsSentResponse, IsShort, LoginParts, login_at, login_of, names_plugin}
+use Rattle.my_handshake.specs.Login.{response_bytes}
+use Rattle.my_server.specs.ClientLogin.{HasText, HasText0, IsSentResponse, IsShort, login_at, login_of}
 use Rattle.my_server.proofs.LoginLaws.{login_again}
 
 number_there : (count n : ℕ) (bytes rest : List ℕ) → n < 256 ^ count → bytes ≡ le_bytes count n ++ rest → IsNumber count bytes n rest

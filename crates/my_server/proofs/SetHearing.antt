@@ -1,5 +1,5 @@
 -- Sets are heard as they are written.
-use Rattle.std.proofs.Common.{◌≡◌, ℕ, ◌+◌, ◌-◌, ◌<◌, ◌≤◌, ◌^◌, suc, List, [], ◌∷◌, ◌++◌, length, map, reverse, Bool, true, false, cond, eqb, leb, lit<, Option, Some, None, refl, sym, ap, subst, ◌∙◌, arith, append_assoc}
+use Rattle.std.proofs.Common.{◌≡◌, ℕ, ◌-◌, ◌<◌, ◌≤◌, ◌^◌, suc, List, [], ◌∷◌, ◌++◌, length, map, reverse, Bool, true, false, cond, eqb, leb, lit<, Option, Some, None, refl, sym, ap, subst, ◌∙◌, arith, append_assoc}
 use Rattle.std.specs.List.{AllByRecursion}
 use Rattle.std.proofs.lemmas.Bool.Decides.{nat_tests}
 use Rattle.std.proofs.lemmas.List.{append-nil, reverse-append, reverse-reverse}
@@ -14,7 +14,7 @@ use Rattle.my_grammar.specs.declared.spot.Spot.TheVariants as spots
 use Rattle.my_grammar.specs.declared.spot.Kind.TheVariants as kinds
 use Rattle.my_grammar.specs.declared.spot.Terms.{Terms}
 use Rattle.my_grammar.specs.FitSets.{is_head}
-use Rattle.my_grammar.specs.Kinds.{kind_by, row_kind}
+use Rattle.my_grammar.specs.Kinds.{row_kind}
 use Rattle.my_grammar.specs.Sets.{SetHead, Sets, NoSets, Heading, Headed, Begun, Ended, spot_in, with_column_of}
 use Rattle.my_grammar.specs.Talk.{Talk, Queried, Fits}
 use Rattle.my_grammar.specs.Growth.{grow}

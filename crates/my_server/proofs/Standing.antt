@@ -1,15 +1,14 @@
 -- Each call keeps what a core stands for.
-use Rattle.std.proofs.Common.{◌≡◌, ◌≢◌, inl, inr, ℕ, ◌≤◌, List, [], ◌∷◌, ◌++◌, length, take, drop, Bool, true, false, cond, Option, Some, None, refl, sym, ap, subst, ◌∙◌, arith, append_assoc}
+use Rattle.std.proofs.Common.{◌≡◌, ◌≢◌, inl, inr, ℕ, List, [], ◌∷◌, ◌++◌, take, drop, Bool, true, false, cond, Option, Some, None, refl, sym, ap, subst, ◌∙◌, append_assoc}
 use Rattle.std.specs.Prelude.{is_none}
 use Rattle.std.specs.List.{AllByRecursion, flat_map}
 use Rattle.std.proofs.lemmas.Grind.{flat_map-append}
 use Rattle.std.proofs.lemmas.List.{append-nil, take-append-drop}
 use Rattle.my_flags.specs.declared.flags.CapabilityFlags.{CapabilityFlags}
 use Rattle.my_flags.specs.Sets.{deprecates_eof}
-use Rattle.my_frame.specs.declared.fault.CodecFault.{CodecFault}
 use Rattle.my_frame.specs.Chunks.{chunks, number_after_payload}
 use Rattle.my_frame.specs.Front.{Front, Waiting, Broken, Whole, front_at}
-use Rattle.my_frame.specs.FrontLaws.{AreBytes, IsWhole}
+use Rattle.my_frame.specs.FrontLaws.{AreBytes}
 use Rattle.my_frame.proofs.Meanings.{whole_stands}
 use Rattle.my_server.specs.declared.command.CommandKind.{CommandKind}
 use Rattle.my_server.specs.declared.command.CommandKind.TheVariants as commands
@@ -22,9 +21,9 @@ use Rattle.my_server.specs.declared.phase.ServerStep.TheVariants as steps
 use Rattle.my_server.specs.declared.script.ServerScript.{ServerScript}
 use Rattle.my_server.specs.ClientLogin.{LoginParts, login_at}
 use Rattle.my_server.specs.Command.{command_kind, query_text}
-use Rattle.my_server.specs.Faults.{is_served, script_fault}
-use Rattle.my_server.specs.History.{Begins, BeginsBad, History, IsDenied, IsJudged, IsNew, Quits, Stands, StandsAt, after_command, after_login, after_owed, after_phase, answer_bytes, beginning, client_side, after_send, kept_after, kept_by, login_bytes, server_side, after_step, after_take, verdict, verdict_bytes, with_command, with_login}
-use Rattle.my_server.specs.Machine.{Move, Served, Steps, admits, all_chunks, answer_payloads, answer_move, close_move, command_move, command_payloads, denial, fine_payload, fresh, greeting_payload, judge_move, kept_of, login_move, longest, next, owed_move, phase_move, refusal_payload, reply_move, taken_by, with_bytes, with_sent}
+use Rattle.my_server.specs.Faults.{script_fault}
+use Rattle.my_server.specs.History.{History, IsJudged, IsNew, Stands, StandsAt, after_command, after_login, after_owed, after_phase, answer_bytes, beginning, client_side, after_send, kept_after, kept_by, login_bytes, server_side, after_step, after_take, verdict, verdict_bytes, with_command, with_login}
+use Rattle.my_server.specs.Machine.{Served, Steps, admits, all_chunks, answer_payloads, answer_move, close_move, command_move, command_payloads, denial, fine_payload, fresh, greeting_payload, judge_move, kept_of, login_move, longest, next, owed_move, phase_move, refusal_payload, reply_move, taken_by, with_bytes, with_sent}
 
 pub new_stands : (script : ServerScript) → script_fault script ≡ None → Stands (fresh script) (beginning script)
 new_stands script e = record {

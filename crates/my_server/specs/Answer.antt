@@ -1,6 +1,6 @@
 -- The payloads of a scripted answer. MySQL client/server protocol, "Text Resultset" and "Multi-Resultset": a count, that many
 -- columns, an EOF unless both sides deprecate it, rows and an end, whose status says whether another set follows.
-use Rattle.std.specs.Prelude.{◌≡◌, ℕ, ◌^◌, ◌<◌, Bool, true, false, List, [], ◌∷◌, ◌++◌, length, map, ◌==◌, if◌then◌else◌}
+use Rattle.std.specs.Prelude.{ℕ, ◌^◌, ◌<◌, Bool, true, false, List, [], ◌∷◌, ◌++◌, length, map, ◌==◌, if◌then◌else◌}
 use Rattle.std.specs.List.{AllByRecursion}
 use Rattle.my_flags.specs.declared.flags.StatusFlags.{StatusFlags}
 use Rattle.my_frame.specs.Writing.{le_bytes}

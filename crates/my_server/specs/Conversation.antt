@@ -1,7 +1,6 @@
 -- What a server's bytes say to a client: the exchanges that the grammar cuts them into, and what the payloads of these hold.
-use Rattle.std.specs.Prelude.{◌≡◌, ℕ, ◌^◌, ◌<◌, ◌≤◌, List, [], ◌∷◌, ◌++◌, length, map, reverse, Bool, true, false, Option, Some, None, MatchBool}
+use Rattle.std.specs.Prelude.{◌≡◌, ℕ, ◌^◌, ◌<◌, ◌≤◌, List, [], ◌∷◌, ◌++◌, length, map, reverse, true, false, Option, Some, None, MatchBool}
 use Rattle.std.specs.List.{AllByRecursion}
-use Rattle.std.specs.Str.{IsUtf8}
 use Rattle.my_flags.specs.Sets.{deprecates_eof, intersection}
 use Rattle.my_reply.specs.declared.ok.OkPacket.{OkPacket}
 use Rattle.my_reply.specs.declared.err.ErrPacket.{ErrPacket}
@@ -16,8 +15,8 @@ use Rattle.my_grammar.specs.declared.spot.Kind.TheVariants as kinds
 use Rattle.my_grammar.specs.declared.spot.Terms.{Terms}
 use Rattle.my_grammar.specs.Response.{response}
 use Rattle.my_grammar.specs.Sets.{SetHead, Sets, NoSets, Lone, Failed, Ended}
-use Rattle.my_grammar.specs.Talk.{Talk, Start, Settled, Asked, Replied, Queried, Silent}
-use Rattle.my_grammar.specs.Cut.{Trailing, cut}
+use Rattle.my_grammar.specs.Talk.{Talk, Start, Greeted, Settled, Asked, Replied, Queried, Silent}
+use Rattle.my_grammar.specs.Cut.{Trailing, Unfinished, cut}
 use Rattle.my_server.specs.declared.answer.TheConstants.{DONE}
 use Rattle.my_server.specs.declared.command.CommandKind.{CommandKind}
 use Rattle.my_server.specs.declared.command.CommandKind.TheVariants as commands
@@ -152,3 +151,9 @@ pub record IsHeard (login : Login) (limit : ℕ) (s : Served) (h : History) : Ty
       ≡ record { talks = opening ∷ ended; rest = Trailing [] }
   pub opens : MatchBool (admits h.script user) (OpensWell h.script login opening) (OpensBadly h.script login opening)
   pub ends : EndEach h.script (client_terms login limit) h.commands ended
+
+-- What the client reads before its login was read, whatever commands it is to send: the greeting, and nothing after it.
+abbrev pub IsGreeted : Login → List Talk → Served → History → Type 0
+IsGreeted login talks s h =
+    cut (Start login ∷ talks) (h.sent ++ s.owed)
+    ≡ record { talks = Greeted login (greeting_payload h.script) OFFERED ∷ []; rest = Unfinished [] }

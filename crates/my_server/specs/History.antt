@@ -5,7 +5,7 @@ use Rattle.my_flags.specs.declared.flags.CapabilityFlags.{CapabilityFlags}
 use Rattle.my_flags.specs.Sets.{deprecates_eof}
 use Rattle.my_frame.specs.declared.fault.CodecFault.{CodecFault}
 use Rattle.my_frame.specs.Chunks.{chunks, number_after_payload}
-use Rattle.my_frame.specs.Front.{Front, Waiting, Broken, Whole, front_at}
+use Rattle.my_frame.specs.Front.{Front, Broken, Whole, front_at}
 use Rattle.my_server.specs.declared.command.CommandKind.{CommandKind}
 use Rattle.my_server.specs.declared.command.CommandKind.TheVariants as commands
 use Rattle.my_server.specs.declared.phase.Phase.{Phase}

@@ -1,12 +1,13 @@
 //! Laws of a served conversation. Each function's clause is the law.
 
-ghost use Rattle.std.specs.Prelude.{◌≡◌, ℕ, List, Some, true};
+ghost use Rattle.std.specs.Prelude.{◌≡◌, ℕ, List, None, Some, true};
 ghost use Rattle.my_grammar.specs.declared.login.Login.{Login as AnyLogin};
 ghost use Rattle.my_handshake.specs.declared.login.HandshakeResponse.{HandshakeResponse as AnyResponse};
 ghost use Rattle.my_handshake.specs.Login.{response_bytes};
 ghost use Rattle.my_server.specs.ClientLogin.{IsLogin, IsSentResponse, login_at, login_of};
 ghost use Rattle.my_frame.specs.Reading.{FindsExactly};
-ghost use Rattle.my_server.specs.Conversation.{IsClient, IsHeard, IsTyped};
+ghost use Rattle.my_grammar.specs.Talk.{Talk};
+ghost use Rattle.my_server.specs.Conversation.{IsClient, IsGreeted, IsHeard, IsTyped};
 ghost use Rattle.my_server.specs.History.{History, Stands};
 ghost use Rattle.my_server.specs.Machine.{Served};
 
@@ -21,6 +22,15 @@ use my_reply::laws::written_packets_are_read;
 pub fn each_conversation()
     ensures { (s : Served) (h : History) (login : AnyLogin) (limit : ℕ) → Stands s h → IsTyped h.script
         → IsClient login limit h → IsHeard login limit s h }
+{
+    written_packets_are_read();
+}
+
+/// What a client of the grammar reads before its login was read: of each core and each history for which it stands, the
+/// grammar cuts the bytes sent and owed into the greeting alone, and no byte is left over.
+pub fn each_greeting()
+    ensures { (s : Served) (h : History) (login : AnyLogin) (talks : List Talk) → Stands s h → IsTyped h.script
+        → h.login ≡ None → IsGreeted login talks s h }
 {
     written_packets_are_read();
 }

@@ -1,7 +1,8 @@
-//! Answers of scripts as short texts.
+//! Scripts of a server as short texts. Crates of tests stand on it.
 //!
 //! Sets are separated by `|`, the names and the rows of a set by `/`, cells by `,`. A cell `~` is NULL, `-` is empty, and
 //! `#300` has 300 bytes `x`; a row `@300` has 300 cells `1`. `ok` is an OK, `err` an ERR.
+#![tactic(auto)]
 
 use my_flags::StatusFlags;
 use my_frame::{Blob, Listed, NoMemory, Text};

@@ -1,0 +1,105 @@
+//! A session and a server in memory, whose bytes are handed over.
+
+ghost use Rattle.std.specs.Prelude.{◌≡◌, true, OnOk};
+ghost use Rattle.my_session.specs.Tasks.{is_open};
+
+use my_flags::CapabilityFlags;
+use my_frame::limits::GREATEST_MAX_ALLOWED_PACKET;
+use my_frame::{Blob, Copied, Listed, NoMemory};
+use my_grammar::Login;
+use my_handshake::Attributes;
+use my_reading::{Answer, Call, DriverError, Error};
+use my_server::{ServerCore, ServerStep};
+use my_session::{Session, SessionStep};
+use std::alloc::Global;
+
+/// How many bytes are handed over at a time: one, or all that are owed.
+pub const PIECES: [usize; 2] = [1, usize::MAX];
+
+/// What a client sends of itself, with long payloads, and with no queries after the login.
+pub fn login_of(alloc: Global, user: &str, password: Option<&str>) -> Result<Login, NoMemory> {
+    let password = match password {
+        Some(text) => Some(Blob::from_slice(alloc, text.as_bytes())?),
+        None => None,
+    };
+    Ok(Login {
+        user: Some(Blob::from_slice(alloc, user.as_bytes())?),
+        password,
+        database: None,
+        max_packet: 4_194_304,
+        attributes: Attributes::new(alloc),
+        capabilities: CapabilityFlags(0x10f_a281),
+        packet_limit: Some(GREATEST_MAX_ALLOWED_PACKET),
+        wait_timeout: Some(60),
+        init: Listed::new(alloc),
+        setup: Listed::new(alloc),
+    })
+}
+
+// Hands bytes that the session owes over, at most `most`.
+fn give(session: &mut Session, server: &mut ServerCore, most: usize) -> Result<(), NoMemory>
+    ensures { session.new.seen.task ≡ session.old.seen.task }
+{
+    let bytes = session.owed();
+    let count = bytes.len().min(most);
+    server.take(&bytes[..count])?;
+    session.sent(count);
+    Ok(())
+}
+
+// Steps the server, and hands bytes that it owes over, at most `most`. Where it owes none, the link ends.
+fn fetch(
+    alloc: Global,
+    session: &mut Session,
+    server: &mut ServerCore,
+    most: usize,
+) -> Result<(), NoMemory>
+    ensures { OnOk result (session.new.seen.task ≡ session.old.seen.task) }
+{
+    match server.step(alloc) {
+        ServerStep::Send => {
+            let bytes = server.owed();
+            let count = bytes.len().min(most);
+            session.take(&bytes[..count])?;
+            server.sent(count);
+        }
+        ServerStep::Need | ServerStep::Closed(_) => session.end(),
+        ServerStep::NoMemory => return Err(NoMemory),
+    }
+    Ok(())
+}
+
+// Steps the open call until it is done.
+fn carry(
+    alloc: Global,
+    session: &mut Session,
+    server: &mut ServerCore,
+    most: usize,
+) -> Result<Answer, Error>
+    requires { is_open session.old.seen.task ≡ true }
+{
+    'steps: for _ in 0..u64::MAX {
+        match session.step(alloc) {
+            SessionStep::Send => give(session, server, most)?,
+            SessionStep::Need => fetch(alloc, session, server, most)?,
+            SessionStep::Done(answer) => return Ok(answer),
+            SessionStep::Fault(error) => return Err(error),
+        }
+    }
+    Err(Error::NoMemory)
+}
+
+/// Begins a call and steps it until it is done. Bytes are handed over both ways, at most `most` at a time.
+pub fn call(
+    alloc: Global,
+    session: &mut Session,
+    server: &mut ServerCore,
+    most: usize,
+    call: Call,
+) -> Result<Answer, Error> {
+    if session.is_open() || !session.may_begin(call.kind()) {
+        return Err(Error::Driver(DriverError::TooLong));
+    }
+    session.begin(call)?;
+    carry(alloc, session, server, most)
+}
