@@ -8,7 +8,7 @@ use crate::script::{ReplyAnswer, ServerSet};
 use my_flags::StatusFlags;
 use my_frame::writing::{put_u8, put_u16};
 use my_frame::{Blob, Copied, Listed, NoMemory};
-use my_reply::{Column, OkPacket, ServerPacket, write_server};
+use my_reply::{Column, ErrPacket, OkPacket, ServerPacket, write_server};
 use std::alloc::Global;
 
 /// The status of a session that is in no transaction, with nothing more to come.
@@ -56,6 +56,13 @@ pub fn written(alloc: Global, packet: &ServerPacket) -> Result<Blob, NoMemory>
     Ok(Blob::from(write_server(alloc, packet)?))
 }
 
+// One payload more.
+fn add(alloc: Global, payloads: &mut Listed<Blob>, packet: &ServerPacket) -> Result<(), NoMemory>
+    ensures { OnOk result (payloads.new ≡ payloads.old ++ server_bytes packet.now ∷ []) }
+{
+    payloads.push(written(alloc, packet)?)
+}
+
 fn eof_payload(alloc: Global, status: StatusFlags) -> Result<Blob, NoMemory>
     ensures { IfOk result (λ payload. payload ≡ eof_payload status) }
 {
@@ -77,12 +84,18 @@ fn end_payload(alloc: Global, deprecates: bool, status: StatusFlags) -> Result<B
     }
 }
 
+fn add_column(alloc: Global, payloads: &mut Listed<Blob>, name: &Blob) -> Result<(), NoMemory>
+    ensures { OnOk result (payloads.new ≡ payloads.old ++ column_payload name.now ∷ []) }
+{
+    let column = column_of(alloc, name)?;
+    add(alloc, payloads, &ServerPacket::Column(column))
+}
+
 fn add_columns(alloc: Global, payloads: &mut Listed<Blob>, names: &[Blob]) -> Result<(), NoMemory>
     ensures { OnOk result (payloads.new ≡ payloads.old ++ map column_payload names.now) }
 {
     for name in names {
-        let column = column_of(alloc, name)?;
-        payloads.push(written(alloc, &ServerPacket::Column(column))?)?;
+        add_column(alloc, payloads, name)?;
     }
     Ok(())
 }
@@ -102,6 +115,17 @@ fn add_close(
     Ok(())
 }
 
+fn add_row(
+    alloc: Global,
+    payloads: &mut Listed<Blob>,
+    row: &Listed<Option<Blob>>,
+) -> Result<(), NoMemory>
+    ensures { OnOk result (payloads.new ≡ payloads.old ++ row_payload row.now ∷ []) }
+{
+    let row = row.copy(alloc)?;
+    add(alloc, payloads, &ServerPacket::TextRow(row))
+}
+
 fn add_rows(
     alloc: Global,
     payloads: &mut Listed<Blob>,
@@ -110,10 +134,15 @@ fn add_rows(
     ensures { OnOk result (payloads.new ≡ payloads.old ++ map row_payload rows.now) }
 {
     for row in rows {
-        let packet = ServerPacket::TextRow(row.copy(alloc)?);
-        payloads.push(written(alloc, &packet)?)?;
+        add_row(alloc, payloads, row)?;
     }
     Ok(())
+}
+
+fn add_count(alloc: Global, payloads: &mut Listed<Blob>, count: u16) -> Result<(), NoMemory>
+    ensures { OnOk result (payloads.new ≡ payloads.old ++ server_bytes (ServerPacket.Count count) ∷ []) }
+{
+    add(alloc, payloads, &ServerPacket::Count(count))
 }
 
 fn add_set(
@@ -126,8 +155,7 @@ fn add_set(
     requires { length set.now.names < 2 ^ 16 }
     ensures { OnOk result (payloads.new ≡ payloads.old ++ set_payloads deprecates status set.now) }
 {
-    let count = ServerPacket::Count(set.names.len() as u16);
-    payloads.push(written(alloc, &count)?)?;
+    add_count(alloc, payloads, set.names.len() as u16)?;
     add_columns(alloc, payloads, set.names.as_slice())?;
     add_close(alloc, payloads, deprecates, status)?;
     add_rows(alloc, payloads, set.rows.as_slice())?;
@@ -156,6 +184,20 @@ fn add_sets(
     Ok(())
 }
 
+fn add_fine(alloc: Global, payloads: &mut Listed<Blob>, ok: &OkPacket) -> Result<(), NoMemory>
+    ensures { OnOk result (payloads.new ≡ payloads.old ++ server_bytes (ServerPacket.Fine ok.now) ∷ []) }
+{
+    let ok = ok.copy(alloc)?;
+    add(alloc, payloads, &ServerPacket::Fine(ok))
+}
+
+fn add_refusal(alloc: Global, payloads: &mut Listed<Blob>, err: &ErrPacket) -> Result<(), NoMemory>
+    ensures { OnOk result (payloads.new ≡ payloads.old ++ server_bytes (ServerPacket.Refuse err.now) ∷ []) }
+{
+    let err = err.copy(alloc)?;
+    add(alloc, payloads, &ServerPacket::Refuse(err))
+}
+
 /// The payloads of an answer, to a client with which EOF packets are deprecated or are not.
 pub fn reply_payloads(
     alloc: Global,
@@ -167,17 +209,9 @@ pub fn reply_payloads(
 {
     let mut payloads = Listed::new(alloc);
     match answer {
-        ReplyAnswer::Fine(ok) => {
-            let packet = ServerPacket::Fine(ok.copy(alloc)?);
-            payloads.push(written(alloc, &packet)?)?;
-        }
-        ReplyAnswer::Refuse(err) => {
-            let packet = ServerPacket::Refuse(err.copy(alloc)?);
-            payloads.push(written(alloc, &packet)?)?;
-        }
-        ReplyAnswer::Sets(sets) => {
-            add_sets(alloc, &mut payloads, deprecates, sets.as_slice())?;
-        }
+        ReplyAnswer::Fine(ok) => add_fine(alloc, &mut payloads, ok)?,
+        ReplyAnswer::Refuse(err) => add_refusal(alloc, &mut payloads, err)?,
+        ReplyAnswer::Sets(sets) => add_sets(alloc, &mut payloads, deprecates, sets.as_slice())?,
     }
     Ok(payloads)
 }
