@@ -1,5 +1,5 @@
 -- The lines of a run, the oldest first.
-use Rattle.std.proofs.Common.{◌≡◌, List, [], ◌∷◌, ◌++◌, refl, subst}
+use Rattle.std.proofs.Common.{◌≡◌, List, [], ◌∷◌, ◌++◌, length, refl, sym, subst, arith}
 use Rattle.my_grammar.specs.declared.login.Login.{Login}
 use Rattle.my_script.specs.declared.step.Step.{Step}
 use Rattle.my_world.specs.World.{Plans}
@@ -23,3 +23,12 @@ module _ (login : Login) (plans : Plans) where
   pub grown_chain : (ls : List Line) → AreGrown login plans ls → Chain [] (steps_of ls) (answers_of ls) (handles_after ls)
   grown_chain [] w = refl
   grown_chain (l ∷ ls) w = chain_more [] (steps_of ls) (answers_of ls) (handles_after ls) l.step (record { number = l.number; outcome = l.outcome; uses = l.uses }) l.handles (grown_chain ls w.1) w.0.answer
+
+  -- the last line apart
+  pub chain_split : (hs : List Handle) (ss : List Step) (vs : List AnswerView) (s : Step) (a : AnswerView) (ts : List Handle) → length ss ≡ length vs → Chain hs (ss ++ s ∷ []) (vs ++ a ∷ []) ts → (ms : List Handle) × Chain hs ss vs ms × StepGrows login plans ms s a.outcome a.uses ts
+  chain_split hs [] [] s a ts e c = (hs, refl, subst (λ (xs : List Handle). StepGrows login plans hs s a.outcome a.uses xs) (sym c.2) c.1)
+  chain_split hs [] (b ∷ vs) s a ts e c = absurd (omega (arith, e))
+  chain_split hs (x ∷ ss) [] s a ts e c = absurd (omega (arith, e))
+  chain_split hs (x ∷ ss) (b ∷ vs) s a ts e c =
+      let rest = chain_split c.0 ss vs s a ts (omega (arith, e)) c.2 in
+      (rest.0, (c.0, c.1, rest.1), rest.2)

@@ -1,6 +1,6 @@
 -- What a transcript shows of one connection is what the connection kept.
 use Rattle.std.proofs.Common.{◌≡◌, ℕ, ◌+◌, List, [], ◌∷◌, ◌++◌, length, map, Bool, true, false, not, ◌&&◌, ◌||◌, Option, Some, None, refl, sym, ap, ◌∙◌, subst, arith}
-use Rattle.std.proofs.lemmas.List.{length-append, append_assoc, append-nil}
+use Rattle.std.proofs.lemmas.List.{length-append, length-map, map-append, append_assoc, append-nil}
 use Rattle.my_grammar.specs.declared.login.Login.{Login}
 use Rattle.my_reading.specs.declared.answer.Answer.{Answer}
 use Rattle.my_reading.specs.declared.answer.Answer.TheVariants as answers
@@ -10,7 +10,8 @@ use Rattle.my_reading.specs.Calls.{kind_of, is_connect}
 use Rattle.my_reading.specs.declared.call.CallKind.TheVariants.{Connect}
 use Rattle.my_reading.specs.declared.error.IoKind.TheVariants.{Dial}
 use Rattle.my_reading.specs.Endings.{AreCalls, IsTape, connects_none}
-use Rattle.my_reading.specs.Place.{Place}
+use Rattle.my_reading.specs.Place.{Place, facts_at}
+use Rattle.my_reply.specs.declared.ok.OkPacket.{OkPacket}
 use Rattle.my_reading.specs.Errors.{connection_closed, io_error}
 use Rattle.my_reading.specs.Reading.{read_calls, reading}
 use Rattle.my_reading.specs.Tape.{Span, TapeCall, Tape as ReadTape, spans_from}
@@ -36,16 +37,16 @@ use Rattle.my_client.specs.declared.tape.Said.{Said}
 use Rattle.my_client.specs.declared.tape.Said.TheVariants as says
 use Rattle.my_client.specs.Causes.{PollEnds}
 use Rattle.my_client.specs.Kept.{Asked, Kept, nothing_kept, told_by, made_of, asking, asked_by, ended_by, first_asked, first_kept}
-use Rattle.my_client.specs.Reads.{calls_kept, tape_kept}
+use Rattle.my_client.specs.Reads.{calls_kept, facts_kept, tape_kept}
 use Rattle.my_world.specs.World.{Plans, DialCounts}
-use Rattle.my_run.specs.Grows.{Begins, BeginsOn, Calls, Connects, ConnectShows, Dials, Holds, Fails, Links, Line, PolledOnce, StepGrows, answer_shown, shown, handles_after}
+use Rattle.my_run.specs.Grows.{Begins, BeginsOn, Calls, Connects, ConnectShows, Dials, Holds, Fails, Links, Line, PolledOnce, StepGrows, TellsFields, TellsWith, answer_shown, shown, handles_after}
 use Rattle.my_run.specs.Handle.{Handle, Joined, at_number, put_at}
 use Rattle.my_run.specs.Headline.{AnswerView, answer_view, answers_of, EachExplained, Headline, IsExplained}
 use Rattle.my_run.specs.Sums.{quiet}
 use Rattle.my_run.specs.Tapes.{TapeView, tape_view, tape_call, open_call, tapes_in}
 use Rattle.wrong_tapes.specs.Bytes.{all_sent, all_taken, calls_from, tape_of}
 use Rattle.wrong_transcripts.specs.Shown.{step_of, outcome_of, taken_in, Shows}
-use Rattle.wrong_transcripts.proofs.Chain.{Chain, grown_chain}
+use Rattle.wrong_transcripts.proofs.Chain.{Chain, chain_split, grown_chain}
 
 -- how a call ended, by its step's answer
 ending_by : Outcome → Option Told
@@ -334,45 +335,88 @@ first_view : List TapeView → TapeView
 first_view [] = record { number = 0; sent = []; taken = []; calls = [] }
 first_view (v ∷ vs) = v
 
--- what the transcript shows is a tape that its reading accepts
-pub shown_tape : (login : Login) (plans : Plans) (before later : DialCounts) (a : StepAnswer) (vs : List StepAnswer) (t : Tape) (s : Span) (ss : List Span) → s.call ≡ calls.Connect → s.ending ≡ Some ToldReady → are_plain ss ≡ true → Shows a vs t s ss
-    → Headline login plans before later (steps.Conn ∷ map (λ c. step_of c.call) ss) (a ∷ vs) (t ∷ []) → IsTape login (tape_of (s ∷ ss))
-unfolding reading read_calls first_view ending_by
-shown_tape login plans before later a vs t s ss connects ready plain w h =
-    let chain : Chain login plans [] (steps.Conn ∷ map (λ c. step_of c.call) ss) (map answer_view (a ∷ vs)) (handles_after h.lines) =
-    subst (λ (vs : List AnswerView). Chain login plans [] (steps.Conn ∷ map (λ c. step_of c.call) ss) vs (handles_after h.lines)) (sym h.answered)
-    (subst (λ (xs : List Step). Chain login plans [] xs (answers_of h.lines) (handles_after h.lines)) h.steps_are (grown_chain login plans h.lines h.grown)) in
+views_outcomes : (vs : List StepAnswer) → map (λ (b : AnswerView). b.outcome) (map answer_view vs) ≡ map (λ (b : StepAnswer). b.outcome) vs
+views_outcomes [] = refl
+views_outcomes (a ∷ vs) = ap (λ xs. a.outcome ∷ xs) (views_outcomes vs)
+
+views_taken : (vs : List StepAnswer) → map (λ (b : AnswerView). taken_in b.uses) (map answer_view vs) ≡ map (λ (b : StepAnswer). taken_in b.uses.items) vs
+views_taken [] = refl
+views_taken (a ∷ vs) = ap (λ xs. taken_in a.uses.items ∷ xs) (views_taken vs)
+
+connected_ending : (id : ℕ) (version : ServerVersion) → ending_by (Connected 0 id version) ≡ Some ToldReady
+unfolding ending_by
+connected_ending id version = refl
+
+-- the run's steps lead to these numbers
+led_all : (login : Login) (plans : Plans) (a : StepAnswer) (vs : List StepAnswer) (t : Tape) (s : Span) (ss : List Span) (ts : List Handle) → s.call ≡ calls.Connect → s.ending ≡ Some ToldReady → are_plain ss ≡ true → Shows a vs t s ss
+    → Chain login plans [] (steps.Conn ∷ map (λ c. step_of c.call) ss) (map answer_view (a ∷ vs)) ts → Led nothing_kept (s ∷ ss) ts
+led_all login plans a vs t s ss ts connects ready plain w chain =
     let made = dials_went login (plans.reads 0) (plans.writes 0) a.outcome a.uses.items chain.1.made w.id w.version w.made chain.1.dials in
     let made_so : Went nothing_kept s.call a.outcome (taken_in a.uses.items) chain.1.made = subst (λ (c : Call). Went nothing_kept c a.outcome (taken_in a.uses.items) chain.1.made) (sym connects) made in
     let ending : made_so.ending ≡ s.ending = made_so.ending_is ∙ ap ending_by w.made ∙ connected_ending w.id w.version ∙ sym ready in
     let told : is_told made_so.ending ≡ true = ap is_told (ending ∙ ready) in
-    let rest = through login plans ss plain made_so.kept made_so.link chain.0 (chain.1.others ∙ ap (λ (x : Handle). x ∷ []) made_so.left) (λ more. made_so.rests told) (map answer_view vs) (views_outcomes vs ∙ w.outcomes) (views_taken vs ∙ w.taken) (handles_after h.lines) chain.2 in
-    let all = joined nothing_kept s ss (handles_after h.lines) a.outcome (taken_in a.uses.items) chain.1.made made_so refl ending w.made_taken rest in
+    let rest = through login plans ss plain made_so.kept made_so.link chain.0 (chain.1.others ∙ ap (λ (x : Handle). x ∷ []) made_so.left) (λ more. made_so.rests told) (map answer_view vs) (views_outcomes vs ∙ w.outcomes) (views_taken vs ∙ w.taken) ts chain.2 in
+    joined nothing_kept s ss ts a.outcome (taken_in a.uses.items) chain.1.made made_so refl ending w.made_taken rest
+
+-- what the connection kept is what its printed tape shows
+kept_shown : (a : StepAnswer) (vs : List StepAnswer) (t : Tape) (s : Span) (ss : List Span) (ts : List Handle) → Shows a vs t s ss → (all : Led nothing_kept (s ∷ ss) ts) → map tape_view (t ∷ []) ≡ tapes_in 0 ts → tape_kept all.kept ≡ tape_of (s ∷ ss)
+unfolding first_view
+kept_shown a vs t s ss ts w all tapes =
     let k : Kept = all.kept in
     let view : tape_view t ≡ record { number = 0; sent = k.sent; taken = k.taken; calls = map tape_call k.calls ++ open_call k.pending } =
-    ap first_view (h.tapes_are ∙ ap (tapes_in 0) all.left) in
+    ap first_view (tapes ∙ ap (tapes_in 0) all.left) in
     let sent : k.sent ≡ all_sent (s ∷ ss) = sym (ap (λ (v : TapeView). v.sent) view) ∙ w.sent_is in
     let taken : k.taken ≡ all_taken (s ∷ ss) = sym (ap (λ (v : TapeView). v.taken) view) ∙ w.taken_is in
     let starts : map (λ c. c.sent_from) all.more ≡ map (λ c. c.sent_from) (calls_from 0 0 (s ∷ ss)) =
     ap (map (λ c. c.sent_from)) (sym all.calls) ∙ starts_kept k.calls k.pending ∙ sym (ap (λ (v : TapeView). map (λ c. c.sent_from) v.calls) view) ∙ w.starts in
     let calls : calls_kept k.calls k.pending ≡ calls_from 0 0 (s ∷ ss) = all.calls ∙ same_calls 0 0 (s ∷ ss) all.more all.are starts in
-    let tape : tape_kept k ≡ tape_of (s ∷ ss) =
     ap (λ (x : List ℕ). let r : ReadTape = record { sent = x; taken = k.taken; calls = calls_kept k.calls k.pending } in r) sent
     ∙ ap (λ (x : List ℕ). let r : ReadTape = record { sent = all_sent (s ∷ ss); taken = x; calls = calls_kept k.calls k.pending } in r) taken
-    ∙ ap (λ (x : List TapeCall). let r : ReadTape = record { sent = all_sent (s ∷ ss); taken = all_taken (s ∷ ss); calls = x } in r) calls in
-    let explained : IsExplained login (plans.reads 0) (Joined true k all.link) = subst (λ (hs : List Handle). IsExplained login (plans.reads 0) (at_number hs 0)) all.left (explained_now login plans h.lines h.explained 0) in
+    ∙ ap (λ (x : List TapeCall). let r : ReadTape = record { sent = all_sent (s ∷ ss); taken = all_taken (s ∷ ss); calls = x } in r) calls
+
+-- what the transcript shows is a tape that its reading accepts
+pub shown_tape : (login : Login) (plans : Plans) (before later : DialCounts) (a : StepAnswer) (vs : List StepAnswer) (t : Tape) (s : Span) (ss : List Span) → s.call ≡ calls.Connect → s.ending ≡ Some ToldReady → are_plain ss ≡ true → Shows a vs t s ss
+    → Headline login plans before later (steps.Conn ∷ map (λ c. step_of c.call) ss) (a ∷ vs) (t ∷ []) → IsTape login (tape_of (s ∷ ss))
+unfolding reading read_calls
+shown_tape login plans before later a vs t s ss connects ready plain w h =
+    let chain : Chain login plans [] (steps.Conn ∷ map (λ c. step_of c.call) ss) (map answer_view (a ∷ vs)) (handles_after h.lines) =
+    subst (λ (vs : List AnswerView). Chain login plans [] (steps.Conn ∷ map (λ c. step_of c.call) ss) vs (handles_after h.lines)) (sym h.answered)
+    (subst (λ (xs : List Step). Chain login plans [] xs (answers_of h.lines) (handles_after h.lines)) h.steps_are (grown_chain login plans h.lines h.grown)) in
+    let all = led_all login plans a vs t s ss (handles_after h.lines) connects ready plain w chain in
+    let tape = kept_shown a vs t s ss (handles_after h.lines) w all h.tapes_are in
+    let explained : IsExplained login (plans.reads 0) (Joined true all.kept all.link) = subst (λ (hs : List Handle). IsExplained login (plans.reads 0) (at_number hs 0)) all.left (explained_now login plans h.lines h.explained 0) in
     record {
       first = and_both _ _ (ap (λ (c : Call). is_connect (kind_of c)) connects) (none_connects login ss plain (tape_of (s ∷ ss)) (0 + length s.sent) (0 + length s.taken) _ _);
       calls = subst (λ (r : ReadTape). AreCalls login (reading login r).calls) tape explained.0.read;
     }
+
+-- `fields` on the connection
+tells : (q : Option Asked) (login : Login) (k : Kept) (x : Looks) (o : Outcome) (us : List Use) (h : Handle) (fields : Option OkPacket) → TellsWith q login k x o us h → o ≡ Fields fields → (h ≡ Joined true k x) × (fields ≡ (facts_kept login k).ok)
+tells None login k x o us h fields w e = (w.left, fields_same fields (facts_kept login k).ok (sym e ∙ w.outcome))
   where
-    connected_ending : (id : ℕ) (version : ServerVersion) → ending_by (Connected 0 id version) ≡ Some ToldReady
-    connected_ending id version = refl
+    fields_same : (x y : Option OkPacket) → Fields x ≡ Fields y → x ≡ y
+    fields_same x y e = cc
+tells (Some a) login k x o us h fields w e = let no : NoSuchHandle ≡ Fields fields = sym w.outcome ∙ e in cc
 
-    views_outcomes : (vs : List StepAnswer) → map (λ (b : AnswerView). b.outcome) (map answer_view vs) ≡ map (λ (b : StepAnswer). b.outcome) vs
-    views_outcomes [] = refl
-    views_outcomes (a ∷ vs) = ap (λ xs. a.outcome ∷ xs) (views_outcomes vs)
-
-    views_taken : (vs : List StepAnswer) → map (λ (b : AnswerView). taken_in b.uses) (map answer_view vs) ≡ map (λ (b : StepAnswer). taken_in b.uses.items) vs
-    views_taken [] = refl
-    views_taken (a ∷ vs) = ap (λ xs. taken_in a.uses.items ∷ xs) (views_taken vs)
+-- where `fields` follows, it shows what the reading of the tape says
+pub shown_fields : (login : Login) (plans : Plans) (before later : DialCounts) (a b : StepAnswer) (vs : List StepAnswer) (t : Tape) (s : Span) (ss : List Span) (fields : Option OkPacket) → s.call ≡ calls.Connect → s.ending ≡ Some ToldReady → are_plain ss ≡ true → Shows a vs t s ss → b.outcome ≡ Fields fields
+    → Headline login plans before later (steps.Conn ∷ (map (λ c. step_of c.call) ss ++ steps.Fields 0 ∷ [])) (a ∷ (vs ++ b ∷ [])) (t ∷ []) → fields ≡ (facts_at login (reading login (tape_of (s ∷ ss))).place).ok
+shown_fields login plans before later a b vs t s ss fields connects ready plain w is h =
+    let ts = handles_after h.lines in
+    let views : map answer_view (a ∷ (vs ++ b ∷ [])) ≡ map answer_view (a ∷ vs) ++ answer_view b ∷ [] = map-append answer_view (a ∷ vs) (b ∷ []) in
+    let chain : Chain login plans [] ((steps.Conn ∷ map (λ c. step_of c.call) ss) ++ steps.Fields 0 ∷ []) (map answer_view (a ∷ vs) ++ answer_view b ∷ []) ts =
+    subst (λ (vs : List AnswerView). Chain login plans [] ((steps.Conn ∷ map (λ c. step_of c.call) ss) ++ steps.Fields 0 ∷ []) vs ts) (sym h.answered ∙ views)
+    (subst (λ (xs : List Step). Chain login plans [] xs (answers_of h.lines) ts) h.steps_are (grown_chain login plans h.lines h.grown)) in
+    let count : length (steps.Conn ∷ map (λ c. step_of c.call) ss) ≡ length (map answer_view (a ∷ vs)) =
+    let x = length-map ss (λ c. step_of c.call) in
+    let y = length-map vs answer_view in
+    let z = ap length w.outcomes in
+    let u = length-map vs (λ (b : StepAnswer). b.outcome) in
+    let v = length-map ss (λ (c : Span). outcome_of c.ending) in
+    omega (arith, x, y, z, u, v) in
+    let split = chain_split login plans [] (steps.Conn ∷ map (λ c. step_of c.call) ss) (map answer_view (a ∷ vs)) (steps.Fields 0) (answer_view b) ts count chain in
+    let all = led_all login plans a vs t s ss split.0 connects ready plain w split.1 in
+    let told = tells all.kept.pending login all.kept all.link b.outcome b.uses.items split.2.made fields (subst (λ (hs : List Handle). TellsFields login (at_number hs 0) b.outcome b.uses.items split.2.made) all.left split.2.does) is in
+    let left : ts ≡ Joined true all.kept all.link ∷ [] = split.2.others ∙ ap (put_at 0 split.2.made) all.left ∙ ap (λ (x : Handle). x ∷ []) told.0 in
+    let on : Led nothing_kept (s ∷ ss) ts = record { kept = all.kept; link = all.link; left = left; more = all.more; calls = all.calls; are = all.are } in
+    told.1 ∙ ap (λ (r : ReadTape). (facts_at login (reading login r).place).ok) (kept_shown a vs t s ss ts w on h.tapes_are)

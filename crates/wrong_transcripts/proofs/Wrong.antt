@@ -1,15 +1,40 @@
 -- The wrong transcripts: each shows a wrong tape.
-use Rattle.std.proofs.Common.{◌≡◌, List, ◌∷◌, true, refl}
+use Rattle.std.proofs.Common.{◌≡◌, ℕ, List, [], ◌∷◌, Option, Some, None, true, refl, ap, arith}
+use Rattle.my_frame.specs.Writing.{le_bytes, len_bytes, text_bytes, text0_bytes, short_bytes}
+use Rattle.my_frame.specs.Front.{front_within, front_from}
+use Rattle.my_frame.specs.Chunks.{parts_of, chunks, number_after_payload}
+use Rattle.my_reply.specs.Column.{names_at, form_at}
+use Rattle.my_reply.specs.OkPacket.{fields_at}
+use Rattle.my_reply.specs.declared.ok.OkPacket.{OkPacket}
+use Rattle.my_handshake.specs.Greeting.{settings_at}
+use Rattle.my_handshake.specs.Version.{dotted_at}
+use Rattle.my_grammar.specs.Response.{response}
+use Rattle.my_reading.specs.Course.{step, run}
+use Rattle.my_reading.specs.Place.{facts_at}
+use Rattle.my_reading.specs.Reading.{read_calls, reading}
 use Rattle.my_reading.specs.Endings.{IsTape}
 use Rattle.my_reading.specs.Tape.{Span}
 use Rattle.wrong_tapes.specs.Bytes.{root, connected, tape_of}
 use Rattle.wrong_tapes.proofs.Wrong.{are_wrong as tapes_are_wrong}
 use Rattle.wrong_transcripts.specs.Shown.{NoTranscript}
-use Rattle.wrong_transcripts.specs.Wrong.{AreWrong}
-use Rattle.wrong_transcripts.proofs.Shown.{are_plain, shown_tape}
+use Rattle.wrong_transcripts.specs.Wrong.{AreWrong, early}
+use Rattle.wrong_transcripts.proofs.Shown.{are_plain, shown_fields, shown_tape}
 
 none_shows : (ss : List Span) → are_plain ss ≡ true → (IsTape root (tape_of (connected ∷ ss)) → ⊥) → NoTranscript root connected ss
 none_shows ss plain wrong plans before later a answers t w h = wrong (shown_tape root plans before later a answers t connected ss refl refl plain w h)
+
+-- an OK with so many warnings
+abbrev fields_of : ℕ → Option OkPacket
+fields_of n = Some (record { affected = 0; insert = 0; status = record { 0 = 2 }; warnings = n; info = [] })
+
+warnings_of : Option OkPacket → ℕ
+warnings_of None = 0
+warnings_of (Some ok) = ok.warnings
+
+-- the login's OK is the last one that was read
+not_read : fields_of 1 ≡ (facts_at root (reading root (tape_of (connected ∷ early ∷ []))).place).ok → ⊥
+unfolding le_bytes len_bytes text_bytes text0_bytes short_bytes front_within front_from parts_of chunks number_after_payload names_at form_at fields_at settings_at dotted_at response step run read_calls reading warnings_of
+not_read e = absurd (omega (arith, ap warnings_of e))
 
 pub are_wrong : AreWrong
 are_wrong = record {
@@ -29,4 +54,5 @@ are_wrong = record {
   late_link_end = none_shows _ refl tapes_are_wrong.late_link_end;
   invented_fault = none_shows _ refl tapes_are_wrong.invented_fault;
   lost_error = none_shows _ refl tapes_are_wrong.lost_error;
+  unread_fields = λ plans before later a b answers t w is h. not_read (shown_fields root plans before later a b answers t connected (early ∷ []) (fields_of 1) refl refl refl w is h);
 }

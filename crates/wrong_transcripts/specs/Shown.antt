@@ -1,6 +1,7 @@
 -- What a transcript shows of one connection, of which each call was polled once.
-use Rattle.std.specs.Prelude.{ℕ, ◌≡◌, ◌+◌, List, [], ◌∷◌, length, map, Option, Some, None, Bool, false, not, ◌&&◌}
+use Rattle.std.specs.Prelude.{ℕ, ◌≡◌, ◌+◌, List, [], ◌∷◌, ◌++◌, length, map, Option, Some, None, Bool, false, not, ◌&&◌}
 use Rattle.my_handshake.specs.declared.version.ServerVersion.{ServerVersion}
+use Rattle.my_reply.specs.declared.ok.OkPacket.{OkPacket}
 use Rattle.my_grammar.specs.declared.login.Login.{Login}
 use Rattle.my_reading.specs.declared.call.Call.{Call}
 use Rattle.my_reading.specs.declared.call.Call.TheVariants as calls
@@ -10,7 +11,7 @@ use Rattle.my_reading.specs.Told.{Told, ToldReady, ToldRow, ToldEnd, ToldNone, T
 use Rattle.my_script.specs.declared.step.Step.{Step}
 use Rattle.my_script.specs.declared.step.Step.TheVariants as steps
 use Rattle.my_script.specs.declared.transcript.Outcome.{Outcome}
-use Rattle.my_script.specs.declared.transcript.Outcome.TheVariants.{Done, Pending, SetEnd, NoSet, Row, Connected, Failed, NoSuchHandle}
+use Rattle.my_script.specs.declared.transcript.Outcome.TheVariants.{Done, Pending, SetEnd, NoSet, Row, Fields, Connected, Failed, NoSuchHandle}
 use Rattle.my_script.specs.declared.transcript.StepAnswer.{StepAnswer}
 use Rattle.my_script.specs.declared.transcript.Tape.{Tape}
 use Rattle.my_script.specs.declared.transcript.Use.{Use}
@@ -65,3 +66,9 @@ abbrev pub NoTranscript : Login → Span → List Span → Type 0
 NoTranscript login s ss = (plans : Plans) (before later : DialCounts) (a : StepAnswer) (answers : List StepAnswer) (t : Tape)
     → Shows a answers t s ss
     → Headline login plans before later (steps.Conn ∷ map (λ c. step_of c.call) ss) (a ∷ answers) (t ∷ []) → ⊥
+
+-- Nor has one of these steps and `fields` a transcript that shows these calls and then this OK.
+abbrev pub NoFields : Login → Span → List Span → Option OkPacket → Type 0
+NoFields login s ss fields = (plans : Plans) (before later : DialCounts) (a b : StepAnswer) (answers : List StepAnswer) (t : Tape)
+    → Shows a answers t s ss → b.outcome ≡ Fields fields
+    → Headline login plans before later (steps.Conn ∷ (map (λ c. step_of c.call) ss ++ steps.Fields 0 ∷ [])) (a ∷ (answers ++ b ∷ [])) (t ∷ []) → ⊥

@@ -1,5 +1,5 @@
 -- Transcripts that no run has.
-use Rattle.std.specs.Prelude.{List, [], ◌∷◌, ◌++◌, codes, None}
+use Rattle.std.specs.Prelude.{List, [], ◌∷◌, ◌++◌, codes, None, Some}
 use Rattle.my_reading.specs.declared.call.Call.TheVariants.{Query, NextRow, DropResult, Quit}
 use Rattle.my_reading.specs.declared.error.Error.TheVariants.{Server}
 use Rattle.my_reading.specs.declared.error.IoKind.TheVariants.{Link}
@@ -8,11 +8,15 @@ use Rattle.my_reading.specs.Told.{ToldReady, ToldRow, ToldEnd, ToldNone, ToldErr
 use Rattle.my_reading.specs.Tape.{Span}
 use Rattle.wrong_tapes.specs.Bytes.{root, connected, selected, asked, asks, returned, call_with, row, one, end, fine, refusal, head, packet}
 use Rattle.wrong_tapes.specs.Right.{error}
-use Rattle.wrong_transcripts.specs.Shown.{NoTranscript}
+use Rattle.wrong_transcripts.specs.Shown.{NoFields, NoTranscript}
 
 -- after `conn` these calls are in no transcript of a client that logs in as root
 abbrev pub NoneShow : List Span → Type 0
 NoneShow ss = NoTranscript root connected ss
+
+-- a query whose rows and end were received with its head: the end says that there is a warning
+abbrev pub early : Span
+early = asked (codes "SELECT 1") (head ++ one 3 ++ packet 4 (254 ∷ 0 ∷ 0 ∷ 2 ∷ 0 ∷ 1 ∷ 0 ∷ []))
 
 pub record AreWrong : Type 0 where
   -- `query`, `next`: a row of other cells than the payload's
@@ -44,3 +48,5 @@ pub record AreWrong : Type 0 where
   pub invented_fault : NoneShow (selected ∷ returned NextRow [] (one 3) (ToldError (invalid_data 4)) ∷ [])
   -- `query`, `next`: the server's error is passed over
   pub lost_error : NoneShow (selected ∷ returned NextRow [] (refusal 3) ToldNone ∷ [])
+  -- `query`, `fields`: those of an end that was received and not read
+  pub unread_fields : NoFields root connected (early ∷ []) (Some (record { affected = 0; insert = 0; status = record { 0 = 2 }; warnings = 1; info = [] }))
