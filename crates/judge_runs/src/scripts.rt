@@ -34,6 +34,9 @@ const ERR_THEN_OK: &str =
 // A row whose bytes are held in the middle.
 const HELD_ROW: &str = "bytes 0 0200\nwait 0\nbytes 0 00030131\n";
 
+// Two rows, with a hold between them, and their end.
+const HELD_ROWS: &str = "packet 0 3 0131\nwait 0\npacket 0 4 0132\npacket 0 5 fe000002000000\n";
+
 const OPEN: Change = Change::Ending(Told::Open);
 
 const CANCELLED: Change = Change::Ending(Told::Cancelled);
@@ -188,6 +191,32 @@ pub fn writing() -> [Script; 3] {
             [GREETING, "accept 0 64\nwfail 0\n", ""],
             "conn\nquery 0 SELECT 1\nping 0\n",
             &[(1, CANCELLED_CLOSING)],
+        ),
+        Script {
+            closes: true,
+            ..cancelled
+        },
+    ]
+}
+
+/// A response of which each poll takes a byte, rows whose gathering is held and polled, and a connection that is
+/// cancelled while it is made.
+pub fn polled() -> [Script; 3] {
+    let cancelled = plain(
+        ["bytes 0 4a00\nwait 0\n", GREETING, ""],
+        "conn\ncancel 0\n",
+        &[(0, OPEN)],
+    );
+    [
+        plain(
+            [GREETING, "drip 0 1 00000002000000\n", ""],
+            "conn\nquery 0 X\npoll 0\npoll 0\npoll 0\npoll 0\npoll 0\npoll 0\npoll 0\npoll 0\npoll 0\npoll 0\nnext 0\nnext 0\n",
+            &[],
+        ),
+        plain(
+            [GREETING, HEAD, HELD_ROWS],
+            "conn\nquery 0 X\ncollect 0\npoll 0\nnext 0\n",
+            &[],
         ),
         Script {
             closes: true,

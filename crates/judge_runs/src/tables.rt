@@ -2,7 +2,7 @@
 
 use crate::changes::{CHANGES, Change, changed, is_change};
 use crate::runs::{Run, run_of};
-use crate::scripts::{Script, answered, closing, connecting, held, writing};
+use crate::scripts::{Script, answered, closing, connecting, held, polled, writing};
 use crate::spans::{Span, copies, tape_of};
 use my_frame::NoMemory;
 use my_grammar::Login;
@@ -33,6 +33,14 @@ fn found(
     judge(alloc, login, &tape)
 }
 
+// A change is found at its call or at the next one.
+fn is_refuted(verdict: Verdict, at: usize) -> bool {
+    match verdict {
+        Verdict::Accepted => false,
+        Verdict::Refuted(by) => by == at || by == at.saturating_add(1),
+    }
+}
+
 // The changes of one call.
 fn refute_call(
     rt: &impl Abort,
@@ -50,14 +58,20 @@ fn refute_call(
         if !is_change(span, at.saturating_add(1) == spans.len(), change) {
             continue;
         }
-        let accepts = found(alloc, login, spans, at, change)? == Verdict::Accepted;
-        assert_eq!(rt;
-            accepts,
-            is_allowed(script, at, change),
-            "call {at} of {:?}: {change:?}",
-            script.steps
-        );
-        if !accepts {
+        let verdict = found(alloc, login, spans, at, change)?;
+        if is_allowed(script, at, change) {
+            assert_eq!(rt;
+                verdict,
+                Verdict::Accepted,
+                "call {at} of {:?}: {change:?}",
+                script.steps
+            );
+        } else {
+            assert!(rt;
+                is_refuted(verdict, at),
+                "call {at} of {:?}: {change:?}",
+                script.steps
+            );
             refuted = refuted.saturating_add(1);
         }
     }
@@ -146,5 +160,12 @@ fn reads_that_close(rt: HostRuntime) -> Result<(), Fail> {
 fn writes_that_close(rt: HostRuntime) -> Result<(), Fail> {
     let found = count_all(&rt, rt.alloc(), &writing())?;
     assert_eq!(rt; found, counted(3, 80));
+    Ok(())
+}
+
+#[test]
+fn calls_that_are_polled(rt: HostRuntime) -> Result<(), Fail> {
+    let found = count_all(&rt, rt.alloc(), &polled())?;
+    assert_eq!(rt; found, counted(3, 109));
     Ok(())
 }
