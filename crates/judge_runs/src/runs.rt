@@ -67,15 +67,15 @@ fn connections_of(
     let mut connections = Vec::new(alloc);
     for tape in tapes {
         let starts = starts_of(alloc, steps, answers.as_slice(), tape.number)?;
-        if starts.len() == tape.calls.len() {
-            connections.push(spans_of(alloc, tape, starts.as_slice(), closes)?)?;
+        if let Some(spans) = spans_of(alloc, tape, starts.as_slice(), closes)? {
+            connections.push(spans)?;
         }
     }
     Ok(connections)
 }
 
 /// The run of a script; none where the word of its options is refused. A connection is left out where its steps begin
-/// another number of calls than its tape has.
+/// another number of calls than its tape has, or its calls don't share out its bytes in order.
 pub fn run_of(alloc: Global, script: &Script) -> Result<Option<Run>, NoMemory> {
     let text = text_of(alloc, script)?;
     let transcript = transcript_of(alloc, script.word, text.as_slice())?;

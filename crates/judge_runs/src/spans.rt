@@ -58,21 +58,33 @@ fn span_of(
     })
 }
 
-/// The calls of a printed tape that began at these places; a call that is cancelled closes the connection or not.
+fn is_within(tape: &PrintedTape, call: &PrintedCall, start: Start) -> bool {
+    call.sent_from as usize <= tape.sent.len() && start.taken <= tape.taken.len()
+}
+
+/// The calls of a printed tape that began at these places; a call that is cancelled closes the connection or not. None
+/// where a call begins after the next one, or the first one after the first bytes.
 pub fn spans_of(
     alloc: Global,
     mut tape: PrintedTape,
     starts: &[Start],
     closes: bool,
-) -> Result<Vec<Span>, NoMemory> {
+) -> Result<Option<Vec<Span>>, NoMemory> {
     let mut spans = Vec::new(alloc);
     for start in starts.iter().rev() {
-        if let Some(call) = tape.calls.pop() {
-            spans.push(span_of(alloc, &mut tape, call, *start, closes)?)?;
+        let Some(call) = tape.calls.pop() else {
+            return Ok(None);
+        };
+        if !is_within(&tape, &call, *start) {
+            return Ok(None);
         }
+        spans.push(span_of(alloc, &mut tape, call, *start, closes)?)?;
+    }
+    if !tape.sent.is_empty() || !tape.taken.is_empty() || !tape.calls.is_empty() {
+        return Ok(None);
     }
     spans.reverse();
-    Ok(spans)
+    Ok(Some(spans))
 }
 
 fn copy_ending(alloc: Global, ending: &Option<Ending>) -> Result<Option<Ending>, NoMemory> {
