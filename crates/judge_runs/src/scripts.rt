@@ -1,0 +1,226 @@
+//! The scripts that are run.
+
+use crate::changes::{Change, Told};
+
+const WORD: &str = "plain,root,,4194304,28800";
+
+const GREETING: &str =
+    "packet 0 0 0a382e302e333600070000006162636465666768008ba22d02001f011500000000000000000000696a6b6c6d6e6f7071727374006d7973716c5f6e61746976655f70617373776f726400\nturn 0\npacket 0 2 00000002000000\nturn 0\n";
+
+const GREETING_OF_THE_SECOND: &str =
+    "packet 1 0 0a382e302e333600070000006162636465666768008ba22d02001f011500000000000000000000696a6b6c6d6e6f7071727374006d7973716c5f6e61746976655f70617373776f726400\nturn 1\npacket 1 2 00000002000000\nturn 1\npacket 1 1 00000002000000\n";
+
+// The head of a result with one column.
+const HEAD: &str = "packet 0 1 01\npacket 0 2 036465660000000131000c3f0001000000088100000000\n";
+
+const ROW_AND_END: &str = "packet 0 3 0131\npacket 0 4 fe000002000000\n";
+
+// What a server tells of its settings: 1,000 bytes and 28,800 seconds; then a header of 1,025 bytes.
+const SETTINGS: &str =
+    "packet 0 1 02\npacket 0 2 036465660000000170000c3f0001000000088100000000\npacket 0 3 036465660000000177000c3f0001000000088100000000\npacket 0 4 0431303030053238383030\npacket 0 5 fe000002000000\nturn 0\nbytes 0 01040001\n";
+
+// Two sets of two columns: (1, 2), (3, 4), and (5, 6).
+const TWO_SETS: &str =
+    "packet 0 1 02\npacket 0 2 036465660000000131000c3f0001000000088100000000\npacket 0 3 036465660000000132000c3f0001000000088100000000\npacket 0 4 01310132\npacket 0 5 01330134\npacket 0 6 fe00000a000000\npacket 0 7 02\npacket 0 8 036465660000000135000c3f0001000000088100000000\npacket 0 9 036465660000000136000c3f0001000000088100000000\npacket 0 10 01350136\npacket 0 11 fe000002000000\nturn 0\n";
+
+// An OK with more after it, an ERR, and the OK of the next command.
+const OK_THEN_ERR: &str =
+    "packet 0 1 0000000a000000\npacket 0 2 ff2804233432303030424c41424c41\nturn 0\npacket 0 1 00000002000000\nturn 0\n";
+
+// An ERR, and the OK of the next command.
+const ERR_THEN_OK: &str =
+    "packet 0 1 ff280423343230303058\nturn 0\npacket 0 1 00000002000000\nturn 0\n";
+
+// A row whose bytes are held in the middle.
+const HELD_ROW: &str = "bytes 0 0200\nwait 0\nbytes 0 00030131\n";
+
+// Two rows, with a hold between them, and their end.
+const HELD_ROWS: &str = "packet 0 3 0131\nwait 0\npacket 0 4 0132\npacket 0 5 fe000002000000\n";
+
+const OPEN: Change = Change::Ending(Told::Open);
+
+const CANCELLED: Change = Change::Ending(Told::Cancelled);
+
+const CANCELLED_CLOSING: Change = Change::Ending(Told::CancelledClosing);
+
+/// A script: the word of its options, the lines of its links, and its steps.
+#[derive(Clone, Copy)]
+pub struct Script {
+    pub word: &'static str,
+    pub lines: [&'static str; 3],
+    pub steps: &'static str,
+    /// Whether the call that it cancels closes the connection.
+    pub closes: bool,
+    /// The changes of its tapes that the reading allows, each with the index of its call.
+    pub allowed: &'static [(usize, Change)],
+}
+
+fn plain(
+    lines: [&'static str; 3],
+    steps: &'static str,
+    allowed: &'static [(usize, Change)],
+) -> Script {
+    Script {
+        word: WORD,
+        lines,
+        steps,
+        closes: false,
+        allowed,
+    }
+}
+
+/// A link that fails before any byte, one that fails while the client answers, and one whose greeting is held.
+///
+/// Bytes don't show a fault of the link: where one closed the connection, the call may be open as well, or cancelled.
+pub fn connecting() -> [Script; 3] {
+    [
+        plain(
+            ["fail 0\n", "", ""],
+            "conn\n",
+            &[(0, CANCELLED_CLOSING), (0, OPEN)],
+        ),
+        plain(
+            [GREETING, "accept 0 1\naccept 0 3\nwfail 0\n", ""],
+            "conn\n",
+            &[(0, CANCELLED_CLOSING), (0, OPEN)],
+        ),
+        plain(
+            ["bytes 0 4a00\nwait 0\n", GREETING, ""],
+            "conn\n",
+            &[(0, CANCELLED_CLOSING)],
+        ),
+    ]
+}
+
+/// A row, rows that are gathered, an ERR, an OK with an ERR after it, and a quit.
+///
+/// A query that returned an ERR leaves nothing, so that it may be missing or stand elsewhere; so may a second quit.
+pub fn answered() -> [Script; 5] {
+    [
+        plain(
+            [GREETING, HEAD, ROW_AND_END],
+            "conn\nquery 0 SELECT 1\nnext 0\nnext 0\nnext 0\n",
+            &[],
+        ),
+        plain(
+            [GREETING, TWO_SETS, ""],
+            "conn\nquery 0 X\ncollect 0\ncollect 0\ncollect 0\n",
+            &[],
+        ),
+        plain(
+            [GREETING, ERR_THEN_OK, ""],
+            "conn\nquery 0 X\nfields 0\nping 0\n",
+            &[(1, Change::Missing), (1, Change::Swapped)],
+        ),
+        plain(
+            [GREETING, OK_THEN_ERR, ""],
+            "conn\nquery 0 A\nquery 0 B\nquery 0 C\nfields 0\n",
+            &[],
+        ),
+        plain(
+            [GREETING, "", ""],
+            "conn\nquit 0\nquit 0\nping 0\n",
+            &[(2, Change::Missing), (2, Change::Swapped)],
+        ),
+    ]
+}
+
+/// Two sets that are dropped, a held row that is cancelled and read, a row that is held, and two connections.
+///
+/// A read among rows that is cancelled closes nothing, and is as one that is open.
+pub fn held() -> [Script; 4] {
+    [
+        plain(
+            [GREETING, TWO_SETS, ""],
+            "conn\nquery 0 X\nnext 0\ndrop 0\nnext 0\n",
+            &[],
+        ),
+        plain(
+            [GREETING, HEAD, HELD_ROW],
+            "conn\nquery 0 X\nnext 0\nnext 0\ncancel 0\nnext 0\ncancel 0\n",
+            &[(2, OPEN)],
+        ),
+        plain(
+            [GREETING, HEAD, "wait 0\npacket 0 3 0131\n"],
+            "conn\nquery 0 SELECT 1\nnext 0\nnext 0\n",
+            &[(2, CANCELLED)],
+        ),
+        plain(
+            [GREETING, GREETING_OF_THE_SECOND, ERR_THEN_OK],
+            "conn\nconn\nquery 0 X\nping 1\nping 0\n",
+            &[(1, Change::Missing), (1, Change::Swapped)],
+        ),
+    ]
+}
+
+const READS: &str = "conn\nquery 0 SELECT 1\nnext 0\nnext 0\n";
+
+/// A link that fails, one that ends, and payloads that are wrong or out of order.
+///
+/// On a closed connection a call without bytes may be missing or stand elsewhere.
+pub fn closing() -> [Script; 4] {
+    [
+        plain([GREETING, HEAD, "fail 0\npacket 0 3 0131\n"], READS, &[]),
+        plain([GREETING, HEAD, "end 0\n"], READS, &[]),
+        plain([GREETING, HEAD, "packet 0 3 -\n"], READS, &[]),
+        plain(
+            [GREETING, "packet 0 5 01\n", ""],
+            READS,
+            &[(2, Change::Missing), (2, Change::Swapped)],
+        ),
+    ]
+}
+
+/// Settings that the server tells, with a payload that is too long for them; a write that fails, and one that is held
+/// and cancelled.
+///
+/// Where a write failed the call may be one that was cancelled.
+pub fn writing() -> [Script; 3] {
+    let told = plain([GREETING, SETTINGS, ""], "conn\nquery 0 DO 1\n", &[]);
+    let cancelled = plain(
+        [GREETING, "accept 0 64\naccept 0 6\nwwait 0\n", ""],
+        "conn\nquery 0 SELECT 1\ncancel 0\nquery 0 SELECT 1\n",
+        &[],
+    );
+    [
+        Script {
+            word: "mysql://root@localhost",
+            ..told
+        },
+        plain(
+            [GREETING, "accept 0 64\nwfail 0\n", ""],
+            "conn\nquery 0 SELECT 1\nping 0\n",
+            &[(1, CANCELLED_CLOSING)],
+        ),
+        Script {
+            closes: true,
+            ..cancelled
+        },
+    ]
+}
+
+/// A response of which each poll takes a byte, rows whose gathering is held and polled, and a connection that is
+/// cancelled while it is made.
+pub fn polled() -> [Script; 3] {
+    let cancelled = plain(
+        ["bytes 0 4a00\nwait 0\n", GREETING, ""],
+        "conn\ncancel 0\n",
+        &[(0, OPEN)],
+    );
+    [
+        plain(
+            [GREETING, "drip 0 1 00000002000000\n", ""],
+            "conn\nquery 0 X\npoll 0\npoll 0\npoll 0\npoll 0\npoll 0\npoll 0\npoll 0\npoll 0\npoll 0\npoll 0\nnext 0\nnext 0\n",
+            &[],
+        ),
+        plain(
+            [GREETING, HEAD, HELD_ROWS],
+            "conn\nquery 0 X\ncollect 0\npoll 0\nnext 0\n",
+            &[],
+        ),
+        Script {
+            closes: true,
+            ..cancelled
+        },
+    ]
+}
