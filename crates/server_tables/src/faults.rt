@@ -1,8 +1,8 @@
 //! Scripts that can't be served, and the fault of each.
 
+use crate::notation::{ok_packet, script_of};
 use my_frame::{Blob, Listed, NoMemory};
 use my_server::{Reply, ReplyAnswer, ScriptFault, ServerCore, ServerScript};
-use server_notation::{ok_packet, script_of};
 use std::alloc::Global;
 use std::process::Abort;
 use std::test::Fail;

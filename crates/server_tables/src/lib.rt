@@ -1,5 +1,12 @@
-//! Tables of scripts, and the fault of each that can't be served. This crate has tests alone.
+//! Tables of scripts of a server: the fault of each that can't be served, what it answers to clients that break the
+//! protocol, and talks of a session with it. This crate has tests alone.
 #![tactic(auto)]
 
 #[cfg(test)]
 mod faults;
+#[cfg(test)]
+mod hostile;
+#[cfg(test)]
+mod notation;
+#[cfg(test)]
+mod talks;

@@ -1,10 +1,10 @@
 //! What is sent in a login's place.
 
-use crate::play::{
+use crate::hostile::play::{
     ADMITTED, GREETING, LOGIN, OLD_LOGIN, bytes_of, expect_answer, greeted, number, serve,
 };
+use crate::notation::script_of;
 use my_server::{CloseCause, ServerCore, ServerStep};
-use server_notation::script_of;
 use std::alloc::Global;
 use std::process::Abort;
 use std::test::Fail;

@@ -1,6 +1,6 @@
 //! What a session reads, in the notation of the answers.
 
-use crate::carry::call;
+use crate::talks::carry::call;
 use my_frame::{Blob, NoMemory};
 use my_reading::{Answer, Call, Error};
 use my_reply::OkPacket;

@@ -1,8 +1,8 @@
 //! Scripts whose sets a session reads.
 
-use crate::carry::{PIECES, login_of};
-use crate::visit::talk;
-use server_notation::script_of;
+use crate::notation::script_of;
+use crate::talks::carry::{PIECES, login_of};
+use crate::talks::visit::talk;
 use std::alloc::{AllocError, Global};
 use std::fmt::Write;
 use std::process::Abort;

@@ -1,8 +1,7 @@
-//! Scripts of a server as short texts. Crates of tests stand on it.
+//! Scripts of a server as short texts.
 //!
 //! Sets are separated by `|`, the names and the rows of a set by `/`, cells by `,`. A cell `~` is NULL, `-` is empty, and
 //! `#300` has 300 bytes `x`; a row `@300` has 300 cells `1`. `ok` is an OK, `err` an ERR.
-#![tactic(auto)]
 
 use my_flags::StatusFlags;
 use my_frame::{Blob, Listed, NoMemory, Text};

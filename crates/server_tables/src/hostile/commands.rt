@@ -1,6 +1,8 @@
 //! What is sent after a login.
 
-use crate::play::{ADMITTED, LOGIN, OLD_LOGIN, bytes_of, expect_answer, greeted, number, serve};
+use crate::hostile::play::{
+    ADMITTED, LOGIN, OLD_LOGIN, bytes_of, expect_answer, greeted, number, serve,
+};
 use my_frame::FULL_LENGTH;
 use my_server::{CloseCause, ServerStep};
 use std::alloc::{AllocError, Global};

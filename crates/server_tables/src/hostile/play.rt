@@ -1,8 +1,8 @@
 //! A server that is handed known bytes.
 
+use crate::notation::script_of;
 use my_frame::CodecFault;
 use my_server::{CloseCause, ServerCore, ServerStep};
-use server_notation::script_of;
 use std::alloc::{AllocError, Global};
 use std::process::Abort;
 use std::test::Fail;

@@ -1,7 +1,7 @@
 //! A session that visits a server.
 
-use crate::carry::call;
-use crate::show::show_query;
+use crate::talks::carry::call;
+use crate::talks::show::show_query;
 use my_grammar::Login;
 use my_reading::{Call, Error};
 use my_server::{ServerCore, ServerScript};

@@ -1,8 +1,8 @@
 //! Logins of a session, and what each side says of them.
 
-use crate::carry::{PIECES, login_of};
-use crate::visit::talk;
-use server_notation::script_of;
+use crate::notation::script_of;
+use crate::talks::carry::{PIECES, login_of};
+use crate::talks::visit::talk;
 use std::alloc::Global;
 use std::process::Abort;
 use std::test::Fail;
