@@ -9,12 +9,12 @@ use Rattle.my_reading.specs.declared.call.Call.TheVariants as calls
 use Rattle.my_reading.specs.Calls.{kind_of, is_connect}
 use Rattle.my_reading.specs.declared.call.CallKind.TheVariants.{Connect}
 use Rattle.my_reading.specs.declared.error.IoKind.TheVariants.{Dial}
-use Rattle.my_reading.specs.Endings.{AreCalls, IsTape, connects_none}
-use Rattle.my_reading.specs.Place.{Place, facts_at}
+use Rattle.my_reading.specs.Endings.{IsTape}
+use Rattle.my_reading.specs.Place.{facts_at}
 use Rattle.my_reply.specs.declared.ok.OkPacket.{OkPacket}
 use Rattle.my_reading.specs.Errors.{connection_closed, io_error}
-use Rattle.my_reading.specs.Reading.{read_calls, reading}
-use Rattle.my_reading.specs.Tape.{Span, TapeCall, Tape as ReadTape, spans_from}
+use Rattle.my_reading.specs.Reading.{reading}
+use Rattle.my_reading.specs.Tape.{Span, TapeCall, Tape as ReadTape}
 use Rattle.my_reading.specs.Told.{Told, ToldReady, ToldRow, ToldEnd, ToldNone, ToldError, Dropped, told}
 use Rattle.my_session.specs.Fits.{may_be}
 use Rattle.my_session.specs.History.{has_closed}
@@ -39,13 +39,15 @@ use Rattle.my_client.specs.Causes.{PollEnds}
 use Rattle.my_client.specs.Kept.{Asked, Kept, nothing_kept, told_by, made_of, asking, asked_by, ended_by, first_asked, first_kept}
 use Rattle.my_client.specs.Reads.{calls_kept, facts_kept, tape_kept}
 use Rattle.my_world.specs.World.{Plans, DialCounts}
-use Rattle.my_run.specs.Grows.{Begins, BeginsOn, Calls, Connects, ConnectShows, Dials, Holds, Fails, Links, Line, PolledOnce, StepGrows, TellsFields, TellsWith, answer_shown, shown, handles_after}
+use Rattle.my_run.specs.Grows.{Begins, BeginsOn, Calls, Connects, ConnectShows, Dials, Holds, Fails, Links, PolledOnce, StepGrows, TellsFields, TellsWith, answer_shown, shown, handles_after}
 use Rattle.my_run.specs.Handle.{Handle, Joined, at_number, put_at}
-use Rattle.my_run.specs.Headline.{AnswerView, answer_view, answers_of, EachExplained, Headline, IsExplained}
+use Rattle.my_run.specs.Headline.{AnswerView, answer_view, answers_of, Headline}
 use Rattle.my_run.specs.Sums.{quiet}
 use Rattle.my_run.specs.Tapes.{TapeView, tape_view, tape_call, open_call, tapes_in}
 use Rattle.wrong_tapes.specs.Bytes.{all_sent, all_taken, calls_from, tape_of}
 use Rattle.wrong_transcripts.specs.Shown.{step_of, outcome_of, taken_in, Shows}
+use Rattle.run_laws.specs.Tapes.{HasTape}
+use Rattle.run_laws.proofs.Tapes.{each_tape_is_read}
 use Rattle.wrong_transcripts.proofs.Chain.{Chain, chain_split, grown_chain}
 
 -- how a call ended, by its step's answer
@@ -206,10 +208,6 @@ and_right : (a b : Bool) → a && b ≡ true → b ≡ true
 and_right true b e = e
 and_right false b e = cc
 
-and_both : (a b : Bool) → a ≡ true → b ≡ true → a && b ≡ true
-and_both true b e f = f
-and_both false b e f = cc
-
 or_right : (a b : Bool) → a ≡ false → a || b ≡ true → b ≡ true
 or_right true b f e = cc
 or_right false b f e = e
@@ -318,19 +316,6 @@ same_calls n m (s ∷ ss) (c ∷ cs) w e =
     ∙ ap (λ x. record { call = s.call; sent_from = n; taken_from = m; ending = x } ∷ cs) w.2
     ∙ ap (λ xs. record { call = s.call; sent_from = n; taken_from = m; ending = s.ending } ∷ xs) (same_calls (n + length s.sent) (m + length s.taken) ss cs w.3 (tail_same c.sent_from n _ _ e))
 
--- the calls after the first don't connect
-none_connects : (login : Login) (ss : List Span) → are_plain ss ≡ true → (t : ReadTape) (n m : ℕ) (closed : Bool) (p : Place) → connects_none (read_calls login (spans_from t (calls_from n m ss)) closed p).calls ≡ true
-unfolding read_calls
-none_connects login [] plain t n m closed p = refl
-none_connects login (s ∷ ss) plain t n m closed p =
-    let begins = and_left (not (is_connect (kind_of s.call))) _ plain in
-    let on = and_right (is_last ss || is_told s.ending) _ (and_right (is_shown s.ending) _ (and_right (not (is_connect (kind_of s.call))) _ plain)) in
-    and_both _ _ begins (none_connects login ss on t (n + length s.sent) (m + length s.taken) _ _)
-
-explained_now : (login : Login) (plans : Plans) (lines : List Line) → EachExplained login plans lines → (n : ℕ) → IsExplained login (plans.reads n) (at_number (handles_after lines) n)
-explained_now login plans [] w n = tt
-explained_now login plans (l ∷ ls) w n = w.0 n
-
 first_view : List TapeView → TapeView
 first_view [] = record { number = 0; sent = []; taken = []; calls = [] }
 first_view (v ∷ vs) = v
@@ -377,18 +362,14 @@ kept_shown a vs t s ss ts w all tapes =
 -- what the transcript shows is a tape that its reading accepts
 pub shown_tape : (login : Login) (plans : Plans) (before later : DialCounts) (a : StepAnswer) (vs : List StepAnswer) (t : Tape) (s : Span) (ss : List Span) → s.call ≡ calls.Connect → s.ending ≡ Some ToldReady → are_plain ss ≡ true → Shows a vs t s ss
     → Headline login plans before later (steps.Conn ∷ map (λ c. step_of c.call) ss) (a ∷ vs) (t ∷ []) → IsTape login (tape_of (s ∷ ss))
-unfolding reading read_calls
 shown_tape login plans before later a vs t s ss connects ready plain w h =
     let chain : Chain login plans [] (steps.Conn ∷ map (λ c. step_of c.call) ss) (map answer_view (a ∷ vs)) (handles_after h.lines) =
     subst (λ (vs : List AnswerView). Chain login plans [] (steps.Conn ∷ map (λ c. step_of c.call) ss) vs (handles_after h.lines)) (sym h.answered)
     (subst (λ (xs : List Step). Chain login plans [] xs (answers_of h.lines) (handles_after h.lines)) h.steps_are (grown_chain login plans h.lines h.grown)) in
     let all = led_all login plans a vs t s ss (handles_after h.lines) connects ready plain w chain in
     let tape = kept_shown a vs t s ss (handles_after h.lines) w all h.tapes_are in
-    let explained : IsExplained login (plans.reads 0) (Joined true all.kept all.link) = subst (λ (hs : List Handle). IsExplained login (plans.reads 0) (at_number hs 0)) all.left (explained_now login plans h.lines h.explained 0) in
-    record {
-      first = and_both _ _ (ap (λ (c : Call). is_connect (kind_of c)) connects) (none_connects login ss plain (tape_of (s ∷ ss)) (0 + length s.sent) (0 + length s.taken) _ _);
-      calls = subst (λ (r : ReadTape). AreCalls login (reading login r).calls) tape explained.0.read;
-    }
+    let read : HasTape login (Joined true all.kept all.link) = subst (λ (hs : List Handle). HasTape login (at_number hs 0)) all.left (each_tape_is_read login plans before later _ _ _ h 0) in
+    subst (IsTape login) tape read
 
 -- `fields` on the connection
 tells : (q : Option Asked) (login : Login) (k : Kept) (x : Looks) (o : Outcome) (us : List Use) (h : Handle) (fields : Option OkPacket) → TellsWith q login k x o us h → o ≡ Fields fields → (h ≡ Joined true k x) × (fields ≡ (facts_kept login k).ok)

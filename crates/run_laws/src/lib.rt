@@ -1,0 +1,10 @@
+//! What follows of the headline.
+#![tactic(auto)]
+
+ghost use Rattle.run_laws.specs.Tapes.{EachTapeIsRead};
+
+/// At the end of a run each connection's tape is one of a client that logs in so, by the reading of my_reading: so the tapes
+/// that a transcript prints are beginnings of conversations that begin with one handshake.
+pub fn each_tape_is_read()
+    ensures { EachTapeIsRead }
+{}
