@@ -47,6 +47,7 @@ use Rattle.my_run.specs.Tapes.{TapeView, tape_view, tape_call, open_call, tapes_
 use Rattle.wrong_tapes.specs.Bytes.{all_sent, all_taken, calls_from, tape_of}
 use Rattle.wrong_transcripts.specs.Shown.{step_of, outcome_of, taken_in, Shows}
 use Rattle.run_laws.specs.Tapes.{HasTape}
+use Rattle.run_laws.proofs.Connecting.{left_of, right_of}
 use Rattle.run_laws.proofs.Tapes.{each_tape_is_read}
 use Rattle.wrong_transcripts.proofs.Chain.{Chain, chain_split, grown_chain}
 
@@ -200,14 +201,6 @@ record Led (k : Kept) (ss : List Span) (ts : List Handle) : Type 0 where
   calls : calls_kept kept.calls kept.pending ≡ calls_kept k.calls k.pending ++ more
   are : AreOf (length k.taken) ss more
 
-and_left : (a b : Bool) → a && b ≡ true → a ≡ true
-and_left true b e = refl
-and_left false b e = cc
-
-and_right : (a b : Bool) → a && b ≡ true → b ≡ true
-and_right true b e = e
-and_right false b e = cc
-
 or_right : (a b : Bool) → a ≡ false → a || b ≡ true → b ≡ true
 or_right true b f e = cc
 or_right false b f e = e
@@ -257,12 +250,12 @@ module _ (login : Login) (plans : Plans) where
   through [] plain k x hs is rest (a ∷ vs) outs taken ts c = absurd c
   through (s ∷ ss) plain k x hs is rest [] outs taken ts c = absurd c
   through (s ∷ ss) plain k x hs is rest (a ∷ vs) outs taken ts c =
-      let begins = and_left (not (is_connect (kind_of s.call))) _ plain in
-      let others = and_right (not (is_connect (kind_of s.call))) _ plain in
-      let shows = and_left (is_shown s.ending) _ others in
-      let later = and_right (is_shown s.ending) _ others in
-      let ends = and_left (is_last ss || is_told s.ending) _ later in
-      let plain_on = and_right (is_last ss || is_told s.ending) _ later in
+      let begins = left_of (not (is_connect (kind_of s.call))) _ plain in
+      let others = right_of (not (is_connect (kind_of s.call))) _ plain in
+      let shows = left_of (is_shown s.ending) _ others in
+      let later = right_of (is_shown s.ending) _ others in
+      let ends = left_of (is_last ss || is_told s.ending) _ later in
+      let plain_on = right_of (is_last ss || is_told s.ending) _ later in
       let g = step_went s.call begins k x hs a.outcome a.uses c.0 is (rest refl) c.1 in
       let w = g.2 in
       let ending : w.ending ≡ s.ending = w.ending_is ∙ ap ending_by (head_same a.outcome (outcome_of s.ending) _ _ outs) ∙ ending_back s.ending shows in
