@@ -37,17 +37,37 @@ fn new_session(alloc: Global) -> Result<Session, NoMemory> {
     Session::new(alloc, login)
 }
 
-fn play(rt: &impl Abort, alloc: Global, talk: &Talk) -> Result<(), Fail> {
-    let mut session = new_session(alloc)?;
-    let text = turn(alloc, &mut session, "connect", LOGIN, talk.then)?;
+// What was sent while a session connects, with the answer.
+fn connects_so(
+    rt: &impl Abort,
+    alloc: Global,
+    session: &mut Session,
+    then: Then,
+) -> Result<(), Fail> {
+    let text = turn(alloc, session, "connect", LOGIN, then)?;
     let mut want = String::new(alloc);
     write!(want, "{RESPONSE}ok")?;
     assert_eq!(rt; text.as_str(), want.as_str());
+    Ok(())
+}
+
+fn goes_on_so(
+    rt: &impl Abort,
+    alloc: Global,
+    session: &mut Session,
+    talk: &Talk,
+) -> Result<(), Fail> {
     for (call, bytes, want) in talk.turns {
-        let text = turn(alloc, &mut session, call, bytes, talk.then)?;
+        let text = turn(alloc, session, call, bytes, talk.then)?;
         assert_eq!(rt; text.as_str(), *want, "{call}");
     }
     Ok(())
+}
+
+fn play(rt: &impl Abort, alloc: Global, talk: &Talk) -> Result<(), Fail> {
+    let mut session = new_session(alloc)?;
+    connects_so(rt, alloc, &mut session, talk.then)?;
+    goes_on_so(rt, alloc, &mut session, talk)
 }
 
 #[test]
