@@ -1,5 +1,5 @@
 -- What dialing a connection and polling its handshake does.
-use Rattle.std.specs.Prelude.{ℕ, ◌≡◌, [], ◌∷◌, None, List}
+use Rattle.std.specs.Prelude.{ℕ, ◌≡◌, [], ◌∷◌, ◌++◌, None, List}
 use Rattle.my_handshake.specs.Version.{version_of}
 use Rattle.my_grammar.specs.declared.login.Login.{Login}
 use Rattle.my_client.specs.declared.poll.After.{After}
@@ -44,12 +44,13 @@ pub record Dialed {L : Type 0} (look : L → Looks) (login : Login) (n : ℕ) (t
       → Dials login (plans.reads n) (plans.writes n) n o us (handle_of look slot)
   pub again : Dials login None None n o us (handle_of look slot)
 
+-- of each call that may be open on the connection: the poll of a handshake, after these uses
+abbrev pub EachJoins : {L : Type 0} → (L → Looks) → ℕ → List Use → Conn L → Slot L → StepResult → Type 0
+EachJoins look n before c slot r = (login : Login) (a : Asked) → IsAsked login c.session.seen (kept_of c) a
+    → (used : Use) × (r.uses.items ≡ before ++ used ∷ [])
+    × Joins look login n a (kept_of c) (look c.link) slot r.outcome used
+
 -- the poll of a connection's first call, after the dial that gave its link
 abbrev pub JoinsFirst : {L : Type 0} → (L → Looks) → Login → ℕ → Looks → Slot L → StepResult → Type 0
 JoinsFirst look login n x slot r = (used : Use) × (r.uses.items ≡ quiet n ∷ used ∷ [])
     × Joins look login n first_asked first_kept x slot r.outcome used
-
--- of each call that may be open on the connection: the poll of a handshake
-abbrev pub EachJoins : {L : Type 0} → (L → Looks) → ℕ → Conn L → Slot L → StepResult → Type 0
-EachJoins look n c slot r = (login : Login) (a : Asked) → IsAsked login c.session.seen (kept_of c) a
-    → (used : Use) × (r.uses.items ≡ used ∷ []) × Joins look login n a (kept_of c) (look c.link) slot r.outcome used

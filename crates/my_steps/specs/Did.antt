@@ -47,14 +47,6 @@ pub record Stepped {L : Type 0} (login : Login) (old new : List (Slot L)) (Fact 
   pub longer : length old ≤ length new
   pub grows : Fact
 
--- what a poll of the open call leaves of a connection that was taken out of its number
-pub record Resumed {L : Type 0} (look : L → Looks) (login : Login) (n : ℕ) (a : Asked) (c : Conn L) (slot : Slot L)
-    (o : Outcome) (us : List Use) : Type 0 where
-  pub following : Conn L
-  pub slot_is : slot ≡ There following
-  pub polled : OpenPolled login n a following.session.seen (look c.link) (look following.link)
-      (kept_of c) (kept_of following) o us
-
 -- a call that a step begins isn't the handshake
 abbrev pub MayBegin : Work → Type 0
 MayBegin (works.Begin call) = is_connect (kind_of call) ≡ false
@@ -85,10 +77,6 @@ errand_of (steps.Poll n) = Some (record { number = n; work = works.Poll })
 abbrev pub EachPolled : {L : Type 0} → (L → Looks) → ℕ → Conn L → Conn L → StepResult → Type 0
 EachPolled look n c d r = (login : Login) (a : Asked) → IsAsked login c.session.seen (kept_of c) a
     → OpenPolled login n a d.session.seen (look c.link) (look d.link) (kept_of c) (kept_of d) r.outcome r.uses.items
-
-abbrev pub EachResumed : {L : Type 0} → (L → Looks) → ℕ → Conn L → Slot L → StepResult → Type 0
-EachResumed look n c slot r = (login : Login) (a : Asked) → IsAsked login c.session.seen (kept_of c) a
-    → Resumed look login n a c slot r.outcome r.uses.items
 
 -- of each login for which the connection stands: what a step's work did to it
 abbrev pub EachDid : {L : Type 0} → (L → Looks) → ℕ → Work → Conn L → Slot L → StepResult → Type 0

@@ -14,8 +14,6 @@ use Rattle.my_steps.specs.declared.gather.Gathering.TheVariants.{On, Over}
 use Rattle.my_client.specs.declared.poll.After.{After}
 use Rattle.my_client.specs.declared.poll.After.TheVariants as after
 use Rattle.my_client.specs.declared.conn.Conn.{Conn}
-use Rattle.my_steps.specs.declared.slot.Slot.{Slot}
-use Rattle.my_steps.specs.declared.slot.Slot.TheVariants.{There}
 use Rattle.my_script.specs.declared.transcript.Outcome.{Outcome}
 use Rattle.my_script.specs.declared.transcript.Outcome.TheVariants.{Done, Pending, Failed}
 use Rattle.my_script.specs.declared.transcript.Use.{Use}
@@ -79,18 +77,7 @@ pub record GatherSoFar {L : Type 0} (look : L → Looks) (login : Login) (n : �
   pub onto : (vs : List Use) (o : Outcome) (t : Handle) → Gathers login n vs now (kept_of d) (look d.link) o t
       → Gathers login n (us ++ vs) a (kept_of c) (look c.link) o t
 
--- what going on with a gathering leaves of a connection that was taken out of its number
-pub record GatheredOn {L : Type 0} (look : L → Looks) (login : Login) (n : ℕ) (a : Asked) (c : Conn L)
-    (slot : Slot L) (o : Outcome) (us : List Use) : Type 0 where
-  pub following : Conn L
-  pub slot_is : slot ≡ There following
-  pub did : GatherDid look login n a c following o us
-
 -- of each call that may be open on the connection
 abbrev pub EachGathers : {L : Type 0} → (L → Looks) → ℕ → Conn L → Conn L → StepResult → Type 0
 EachGathers look n c d r = (login : Login) (a : Asked) → IsAsked login c.session.seen (kept_of c) a
     → GatherDid look login n a c d r.outcome r.uses.items
-
-abbrev pub EachGatheredOn : {L : Type 0} → (L → Looks) → ℕ → Conn L → Slot L → StepResult → Type 0
-EachGatheredOn look n c slot r = (login : Login) (a : Asked) → IsAsked login c.session.seen (kept_of c) a
-    → GatheredOn look login n a c slot r.outcome r.uses.items

@@ -3,14 +3,16 @@ ghost use Rattle.std.specs.Prelude.{◌≡◌, ◌∷◌, [], suc, length, true,
 ghost use Rattle.my_reading.specs.Errors.{io_error};
 ghost use Rattle.my_client.specs.Login.{login_of};
 ghost use Rattle.my_world.specs.World.{SameBut};
-ghost use Rattle.my_steps.specs.Connecting.{Settles, JoinsFirst, Dialed};
+ghost use Rattle.my_session.specs.Tasks.{is_open};
+ghost use Rattle.my_steps.specs.Connecting.{Settles, EachJoins, JoinsFirst, Dialed};
+ghost use Rattle.my_steps.specs.Slot.{placed};
 ghost use Rattle.my_steps.specs.Dialing.{DialsTo, dial_met};
 ghost use Rattle.my_steps.specs.Did.{StepsOn};
 ghost use Rattle.my_steps.specs.Grows.{DialsNext};
 ghost use Rattle.my_steps.specs.Sums.{quiet};
 
-use crate::outcome::{StepResult, used_once};
-use crate::slot::Slot;
+use crate::outcome::{StepResult, Worked, used_once};
+use crate::slot::{Slot, place};
 use my_client::{After, Conn, begin_conn, drive};
 use my_frame::NoMemory;
 use my_handshake::server_version;
@@ -30,32 +32,51 @@ fn dial_error() -> Error
     }))
 }
 
-/// The handshake was polled: what stands at the number, and what the step shows.
-pub(crate) fn settle<L>(conn: Conn<L>, number: u64, after: After) -> (Slot<L>, Outcome)
-    ensures { Settles conn number after result.0 result.1 }
+// Whether the connection is there after a poll of its handshake, and what the step shows.
+fn settle<L>(conn: &Conn<L>, number: u64, after: After) -> (bool, Outcome)
+    ensures { Settles conn.now number after (placed result.0 conn.now) result.1 }
 {
     match after {
-        After::Pending => (Slot::There(conn), Outcome::Pending),
+        After::Pending => (true, Outcome::Pending),
         After::Answered(_) => {
             let id = conn.session.connection_id();
             let version = server_version(conn.session.version());
-            (Slot::There(conn), Outcome::Connected(number, id, version))
+            (true, Outcome::Connected(number, id, version))
         }
-        After::Failed(error) => (Slot::Ended(conn), Outcome::Failed(error)),
+        After::Failed(error) => (false, Outcome::Failed(error)),
     }
 }
 
-// The use of a dial that gave a link, then that of the poll after it.
-fn dial_uses(alloc: Global, number: u64, used: Use) -> Result<Vec<Use>, NoMemory>
-    ensures { IfOk result (λ us. us.items ≡ quiet number ∷ used ∷ []) }
+/// Polls the handshake, after these uses.
+pub(crate) fn poll_connect<L: Link>(
+    alloc: Global,
+    conn: &mut Conn<L>,
+    number: u64,
+    mut uses: Vec<Use>,
+) -> Result<Worked, NoMemory>
+    requires { is_open conn.old.session.seen.task ≡ true }
+    ensures { IfOk result (λ w. EachJoins L.looks number uses.items conn.old (placed w.there conn.new) w.did) }
+{
+    let (after, met, _rows) = drive(alloc, conn)?;
+    uses.push(Use { number, met })?;
+    let (there, outcome) = settle(conn, number, after);
+    Ok(Worked {
+        there,
+        did: StepResult { outcome, uses },
+    })
+}
+
+// Polls the first call, after the dial that gave the link.
+fn join<L: Link>(alloc: Global, conn: &mut Conn<L>, number: u64) -> Result<Worked, NoMemory>
+    requires { is_open conn.old.session.seen.task ≡ true }
+    ensures { IfOk result (λ w. EachJoins L.looks number (quiet number ∷ []) conn.old (placed w.there conn.new) w.did) }
 {
     let mut uses = Vec::new(alloc);
     uses.push(Use {
         number,
         met: Met::nothing(),
     })?;
-    uses.push(used)?;
-    Ok(uses)
+    poll_connect(alloc, conn, number, uses)
 }
 
 // Makes the connection's first call and polls it.
@@ -68,10 +89,8 @@ fn first_call<L: Link + Drop>(
     ensures { IfOk result (λ r. JoinsFirst L.looks (login_of opts.now) number (L.looks link) r.0 r.1) }
 {
     let mut conn = begin_conn(alloc, opts, link)?;
-    let (after, met, _rows) = drive(alloc, &mut conn)?;
-    let uses = dial_uses(alloc, number, Use { number, met })?;
-    let (slot, outcome) = settle(conn, number, after);
-    Ok((slot, StepResult { outcome, uses }))
+    let worked = join(alloc, &mut conn, number)?;
+    Ok((place(conn, worked.there), worked.did))
 }
 
 /// Dials the link of this number, and connects over it.

@@ -15,6 +15,13 @@ pub struct StepResult {
     pub uses: Vec<Use>,
 }
 
+/// What a step came to on a connection, and whether later steps may still name that.
+#[derive(Drop)]
+pub(crate) struct Worked {
+    pub there: bool,
+    pub did: StepResult,
+}
+
 fn answer_shown(answer: Answer) -> Outcome
     ensures { result ≡ answer_of answer }
 {

@@ -1,4 +1,6 @@
 //! What is at a connection's number.
+ghost use Rattle.std.specs.Prelude.{◌≡◌};
+ghost use Rattle.my_steps.specs.Slot.{placed};
 
 use my_client::Conn;
 
@@ -12,4 +14,15 @@ pub enum Slot<L> {
     There(Conn<L>),
     /// Its handshake failed, or was cancelled.
     Ended(Conn<L>),
+}
+
+/// A connection that steps may still name, or one that isn't there any more.
+pub(crate) fn place<L: Drop>(conn: Conn<L>, there: bool) -> Slot<L>
+    ensures { result ≡ placed there conn }
+{
+    if there {
+        Slot::There(conn)
+    } else {
+        Slot::Ended(conn)
+    }
 }

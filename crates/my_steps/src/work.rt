@@ -6,7 +6,7 @@ ghost use Rattle.my_world.specs.World.{SameBut, SameFrom};
 ghost use Rattle.my_steps.specs.Dialing.{DialsTo, dial_met};
 ghost use Rattle.my_steps.specs.Did.{MayBegin, does_at, EachDid, DoesAt, StepsOn, is_poll, redials};
 ghost use Rattle.my_steps.specs.Handle.{at_number};
-ghost use Rattle.my_steps.specs.Slot.{handle_of};
+ghost use Rattle.my_steps.specs.Slot.{handle_of, placed};
 ghost use Rattle.my_steps.specs.Grows.{At};
 ghost use Rattle.my_steps.specs.Ready.{SlotReady, AreReady};
 ghost use Rattle.my_steps.specs.declared.slot.Slot.TheVariants.{Held as HeldAt};
@@ -16,9 +16,9 @@ use crate::cancel::cancel_there;
 use crate::connect::dial_at;
 use crate::fields::tell;
 use crate::gather::collect_call;
-use crate::outcome::{StepResult, unused};
+use crate::outcome::{StepResult, Worked, unused};
 use crate::resume::resume_there;
-use crate::slot::Slot;
+use crate::slot::{Slot, place};
 use my_client::Conn;
 use my_frame::NoMemory;
 use my_link::Link;
@@ -48,7 +48,36 @@ pub(crate) struct Errand {
 }
 
 // On a connection that is there.
-fn work_there<L: Link + Drop>(
+fn work_there<L: Link>(
+    alloc: Global,
+    conn: &mut Conn<L>,
+    number: u64,
+    work: Work,
+) -> Result<Worked, NoMemory>
+    requires ready { ConnReady conn.old }
+    requires kind { MayBegin work }
+    ensures { IfOk result (λ w. EachDid L.looks number work conn.old (placed w.there conn.new) w.did) }
+{
+    match work {
+        Work::Begin(call) => {
+            let did = begin_call(alloc, conn, number, call)?;
+            Ok(Worked { there: true, did })
+        }
+        Work::Collect => {
+            let did = collect_call(alloc, conn, number)?;
+            Ok(Worked { there: true, did })
+        }
+        Work::Fields => {
+            let did = tell(alloc, conn, number)?;
+            Ok(Worked { there: true, did })
+        }
+        Work::Poll => resume_there(alloc, conn, number),
+        Work::Cancel => cancel_there(alloc, conn, number),
+    }
+}
+
+// Owns the connection for the step.
+fn work_conn<L: Link + Drop>(
     alloc: Global,
     mut conn: Conn<L>,
     number: u64,
@@ -58,22 +87,8 @@ fn work_there<L: Link + Drop>(
     requires kind { MayBegin work }
     ensures { IfOk result (λ r. EachDid L.looks number work conn r.0 r.1) }
 {
-    match work {
-        Work::Begin(call) => {
-            let did = begin_call(alloc, &mut conn, number, call)?;
-            Ok((Slot::There(conn), did))
-        }
-        Work::Collect => {
-            let did = collect_call(alloc, &mut conn, number)?;
-            Ok((Slot::There(conn), did))
-        }
-        Work::Fields => {
-            let did = tell(alloc, &conn, number)?;
-            Ok((Slot::There(conn), did))
-        }
-        Work::Poll => resume_there(alloc, conn, number),
-        Work::Cancel => cancel_there(alloc, conn, number),
-    }
+    let worked = work_there(alloc, &mut conn, number, work)?;
+    Ok((place(conn, worked.there), worked.did))
 }
 
 // Where the dial wasn't ready: it is tried again, or dropped.
@@ -114,7 +129,7 @@ fn work_on<N: World>(
     ensures did { IfOk result (λ r. DoesAt N.L.looks (login_of opts.now) number work slot r.0 r.1) }
 {
     match slot {
-        Slot::There(conn) => work_there(alloc, conn, number, work),
+        Slot::There(conn) => work_conn(alloc, conn, number, work),
         Slot::Held => work_held(alloc, opts, world, number, work),
         Slot::Gone => return Ok((Slot::Gone, unused(alloc, Outcome::NoSuchHandle))),
         Slot::Ended(conn) => {

@@ -17,7 +17,7 @@ use Rattle.my_session.specs.Stands.{Stands, TaskIs}
 use Rattle.my_session.specs.Tables.{closes_when_cancelled}
 use Rattle.my_client.specs.declared.conn.Conn.{Conn}
 use Rattle.my_steps.specs.declared.slot.Slot.{Slot}
-use Rattle.my_steps.specs.declared.slot.Slot.TheVariants.{Gone, Held, There, Ended}
+use Rattle.my_steps.specs.declared.slot.Slot.TheVariants.{Gone, Held, There}
 use Rattle.my_client.specs.declared.tape.Said.TheVariants as says
 use Rattle.my_script.specs.declared.transcript.Outcome.{Outcome}
 use Rattle.my_script.specs.declared.transcript.Outcome.TheVariants.{Done, Fields, NoSuchHandle}
@@ -32,7 +32,7 @@ use Rattle.my_link.specs.Looks.{Looks}
 use Rattle.my_reading.specs.Endings.{closes_cancelled}
 use Rattle.my_client.specs.Reads.{ReadsAs, StopsRead, StoppedRead, place_kept}
 use Rattle.my_client.specs.Rests.{Rests}
-use Rattle.my_steps.specs.Slot.{handle_of}
+use Rattle.my_steps.specs.Slot.{handle_of, placed}
 use Rattle.my_client.specs.Conn.{kept_of}
 use Rattle.my_client.proofs.Hearing.Beginning.{is_asked, is_idle}
 use Rattle.my_client.proofs.TapeRead.Sessions.{cancel_closes, cancel_read}
@@ -69,15 +69,15 @@ dropped_open : (s : Seen) (b : Bool) → (cond {A = Seen} b (fell s) (with_task 
 dropped_open s true e = cc
 dropped_open s false e = e
 
-left_is : {L : Type 0} (P : Slot L → Type 0) (c : Conn L) (b : Bool) → P (Ended c) → P (There c) → P (cond b (Ended c) (There c))
-left_is P c true p q = p
-left_is P c false p q = q
+placed_stood : {L : Type 0} (login : Login) (c : Conn L) (b : Bool) → StandsBy login c → IsStood login (placed b c)
+placed_stood login c true w = w
+placed_stood login c false w = w
 
-left_handle : {L : Type 0} (look : L → Looks) (c : Conn L) (b : Bool) → handle_of look (cond b (Ended c) (There c)) ≡ Joined (not b) (kept_of c) (look c.link)
-left_handle look c true = refl
-left_handle look c false = refl
+placed_handle : {L : Type 0} (look : L → Looks) (c : Conn L) (b : Bool) → handle_of look (placed b c) ≡ Joined b (kept_of c) (look c.link)
+placed_handle look c true = refl
+placed_handle look c false = refl
 
-pub cancelled : {L : Type 0} (look : L → Looks) (login : Login) (n : ℕ) (c d : Conn L) (connecting : Bool) (o : Outcome) (us : List Use) → is_open c.session.seen.task ≡ true → d.session.seen ≡ dropped c.session.seen → ((h : History) → Stands c.session.seen h → Stands d.session.seen (answered h (Dropped (closes_when_cancelled c.session.seen.task c.session.seen.context.spot)))) → d.link ≡ c.link → ((a : Asked) → (kept_of c).pending ≡ Some a → kept_of d ≡ ended_by (kept_of c) a (says.Cancelled (d.session.seen.closed && not c.session.seen.closed))) → ((a : Asked) → (kept_of c).pending ≡ Some a → connecting ≡ is_connect (kind_of a.call)) → o ≡ Done → us ≡ [] → StandsBy login c → Did look login (Cancels login) o us (There c) (cond connecting (Ended d) (There d))
+pub cancelled : {L : Type 0} (look : L → Looks) (login : Login) (n : ℕ) (c d : Conn L) (connecting : Bool) (o : Outcome) (us : List Use) → is_open c.session.seen.task ≡ true → d.session.seen ≡ dropped c.session.seen → ((h : History) → Stands c.session.seen h → Stands d.session.seen (answered h (Dropped (closes_when_cancelled c.session.seen.task c.session.seen.context.spot)))) → d.link ≡ c.link → ((a : Asked) → (kept_of c).pending ≡ Some a → kept_of d ≡ ended_by (kept_of c) a (says.Cancelled (d.session.seen.closed && not c.session.seen.closed))) → ((a : Asked) → (kept_of c).pending ≡ Some a → connecting ≡ is_connect (kind_of a.call)) → o ≡ Done → us ≡ [] → StandsBy login c → Did look login (Cancels login) o us (There c) (placed (not connecting) d)
 cancelled {L} look login n c d connecting o us op seen st link kept kind e f w =
     let s = c.session.seen in
     let k = kept_of c in
@@ -110,11 +110,11 @@ cancelled {L} look login n c d connecting o us op seen st link kept kind e f w =
     let closes_so : closes ≡ closes_cancelled (kind_of a.call) (place_kept login k) = cancel_closes login s k a w.stepped.begun shut stopped asked.1 in
     let kept_so : Joined (not connecting) (kept_of d) (look d.link) ≡ Joined (not connecting) (ended_by k a (says.Cancelled closes)) (look c.link) = ap (λ (x : Kept). Joined (not connecting) x (look d.link)) end ∙ ap (λ (l : L). Joined (not connecting) (ended_by k a (says.Cancelled closes)) (look l)) link in
     record {
-      stood = left_is (IsStood login) d connecting stands stands;
-      does = subst (λ (p : Option Asked). CancelsWith p login k (look c.link) o us (handle_of look (cond connecting (Ended d) (There d)))) (sym asked.1) (record {
+      stood = placed_stood login d (not connecting) stands;
+      does = subst (λ (p : Option Asked). CancelsWith p login k (look c.link) o us (handle_of look (placed (not connecting) d))) (sym asked.1) (record {
         outcome = e;
         uses = f;
-        left = left_handle look d connecting ∙ kept_so ∙ ap (λ (b : Bool). Joined (not b) (ended_by k a (says.Cancelled closes)) (look c.link)) (kind a asked.1)
+        left = placed_handle look d (not connecting) ∙ kept_so ∙ ap (λ (b : Bool). Joined (not b) (ended_by k a (says.Cancelled closes)) (look c.link)) (kind a asked.1)
             ∙ ap (λ (b : Bool). Joined (not (is_connect (kind_of a.call))) (ended_by k a (says.Cancelled b)) (look c.link)) closes_so;
       });
     }

@@ -34,7 +34,7 @@ use Rattle.my_link.specs.Moves.{Stop}
 use Rattle.my_client.specs.Causes.{PollEnds}
 use Rattle.my_client.specs.Reads.{ReadsAs}
 use Rattle.my_client.proofs.TapeRead.Stopping.{facts_rest}
-use Rattle.my_client.specs.Rests.{Rests, IsAsked}
+use Rattle.my_client.specs.Rests.{Rests}
 use Rattle.my_client.specs.Conn.{kept_of}
 use Rattle.my_steps.specs.Slot.{handle_of}
 
@@ -60,10 +60,6 @@ joins {L} look login n a k x c met p slot o w s =
       number = refl;
       does = record { number = refl; after = p; end = kept_of c; link = look c.link; polled = w.polled; shows = shows look login n c p slot o a w.polled.following met w.polled.stop w.polled.ends w.rests s };
     }
-
--- as the step shows it
-pub joins_so : {L : Type 0} (look : L → Looks) (login : Login) (n : ℕ) (a : Asked) (k : Kept) (x : Looks) (c : Conn L) (met : Met) (p : After) (slot : Slot L) (o shown : Outcome) → Drives login a c.session.seen x (look c.link) k (kept_of c) met p → Settles c n p slot o → shown ≡ o → Joins look login n a k x slot shown (use_of n met)
-joins_so look login n a k x c met p slot o shown w s e = subst (λ (v : Outcome). Joins look login n a k x slot v (use_of n met)) (sym e) (joins look login n a k x c met p slot o w s)
 
 -- a slot more
 stood_push : {L : Type 0} (login : Login) (ss : List (Slot L)) (s : Slot L) → AreStood login ss → IsStood login s → AreStood login (ss ++ s ∷ [])
@@ -113,12 +109,8 @@ pub no_dial : (c d : DialCounts) → d ≡ c → DialsTo c d nothing_met
 no_dial c d e = record { faults = ap (λ (x : DialCounts). x.faults) e; holds = ap (λ (x : DialCounts). x.holds) e }
 
 -- the connection's first call
-pub joins_first : {L : Type 0} (look : L → Looks) (login : Login) (n : ℕ) (l : L) (c d : Conn L) (met : Met) (p : After) (slot : Slot L) (o : Outcome) → IsAsked login c.session.seen (kept_of c) first_asked → kept_of c ≡ first_kept → c.link ≡ l → ((login : Login) (a : Asked) → IsAsked login c.session.seen (kept_of c) a → Drives login a d.session.seen (look c.link) (look d.link) (kept_of c) (kept_of d) met p) → Settles d n p slot o → Joins look login n first_asked first_kept (look l) slot o (use_of n met)
-joins_first look login n l c d met p slot o asked kept link drives settles =
-    let w : Drives login first_asked d.session.seen (look l) (look d.link) first_kept (kept_of d) met p =
-    subst (λ (x : _). Drives login first_asked d.session.seen (look x) (look d.link) first_kept (kept_of d) met p) link
-    (subst (λ (k : Kept). Drives login first_asked d.session.seen (look c.link) (look d.link) k (kept_of d) met p) kept (drives login first_asked asked)) in
-    joins look login n first_asked first_kept (look l) d met p slot o w settles
+pub joins_first : {L : Type 0} (look : L → Looks) (login : Login) (n : ℕ) (l : L) (c : Conn L) (slot : Slot L) (o : Outcome) (u : Use) → kept_of c ≡ first_kept → c.link ≡ l → Joins look login n first_asked (kept_of c) (look c.link) slot o u → Joins look login n first_asked first_kept (look l) slot o u
+joins_first {L} look login n l c slot o u kept link w = subst (λ (x : L). Joins look login n first_asked first_kept (look x) slot o u) link (subst (λ (k : Kept). Joins look login n first_asked k (look c.link) slot o u) kept w)
 
 pub at_end : (told plans : Plans) (n k : ℕ) → n ≡ k → SameFrom k told plans → SameAt told plans n
 at_end told plans n k is same = same n (omega (arith, is))

@@ -11,8 +11,8 @@ use Rattle.my_script.specs.declared.transcript.Outcome.{Outcome}
 use Rattle.my_script.specs.declared.transcript.Outcome.TheVariants.{NoSuchHandle}
 use Rattle.my_script.specs.declared.transcript.Use.{Use}
 use Rattle.my_steps.specs.Connecting.{Joins, Dialed}
-use Rattle.my_steps.specs.Did.{Did, Resumed}
-use Rattle.my_steps.specs.Gathering.{GatheredOn}
+use Rattle.my_steps.specs.Did.{Did, OpenPolled}
+use Rattle.my_steps.specs.Gathering.{GatherDid}
 use Rattle.my_steps.specs.Grows.{GoesOn, GoesOnWith, PollsOn}
 use Rattle.my_steps.specs.Handle.{Joined}
 use Rattle.my_client.specs.Ready.{StandsBy}
@@ -46,14 +46,11 @@ no_rows None e = refl
 no_rows (Some rows) e = cc
 
 -- another call is polled
-pub call_resumed : {L : Type 0} (look : L → Looks) (login : Login) (n : ℕ) (c : Conn L) (a : Asked) (slot : Slot L) (o : Outcome) (us : List Use) → is_connect (kind_of a.call) ≡ false → is_some a.rows ≡ false → (kept_of c).pending ≡ Some a → Resumed look login n a c slot o us → Did look login (GoesOn login n) o us (There c) slot
-call_resumed {L} look login n c a slot o us kind rows asked w =
-    let d = w.following in
-    let polled : Did look login (GoesOn login n) o us (There c) (There d) = record {
-      stood = record { rests = w.polled.rests; stepped = w.polled.stepped };
-      does = subst (λ (p : Option Asked). GoesOnWith p login n (kept_of c) (look c.link) o us (Joined true (kept_of d) (look d.link))) (sym asked) (subst (λ (b : Bool). PollsOn b a.rows login n a (kept_of c) (look c.link) o us (Joined true (kept_of d) (look d.link))) (sym kind) (subst (λ (r : Option (List RowParts)). PollsOn false r login n a (kept_of c) (look c.link) o us (Joined true (kept_of d) (look d.link))) (sym (no_rows a.rows rows)) w.polled.once));
-    } in
-    subst (λ (x : Slot L). Did look login (GoesOn login n) o us (There c) x) (sym w.slot_is) polled
+pub call_resumed : {L : Type 0} (look : L → Looks) (login : Login) (n : ℕ) (c d : Conn L) (a : Asked) (o : Outcome) (us : List Use) → is_connect (kind_of a.call) ≡ false → is_some a.rows ≡ false → (kept_of c).pending ≡ Some a → OpenPolled login n a d.session.seen (look c.link) (look d.link) (kept_of c) (kept_of d) o us → Did look login (GoesOn login n) o us (There c) (There d)
+call_resumed look login n c d a o us kind rows asked w = record {
+  stood = record { rests = w.rests; stepped = w.stepped };
+  does = subst (λ (p : Option Asked). GoesOnWith p login n (kept_of c) (look c.link) o us (Joined true (kept_of d) (look d.link))) (sym asked) (subst (λ (b : Bool). PollsOn b a.rows login n a (kept_of c) (look c.link) o us (Joined true (kept_of d) (look d.link))) (sym kind) (subst (λ (r : Option (List RowParts)). PollsOn false r login n a (kept_of c) (look c.link) o us (Joined true (kept_of d) (look d.link))) (sym (no_rows a.rows rows)) w.once));
+}
 
 -- a held dial is tried again
 pub dial_resumed : {L : Type 0} (look : L → Looks) (login : Login) (n : ℕ) (told : Plans) (slot : Slot L) (o : Outcome) (us : List Use) → Dialed look login n told slot o us → Did look login (GoesOn login n) o us Held slot
@@ -64,12 +61,10 @@ some_rows None e = cc
 some_rows (Some r) e = (r, refl)
 
 -- a gathering goes on
-pub gathering_resumed : {L : Type 0} (look : L → Looks) (login : Login) (n : ℕ) (c : Conn L) (a : Asked) (slot : Slot L) (o : Outcome) (us : List Use) → is_connect (kind_of a.call) ≡ false → is_some a.rows ≡ true → (kept_of c).pending ≡ Some a → GatheredOn look login n a c slot o us → Did look login (GoesOn login n) o us (There c) slot
-gathering_resumed {L} look login n c a slot o us kind rows asked w =
-    let d = w.following in
+pub gathering_resumed : {L : Type 0} (look : L → Looks) (login : Login) (n : ℕ) (c d : Conn L) (a : Asked) (o : Outcome) (us : List Use) → is_connect (kind_of a.call) ≡ false → is_some a.rows ≡ true → (kept_of c).pending ≡ Some a → GatherDid look login n a c d o us → Did look login (GoesOn login n) o us (There c) (There d)
+gathering_resumed look login n c d a o us kind rows asked w =
     let some = some_rows a.rows rows in
-    let polled : Did look login (GoesOn login n) o us (There c) (There d) = record {
-      stood = record { rests = w.did.rests; stepped = w.did.stepped };
-      does = subst (λ (p : Option Asked). GoesOnWith p login n (kept_of c) (look c.link) o us (Joined true (kept_of d) (look d.link))) (sym asked) (subst (λ (b : Bool). PollsOn b a.rows login n a (kept_of c) (look c.link) o us (Joined true (kept_of d) (look d.link))) (sym kind) (subst (λ (r : Option (List RowParts)). PollsOn false r login n a (kept_of c) (look c.link) o us (Joined true (kept_of d) (look d.link))) (sym some.1) w.did.gathers));
-    } in
-    subst (λ (x : Slot L). Did look login (GoesOn login n) o us (There c) x) (sym w.slot_is) polled
+    record {
+      stood = record { rests = w.rests; stepped = w.stepped };
+      does = subst (λ (p : Option Asked). GoesOnWith p login n (kept_of c) (look c.link) o us (Joined true (kept_of d) (look d.link))) (sym asked) (subst (λ (b : Bool). PollsOn b a.rows login n a (kept_of c) (look c.link) o us (Joined true (kept_of d) (look d.link))) (sym kind) (subst (λ (r : Option (List RowParts)). PollsOn false r login n a (kept_of c) (look c.link) o us (Joined true (kept_of d) (look d.link))) (sym some.1) w.gathers));
+    }

@@ -5,7 +5,7 @@ use Rattle.my_steps.proofs.Working.{gone_did, ended_did, in_held}
 use Rattle.my_steps.proofs.work.work_on.Goals as goal
 
 pub returns-in-There-clause-did : goal.returns-in-There-clause-did
-returns-in-There-clause-did g c = IfOk-weaker c.work_there.result _ _ (λ r f w. put_did g.N.L.Link.looks (login_of c.args.opts.now) _ r.1.outcome r.1.uses.items c.args.slot c.in-There.conn r.0 c.in-There.is w (f (login_of c.args.opts.now))) c.work_there.ensures
+returns-in-There-clause-did g c = IfOk-weaker c.work_conn.result _ _ (λ r f w. put_did g.N.L.Link.looks (login_of c.args.opts.now) _ r.1.outcome r.1.uses.items c.args.slot c.in-There.conn r.0 c.in-There.is w (f (login_of c.args.opts.now))) c.work_conn.ensures
 
 pub returns-in-Held-clause-did : goal.returns-in-Held-clause-did
 returns-in-Held-clause-did g c = IfOk-weaker c.work_held.result _ _ (λ r f w. in_held g.N.L.Link.looks (login_of c.args.opts.now) c.args.number c.args.work r.1.outcome r.1.uses.items c.args.slot r.0 c.in-Held.is (f tt)) c.work_held.ensures.did
