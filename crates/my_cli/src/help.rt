@@ -48,6 +48,9 @@ const HELP: &str = "\
 my_cli runs a script of steps over MySQL connections, and prints what each step came to.
 
   my_cli script WORD < SCRIPT
+  my_cli live WORD < SCRIPT
+
+In script the input also says what the servers do; live connects to real servers.
 
 WORD says how to connect: plain,USER,PASS,PACKET,WAIT. An empty USER or PASS is none.
 PACKET is the longest packet in bytes, from 1024 to 1073741824; WAIT is the seconds that
@@ -58,14 +61,17 @@ bytes may be written as % and two hexadecimal digits:
 
 USER, :PASS, :PORT and /DATABASE may be left out, and so may each setting: the server is
 asked for it after the login. With client_found_rows=true the server counts the rows that
-an update found. HOST, PORT and the keys of sockets and pools have no effect, since the
-script says what the links do. For example:
+an update found. live connects to HOST, a name or an address, at PORT, or 3306; with
+socket=PATH to the local socket at PATH; with plain, to port 3306 of this machine. In script
+these have no effect, nor have the keys of pools in either. For example:
 
   my_cli script plain,root,,4194304,28800 < first_query.script
+  my_cli live mysql://root@127.0.0.1:3306 < steps.script
 
 Empty lines of a script and lines that begin with # are skipped.
-Words are one space apart. The lines of the world come first: what the link of a number
-does, as the server's side of that connection would. What can be read from it:
+Words are one space apart. In script the lines of the world come first: what the link of a
+number does, as the server's side of that connection would. In live there are none. What can
+be read from it:
 
   packet L N HEX   a packet with the number N and this payload; HEX is hexadecimal, - is none
   drip L N HEX     the same byte by byte; after each byte a read has nothing yet, once

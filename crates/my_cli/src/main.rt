@@ -1,9 +1,14 @@
 //! Runs scripts of steps over MySQL connections.
 #![tactic(auto)]
 
+ghost use Rattle.std.specs.Prelude.{◌≡◌, map, string_bytes};
+ghost use Rattle.my_cli.specs.Live.{has_live};
 ghost use Rattle.my_cli.specs.Page.{page_text, PageEnds};
+ghost use Rattle.my_script.specs.Words.{command_of};
 
 mod help;
+#[cfg(test)]
+mod live_tests;
 mod message;
 #[cfg(test)]
 mod set_tests;
@@ -17,7 +22,9 @@ mod world_tests;
 use help::{Page, asked_page};
 use message::message;
 use my_frame::{Sink, StdSink, StdSource};
+use my_net::TcpWorld;
 use my_run::{Status, run_tool, write_all};
+use my_script::{Command, read_command};
 use my_world::MemWorld;
 use std::alloc::AllocError;
 use std::io::Eprint;
@@ -42,6 +49,16 @@ fn print_page<W: Sink>(out: &mut W, page: Page) -> Status
         Status::Done
     } else {
         Status::SinkFailed
+    }
+}
+
+// Whether the words ask for connections to real servers.
+fn is_live(words: &[String]) -> bool
+    ensures { result ≡ has_live (command_of (map string_bytes words.now)) }
+{
+    match read_command(words) {
+        Some(Command { is_live, .. }) => is_live,
+        None => false,
     }
 }
 
@@ -76,8 +93,13 @@ fn main(rt: HostRuntime) -> ExitCode {
         Some(page) => print_page(&mut out, page),
         None => {
             let mut src = StdSource::new(rt.reader());
-            let mut world = MemWorld::new(rt.alloc());
-            run_tool(rt.alloc(), &words, &mut src, &mut out, &mut world).status
+            if is_live(&words) {
+                let mut world = TcpWorld::new(&rt);
+                run_tool(rt.alloc(), &words, &mut src, &mut out, &mut world).status
+            } else {
+                let mut world = MemWorld::new(rt.alloc());
+                run_tool(rt.alloc(), &words, &mut src, &mut out, &mut world).status
+            }
         }
     };
     explain(&rt, &words, &status);

@@ -50,7 +50,7 @@ pub struct Ended {
     pub cause: String,
 }
 
-fn words_of(alloc: Global, words: &[&str]) -> Result<Vec<String>, NoMemory> {
+pub fn words_of(alloc: Global, words: &[&str]) -> Result<Vec<String>, NoMemory> {
     let mut owned = Vec::new(alloc);
     for word in words {
         owned.push(String::from_str(alloc, *word)?)?;

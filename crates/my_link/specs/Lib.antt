@@ -2,6 +2,7 @@ pub mod Outside
 pub mod Looks
 pub mod Link
 pub mod Moves
+pub mod Check
 pub mod Memory
 pub mod Items
 pub mod Planned

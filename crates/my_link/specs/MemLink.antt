@@ -17,9 +17,9 @@ unread m = left_items m.from (drop m.place m.items.items)
 abbrev pub unwritten : MemLink → List WriteItem
 unwritten m = m.writes
 
--- how often it failed, held and ended
+-- how often it failed, held, ended and was found dead
 abbrev pub counted : MemLink → Counts
-counted m = record { faults = m.faults; holds = m.holds; ends = m.ends }
+counted m = record { faults = m.faults; holds = m.holds; ends = m.ends; deaths = m.deaths }
 
 -- the bytes that it was sent
 abbrev pub sent_to : MemLink → List ℕ

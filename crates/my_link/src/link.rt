@@ -2,6 +2,7 @@
 ghost use Rattle.std.specs.Prelude.{◌≡◌, ◌<◌, Bool, length};
 ghost use Rattle.my_link.specs.Looks.{Looks};
 ghost use Rattle.my_link.specs.Moves.{ReadIs, WriteIs};
+ghost use Rattle.my_link.specs.Check.{CheckIs};
 
 use my_frame::Blob;
 
@@ -49,10 +50,19 @@ pub enum WriteStep {
     NoMemory,
 }
 
+/// What a check returns. A link is dead where bytes or the end can be read: nothing may come before the next command.
+#[derive(Clone, Copy, Debug, PartialEq, Eq)]
+pub enum CheckStep {
+    Alive,
+    Dead,
+    NotYet,
+    Failed,
+}
+
 /// A way to a server and back.
 ///
-/// It counts how often it failed, wasn't ready and ended. A count never falls, and rises with each such result
-/// until it is at its greatest value.
+/// It counts how often it failed, wasn't ready, ended and was found dead. A count never falls, and rises with each such
+/// result until it is at its greatest value.
 pub trait Link {
     /// The items that are left for reads and for writes and the bytes that it was sent, where the link tells them,
     /// and its counts.
@@ -71,6 +81,11 @@ pub trait Link {
     fn write(&mut self, bytes: &[u8]) -> WriteStep
         requires { 0 < length bytes.now }
         ensures looks { WriteIs (looks self.old) bytes.now (looks self.new) result }
+        ensures socket { socket self.new ≡ socket self.old };
+
+    /// Whether it is alive, while nothing is expected from it.
+    fn check(&mut self) -> CheckStep
+        ensures looks { CheckIs (looks self.old) (looks self.new) result }
         ensures socket { socket self.new ≡ socket self.old };
 
     /// Whether it is a local socket.

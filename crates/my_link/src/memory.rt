@@ -6,7 +6,7 @@ ghost use Rattle.my_link.specs.Memory.{is_sound, is_filled, CopiesFront};
 pub(crate) mod planned;
 pub(crate) mod writes;
 
-use crate::link::{Link, ReadItem, ReadStep, WriteStep};
+use crate::link::{CheckStep, Link, ReadItem, ReadStep, WriteStep};
 use crate::memory::writes::{Room, Writes};
 use std::alloc::Global;
 
@@ -24,6 +24,7 @@ pub struct MemLink {
     faults: u64,
     holds: u64,
     ends: u64,
+    deaths: u64,
     ghost sound: { is_sound from (drop place items.items) ≡ true },
 }
 
@@ -72,6 +73,7 @@ impl MemLink {
             faults: 0,
             holds: 0,
             ends: 0,
+            deaths: 0,
         }
     }
 
@@ -156,6 +158,16 @@ impl Link for MemLink {
                 self.faults = self.faults.saturating_add(1);
                 WriteStep::Failed
             }
+        }
+    }
+
+    fn check(&mut self) -> CheckStep {
+        match self.items.get(self.place) {
+            Some(ReadItem::Bytes(_) | ReadItem::End) => {
+                self.deaths = self.deaths.saturating_add(1);
+                CheckStep::Dead
+            }
+            Some(ReadItem::Turn | ReadItem::Wait | ReadItem::Fail) | None => CheckStep::Alive,
         }
     }
 

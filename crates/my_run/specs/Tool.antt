@@ -1,5 +1,5 @@
 -- The theorem on the top call: what it means that a run ended with a status.
-use Rattle.std.specs.Prelude.{◌≡◌, ℕ, List, [], Some, None, Ok, Err, if◌then◌else◌}
+use Rattle.std.specs.Prelude.{◌≡◌, ◌&&◌, not, ℕ, List, [], Some, None, Ok, Err, Bool, if◌then◌else◌}
 use Rattle.my_frame.specs.declared.limits.TheConstants.{MOST_INPUT}
 use Rattle.my_grammar.specs.declared.login.Login.{Login}
 use Rattle.my_opts.specs.Opts.{OptsView}
@@ -21,7 +21,7 @@ use Rattle.my_world.specs.World.{Plans, WorldSeen, DialCounts}
 use Rattle.my_client.specs.Login.{login_of}
 use Rattle.my_script.specs.Script.{Script, Good, Bad, script_of}
 use Rattle.my_script.specs.Text.{text_of}
-use Rattle.my_script.specs.Words.{script_word_of, word_opts}
+use Rattle.my_script.specs.Words.{CommandWords, command_of, word_opts}
 
 pub record IsEmpty (t : Transcript) : Type 0 where
   pub answers : t.answers.items ≡ []
@@ -120,17 +120,25 @@ WordEnds word world later s r w v t TooLong = IsWord word world later s r w v t 
 WordEnds word world later s r w v t NoMemory = IsBlank w v t
 WordEnds word world later s r w v t NoCommand = ⊥
 
--- the words are a command
+-- a world that takes a plan or doesn't
+abbrev pub planning : Bool → WorldSeen → WorldSeen
+planning plans world = record world { takes = plans }
+
+-- what a command lets of a world: `live` has no plan
+abbrev pub world_for : Bool → WorldSeen → WorldSeen
+world_for live world = planning (not live && world.takes) world
+
+-- the words are a command; the lines of a world don't read in `live`
 pub record IsCommand (words : List (List ℕ)) (world later : WorldSeen) (s r : SourceSeen) (w v : SinkSeen)
     (t : Transcript) (status : Status) : Type 0 where
-  pub word : List ℕ
-  pub read : script_word_of words ≡ Some word
-  pub ends : WordEnds word world later s r w v t status
+  pub command : CommandWords
+  pub read : command_of words ≡ Some command
+  pub ends : WordEnds command.word (world_for command.live world) later s r w v t status
 
 abbrev pub ToolEnds : List (List ℕ) → WorldSeen → WorldSeen → SourceSeen → SourceSeen → SinkSeen → SinkSeen → Transcript
     → Status → Type 0
 ToolEnds words world later s r w v t Done = IsCommand words world later s r w v t Done
-ToolEnds words world later s r w v t NoCommand = (script_word_of words ≡ None) × (r ≡ s) × IsBlank w v t
+ToolEnds words world later s r w v t NoCommand = (command_of words ≡ None) × (r ≡ s) × IsBlank w v t
 ToolEnds words world later s r w v t (Unread line) = IsCommand words world later s r w v t (Unread line)
 ToolEnds words world later s r w v t SourceFailed = IsCommand words world later s r w v t SourceFailed
 ToolEnds words world later s r w v t SinkFailed = IsCommand words world later s r w v t SinkFailed

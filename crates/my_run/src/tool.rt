@@ -6,7 +6,7 @@ ghost use Rattle.my_run.specs.Headline.{Headline};
 ghost use Rattle.my_client.specs.Login.{login_of};
 ghost use Rattle.my_script.specs.Script.{script_of};
 ghost use Rattle.my_script.specs.Text.{text_of};
-ghost use Rattle.my_run.specs.Tool.{IsEmpty, plans_with, code_of, ScriptEnds, TextEnds, InputEnds, WordEnds, IsReport};
+ghost use Rattle.my_run.specs.Tool.{IsEmpty, plans_with, code_of, ScriptEnds, TextEnds, InputEnds, WordEnds, planning, world_for, IsReport};
 
 use crate::input::{Came, read_all};
 use crate::output::write_all;
@@ -14,7 +14,8 @@ use crate::run::run_steps;
 use my_frame::{NoMemory, Sink, Source};
 use my_opts::Opts;
 use my_script::{
-    BadLine, Read, Script, Transcript, WordFault, read_script, read_word, script_word, text_of,
+    BadLine, Command, Read, Script, Transcript, WordFault, read_command, read_script, read_word,
+    text_of,
 };
 use my_world::{World, WorldLine};
 use std::alloc::Global;
@@ -88,12 +89,14 @@ fn prepare_each<N: World>(world: &mut N, plan: &[WorldLine]) -> Result<(), NoMem
     Ok(())
 }
 
-// Hands the world the lines of its plan, if it takes one.
-fn prepare_all<N: World>(world: &mut N, plan: &[WorldLine]) -> Result<(), NoMemory>
-    ensures plans { OnOk result (SamePlans (N.seen world.new).plans (plans_with (N.seen world.old) plan.now)) }
+// Hands the world the lines of its plan, where the run plans.
+fn prepare_all<N: World>(world: &mut N, plans: bool, plan: &[WorldLine]) -> Result<(), NoMemory>
+    requires { plans ≡ true → (N.seen world.old).takes ≡ true }
+    ensures plans { OnOk result
+        (SamePlans (N.seen world.new).plans (plans_with (planning plans (N.seen world.old)) plan.now)) }
     ensures dials { (N.seen world.new).dials ≡ (N.seen world.old).dials }
 {
-    if world.plans() {
+    if plans {
         prepare_each(world, plan)?;
     }
     Ok(())
@@ -104,13 +107,16 @@ fn run_script<N: World>(
     alloc: Global,
     opts: &Opts,
     script: &Script,
+    plans: bool,
     world: &mut N,
 ) -> Result<(Transcript, Vec<u8>), NoMemory>
-    ensures run { IfOk result (λ r. Headline (login_of opts.now) (plans_with (N.seen world.old) script.now.plan.items)
+    requires { plans ≡ true → (N.seen world.old).takes ≡ true }
+    ensures run { IfOk result (λ r. Headline (login_of opts.now)
+        (plans_with (planning plans (N.seen world.old)) script.now.plan.items)
         (N.seen world.old).dials (N.seen world.new).dials script.now.steps.items r.0.answers.items r.0.tapes.items) }
     ensures text { IfOk result (λ r. r.1.items ≡ text_of r.0.answers.items r.0.tapes.items) }
 {
-    prepare_all(world, &script.plan)?;
+    prepare_all(world, plans, &script.plan)?;
     let transcript = run_steps(alloc, opts, world, &script.steps)?;
     let text = text_of(alloc, &transcript)?;
     Ok((transcript, text))
@@ -120,14 +126,16 @@ fn run_good<W: Sink, N: World>(
     alloc: Global,
     opts: &Opts,
     script: &Script,
+    plans: bool,
     out: &mut W,
     world: &mut N,
 ) -> Report
-    ensures { ScriptEnds (login_of opts.now) (plans_with (N.seen world.old) script.now.plan.items)
+    requires { plans ≡ true → (N.seen world.old).takes ≡ true }
+    ensures { ScriptEnds (login_of opts.now) (plans_with (planning plans (N.seen world.old)) script.now.plan.items)
         (N.seen world.old).dials (N.seen world.new).dials script.now.steps.items
         (W.seen out.old) (W.seen out.new) result.transcript result.status }
 {
-    match run_script(alloc, opts, script, world) {
+    match run_script(alloc, opts, script, plans, world) {
         Err(_) => blank(alloc, Status::NoMemory),
         Ok((transcript, text)) => {
             if write_all(out, &text) {
@@ -149,17 +157,19 @@ fn run_text<W: Sink, N: World>(
     alloc: Global,
     opts: &Opts,
     bytes: &[u8],
+    plans: bool,
     out: &mut W,
     world: &mut N,
 ) -> Report
-    ensures { TextEnds (login_of opts.now) (N.seen world.old) (N.seen world.new)
-        (script_of (N.seen world.old).takes bytes.now)
+    requires { plans ≡ true → (N.seen world.old).takes ≡ true }
+    ensures { TextEnds (login_of opts.now) (planning plans (N.seen world.old)) (N.seen world.new)
+        (script_of plans bytes.now)
         (W.seen out.old) (W.seen out.new) result.transcript result.status }
 {
-    match read_script(alloc, world.plans(), bytes) {
+    match read_script(alloc, plans, bytes) {
         Err(_) => blank(alloc, Status::NoMemory),
         Ok(Read::Bad(line)) => blank(alloc, Status::Unread(line)),
-        Ok(Read::Good(script)) => run_good(alloc, opts, &script, out, world),
+        Ok(Read::Good(script)) => run_good(alloc, opts, &script, plans, out, world),
     }
 }
 
@@ -167,38 +177,42 @@ fn run_input<S: Source, W: Sink, N: World>(
     alloc: Global,
     opts: &Opts,
     src: &mut S,
+    plans: bool,
     out: &mut W,
     world: &mut N,
 ) -> Report
-    ensures { InputEnds (login_of opts.now) (N.seen world.old) (N.seen world.new)
+    requires { plans ≡ true → (N.seen world.old).takes ≡ true }
+    ensures { InputEnds (login_of opts.now) (planning plans (N.seen world.old)) (N.seen world.new)
         (S.seen src.old) (S.seen src.new) (W.seen out.old) (W.seen out.new) result.transcript result.status }
 {
     match read_all(alloc, src) {
         Err(_) => blank(alloc, Status::NoMemory),
         Ok(Came::Broken) => blank(alloc, Status::SourceFailed),
         Ok(Came::TooLong) => blank(alloc, Status::TooLong),
-        Ok(Came::Whole(bytes)) => run_text(alloc, opts, &bytes, out, world),
+        Ok(Came::Whole(bytes)) => run_text(alloc, opts, &bytes, plans, out, world),
     }
 }
 
-fn run_word<S: Source, W: Sink, N: World>(
+fn run_command<S: Source, W: Sink, N: World>(
     alloc: Global,
-    word: &str,
+    command: Command<'_>,
     src: &mut S,
     out: &mut W,
     world: &mut N,
 ) -> Report
-    ensures { WordEnds word.now (N.seen world.old) (N.seen world.new)
+    ensures { WordEnds command.entry.word.now (world_for command.entry.is_live (N.seen world.old)) (N.seen world.new)
         (S.seen src.old) (S.seen src.new) (W.seen out.old) (W.seen out.new) result.transcript result.status }
 {
-    match read_word(alloc, word) {
+    let plans = !command.is_live && world.plans();
+    match read_word(alloc, command.word) {
         Err(_) => blank(alloc, Status::NoMemory),
         Ok(Err(fault)) => blank(alloc, Status::Refused(fault)),
-        Ok(Ok(opts)) => run_input(alloc, &opts, src, out, world),
+        Ok(Ok(opts)) => run_input(alloc, &opts, src, plans, out, world),
     }
 }
 
 /// Runs a command: reads the words and the source, runs the steps over the world, and writes their text to the sink.
+/// In `live` the lines of a world don't read, nor do they over a world that takes no plan.
 ///
 /// The status is the first of these that comes: no command, a word that is refused, a source that fails or has more
 /// than 67,108,864 bytes, a line that doesn't read, a sink that fails; out of memory may come at any place.
@@ -212,8 +226,8 @@ pub fn run_tool<S: Source, W: Sink, N: World>(
     ensures { IsReport (map string_bytes words.now) (N.seen world.old) (N.seen world.new)
         (S.seen src.old) (S.seen src.new) (W.seen out.old) (W.seen out.new) result }
 {
-    match script_word(words) {
+    match read_command(words) {
         None => blank(alloc, Status::NoCommand),
-        Some(word) => run_word(alloc, word, src, out, world),
+        Some(command) => run_command(alloc, command, src, out, world),
     }
 }

@@ -1,21 +1,33 @@
 -- The words of a command line.
-use Rattle.std.specs.Prelude.{ℕ, List, [], ◌∷◌, codes, length, nat_lt, Option, Some, None, option_map, Result, Ok, Err, if◌then◌else◌}
+use Rattle.std.specs.Prelude.{ℕ, List, [], ◌∷◌, codes, length, nat_lt, Bool, true, false, Option, Some, None, option_map, Result, Ok, Err, if◌then◌else◌}
 use Rattle.std.specs.Str.{bytes_eq}
 use Rattle.my_frame.specs.Numbers.{◌>>=◌}
 use Rattle.my_opts.specs.Limits.{packet_limit, waiting_limit}
 use Rattle.my_opts.specs.Opts.{OptsView, default_opts}
 use Rattle.my_opts.specs.Url.{options_of}
 use Rattle.my_opts.specs.declared.error.UrlError.{UrlError}
+use Rattle.my_script.specs.declared.words.Command.{Command}
 use Rattle.my_script.specs.declared.words.Plain.{Plain as PlainParts}
 use Rattle.my_script.specs.declared.words.WordFault.{WordFault}
 use Rattle.my_script.specs.declared.words.WordFault.TheVariants.{Plain, TooLong, Url}
 use Rattle.my_script.specs.Cut.{first_of, rest_of}
 use Rattle.my_script.specs.Number.{number_of}
 
--- `script` and one more word
-abbrev pub script_word_of : List (List ℕ) → Option (List ℕ)
-script_word_of (name ∷ word ∷ []) = if bytes_eq name (codes "script") then Some word else None
-script_word_of _ = None
+-- a command: whether its connections go to real servers, and the word that gives the options
+pub record CommandWords : Type 0 where
+  pub live : Bool
+  pub word : List ℕ
+
+abbrev pub command_view : Command → CommandWords
+command_view c = record { live = c.is_live; word = c.word.now }
+
+-- `script` or `live`, and one more word
+abbrev pub command_of : List (List ℕ) → Option CommandWords
+command_of (name ∷ word ∷ []) =
+    if bytes_eq name (codes "script") then Some (record { live = false; word = word })
+    else if bytes_eq name (codes "live") then Some (record { live = true; word = word })
+    else None
+command_of _ = None
 
 -- a user, a password, a packet's limit and a waiting time
 pub record PlainWords : Type 0 where

@@ -12,4 +12,4 @@ pub use reading::script::{BadLine, Read, Script, read_script};
 pub use step::Step;
 pub use text::transcript::text_of;
 pub use transcript::{Outcome, StepAnswer, Tape, TapeCall, Transcript, Use};
-pub use words::{WordFault, read_word, script_word};
+pub use words::{Command, WordFault, read_command, read_word};

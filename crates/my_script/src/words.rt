@@ -1,7 +1,7 @@
 //! Reads the words of a command line.
 ghost use Rattle.std.specs.Prelude.{◌≡◌, ◌<◌, IfOk, map, option_map, string_bytes};
 ghost use Rattle.my_script.specs.Cut.{first_of, rest_of};
-ghost use Rattle.my_script.specs.Words.{script_word_of, after_plain, plain_view, plain_parts, plain_opts, plain_word, url_opts, word_opts, some_text};
+ghost use Rattle.my_script.specs.Words.{command_of, command_view, after_plain, plain_view, plain_parts, plain_opts, plain_word, url_opts, word_opts, some_text};
 
 use crate::reading::number::number;
 use my_frame::NoMemory;
@@ -156,14 +156,32 @@ pub fn read_word(alloc: Global, word: &str) -> Result<Result<Opts, WordFault>, N
     }
 }
 
-/// The second word of `script WORD`, or none where the words are no command.
-pub fn script_word(words: &[String]) -> Option<&str>
-    ensures { option_map (λ w. w.now) result ≡ script_word_of (map string_bytes words.now) }
+/// A command of two words.
+#[derive(Clone, Copy)]
+pub struct Command<'a> {
+    /// Whether its connections go to real servers: `live WORD` in place of `script WORD`.
+    pub is_live: bool,
+    /// The word that gives the options.
+    pub word: &'a str,
+}
+
+/// The command, or none where the words are no command.
+pub fn read_command(words: &[String]) -> Option<Command<'_>>
+    ensures { option_map command_view result ≡ command_of (map string_bytes words.now) }
 {
     match words {
         [name, word] => {
-            if name.as_str() == "script" {
-                Some(word.as_str())
+            let (name, word) = (name.as_str(), word.as_str());
+            if name == "script" {
+                Some(Command {
+                    is_live: false,
+                    word,
+                })
+            } else if name == "live" {
+                Some(Command {
+                    is_live: true,
+                    word,
+                })
             } else {
                 None
             }

@@ -17,7 +17,7 @@ use my_client::{After, Conn, begin_conn, drive};
 use my_frame::NoMemory;
 use my_handshake::server_version;
 use my_link::{Link, Met};
-use my_opts::Opts;
+use my_opts::{Opts, Target};
 use my_reading::{Error, IoError, IoFault, IoKind};
 use my_script::{Outcome, Use};
 use my_world::{DialStep, World};
@@ -93,10 +93,11 @@ fn first_call<L: Link + Drop>(
     Ok((place(conn, worked.there), worked.did))
 }
 
-/// Dials the link of this number, and connects over it.
-pub(crate) fn dial_at<N: World>(
+// Dials the link of this number at this target, and connects over it.
+fn dial_to<N: World>(
     alloc: Global,
     opts: &Opts,
+    target: &Target,
     world: &mut N,
     number: u64,
 ) -> Result<(Slot<N::L>, StepResult), NoMemory>
@@ -106,7 +107,7 @@ pub(crate) fn dial_at<N: World>(
     ensures dialed { IfOk result (λ r.
         Dialed N.L.looks (login_of opts.now) number (N.seen world.old).plans r.0 r.1.outcome r.1.uses.items) }
 {
-    match world.dial(number) {
+    match world.dial(number, target) {
         DialStep::Link(link) => first_call(alloc, opts, link, number),
         DialStep::NotYet => {
             let met = Met {
@@ -125,6 +126,23 @@ pub(crate) fn dial_at<N: World>(
             Ok((Slot::Gone, did))
         }
     }
+}
+
+/// Dials the link of this number where the options say, and connects over it.
+pub(crate) fn dial_at<N: World>(
+    alloc: Global,
+    opts: &Opts,
+    world: &mut N,
+    number: u64,
+) -> Result<(Slot<N::L>, StepResult), NoMemory>
+    ensures others { SameBut number (N.seen world.old).plans (N.seen world.new).plans }
+    ensures counts { IfOk result (λ r.
+        DialsTo (N.seen world.old).dials (N.seen world.new).dials (dial_met true r.1.uses.items)) }
+    ensures dialed { IfOk result (λ r.
+        Dialed N.L.looks (login_of opts.now) number (N.seen world.old).plans r.0 r.1.outcome r.1.uses.items) }
+{
+    let target = opts.target(alloc)?;
+    dial_to(alloc, opts, &target, world, number)
 }
 
 /// Dials the link of the next number, and connects over it.

@@ -10,6 +10,7 @@ use crate::line::WorldLine;
 use crate::world::{DialStep, World};
 use my_frame::{Blob, NoMemory};
 use my_link::{Addition, MemLink, Planned, ReadItem, WriteItem, Writes};
+use my_opts_parts::Target;
 use std::alloc::{AllocError, Global};
 
 /// A world in memory. Each link has the items of the lines with its number, in order, for reads and for writes apart.
@@ -187,7 +188,8 @@ impl World for MemWorld {
         Ok(())
     }
 
-    fn dial(&mut self, number: u64) -> DialStep<MemLink> {
+    // Every target is at the links in memory.
+    fn dial(&mut self, number: u64, _target: &Target) -> DialStep<MemLink> {
         let place = place_of(&self.links, number);
         if place >= self.links.len() {
             let empty = MemLink::new(self.alloc, Vec::new(self.alloc), Writes::new(self.alloc));

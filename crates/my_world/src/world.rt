@@ -7,6 +7,7 @@ ghost use Rattle.my_world.specs.Plan.{plans_on};
 use crate::line::WorldLine;
 use my_frame::NoMemory;
 use my_link::Link;
+use my_opts_parts::Target;
 
 /// What a dial returns.
 #[derive(Drop)]
@@ -36,8 +37,8 @@ pub trait World {
         ensures takes { (seen self.new).takes ≡ (seen self.old).takes }
         ensures dials { (seen self.new).dials ≡ (seen self.old).dials };
 
-    /// Dials the link of `number`. Where a world tells the plan of a link, its dial is ready and doesn't fail.
-    fn dial(&mut self, number: u64) -> DialStep<Self::L>
+    /// Dials the link of `number` at `target`. Where a world tells the plan of a link, its dial is ready and doesn't fail.
+    fn dial(&mut self, number: u64, target: &Target) -> DialStep<Self::L>
         ensures items { IfLink result (λ l. (Self.L.looks l).items ≡ (seen self.old).plans.reads number) }
         ensures writes { IfLink result (λ l. (Self.L.looks l).writes ≡ (seen self.old).plans.writes number) }
         ensures got { IfLink result (λ l. IsFresh (Self.L.looks l).got) }

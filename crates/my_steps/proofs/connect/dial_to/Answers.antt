@@ -3,7 +3,7 @@ use Rattle.std.proofs.lemmas.Result.{IfOk-weaker}
 use Rattle.my_client.specs.Login.{login_of}
 use Rattle.my_steps.specs.Sums.{quiet, held_use, failed_use}
 use Rattle.my_steps.proofs.Working.Connecting.{linked, dial_held, dial_failed, dial_same, dial_met_by}
-use Rattle.my_steps.proofs.connect.dial_at.Goals as goal
+use Rattle.my_steps.proofs.connect.dial_to.Goals as goal
 
 pub returns-in-Link-clause-dialed : goal.returns-in-Link-clause-dialed
 returns-in-Link-clause-dialed g c = IfOk-weaker c.first_call.result _ _ (λ d f. linked g.N.L.Link.looks (login_of c.args.opts.now) c.args.number c.in-Link.link (g.N.World.seen c.args.world.now).plans d.0 d.1.outcome d.1.uses.items f.0 c.in-Link.ensures.items c.in-Link.ensures.writes c.in-Link.ensures.got c.in-Link.ensures.counts f.1 f.2) c.first_call.ensures

@@ -1,0 +1,13 @@
+//! The network: links over the system's sockets, and a world that dials them. What the peer does is not known to any
+//! contract; each call that fails is counted.
+#![tactic(auto)]
+
+mod link;
+mod stream;
+#[cfg(test)]
+mod tests;
+mod world;
+
+pub use link::{RealLink, SocketLink, StreamLink, TcpLink};
+pub use stream::{RealStream, Stream};
+pub use world::TcpWorld;
