@@ -1,5 +1,5 @@
 -- What was done, as something else that is the same.
-use Rattle.std.proofs.Common.{◌≡◌, Bool, true, false, refl, sym, ap, ◌∙◌, subst}
+use Rattle.std.proofs.Common.{◌≡◌, Bool, true, false, sym, subst}
 use Rattle.std.specs.Bool.{Decides}
 use Rattle.my_grammar.specs.declared.login.Login.{Login}
 use Rattle.my_run_judge.specs.declared.walk.Walker.{Walker}

@@ -1,6 +1,5 @@
 -- The polls of a line, one after the other.
-use Rattle.std.proofs.Common.{◌≡◌, ℕ, List, [], ◌∷◌, Bool, true, false, refl, sym, ap, ◌∙◌, subst}
-use Rattle.std.specs.Bool.{Decides}
+use Rattle.std.proofs.Common.{◌≡◌, ℕ, List, [], ◌∷◌, Bool, true, false, refl, sym, subst}
 use Rattle.my_grammar.specs.declared.login.Login.{Login}
 use Rattle.my_reading.specs.Place.{Place}
 use Rattle.my_script.specs.declared.transcript.Outcome.{Outcome}
@@ -8,7 +7,7 @@ use Rattle.my_script.specs.declared.transcript.Tape.{Tape}
 use Rattle.my_script.specs.declared.transcript.Use.{Use}
 use Rattle.my_judge.specs.Stands.{IsAt}
 use Rattle.my_run_judge.specs.declared.walk.Walker.{Walker}
-use Rattle.my_run_judge.specs.Does.{Does, Done, IsAtWalk, IsSomewhere, walk_of}
+use Rattle.my_run_judge.specs.Does.{Does, Done, IsSomewhere, walk_of}
 use Rattle.my_run_judge.specs.Lines.{ArePolled, LastPoll, RowPoll, after_last_poll, after_polls, after_row_poll}
 use Rattle.my_run_judge.specs.Walks.{Walk}
 use Rattle.my_run_judge.proofs.Doing.{done_as, not_right, wrong}

@@ -1,8 +1,7 @@
 -- The call in turn ends.
-use Rattle.std.proofs.Common.{◌≡◌, ℕ, ◌+◌, List, length, slice_get, Option, Some, None, Bool, true, false, refl, sym, ap, ◌∙◌, subst}
+use Rattle.std.proofs.Common.{◌≡◌, ℕ, ◌+◌, List, length, slice_get, Option, Some, None, Bool, false, sym, ap, ◌∙◌, subst}
 use Rattle.my_grammar.specs.declared.login.Login.{Login}
 use Rattle.my_reading.specs.Place.{Place}
-use Rattle.my_reading.specs.Reading.{ReadCall}
 use Rattle.my_reading.specs.Tape.{Span}
 use Rattle.my_reading.specs.Told.{Told}
 use Rattle.my_script.specs.declared.transcript.Tape.{Tape}
@@ -12,10 +11,9 @@ use Rattle.my_judge.specs.declared.stand.Stand.{Stand}
 use Rattle.my_judge.specs.Reads.{ReadsCall, read_of}
 use Rattle.my_judge.specs.Settled.{settled}
 use Rattle.my_judge.specs.Stands.{IsAt}
-use Rattle.my_run_judge.specs.declared.walk.Spot.{Spot}
 use Rattle.my_run_judge.specs.declared.walk.Walker.{Walker}
-use Rattle.my_run_judge.specs.Does.{Done, IsAtWalk, walk_of}
-use Rattle.my_run_judge.specs.Walks.{Walk, EndsAt, EndsRight, IsEnded, ended, ended_at, read_at, span_of}
+use Rattle.my_run_judge.specs.Does.{Done, IsAtWalk}
+use Rattle.my_run_judge.specs.Walks.{Walk, EndsAt, EndsRight, IsEnded, ended, ended_at, read_at}
 
 -- calls with the same bytes
 pub same_span : (c : TapeCall) (x y : Option Told) (a b d e : List ℕ) → x ≡ y → a ≡ b → d ≡ e

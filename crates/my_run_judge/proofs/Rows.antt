@@ -1,5 +1,5 @@
 -- The rows of a gathering, one after the other.
-use Rattle.std.proofs.Common.{◌≡◌, List, [], ◌∷◌, Option, Some, Ok, Bool, true, false, refl, sym, ap, ◌∙◌, subst}
+use Rattle.std.proofs.Common.{◌≡◌, List, [], ◌∷◌, Some, Ok, true, false, refl, sym, subst}
 use Rattle.std.specs.Bool.{Decides}
 use Rattle.my_value.specs.RowParts.{RowParts}
 use Rattle.my_reading.specs.declared.answer.Answer.TheVariants as answers

@@ -1,6 +1,5 @@
 -- The lines of a transcript, one after the other.
-use Rattle.std.proofs.Common.{◌≡◌, inl, inr, ℕ, ◌+◌, ◌<◌, List, [], ◌∷◌, length, Bool, true, false, refl, sym, ap, ◌∙◌, subst, arith}
-use Rattle.std.specs.Bool.{Decides}
+use Rattle.std.proofs.Common.{◌≡◌, inl, inr, ℕ, ◌+◌, List, [], ◌∷◌, length, Bool, true, false, refl, sym, ap, subst, arith}
 use Rattle.my_grammar.specs.declared.login.Login.{Login}
 use Rattle.my_reading.specs.Place.{Place, first_place}
 use Rattle.my_script.specs.declared.step.Step.{Step}
@@ -10,10 +9,10 @@ use Rattle.my_judge.specs.Stands.{IsAt}
 use Rattle.my_run_judge.specs.declared.judging.Found.{Found}
 use Rattle.my_run_judge.specs.declared.judging.Found.TheVariants.{Right, Wrong}
 use Rattle.my_run_judge.specs.declared.walk.Walker.{Walker}
-use Rattle.my_run_judge.specs.Does.{Done, IsAtWalk, IsOverAt, IsSomewhere, IsStart, walk_of}
-use Rattle.my_run_judge.specs.Lines.{AreLines, FirstWrong, IsOver, LineRight, after_line}
+use Rattle.my_run_judge.specs.Does.{Done, IsOverAt, IsSomewhere, IsStart, walk_of}
+use Rattle.my_run_judge.specs.Lines.{LineRight, after_line}
 use Rattle.my_run_judge.specs.Verdicts.{EndsAs, IsFound, IsFoundFrom}
-use Rattle.my_run_judge.specs.Walks.{Walk, start}
+use Rattle.my_run_judge.specs.Walks.{Walk}
 use Rattle.my_run_judge.proofs.Doing.{not_right}
 
 -- What is found from here on is found of the whole.

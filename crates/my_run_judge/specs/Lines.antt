@@ -1,5 +1,5 @@
 -- What a line shows at a connection, and when it is right.
-use Rattle.std.specs.Prelude.{◌≡◌, ◌+◌, ◌-◌, ◌≤◌, ◌⊎◌, ℕ, suc, List, [], ◌∷◌, length, take, drop, slice_get, Option, Some, None, Result, Ok, Err, Bool, true, false}
+use Rattle.std.specs.Prelude.{◌≡◌, ◌+◌, ◌-◌, ◌≤◌, ◌⊎◌, ℕ, List, [], ◌∷◌, length, take, drop, slice_get, Option, Some, None, Result, Ok, Err, Bool, true, false}
 use Rattle.my_handshake.specs.Version.{version_of}
 use Rattle.my_value.specs.RowParts.{RowParts}
 use Rattle.my_grammar.specs.declared.login.Login.{Login}
@@ -24,7 +24,7 @@ use Rattle.my_script.specs.declared.transcript.Use.{Use}
 use Rattle.my_acts.specs.declared.act.Act.{Act}
 use Rattle.my_acts.specs.declared.act.Act.TheVariants.{Wrong, Skips, Tells, Holds, Fails, Connects, Polls, Ends, Cancels}
 use Rattle.my_acts.specs.declared.act.Status.{Status}
-use Rattle.my_acts.specs.declared.act.Status.TheVariants.{Ahead, Absent, Dialing, Idle, Open, Gathers}
+use Rattle.my_acts.specs.declared.act.Status.TheVariants.{Absent, Dialing, Open, Gathers}
 use Rattle.my_run_judge.specs.declared.walk.Spot.{Spot}
 use Rattle.my_acts.specs.Acts.{act_of, begun_by}
 use Rattle.my_run_judge.specs.Walks.{Walk, with_status, with_taken, IsEnded, ended}

@@ -109,7 +109,15 @@ impl Walker {
         }
         let spot = self.spot;
         let uses = answer.uses.len();
-        let act = act_of(spot.status, number, spot.next, self.reader.closed, step, &answer.outcome, uses);
+        let act = act_of(
+            spot.status,
+            number,
+            spot.next,
+            self.reader.closed,
+            step,
+            &answer.outcome,
+            uses,
+        );
         let right = self.reads(alloc, login, number, tape, step, answer, act)?;
         self.spot.status = status_after(self.spot.status, act);
         Ok(right)

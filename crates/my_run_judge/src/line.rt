@@ -5,7 +5,15 @@ ghost use Rattle.std.specs.Bool.{Decides};
 ghost use Rattle.my_acts.specs.Acts.{begun_by};
 ghost use Rattle.my_run_judge.specs.Does.{Does, IsSomewhere};
 ghost use Rattle.my_run_judge.specs.Lines.{
-    ArePolled, ConnectsRight, DialRight, EndsAtOnce, EndsUnanswered, IsDialFault, PollsRight, after_polls, use_of
+  ArePolled,
+  ConnectsRight,
+  DialRight,
+  EndsAtOnce,
+  EndsUnanswered,
+  IsDialFault,
+  PollsRight,
+  after_polls,
+  use_of,
 };
 ghost use Rattle.my_run_judge.specs.Walks.{Walk, ended};
 

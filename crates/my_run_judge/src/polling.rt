@@ -6,7 +6,16 @@ ghost use Rattle.std.specs.Option.{option_copied};
 ghost use Rattle.my_handshake.specs.Version.{version_of};
 ghost use Rattle.my_run_judge.specs.Does.{Does, IsSomewhere};
 ghost use Rattle.my_run_judge.specs.Lines.{
-    Fits, IsBegun, IsToldBy, LastPoll, LastRight, RowPoll, after_last_poll, after_row_poll, calls_before, first_of
+  Fits,
+  IsBegun,
+  IsToldBy,
+  LastPoll,
+  LastRight,
+  RowPoll,
+  after_last_poll,
+  after_row_poll,
+  calls_before,
+  first_of,
 };
 ghost use Rattle.my_run_judge.specs.Walks.{Walk, ended};
 
@@ -55,9 +64,7 @@ fn fits(number: u64, tape: &Tape, spot: Spot, used: &Use) -> bool
     ensures { Decides result (Fits number tape.now spot used.now) }
 {
     let len = tape.taken.len();
-    used.number == number
-        && spot.taken <= len
-        && used.met.taken as usize <= len - spot.taken
+    used.number == number && spot.taken <= len && used.met.taken as usize <= len - spot.taken
 }
 
 fn is_same_version(a: &ServerVersion, b: &ServerVersion) -> bool

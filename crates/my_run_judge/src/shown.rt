@@ -5,7 +5,14 @@ ghost use Rattle.std.specs.Bool.{Decides};
 ghost use Rattle.std.specs.Option.{option_copied};
 ghost use Rattle.my_acts.specs.Acts.{begun_by};
 ghost use Rattle.my_run_judge.specs.Lines.{
-    AreRows, IsBegun, IsCallOf, IsGathered, IsShown, IsShownAt, is_pending, is_unanswered
+  AreRows,
+  IsBegun,
+  IsCallOf,
+  IsGathered,
+  IsShown,
+  IsShownAt,
+  is_pending,
+  is_unanswered,
 };
 
 use my_frame::Blob;
@@ -161,11 +168,7 @@ fn is_error(error: &Error, answer: &Option<Result<Answer, Error>>) -> bool
     }
 }
 
-fn is_gathered(
-    rows: &[Row],
-    answer: &Option<Result<Answer, Error>>,
-    before: &[TapeCall],
-) -> bool
+fn is_gathered(rows: &[Row], answer: &Option<Result<Answer, Error>>, before: &[TapeCall]) -> bool
     ensures { Decides result (IsGathered rows.now answer.now before.now) }
 {
     if is_set_end(answer) || is_no_set(answer) {
@@ -175,11 +178,7 @@ fn is_gathered(
     }
 }
 
-fn is_shown(
-    outcome: &Outcome,
-    answer: &Option<Result<Answer, Error>>,
-    before: &[TapeCall],
-) -> bool
+fn is_shown(outcome: &Outcome, answer: &Option<Result<Answer, Error>>, before: &[TapeCall]) -> bool
     ensures { Decides result (IsShown outcome.now answer.now before.now) }
 {
     match outcome {
