@@ -2,9 +2,31 @@
 
 ghost use Rattle.std.specs.Prelude.{◌≡◌, length};
 ghost use Rattle.my_acts.specs.Acts.{
-    act_ahead, act_here, act_of, act_there, after_cancel, asked, at_dialing, at_gathering, at_idle, at_open, cancelled,
-    closed_at_once, collected, connecting, dialed, dialed_once, dropped, gathered, gathering, goes_on, polled, polled_once,
-    refused, target, told
+  act_ahead,
+  act_here,
+  act_of,
+  act_there,
+  after_cancel,
+  asked,
+  at_dialing,
+  at_gathering,
+  at_idle,
+  at_open,
+  cancelled,
+  closed_at_once,
+  collected,
+  connecting,
+  dialed,
+  dialed_once,
+  dropped,
+  gathered,
+  gathering,
+  goes_on,
+  polled,
+  polled_once,
+  refused,
+  target,
+  told,
 };
 
 use my_script::{Outcome, Step};
@@ -128,11 +150,8 @@ fn polled(outcome: &Outcome) -> Act
 {
     match outcome {
         Outcome::Pending => Act::Polls(Status::Open),
-        Outcome::Done
-        | Outcome::SetEnd
-        | Outcome::NoSet
-        | Outcome::Row(_)
-        | Outcome::Failed(_) => Act::Polls(Status::Idle),
+        Outcome::Done | Outcome::SetEnd | Outcome::NoSet | Outcome::Row(_) | Outcome::Failed(_) =>
+            Act::Polls(Status::Idle),
         _ => Act::Wrong,
     }
 }
@@ -140,7 +159,11 @@ fn polled(outcome: &Outcome) -> Act
 fn polled_once(outcome: &Outcome, uses: usize) -> Act
     ensures { result ≡ polled_once outcome.now uses }
 {
-    if uses == 1 { polled(outcome) } else { Act::Wrong }
+    if uses == 1 {
+        polled(outcome)
+    } else {
+        Act::Wrong
+    }
 }
 
 fn gathering(first: usize, outcome: &Outcome) -> Act

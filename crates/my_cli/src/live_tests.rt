@@ -66,7 +66,13 @@ fn a_row_over_tcp(rt: HostRuntime) -> Result<(), Fail> {
     let words = words_of(rt.alloc(), &["live", url.as_str()])?;
     let mut src = MemSource::new(STEPS.as_bytes().to_vec(rt.alloc())?);
     let mut found = MemSink::new(rt.alloc(), 4096)?;
-    let report = run_tool(rt.alloc(), &words, &mut src, &mut found, &mut TcpWorld::new(&rt));
+    let report = run_tool(
+        rt.alloc(),
+        &words,
+        &mut src,
+        &mut found,
+        &mut TcpWorld::new(&rt),
+    );
     assert!(rt; server.join(&rt));
     assert_eq!(rt; report.status.code(), 0);
     assert_eq!(rt; found.taken(), planned.taken());
@@ -92,14 +98,27 @@ fn live_without_a_plan(rt: HostRuntime) -> Result<(), Fail> {
 // The lines of a world don't read over a world that takes none; a dial that fails has its error.
 #[test]
 fn script_over_the_network(rt: HostRuntime) -> Result<(), Fail> {
-    let cases = [("turn 0\nconn\n", 3, ""), ("conn\nping 0\n", 0, "1 error Io Dial\n2 refused NoSuchHandle\nend\n")];
+    let cases = [
+        ("turn 0\nconn\n", 3, ""),
+        (
+            "conn\nping 0\n",
+            0,
+            "1 error Io Dial\n2 refused NoSuchHandle\nend\n",
+        ),
+    ];
     let url = "mysql://root@localhost?socket=%2Fnowhere%2Fat%2Fall";
     for command in ["script", "live"] {
         for (script, status, text) in cases {
             let words = words_of(rt.alloc(), &[command, url])?;
             let mut src = MemSource::new(script.as_bytes().to_vec(rt.alloc())?);
             let mut out = MemSink::new(rt.alloc(), 1024)?;
-            let report = run_tool(rt.alloc(), &words, &mut src, &mut out, &mut TcpWorld::new(&rt));
+            let report = run_tool(
+                rt.alloc(),
+                &words,
+                &mut src,
+                &mut out,
+                &mut TcpWorld::new(&rt),
+            );
             assert_eq!(rt; report.status.code(), status, "at {command} {script}");
             assert_eq!(rt; out.taken(), text.as_bytes(), "at {command} {script}");
         }

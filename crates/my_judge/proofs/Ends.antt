@@ -201,7 +201,7 @@ reads_settled login call ending settled_ending sent taken p closed closing old m
     let here : IsAt login (with_bytes sent taken p) mid = subst (λ (x : Stand). IsAt login (with_bytes sent taken p) x) (sym added) (at_bytes login p old sent taken at) in
     let h : HaltIs login (halt_of login closed span p) stop new = subst (λ x. HaltIs login x stop new) (sym (halts_so login closed span p)) (stopped (with_bytes sent taken p) here) in
     let told : settled_told (kind_of call) (halt_of login closed span p).place (option_map told_of ending) ≡ option_map told_of settled_ending
-        = settled_so (kind_of call) (halt_of login closed span p).place new.context.spot ending (ap (λ (x : Stand). x.context.spot) h.at.stand_is) ∙ ap (option_map told_of) (sym is) in
+    = settled_so (kind_of call) (halt_of login closed span p).place new.context.spot ending (ap (λ (x : Stand). x.context.spot) h.at.stand_is) ∙ ap (option_map told_of) (sym is) in
     reads_so login (read_of login closed (settled login closed span p) p) settled_ending new stop ends said closing (halts_settled h) told ended begun (closes ∙ ap (is_closing call) (sym told))
   where
     halts_settled : HaltIs login (halt_of login closed (span_with call ending sent taken) p) stop new → HaltIs login (halt_of login closed (settled login closed (span_with call ending sent taken) p) p) stop new

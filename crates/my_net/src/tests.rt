@@ -2,7 +2,9 @@
 
 use crate::{Stream, StreamLink, TcpWorld};
 use my_frame::{Listed, SourceStep, Text};
-use my_link::{CheckStep, Link, MemLink, ReadItem, ReadStep, ReadyLink, WriteStep, Writes, read_blocking};
+use my_link::{
+    CheckStep, Link, MemLink, ReadItem, ReadStep, ReadyLink, WriteStep, Writes, read_blocking,
+};
 use my_opts_parts::Target;
 use my_world::{DialStep, World};
 use std::alloc::Global;
@@ -50,12 +52,7 @@ fn linked<L>(step: DialStep<L>) -> io::Result<L> {
 }
 
 // A target at these addresses, or at the host of this name.
-fn target(
-    alloc: Global,
-    host: &str,
-    port: u16,
-    ips: Option<Vec<IpAddr>>,
-) -> Result<Target, Fail> {
+fn target(alloc: Global, host: &str, port: u16, ips: Option<Vec<IpAddr>>) -> Result<Target, Fail> {
     Ok(Target::Tcp {
         host: Text::from_str(alloc, host)?,
         port,
