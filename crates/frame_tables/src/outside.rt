@@ -81,8 +81,29 @@ impl Write for Keeping {
     }
 }
 
+// Whether reads into a buffer of four dots come to these steps and leave these bytes in it.
+fn reads<S: Source>(source: &mut S, wants: &[(SourceStep, &[u8; 4])]) -> bool {
+    for (step, bytes) in wants {
+        let mut buf = *b"....";
+        if source.read(&mut buf) != *step || buf != **bytes {
+            return false;
+        }
+    }
+    true
+}
+
+// Whether writes of these bytes come to these steps.
+fn writes<S: Sink>(sink: &mut S, wants: &[(&[u8], SinkStep)]) -> bool {
+    for (bytes, step) in wants {
+        if bytes.is_empty() || sink.write(bytes) != *step {
+            return false;
+        }
+    }
+    true
+}
+
 #[test]
-fn ample_pieces_are_read_as_they_came(rt: HostRuntime) -> Result<(), Fail> {
+fn ample_pieces_are_read_as_they_came(rt: HostRuntime) {
     let turns = &[
         Turn::Gives(b"a"),
         Turn::Interrupted,
@@ -91,47 +112,38 @@ fn ample_pieces_are_read_as_they_came(rt: HostRuntime) -> Result<(), Fail> {
         Turn::Interrupted,
         Turn::Gives(b"def"),
     ];
+    let wants = &[
+        (SourceStep::Got(1), b"a..."),
+        (SourceStep::Got(2), b"bc.."),
+        (SourceStep::Got(3), b"def."),
+        (SourceStep::End, b"...."),
+    ];
     let mut source = StdSource::new(Scripted { turns });
-    for want in [b"a".as_slice(), b"bc".as_slice(), b"def".as_slice()] {
-        let mut buf = *b"....";
-        assert!(rt; source.read(&mut buf) == SourceStep::Got(want.len()));
-        assert!(rt; buf.starts_with(want), "{buf:?}");
-    }
-    let mut buf = *b"....";
-    assert!(rt; source.read(&mut buf) == SourceStep::End);
-    assert!(rt; buf == *b"....");
-    assert_eq!(rt; source.faults(), 0);
-    assert_eq!(rt; source.ends(), 1);
-    Ok(())
+    assert!(rt; reads(&mut source, wants));
+    assert!(rt; source.faults() == 0 && source.ends() == 1);
 }
 
 #[test]
-fn ample_a_failed_read_is_counted(rt: HostRuntime) -> Result<(), Fail> {
+fn ample_a_failed_read_is_counted(rt: HostRuntime) {
     let turns = &[Turn::Fails, Turn::Gives(b"a")];
     let mut source = StdSource::new(Scripted { turns });
-    let mut buf = *b"..";
-    assert!(rt; source.read(&mut buf) == SourceStep::Failed);
-    assert_eq!(rt; source.faults(), 1);
-    assert_eq!(rt; source.ends(), 0);
-    assert!(rt; source.read(&mut buf) == SourceStep::Got(1));
-    assert!(rt; buf.starts_with(b"a"));
-    assert_eq!(rt; source.faults(), 1);
-    Ok(())
+    assert!(rt; reads(&mut source, &[(SourceStep::Failed, b"....")]));
+    assert!(rt; source.faults() == 1 && source.ends() == 0);
+    assert!(rt; reads(&mut source, &[(SourceStep::Got(1), b"a...")]));
+    assert!(rt; source.faults() == 1);
 }
 
 #[test]
-fn ample_a_read_interrupted_without_end_fails(rt: HostRuntime) -> Result<(), Fail> {
+fn ample_a_read_interrupted_without_end_fails(rt: HostRuntime) {
     let turns = &[Turn::Interrupted; 1_000];
     let mut source = StdSource::new(Scripted { turns });
-    let mut buf = *b"..";
-    assert!(rt; source.read(&mut buf) == SourceStep::Failed);
-    assert_eq!(rt; source.faults(), 1);
-    assert!(rt; source.read(&mut buf) == SourceStep::End);
-    Ok(())
+    assert!(rt; reads(&mut source, &[(SourceStep::Failed, b"....")]));
+    assert!(rt; source.faults() == 1);
+    assert!(rt; reads(&mut source, &[(SourceStep::End, b"....")]));
 }
 
 #[test]
-fn ample_a_writer_has_the_bytes_that_it_took(rt: HostRuntime) -> Result<(), Fail> {
+fn ample_a_writer_has_the_bytes_that_it_took(rt: HostRuntime) {
     let turns = &[
         Turn::Takes(1),
         Turn::Interrupted,
@@ -139,41 +151,42 @@ fn ample_a_writer_has_the_bytes_that_it_took(rt: HostRuntime) -> Result<(), Fail
         Turn::Fails,
         Turn::Takes(9),
     ];
+    let wants = &[
+        (b"abc".as_slice(), SinkStep::Took(1)),
+        (b"bc".as_slice(), SinkStep::Took(2)),
+        (b"lost".as_slice(), SinkStep::Failed),
+        (b"de".as_slice(), SinkStep::Took(2)),
+    ];
     let kept = Vec::new(rt.alloc());
     let mut sink = StdSink::new(Keeping { turns, kept });
-    assert!(rt; sink.write(b"abc") == SinkStep::Took(1));
-    assert!(rt; sink.write(b"bc") == SinkStep::Took(2));
-    assert!(rt; sink.write(b"lost") == SinkStep::Failed);
-    assert!(rt; sink.write(b"de") == SinkStep::Took(2));
-    assert_eq!(rt; sink.faults(), 1);
+    assert!(rt; writes(&mut sink, wants));
+    assert!(rt; sink.faults() == 1);
 
     // A write that takes nothing is a fault.
-    assert!(rt; sink.write(b"f") == SinkStep::Failed);
-    assert_eq!(rt; sink.faults(), 2);
-    assert!(rt; sink.inner.kept.as_slice() == b"abcde".as_slice());
-    Ok(())
+    assert!(rt; writes(&mut sink, &[(b"f".as_slice(), SinkStep::Failed)]));
+    assert!(rt; sink.faults() == 2 && sink.inner.kept.as_slice() == b"abcde".as_slice());
 }
 
 #[test]
 fn ample_memory_is_read_to_its_end(rt: HostRuntime) -> Result<(), Fail> {
-    let mut source = MemSource::new(b"abc".to_vec(rt.alloc())?);
-    let mut buf = *b"..";
-    assert!(rt; source.read(&mut buf) == SourceStep::Got(2));
-    assert!(rt; buf == *b"ab");
-    let mut buf = *b"..";
-    assert!(rt; source.read(&mut buf) == SourceStep::Got(1));
-    assert!(rt; buf == *b"c.");
-    assert!(rt; source.read(&mut buf) == SourceStep::End);
-    assert!(rt; buf == *b"c.");
+    let mut source = MemSource::new(b"abcdef".to_vec(rt.alloc())?);
+    let wants = &[
+        (SourceStep::Got(4), b"abcd"),
+        (SourceStep::Got(2), b"ef.."),
+        (SourceStep::End, b"...."),
+    ];
+    assert!(rt; reads(&mut source, wants));
     Ok(())
 }
 
 #[test]
 fn ample_memory_is_written_to_its_room(rt: HostRuntime) -> Result<(), Fail> {
+    let wants = &[
+        (b"ab".as_slice(), SinkStep::Took(2)),
+        (b"cd".as_slice(), SinkStep::Took(1)),
+        (b"ef".as_slice(), SinkStep::Failed),
+    ];
     let mut sink = MemSink::new(rt.alloc(), 3)?;
-    assert!(rt; sink.write(b"ab") == SinkStep::Took(2));
-    assert!(rt; sink.write(b"cd") == SinkStep::Took(1));
-    assert!(rt; sink.write(b"ef") == SinkStep::Failed);
-    assert!(rt; sink.taken() == b"abc".as_slice());
+    assert!(rt; writes(&mut sink, wants) && sink.taken() == b"abc".as_slice());
     Ok(())
 }

@@ -13,6 +13,14 @@ fn decoded(
     Ok(codec.decode(alloc, wire)?.unwrap_or(Vec::new(alloc)))
 }
 
+// Whether these bytes stand at this place.
+fn has_at(stream: &[u8], at: usize, bytes: &[u8]) -> bool {
+    match stream.get(at..) {
+        Some(rest) => rest.starts_with(bytes),
+        None => false,
+    }
+}
+
 // Sends `len` bytes, and reads them back. The last chunk begins at `last_at` and ends the stream.
 fn goes_and_comes(
     rt: &impl Abort,
@@ -28,12 +36,8 @@ fn goes_and_comes(
     let mut wire = BytesMut::new(alloc);
     codec.encode(payload.as_slice(), &mut wire)?;
     assert!(rt; wire.as_slice().starts_with(first));
-    let following = wire
-        .as_slice()
-        .get(last_at..)
-        .ok_or("the stream is too short")?;
-    assert!(rt; following.starts_with(last));
-    assert_eq!(rt; wire.len(), len + 4 * (1 + usize::from(last_at > 0)));
+    assert!(rt; has_at(wire.as_slice(), last_at, last));
+    assert!(rt; wire.len() == len + 4 * (1 + usize::from(last_at > 0)));
     codec.reset_seq_id();
     let back = decoded(alloc, &mut codec, &mut wire)?;
     assert!(rt; back.as_slice() == payload.as_slice());
@@ -106,29 +110,49 @@ const REFUSALS: &[(&[u8], CodecFault, usize)] = &[
 fn ample_refusals(rt: HostRuntime) -> Result<(), Fail> {
     for (stream, wanted, rest) in REFUSALS {
         let (first, fault, left) = refused(rt.alloc(), stream)?;
-        assert!(rt; first.as_slice() == b"a".as_slice());
-        assert!(rt; fault == Some(*wanted), "{stream:?}");
-        assert!(rt; left == *rest, "{stream:?}");
+        let is_well = first.as_slice() == b"a".as_slice()
+            && fault == Some(*wanted)
+            && left == *rest;
+        assert!(rt; is_well, "{stream:?}");
     }
     Ok(())
 }
 
-#[test]
-fn ample_payload_over_the_limit(rt: HostRuntime) -> Result<(), Fail> {
+// The fault of a payload that isn't sent, and how many bytes were written.
+fn unsent(alloc: Global, payload: &[u8]) -> (Option<CodecFault>, usize) {
     let mut codec = PacketCodec::new();
     codec.set_max_allowed_packet(2);
-    let mut wire = BytesMut::new(rt.alloc());
-    let fault = match codec.encode(b"abc", &mut wire) {
-        Err(CodecError::Fault(fault)) => Some(fault),
-        _ => None,
-    };
+    let mut wire = BytesMut::new(alloc);
+    match codec.encode(payload, &mut wire) {
+        Err(CodecError::Fault(fault)) => (Some(fault), wire.len()),
+        _ => (None, wire.len()),
+    }
+}
+
+#[test]
+fn ample_payload_over_the_limit(rt: HostRuntime) {
     let wanted = CodecFault::TooLarge {
         length: 3,
         limit: 2,
     };
-    assert!(rt; fault == Some(wanted));
-    assert!(rt; wire.is_empty());
-    Ok(())
+    assert!(rt; unsent(rt.alloc(), b"abc") == (Some(wanted), 0));
+}
+
+// Whether three payloads are whole once these bytes came one by one, and no byte is left.
+fn are_three(
+    alloc: Global,
+    codec: &mut PacketCodec,
+    wire: &mut BytesMut,
+    stream: &[u8],
+) -> Result<bool, CodecError> {
+    let mut whole = 0u8;
+    for byte in stream {
+        wire.extend_from_slice(&[*byte])?;
+        if codec.decode(alloc, wire)?.is_some() {
+            whole = whole.wrapping_add(1);
+        }
+    }
+    Ok(whole == 3 && wire.is_empty())
 }
 
 #[test]
@@ -136,24 +160,23 @@ fn ample_bytes_that_come_one_by_one(rt: HostRuntime) -> Result<(), Fail> {
     let alloc = rt.alloc();
     let mut codec = PacketCodec::new();
     let mut wire = BytesMut::new(alloc);
-    let mut whole = 0u8;
-    for byte in b"\x02\0\0\0ab\0\0\0\x01\x01\0\0\x02c" {
-        wire.extend_from_slice(&[*byte])?;
-        if codec.decode(alloc, &mut wire)?.is_some() {
-            whole = whole.wrapping_add(1);
-        }
-    }
-    assert_eq!(rt; whole, 3);
-    assert!(rt; wire.is_empty());
-    assert_eq!(rt; codec.max_allowed_packet(), 4_194_304);
+    let stream = b"\x02\0\0\0ab\0\0\0\x01\x01\0\0\x02c";
+    assert!(rt; are_three(alloc, &mut codec, &mut wire, stream)?);
+    assert!(rt; codec.max_allowed_packet() == 4_194_304);
     Ok(())
+}
+
+// Whether payloads after others have these sequence ids.
+fn follow(wire: &mut BytesMut) -> Result<bool, CodecError> {
+    let first = append_payload(wire, b"bc", 0)?;
+    let second = append_payload(wire, b"", 255)?;
+    Ok(first == 1 && second == 0)
 }
 
 #[test]
 fn ample_payloads_after_others(rt: HostRuntime) -> Result<(), Fail> {
     let mut wire = BytesMut::copy_from_slice(rt.alloc(), b"\x01\0\0\xffa")?;
-    assert_eq!(rt; append_payload(&mut wire, b"bc", 0)?, 1);
-    assert_eq!(rt; append_payload(&mut wire, b"", 255)?, 0);
+    assert!(rt; follow(&mut wire)?);
     assert!(rt; wire.as_slice() == b"\x01\0\0\xffa\x02\0\0\0bc\0\0\0\xff".as_slice());
     Ok(())
 }

@@ -9,6 +9,7 @@ use Rattle.my_grammar.specs.declared.spot.Spot.{Spot}
 use Rattle.my_grammar.specs.Talk.{context_of}
 use Rattle.my_reading.specs.declared.answer.Answer.{Answer}
 use Rattle.my_reading.specs.declared.answer.Answer.TheVariants as answers
+use Rattle.my_reading.specs.declared.call.Call.{Call}
 use Rattle.my_reading.specs.declared.call.CallKind.{CallKind}
 use Rattle.my_reading.specs.declared.call.CallKind.TheVariants as kinds
 use Rattle.my_reading.specs.declared.error.Error.{Error}
@@ -28,8 +29,9 @@ use Rattle.my_judge.specs.declared.tape.Ending.{Ending}
 use Rattle.my_judge.specs.declared.tape.Ending.TheVariants.{Answered, Failed, Cancelled}
 use Rattle.my_judge.specs.declared.tape.TapeCall.{TapeCall}
 use Rattle.my_judge.specs.Courses.{HaltIs}
-use Rattle.my_judge.specs.Ended.{EndsSo, IsCutSo, closes_at}
+use Rattle.my_judge.specs.Ended.{EndsSo, IsCutSo, closes_at, settled_at}
 use Rattle.my_judge.specs.Reads.{ReadsCall, halt_at, read_of, with_span}
+use Rattle.my_judge.specs.Settled.{settled, settled_told, span_with}
 use Rattle.my_judge.specs.Stands.{IsAt, with_bytes as with_more}
 use Rattle.my_judge.specs.Tapes.{call_of, stop_of, told_of}
 use Rattle.my_judge.proofs.Places.{at_bytes}
@@ -176,3 +178,31 @@ reads_call login call sent taken p closed closing old mid new stop ends said at 
     let here : IsAt login (with_bytes sent taken p) mid = subst (λ (x : Stand). IsAt login (with_bytes sent taken p) x) (sym added) (at_bytes login p old sent taken at) in
     let h : HaltIs login (halt_of login closed span p) stop new = subst (λ x. HaltIs login x stop new) (sym (halts_so login closed span p)) (stopped (with_bytes sent taken p) here) in
     reads_so login (read_of login closed span p) call.ending new stop ends said closing h refl ended begun closes
+
+-- a cancelled call closes the connection or not
+settled_so : (kind : CallKind) (p : Place) (spot : Spot) (ending : Option Ending) → spot ≡ (context_of p.talk).spot
+    → settled_told kind p (option_map told_of ending) ≡ option_map told_of (settled_at kind spot ending)
+settled_so kind p spot None e = refl
+settled_so kind p spot (Some (Answered answers.Ready)) e = refl
+settled_so kind p spot (Some (Answered (answers.Row r))) e = refl
+settled_so kind p spot (Some (Answered answers.SetEnd)) e = refl
+settled_so kind p spot (Some (Answered answers.NoSet)) e = refl
+settled_so kind p spot (Some (Failed f)) e = refl
+settled_so kind p spot (Some (Cancelled b)) e = ap (λ x. Some (Dropped x)) (sym (closes_so kind p spot e))
+
+pub reads_settled : (login : Login) (call : Call) (ending settled_ending : Option Ending) (sent taken : List ℕ) (p : Place) (closed closing : Bool) (old mid new : Stand) (stop : CodeStop) (ends said : Bool)
+    → IsAt login p old → mid ≡ with_more sent taken old → ((q : Place) → IsAt login q mid → HaltIs login (halt_at login closed call q) stop new)
+    → settled_ending ≡ settled_at (kind_of call) new.context.spot ending
+    → Decides ends (EndsSo (kind_of call) new stop settled_ending) → said ≡ begins_with new.said new.sent
+    → closing ≡ is_closing call (option_map told_of settled_ending)
+    → ReadsCall login (read_of login closed (settled login closed (span_with call ending sent taken) p) p) (ends && said && (not closed || (is_empty sent && is_empty taken))) (record { stand = new; closed = closed || closing })
+reads_settled login call ending settled_ending sent taken p closed closing old mid new stop ends said at added stopped is ended begun closes =
+    let span = span_with call ending sent taken in
+    let here : IsAt login (with_bytes sent taken p) mid = subst (λ (x : Stand). IsAt login (with_bytes sent taken p) x) (sym added) (at_bytes login p old sent taken at) in
+    let h : HaltIs login (halt_of login closed span p) stop new = subst (λ x. HaltIs login x stop new) (sym (halts_so login closed span p)) (stopped (with_bytes sent taken p) here) in
+    let told : settled_told (kind_of call) (halt_of login closed span p).place (option_map told_of ending) ≡ option_map told_of settled_ending
+        = settled_so (kind_of call) (halt_of login closed span p).place new.context.spot ending (ap (λ (x : Stand). x.context.spot) h.at.stand_is) ∙ ap (option_map told_of) (sym is) in
+    reads_so login (read_of login closed (settled login closed span p) p) settled_ending new stop ends said closing (halts_settled h) told ended begun (closes ∙ ap (is_closing call) (sym told))
+  where
+    halts_settled : HaltIs login (halt_of login closed (span_with call ending sent taken) p) stop new → HaltIs login (halt_of login closed (settled login closed (span_with call ending sent taken) p) p) stop new
+    halts_settled h = subst (λ x. HaltIs login x stop new) (halts_so login closed (span_with call ending sent taken) p ∙ sym (halts_so login closed (settled login closed (span_with call ending sent taken) p) p)) h

@@ -18,6 +18,13 @@ closes_at NextRow spot = awaits_head spot
 closes_at DropResult spot = awaits_head spot
 closes_at kind spot = true
 
+-- cancelling a call there closes the connection or not
+abbrev pub settled_at : CallKind → Spot → Option Ending → Option Ending
+settled_at kind spot None = None
+settled_at kind spot (Some (Answered answer)) = Some (Answered answer)
+settled_at kind spot (Some (Failed e)) = Some (Failed e)
+settled_at kind spot (Some (Cancelled closing)) = Some (Cancelled (closes_at kind spot))
+
 -- the call is open, was cancelled, or its link failed, or ended where bytes are awaited
 abbrev pub IsCutSo : CallKind → Stand → Bool → Option Ending → Type 0
 IsCutSo kind s awaits None = Unit {0}

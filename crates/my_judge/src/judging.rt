@@ -19,7 +19,8 @@ pub enum Verdict {
     Refuted(usize),
 }
 
-fn first_reader(alloc: Global, login: &Login) -> Result<Reader, NoMemory>
+/// Before the first call.
+pub fn first_reader(alloc: Global, login: &Login) -> Result<Reader, NoMemory>
     ensures { IfOk result (λ reader. IsAtFirst login.now reader) }
 {
     let stand = Stand::first(alloc, login)?;

@@ -10,5 +10,9 @@ mod step;
 mod tape;
 mod texts;
 
-pub use judging::{Verdict, judge};
+pub use judging::{Verdict, first_reader, judge};
+pub use part::Part;
+pub use reader::{Reader, between};
+pub use stand::{Stand, is_same_row};
+pub use step::{Step, Stop};
 pub use tape::{Ending, Tape, TapeCall};

@@ -9,6 +9,7 @@ ghost use Rattle.my_reading.specs.Reading.{closed_answer, is_closing};
 ghost use Rattle.my_reading.specs.Tape.{between, sent_to, taken_to};
 ghost use Rattle.my_reading.specs.Told.{closes, closes_by};
 ghost use Rattle.my_judge.specs.Reads.{IsRead, IsTaken, StopIs, may_stand, span_of, with_span};
+ghost use Rattle.my_judge.specs.Settled.{IsSettled, span_with};
 ghost use Rattle.my_judge.specs.Tapes.{call_of, tape_of, told_of};
 
 use crate::stand::Stand;
@@ -77,11 +78,11 @@ fn closes(ending: &Ending, kind: CallKind) -> bool
     }
 }
 
-fn is_closing(call: &TapeCall) -> bool
-    ensures { result ≡ is_closing call.now.call (option_map told_of call.now.ending) }
+fn is_closing(call: &Call, ending: &Option<Ending>) -> bool
+    ensures { result ≡ is_closing call.now (option_map told_of ending.now) }
 {
-    match &call.ending {
-        Some(ending) => closes(ending, call.call.kind()),
+    match ending {
+        Some(ending) => closes(ending, call.kind()),
         None => false,
     }
 }
@@ -102,8 +103,8 @@ fn is_quiet(closed: bool, sent: &[u8], taken: &[u8]) -> bool
     !closed || (is_empty(sent) && is_empty(taken))
 }
 
-// The bytes from one place to another.
-fn between(bytes: &[u8], from: usize, to: usize) -> &[u8]
+/// The bytes from one place to another.
+pub fn between(bytes: &[u8], from: usize, to: usize) -> &[u8]
     ensures { result.now ≡ between from to bytes.now }
 {
     let start = from.min(bytes.len());
@@ -179,7 +180,32 @@ impl Reader {
         let ends = self.stand.ends_so(call.call.kind(), &stop, &call.ending);
         let said = self.stand.is_sent_right();
         let quiet = is_quiet(self.closed, sent, taken);
-        self.closed |= is_closing(call);
+        self.closed |= is_closing(&call.call, &call.ending);
+        Ok(ends & said & quiet)
+    }
+
+    /// Reads a call that ended so over its bytes, and returns whether it is right. Where it was cancelled, the reading says
+    /// whether that closed the connection.
+    pub fn read_settled(
+        &mut self,
+        alloc: Global,
+        login: &Login,
+        call: &Call,
+        ending: Option<Ending>,
+        sent: &[u8],
+        taken: &[u8],
+    ) -> Result<bool, NoMemory>
+        requires { self.old.stand.texts ≡ arranging_texts login.now }
+        ensures { let span = span_with call.now ending sent.now taken.now in
+            IfOk result (λ right. IsSettled login.now span self.old right self.new) }
+    {
+        self.stand.add_bytes(sent, taken)?;
+        let stop = self.stop(alloc, login, call)?;
+        let settled = self.stand.settled(call.kind(), ending);
+        let ends = self.stand.ends_so(call.kind(), &stop, &settled);
+        let said = self.stand.is_sent_right();
+        let quiet = is_quiet(self.closed, sent, taken);
+        self.closed |= is_closing(call, &settled);
         Ok(ends & said & quiet)
     }
 

@@ -10,6 +10,8 @@ mod ending;
 mod reading;
 mod stepping;
 
+pub use ending::is_same_row;
+
 use crate::texts::arranging_texts;
 use my_frame::{Blob, Listed, NoMemory};
 use my_grammar::{Context, Login, Queue};

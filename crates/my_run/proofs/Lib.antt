@@ -1,4 +1,3 @@
 pub mod Outputs
 pub mod Runs
-pub mod Working
 pub mod WrongRuns

@@ -1,6 +1,5 @@
 -- The run, step by step.
 pub mod Fitting
-pub mod Joining
 pub mod Taping
 use Rattle.std.proofs.Common.{◌≤◌, ℕ, ◌≡◌, ◌+◌, ◌<◌, suc, zero, List, [], ◌∷◌, ◌++◌, length, map, take, Option, refl, sym, ap, ◌∙◌, subst, arith}
 use Rattle.std.proofs.lemmas.List.{length-append, map-append}
@@ -9,22 +8,22 @@ use Rattle.my_session.proofs.History.{each_history}
 use Rattle.my_session.specs.Law.{IsLawful}
 use Rattle.my_link.specs.declared.link.ReadItem.{ReadItem}
 use Rattle.my_client.specs.declared.conn.Conn.{Conn}
-use Rattle.my_run.specs.declared.slot.Slot.{Slot}
-use Rattle.my_run.specs.declared.slot.Slot.TheVariants.{Gone, Held, There, Ended}
+use Rattle.my_steps.specs.declared.slot.Slot.{Slot}
+use Rattle.my_steps.specs.declared.slot.Slot.TheVariants.{Gone, Held, There, Ended}
 use Rattle.my_script.specs.declared.step.Step.{Step}
 use Rattle.my_script.specs.declared.transcript.StepAnswer.{StepAnswer}
 use Rattle.my_script.specs.declared.transcript.Tape.{Tape}
-use Rattle.my_run.specs.Dialing.{DialsTo, dial_met, has_dialed}
-use Rattle.my_run.specs.Did.{Stepped}
-use Rattle.my_run.specs.Grows.{Line, StepGrows, handles_after}
-use Rattle.my_run.specs.Handle.{Handle, Absent, Dialing, Joined, at_number}
+use Rattle.my_steps.specs.Dialing.{DialsTo, dial_met, has_dialed}
+use Rattle.my_steps.specs.Did.{Stepped}
+use Rattle.my_steps.specs.Grows.{Line, StepGrows, handles_after}
+use Rattle.my_steps.specs.Handle.{Handle, Absent, Dialing, Joined, at_number}
 use Rattle.my_run.specs.Headline.{AnswerView, answer_view, steps_of, IsSaid, IsExplained, EachExplained, Headline, SoFar}
 use Rattle.my_world.specs.World.{Plans, SamePlans, SameFrom, DialCounts}
 use Rattle.my_client.specs.Ready.{StandsBy}
-use Rattle.my_run.specs.Keeps.{IsStood, AreStood}
+use Rattle.my_steps.specs.Keeps.{IsStood, AreStood}
 use Rattle.my_link.specs.Looks.{Looks}
 use Rattle.my_client.specs.Conn.{kept_of}
-use Rattle.my_run.specs.Slot.{handle_of}
+use Rattle.my_steps.specs.Slot.{handle_of}
 use Rattle.my_run.specs.Tapes.{tape_view, tapes_in}
 use Rattle.my_client.proofs.TapeRead.{is_read}
 use Rattle.my_run.proofs.Runs.Fitting.{IsFit, AllFit, step_fits}

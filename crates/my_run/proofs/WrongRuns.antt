@@ -43,11 +43,11 @@ use Rattle.my_client.specs.Kept.{Asked, Kept, made_of, asking, asked_by, first_a
 use Rattle.my_world.specs.World.{Plans, WorldSeen, DialCounts, no_dials}
 use Rattle.my_run.specs.declared.tool.Status.{Status}
 use Rattle.my_run.specs.declared.tool.Status.TheVariants as ends
-use Rattle.my_run.specs.Dialing.{DialsTo, dial_met, has_dialed, AreDialed}
-use Rattle.my_run.specs.Grows.{Line, handles_after, AreGrown, StepGrows, DialsNext, HasPlan, Dials, Holds, Fails, Links, ConnectShows, Connects, PolledOnce, Begins, BeginsOn, Calls, At, shown}
-use Rattle.my_run.specs.Handle.{Handle, Absent, Dialing, Joined, at_number, put_at}
+use Rattle.my_steps.specs.Dialing.{DialsTo, dial_met, has_dialed, AreDialed}
+use Rattle.my_steps.specs.Grows.{Line, handles_after, AreGrown, StepGrows, DialsNext, HasPlan, Dials, Holds, Fails, Links, ConnectShows, Connects, PolledOnce, Begins, BeginsOn, Calls, At, shown}
+use Rattle.my_steps.specs.Handle.{Handle, Absent, Dialing, Joined, at_number, put_at}
 use Rattle.my_run.specs.Headline.{AnswerView, answer_view, steps_of, answers_of, Headline, IsExplained, EachExplained}
-use Rattle.my_run.specs.Sums.{use_of, quiet, failed_use}
+use Rattle.my_steps.specs.Sums.{use_of, quiet, failed_use}
 use Rattle.my_run.specs.Tapes.{TapeView, tape_view, tape_call, open_call, tapes_in, tape_of, tape_at}
 use Rattle.my_run.specs.Tool.{ToolEnds}
 use Rattle.my_run.specs.WrongRuns.{NoPlannedDialFault, NoHeldDialFault, DialFault, NoEarlyEnd, NoHoldAfterTurn, NoHoldInTurn, NoZeroSent, NoOtherTaken, NoFaultAtRest, HasRead, NoBrokenInput}

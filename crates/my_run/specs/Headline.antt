@@ -6,20 +6,20 @@ use Rattle.my_session.specs.Law.{IsLawful}
 use Rattle.my_link.specs.declared.link.ReadItem.{ReadItem}
 use Rattle.my_link.specs.Looks.{Looks}
 use Rattle.my_link.specs.Spent.{HasGot, ReadsSpent}
-use Rattle.my_run.specs.declared.slot.Slot.{Slot}
+use Rattle.my_steps.specs.declared.slot.Slot.{Slot}
 use Rattle.my_script.specs.declared.step.Step.{Step}
 use Rattle.my_script.specs.declared.transcript.Outcome.{Outcome}
 use Rattle.my_script.specs.declared.transcript.StepAnswer.{StepAnswer}
 use Rattle.my_script.specs.declared.transcript.Tape.{Tape}
 use Rattle.my_script.specs.declared.transcript.Use.{Use}
-use Rattle.my_run.specs.Dialing.{AreDialed}
-use Rattle.my_run.specs.Grows.{Line, AreGrown, handles_after}
-use Rattle.my_run.specs.Handle.{Handle, Absent, Dialing, Joined, at_number}
+use Rattle.my_steps.specs.Dialing.{AreDialed}
+use Rattle.my_steps.specs.Grows.{Line, AreGrown, handles_after}
+use Rattle.my_steps.specs.Handle.{Handle, Absent, Dialing, Joined, at_number}
 use Rattle.my_client.specs.Reads.{IsRead}
 use Rattle.my_client.specs.Kept.{Kept, IsOf}
 use Rattle.my_world.specs.World.{Plans, SamePlans, DialCounts}
-use Rattle.my_run.specs.Keeps.{AreStood}
-use Rattle.my_run.specs.Slot.{handle_of}
+use Rattle.my_steps.specs.Keeps.{AreStood}
+use Rattle.my_steps.specs.Slot.{handle_of}
 use Rattle.my_run.specs.Tapes.{tape_view, tapes_in}
 
 -- an answer, without where it lies in memory

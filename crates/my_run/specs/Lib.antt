@@ -1,16 +1,6 @@
 pub mod Input
 pub mod Output
-pub mod Handle
-pub mod Slot
 pub mod Tapes
-pub mod Sums
-pub mod Keeps
-pub mod Ready
-pub mod Grows
-pub mod Dialing
-pub mod Did
-pub mod Connecting
-pub mod Gathering
 pub mod Headline
 pub mod Tool
 pub mod WrongRuns

@@ -7,7 +7,7 @@ use Rattle.my_client.specs.declared.tape.Said.{Said}
 use Rattle.my_client.specs.declared.tape.Said.TheVariants.{Answered, Failed, Cancelled}
 use Rattle.my_script.specs.declared.transcript.Tape.{Tape}
 use Rattle.my_script.specs.declared.transcript.TapeCall.{TapeCall}
-use Rattle.my_run.specs.Handle.{Handle, Absent, Dialing, Joined}
+use Rattle.my_steps.specs.Handle.{Handle, Absent, Dialing, Joined}
 use Rattle.my_client.specs.Kept.{Asked, Kept}
 
 -- a call that was cancelled has no answer

@@ -27,7 +27,7 @@ use Rattle.my_run.specs.declared.tool.Report.{Report}
 use Rattle.my_run.specs.declared.tool.Status.{Status}
 use Rattle.my_run.specs.declared.tool.Status.TheVariants.{Done, Unread, SinkFailed}
 use Rattle.my_run.specs.Headline.{Headline}
-use Rattle.my_run.specs.Sums.{use_of, quiet, failed_use}
+use Rattle.my_steps.specs.Sums.{use_of, quiet, failed_use}
 use Rattle.my_run.specs.Tool.{IsReport}
 
 -- `conn` prints `error Io Dial`

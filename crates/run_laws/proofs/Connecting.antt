@@ -25,8 +25,8 @@ use Rattle.my_client.specs.Causes.{PollEnds, IsPolled}
 use Rattle.my_client.specs.Kept.{Asked, Kept, made_of, asking, asked_by, ended_by, first_asked, first_kept}
 use Rattle.my_client.specs.Reads.{calls_kept}
 use Rattle.my_world.specs.World.{Plans}
-use Rattle.my_run.specs.Grows.{Line, IsRefused, OnConnection, PolledOnce, IsClosed, Begins, BeginsOn, Calls, ConnectShows, Connects, Dials, Holds, Fails, Links, Gathers, GathersOn, Collects, CollectsOn, CollectsAt, PollsOn, GoesOnWith, GoesOn, CancelsWith, Cancels, TellsWith, TellsFields, At, StepGrows, AreGrown, gathered, next_asked, handles_after}
-use Rattle.my_run.specs.Handle.{Handle, Absent, Dialing, Joined, at_number, put_at}
+use Rattle.my_steps.specs.Grows.{Line, IsRefused, OnConnection, PolledOnce, IsClosed, Begins, BeginsOn, Calls, ConnectShows, Connects, Dials, Holds, Fails, Links, Gathers, GathersOn, Collects, CollectsOn, CollectsAt, PollsOn, GoesOnWith, GoesOn, CancelsWith, Cancels, TellsWith, TellsFields, At, StepGrows, AreGrown, gathered, next_asked, handles_after}
+use Rattle.my_steps.specs.Handle.{Handle, Absent, Dialing, Joined, at_number, put_at}
 
 -- the calls that a connection kept
 abbrev pub kept_calls : Kept → List Call

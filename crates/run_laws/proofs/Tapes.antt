@@ -9,8 +9,8 @@ use Rattle.my_reading.specs.Reading.{read_calls, reading}
 use Rattle.my_reading.specs.Tape.{Tape, TapeCall, spans_from}
 use Rattle.my_client.specs.Reads.{calls_kept, tape_kept}
 use Rattle.my_world.specs.World.{Plans}
-use Rattle.my_run.specs.Grows.{Line, handles_after}
-use Rattle.my_run.specs.Handle.{Handle, Absent, Dialing, Joined, at_number}
+use Rattle.my_steps.specs.Grows.{Line, handles_after}
+use Rattle.my_steps.specs.Handle.{Handle, Absent, Dialing, Joined, at_number}
 use Rattle.my_run.specs.Headline.{EachExplained, IsExplained}
 use Rattle.run_laws.specs.Tapes.{HasTape, EachTapeIsRead}
 use Rattle.run_laws.proofs.Connecting.{IsOnce, at_once, both, connects_once, grown_once, left_of, none_connects, right_of}

@@ -7,8 +7,8 @@ use Rattle.my_script.specs.declared.transcript.StepAnswer.{StepAnswer}
 use Rattle.my_script.specs.declared.transcript.Tape.{Tape}
 use Rattle.my_client.specs.Reads.{tape_kept}
 use Rattle.my_world.specs.World.{Plans, DialCounts}
-use Rattle.my_run.specs.Grows.{handles_after}
-use Rattle.my_run.specs.Handle.{Handle, Absent, Dialing, Joined, at_number}
+use Rattle.my_steps.specs.Grows.{handles_after}
+use Rattle.my_steps.specs.Handle.{Handle, Absent, Dialing, Joined, at_number}
 use Rattle.my_run.specs.Headline.{Headline}
 
 -- what stands at a number has a tape of a client that logs in so

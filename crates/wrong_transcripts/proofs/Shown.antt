@@ -39,10 +39,10 @@ use Rattle.my_client.specs.Causes.{PollEnds}
 use Rattle.my_client.specs.Kept.{Asked, Kept, nothing_kept, told_by, made_of, asking, asked_by, ended_by, first_asked, first_kept}
 use Rattle.my_client.specs.Reads.{calls_kept, facts_kept, tape_kept}
 use Rattle.my_world.specs.World.{Plans, DialCounts}
-use Rattle.my_run.specs.Grows.{Begins, BeginsOn, Calls, Connects, ConnectShows, Dials, Holds, Fails, Links, PolledOnce, StepGrows, TellsFields, TellsWith, answer_shown, shown, handles_after}
-use Rattle.my_run.specs.Handle.{Handle, Joined, at_number, put_at}
+use Rattle.my_steps.specs.Grows.{Begins, BeginsOn, Calls, Connects, ConnectShows, Dials, Holds, Fails, Links, PolledOnce, StepGrows, TellsFields, TellsWith, answer_shown, shown, handles_after}
+use Rattle.my_steps.specs.Handle.{Handle, Joined, at_number, put_at}
 use Rattle.my_run.specs.Headline.{AnswerView, answer_view, answers_of, Headline}
-use Rattle.my_run.specs.Sums.{quiet}
+use Rattle.my_steps.specs.Sums.{quiet}
 use Rattle.my_run.specs.Tapes.{TapeView, tape_view, tape_call, open_call, tapes_in}
 use Rattle.wrong_tapes.specs.Bytes.{all_sent, all_taken, calls_from, tape_of}
 use Rattle.wrong_transcripts.specs.Shown.{step_of, outcome_of, taken_in, Shows}

@@ -5,7 +5,7 @@ ghost use Rattle.std.specs.Bool.{Decides};
 ghost use Rattle.my_reading.specs.Endings.{awaits_head};
 ghost use Rattle.my_reading.specs.Errors.{io_error, unexpected_eof};
 ghost use Rattle.my_reading.specs.Place.{begins_with};
-ghost use Rattle.my_judge.specs.Ended.{EndsSo, IsCutSo, closes_at};
+ghost use Rattle.my_judge.specs.Ended.{EndsSo, IsCutSo, closes_at, settled_at};
 
 use super::Stand;
 use crate::step::Stop;
@@ -40,8 +40,8 @@ fn is_fault(error: &Error, kind: IoKind, place: u64) -> bool
     *error == Error::Io(IoError::Io(IoFault { kind, place }))
 }
 
-// Whether both are the same.
-fn is_same_row(a: &Row, b: &Row) -> bool
+/// Whether both are the same.
+pub fn is_same_row(a: &Row, b: &Row) -> bool
     ensures { Decides result (a.now ≡ b.now) }
 {
     a == b
@@ -103,6 +103,18 @@ impl Stand {
             Some(Ending::Answered(_)) => false,
             Some(Ending::Cancelled(closing)) => *closing == closes_at(kind, self.context.spot),
             Some(Ending::Failed(error)) => self.is_link_error(awaits, error),
+        }
+    }
+
+    /// The ending of a call that stops here; cancelling it closes the connection or not.
+    pub fn settled(&self, kind: CallKind, ending: Option<Ending>) -> Option<Ending>
+        ensures { result ≡ settled_at kind self.now.context.spot ending }
+    {
+        match ending {
+            Some(Ending::Cancelled(_)) => {
+                Some(Ending::Cancelled(closes_at(kind, self.context.spot)))
+            }
+            ended => ended,
         }
     }
 

@@ -2,10 +2,10 @@
 use Rattle.std.proofs.Common.{ℕ, ◌≡◌, ◌<◌, suc, List, [], ◌∷◌, ◌++◌, length, map, get_or, reverse, sym, ap, ◌∙◌, arith}
 use Rattle.std.specs.List.{remove}
 use Rattle.std.proofs.lemmas.List.{append_assoc, map-append, reverse-append}
-use Rattle.my_run.specs.declared.slot.Slot.{Slot}
+use Rattle.my_steps.specs.declared.slot.Slot.{Slot}
 use Rattle.my_client.specs.declared.tape.DoneCall.{DoneCall}
 use Rattle.my_script.specs.declared.transcript.TapeCall.{TapeCall}
-use Rattle.my_run.specs.Slot.{handle_of}
+use Rattle.my_steps.specs.Slot.{handle_of}
 use Rattle.my_link.specs.Looks.{Looks}
 use Rattle.my_run.specs.Tapes.{TapeView, tape_call, tape_at, tapes_in}
 

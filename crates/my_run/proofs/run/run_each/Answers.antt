@@ -5,8 +5,8 @@ use Rattle.my_script.specs.declared.step.Step.{Step}
 use Rattle.my_script.specs.declared.transcript.StepAnswer.{StepAnswer}
 use Rattle.my_world.specs.World.{Plans}
 use Rattle.my_run.specs.Headline.{SoFar}
-use Rattle.my_run.specs.Ready.{AllJoined}
-use Rattle.my_run.proofs.Runs.Joining.{grown_joined}
+use Rattle.my_steps.specs.Ready.{AllJoined}
+use Rattle.my_steps.proofs.Joining.{grown_joined}
 use Rattle.my_run.proofs.Runs.{none_yet, step_on, count_up, same_through, same_between}
 use Rattle.my_run.proofs.run.run_each.Goals as goal
 

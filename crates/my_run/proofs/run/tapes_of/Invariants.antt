@@ -1,5 +1,5 @@
 use Rattle.std.proofs.Common.{◌≡◌, ◌+◌, ◌++◌, map, vec_len}
-use Rattle.my_run.specs.Slot.{handle_of}
+use Rattle.my_steps.specs.Slot.{handle_of}
 use Rattle.my_run.specs.Tapes.{tape_view, tapes_in}
 use Rattle.my_run.proofs.run.tapes_of.Given as goal
 

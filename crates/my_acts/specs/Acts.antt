@@ -1,0 +1,171 @@
+-- What a line may do at a connection, by its step, its outcome and how many uses it has.
+use Rattle.std.specs.Prelude.{◌≡◌, ◌-◌, ◌==◌, ℕ, nat_lt, Option, Some, None, Bool, true, false, if◌then◌else◌}
+use Rattle.my_reading.specs.declared.call.Call.{Call}
+use Rattle.my_reading.specs.declared.call.Call.TheVariants as calls
+use Rattle.my_script.specs.declared.step.Step.{Step}
+use Rattle.my_script.specs.declared.step.Step.TheVariants as steps
+use Rattle.my_script.specs.declared.transcript.Outcome.{Outcome}
+use Rattle.my_script.specs.declared.transcript.Outcome.TheVariants.{Done, Pending, SetEnd, NoSet, Row, Rows, Fields, Connected, Failed, NoSuchHandle}
+use Rattle.my_acts.specs.declared.act.Act.{Act}
+use Rattle.my_acts.specs.declared.act.Act.TheVariants.{Wrong, Skips, Tells, Holds, Fails, Connects, Polls, Ends, Cancels}
+use Rattle.my_acts.specs.declared.act.Status.{Status}
+use Rattle.my_acts.specs.declared.act.Status.TheVariants.{Ahead, Absent, Dialing, Idle, Open, Gathers}
+
+-- the number that a step names; `conn` names none
+abbrev pub target : Step → Option ℕ
+target steps.Conn = None
+target (steps.Query n text) = Some n
+target (steps.Next n) = Some n
+target (steps.Collect n) = Some n
+target (steps.Drop n) = Some n
+target (steps.Ping n) = Some n
+target (steps.Quit n) = Some n
+target (steps.Fields n) = Some n
+target (steps.Poll n) = Some n
+target (steps.Cancel n) = Some n
+
+-- nothing is found to do at the number: the step is refused, and has no uses
+abbrev pub refused : Status → Outcome → ℕ → Act
+refused status NoSuchHandle uses = if uses == 0 then Skips status else Wrong
+refused status outcome uses = Wrong
+
+-- the handshake is polled
+abbrev pub connecting : ℕ → Outcome → (Status → Act) → Act
+connecting n Pending act = act Open
+connecting n (Connected m id version) act = if m == n then act Idle else Wrong
+connecting n (Failed e) act = act Absent
+connecting n outcome act = Wrong
+
+-- the connection is dialed: the dial wasn't ready, it failed, or it gave a link
+abbrev pub dialed_once : Outcome → Act
+dialed_once Pending = Holds
+dialed_once (Failed e) = Fails
+dialed_once outcome = Wrong
+
+abbrev pub dialed : ℕ → Outcome → ℕ → Act
+dialed n outcome uses = if uses == 1 then dialed_once outcome else (if uses == 2 then connecting n outcome Connects else Wrong)
+
+-- a call that gathers no rows is polled
+abbrev pub polled : Outcome → Act
+polled Pending = Polls Open
+polled Done = Polls Idle
+polled SetEnd = Polls Idle
+polled NoSet = Polls Idle
+polled (Row row) = Polls Idle
+polled (Failed e) = Polls Idle
+polled outcome = Wrong
+
+abbrev pub polled_once : Outcome → ℕ → Act
+polled_once outcome uses = if uses == 1 then polled outcome else Wrong
+
+-- rows are gathered, from the call of this index on
+abbrev pub gathering : ℕ → Outcome → Act
+gathering first Pending = Polls (Gathers first)
+gathering first Done = Polls Idle
+gathering first (Rows rows) = Polls Idle
+gathering first (Failed e) = Polls Idle
+gathering first outcome = Wrong
+
+abbrev pub gathered : ℕ → Outcome → ℕ → Act
+gathered first outcome uses = if uses == 0 then Wrong else gathering first outcome
+
+-- a closed connection refuses a call, which ends at once
+abbrev pub closed_at_once : Outcome → ℕ → Act
+closed_at_once (Failed e) uses = if uses == 0 then Ends Idle else Wrong
+closed_at_once outcome uses = Wrong
+
+abbrev pub asked : Bool → Outcome → ℕ → Act
+asked true outcome uses = closed_at_once outcome uses
+asked false outcome uses = polled_once outcome uses
+
+abbrev pub collected : Bool → ℕ → Outcome → ℕ → Act
+collected true first outcome uses = closed_at_once outcome uses
+collected false first outcome uses = gathered first outcome uses
+
+-- the last OK is told
+abbrev pub told : Outcome → ℕ → Act
+told (Fields ok) uses = if uses == 0 then Tells else Wrong
+told outcome uses = Wrong
+
+-- no call is open
+abbrev pub at_idle : Bool → ℕ → Step → Outcome → ℕ → Act
+at_idle closed next steps.Conn outcome uses = Wrong
+at_idle closed next (steps.Query n text) outcome uses = asked closed outcome uses
+at_idle closed next (steps.Next n) outcome uses = asked closed outcome uses
+at_idle closed next (steps.Collect n) outcome uses = collected closed next outcome uses
+at_idle closed next (steps.Drop n) outcome uses = asked closed outcome uses
+at_idle closed next (steps.Ping n) outcome uses = asked closed outcome uses
+at_idle closed next (steps.Quit n) outcome uses = polled_once outcome uses
+at_idle closed next (steps.Fields n) outcome uses = told outcome uses
+at_idle closed next (steps.Poll n) outcome uses = refused Idle outcome uses
+at_idle closed next (steps.Cancel n) outcome uses = refused Idle outcome uses
+
+-- an open call goes on: the handshake, which is the first call, or another one
+abbrev pub goes_on : ℕ → ℕ → Outcome → ℕ → Act
+goes_on n next outcome uses =
+    if next == 0 then (if uses == 1 then connecting n outcome Polls else Wrong) else polled_once outcome uses
+
+-- an open call is cancelled; after the handshake's the connection isn't there any more
+abbrev pub after_cancel : ℕ → Status
+after_cancel next = if next == 0 then Absent else Idle
+
+abbrev pub cancelled : ℕ → Outcome → ℕ → Act
+cancelled next Done uses = if uses == 0 then Cancels (after_cancel next) else Wrong
+cancelled next outcome uses = Wrong
+
+abbrev pub at_open : ℕ → ℕ → Step → Outcome → ℕ → Act
+at_open n next (steps.Poll m) outcome uses = goes_on n next outcome uses
+at_open n next (steps.Cancel m) outcome uses = cancelled next outcome uses
+at_open n next step outcome uses = refused Open outcome uses
+
+abbrev pub at_gathering : ℕ → ℕ → Step → Outcome → ℕ → Act
+at_gathering first next (steps.Poll m) outcome uses = gathered first outcome uses
+at_gathering first next (steps.Cancel m) outcome uses = cancelled next outcome uses
+at_gathering first next step outcome uses = refused (Gathers first) outcome uses
+
+-- a dial that wasn't ready is dropped
+abbrev pub dropped : Outcome → ℕ → Act
+dropped Done uses = if uses == 0 then Skips Absent else Wrong
+dropped outcome uses = Wrong
+
+abbrev pub at_dialing : ℕ → Step → Outcome → ℕ → Act
+at_dialing n (steps.Poll m) outcome uses = dialed n outcome uses
+at_dialing n (steps.Cancel m) outcome uses = dropped outcome uses
+at_dialing n step outcome uses = refused Dialing outcome uses
+
+-- a step at this connection, which was dialed
+abbrev pub act_here : Status → ℕ → ℕ → Bool → Step → Outcome → ℕ → Act
+act_here (Ahead k) n next closed step outcome uses = Wrong
+act_here Absent n next closed step outcome uses = refused Absent outcome uses
+act_here Dialing n next closed step outcome uses = at_dialing n step outcome uses
+act_here Idle n next closed step outcome uses = at_idle closed next step outcome uses
+act_here Open n next closed step outcome uses = at_open n next step outcome uses
+act_here (Gathers first) n next closed step outcome uses = at_gathering first next step outcome uses
+
+-- other connections' steps do nothing here
+abbrev pub act_there : Status → ℕ → ℕ → Bool → Step → Outcome → ℕ → Option ℕ → Act
+act_there status n next closed step outcome uses None = Skips status
+act_there status n next closed step outcome uses (Some m) =
+    if m == n then act_here status n next closed step outcome uses else Skips status
+
+-- Before this connection is dialed: k others are dialed first, so a step that names a number from n - k on is refused.
+abbrev pub act_ahead : ℕ → ℕ → Outcome → ℕ → Option ℕ → Act
+act_ahead k n outcome uses None = if k == 0 then dialed n outcome uses else Skips (Ahead (k - 1))
+act_ahead k n outcome uses (Some m) = if nat_lt m (n - k) then Skips (Ahead k) else refused (Ahead k) outcome uses
+
+abbrev pub act_of : Status → ℕ → ℕ → Bool → Step → Outcome → ℕ → Act
+act_of (Ahead k) n next closed step outcome uses = act_ahead k n outcome uses (target step)
+act_of status n next closed step outcome uses = act_there status n next closed step outcome uses (target step)
+
+-- the call that a step begins
+abbrev pub begun_by : Step → Option Call
+begun_by steps.Conn = Some calls.Connect
+begun_by (steps.Query n text) = Some (calls.Query text)
+begun_by (steps.Next n) = Some calls.NextRow
+begun_by (steps.Collect n) = Some calls.NextRow
+begun_by (steps.Drop n) = Some calls.DropResult
+begun_by (steps.Ping n) = Some calls.Ping
+begun_by (steps.Quit n) = Some calls.Quit
+begun_by (steps.Fields n) = None
+begun_by (steps.Poll n) = None
+begun_by (steps.Cancel n) = None

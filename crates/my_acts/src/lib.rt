@@ -1,0 +1,6 @@
+//! What a line of a transcript may do at a connection, by its step, its outcome and how many uses it has.
+#![tactic(auto)]
+
+mod act;
+
+pub use act::{Act, Status, act_of};

@@ -1,0 +1,166 @@
+-- How an open call is cancelled, and what tells without a call.
+use Rattle.my_reading.specs.declared.facts.Facts.{Facts}
+use Rattle.std.proofs.Common.{ℕ, ◌≡◌, List, [], ◌∷◌, ◌&&◌, not, Bool, true, false, cond, Option, Some, None, refl, sym, ap, ◌∙◌, subst}
+use Rattle.my_grammar.specs.declared.login.Login.{Login}
+use Rattle.my_reply.specs.declared.ok.OkPacket.{OkPacket}
+use Rattle.my_session.specs.declared.task.Task.{Task}
+use Rattle.my_session.specs.declared.task.Task.TheVariants.{Nothing, Leaving}
+use Rattle.my_reading.specs.Calls.{kind_of, is_connect}
+use Rattle.my_session.specs.Tasks.{fault_in, is_open}
+use Rattle.my_session.specs.Fits.{is_begun}
+use Rattle.my_reading.specs.Told.{Dropped}
+use Rattle.my_session.specs.History.{History, answered}
+use Rattle.my_session.specs.Machine.{dropped, fell, with_task}
+use Rattle.my_session.specs.Seen.{Seen}
+use Rattle.my_session.specs.Entries.{connecting_in, has_connected}
+use Rattle.my_session.specs.Stands.{Stands, TaskIs}
+use Rattle.my_session.specs.Tables.{closes_when_cancelled}
+use Rattle.my_client.specs.declared.conn.Conn.{Conn}
+use Rattle.my_steps.specs.declared.slot.Slot.{Slot}
+use Rattle.my_steps.specs.declared.slot.Slot.TheVariants.{Gone, Held, There}
+use Rattle.my_client.specs.declared.tape.Said.TheVariants as says
+use Rattle.my_script.specs.declared.transcript.Outcome.{Outcome}
+use Rattle.my_script.specs.declared.transcript.Outcome.TheVariants.{Done, Fields, NoSuchHandle}
+use Rattle.my_script.specs.declared.transcript.Use.{Use}
+use Rattle.my_steps.specs.Did.{Did}
+use Rattle.my_steps.specs.Grows.{CollectsAt, CollectsOn, Cancels, CancelsWith, TellsFields, TellsWith}
+use Rattle.my_steps.specs.Handle.{Handle, Joined}
+use Rattle.my_client.specs.Ready.{StandsBy}
+use Rattle.my_steps.specs.Keeps.{IsStood}
+use Rattle.my_client.specs.Kept.{Asked, Kept, ended_by}
+use Rattle.my_link.specs.Looks.{Looks}
+use Rattle.my_reading.specs.Endings.{closes_cancelled}
+use Rattle.my_client.specs.Reads.{ReadsAs, StopsRead, StoppedRead, place_kept}
+use Rattle.my_client.specs.Rests.{Rests}
+use Rattle.my_steps.specs.Slot.{handle_of, placed}
+use Rattle.my_client.specs.Conn.{kept_of}
+use Rattle.my_client.proofs.Hearing.Beginning.{is_asked, is_idle}
+use Rattle.my_client.proofs.TapeRead.Sessions.{cancel_closes, cancel_read}
+use Rattle.my_client.proofs.TapeRead.Stopping.{facts_rest}
+use Rattle.my_client.proofs.Hearing.{answer_counts, ended_of}
+use Rattle.my_client.proofs.Hearing.Failing.{is_leaving}
+
+-- a cancelling closes the session exactly where the table says so
+closing_by : (s : Seen) (cl b : Bool) → s.closed ≡ b → (b ≡ true → cl ≡ false) → (cond {A = Seen} cl (fell s) (with_task s Nothing s.untold)).closed && not s.closed ≡ cl
+closing_by s true true e f = let no : true ≡ false = f refl in cc
+closing_by s true false e f = ap not e
+closing_by s false b e f = and_not s.closed
+  where
+    and_not : (b : Bool) → b && not b ≡ false
+    and_not true = refl
+    and_not false = refl
+
+closing_is : (login : Login) (s : Seen) (k : Kept) → Rests login s k → is_open s.task ≡ true → (dropped s).closed && not s.closed ≡ closes_when_cancelled s.task s.context.spot
+closing_is login s k w o = closing_by s (closes_when_cancelled s.task s.context.spot) s.closed refl (λ e. ap (λ (t : Task). closes_when_cancelled t s.context.spot) (is_leaving s.task s.closed e o w.sound w.heard.stands.heard.alive))
+
+dropped_task : (s : Seen) (b : Bool) → (cond {A = Seen} b (fell s) (with_task s Nothing s.untold)).task ≡ Nothing
+dropped_task s true = refl
+dropped_task s false = refl
+
+dropped_ended : (s : Seen) (b : Bool) → (cond {A = Seen} b (fell s) (with_task s Nothing s.untold)).ended ≡ s.ended
+dropped_ended s true = refl
+dropped_ended s false = refl
+
+dropped_login : (s : Seen) (b : Bool) → (cond {A = Seen} b (fell s) (with_task s Nothing s.untold)).login ≡ s.login
+dropped_login s true = refl
+dropped_login s false = refl
+
+dropped_open : (s : Seen) (b : Bool) → (cond {A = Seen} b (fell s) (with_task s Nothing s.untold)).closed ≡ false → s.closed ≡ false
+dropped_open s true e = cc
+dropped_open s false e = e
+
+placed_stood : {L : Type 0} (login : Login) (c : Conn L) (b : Bool) → StandsBy login c → IsStood login (placed b c)
+placed_stood login c true w = w
+placed_stood login c false w = w
+
+placed_handle : {L : Type 0} (look : L → Looks) (c : Conn L) (b : Bool) → handle_of look (placed b c) ≡ Joined b (kept_of c) (look c.link)
+placed_handle look c true = refl
+placed_handle look c false = refl
+
+pub cancelled : {L : Type 0} (look : L → Looks) (login : Login) (n : ℕ) (c d : Conn L) (connecting : Bool) (o : Outcome) (us : List Use) → is_open c.session.seen.task ≡ true → d.session.seen ≡ dropped c.session.seen → ((h : History) → Stands c.session.seen h → Stands d.session.seen (answered h (Dropped (closes_when_cancelled c.session.seen.task c.session.seen.context.spot)))) → d.link ≡ c.link → ((a : Asked) → (kept_of c).pending ≡ Some a → kept_of d ≡ ended_by (kept_of c) a (says.Cancelled (d.session.seen.closed && not c.session.seen.closed))) → ((a : Asked) → (kept_of c).pending ≡ Some a → connecting ≡ is_connect (kind_of a.call)) → o ≡ Done → us ≡ [] → StandsBy login c → Did look login (Cancels login) o us (There c) (placed (not connecting) d)
+cancelled {L} look login n c d connecting o us op seen st link kept kind e f w =
+    let s = c.session.seen in
+    let k = kept_of c in
+    let closes = closes_when_cancelled s.task s.context.spot in
+    let asked = is_asked login s k op w.rests.heard in
+    let a = asked.0 in
+    let closing : d.session.seen.closed && not s.closed ≡ closes = ap (λ (t : Seen). t.closed && not s.closed) seen ∙ closing_is login s k w.rests op in
+    let end : kept_of d ≡ ended_by k a (says.Cancelled closes) = kept a asked.1 ∙ ap (λ (b : Bool). ended_by k a (says.Cancelled b)) closing in
+    let shut : s.task ≡ Leaving → s.closed ≡ true =
+    λ leaving. subst (λ (u : Task). TaskIs u s.context.spot s.closed (has_connected w.rests.heard.history.calls) (connecting_in (w.rests.heard.stands.newest ∷ w.rests.heard.stands.older)) w.rests.heard.stands.newest) leaving w.rests.heard.stands.heard.at in
+    let stopped : StoppedRead login s k a = subst (StopsRead login s k) asked.1 w.stepped.stops in
+    let rests : Rests login d.session.seen (ended_by k a (says.Cancelled closes)) = record {
+      heard = record {
+        history = answered w.rests.heard.history (Dropped closes);
+        stands = st w.rests.heard.history w.rests.heard.stands;
+        login_is = ap (λ (t : Seen). t.login) seen ∙ dropped_login s closes ∙ w.rests.heard.login_is;
+        kept = ended_of k a w.rests.heard.history (says.Cancelled closes) asked.1 (answer_counts (kind_of a.call) (Dropped closes) refl) w.rests.heard.kept;
+      };
+      sound = ap (λ (t : Seen). fault_in t.task) seen ∙ ap fault_in (dropped_task s closes);
+      alive = λ b. ap (λ (t : Seen). t.ended) seen ∙ dropped_ended s closes ∙ w.rests.alive (dropped_open s closes (sym (ap (λ (t : Seen). t.closed) seen) ∙ b));
+      read = cancel_read login s d.session.seen k a closes w.stepped.begun shut seen refl stopped;
+    } in
+    let stands : StandsBy login d = record {
+      rests = subst (Rests login d.session.seen) (sym end) rests;
+      stepped = record {
+        begun = ap (λ (t : Seen). is_begun t.task) seen ∙ ap is_begun (dropped_task s closes);
+        stops = subst (λ (x : Kept). StopsRead login d.session.seen x x.pending) (sym end) tt;
+      };
+    } in
+    let closes_so : closes ≡ closes_cancelled (kind_of a.call) (place_kept login k) = cancel_closes login s k a w.stepped.begun shut stopped asked.1 in
+    let kept_so : Joined (not connecting) (kept_of d) (look d.link) ≡ Joined (not connecting) (ended_by k a (says.Cancelled closes)) (look c.link) = ap (λ (x : Kept). Joined (not connecting) x (look d.link)) end ∙ ap (λ (l : L). Joined (not connecting) (ended_by k a (says.Cancelled closes)) (look l)) link in
+    record {
+      stood = placed_stood login d (not connecting) stands;
+      does = subst (λ (p : Option Asked). CancelsWith p login k (look c.link) o us (handle_of look (placed (not connecting) d))) (sym asked.1) (record {
+        outcome = e;
+        uses = f;
+        left = placed_handle look d (not connecting) ∙ kept_so ∙ ap (λ (b : Bool). Joined (not b) (ended_by k a (says.Cancelled closes)) (look c.link)) (kind a asked.1)
+            ∙ ap (λ (b : Bool). Joined (not (is_connect (kind_of a.call))) (ended_by k a (says.Cancelled b)) (look c.link)) closes_so;
+      });
+    }
+
+-- nothing to cancel
+pub not_cancelled : {L : Type 0} (look : L → Looks) (login : Login) (n : ℕ) (c : Conn L) (o : Outcome) (us : List Use) → is_open c.session.seen.task ≡ false → o ≡ NoSuchHandle → us ≡ [] → StandsBy login c → Did look login (Cancels login) o us (There c) (There c)
+not_cancelled look login n c o us idle e f w = record {
+  stood = w;
+  does = subst (λ (p : Option Asked). CancelsWith p login (kept_of c) (look c.link) o us (Joined true (kept_of c) (look c.link))) (sym (is_idle login c.session.seen (kept_of c) idle w.rests.heard)) (record { outcome = e; uses = f; same = refl });
+}
+
+-- a step that changes nothing at its number
+pub same_did : {L : Type 0} (look : L → Looks) (login : Login) (R : Handle → Outcome → List Use → Handle → Type 0) (o : Outcome) (us : List Use) (s : Slot L) → IsStood login s → R (handle_of look s) o us (handle_of look s) → Did look login R o us s s
+same_did look login R o us s w r = record {
+  stood = w;
+  does = r;
+}
+
+-- the held dial is dropped
+pub dropped_did : {L : Type 0} (look : L → Looks) (login : Login) (n : ℕ) (o : Outcome) (us : List Use) → o ≡ Done → us ≡ [] → Did {L = L} look login (Cancels login) o us Held Gone
+dropped_did look login n o us e f = record {
+  stood = tt;
+  does = record { outcome = e; uses = f; left = refl };
+}
+
+-- where the number's slot is known
+pub back_did : {L : Type 0} (look : L → Looks) (login : Login) (R : Handle → Outcome → List Use → Handle → Type 0) (o : Outcome) (us : List Use) (s t : Slot L) → s ≡ t → IsStood login s → R (handle_of look t) o us (handle_of look t) → Did look login R o us s t
+back_did {L} look login R o us s t e w r = subst (λ (x : Slot L). Did look login R o us x t) (sym e) (same_did look login R o us t (subst (IsStood login) e w) r)
+
+-- the step finds an open call
+pub collect_refused : {L : Type 0} (look : L → Looks) (login : Login) (n : ℕ) (c : Conn L) (o : Outcome) (us : List Use) → is_open c.session.seen.task ≡ true → o ≡ NoSuchHandle → us ≡ [] → StandsBy login c → Did look login (CollectsAt login n) o us (There c) (There c)
+collect_refused look login n c o us op e f w = same_did look login (CollectsAt login n) o us (There c) w
+    (subst (λ (p : Option Asked). CollectsOn p login n (kept_of c) (look c.link) o us (Joined true (kept_of c) (look c.link))) (sym (is_asked login c.session.seen (kept_of c) op w.rests.heard).1) (record { outcome = e; uses = f; same = refl }))
+
+-- the last OK is told
+pub fields_did : {L : Type 0} (look : L → Looks) (login : Login) (n : ℕ) (c : Conn L) (fields : Option OkPacket) (us : List Use) → is_open c.session.seen.task ≡ false → fields ≡ c.session.seen.facts.ok → us ≡ [] → StandsBy login c → Did look login (TellsFields login) (Fields fields) us (There c) (There c)
+fields_did look login n c fields us idle e f w =
+    let none : (kept_of c).pending ≡ None = is_idle login c.session.seen (kept_of c) idle w.rests.heard in
+    let facts = facts_rest login c.session.seen (kept_of c) none w.rests.heard.login_is (subst (ReadsAs login c.session.seen (kept_of c)) none w.rests.read) in
+    same_did look login (TellsFields login) (Fields fields) us (There c) w
+    (subst (λ (p : Option Asked). TellsWith p login (kept_of c) (look c.link) (Fields fields) us (Joined true (kept_of c) (look c.link))) (sym none) (record { outcome = ap Fields (e ∙ ap (λ (x : Facts). x.ok) facts); uses = f; left = refl }))
+
+-- as the step shows it
+pub fields_so : {L : Type 0} (look : L → Looks) (login : Login) (n : ℕ) (c : Conn L) (fields : Option OkPacket) (o : Outcome) (us : List Use) → is_open c.session.seen.task ≡ false → fields ≡ c.session.seen.facts.ok → o ≡ Fields fields → us ≡ [] → StandsBy login c → Did look login (TellsFields login) o us (There c) (There c)
+fields_so {L} look login n c fields o us idle e shown f w = subst (λ (x : Outcome). Did look login (TellsFields login) x us (There c) (There c)) (sym shown) (fields_did look login n c fields us idle e f w)
+
+pub no_fields : {L : Type 0} (look : L → Looks) (login : Login) (n : ℕ) (c : Conn L) (o : Outcome) (us : List Use) → is_open c.session.seen.task ≡ true → o ≡ NoSuchHandle → us ≡ [] → StandsBy login c → Did look login (TellsFields login) o us (There c) (There c)
+no_fields look login n c o us op e f w = same_did look login (TellsFields login) o us (There c) w
+    (subst (λ (p : Option Asked). TellsWith p login (kept_of c) (look c.link) o us (Joined true (kept_of c) (look c.link))) (sym (is_asked login c.session.seen (kept_of c) op w.rests.heard).1) (record { outcome = e; uses = f; same = refl }))

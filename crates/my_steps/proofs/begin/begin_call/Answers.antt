@@ -1,0 +1,29 @@
+use Rattle.my_steps.proofs.Working.Readying.{call_at}
+use Rattle.std.proofs.Common.{◌≡◌, true, false, rules, ap, refl}
+use Rattle.my_session.specs.Tasks.{is_open}
+use Rattle.my_steps.proofs.Working.Beginning.{not_refused, refused_did, begun_so, closed_so}
+use Rattle.std.proofs.lemmas.Result.{IfOk-weaker}
+use Rattle.my_steps.proofs.Working.Numbers.{did_kept}
+use Rattle.my_steps.proofs.begin.begin_call.Goals as goal
+
+pub returns-in-Ok : goal.returns-in-Ok
+returns-in-Ok g c =
+    let idle : is_open c.args.conn.now.session.seen.task ≡ false = search rules in
+    IfOk-weaker c.poll_open.result _ _
+    (λ d f login w. begun_so g.L.Link.looks login c.args.number c.args.call c.in_ok-copy.copy c.args.conn.now c.ask.new.conn c.poll_open.new.conn c.ask.new.conn.session.seen c.begin.new.self.seen d.outcome d.uses.items c.in_ok-copy.ensures idle (not_refused _ c.in-Ok.ensures.closed.1) (ap (λ s. s.seen) c.ask.ensures.session) c.in-Ok.ensures.ok c.in-Ok.ensures.stands c.ask.ensures.kept c.ask.ensures.link w (λ a v. f login a v)) c.poll_open.ensures
+
+pub returns-in-Err : goal.returns-in-Err
+returns-in-Err g c =
+    let idle : is_open c.args.conn.now.session.seen.task ≡ false = search rules in
+    did_kept c.refused_call.result _ _ _ _ c.refused_call.ensures.outcome c.refused_call.ensures.uses c.refused_call.ensures.kept
+    (λ d e f k login w. closed_so g.L.Link.looks login c.args.number c.args.call c.in_ok-copy.copy c.args.conn.now c.ask.new.conn c.refused_call.new.conn c.ask.new.conn.session.seen c.begin.new.self.seen c.in-Err.error d.outcome d.uses.items c.in_ok-copy.ensures idle (c.in-Err.ensures.closed.0 refl) (ap (λ s. s.seen) c.ask.ensures.session) c.in-Err.ensures.err c.in-Err.ensures.refused c.ask.ensures.kept c.ask.ensures.link c.in-Err.ensures.why k (ap (λ s. s.seen) c.refused_call.ensures.session) c.refused_call.ensures.link w e f)
+
+pub returns-then-is_open : goal.returns-then-is_open
+returns-then-is_open g c =
+    let opened : is_open c.args.conn.now.session.seen.task ≡ true = search rules in
+    λ login w. refused_did g.L.Link.looks login c.args.number c.args.call c.args.conn.now c.unused.result.outcome c.unused.result.uses.items opened c.unused.ensures.outcome c.unused.ensures.uses w
+
+pub begin-requires-clause-order : goal.begin-requires-clause-order
+begin-requires-clause-order g c =
+    let idle : is_open c.args.conn.now.session.seen.task ≡ false = search rules in
+    λ alive. call_at c.args.conn.now c.ask.new.conn.session.seen c.args.call c.requires.ready idle (ap (λ s. s.seen) c.ask.ensures.session) c.requires.kind alive

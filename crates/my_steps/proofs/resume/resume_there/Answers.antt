@@ -1,0 +1,47 @@
+use Rattle.my_steps.proofs.Working.Readying.{asked_again}
+use Rattle.std.proofs.Common.{◌≡◌, ◌++◌, ◌∷◌, [], true, false, rules, sym, ap, ◌∙◌}
+use Rattle.std.proofs.lemmas.Result.{IfOk-weaker}
+use Rattle.my_session.specs.Tasks.{is_open}
+use Rattle.my_steps.specs.Slot.{placed}
+use Rattle.my_steps.proofs.Working.Resuming.{open_asked, not_resumed, connect_resumed, gathering_resumed, call_resumed}
+use Rattle.my_steps.proofs.resume.resume_there.Goals as goal
+
+pub returns-then-not-is_open : goal.returns-then-not-is_open
+returns-then-not-is_open g c =
+    let idle : is_open c.args.conn.now.session.seen.task ≡ false = search rules in
+    λ login w. not_resumed g.L.Link.looks login c.args.number c.args.conn.now c.unused.result.outcome c.unused.result.uses.items idle c.unused.ensures.outcome c.unused.ensures.uses w
+
+pub returns-then-is_connecting : goal.returns-then-is_connecting
+returns-then-is_connecting g c =
+    let opened : is_open c.args.conn.now.session.seen.task ≡ true = search rules in
+    let connecting : c.is_connecting.result ≡ true = search rules in
+    let none : c.new-uses.result.items ≡ [] = search rules in
+    IfOk-weaker c.poll_connect.result _ _ (λ d f login w.
+    let a = open_asked login c.args.conn.now opened w in
+    let r = f login a.0 a.1 in
+    connect_resumed g.L.Link.looks login c.args.number c.args.conn.now a.0 (placed d.there c.poll_connect.new.conn) d.did.outcome d.did.uses.items r.0 (sym (c.is_connecting.ensures a.0 a.1.asked) ∙ connecting) a.1.asked (r.1 ∙ ap (λ us. us ++ r.0 ∷ []) none) r.2) c.poll_connect.ensures
+
+pub returns-then-is_gathering : goal.returns-then-is_gathering
+returns-then-is_gathering g c =
+    let opened : is_open c.args.conn.now.session.seen.task ≡ true = search rules in
+    let connecting : c.is_connecting.result ≡ false = search rules in
+    let gathering : c.is_gathering.result ≡ true = search rules in
+    λ login w.
+    let a = open_asked login c.args.conn.now opened w in
+    gathering_resumed g.L.Link.looks login c.args.number c.args.conn.now c.gather.new.conn a.0 c.in_ok-did.did.outcome c.in_ok-did.did.uses.items (sym (c.is_connecting.ensures a.0 a.1.asked) ∙ connecting) (sym (c.is_gathering.ensures a.0 a.1.asked) ∙ gathering) a.1.asked (c.in_ok-did.ensures login a.0 a.1)
+
+pub returns : goal.returns
+returns g c =
+    let opened : is_open c.args.conn.now.session.seen.task ≡ true = search rules in
+    let connecting : c.is_connecting.result ≡ false = search rules in
+    let gathering : c.is_gathering.result ≡ false = search rules in
+    λ login w.
+    let a = open_asked login c.args.conn.now opened w in
+    call_resumed g.L.Link.looks login c.args.number c.args.conn.now c.poll_open.new.conn a.0 c.in_ok-did-2.did.outcome c.in_ok-did-2.did.uses.items (sym (c.is_connecting.ensures a.0 a.1.asked) ∙ connecting) (sym (c.is_gathering.ensures a.0 a.1.asked) ∙ gathering) a.1.asked (c.in_ok-did-2.ensures login a.0 a.1)
+
+pub gather-requires-clause-asked : goal.gather-requires-clause-asked
+gather-requires-clause-asked g c =
+    let opened : is_open c.args.conn.now.session.seen.task ≡ true = search rules in
+    let connecting : c.is_connecting.result ≡ false = search rules in
+    let gathering : c.is_gathering.result ≡ true = search rules in
+    asked_again c.args.conn.now c.is_connecting.result c.is_gathering.result c.requires opened c.is_connecting.ensures connecting c.is_gathering.ensures gathering

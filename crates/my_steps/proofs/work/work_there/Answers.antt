@@ -1,0 +1,21 @@
+use Rattle.std.proofs.lemmas.Result.{IfOk-weaker}
+use Rattle.my_steps.specs.declared.slot.Slot.TheVariants.{There}
+use Rattle.my_steps.specs.declared.work.Work.TheVariants as works
+use Rattle.my_steps.specs.Slot.{placed}
+use Rattle.my_steps.proofs.Working.{work_is}
+use Rattle.my_steps.proofs.work.work_there.Goals as goal
+
+pub returns-in_ok-did-in-Begin : goal.returns-in_ok-did-in-Begin
+returns-in_ok-did-in-Begin g c = λ login w. work_is g.L.Link.looks login c.args.number c.args.work (works.Begin c.in-Begin.call) c.in_ok-did-in-Begin.did.outcome c.in_ok-did-in-Begin.did.uses.items (There c.args.conn.now) (There c.begin_call.new.conn) c.in-Begin.is (c.in_ok-did-in-Begin.ensures login w)
+
+pub returns-in_ok-did-in-Collect : goal.returns-in_ok-did-in-Collect
+returns-in_ok-did-in-Collect g c = λ login w. work_is g.L.Link.looks login c.args.number c.args.work works.Collect c.in_ok-did-in-Collect.did.outcome c.in_ok-did-in-Collect.did.uses.items (There c.args.conn.now) (There c.collect_call.new.conn) c.in-Collect.is (c.in_ok-did-in-Collect.ensures login w)
+
+pub returns-in_ok-did-in-Fields : goal.returns-in_ok-did-in-Fields
+returns-in_ok-did-in-Fields g c = λ login w. work_is g.L.Link.looks login c.args.number c.args.work works.Fields c.in_ok-did-in-Fields.did.outcome c.in_ok-did-in-Fields.did.uses.items (There c.args.conn.now) (There c.args.conn.now) c.in-Fields.is (c.in_ok-did-in-Fields.ensures login w)
+
+pub returns-in-Poll : goal.returns-in-Poll
+returns-in-Poll g c = IfOk-weaker c.resume_there.result _ _ (λ r f login w. work_is g.L.Link.looks login c.args.number c.args.work works.Poll r.did.outcome r.did.uses.items (There c.args.conn.now) (placed r.there c.resume_there.new.conn) c.in-Poll.is (f login w)) c.resume_there.ensures
+
+pub returns-in-Cancel : goal.returns-in-Cancel
+returns-in-Cancel g c = IfOk-weaker c.cancel_there.result _ _ (λ r f login w. work_is g.L.Link.looks login c.args.number c.args.work works.Cancel r.did.outcome r.did.uses.items (There c.args.conn.now) (placed r.there c.cancel_there.new.conn) c.in-Cancel.is (f login w)) c.cancel_there.ensures

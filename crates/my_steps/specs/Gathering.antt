@@ -1,0 +1,83 @@
+-- How the rows of a set are gathered.
+use Rattle.std.specs.Prelude.{ℕ, ◌≡◌, List, [], ◌∷◌, ◌++◌, Option, Some, unwrap_or, true}
+use Rattle.my_value.specs.RowParts.{RowParts}
+use Rattle.my_grammar.specs.declared.login.Login.{Login}
+use Rattle.my_reading.specs.declared.answer.Answer.TheVariants as answers
+use Rattle.my_reading.specs.declared.call.Call.TheVariants.{NextRow}
+use Rattle.my_session.specs.declared.task.Task.TheVariants.{Nothing}
+use Rattle.my_session.specs.History.{History, began}
+use Rattle.my_session.specs.Seen.{Seen}
+use Rattle.my_session.specs.Stands.{Stands}
+use Rattle.my_session.specs.Steps.{begun}
+use Rattle.my_steps.specs.declared.gather.Gathering.{Gathering}
+use Rattle.my_steps.specs.declared.gather.Gathering.TheVariants.{On, Over}
+use Rattle.my_client.specs.declared.poll.After.{After}
+use Rattle.my_client.specs.declared.poll.After.TheVariants as after
+use Rattle.my_client.specs.declared.conn.Conn.{Conn}
+use Rattle.my_script.specs.declared.transcript.Outcome.{Outcome}
+use Rattle.my_script.specs.declared.transcript.Outcome.TheVariants.{Done, Pending, Failed}
+use Rattle.my_script.specs.declared.transcript.Use.{Use}
+use Rattle.my_steps.specs.Grows.{Gathers, rows_shown}
+use Rattle.my_steps.specs.Handle.{Handle, Joined}
+use Rattle.my_client.specs.Kept.{Asked, Kept, asking}
+use Rattle.my_steps.specs.declared.outcome.StepResult.{StepResult}
+use Rattle.my_link.specs.Looks.{Looks}
+use Rattle.my_client.specs.Reads.{IsStepped}
+use Rattle.my_client.specs.Rests.{Rests, IsAsked}
+use Rattle.my_client.specs.Conn.{kept_of}
+
+-- what a gathering that ends shows, of the rows that came before
+abbrev pub Shows : Option (List RowParts) → After → Outcome → Type 0
+Shows rows after.Pending o = o ≡ Pending
+Shows rows (after.Answered answers.Ready) o = o ≡ Done
+Shows rows (after.Answered (answers.Row row)) o = ⊥
+Shows rows (after.Answered answers.SetEnd) o = rows_shown o ≡ Some (unwrap_or rows [])
+Shows rows (after.Answered answers.NoSet) o = rows_shown o ≡ Some (unwrap_or rows [])
+Shows rows (after.Failed e) o = o ≡ Failed e
+
+-- the next row is asked for, with one row more
+abbrev pub asking_on : Kept → Option (List RowParts) → RowParts → Kept
+asking_on k rows row = asking k NextRow (Some (unwrap_or rows [] ++ row ∷ []))
+
+-- the session stands for each history that it stood for, with this call begun
+abbrev pub BeginStands : Seen → Seen → Type 0
+BeginStands s t = (h : History) → Stands s h → Stands t (began h NextRow)
+
+pub record AsksNext {L : Type 0} (c d : Conn L) (rows : List RowParts) : Type 0 where
+  pub idle : c.session.seen.task ≡ Nothing
+  pub kept : kept_of d ≡ asking (kept_of c) NextRow (Some rows)
+  pub seen : d.session.seen ≡ begun c.session.seen NextRow
+  pub stands : (h : History) → Stands c.session.seen h → Stands d.session.seen (began h NextRow)
+  pub link : d.link ≡ c.link
+
+abbrev pub GoesNext : {L : Type 0} → Conn L → Conn L → Option (List RowParts) → After → Type 0
+GoesNext c d rows after.Pending = ⊥
+GoesNext c d rows (after.Answered answers.Ready) = ⊥
+GoesNext c d rows (after.Answered (answers.Row row)) = AsksNext c d (unwrap_or rows [] ++ row ∷ [])
+GoesNext c d rows (after.Answered answers.SetEnd) = ⊥
+GoesNext c d rows (after.Answered answers.NoSet) = ⊥
+GoesNext c d rows (after.Failed e) = ⊥
+
+abbrev pub Goes : {L : Type 0} → Conn L → Conn L → Option (List RowParts) → After → Gathering → Type 0
+Goes c d rows after On = GoesNext c d rows after
+Goes c d rows after (Over o) = (d ≡ c) × Shows rows after o
+
+-- what a gathering did, from a connection on
+pub record GatherDid {L : Type 0} (look : L → Looks) (login : Login) (n : ℕ) (a : Asked) (c d : Conn L)
+    (o : Outcome) (us : List Use) : Type 0 where
+  pub gathers : Gathers login n us a (kept_of c) (look c.link) o (Joined true (kept_of d) (look d.link))
+  pub rests : Rests login d.session.seen (kept_of d)
+  pub stepped : IsStepped login d.session.seen (kept_of d)
+
+-- so far in a gathering
+pub record GatherSoFar {L : Type 0} (look : L → Looks) (login : Login) (n : ℕ) (a : Asked) (c d : Conn L)
+    (us : List Use) : Type 0 where
+  pub now : Asked
+  pub asked : IsAsked login d.session.seen (kept_of d) now
+  pub onto : (vs : List Use) (o : Outcome) (t : Handle) → Gathers login n vs now (kept_of d) (look d.link) o t
+      → Gathers login n (us ++ vs) a (kept_of c) (look c.link) o t
+
+-- of each call that may be open on the connection
+abbrev pub EachGathers : {L : Type 0} → (L → Looks) → ℕ → Conn L → Conn L → StepResult → Type 0
+EachGathers look n c d r = (login : Login) (a : Asked) → IsAsked login c.session.seen (kept_of c) a
+    → GatherDid look login n a c d r.outcome r.uses.items

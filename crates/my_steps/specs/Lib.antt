@@ -1,0 +1,10 @@
+pub mod Handle
+pub mod Slot
+pub mod Sums
+pub mod Keeps
+pub mod Ready
+pub mod Grows
+pub mod Dialing
+pub mod Did
+pub mod Connecting
+pub mod Gathering

@@ -1,0 +1,70 @@
+//! A step that begins a call on a connection.
+ghost use Rattle.std.specs.Prelude.{◌≡◌, [], true, false, IfOk, OnOk};
+ghost use Rattle.my_reading.specs.Calls.{is_connect, kind_of};
+ghost use Rattle.my_session.specs.Tasks.{is_open};
+ghost use Rattle.my_client.specs.Drives.{EachEnded};
+ghost use Rattle.my_client.specs.Ready.{ConnReady};
+ghost use Rattle.my_client.specs.declared.tape.Said.TheVariants as says;
+ghost use Rattle.my_steps.specs.Did.{EachPolled, EachDid};
+ghost use Rattle.my_steps.specs.declared.slot.Slot.TheVariants.{There as ThereAt};
+ghost use Rattle.my_steps.specs.declared.work.Work.TheVariants.{Begin as BeginWork};
+
+use crate::outcome::{StepResult, shown, unused, used_once};
+use my_client::{Conn, Said, ask, drive, note};
+use my_frame::NoMemory;
+use my_link::Link;
+use my_reading::{Call, Error};
+use my_script::{Outcome, Use};
+use std::alloc::Global;
+
+/// Polls the open call.
+pub(crate) fn poll_open<L: Link>(
+    alloc: Global,
+    conn: &mut Conn<L>,
+    number: u64,
+) -> Result<StepResult, NoMemory>
+    requires { is_open conn.old.session.seen.task ≡ true }
+    ensures { IfOk result (λ d. EachPolled L.looks number conn.old conn.new d) }
+{
+    let (after, met, _rows) = drive(alloc, conn)?;
+    used_once(alloc, shown(after), Use { number, met })
+}
+
+/// The session is closed, and refuses the call.
+pub(crate) fn refused_call<L>(
+    alloc: Global,
+    conn: &mut Conn<L>,
+    error: Error,
+) -> Result<StepResult, NoMemory>
+    ensures outcome { IfOk result (λ d. d.outcome ≡ Outcome.Failed error) }
+    ensures uses { IfOk result (λ d. d.uses.items ≡ []) }
+    ensures kept { OnOk result (EachEnded conn.old conn.new (says.Failed error)) }
+    ensures session { conn.new.session ≡ conn.old.session }
+    ensures link { conn.new.link ≡ conn.old.link }
+{
+    let copy = error.copy(alloc)?;
+    let _ = note(conn, Said::Failed(copy))?;
+    Ok(unused(alloc, Outcome::Failed(error)))
+}
+
+/// Begins a call other than the handshake, and polls it.
+pub(crate) fn begin_call<L: Link>(
+    alloc: Global,
+    conn: &mut Conn<L>,
+    number: u64,
+    call: Call,
+) -> Result<StepResult, NoMemory>
+    requires ready { ConnReady conn.old }
+    requires kind { is_connect (kind_of call) ≡ false }
+    ensures { IfOk result (λ d. EachDid L.looks number (BeginWork call) conn.old (ThereAt conn.new) d) }
+{
+    if conn.session.is_open() {
+        return Ok(unused(alloc, Outcome::NoSuchHandle));
+    }
+    let copy = call.copy(alloc)?;
+    ask(conn, copy, None);
+    match conn.session.begin(call) {
+        Ok(()) => poll_open(alloc, conn, number),
+        Err(error) => refused_call(alloc, conn, error),
+    }
+}

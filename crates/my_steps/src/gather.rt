@@ -1,0 +1,148 @@
+//! A step that gathers the rows of a set.
+ghost use Rattle.std.specs.Prelude.{◌≡◌, [], Some, option_map, unwrap_or, true, false, IfOk, OnOk};
+ghost use Rattle.my_session.specs.Tasks.{is_open};
+ghost use Rattle.my_reading.specs.declared.call.Call.TheVariants.{NextRow as NextRowOf};
+ghost use Rattle.my_session.specs.declared.task.Task.TheVariants.{Nothing};
+ghost use Rattle.my_session.specs.Steps.{begun};
+ghost use Rattle.my_client.specs.Conn.{kept_of};
+ghost use Rattle.my_client.specs.Kept.{asking};
+ghost use Rattle.my_client.specs.Ready.{IsReady, ConnReady, AskedReady, RestsBy, StaysOpen};
+ghost use Rattle.my_steps.specs.Did.{EachDid};
+ghost use Rattle.my_steps.specs.Gathering.{asking_on, BeginStands, Goes, EachGathers};
+ghost use Rattle.my_steps.specs.declared.slot.Slot.TheVariants.{There as ThereAt};
+ghost use Rattle.my_steps.specs.declared.work.Work.TheVariants.{Collect as CollectWork};
+
+use crate::begin::refused_call;
+use crate::outcome::{StepResult, unused};
+use my_client::{After, Conn, ask, drive};
+use my_frame::NoMemory;
+use my_link::Link;
+use my_reading::{Answer, Call};
+use my_script::{Outcome, Use};
+use my_value::Row;
+use std::alloc::Global;
+
+/// Whether a gathering goes on with the next row, or what it came to.
+#[derive(Drop)]
+enum Gathering {
+    On,
+    Over(Outcome),
+}
+
+fn rows_so_far(alloc: Global, rows: Option<Vec<Row>>) -> Vec<Row>
+    ensures { result.items ≡ unwrap_or (option_map (λ rows. rows.items) rows) [] }
+{
+    match rows {
+        None => Vec::new(alloc),
+        Some(rows) => rows,
+    }
+}
+
+// The next row is asked for.
+fn ask_next<L>(conn: &mut Conn<L>, rows: Vec<Row>)
+    requires idle { conn.old.session.seen.task ≡ Nothing }
+    requires ready { IsReady conn.old.session.seen }
+    requires open { conn.old.session.seen.closed ≡ false }
+    ensures kept { kept_of conn.new ≡ asking (kept_of conn.old) NextRowOf (Some rows.items) }
+    ensures seen { conn.new.session.seen ≡ begun conn.old.session.seen NextRowOf }
+    ensures stands { BeginStands conn.old.session.seen conn.new.session.seen }
+    ensures link { conn.new.link ≡ conn.old.link }
+{
+    ask(conn, Call::NextRow, Some(rows));
+    match conn.session.begin(Call::NextRow) {
+        Ok(()) => {}
+        Err(_) => unreachable!(),
+    }
+}
+
+// A row came: it goes to the others, and the next one is asked for.
+fn add_row<L>(
+    alloc: Global,
+    conn: &mut Conn<L>,
+    rows: Option<Vec<Row>>,
+    row: Row,
+) -> Result<(), NoMemory>
+    requires idle { conn.old.session.seen.task ≡ Nothing }
+    requires ready { IsReady conn.old.session.seen }
+    requires open { conn.old.session.seen.closed ≡ false }
+    ensures kept { OnOk result (
+        kept_of conn.new ≡ asking_on (kept_of conn.old) (option_map (λ rows. rows.items) rows) row) }
+    ensures seen { OnOk result (conn.new.session.seen ≡ begun conn.old.session.seen NextRowOf) }
+    ensures stands { OnOk result (BeginStands conn.old.session.seen conn.new.session.seen) }
+    ensures link { OnOk result (conn.new.link ≡ conn.old.link) }
+{
+    let mut all = rows_so_far(alloc, rows);
+    all.push(row)?;
+    ask_next(conn, all);
+    Ok(())
+}
+
+fn go_on<L>(
+    alloc: Global,
+    conn: &mut Conn<L>,
+    after: After,
+    rows: Option<Vec<Row>>,
+) -> Result<Gathering, NoMemory>
+    requires rests { RestsBy after conn.old.session.seen }
+    requires open { StaysOpen after conn.old.session.seen }
+    requires ready { IsReady conn.old.session.seen }
+    ensures { IfOk result (λ g. Goes conn.old conn.new (option_map (λ rows. rows.items) rows) after g) }
+{
+    match after {
+        After::Pending => Ok(Gathering::Over(Outcome::Pending)),
+        After::Failed(error) => Ok(Gathering::Over(Outcome::Failed(error))),
+        After::Answered(Answer::Ready) => Ok(Gathering::Over(Outcome::Done)),
+        After::Answered(Answer::SetEnd) => {
+            Ok(Gathering::Over(Outcome::Rows(rows_so_far(alloc, rows))))
+        }
+        After::Answered(Answer::NoSet) => {
+            Ok(Gathering::Over(Outcome::Rows(rows_so_far(alloc, rows))))
+        }
+        After::Answered(Answer::Row(row)) => {
+            add_row(alloc, conn, rows, row)?;
+            Ok(Gathering::On)
+        }
+    }
+}
+
+/// Polls the open call, and after each row the next one, until something else comes.
+pub(crate) fn gather<L: Link>(
+    alloc: Global,
+    conn: &mut Conn<L>,
+    number: u64,
+) -> Result<StepResult, NoMemory>
+    requires is_on { is_open conn.old.session.seen.task ≡ true }
+    requires asked { AskedReady conn.old }
+    ensures { IfOk result (λ d. EachGathers L.looks number conn.old conn.new d) }
+{
+    let mut uses = Vec::new(alloc);
+    'rows: loop {
+        let (after, met, rows) = drive(alloc, conn)?;
+        uses.push(Use { number, met })?;
+        // What each poll met is kept, and fits into memory.
+        prove!(uses.len() <= usize::MAX);
+        match go_on(alloc, conn, after, rows)? {
+            Gathering::On => {}
+            Gathering::Over(outcome) => return Ok(StepResult { outcome, uses }),
+        }
+    }
+}
+
+/// Gathers the rows of the set that is read.
+pub(crate) fn collect_call<L: Link>(
+    alloc: Global,
+    conn: &mut Conn<L>,
+    number: u64,
+) -> Result<StepResult, NoMemory>
+    requires { ConnReady conn.old }
+    ensures { IfOk result (λ d. EachDid L.looks number CollectWork conn.old (ThereAt conn.new) d) }
+{
+    if conn.session.is_open() {
+        return Ok(unused(alloc, Outcome::NoSuchHandle));
+    }
+    ask(conn, Call::NextRow, Some(Vec::new(alloc)));
+    match conn.session.begin(Call::NextRow) {
+        Ok(()) => gather(alloc, conn, number),
+        Err(error) => refused_call(alloc, conn, error),
+    }
+}

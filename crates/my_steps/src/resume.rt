@@ -1,0 +1,43 @@
+//! A step that polls a connection's open call.
+ghost use Rattle.std.specs.Prelude.{IfOk};
+ghost use Rattle.my_client.specs.Ready.{ConnReady};
+ghost use Rattle.my_steps.specs.Did.{EachDid};
+ghost use Rattle.my_steps.specs.Slot.{placed};
+ghost use Rattle.my_steps.specs.declared.work.Work.TheVariants.{Poll as PollWork};
+
+use crate::begin::poll_open;
+use crate::connect::poll_connect;
+use crate::gather::gather;
+use crate::outcome::{Worked, unused};
+use my_client::{Conn, is_connecting, is_gathering};
+use my_frame::NoMemory;
+use my_link::Link;
+use my_script::Outcome;
+use std::alloc::Global;
+
+/// Polls the open call: the handshake, a gathering, or another call.
+pub(crate) fn resume_there<L: Link>(
+    alloc: Global,
+    conn: &mut Conn<L>,
+    number: u64,
+) -> Result<Worked, NoMemory>
+    requires { ConnReady conn.old }
+    ensures { IfOk result (λ w. EachDid L.looks number PollWork conn.old (placed w.there conn.new) w.did) }
+{
+    if !conn.session.is_open() {
+        return Ok(Worked {
+            there: true,
+            did: unused(alloc, Outcome::NoSuchHandle),
+        });
+    }
+    if is_connecting(conn) {
+        let uses = Vec::new(alloc);
+        return poll_connect(alloc, conn, number, uses);
+    }
+    if is_gathering(conn) {
+        let did = gather(alloc, conn, number)?;
+        return Ok(Worked { there: true, did });
+    }
+    let did = poll_open(alloc, conn, number)?;
+    Ok(Worked { there: true, did })
+}

@@ -1,0 +1,28 @@
+//! What is at a connection's number.
+ghost use Rattle.std.specs.Prelude.{◌≡◌};
+ghost use Rattle.my_steps.specs.Slot.{placed};
+
+use my_client::Conn;
+
+/// What is at a number that a `conn` took.
+#[derive(Drop)]
+pub enum Slot<L> {
+    /// Its dial failed.
+    Gone,
+    /// Its dial wasn't ready.
+    Held,
+    There(Conn<L>),
+    /// Its handshake failed, or was cancelled.
+    Ended(Conn<L>),
+}
+
+/// A connection that steps may still name, or one that isn't there any more.
+pub(crate) fn place<L: Drop>(conn: Conn<L>, there: bool) -> Slot<L>
+    ensures { result ≡ placed there conn }
+{
+    if there {
+        Slot::There(conn)
+    } else {
+        Slot::Ended(conn)
+    }
+}

@@ -1,0 +1,167 @@
+//! What a step does at a connection's number.
+ghost use Rattle.std.specs.Prelude.{◌≡◌, length, map, IfOk, OnOk};
+ghost use Rattle.my_client.specs.Login.{login_of};
+ghost use Rattle.my_client.specs.Ready.{ConnReady};
+ghost use Rattle.my_world.specs.World.{SameBut, SameFrom};
+ghost use Rattle.my_steps.specs.Dialing.{DialsTo, dial_met};
+ghost use Rattle.my_steps.specs.Did.{MayBegin, does_at, EachDid, DoesAt, StepsOn, is_poll, redials};
+ghost use Rattle.my_steps.specs.Handle.{at_number};
+ghost use Rattle.my_steps.specs.Slot.{handle_of, placed};
+ghost use Rattle.my_steps.specs.Grows.{At};
+ghost use Rattle.my_steps.specs.Ready.{SlotReady, AreReady};
+ghost use Rattle.my_steps.specs.declared.slot.Slot.TheVariants.{Held as HeldAt};
+
+use crate::begin::begin_call;
+use crate::cancel::cancel_there;
+use crate::connect::dial_at;
+use crate::fields::tell;
+use crate::gather::collect_call;
+use crate::outcome::{StepResult, Worked, unused};
+use crate::resume::resume_there;
+use crate::slot::{Slot, place};
+use my_client::Conn;
+use my_frame::NoMemory;
+use my_link::Link;
+use my_opts::Opts;
+use my_reading::Call;
+use my_script::Outcome;
+use my_world::World;
+use std::alloc::Global;
+use std::mem;
+
+/// What a step does at its number.
+#[derive(Drop)]
+pub(crate) enum Work {
+    /// Begins a call other than the handshake.
+    Begin(Call),
+    Collect,
+    Fields,
+    Poll,
+    Cancel,
+}
+
+/// A step's work, and the number that it names.
+#[derive(Drop)]
+pub(crate) struct Errand {
+    pub number: u64,
+    pub work: Work,
+}
+
+// On a connection that is there.
+fn work_there<L: Link>(
+    alloc: Global,
+    conn: &mut Conn<L>,
+    number: u64,
+    work: Work,
+) -> Result<Worked, NoMemory>
+    requires ready { ConnReady conn.old }
+    requires kind { MayBegin work }
+    ensures { IfOk result (λ w. EachDid L.looks number work conn.old (placed w.there conn.new) w.did) }
+{
+    match work {
+        Work::Begin(call) => {
+            let did = begin_call(alloc, conn, number, call)?;
+            Ok(Worked { there: true, did })
+        }
+        Work::Collect => {
+            let did = collect_call(alloc, conn, number)?;
+            Ok(Worked { there: true, did })
+        }
+        Work::Fields => {
+            let did = tell(alloc, conn, number)?;
+            Ok(Worked { there: true, did })
+        }
+        Work::Poll => resume_there(alloc, conn, number),
+        Work::Cancel => cancel_there(alloc, conn, number),
+    }
+}
+
+// Owns the connection for the step.
+fn work_conn<L: Link + Drop>(
+    alloc: Global,
+    mut conn: Conn<L>,
+    number: u64,
+    work: Work,
+) -> Result<(Slot<L>, StepResult), NoMemory>
+    requires ready { ConnReady conn }
+    requires kind { MayBegin work }
+    ensures { IfOk result (λ r. EachDid L.looks number work conn r.0 r.1) }
+{
+    let worked = work_there(alloc, &mut conn, number, work)?;
+    Ok((place(conn, worked.there), worked.did))
+}
+
+// Where the dial wasn't ready: it is tried again, or dropped.
+fn work_held<N: World>(
+    alloc: Global,
+    opts: &Opts,
+    world: &mut N,
+    number: u64,
+    work: Work,
+) -> Result<(Slot<N::L>, StepResult), NoMemory>
+    ensures others { SameBut number (N.seen world.old).plans (N.seen world.new).plans }
+    ensures counts { IfOk result (λ r. DialsTo (N.seen world.old).dials (N.seen world.new).dials
+        (dial_met (is_poll work) r.1.uses.items)) }
+    ensures did { IfOk result (λ r. DoesAt N.L.looks (login_of opts.now) number work HeldAt r.0 r.1) }
+{
+    match work {
+        Work::Poll => return dial_at(alloc, opts, world, number),
+        Work::Cancel => return Ok((Slot::Gone, unused(alloc, Outcome::Done))),
+        Work::Begin(_) | Work::Collect | Work::Fields => {
+            return Ok((Slot::Held, unused(alloc, Outcome::NoSuchHandle)));
+        }
+    }
+}
+
+fn work_on<N: World>(
+    alloc: Global,
+    opts: &Opts,
+    world: &mut N,
+    slot: Slot<N::L>,
+    number: u64,
+    work: Work,
+) -> Result<(Slot<N::L>, StepResult), NoMemory>
+    requires ready { SlotReady N.L.looks slot }
+    requires kind { MayBegin work }
+    ensures others { SameBut number (N.seen world.old).plans (N.seen world.new).plans }
+    ensures counts { IfOk result (λ r. DialsTo (N.seen world.old).dials (N.seen world.new).dials
+        (dial_met (redials (handle_of N.L.looks slot) work) r.1.uses.items)) }
+    ensures did { IfOk result (λ r. DoesAt N.L.looks (login_of opts.now) number work slot r.0 r.1) }
+{
+    match slot {
+        Slot::There(conn) => work_conn(alloc, conn, number, work),
+        Slot::Held => work_held(alloc, opts, world, number, work),
+        Slot::Gone => return Ok((Slot::Gone, unused(alloc, Outcome::NoSuchHandle))),
+        Slot::Ended(conn) => {
+            return Ok((Slot::Ended(conn), unused(alloc, Outcome::NoSuchHandle)));
+        }
+    }
+}
+
+/// Does a step's work at its number; where no connection has it the step is refused.
+pub(crate) fn work_at<N: World>(
+    alloc: Global,
+    opts: &Opts,
+    world: &mut N,
+    slots: &mut Vec<Slot<N::L>>,
+    number: u64,
+    work: Work,
+) -> Result<StepResult, NoMemory>
+    requires ready { AreReady N.L.looks slots.old.items }
+    requires kind { MayBegin work }
+    ensures count { OnOk result (length slots.new.items ≡ length slots.old.items) }
+    ensures others { SameFrom (length slots.old.items) (N.seen world.old).plans (N.seen world.new).plans }
+    ensures counts { IfOk result (λ d. DialsTo (N.seen world.old).dials (N.seen world.new).dials
+        (dial_met (redials (at_number (map (handle_of N.L.looks) slots.old.items) number) work) d.uses.items)) }
+    ensures steps { IfOk result (λ d.
+        StepsOn N.L.looks (login_of opts.now) (N.seen world.old).plans slots.old.items slots.new.items
+        (λ plans. At number (does_at (login_of opts.now) number work)) d) }
+{
+    if number >= slots.len() as u64 {
+        return Ok(unused(alloc, Outcome::NoSuchHandle));
+    }
+    let slot = mem::replace(&mut slots[number as usize], Slot::Gone);
+    let (slot, did) = work_on(alloc, opts, world, slot, number, work)?;
+    slots[number as usize] = slot;
+    Ok(did)
+}
