@@ -1,5 +1,7 @@
+ghost use Rattle.my_command.specs.Client.Packet.{PartsFit};
+
 use crate::sent::{Case, packet_of};
-use my_command::write_client;
+use my_command::{ClientPacket, write_client};
 use my_frame::NoMemory;
 use std::alloc::Global;
 use std::test::Fail;
@@ -83,36 +85,59 @@ const SENT: &[(Case, &[u8])] = &[
     ),
 ];
 
-fn written(alloc: Global, case: Case) -> Result<Vec<u8>, NoMemory> {
+fn is_written(alloc: Global, packet: &ClientPacket, want: &[u8]) -> Result<bool, NoMemory>
+    requires { PartsFit packet.now }
+{
+    let payload = write_client(alloc, packet)?;
+    Ok(payload.as_slice() == want)
+}
+
+fn equals_its_copy(alloc: Global, packet: &ClientPacket) -> Result<bool, NoMemory> {
+    let copy = packet.copy(alloc)?;
+    Ok(copy == *packet)
+}
+
+fn is_well(alloc: Global, packet: &ClientPacket, want: &[u8]) -> Result<bool, NoMemory>
+    requires { PartsFit packet.now }
+{
+    Ok(is_written(alloc, packet, want)? && equals_its_copy(alloc, packet)?)
+}
+
+// Whether the packet of a case is written so and equals its copy.
+fn case_is_well(alloc: Global, case: Case, want: &[u8]) -> Result<bool, NoMemory> {
     let packet = packet_of(alloc, case)?;
-    write_client(alloc, &packet)
+    is_well(alloc, &packet, want)
 }
 
 #[test]
-fn ample_packets_are_written(rt: HostRuntime) -> Result<(), Fail> {
+fn ample_packets_are_written_and_copied(rt: HostRuntime) -> Result<(), Fail> {
     let alloc = rt.alloc();
     for (case, want) in SENT {
-        let payload = written(alloc, *case)?;
-        assert!(rt; payload.as_slice() == *want, "{payload:?}");
+        assert!(rt; case_is_well(alloc, *case, want)?, "{want:?}");
     }
     Ok(())
 }
 
-#[test]
-fn ample_copies_are_equal(rt: HostRuntime) -> Result<(), Fail> {
-    let alloc = rt.alloc();
-    for (case, _) in SENT {
-        let packet = packet_of(alloc, *case)?;
-        assert!(rt; packet.copy(alloc)? == packet);
-    }
-    Ok(())
+fn differs(alloc: Global, packet: &ClientPacket, case: Case) -> Result<bool, NoMemory> {
+    let other = packet_of(alloc, case)?;
+    Ok(other != *packet)
+}
+
+// Whether the packet is neither another query nor the preparation of the same text.
+fn is_alone(alloc: Global, packet: &ClientPacket) -> Result<bool, NoMemory> {
+    Ok(
+        differs(alloc, packet, Case::Query(b"SELECT 2"))?
+            && differs(alloc, packet, Case::Prepare(b"SELECT 1"))?,
+    )
+}
+
+fn query_is_alone(alloc: Global) -> Result<bool, NoMemory> {
+    let packet = packet_of(alloc, Case::Query(b"SELECT 1"))?;
+    is_alone(alloc, &packet)
 }
 
 #[test]
 fn ample_other_packets_are_not_equal(rt: HostRuntime) -> Result<(), Fail> {
-    let alloc = rt.alloc();
-    let packet = packet_of(alloc, Case::Query(b"SELECT 1"))?;
-    assert!(rt; packet != packet_of(alloc, Case::Query(b"SELECT 2"))?);
-    assert!(rt; packet != packet_of(alloc, Case::Prepare(b"SELECT 1"))?);
+    assert!(rt; query_is_alone(rt.alloc())?);
     Ok(())
 }

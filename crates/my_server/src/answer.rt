@@ -49,16 +49,22 @@ fn column_of(alloc: Global, name: &Blob) -> Result<Column, NoMemory>
     })
 }
 
-/// The payload of a packet.
-pub fn written(alloc: Global, packet: &ServerPacket) -> Result<Blob, NoMemory>
+fn payload_of(alloc: Global, packet: &ServerPacket) -> Result<Blob, NoMemory>
     ensures { IfOk result (λ payload. payload ≡ server_bytes packet.now) }
 {
     Ok(Blob::from(write_server(alloc, packet)?))
 }
 
+/// The payload of a packet. It alone drops packets.
+pub fn written(alloc: Global, packet: ServerPacket) -> Result<Blob, NoMemory>
+    ensures { IfOk result (λ payload. payload ≡ server_bytes packet) }
+{
+    payload_of(alloc, &packet)
+}
+
 // One payload more.
-fn add(alloc: Global, payloads: &mut Listed<Blob>, packet: &ServerPacket) -> Result<(), NoMemory>
-    ensures { OnOk result (payloads.new ≡ payloads.old ++ server_bytes packet.now ∷ []) }
+fn add(alloc: Global, payloads: &mut Listed<Blob>, packet: ServerPacket) -> Result<(), NoMemory>
+    ensures { OnOk result (payloads.new ≡ payloads.old ++ server_bytes packet ∷ []) }
 {
     payloads.push(written(alloc, packet)?)
 }
@@ -78,24 +84,21 @@ fn end_payload(alloc: Global, deprecates: bool, status: StatusFlags) -> Result<B
     ensures { IfOk result (λ payload. payload ≡ end_payload deprecates status) }
 {
     if deprecates {
-        written(alloc, &ServerPacket::End(ok_of(alloc, status)))
+        written(alloc, ServerPacket::End(ok_of(alloc, status)))
     } else {
         eof_payload(alloc, status)
     }
-}
-
-fn add_column(alloc: Global, payloads: &mut Listed<Blob>, name: &Blob) -> Result<(), NoMemory>
-    ensures { OnOk result (payloads.new ≡ payloads.old ++ column_payload name.now ∷ []) }
-{
-    let column = column_of(alloc, name)?;
-    add(alloc, payloads, &ServerPacket::Column(column))
 }
 
 fn add_columns(alloc: Global, payloads: &mut Listed<Blob>, names: &[Blob]) -> Result<(), NoMemory>
     ensures { OnOk result (payloads.new ≡ payloads.old ++ map column_payload names.now) }
 {
     for name in names {
-        add_column(alloc, payloads, name)?;
+        add(
+            alloc,
+            payloads,
+            ServerPacket::Column(column_of(alloc, name)?),
+        )?;
     }
     Ok(())
 }
@@ -123,7 +126,7 @@ fn add_row(
     ensures { OnOk result (payloads.new ≡ payloads.old ++ row_payload row.now ∷ []) }
 {
     let row = row.copy(alloc)?;
-    add(alloc, payloads, &ServerPacket::TextRow(row))
+    add(alloc, payloads, ServerPacket::TextRow(row))
 }
 
 fn add_rows(
@@ -139,12 +142,6 @@ fn add_rows(
     Ok(())
 }
 
-fn add_count(alloc: Global, payloads: &mut Listed<Blob>, count: u16) -> Result<(), NoMemory>
-    ensures { OnOk result (payloads.new ≡ payloads.old ++ server_bytes (ServerPacket.Count count) ∷ []) }
-{
-    add(alloc, payloads, &ServerPacket::Count(count))
-}
-
 fn add_set(
     alloc: Global,
     payloads: &mut Listed<Blob>,
@@ -155,7 +152,7 @@ fn add_set(
     requires { length set.now.names < 2 ^ 16 }
     ensures { OnOk result (payloads.new ≡ payloads.old ++ set_payloads deprecates status set.now) }
 {
-    add_count(alloc, payloads, set.names.len() as u16)?;
+    add(alloc, payloads, ServerPacket::Count(set.names.len() as u16))?;
     add_columns(alloc, payloads, set.names.as_slice())?;
     add_close(alloc, payloads, deprecates, status)?;
     add_rows(alloc, payloads, set.rows.as_slice())?;
@@ -184,18 +181,20 @@ fn add_sets(
     Ok(())
 }
 
-fn add_fine(alloc: Global, payloads: &mut Listed<Blob>, ok: &OkPacket) -> Result<(), NoMemory>
-    ensures { OnOk result (payloads.new ≡ payloads.old ++ server_bytes (ServerPacket.Fine ok.now) ∷ []) }
+fn add_answer(
+    alloc: Global,
+    payloads: &mut Listed<Blob>,
+    deprecates: bool,
+    answer: &ReplyAnswer,
+) -> Result<(), NoMemory>
+    requires { CanSend answer.now }
+    ensures { OnOk result (payloads.new ≡ payloads.old ++ reply_payloads deprecates answer.now) }
 {
-    let ok = ok.copy(alloc)?;
-    add(alloc, payloads, &ServerPacket::Fine(ok))
-}
-
-fn add_refusal(alloc: Global, payloads: &mut Listed<Blob>, err: &ErrPacket) -> Result<(), NoMemory>
-    ensures { OnOk result (payloads.new ≡ payloads.old ++ server_bytes (ServerPacket.Refuse err.now) ∷ []) }
-{
-    let err = err.copy(alloc)?;
-    add(alloc, payloads, &ServerPacket::Refuse(err))
+    match answer {
+        ReplyAnswer::Fine(ok) => add(alloc, payloads, ServerPacket::Fine(ok.copy(alloc)?)),
+        ReplyAnswer::Refuse(err) => add(alloc, payloads, ServerPacket::Refuse(err.copy(alloc)?)),
+        ReplyAnswer::Sets(sets) => add_sets(alloc, payloads, deprecates, sets.as_slice()),
+    }
 }
 
 /// The payloads of an answer, to a client with which EOF packets are deprecated or are not.
@@ -208,10 +207,6 @@ pub fn reply_payloads(
     ensures { IfOk result (λ payloads. payloads ≡ reply_payloads deprecates answer.now) }
 {
     let mut payloads = Listed::new(alloc);
-    match answer {
-        ReplyAnswer::Fine(ok) => add_fine(alloc, &mut payloads, ok)?,
-        ReplyAnswer::Refuse(err) => add_refusal(alloc, &mut payloads, err)?,
-        ReplyAnswer::Sets(sets) => add_sets(alloc, &mut payloads, deprecates, sets.as_slice())?,
-    }
+    add_answer(alloc, &mut payloads, deprecates, answer)?;
     Ok(payloads)
 }

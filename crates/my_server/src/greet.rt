@@ -52,38 +52,48 @@ fn greeting_of(alloc: Global, script: &ServerScript) -> Result<Greeting, NoMemor
 pub fn greeting_payload(alloc: Global, script: &ServerScript) -> Result<Blob, NoMemory>
     ensures { IfOk result (λ payload. payload ≡ greeting_payload script.now) }
 {
-    written(alloc, &ServerPacket::Greeting(greeting_of(alloc, script)?))
+    written(alloc, ServerPacket::Greeting(greeting_of(alloc, script)?))
 }
 
 /// An OK with nothing to say.
 pub fn fine_payload(alloc: Global) -> Result<Blob, NoMemory>
     ensures { IfOk result (λ payload. payload ≡ fine_payload) }
 {
-    written(alloc, &ServerPacket::Fine(ok_of(alloc, DONE)))
+    written(alloc, ServerPacket::Fine(ok_of(alloc, DONE)))
+}
+
+fn refusal_payload(
+    alloc: Global,
+    code: u16,
+    state: [u8; 5],
+    message: &str,
+) -> Result<Blob, NoMemory>
+    ensures { IfOk result (λ payload.
+        payload ≡ refusal_payload (record { code = code; state = state; message = message.now })) }
+{
+    let message = Text::from_str(alloc, message)?;
+    written(
+        alloc,
+        ServerPacket::Refuse(ErrPacket {
+            code,
+            state,
+            message,
+        }),
+    )
 }
 
 /// The ERR for a login that isn't admitted.
 pub fn denied_payload(alloc: Global) -> Result<Blob, NoMemory>
     ensures { IfOk result (λ payload. payload ≡ refusal_payload denial) }
 {
-    let err = ErrPacket {
-        code: 1_045,
-        state: *b"28000",
-        message: Text::from_str(alloc, "Access denied")?,
-    };
-    written(alloc, &ServerPacket::Refuse(err))
+    refusal_payload(alloc, 1_045, *b"28000", "Access denied")
 }
 
 /// The ERR for a command without a reply.
 pub fn no_reply_payload(alloc: Global) -> Result<Blob, NoMemory>
     ensures { IfOk result (λ payload. payload ≡ refusal_payload no_reply) }
 {
-    let err = ErrPacket {
-        code: 1_064,
-        state: *b"42000",
-        message: Text::from_str(alloc, "no reply")?,
-    };
-    written(alloc, &ServerPacket::Refuse(err))
+    refusal_payload(alloc, 1_064, *b"42000", "no reply")
 }
 
 // SHA1(nonce, stored).

@@ -32,20 +32,25 @@ fn cell_of(alloc: Global, token: &str) -> Result<Option<Blob>, NoMemory> {
     }
 }
 
-fn cells_of(alloc: Global, text: &str) -> Result<Listed<Option<Blob>>, NoMemory> {
-    let mut cells = Listed::new(alloc);
+fn add_cells(alloc: Global, cells: &mut Listed<Option<Blob>>, text: &str) -> Result<(), NoMemory> {
     if let Some(count) = text.strip_prefix('@') {
         for _ in 0..number_of(count) {
             cells.push(cell_of(alloc, "1")?)?;
         }
-        return Ok(cells);
+        return Ok(());
     }
     if text.is_empty() {
-        return Ok(cells);
+        return Ok(());
     }
     for token in text.split(',') {
         cells.push(cell_of(alloc, token)?)?;
     }
+    Ok(())
+}
+
+fn cells_of(alloc: Global, text: &str) -> Result<Listed<Option<Blob>>, NoMemory> {
+    let mut cells = Listed::new(alloc);
+    add_cells(alloc, &mut cells, text)?;
     Ok(cells)
 }
 
@@ -67,6 +72,14 @@ fn set_of(alloc: Global, text: &str) -> Result<ServerSet, NoMemory> {
         rows.push(cells_of(alloc, row)?)?;
     }
     Ok(ServerSet { names, rows })
+}
+
+fn sets_of(alloc: Global, text: &str) -> Result<Listed<ServerSet>, NoMemory> {
+    let mut sets = Listed::new(alloc);
+    for set in text.split('|') {
+        sets.push(set_of(alloc, set)?)?;
+    }
+    Ok(sets)
 }
 
 /// An OK of one changed row.
@@ -93,19 +106,22 @@ pub fn answer_of(alloc: Global, text: &str) -> Result<ReplyAnswer, NoMemory> {
         }
         _ => {}
     }
-    let mut sets = Listed::new(alloc);
-    for set in text.split('|') {
-        sets.push(set_of(alloc, set)?)?;
-    }
-    Ok(ReplyAnswer::Sets(sets))
+    Ok(ReplyAnswer::Sets(sets_of(alloc, text)?))
 }
 
 /// A reply to queries of this text.
 pub fn reply_of(alloc: Global, text: &str, answer: &str) -> Result<Reply, NoMemory> {
-    Ok(Reply {
-        text: Blob::from_slice(alloc, text.as_bytes())?,
-        answer: answer_of(alloc, answer)?,
-    })
+    let text = Blob::from_slice(alloc, text.as_bytes())?;
+    let answer = answer_of(alloc, answer)?;
+    Ok(Reply { text, answer })
+}
+
+fn replies_of(alloc: Global, replies: &[(&str, &str)]) -> Result<Listed<Reply>, NoMemory> {
+    let mut list = Listed::new(alloc);
+    for (text, answer) in replies {
+        list.push(reply_of(alloc, text, answer)?)?;
+    }
+    Ok(list)
 }
 
 /// A script of version 8.0.36 and id 7, for the user `root`.
@@ -114,16 +130,15 @@ pub fn script_of(
     stored: Option<[u8; 20]>,
     replies: &[(&str, &str)],
 ) -> Result<ServerScript, NoMemory> {
-    let mut list = Listed::new(alloc);
-    for (text, answer) in replies {
-        list.push(reply_of(alloc, text, answer)?)?;
-    }
+    let version = Blob::from_slice(alloc, b"8.0.36")?;
+    let user = Blob::from_slice(alloc, b"root")?;
+    let replies = replies_of(alloc, replies)?;
     Ok(ServerScript {
-        version: Blob::from_slice(alloc, b"8.0.36")?,
+        version,
         id: 7,
         nonce: *b"abcdefghijklmnopqrst",
-        user: Blob::from_slice(alloc, b"root")?,
+        user,
         stored,
-        replies: list,
+        replies,
     })
 }

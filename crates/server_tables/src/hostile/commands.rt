@@ -1,7 +1,7 @@
 //! What is sent after a login.
 
 use crate::hostile::play::{
-    ADMITTED, LOGIN, OLD_LOGIN, bytes_of, expect_answer, greeted, number, serve,
+    ADMITTED, LOGIN, OLD_LOGIN, bytes_of, expect, expect_in_pieces, number,
 };
 use my_frame::FULL_LENGTH;
 use my_server::{CloseCause, ServerStep};
@@ -17,22 +17,6 @@ const NO_REPLY: &str = "11000001 ff2804 23 3432303030 6e6f207265706c79";
 const LATE_NO_REPLY: &str = "11000002 ff2804 23 3432303030 6e6f207265706c79";
 
 const QUIT: ServerStep = ServerStep::Closed(CloseCause::Quit);
-
-// To these bytes after this login the server answers these.
-fn expect(
-    rt: &impl Abort,
-    alloc: Global,
-    login: &str,
-    input: &str,
-    want: &str,
-    end: ServerStep,
-) -> Result<(), Fail> {
-    let mut bytes = bytes_of(alloc, login)?;
-    bytes.extend_from_slice(bytes_of(alloc, input)?.as_slice())?;
-    let mut answer = bytes_of(alloc, ADMITTED)?;
-    answer.extend_from_slice(bytes_of(alloc, want)?.as_slice())?;
-    expect_answer(rt, alloc, bytes.as_slice(), answer.as_slice(), end)
-}
 
 #[test]
 fn commands_are_answered(rt: HostRuntime) -> Result<(), Fail> {
@@ -70,7 +54,7 @@ fn commands_are_answered(rt: HostRuntime) -> Result<(), Fail> {
             ServerStep::Need,
         ),
     ] {
-        expect(&rt, alloc, LOGIN, *input, *want, *end)?;
+        expect(&rt, alloc, [LOGIN, *input], [ADMITTED, *want], *end)?;
     }
     Ok(())
 }
@@ -94,7 +78,13 @@ fn sets_end_by_eof(rt: HostRuntime) -> Result<(), Fail> {
         ),
         ("01000000 0e", OK),
     ] {
-        expect(&rt, alloc, OLD_LOGIN, *input, *want, ServerStep::Need)?;
+        expect(
+            &rt,
+            alloc,
+            [OLD_LOGIN, *input],
+            [ADMITTED, *want],
+            ServerStep::Need,
+        )?;
     }
     Ok(())
 }
@@ -107,37 +97,33 @@ fn fill(bytes: &mut Vec<u8>, count: usize) -> Result<(), AllocError> {
 }
 
 // A query of two packets, the second of `length` bytes with the sequence id `number`.
-fn long_query(alloc: Global, number: u8, length: u8) -> Result<Vec<u8>, AllocError> {
-    let mut bytes = Vec::from_slice(alloc, b"\xFF\xFF\xFF\x00\x03")?;
-    fill(&mut bytes, FULL_LENGTH - 1)?;
+fn add_query(bytes: &mut Vec<u8>, number: u8, length: u8) -> Result<(), AllocError> {
+    bytes.extend_from_slice(b"\xFF\xFF\xFF\x00\x03")?;
+    fill(bytes, FULL_LENGTH - 1)?;
     bytes.extend_from_slice(&[length, 0, 0, number])?;
-    fill(&mut bytes, usize::from(length))?;
-    Ok(bytes)
+    fill(bytes, usize::from(length))
 }
 
-// What a server that has admitted a client sends to these bytes, and its last step.
-fn answer(alloc: Global, input: &[u8], sent: &mut Vec<u8>) -> Result<ServerStep, Fail> {
-    let mut server = greeted(alloc)?;
-    let login = bytes_of(alloc, LOGIN)?;
-    let mut admitted = Vec::new(alloc);
-    serve(alloc, &mut server, login.as_slice(), 64, &mut admitted)?;
-    serve(alloc, &mut server, input, 65_536, sent)
+// To such a query after a login the server answers these bytes.
+fn expect_long(
+    rt: &impl Abort,
+    alloc: Global,
+    number: u8,
+    length: u8,
+    want: &str,
+    end: ServerStep,
+) -> Result<(), Fail> {
+    let mut input = bytes_of(alloc, [LOGIN, ""])?;
+    add_query(&mut input, number, length)?;
+    let want = bytes_of(alloc, [ADMITTED, want])?;
+    expect_in_pieces(rt, alloc, input.as_slice(), 65_536, want.as_slice(), end)
 }
 
 // Queries of 2^24 - 1 and of 2^24 bytes, and one whose second packet has a wrong sequence id.
 #[test]
 fn long_commands_are_answered(rt: HostRuntime) -> Result<(), Fail> {
     let alloc = rt.alloc();
-    for (second, length, want, end) in &[
-        (1, 0, LATE_NO_REPLY, ServerStep::Need),
-        (1, 1, LATE_NO_REPLY, ServerStep::Need),
-        (0, 1, "", number(1, 0)),
-    ] {
-        let query = long_query(alloc, *second, *length)?;
-        let mut sent = Vec::new(alloc);
-        let step = answer(alloc, query.as_slice(), &mut sent)?;
-        assert_eq!(rt; step, *end);
-        assert_eq!(rt; sent.as_slice(), bytes_of(alloc, *want)?.as_slice());
-    }
-    Ok(())
+    expect_long(&rt, alloc, 1, 0, LATE_NO_REPLY, ServerStep::Need)?;
+    expect_long(&rt, alloc, 1, 1, LATE_NO_REPLY, ServerStep::Need)?;
+    expect_long(&rt, alloc, 0, 1, "", number(1, 0))
 }

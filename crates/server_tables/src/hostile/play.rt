@@ -31,13 +31,25 @@ pub fn number(expected: u8, found: u8) -> ServerStep {
     ServerStep::Closed(CloseCause::Codec(CodecFault::OutOfOrder { expected, found }))
 }
 
-/// The bytes that hexadecimal digits spell; blanks are passed over.
-pub fn bytes_of(alloc: Global, text: &str) -> Result<Vec<u8>, Fail> {
-    let mut bytes = Vec::new(alloc);
-    for part in text.split(' ') {
-        let part = hex::decode(alloc, part)?;
-        bytes.extend_from_slice(part.as_slice())?;
+// The bytes of a word of hexadecimal digits are added.
+fn add_word(alloc: Global, bytes: &mut Vec<u8>, word: &str) -> Result<(), Fail> {
+    let word = hex::decode(alloc, word)?;
+    Ok(bytes.extend_from_slice(word.as_slice())?)
+}
+
+fn add_words(alloc: Global, bytes: &mut Vec<u8>, texts: [&str; 2]) -> Result<(), Fail> {
+    for text in texts {
+        for word in text.split(' ') {
+            add_word(alloc, bytes, word)?;
+        }
     }
+    Ok(())
+}
+
+/// The bytes that hexadecimal digits spell, of one text after the other; blanks are passed over.
+pub fn bytes_of(alloc: Global, texts: [&str; 2]) -> Result<Vec<u8>, Fail> {
+    let mut bytes = Vec::new(alloc);
+    add_words(alloc, &mut bytes, texts)?;
     Ok(bytes)
 }
 
@@ -81,7 +93,33 @@ pub fn serve(
     Ok(ServerStep::Need)
 }
 
-/// To these bytes a server answers these, and comes to this step.
+// What a server that is handed these bytes comes to, after its greeting.
+fn served(
+    alloc: Global,
+    input: &[u8],
+    most: usize,
+    sent: &mut Vec<u8>,
+) -> Result<ServerStep, Fail> {
+    let mut server = greeted(alloc)?;
+    serve(alloc, &mut server, input, most, sent)
+}
+
+/// To these bytes, at most `most` at a time, a server answers these, and comes to this step.
+pub fn expect_in_pieces(
+    rt: &impl Abort,
+    alloc: Global,
+    input: &[u8],
+    most: usize,
+    want: &[u8],
+    end: ServerStep,
+) -> Result<(), Fail> {
+    let mut sent = Vec::new(alloc);
+    let step = served(alloc, input, most, &mut sent)?;
+    assert!(rt; step == end && sent.as_slice() == want, "{step:?} {sent:?}");
+    Ok(())
+}
+
+/// To these bytes, one at a time and all at once, a server answers these, and comes to this step.
 pub fn expect_answer(
     rt: &impl Abort,
     alloc: Global,
@@ -90,11 +128,20 @@ pub fn expect_answer(
     end: ServerStep,
 ) -> Result<(), Fail> {
     for most in PIECES {
-        let mut server = greeted(alloc)?;
-        let mut sent = Vec::new(alloc);
-        let step = serve(alloc, &mut server, input, most, &mut sent)?;
-        assert_eq!(rt; sent.as_slice(), want);
-        assert_eq!(rt; step, end);
+        expect_in_pieces(rt, alloc, input, most, want, end)?;
     }
     Ok(())
+}
+
+/// The same of bytes that texts spell.
+pub fn expect(
+    rt: &impl Abort,
+    alloc: Global,
+    input: [&str; 2],
+    want: [&str; 2],
+    end: ServerStep,
+) -> Result<(), Fail> {
+    let input = bytes_of(alloc, input)?;
+    let want = bytes_of(alloc, want)?;
+    expect_answer(rt, alloc, input.as_slice(), want.as_slice(), end)
 }

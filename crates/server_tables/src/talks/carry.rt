@@ -16,14 +16,19 @@ use std::alloc::Global;
 /// How many bytes are handed over at a time: one, or all that are owed.
 pub const PIECES: [usize; 2] = [1, usize::MAX];
 
+fn blob_of(alloc: Global, text: Option<&str>) -> Result<Option<Blob>, NoMemory> {
+    match text {
+        Some(text) => Ok(Some(Blob::from_slice(alloc, text.as_bytes())?)),
+        None => Ok(None),
+    }
+}
+
 /// What a client sends of itself, with long payloads, and with no queries after the login.
 pub fn login_of(alloc: Global, user: &str, password: Option<&str>) -> Result<Login, NoMemory> {
-    let password = match password {
-        Some(text) => Some(Blob::from_slice(alloc, text.as_bytes())?),
-        None => None,
-    };
+    let user = Blob::from_slice(alloc, user.as_bytes())?;
+    let password = blob_of(alloc, password)?;
     Ok(Login {
-        user: Some(Blob::from_slice(alloc, user.as_bytes())?),
+        user: Some(user),
         password,
         database: None,
         max_packet: 4_194_304,

@@ -4,7 +4,6 @@ use crate::notation::script_of;
 use crate::talks::carry::{PIECES, login_of};
 use crate::talks::visit::talk;
 use std::alloc::{AllocError, Global};
-use std::fmt::Write;
 use std::process::Abort;
 use std::test::Fail;
 
@@ -24,15 +23,14 @@ fn expect_outcome(rt: &impl Abort, alloc: Global, answer: &str, want: &str) -> R
     for most in PIECES {
         let text = outcome(alloc, answer, most)?;
         let second = text.as_str().strip_prefix(FIRST).unwrap_or("");
-        assert_eq!(rt; second, want, "{answer}");
+        assert!(rt; second == want, "{answer}: {text}");
     }
     Ok(())
 }
 
 // The answer's sets are read as they are written.
 fn expect_sets(rt: &impl Abort, alloc: Global, answer: &str) -> Result<(), Fail> {
-    let mut want = String::new(alloc);
-    write!(want, "{answer}|0 0 0 2 {LAST}")?;
+    let want = format!(in alloc; "{answer}|0 0 0 2 {LAST}")?;
     expect_outcome(rt, alloc, answer, want.as_str())
 }
 
@@ -74,20 +72,25 @@ fn answers_are_read(rt: HostRuntime) -> Result<(), Fail> {
     Ok(())
 }
 
+// A set of 300 rows and one of 300 columns.
+fn expect_tall(rt: &impl Abort, alloc: Global) -> Result<(), Fail> {
+    let tall = repeated(alloc, "n", "/1", 300)?;
+    expect_sets(rt, alloc, tall.as_str())
+}
+
+fn expect_wide(rt: &impl Abort, alloc: Global) -> Result<(), Fail> {
+    let names = repeated(alloc, "a", ",b", 299)?;
+    let wide = format!(in alloc; "{names}/{names}")?;
+    expect_sets(rt, alloc, wide.as_str())
+}
+
 // Sequence ids go on after 255 from 0, and a payload of 2^24 bytes has two packets.
 #[test]
 fn ample_sets_are_read(rt: HostRuntime) -> Result<(), Fail> {
     let alloc = rt.alloc();
-    let tall = repeated(alloc, "n", "/1", 300)?;
-    expect_sets(&rt, alloc, tall.as_str())?;
-    let names = repeated(alloc, "a", ",b", 299)?;
-    let mut wide = String::new(alloc);
-    write!(wide, "{names}/{names}")?;
-    expect_sets(&rt, alloc, wide.as_str())?;
+    expect_tall(&rt, alloc)?;
+    expect_wide(&rt, alloc)?;
     let text = outcome(alloc, "n/#16777216/1", usize::MAX)?;
-    assert_eq!(rt;
-        text.as_str(),
-        "n/2|0 0 0 2 n/#16777216/1|0 0 0 2 Closed(Quit)"
-    );
+    assert!(rt; text.as_str() == "n/2|0 0 0 2 n/#16777216/1|0 0 0 2 Closed(Quit)");
     Ok(())
 }

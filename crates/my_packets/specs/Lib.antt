@@ -1,0 +1,4 @@
+pub mod Buffers
+pub mod Rows
+pub mod Reading
+pub mod Writing

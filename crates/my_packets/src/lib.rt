@@ -1,0 +1,14 @@
+//! Packets over a bare link, and buffers that are used again.
+#![tactic(auto)]
+
+mod buffers;
+mod poll;
+mod read;
+#[cfg(test)]
+mod tests;
+mod write;
+
+pub use buffers::{BufferPool, PooledBuf};
+pub use poll::Poll;
+pub use read::ReadPacket;
+pub use write::WritePacket;

@@ -1,0 +1,5 @@
+pub mod Ending
+pub mod Doing
+pub mod Rows
+pub mod EachPoll
+pub mod Whole

@@ -1,0 +1,47 @@
+-- What the program does to the walk of a connection.
+use Rattle.std.specs.Prelude.{◌≡◌, ℕ, Bool, true}
+use Rattle.std.specs.Bool.{Decides}
+use Rattle.my_grammar.specs.declared.login.Login.{Login}
+use Rattle.my_reading.specs.Place.{Place, first_place}
+use Rattle.my_judge.specs.Reads.{ReadsCall}
+use Rattle.my_judge.specs.Stands.{IsAt}
+use Rattle.my_script.specs.declared.transcript.Tape.{Tape}
+use Rattle.my_script.specs.declared.transcript.TapeCall.{TapeCall}
+use Rattle.my_run_judge.specs.declared.walk.Walker.{Walker}
+use Rattle.my_run_judge.specs.Lines.{IsOver}
+use Rattle.my_run_judge.specs.Walks.{Walk, read_at, start}
+
+-- the program's walk, where its reading is at this place
+abbrev pub walk_of : Place → Walker → Walk
+walk_of p c = record { spot = c.spot; closed = c.reader.closed; place = p }
+
+-- The program is there in the walk.
+pub record IsAtWalk (login : Login) (w : Walk) (c : Walker) : Type 0 where
+  pub at : IsAt login w.place c.reader.stand
+  pub walk_is : walk_of w.place c ≡ w
+
+-- the reading is at a place
+abbrev pub IsSomewhere : Login → Walker → Type 0
+IsSomewhere login c = (p : Place) × IsAt login p c.reader.stand
+
+-- The program knows whether this is right, and does it if it is.
+pub record Done (login : Login) (R : Walk → Type 0) (f : Walk → Walk) (w : Walk) (right : Bool) (new : Walker) : Type 0 where
+  pub right_is : Decides right (R w)
+  pub after : right ≡ true → IsAtWalk login (f w) new
+
+abbrev pub Does : Login → (Walk → Type 0) → (Walk → Walk) → Walker → Bool → Walker → Type 0
+Does login R f old right new = (p : Place) → IsAt login p old.reader.stand → Done login R f (walk_of p old) right new
+
+-- The call that was read is right or not, and the reading is after it.
+abbrev pub IsReadCall : Login → Tape → Bool → Walker → TapeCall → Bool → Walker → Type 0
+IsReadCall login t cancelled old c right new = (p : Place) → IsAt login p old.reader.stand
+    → ReadsCall login (read_at login t cancelled (walk_of p old) c) right new.reader
+
+-- before the first line
+pub record IsStart (login : Login) (n : ℕ) (c : Walker) : Type 0 where
+  pub at : IsAt login (first_place login) c.reader.stand
+  pub walk_is : walk_of (first_place login) c ≡ start login n
+
+-- the program knows whether the tape is used up
+abbrev pub IsOverAt : Login → Tape → Walker → Bool → Type 0
+IsOverAt login t c over = (p : Place) → IsAt login p c.reader.stand → Decides over (IsOver login t (walk_of p c) c.spot.status)

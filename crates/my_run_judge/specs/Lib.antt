@@ -1,0 +1,4 @@
+pub mod Walks
+pub mod Lines
+pub mod Does
+pub mod Verdicts

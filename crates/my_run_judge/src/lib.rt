@@ -1,0 +1,10 @@
+//! Whether a transcript is right: the plain program of what the theorem on runs says of its answers and its tapes.
+#![tactic(auto)]
+
+mod judging;
+mod line;
+mod polling;
+mod shown;
+mod walk;
+
+pub use judging::{Found, judge_connection};

@@ -1,0 +1,179 @@
+//! The polls of a line.
+
+ghost use Rattle.std.specs.Prelude.{◌≡◌, IfOk, Some, false};
+ghost use Rattle.std.specs.Bool.{Decides};
+ghost use Rattle.std.specs.Option.{option_copied};
+ghost use Rattle.my_handshake.specs.Version.{version_of};
+ghost use Rattle.my_run_judge.specs.Does.{Does, IsSomewhere};
+ghost use Rattle.my_run_judge.specs.Lines.{
+  Fits,
+  IsBegun,
+  IsToldBy,
+  LastPoll,
+  LastRight,
+  RowPoll,
+  after_last_poll,
+  after_row_poll,
+  calls_before,
+  first_of,
+};
+ghost use Rattle.my_run_judge.specs.Walks.{Walk, ended};
+
+use crate::shown::{is_next, is_pending, is_shown_at};
+use crate::walk::{Spot, Walker, call_after};
+use my_acts::Status;
+use my_frame::NoMemory;
+use my_grammar::Login;
+use my_handshake::{ServerVersion, server_version};
+use my_reading::{Call, Facts};
+use my_reply::OkPacket;
+use my_script::{Outcome, Tape, TapeCall, Use};
+use std::alloc::Global;
+
+// The calls from a first one to the one in turn.
+fn calls_before(tape: &Tape, first: usize, next: usize) -> &[TapeCall]
+    ensures { result.now ≡ calls_before tape.now first next }
+{
+    let calls = tape.calls.as_slice();
+    let (_, rest) = calls.split_at(first.min(calls.len()));
+    let (front, _) = rest.split_at(next.saturating_sub(first).min(rest.len()));
+    front
+}
+
+/// The calls of a gathering stand from this one on.
+pub fn first_of(status: Status, next: usize) -> usize
+    ensures { result ≡ first_of status next }
+{
+    match status {
+        Status::Gathers(first) => first,
+        _ => next,
+    }
+}
+
+fn is_next_row(call: Option<&TapeCall>) -> bool
+    ensures { Decides result (IsBegun (Some Call.NextRow) (option_copied call.entry)) }
+{
+    match call {
+        Some(call) => is_next(&call.call),
+        None => false,
+    }
+}
+
+// Whether the poll is one of this connection, and took bytes of the tape.
+fn fits(number: u64, tape: &Tape, spot: Spot, used: &Use) -> bool
+    ensures { Decides result (Fits number tape.now spot used.now) }
+{
+    let len = tape.taken.len();
+    used.number == number && spot.taken <= len && used.met.taken as usize <= len - spot.taken
+}
+
+fn is_same_version(a: &ServerVersion, b: &ServerVersion) -> bool
+    ensures { Decides result (a.now ≡ b.now) }
+{
+    a == b
+}
+
+fn is_version(version: &ServerVersion, text: &[u8]) -> bool
+    ensures { Decides result (version.now ≡ version_of text.now) }
+{
+    let found = server_version(text);
+    let same = is_same_version(version, &found);
+    same
+}
+
+fn is_greeted(facts: &Facts, id: u32, version: &ServerVersion) -> bool
+    ensures { let text = facts.now.version in
+        Decides result ((id ≡ facts.now.connection) × (version.now ≡ version_of text)) }
+{
+    id == facts.connection && is_version(version, facts.version.as_slice())
+}
+
+fn is_last_ok(facts: &Facts, ok: &Option<OkPacket>) -> bool
+    ensures { Decides result (ok.now ≡ facts.now.ok) }
+{
+    *ok == facts.ok
+}
+
+/// Whether the line tells what the server said.
+pub fn is_told_by(facts: &Facts, outcome: &Outcome) -> bool
+    ensures { Decides result (IsToldBy facts.now outcome.now) }
+{
+    match outcome {
+        Outcome::Fields(ok) => is_last_ok(facts, ok),
+        Outcome::Connected(_, id, version) => is_greeted(facts, *id, version),
+        _ => true,
+    }
+}
+
+impl Walker {
+    // The call in turn ends as the line shows.
+    fn end_shown(
+        &mut self,
+        alloc: Global,
+        login: &Login,
+        tape: &Tape,
+        outcome: &Outcome,
+        first: usize,
+    ) -> Result<bool, NoMemory>
+        requires { IsSomewhere login.now self.old }
+        ensures { let there = λ (w : Walk). LastRight login.now tape.now outcome.now first w false in
+            let after = ended login.now tape.now false in
+            IfOk result (λ right. Does login.now there after self.old right self.new) }
+    {
+        let call = tape.calls.get(self.spot.next);
+        if !is_shown_at(outcome, call, calls_before(tape, first, self.spot.next)) {
+            return Ok(false);
+        }
+        self.end_call(alloc, login, tape, false)
+    }
+
+    /// The last poll of a line.
+    pub fn poll_last(
+        &mut self,
+        alloc: Global,
+        login: &Login,
+        number: u64,
+        tape: &Tape,
+        outcome: &Outcome,
+        first: usize,
+        used: &Use,
+    ) -> Result<bool, NoMemory>
+        requires { IsSomewhere login.now self.old }
+        ensures { let there = LastPoll login.now number tape.now outcome.now first used.now in
+            let after = after_last_poll login.now tape.now outcome.now used.now in
+            IfOk result (λ right. Does login.now there after self.old right self.new) }
+    {
+        if !fits(number, tape, self.spot, used) {
+            return Ok(false);
+        }
+        self.spot.taken += used.met.taken as usize;
+        if is_pending(outcome) {
+            return Ok(true);
+        }
+        self.end_shown(alloc, login, tape, outcome, first)
+    }
+
+    /// An earlier poll of a line: its call ends, and the next row is asked for.
+    pub fn poll_row(
+        &mut self,
+        alloc: Global,
+        login: &Login,
+        number: u64,
+        tape: &Tape,
+        used: &Use,
+    ) -> Result<bool, NoMemory>
+        requires { IsSomewhere login.now self.old }
+        ensures { let there = RowPoll login.now number tape.now used.now in
+            let after = after_row_poll login.now tape.now used.now in
+            IfOk result (λ right. Does login.now there after self.old right self.new) }
+    {
+        if !fits(number, tape, self.spot, used) {
+            return Ok(false);
+        }
+        self.spot.taken += used.met.taken as usize;
+        if !is_next_row(call_after(tape, self.spot.next)) {
+            return Ok(false);
+        }
+        self.end_call(alloc, login, tape, false)
+    }
+}

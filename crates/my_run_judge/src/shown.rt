@@ -1,0 +1,223 @@
+//! What a line shows of calls, and what the tape says of them.
+
+ghost use Rattle.std.specs.Prelude.{◌≡◌, Err, Ok, Some};
+ghost use Rattle.std.specs.Bool.{Decides};
+ghost use Rattle.std.specs.Option.{option_copied};
+ghost use Rattle.my_acts.specs.Acts.{begun_by};
+ghost use Rattle.my_run_judge.specs.Lines.{
+  AreRows,
+  IsBegun,
+  IsCallOf,
+  IsGathered,
+  IsShown,
+  IsShownAt,
+  is_pending,
+  is_unanswered,
+};
+
+use my_frame::Blob;
+use my_judge::is_same_row;
+use my_reading::{Answer, Call, Error};
+use my_script::{Outcome, Step, TapeCall};
+use my_value::Row;
+
+fn is_query(text: &Blob, call: &Call) -> bool
+    ensures { Decides result (call.now ≡ Call.Query text.now) }
+{
+    match call {
+        Call::Query(other) => other == text,
+        _ => false,
+    }
+}
+
+fn is_connect(call: &Call) -> bool
+    ensures { Decides result (call.now ≡ Call.Connect) }
+{
+    match call {
+        Call::Connect => true,
+        _ => false,
+    }
+}
+
+/// Whether the call asks for the next row.
+pub fn is_next(call: &Call) -> bool
+    ensures { Decides result (call.now ≡ Call.NextRow) }
+{
+    match call {
+        Call::NextRow => true,
+        _ => false,
+    }
+}
+
+fn is_drop(call: &Call) -> bool
+    ensures { Decides result (call.now ≡ Call.DropResult) }
+{
+    match call {
+        Call::DropResult => true,
+        _ => false,
+    }
+}
+
+fn is_ping(call: &Call) -> bool
+    ensures { Decides result (call.now ≡ Call.Ping) }
+{
+    match call {
+        Call::Ping => true,
+        _ => false,
+    }
+}
+
+fn is_quit(call: &Call) -> bool
+    ensures { Decides result (call.now ≡ Call.Quit) }
+{
+    match call {
+        Call::Quit => true,
+        _ => false,
+    }
+}
+
+// Whether the step begins this call.
+fn begins(step: &Step, call: &Call) -> bool
+    ensures { Decides result (IsCallOf (begun_by step.now) call.now) }
+{
+    match step {
+        Step::Conn => is_connect(call),
+        Step::Query(_, text) => is_query(text, call),
+        Step::Next(_) | Step::Collect(_) => is_next(call),
+        Step::Drop(_) => is_drop(call),
+        Step::Ping(_) => is_ping(call),
+        Step::Quit(_) => is_quit(call),
+        Step::Fields(_) | Step::Poll(_) | Step::Cancel(_) => true,
+    }
+}
+
+/// Whether the call in turn is the one that the step begins, if it begins one.
+pub fn is_begun(step: &Step, call: Option<&TapeCall>) -> bool
+    ensures { Decides result (IsBegun (begun_by step.now) (option_copied call.entry)) }
+{
+    match call {
+        Some(call) => begins(step, &call.call),
+        None => match step {
+            Step::Fields(_) | Step::Poll(_) | Step::Cancel(_) => true,
+            _ => false,
+        },
+    }
+}
+
+// Whether the call returned this row.
+fn is_row(row: &Row, answer: &Option<Result<Answer, Error>>) -> bool
+    ensures { Decides result (answer.now ≡ Some (Ok (Answer.Row row.now))) }
+{
+    match answer {
+        Some(Ok(Answer::Row(other))) => is_same_row(other, row),
+        _ => false,
+    }
+}
+
+fn are_rows(rows: &[Row], calls: &[TapeCall]) -> bool
+    ensures { Decides result (AreRows rows.now calls.now) }
+{
+    let mut left = rows;
+    let mut others = calls;
+    'rows: while let Some((row, later_rows)) = left.split_first() {
+        let Some((call, later_calls)) = others.split_first() else {
+            return false;
+        };
+        if !is_row(row, &call.answer) {
+            return false;
+        }
+        left = later_rows;
+        others = later_calls;
+    }
+    others.is_empty()
+}
+
+fn is_ready(answer: &Option<Result<Answer, Error>>) -> bool
+    ensures { Decides result (answer.now ≡ Some (Ok Answer.Ready)) }
+{
+    match answer {
+        Some(Ok(Answer::Ready)) => true,
+        _ => false,
+    }
+}
+
+fn is_set_end(answer: &Option<Result<Answer, Error>>) -> bool
+    ensures { Decides result (answer.now ≡ Some (Ok Answer.SetEnd)) }
+{
+    match answer {
+        Some(Ok(Answer::SetEnd)) => true,
+        _ => false,
+    }
+}
+
+fn is_no_set(answer: &Option<Result<Answer, Error>>) -> bool
+    ensures { Decides result (answer.now ≡ Some (Ok Answer.NoSet)) }
+{
+    match answer {
+        Some(Ok(Answer::NoSet)) => true,
+        _ => false,
+    }
+}
+
+fn is_error(error: &Error, answer: &Option<Result<Answer, Error>>) -> bool
+    ensures { Decides result (answer.now ≡ Some (Err error.now)) }
+{
+    match answer {
+        Some(Err(other)) => other == error,
+        _ => false,
+    }
+}
+
+fn is_gathered(rows: &[Row], answer: &Option<Result<Answer, Error>>, before: &[TapeCall]) -> bool
+    ensures { Decides result (IsGathered rows.now answer.now before.now) }
+{
+    if is_set_end(answer) || is_no_set(answer) {
+        are_rows(rows, before)
+    } else {
+        false
+    }
+}
+
+fn is_shown(outcome: &Outcome, answer: &Option<Result<Answer, Error>>, before: &[TapeCall]) -> bool
+    ensures { Decides result (IsShown outcome.now answer.now before.now) }
+{
+    match outcome {
+        Outcome::Done | Outcome::Connected(_, _, _) => is_ready(answer),
+        Outcome::SetEnd => is_set_end(answer),
+        Outcome::NoSet => is_no_set(answer),
+        Outcome::Row(row) => is_row(row, answer),
+        Outcome::Rows(rows) => is_gathered(rows.as_slice(), answer, before),
+        Outcome::Failed(error) => is_error(error, answer),
+        Outcome::Pending | Outcome::Fields(_) | Outcome::NoSuchHandle => false,
+    }
+}
+
+/// Whether the line shows how the call in turn ended; these are the calls of its gathering before it.
+pub fn is_shown_at(outcome: &Outcome, call: Option<&TapeCall>, before: &[TapeCall]) -> bool
+    ensures { Decides result (IsShownAt outcome.now (option_copied call.entry) before.now) }
+{
+    match call {
+        Some(call) => is_shown(outcome, &call.answer, before),
+        None => false,
+    }
+}
+
+/// Whether the call in turn is open.
+pub fn is_unanswered(call: Option<&TapeCall>) -> bool
+    ensures { Decides result (is_unanswered (option_copied call.entry)) }
+{
+    match call {
+        Some(call) => call.answer.is_none(),
+        None => false,
+    }
+}
+
+/// Whether the call that was polled last is open.
+pub fn is_pending(outcome: &Outcome) -> bool
+    ensures { result ≡ is_pending outcome.now }
+{
+    match outcome {
+        Outcome::Pending => true,
+        _ => false,
+    }
+}
