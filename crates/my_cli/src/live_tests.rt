@@ -45,7 +45,7 @@ fn a_row_over_tcp(rt: HostRuntime) -> Result<(), Fail> {
         &mut planned,
         &mut MemWorld::new(rt.alloc()),
     );
-    let sent = transcript.tapes[0].taken.as_slice();
+    let sent = transcript.tapes.first().ok_or("no tape")?.taken.as_slice();
     assert!(rt; sent.len() > GREETING_LEN + OK_LEN);
     let (greeting, rest) = sent.split_at(GREETING_LEN);
     let (ok, response) = rest.split_at(OK_LEN);
