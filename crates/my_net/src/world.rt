@@ -17,6 +17,8 @@ use std::rt::Clock;
 #[derive(Drop)]
 pub struct TcpWorld<R> {
     rt: R,
+    // Whether lines of a plan are handed to it: not to one that `new` makes. They would change nothing.
+    plans: bool,
     faults: u64,
     moment: u64,
 }
@@ -24,10 +26,12 @@ pub struct TcpWorld<R> {
 impl<R> TcpWorld<R> {
     /// A world over this system.
     pub fn new(rt: R) -> TcpWorld<R>
-        ensures { result.faults ≡ 0 }
+        ensures faults { result.faults ≡ 0 }
+        ensures plans { result.plans ≡ false }
     {
         TcpWorld {
             rt,
+            plans: false,
             faults: 0,
             moment: 0,
         }
@@ -76,17 +80,18 @@ impl<R: Net<Stream = TcpStream> + Clock + RandomSource> World for TcpWorld<R> {
     type L = RealLink;
 
     ghost seen = { λ w. record {
-      takes = false;
+      takes = w.plans;
       plans = nothing_told;
       dials = record { faults = w.faults; holds = 0 };
     } };
 
     fn plans(&self) -> bool {
-        false
+        self.plans
     }
 
+    // What a link does isn't planned here.
     fn prepare(&mut self, _line: &WorldLine) -> Result<(), NoMemory> {
-        unreachable!()
+        Ok(())
     }
 
     fn dial(&mut self, _number: u64, target: &Target) -> DialStep<RealLink> {
