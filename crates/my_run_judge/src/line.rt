@@ -113,7 +113,8 @@ impl Walker {
         uses: &[Use],
     ) -> Result<bool, NoMemory>
         requires { IsSomewhere login.now self.old }
-        ensures { let there = λ (w : Walk). PollsRight login.now number tape.now w (begun_by step.now) outcome.now uses.now in
+        ensures { let begun = begun_by step.now in
+            let there = λ (w : Walk). PollsRight login.now number tape.now w begun outcome.now uses.now in
             let after = after_polls login.now tape.now outcome.now uses.now in
             IfOk result (λ right. Does login.now there after self.old right self.new) }
     {
