@@ -34,30 +34,18 @@ after_hold (items.End ∷ more) = None
 
 -- what is left after a read that fails, where one may
 abbrev pub after_fault : List ReadItem → Option (List ReadItem)
-after_fault [] = None
-after_fault (items.Bytes bytes ∷ more) = None
-after_fault (items.Turn ∷ more) = None
-after_fault (items.Wait ∷ more) = None
 after_fault (items.Fail ∷ more) = Some more
-after_fault (items.End ∷ more) = None
+after_fault is = None
 
 -- what is left after a read that returns the end, where one may
 abbrev pub after_end : List ReadItem → Option (List ReadItem)
-after_end [] = None
-after_end (items.Bytes bytes ∷ more) = None
-after_end (items.Turn ∷ more) = None
-after_end (items.Wait ∷ more) = None
-after_end (items.Fail ∷ more) = None
 after_end (items.End ∷ more) = Some (items.End ∷ more)
+after_end is = None
 
 -- a write that took a byte meets a turn that is first
 abbrev pub after_write : List ReadItem → List ReadItem
-after_write [] = []
-after_write (items.Bytes bytes ∷ more) = items.Bytes bytes ∷ more
 after_write (items.Turn ∷ more) = more
-after_write (items.Wait ∷ more) = items.Wait ∷ more
-after_write (items.Fail ∷ more) = items.Fail ∷ more
-after_write (items.End ∷ more) = items.End ∷ more
+after_write is = is
 
 -- how many of `len` bytes a write takes, where it takes any
 abbrev pub taken_of : ℕ → List WriteItem → Option ℕ
@@ -79,14 +67,10 @@ after_taken n (puts.Fail ∷ more) = puts.Fail ∷ more
 
 -- what is left after a write that isn't ready, where one may
 abbrev pub after_write_hold : List WriteItem → Option (List WriteItem)
-after_write_hold [] = None
-after_write_hold (puts.Accept n ∷ more) = None
 after_write_hold (puts.Wait ∷ more) = Some more
-after_write_hold (puts.Fail ∷ more) = None
+after_write_hold is = None
 
 -- what is left after a write that fails, where one may
 abbrev pub after_write_fault : List WriteItem → Option (List WriteItem)
-after_write_fault [] = None
-after_write_fault (puts.Accept n ∷ more) = None
-after_write_fault (puts.Wait ∷ more) = None
 after_write_fault (puts.Fail ∷ more) = Some more
+after_write_fault is = None
