@@ -1,9 +1,9 @@
 //! A list of events as lines: the word of an event with its numbers, or a word for what is seen of the pool; and after
 //! " = " what it returns, or what is seen.
 
-use crate::seen::Lists;
 use my_pool_core::{Core, Facts, Limits, PoolEvent};
-use std::alloc::{AllocError, Global};
+use std::alloc::Global;
+use std::fmt::Write;
 use std::process::Abort;
 use std::test::Fail;
 
@@ -20,7 +20,7 @@ pub fn limits(min: u64, max: u64, waiting: Option<u64>) -> Limits {
 
 /// What a line says after its word: numbers, of which missing ones are 0, what is known of a connection, and whether it
 /// went well.
-#[derive(Drop)]
+#[derive(Clone, Copy)]
 struct Words {
     numbers: [u64; 2],
     facts: Facts,
@@ -107,53 +107,52 @@ fn event_of(word: &str, words: &Words) -> Option<PoolEvent> {
     })
 }
 
-/// The ages of the requests that wait, and of those that were woken.
-fn queue(alloc: Global, lists: &Lists) -> Result<String, AllocError> {
-    let mut waiting = Vec::new(alloc);
-    let mut woken = Vec::new(alloc);
-    for request in &lists.requests {
-        if request.is_waiting() {
-            waiting.push(request.age)?;
-        }
-        if request.is_woken() {
-            woken.push(request.age)?;
-        }
-    }
-    format!(in alloc; "{waiting:?} {woken:?}")
-}
-
-/// What is seen of a pool.
-fn seen(alloc: Global, core: &Core, lists: &Lists, word: &str) -> Result<String, AllocError> {
+/// What is seen of a pool, written at the end of a text.
+fn see(core: &Core, word: &str, number: u64, out: &mut String) -> Result<(), Fail> {
     match word {
-        "counted" => format!(in alloc; "{}", lists.connections.len()),
-        "places" => format!(in alloc; "{:?}", lists.connections),
-        "oldest" => format!(in alloc; "{:?}", core.oldest_waiting()),
-        "live" => format!(in alloc; "{}", lists.requests.len()),
-        "metrics" => format!(in alloc; "{:?}", core.metrics()),
-        _ => queue(alloc, lists),
+        "counted" => write!(out, "{}", core.metrics().connection_count)?,
+        "at" => write!(out, "{:?}", core.connection(number))?,
+        "request" => write!(out, "{:?}", core.live_request(number))?,
+        "oldest" => write!(out, "{:?}", core.oldest_waiting())?,
+        _ => write!(out, "{:?}", core.metrics())?,
     }
+    Ok(())
 }
 
-/// What an event returns, or what is seen.
-fn told(alloc: Global, core: &mut Core, line: &str) -> Result<String, Fail> {
+/// What an event returns, or what is seen, written at the end of a text.
+fn tell(core: &mut Core, line: &str, out: &mut String) -> Result<(), Fail> {
     let (word, rest) = line.split_once(' ').unwrap_or((line, ""));
-    let Some(event) = event_of(word, &words_of(rest)?) else {
-        let lists = Lists::of(alloc, core)?;
-        return Ok(seen(alloc, core, &lists, word)?);
+    let words = words_of(rest)?;
+    let Some(event) = event_of(word, &words) else {
+        return see(core, word, words.numbers[0], out);
     };
     if !core.may(&event) {
-        return Ok(String::from_str(alloc, "not now")?);
+        out.push_str("not now")?;
+        return Ok(());
     }
     let answer = core.apply(event)?;
-    Ok(format!(in alloc; "{answer:?}")?)
+    write!(out, "{answer:?}")?;
+    Ok(())
+}
+
+/// Each line is as it says; the text is used for each.
+fn play_with(
+    rt: &impl Abort,
+    core: &mut Core,
+    script: &str,
+    told: &mut String,
+) -> Result<(), Fail> {
+    for line in script.lines() {
+        let (left, want) = line.split_once(" = ").ok_or("no answer")?;
+        told.clear();
+        tell(core, left, told)?;
+        assert_eq!(rt; told.as_str(), want, "{line}");
+    }
+    Ok(())
 }
 
 /// Each line is as it says.
 pub fn play(rt: &impl Abort, alloc: Global, core: &mut Core, script: &str) -> Result<(), Fail> {
-    for line in script.lines() {
-        let (left, want) = line.split_once(" = ").ok_or("no answer")?;
-        let told = told(alloc, core, left)?;
-        assert_eq!(rt; told.as_str(), want, "{line}");
-    }
-    Ok(())
+    let mut told = String::new(alloc);
+    play_with(rt, core, script, &mut told)
 }

@@ -3,10 +3,12 @@
 use crate::scanned::scanned;
 use crate::seed::{Dice, some_event};
 use crate::seen::{Lists, calls_agree};
-use crate::sound::{Next, connections_are_sound, end_is_sound, is_covered, requests_are_sound};
+use crate::sound::{Shown, connections_are_sound, end_is_sound, is_covered, requests_are_sound};
 use crate::tally::{NAMES, Tally, name_of};
+use my_frame::NoMemory;
 use my_opts_parts::{Millis, PoolConstraints, PoolOpts};
-use my_pool_core::{Answer, Core, Limits, PollAnswer, PoolEvent};
+use my_pool_core::{Core, Limits, PoolEvent};
+use my_pool_parts::Request;
 use std::alloc::Global;
 use std::process::Abort;
 use std::test::Fail;
@@ -41,54 +43,118 @@ fn first_number(round: u64) -> u64 {
     }
 }
 
-/// Holds what an event's answer shows of the next age and the next number.
-fn follow(next: &mut Next, answer: Answer) {
-    match answer {
-        Answer::Age(age) => {
-            if age != u64::MAX {
-                next.age = age.saturating_add(1);
+/// A pool that events happen to, with what is known of it beside it.
+#[derive(Drop)]
+struct Played {
+    core: Core,
+    limits: Limits,
+    /// The events that happened.
+    events: Vec<PoolEvent>,
+    /// Its live requests, as a list that is scanned.
+    plain: Vec<Request>,
+    lists: Lists,
+    shown: Shown,
+}
+
+impl Played {
+    /// Whether the pool is as it should be.
+    fn is_right(&self) -> bool {
+        let (lists, shown) = (&self.lists, &self.shown);
+        connections_are_sound(lists, self.limits, shown)
+            && requests_are_sound(&self.core, lists, shown)
+            && end_is_sound(&self.core, lists, shown)
+            && is_covered(&self.core, lists, self.limits.max)
+            && calls_agree(&self.core, lists)
+            && lists.requests == self.plain
+    }
+
+    /// An event happens, where it may.
+    fn happen(
+        &mut self,
+        rt: &impl Abort,
+        alloc: Global,
+        event: PoolEvent,
+        tally: &mut Tally,
+    ) -> Result<(), Fail> {
+        if !self.core.may(&event) {
+            return Ok(());
+        }
+        let answer = self.core.apply(event)?;
+        self.events.push(event)?;
+        tally.count(name_of(event, answer))?;
+        scanned(&mut self.plain, event, answer)?;
+        self.lists = Lists::of(alloc, &self.core)?;
+        let empty = self.core.is_closed() && self.lists.connections.is_empty();
+        self.shown.follow(answer, empty);
+        assert!(rt; self.is_right(), "{event:?}");
+        Ok(())
+    }
+
+    /// Events from a seed happen.
+    fn play(
+        &mut self,
+        rt: &impl Abort,
+        alloc: Global,
+        seed: u64,
+        tally: &mut Tally,
+    ) -> Result<(), Fail> {
+        let mut dice = Dice::new(seed);
+        for turn in 0..4000u64 {
+            let count = self.events.len();
+            let closes = count > EVENTS / 4 * 3;
+            if count < EVENTS
+                && let Some(event) = some_event(&self.lists, &mut dice, turn / 8, closes)
+            {
+                self.happen(rt, alloc, event, tally)?;
             }
         }
-        Answer::Poll(PollAnswer::Dial(number)) => next.number = number.saturating_add(1),
-        _ => {}
+        assert_eq!(rt; self.events.len(), EVENTS, "{seed}");
+        Ok(())
     }
 }
 
-/// Whether a pool is as it should be.
-fn check(
-    rt: &impl Abort,
-    core: &Core,
-    lists: &Lists,
-    limits: Limits,
-    next: &Next,
-    event: PoolEvent,
-) {
-    assert!(rt; connections_are_sound(lists, limits, next), "{event:?}");
-    assert!(rt; requests_are_sound(core, lists, next), "{event:?}");
-    assert!(rt; end_is_sound(core, lists), "{event:?}");
-    assert!(rt; is_covered(core, lists, limits.max), "{event:?}");
-    assert!(rt; calls_agree(core, lists), "{event:?}");
+/// Whether a pool has the lists and the counts of another.
+fn is_same(alloc: Global, core: &Core, played: &Played) -> Result<bool, NoMemory> {
+    let lists = Lists::of(alloc, core)?;
+    Ok(
+        core.metrics() == played.core.metrics()
+            && lists.connections == played.lists.connections
+            && lists.requests == played.lists.requests,
+    )
 }
 
-/// A replay of the events of a pool is that pool; with an event more that may not happen there is none.
-fn check_replay(
-    rt: &impl Abort,
+/// Whether a replay of the events of a pool is that pool.
+fn is_replayed(alloc: Global, opts: &PoolOpts, first: u64, played: &Played) -> Result<bool, Fail> {
+    let again = Core::replay(alloc, opts, first, &played.events)?.ok_or("each event happened")?;
+    Ok(is_same(alloc, &again, played)?)
+}
+
+/// Whether events are refused.
+fn is_refused(
     alloc: Global,
-    core: &Core,
     opts: &PoolOpts,
     first: u64,
-    events: &mut Vec<PoolEvent>,
-) -> Result<(), Fail> {
-    let again = Core::replay(alloc, opts, first, events)?.ok_or("each event happened")?;
-    assert_eq!(rt; again.metrics(), core.metrics());
-    let (lists, own) = (Lists::of(alloc, &again)?, Lists::of(alloc, core)?);
-    assert_eq!(rt; lists.connections, own.connections);
-    assert_eq!(rt; lists.requests, own.requests);
-    events.push(PoolEvent::GiveBack {
-        conn: first.wrapping_sub(1),
-    })?;
+    events: &[PoolEvent],
+) -> Result<bool, NoMemory> {
     let none = Core::replay(alloc, opts, first, events)?;
-    assert!(rt; none.is_none());
+    Ok(none.is_none())
+}
+
+/// Events happen to a pool, which their replay makes again; with an event more that may not happen there is none.
+fn check(
+    rt: &impl Abort,
+    alloc: Global,
+    opts: &PoolOpts,
+    round: u64,
+    played: &mut Played,
+    tally: &mut Tally,
+) -> Result<(), Fail> {
+    let first = first_number(round);
+    played.play(rt, alloc, round, tally)?;
+    assert!(rt; is_replayed(alloc, opts, first, played)?);
+    let conn = first.wrapping_sub(1);
+    played.events.push(PoolEvent::GiveBack { conn })?;
+    assert!(rt; is_refused(alloc, opts, first, &played.events)?);
     Ok(())
 }
 
@@ -107,34 +173,16 @@ fn limits_of(opts: &PoolOpts) -> Limits {
 fn play_round(rt: &impl Abort, alloc: Global, round: u64, tally: &mut Tally) -> Result<(), Fail> {
     let opts = options(round)?;
     let first = first_number(round);
-    let limits = limits_of(&opts);
-    let mut core = Core::new(alloc, &opts, first)?;
-    let mut dice = Dice::new(round);
-    let mut next = Next {
-        age: 0,
-        number: first,
+    let core = Core::new(alloc, &opts, first)?;
+    let mut played = Played {
+        core,
+        limits: limits_of(&opts),
+        events: Vec::new(alloc),
+        plain: Vec::new(alloc),
+        lists: Lists::new(alloc),
+        shown: Shown::new(first),
     };
-    let mut plain = Vec::new(alloc);
-    let mut events = Vec::new(alloc);
-    let mut lists = Lists::of(alloc, &core)?;
-    for turn in 0..4000u64 {
-        let closes = events.len() > EVENTS / 4 * 3;
-        let Some(event) = some_event(&lists, &mut dice, turn / 8, closes) else {
-            continue;
-        };
-        if events.len() < EVENTS && core.may(&event) {
-            let answer = core.apply(event)?;
-            events.push(event)?;
-            tally.count(name_of(event, answer))?;
-            scanned(&mut plain, event, answer)?;
-            lists = Lists::of(alloc, &core)?;
-            assert_eq!(rt; lists.requests, plain, "{event:?}");
-            follow(&mut next, answer);
-            check(rt, &core, &lists, limits, &next, event);
-        }
-    }
-    assert_eq!(rt; events.len(), EVENTS, "{round}");
-    check_replay(rt, alloc, &core, &opts, first, &mut events)
+    check(rt, alloc, &opts, round, &mut played, tally)
 }
 
 #[test]

@@ -1,8 +1,9 @@
 //! Worked lists of events.
 
-use crate::line::{limits, play};
+use crate::line::{clean, limits, play};
 use my_opts_parts::{PoolConstraints, PoolOpts};
-use my_pool_core::{Core, Limits};
+use my_pool_core::{Answer, Core, Limits, PollAnswer, PoolEvent, Verdict};
+use std::process::Abort;
 use std::test::Fail;
 
 /// The bounds of a pool, how many requests wait at most, the number of its first connection, and its events.
@@ -25,12 +26,14 @@ give 1000 = Done
 next = Returned(Some(1000))
 decide 1000 0 = Verdict(Keep)
 next = Returned(None)
-queue = [2] [1]
+request 2 = Some(Request { age: 2, waited: true, standing: Waits })
+request 1 = Some(Request { age: 1, waited: true, standing: Woken })
 cancel 1 = Done
-queue = [] [2]
+oldest = None
+request 2 = Some(Request { age: 2, waited: true, standing: Woken })
 poll 2 0 = Poll(Take(1000))
 ready 2 1000 = Done
-queue = [] []
+oldest = None
 metrics = Metrics { connection_count: 1, connections_in_pool: 0, connections_in_use: 1, active_wait_requests: 0, create_failed: 0, discarded_unestablished_connection: 0, dirty_connection_return: 0, discarded_expired_connection: 0, resetting_connection: 0, discarded_superfluous_connection: 0, connection_returned_to_pool: 1, discarded_error_during_cleanup: 0 }",
 );
 
@@ -52,7 +55,8 @@ ask = Age(2)
 poll 2 0 = Poll(Wait)
 cancel 1 = Done
 counted = 0
-queue = [] [2]",
+oldest = None
+request 2 = Some(Request { age: 2, waited: true, standing: Woken })",
 );
 
 /// An expired idle connection isn't leased.
@@ -69,12 +73,13 @@ next = Returned(Some(1000))
 decide 1000 0 ttl=1000 = Verdict(Keep)
 ask = Age(1)
 poll 1 1001 = Poll(Wait)
-places = [Connection { number: 1000, place: Returned { marked: false } }]
+at 1000 = Some(Connection { number: 1000, place: Returned { marked: false } })
 next = Returned(Some(1000))
 decide 1000 1001 ttl=1000 expired = Verdict(Close)
 done 1000 1001 ttl=1000 expired = Verdict(Drop)
 counted = 0
-queue = [] [1]
+oldest = None
+request 1 = Some(Request { age: 1, waited: true, standing: Woken })
 poll 1 1001 = Poll(Dial(1001))",
 );
 
@@ -98,7 +103,7 @@ ask = Age(3)
 poll 3 0 = Poll(Take(1000))
 ready 3 1000 = Done
 poll 1 0 = Poll(Wait)
-queue = [1] []",
+request 1 = Some(Request { age: 1, waited: true, standing: Waits })",
 );
 
 /// A request that waited, looked at a connection that wasn't good, and waits again passes the limit.
@@ -144,21 +149,24 @@ ask = Age(2)
 poll 2 0 = Poll(Wait)
 failed 0 1000 = Done
 failed 0 1000 = not now
-live = 2
+request 0 = None
 counted = 0
-queue = [2] [1]
+request 2 = Some(Request { age: 2, waited: true, standing: Waits })
+request 1 = Some(Request { age: 1, waited: true, standing: Woken })
 poll 1 0 = Poll(Dial(1001))
 ready 1 1001 = Done
 give 1001 = Done
 next = Returned(Some(1001))
 decide 1001 0 = Verdict(Keep)
-queue = [] [2]
+oldest = None
+request 2 = Some(Request { age: 2, waited: true, standing: Woken })
 poll 2 0 = Poll(Take(1001))
 ask = Age(3)
 poll 3 0 = Poll(Wait)
 failed 2 1001 = Done
-live = 2
-queue = [] [3]
+request 2 = Some(Request { age: 2, waited: true, standing: Asks })
+oldest = None
+request 3 = Some(Request { age: 3, waited: true, standing: Woken })
 poll 2 0 = Poll(Dial(1002))
 poll 3 0 = Poll(Wait)
 ready 2 1002 = Done
@@ -166,7 +174,8 @@ detach 1003 = not now
 detach 1002 = Done
 detach 1002 = not now
 counted = 0
-queue = [] [3]
+oldest = None
+request 3 = Some(Request { age: 3, waited: true, standing: Woken })
 metrics = Metrics { connection_count: 0, connections_in_pool: 0, connections_in_use: 0, active_wait_requests: 0, create_failed: 2, discarded_unestablished_connection: 0, dirty_connection_return: 0, discarded_expired_connection: 0, resetting_connection: 0, discarded_superfluous_connection: 0, connection_returned_to_pool: 1, discarded_error_during_cleanup: 0 }",
 );
 
@@ -240,7 +249,8 @@ next = Returned(Some(1001))
 decide 1001 0 deadline=6 = Verdict(Keep)
 ttl 5 = Moved(0)
 ttl 6 = Moved(1)
-places = [Connection { number: 1001, place: Idle(Times { since: 0, deadline: Some(6), last_io: 0, ttl: 0 }) }, Connection { number: 1000, place: Returned { marked: true } }]
+at 1001 = Some(Connection { number: 1001, place: Idle(Times { since: 0, deadline: Some(6), last_io: 0, ttl: 0 }) })
+at 1000 = Some(Connection { number: 1000, place: Returned { marked: true } })
 next = Returned(Some(1000))
 decide 1000 6 = Verdict(Close)
 done 1000 6 = Verdict(Drop)
@@ -287,7 +297,8 @@ poll 0 0 = Poll(Closed)
 poll 18446744073709551615 0 = Poll(Closed)
 cancel 18446744073709551615 = Done
 ask = Age(18446744073709551615)
-live = 1",
+request 0 = None
+request 18446744073709551615 = Some(Request { age: 18446744073709551615, waited: false, standing: Asks })",
 );
 
 #[test]
@@ -311,32 +322,61 @@ fn ample_scripts(rt: HostRuntime) -> Result<(), Fail> {
     Ok(())
 }
 
-#[test]
-fn ample_superfluous(rt: HostRuntime) -> Result<(), Fail> {
-    let alloc = rt.alloc();
-    let mut core = Core::with_limits(alloc, limits(5, 10, None), 1000);
-    for i in 0..10u64 {
-        let conn = 1000 + i;
-        let script = format!(in alloc;
-            "ask = Age({i})\npoll {i} 0 = Poll(Dial({conn}))\nready {i} {conn} = Done"
-        )?;
-        play(&rt, alloc, &mut core, script.as_str())?;
+/// An event happens, and returns this.
+fn happens(rt: &impl Abort, core: &mut Core, event: PoolEvent, want: Answer) -> Result<(), Fail> {
+    assert!(rt; core.may(&event));
+    let answer = core.apply(event)?;
+    assert_eq!(rt; answer, want, "{event:?}");
+    Ok(())
+}
+
+/// Ten connections are leased and come back, of which five may be idle.
+fn ten_come_back(rt: &impl Abort, core: &mut Core) -> Result<(), Fail> {
+    let now = 0;
+    for age in 0..10u64 {
+        let conn = 1000 + age;
+        let dial = Answer::Poll(PollAnswer::Dial(conn));
+        happens(rt, core, PoolEvent::Request, Answer::Age(age))?;
+        happens(rt, core, PoolEvent::PollRequest { age, now }, dial)?;
+        happens(rt, core, PoolEvent::Ready { age, conn }, Answer::Done)?;
     }
     for i in 0..10u64 {
         let conn = 1000 + i;
-        let back = format!(in alloc; "give {conn} = Done\nnext = Returned(Some({conn}))")?;
-        play(&rt, alloc, &mut core, back.as_str())?;
-        let script = if i < 5 {
-            format!(in alloc; "decide {conn} 0 = Verdict(Keep)\ncounted = 10")?
-        } else {
-            format!(in alloc;
-                "decide {conn} 0 = Verdict(Close)\ndone {conn} 0 = Verdict(Drop)\ncounted = {}",
-                14 - i
-            )?
-        };
-        play(&rt, alloc, &mut core, script.as_str())?;
+        let facts = clean();
+        let verdict = Answer::Verdict(if i < 5 { Verdict::Keep } else { Verdict::Close });
+        happens(rt, core, PoolEvent::GiveBack { conn }, Answer::Done)?;
+        happens(
+            rt,
+            core,
+            PoolEvent::TakeReturned,
+            Answer::Returned(Some(conn)),
+        )?;
+        happens(rt, core, PoolEvent::Decide { conn, facts, now }, verdict)?;
+        if i >= 5 {
+            let ok = true;
+            let dropped = Answer::Verdict(Verdict::Drop);
+            happens(
+                rt,
+                core,
+                PoolEvent::Done {
+                    conn,
+                    ok,
+                    facts,
+                    now,
+                },
+                dropped,
+            )?;
+        }
+        let counted = if i < 5 { 10 } else { 14 - i };
+        assert_eq!(rt; core.metrics().connection_count, counted);
     }
     Ok(())
+}
+
+#[test]
+fn ample_superfluous(rt: HostRuntime) -> Result<(), Fail> {
+    let mut core = Core::with_limits(rt.alloc(), limits(5, 10, None), 1000);
+    ten_come_back(&rt, &mut core)
 }
 
 #[test]

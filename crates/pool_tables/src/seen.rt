@@ -13,6 +13,14 @@ pub struct Lists {
 }
 
 impl Lists {
+    /// No connection and no request.
+    pub fn new(alloc: Global) -> Lists {
+        Lists {
+            connections: Vec::new(alloc),
+            requests: Vec::new(alloc),
+        }
+    }
+
     /// Those of a pool.
     pub fn of(alloc: Global, core: &Core) -> Result<Lists, NoMemory> {
         Ok(Lists {

@@ -1,14 +1,38 @@
 //! What holds of each state of a pool, as tests of it.
 
 use crate::seen::Lists;
-use my_pool_core::{Core, Limits};
+use my_pool_core::{Answer, Core, Limits, PollAnswer};
 use my_pool_parts::{Place, Request, Standing};
 
-/// The next age and the next number of a pool, as its answers show them.
-#[derive(Drop)]
-pub struct Next {
-    pub age: u64,
-    pub number: u64,
+/// What the answers of a pool show of it: the next age, the next number, and whether it is settled.
+#[derive(Clone, Copy)]
+pub struct Shown {
+    age: u64,
+    number: u64,
+    settled: bool,
+}
+
+impl Shown {
+    /// Of a new pool.
+    pub fn new(first: u64) -> Shown {
+        Shown {
+            age: 0,
+            number: first,
+            settled: false,
+        }
+    }
+
+    /// Holds what an answer shows; `empty` is whether the pool is closed and counts nothing.
+    pub fn follow(&mut self, answer: Answer, empty: bool) {
+        match answer {
+            Answer::Age(age) => if age != u64::MAX {
+                self.age = age.saturating_add(1);
+            },
+            Answer::Poll(PollAnswer::Dial(number)) => self.number = number.saturating_add(1),
+            Answer::Returned(None) => self.settled = self.settled || empty,
+            _ => {}
+        }
+    }
 }
 
 /// How many connections have a number.
@@ -36,7 +60,7 @@ fn count_idle(lists: &Lists) -> usize {
 
 /// Whether there are no more connections and no more idle ones than may be, each is counted once and below the next
 /// number, and each that is being made or looked at has the one request that does it.
-pub fn connections_are_sound(lists: &Lists, limits: Limits, next: &Next) -> bool {
+pub fn connections_are_sound(lists: &Lists, limits: Limits, shown: &Shown) -> bool {
     for connection in &lists.connections {
         let number = connection.number;
         let making = holders(lists, Standing::Dials(number));
@@ -44,7 +68,7 @@ pub fn connections_are_sound(lists: &Lists, limits: Limits, next: &Next) -> bool
         let made = usize::from(matches!(connection.place, Place::Connecting));
         let looked_at = usize::from(matches!(connection.place, Place::Checking));
         if count_number(lists, number) != 1
-            || number >= next.number
+            || number >= shown.number
             || making != made
             || looking != looked_at
         {
@@ -56,7 +80,7 @@ pub fn connections_are_sound(lists: &Lists, limits: Limits, next: &Next) -> bool
 
 /// Whether a request is there as a state's soundness asks for: below the next age but for the last one, which asks and
 /// has closed the pool; marked where it waits or was woken; waiting only in an open pool; and its connection is counted.
-fn request_is_sound(core: &Core, lists: &Lists, request: &Request, next: &Next) -> bool {
+fn request_is_sound(core: &Core, lists: &Lists, request: &Request, shown: &Shown) -> bool {
     let last = request.age == u64::MAX;
     let asks = matches!(request.standing, Standing::Asks);
     let queued = request.is_waiting() || request.is_woken();
@@ -64,7 +88,7 @@ fn request_is_sound(core: &Core, lists: &Lists, request: &Request, next: &Next) 
         Standing::Dials(number) | Standing::Checks(number) => count_number(lists, number) == 1,
         _ => true,
     };
-    (request.age < next.age || last)
+    (request.age < shown.age || last)
         && (!last || (asks && core.is_closed()))
         && (!queued || request.waited)
         && !(core.is_closed() && request.is_waiting())
@@ -72,7 +96,7 @@ fn request_is_sound(core: &Core, lists: &Lists, request: &Request, next: &Next) 
 }
 
 /// Whether the ages rise, each request is sound, and there are numbers and room for those that may dial.
-pub fn requests_are_sound(core: &Core, lists: &Lists, next: &Next) -> bool {
+pub fn requests_are_sound(core: &Core, lists: &Lists, shown: &Shown) -> bool {
     let mut before = None;
     let mut dialers = 0u64;
     for request in &lists.requests {
@@ -80,7 +104,7 @@ pub fn requests_are_sound(core: &Core, lists: &Lists, next: &Next) -> bool {
             Some(age) => age < request.age,
             None => true,
         };
-        if !rises || !request_is_sound(core, lists, request, next) {
+        if !rises || !request_is_sound(core, lists, request, shown) {
             return false;
         }
         before = Some(request.age);
@@ -88,13 +112,14 @@ pub fn requests_are_sound(core: &Core, lists: &Lists, next: &Next) -> bool {
             dialers = dialers.saturating_add(1);
         }
     }
-    let numbers = u64::MAX.saturating_sub(next.number);
+    let numbers = u64::MAX.saturating_sub(shown.number);
     dialers <= numbers && dialers <= core.spare()
 }
 
-/// Whether a pool that is gone is closed and counts nothing.
-pub fn end_is_sound(core: &Core, lists: &Lists) -> bool {
-    !core.poll_disconnect() || (core.is_closed() && lists.connections.is_empty())
+/// Whether a pool is gone exactly where it is settled, and then is closed and counts nothing.
+pub fn end_is_sound(core: &Core, lists: &Lists, shown: &Shown) -> bool {
+    let empty = core.is_closed() && lists.connections.is_empty();
+    core.poll_disconnect() == shown.settled && (empty || !shown.settled)
 }
 
 /// Whether the woken requests before the first waiting one are as many as what they may have.
