@@ -94,7 +94,9 @@ IsCovered s =
     s.closed ≡ false → 0 < how_many is_waiting s.requests
     → how_many is_idle s.connections + (s.limits.max - length s.connections) ≤ woken_first s.requests
 
--- What a pool keeps of its memory beside its state: the counted connections and the room lie in one list.
-pub record IsKept (s : State) (capacity : ℕ) : Type 0 where
+-- What a pool keeps of its memory beside its state: room for the counted connections and the spare ones, and memory
+-- for as many coming numbers as requests may still dial.
+pub record IsKept (s : State) (kept_room coming : ℕ) : Type 0 where
   pub sound : IsSound s
-  pub reserved : length s.connections + s.spare ≤ capacity
+  pub reserved : length s.connections + s.spare ≤ kept_room
+  pub expected : how_many is_dialer s.requests ≤ coming

@@ -11,7 +11,7 @@ mod seen;
 mod whole;
 
 use crate::limits::{Counts, Limits};
-use my_pool_parts::{Connection, Live};
+use my_pool_parts::{Connections, Live};
 use std::alloc::Global;
 use std::marker::Model;
 
@@ -23,16 +23,14 @@ pub struct Core {
     limits: Limits,
     closed: bool,
     settled: bool,
-    connections: Vec<Connection>,
+    connections: Connections,
     requests: Live,
     next_age: u64,
-    next_number: u64,
     spare: u64,
     counts: Counts,
 }
 
 impl Model for Core {
-    ghost use Rattle.std.specs.Prelude.{vec_capacity};
     ghost use Rattle.my_pool_core.specs.State.{State};
     ghost use Rattle.my_pool_core.specs.Sound.{IsKept};
 
@@ -42,10 +40,10 @@ impl Model for Core {
       limits = c.limits;
       closed = c.closed;
       settled = c.settled;
-      connections = c.connections.items;
+      connections = c.connections.list;
       requests = c.requests;
       next_age = c.next_age;
-      next_number = c.next_number;
+      next_number = c.connections.next;
       spare = c.spare;
       counts = c.counts;
     } };
@@ -54,13 +52,13 @@ impl Model for Core {
       limits = c.limits;
       closed = c.closed;
       settled = c.settled;
-      connections = c.connections.items;
+      connections = c.connections.list;
       requests = c.requests;
       next_age = c.next_age;
-      next_number = c.next_number;
+      next_number = c.connections.next;
       spare = c.spare;
       counts = c.counts;
-    }) (vec_capacity c.connections) };
+    }) c.connections.room c.connections.coming };
 }
 
 impl Core {
@@ -72,10 +70,9 @@ impl Core {
             limits,
             closed: false,
             settled: false,
-            connections: Vec::new(alloc),
+            connections: Connections::new(alloc, first),
             requests: Live::new(alloc),
             next_age: 0,
-            next_number: first,
             spare: 0,
             counts: Counts::new(),
         }

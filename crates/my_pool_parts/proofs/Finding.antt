@@ -1,6 +1,5 @@
 -- Counting in a list of which the first element that passes a test is taken out or changed.
 pub mod Rising
-pub mod Places
 pub mod Keyed
 use Rattle.std.proofs.Common.{◌≡◌, ℕ, ◌+◌, ◌≤◌, ◌<◌, Bool, true, false, cond, Some, None, List, [], ◌∷◌, ◌++◌, length, refl, sym, ap, ◌∙◌, arith, map, subst, suc, zero-add}
 use Rattle.std.specs.Prelude.{find, count_by, ◌&&◌, ◌||◌, not, nat_lt}

@@ -3,3 +3,5 @@ pub mod Connections
 pub mod Requests
 pub mod Live
 pub mod Next
+pub mod Arrived
+pub mod Stored

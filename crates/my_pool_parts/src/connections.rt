@@ -1,227 +1,372 @@
 //! The counted connections, in the order in which they came to their places.
 
-ghost use Rattle.std.specs.Prelude.{◌≡◌, ◌≤◌, ◌++◌, [], ◌∷◌, IsTrue, length, find, position, remove, slice_index_or, ◌<◌, vec_len, vec_capacity};
+ghost use Rattle.std.specs.Prelude.{◌≡◌, ◌≤◌, ◌<◌, ◌+◌, ◌-◌, ◌^◌, ◌++◌, [], ◌∷◌, IsTrue, None, find, option_map, length, OnOk, OnErr, IfOk, if◌then◌else◌};
 ghost use Rattle.std.specs.List.{list_any};
-ghost use Rattle.my_pool_parts.specs.Connections.{may_finish, is_kind, placed, returned, has_number, is_idle, is_idle_place, is_leased, is_leased_place, is_past, is_over, is_usable, is_usable_place, is_outdated, is_cleaning, is_resetting, is_closing, is_returned, is_marked, mark_of_place, move_to, latest_usable, retire, lasting, outdated, next_to_clean};
-ghost use Rattle.my_pool_parts.specs.Lists.{how_many, found_is, without};
-ghost use Rattle.my_pool_parts.specs.Next.{lesser, least_at};
+ghost use Rattle.my_pool_parts.specs.Connections.{has_number, may_finish, is_cleaning, is_marked, is_resetting, move_to, placed, is_idle, is_idle_place, is_returned_place, is_leased_place, is_leased, latest_usable, retire, is_usable, is_outdated, lasting, outdated, next_to_clean};
+ghost use Rattle.my_pool_parts.specs.Next.{least_at};
+ghost use Rattle.my_pool_parts.specs.Lists.{without, how_many, found_is};
+ghost use Rattle.my_pool_parts.specs.Stored.{stored, IsIdleAt, connecting};
 
+use crate::arrivals::Arrivals;
 use crate::connection::{Connection, Place, PlaceKind};
+use crate::turns::{enter, leave};
+use my_frame::NoMemory;
+use std::alloc::Global;
+use std::collections::VecDeque;
+use std::marker::Model;
 
-/// The connection of a number.
-pub fn connection_of(connections: &[Connection], number: u64) -> Option<Connection>
-    ensures { result ≡ find (has_number number) connections.now }
-{
-    match index_of(connections, number) {
-        Some(index) => Some(connections[index]),
-        None => None,
-    }
+/// Counted connections with their places. One is found by its number, and the idle and the returned ones stand in queues.
+///
+/// Only `reserve`, `expect` and `list` take memory.
+#[derive(Debug, Drop)]
+pub struct Connections {
+    arrivals: Arrivals,
+    /// The numbers of the idle ones, the one that is idle longest first.
+    idle: VecDeque<u64>,
+    /// The numbers of the returned ones, the one that returned first first.
+    returned: VecDeque<u64>,
+    count: usize,
+    leased: usize,
+    /// For how many connections there is room in the queues.
+    room: usize,
 }
 
-/// Whether the connection of a number is leased.
-pub fn is_leased(connections: &[Connection], number: u64) -> bool
-    ensures { result ≡ found_is is_leased (find (has_number number) connections.now) }
-{
-    match connection_of(connections, number) {
-        Some(connection) => connection.is_leased(),
-        None => false,
-    }
+impl Model for Connections {
+    ghost use Rattle.std.specs.VecDeque.{deque_capacity};
+    ghost use Rattle.my_pool_parts.specs.Stored.{Stored, stored, IsStored};
+
+    ghost Value = { Stored };
+
+    ghost view = { λ c. stored c.arrivals.list c.arrivals.next c.arrivals.coming c.room };
+
+    ghost invariant = { λ c. IsStored c.arrivals.list c.idle.items c.returned.items c.count c.leased c.room
+        (deque_capacity c.idle) (deque_capacity c.returned) };
 }
 
-/// Whether the connection of a number is being cleaned.
-pub fn is_cleaning(connections: &[Connection], number: u64) -> bool
-    ensures { result ≡ found_is is_cleaning (find (has_number number) connections.now) }
+/// Whether a place, where there is one, is idle.
+fn is_idle_at(place: &Option<Place>) -> bool
+    ensures { result ≡ found_is is_idle_place place.now }
 {
-    match connection_of(connections, number) {
-        Some(connection) => connection.is_cleaning(),
-        None => false,
-    }
+    matches!(place, Some(Place::Idle(_)))
 }
 
-/// Whether the connection of a number is being reset or closed, or its cleaning failed.
-pub fn is_finishing(connections: &[Connection], number: u64, ok: bool) -> bool
-    ensures { result ≡ found_is (may_finish ok) (find (has_number number) connections.now) }
+/// Whether a place, where there is one, is that of a returned one.
+fn is_returned_at(place: &Option<Place>) -> bool
+    ensures { result ≡ found_is is_returned_place place.now }
 {
-    match connection_of(connections, number) {
-        Some(connection) => {
-            connection.is_resetting()
-                || connection.is_closing()
-                || (connection.is_cleaning() && !ok)
-        }
-        None => false,
-    }
+    matches!(place, Some(Place::Returned { .. }))
 }
 
-/// Whether the connection of a number is marked.
-pub fn is_marked(connections: &[Connection], number: u64) -> bool
-    ensures { result ≡ found_is is_marked (find (has_number number) connections.now) }
+/// Whether a place, where there is one, is that of a leased one.
+fn is_leased_at(place: &Option<Place>) -> bool
+    ensures { result ≡ found_is is_leased_place place.now }
 {
-    match connection_of(connections, number) {
-        Some(connection) => connection.place.mark(),
-        None => false,
-    }
+    matches!(place, Some(Place::Leased))
 }
 
-/// Whether the connection of a number is being reset.
-pub fn is_resetting(connections: &[Connection], number: u64) -> bool
-    ensures { result ≡ found_is is_resetting (find (has_number number) connections.now) }
+/// One that is counted, or not.
+fn count_of(counted: bool) -> usize
+    ensures { result ≡ (if counted then 1 else 0) }
 {
-    match connection_of(connections, number) {
-        Some(connection) => connection.is_resetting(),
-        None => false,
-    }
+    if counted { 1 } else { 0 }
 }
 
-/// How many are idle.
-pub fn count_idle(connections: &[Connection]) -> usize
-    ensures { result ≡ how_many is_idle connections.now }
-{
-    connections.iter().filter(|c| c.is_idle()).count()
-}
-
-/// How many are leased.
-pub fn count_leased(connections: &[Connection]) -> usize
-    ensures { result ≡ how_many is_leased connections.now }
-{
-    connections.iter().filter(|c| c.is_leased()).count()
-}
-
-/// The lesser of two numbers, of which one may be missing.
-fn lesser(a: Option<u64>, b: u64) -> u64
-    ensures { result ≡ lesser a b }
-{
-    match a {
-        Some(a) => a.min(b),
-        None => b,
-    }
-}
-
-/// The least number, not below `from`, of a connection at a place of a kind.
-pub fn next_at(connections: &[Connection], kind: PlaceKind, from: u64) -> Option<u64>
-    ensures { result ≡ least_at kind from None connections.now }
-{
-    let mut next = None;
-    for connection in connections {
-        if from <= connection.number && connection.place.is(kind) {
-            next = Some(lesser(next, connection.number));
+impl Connections {
+    /// No connection; the first will have this number.
+    pub fn new(alloc: Global, first: u64) -> Connections
+        ensures { result ≡ stored [] first 0 0 }
+    {
+        Connections {
+            arrivals: Arrivals::new(alloc, first),
+            idle: VecDeque::new(alloc),
+            returned: VecDeque::new(alloc),
+            count: 0,
+            leased: 0,
+            room: 0,
         }
     }
-    next
-}
 
-/// The index of the connection that returned first.
-fn first_returned(connections: &[Connection]) -> Option<usize>
-    ensures { result ≡ position is_returned connections.now }
-{
-    connections.iter().position(|c| c.is_returned())
-}
-
-/// The index of the connection that is idle longest.
-fn first_idle(connections: &[Connection]) -> Option<usize>
-    ensures { result ≡ position is_idle connections.now }
-{
-    connections.iter().position(|c| c.is_idle())
-}
-
-/// The connection whose turn it is to be cleaned: the one that returned first, or where the pool is closed and none is
-/// returned the one that is idle longest.
-pub fn next_to_clean(connections: &[Connection], closed: bool) -> Option<Connection>
-    ensures { result ≡ next_to_clean closed connections.now }
-{
-    if let Some(index) = first_returned(connections) {
-        return Some(connections[index]);
+    /// Where the connection of a number is.
+    pub fn place(&self, number: u64) -> Option<Place>
+        ensures { result ≡ option_map (λ c. c.place) (find (has_number number) self.now.list) }
+    {
+        self.arrivals.place(number)
     }
-    if !closed {
-        return None;
+
+    /// How many there are.
+    pub fn len(&self) -> usize
+        ensures { result ≡ length self.now.list }
+    {
+        self.count
     }
-    match first_idle(connections) {
-        Some(index) => Some(connections[index]),
-        None => None,
+
+    /// How many are idle.
+    pub fn count_idle(&self) -> usize
+        ensures { result ≡ how_many is_idle self.now.list }
+    {
+        self.idle.len()
     }
-}
 
-/// The index of the connection of a number.
-pub fn index_of(connections: &[Connection], number: u64) -> Option<usize>
-    ensures { result ≡ position (has_number number) connections.now }
-{
-    connections.iter().position(|c| c.number == number)
-}
-
-/// Takes the connection of a number out.
-pub fn take_out(connections: &mut Vec<Connection>, number: u64)
-    ensures items { connections.new.items ≡ without (has_number number) connections.old.items }
-    ensures capacity { vec_capacity connections.new ≡ vec_capacity connections.old }
-{
-    if let Some(index) = index_of(connections, number) {
-        connections.remove(index);
+    /// How many are leased.
+    pub fn count_leased(&self) -> usize
+        ensures { result ≡ how_many is_leased self.now.list }
+    {
+        self.leased
     }
-}
 
-/// The connection of a number gets a place, and goes to the end.
-pub fn move_to(connections: &mut Vec<Connection>, number: u64, place: Place)
-    requires { IsTrue (list_any (has_number number) connections.old.items) }
-    ensures items { connections.new.items ≡ move_to number place connections.old.items }
-    ensures capacity { vec_capacity connections.old ≤ vec_capacity connections.new }
-{
-    take_out(connections, number);
-    connections.push(Connection { number, place }).unwrap();
-}
+    /// The number of the idle one before which so many stand.
+    fn idle_at(&self, index: usize) -> u64
+        requires { index < how_many is_idle self.now.list }
+        ensures { IsIdleAt index result self.now.list }
+    {
+        self.idle[index]
+    }
 
-/// The connection at an index is returned, and goes to the end.
-fn return_at(connections: &mut Vec<Connection>, index: usize, marked: bool)
-    requires { index < vec_len connections.old }
-    ensures items { (d : Connection) → let moved = (slice_index_or connections.old.items index d).number
-        in connections.new.items ≡ remove connections.old.items index ++ placed moved (returned marked) ∷ [] }
-    ensures capacity { vec_capacity connections.old ≤ vec_capacity connections.new }
-{
-    let number = connections.remove(index).number;
-    connections
-        .push(Connection {
-            number,
-            place: Place::Returned { marked },
-        })
-        .unwrap();
-}
+    /// A counted connection is taken out.
+    fn take(&mut self, number: u64)
+        requires { IsTrue (list_any (has_number number) self.old.list) }
+        ensures { self.new
+            ≡ stored (without (has_number number) self.old.list) self.old.next self.old.coming self.old.room }
+    {
+        let old = self.arrivals.place(number);
+        leave(&mut self.idle, is_idle_at(&old), number);
+        leave(&mut self.returned, is_returned_at(&old), number);
+        self.leased -= count_of(is_leased_at(&old));
+        self.count -= 1;
+        self.arrivals.take_out(number);
+    }
 
-/// The idle connections from the latest on, up to one that isn't expired, are returned; returns that one.
-pub fn retire(connections: &mut Vec<Connection>, now: u64) -> Option<u64>
-    ensures items { connections.new.items ≡ retire now connections.old.items }
-    ensures latest { result ≡ latest_usable now connections.old.items }
-    ensures capacity { vec_capacity connections.old ≤ vec_capacity connections.new }
-{
-    let mut index = connections.len();
-    while index > 0 {
-        index -= 1;
-        let connection = connections[index];
-        if connection.place.is_usable(now) {
-            return Some(connection.number);
-        }
-        if connection.is_idle() {
-            return_at(connections, index, false);
+    /// The connection of a number gets a place, and goes to the end.
+    pub fn move_to(&mut self, number: u64, place: Place)
+        requires { IsTrue (list_any (has_number number) self.old.list) }
+        ensures { self.new
+            ≡ stored (move_to number place self.old.list) self.old.next self.old.coming self.old.room }
+    {
+        let old = self.arrivals.place(number);
+        let new = Some(place);
+        leave(&mut self.idle, is_idle_at(&old), number);
+        leave(&mut self.returned, is_returned_at(&old), number);
+        enter(&mut self.idle, is_idle_at(&new), number);
+        enter(&mut self.returned, is_returned_at(&new), number);
+        self.leased = self.leased - count_of(is_leased_at(&old)) + count_of(is_leased_at(&new));
+        self.arrivals.move_to(number, place);
+    }
+
+    /// The connection of a number is taken out, if there is one.
+    pub fn take_out(&mut self, number: u64)
+        ensures small { self.old.room < 2 ^ 63 }
+        ensures state { self.new
+            ≡ stored (without (has_number number) self.old.list) self.old.next self.old.coming self.old.room }
+    {
+        if self.arrivals.place(number).is_some() {
+            self.take(number);
         }
     }
-    None
-}
 
-/// The idle connections that don't stay are returned and marked, those that are idle longest first; returns how many.
-pub fn sweep(connections: &mut Vec<Connection>, now: u64, inactive: u128, many: usize) -> usize
-    ensures items { let all = connections.old.items
-        in connections.new.items ≡ lasting now inactive many 0 all ++ outdated now inactive many 0 all }
-    ensures moved { result ≡ length (outdated now inactive many 0 connections.old.items) }
-    ensures capacity { vec_capacity connections.old ≤ vec_capacity connections.new }
-{
-    let mut index = 0;
-    let mut moved = 0;
-    'turns: for _ in 0..connections.len() {
-        if connections[index]
-            .place
-            .is_outdated(now, inactive, many, moved)
-        {
-            return_at(connections, index, true);
-            moved += 1;
-        } else {
-            index += 1;
+    /// The connection of a number.
+    pub fn find(&self, number: u64) -> Option<Connection>
+        ensures { result ≡ find (has_number number) self.now.list }
+    {
+        match self.place(number) {
+            Some(place) => Some(Connection { number, place }),
+            None => None,
         }
     }
-    moved
+
+    /// The next number.
+    pub fn next(&self) -> u64
+        ensures { result ≡ self.now.next }
+    {
+        self.arrivals.next()
+    }
+
+    /// The next number is being connected.
+    pub fn add(&mut self) -> u64
+        requires memory { 0 < self.old.coming }
+        requires room { length self.old.list < self.old.room }
+        ensures number { result ≡ self.old.next }
+        ensures state { self.new ≡ stored (self.old.list ++ placed self.old.next connecting ∷ []) (self.old.next + 1)
+            (self.old.coming - 1) self.old.room }
+    {
+        self.count += 1;
+        self.arrivals.add(Place::Connecting)
+    }
+
+    /// There is room for so many connections more from now on. Out of memory, there may be no more.
+    pub fn reserve(&mut self, more: usize) -> Result<(), NoMemory>
+        requires { more ≤ 2 ^ 63 }
+        ensures same { self.new ≡ stored self.old.list self.old.next self.old.coming self.new.room }
+        ensures grows { self.old.room ≤ self.new.room }
+        ensures ok { OnOk result (length self.old.list + more ≤ self.new.room) }
+    {
+        let room = self.count + more;
+        if room <= self.room {
+            return Ok(());
+        }
+        self.idle.reserve(room)?;
+        self.returned.reserve(room)?;
+        self.room = room;
+        Ok(())
+    }
+
+    /// So many numbers have their memory from now on. Out of memory, as many as before.
+    pub fn expect(&mut self, numbers: u64) -> Result<(), NoMemory>
+        requires more { numbers ≤ self.old.coming + 1 }
+        requires limited { self.old.next + numbers < 2 ^ 64 }
+        ensures same { self.new ≡ stored self.old.list self.old.next self.new.coming self.old.room }
+        ensures grows { self.old.coming ≤ self.new.coming }
+        ensures ok { OnOk result (numbers ≤ self.new.coming) }
+    {
+        if self.arrivals.coming() < numbers {
+            self.arrivals.reserve()?;
+        }
+        Ok(())
+    }
+
+    /// The connection whose turn it is to be cleaned: the one that returned first, or where the pool is closed and none
+    /// is returned the one that is idle longest.
+    pub fn next_to_clean(&self, closed: bool) -> Option<Connection>
+        ensures { result ≡ next_to_clean closed self.now.list }
+    {
+        if let Some(number) = self.returned.front() {
+            return self.find(*number);
+        }
+        if !closed {
+            return None;
+        }
+        match self.idle.front() {
+            Some(number) => self.find(*number),
+            None => None,
+        }
+    }
+
+    /// Whether the connection of a number is idle and may be used.
+    fn is_usable(&self, number: u64, now: u64) -> bool
+        ensures { result ≡ found_is (is_usable now) (find (has_number number) self.now.list) }
+    {
+        match self.find(number) {
+            Some(connection) => connection.place.is_usable(now),
+            None => false,
+        }
+    }
+
+    /// Whether the connection of a number is idle and doesn't stay, where `moved` of `many` that need not stay have
+    /// gone before it.
+    fn is_outdated(&self, number: u64, now: u64, inactive: u128, many: usize, moved: usize) -> bool
+        ensures { result
+            ≡ found_is (λ c. is_outdated now inactive many moved c.place) (find (has_number number) self.now.list) }
+    {
+        match self.find(number) {
+            Some(connection) => connection.place.is_outdated(now, inactive, many, moved),
+            None => false,
+        }
+    }
+
+    /// The idle connections from the latest on, up to one that isn't expired, are returned; returns that one.
+    pub fn retire(&mut self, now: u64) -> Option<u64>
+        ensures state { self.new
+            ≡ stored (retire now self.old.list) self.old.next self.old.coming self.old.room }
+        ensures latest { result ≡ latest_usable now self.old.list }
+    {
+        let mut left = self.count_idle();
+        while left > 0 {
+            left -= 1;
+            let number = self.idle_at(left);
+            if self.is_usable(number, now) {
+                return Some(number);
+            }
+            self.move_to(number, Place::Returned { marked: false });
+        }
+        None
+    }
+
+    /// The idle connections that don't stay are returned and marked, those that are idle longest first; returns how
+    /// many.
+    pub fn sweep(&mut self, now: u64, inactive: u128, many: usize) -> usize
+        ensures state { let all = self.old.list
+            in self.new ≡ stored (lasting now inactive many 0 all ++ outdated now inactive many 0 all) self.old.next
+            self.old.coming self.old.room }
+        ensures moved { result ≡ length (outdated now inactive many 0 self.old.list) }
+    {
+        let mut index = 0;
+        let mut moved = 0;
+        'turns: for _ in 0..self.count_idle() {
+            let number = self.idle_at(index);
+            if self.is_outdated(number, now, inactive, many, moved) {
+                self.move_to(number, Place::Returned { marked: true });
+                moved += 1;
+            } else {
+                index += 1;
+            }
+        }
+        moved
+    }
+
+    /// The connections, in the order in which they came to their places.
+    pub fn list(&self, alloc: Global) -> Result<Vec<Connection>, NoMemory>
+        ensures { IfOk result (λ all. all.items ≡ self.now.list) }
+    {
+        self.arrivals.list(alloc)
+    }
+
+    /// The least number, not below `from`, of a connection at a place of a kind.
+    pub fn next_at(&self, kind: PlaceKind, from: u64) -> Option<u64>
+        ensures { result ≡ least_at kind from None self.now.list }
+    {
+        self.arrivals.next_at(kind, from)
+    }
+
+    /// Whether the connection of a number is leased.
+    pub fn is_leased(&self, number: u64) -> bool
+        ensures { result ≡ found_is is_leased (find (has_number number) self.now.list) }
+    {
+        match self.find(number) {
+            Some(connection) => connection.is_leased(),
+            None => false,
+        }
+    }
+
+    /// Whether the connection of a number is being cleaned.
+    pub fn is_cleaning(&self, number: u64) -> bool
+        ensures { result ≡ found_is is_cleaning (find (has_number number) self.now.list) }
+    {
+        match self.find(number) {
+            Some(connection) => connection.is_cleaning(),
+            None => false,
+        }
+    }
+
+    /// Whether the connection of a number is being reset or closed, or its cleaning failed.
+    pub fn is_finishing(&self, number: u64, ok: bool) -> bool
+        ensures { result ≡ found_is (may_finish ok) (find (has_number number) self.now.list) }
+    {
+        match self.find(number) {
+            Some(connection) => {
+                connection.is_resetting()
+                    || connection.is_closing()
+                    || (connection.is_cleaning() && !ok)
+            }
+            None => false,
+        }
+    }
+
+    /// Whether the connection of a number is marked.
+    pub fn is_marked(&self, number: u64) -> bool
+        ensures { result ≡ found_is is_marked (find (has_number number) self.now.list) }
+    {
+        match self.find(number) {
+            Some(connection) => connection.place.mark(),
+            None => false,
+        }
+    }
+
+    /// Whether the connection of a number is being reset.
+    pub fn is_resetting(&self, number: u64) -> bool
+        ensures { result ≡ found_is is_resetting (find (has_number number) self.now.list) }
+    {
+        match self.find(number) {
+            Some(connection) => connection.is_resetting(),
+            None => false,
+        }
+    }
 }

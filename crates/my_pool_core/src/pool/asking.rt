@@ -8,10 +8,8 @@ ghost use Rattle.my_pool_core.specs.Events.{is_at_end, request, request_age, may
 
 use super::Core;
 use crate::event::PollAnswer;
-use crate::limits::one_more;
 use my_frame::NoMemory;
-use my_pool_parts::connections::{move_to, retire, take_out};
-use my_pool_parts::{Connection, LAST, Place, Standing};
+use my_pool_parts::{LAST, Place, Standing};
 use my_wait_heap::{Ledger, Uncounted};
 
 impl Core {
@@ -21,7 +19,7 @@ impl Core {
     {
         self.next_age == LAST
             || self.requests.has_last()
-            || LAST - self.next_number <= self.requests.count_may_dial() as u64
+            || LAST - self.connections.next() <= self.requests.count_may_dial() as u64
     }
 
     /// A connection is asked for; returns the age of the new request.
@@ -56,6 +54,8 @@ impl Core {
             return Ok(LAST);
         }
         let age = self.next_age;
+        let dialers = self.requests.count_may_dial() as u64 + 1;
+        self.connections.expect(dialers)?;
         self.requests.add(age)?;
         self.spare = self.spare.max(room as u64);
         self.next_age = age + 1;
@@ -92,16 +92,9 @@ impl Core {
         ensures answer { result ≡ (dialed age self.old).answer }
         ensures cost { (d : ℕ) → length self.old.requests < 2 ^ d → C.noted steps.new ≤ C.noted steps.old + 3 * d + 2 }
     {
-        let number = self.next_number;
-        self.connections
-            .push(Connection {
-                number,
-                place: Place::Connecting,
-            })
-            .unwrap();
+        let number = self.connections.add();
         self.requests
             .set_standing(age, Standing::Dials(number), steps);
-        self.next_number = one_more(number);
         self.spare -= 1;
         PollAnswer::Dial(number)
     }
@@ -116,7 +109,7 @@ impl Core {
         ensures cost { (d : ℕ) → length self.old.requests < 2 ^ d → C.noted steps.new ≤ C.noted steps.old + 4 * d + 3 }
     {
         if let Some(number) = latest {
-            move_to(&mut self.connections, number, Place::Checking);
+            self.connections.move_to(number, Place::Checking);
             self.requests
                 .set_standing(age, Standing::Checks(number), steps);
             return PollAnswer::Take(number);
@@ -156,7 +149,7 @@ impl Core {
         if self.requests.waits_up_to(age, steps) {
             return self.queue(age, steps);
         }
-        let latest = retire(&mut self.connections, now);
+        let latest = self.connections.retire(now);
         self.seek(age, latest, steps)
     }
 
@@ -182,7 +175,7 @@ impl Core {
             Standing::Asks | Standing::Waits => {}
             Standing::Woken => self.requests.wake(steps),
             Standing::Dials(number) | Standing::Checks(number) => {
-                take_out(&mut self.connections, number);
+                self.connections.take_out(number);
                 self.spare += 1;
                 self.requests.wake(steps);
                 self.counts.creation_failed();
@@ -204,7 +197,7 @@ impl Core {
         ensures state { self.new ≡ ready age conn self.old }
         ensures cost { (d : ℕ) → length self.old.requests < 2 ^ d → C.noted steps.new ≤ C.noted steps.old + 3 * d + 2 }
     {
-        move_to(&mut self.connections, conn, Place::Leased);
+        self.connections.move_to(conn, Place::Leased);
         self.requests.end(age, steps);
     }
 
@@ -224,7 +217,7 @@ impl Core {
         ensures cost { (d : ℕ) → length self.old.requests < 2 ^ d → C.noted steps.new ≤ C.noted steps.old + 7 * d + 5 }
     {
         self.requests.let_go(age, steps);
-        take_out(&mut self.connections, conn);
+        self.connections.take_out(conn);
         self.spare += 1;
         self.requests.wake(steps);
         self.counts.creation_failed();

@@ -9,7 +9,6 @@ use super::Core;
 use crate::event::{Answer, PoolEvent};
 use my_frame::NoMemory;
 use my_opts_parts::PoolOpts;
-use my_pool_parts::connections::{is_cleaning, is_finishing, is_leased};
 use std::alloc::Global;
 
 impl Core {
@@ -24,10 +23,10 @@ impl Core {
                 self.requests.is_held(age, conn)
             }
             PoolEvent::GiveBack { conn } | PoolEvent::Detach { conn } => {
-                is_leased(&self.connections, conn)
+                self.connections.is_leased(conn)
             }
-            PoolEvent::Decide { conn, .. } => is_cleaning(&self.connections, conn),
-            PoolEvent::Done { conn, ok, .. } => is_finishing(&self.connections, conn, ok),
+            PoolEvent::Decide { conn, .. } => self.connections.is_cleaning(conn),
+            PoolEvent::Done { conn, ok, .. } => self.connections.is_finishing(conn, ok),
             PoolEvent::Request
             | PoolEvent::TakeReturned
             | PoolEvent::CheckTtl { .. }

@@ -5,9 +5,6 @@ ghost use Rattle.my_pool_core.specs.Events.{may_move, freed, may_give_back, give
 
 use super::Core;
 use crate::event::{Facts, Verdict};
-use my_pool_parts::connections::{
-    count_idle, is_marked, is_resetting, move_to, next_to_clean, take_out,
-};
 use my_pool_parts::{Place, Times};
 use my_wait_heap::{Ledger, Uncounted};
 
@@ -17,11 +14,8 @@ impl Core {
         requires { IsTrue (may_give_back conn self.old) }
         ensures { self.new ≡ give_back conn self.old }
     {
-        move_to(
-            &mut self.connections,
-            conn,
-            Place::Returned { marked: false },
-        );
+        self.connections
+            .move_to(conn, Place::Returned { marked: false });
     }
 
     /// A connection that no request holds is no longer counted, and the oldest waiting request is woken.
@@ -30,7 +24,7 @@ impl Core {
         ensures state { self.new ≡ freed conn self.old.requests self.old }
         ensures cost { (d : ℕ) → length self.old.requests < 2 ^ d → C.noted steps.new ≤ C.noted steps.old + 3 * d + 2 }
     {
-        take_out(&mut self.connections, conn);
+        self.connections.take_out(conn);
         self.spare += 1;
         self.requests.wake(steps);
     }
@@ -60,18 +54,15 @@ impl Core {
         ensures state { self.new ≡ (take_returned self.old).state }
         ensures answer { result ≡ (take_returned self.old).answer }
     {
-        match next_to_clean(&self.connections, self.closed) {
+        match self.connections.next_to_clean(self.closed) {
             Some(next) => {
                 let marked = next.place.mark();
-                move_to(
-                    &mut self.connections,
-                    next.number,
-                    Place::Cleaning { marked },
-                );
+                self.connections
+                    .move_to(next.number, Place::Cleaning { marked });
                 Some(next.number)
             }
             None => {
-                self.settled = self.settled || (self.closed && self.connections.is_empty());
+                self.settled = self.settled || (self.closed && self.connections.len() == 0);
                 None
             }
         }
@@ -84,16 +75,13 @@ impl Core {
         ensures answer { result ≡ (keep conn facts now self.old).answer }
         ensures cost { (d : ℕ) → length self.old.requests < 2 ^ d → C.noted steps.new ≤ C.noted steps.old + 3 * d + 2 }
     {
-        if self.limits.bound <= count_idle(&self.connections) as u64 {
-            move_to(&mut self.connections, conn, Place::Closing);
+        if self.limits.bound <= self.connections.count_idle() as u64 {
+            self.connections.move_to(conn, Place::Closing);
             self.counts.superfluous();
             return Verdict::Close;
         }
-        move_to(
-            &mut self.connections,
-            conn,
-            Place::Idle(facts.idle_since(now)),
-        );
+        self.connections
+            .move_to(conn, Place::Idle(facts.idle_since(now)));
         self.requests.wake(steps);
         self.counts.kept();
         Verdict::Keep
@@ -130,13 +118,13 @@ impl Core {
             self.counts.dirty_return();
             return Verdict::Clean;
         }
-        if facts.expired || is_marked(&self.connections, conn) || self.closed {
-            move_to(&mut self.connections, conn, Place::Closing);
+        if facts.expired || self.connections.is_marked(conn) || self.closed {
+            self.connections.move_to(conn, Place::Closing);
             self.counts.outlived();
             return Verdict::Close;
         }
         if facts.reset {
-            move_to(&mut self.connections, conn, Place::Resetting);
+            self.connections.move_to(conn, Place::Resetting);
             self.counts.being_reset();
             return Verdict::Reset;
         }
@@ -166,9 +154,9 @@ impl Core {
         ensures answer { result ≡ (done conn ok facts now self.old).answer }
         ensures cost { (d : ℕ) → length self.old.requests < 2 ^ d → C.noted steps.new ≤ C.noted steps.old + 3 * d + 2 }
     {
-        if ok && is_resetting(&self.connections, conn) {
+        if ok && self.connections.is_resetting(conn) {
             if self.closed {
-                move_to(&mut self.connections, conn, Place::Closing);
+                self.connections.move_to(conn, Place::Closing);
                 self.counts.superfluous();
                 return Verdict::Close;
             }

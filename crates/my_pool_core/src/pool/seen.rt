@@ -10,7 +10,6 @@ ghost use Rattle.my_pool_core.specs.Wakes.{waits, oldest_waiting};
 
 use super::Core;
 use my_frame::NoMemory;
-use my_pool_parts::connections::{connection_of, next_at};
 use my_pool_parts::{Connection, PlaceKind, Request};
 use std::alloc::Global;
 
@@ -47,21 +46,21 @@ impl Core {
     pub fn connection(&self, number: u64) -> Option<Connection>
         ensures { result ≡ find (has_number number) self.now.connections }
     {
-        connection_of(&self.connections, number)
+        self.connections.find(number)
     }
 
     /// The least number, not below `from`, of a connection at a place of a kind.
     pub fn next_at(&self, kind: PlaceKind, from: u64) -> Option<u64>
         ensures { MatchOption result (IsNoneAt kind from self.now) (λ number. IsNextAt kind from number self.now) }
     {
-        next_at(&self.connections, kind, from)
+        self.connections.next_at(kind, from)
     }
 
     /// The counted connections with their places, in the order in which they came to them.
     pub fn connections(&self, alloc: Global) -> Result<Vec<Connection>, NoMemory>
         ensures { IfOk result (λ connections. connections.items ≡ self.now.connections) }
     {
-        Ok(Vec::from_slice(alloc, &self.connections)?)
+        self.connections.list(alloc)
     }
 
     /// The live requests, from the oldest on.

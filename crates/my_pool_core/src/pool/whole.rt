@@ -8,7 +8,6 @@ ghost use Rattle.my_pool_core.specs.Seen.{metrics_of};
 
 use super::Core;
 use crate::limits::Metrics;
-use my_pool_parts::connections::{count_idle, count_leased, sweep};
 use my_wait_heap::{Ledger, Uncounted};
 
 impl Core {
@@ -21,9 +20,9 @@ impl Core {
         ensures moved { result ≡ check_ttl_moved now self.old }
     {
         let min = self.limits.min;
-        let idle = count_idle(&self.connections) as u64;
+        let idle = self.connections.count_idle() as u64;
         let many = idle.saturating_sub(min) as usize;
-        sweep(&mut self.connections, now, self.limits.inactive, many) as u64
+        self.connections.sweep(now, self.limits.inactive, many) as u64
     }
 
     /// The pool is closed, and each waiting request is woken.
@@ -47,7 +46,7 @@ impl Core {
     pub fn poll_disconnect(&self) -> bool
         ensures { result ≡ is_gone self.now }
     {
-        self.closed && self.connections.is_empty() && self.settled
+        self.closed && self.connections.len() == 0 && self.settled
     }
 
     /// How many connections and requests are where, and how often each thing happened.
@@ -56,8 +55,8 @@ impl Core {
     {
         Metrics {
             connection_count: self.connections.len() as u64,
-            connections_in_pool: count_idle(&self.connections) as u64,
-            connections_in_use: count_leased(&self.connections) as u64,
+            connections_in_pool: self.connections.count_idle() as u64,
+            connections_in_use: self.connections.count_leased() as u64,
             active_wait_requests: self.requests.count_waiting() as u64,
             create_failed: self.counts.create_failed,
             discarded_unestablished_connection: self.counts.discarded_unestablished_connection,

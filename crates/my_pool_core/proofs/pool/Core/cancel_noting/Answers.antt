@@ -1,4 +1,4 @@
-use Rattle.std.proofs.Common.{◌≡◌, ◌<◌, ◌^◌, true, length, sym, ap, ◌∙◌, subst, arith, inl, inr}
+use Rattle.std.proofs.Common.{◌≡◌, ◌<◌, ◌^◌, true, length, sym, ap, ◌∙◌, subst, arith, inl, inr, refl}
 use Rattle.my_pool_core.specs.contracts.pool.Core.{the_view}
 use Rattle.my_pool_core.proofs.Keeping.{kept-cancel}
 use Rattle.my_pool_core.specs.Events.{may_cancel}
@@ -10,19 +10,19 @@ pub invariant_of-self : goal.invariant_of-self
 invariant_of-self g c =
     let may = subst (λ s. may_cancel c.args.age s ≡ true) (sym c.self.view_is) c.requires in
     let found = sym c.find.ensures ∙ c.in-Some.is in
-    elim c.in-Asks.is [ inl is ↦ kept-cancel c.args.age (the_view c.self.inside) _ _ _ c.in-Some.request Asks c.self.invariant may found is (cc) (omega arith) | inr is ↦ kept-cancel c.args.age (the_view c.self.inside) _ _ _ c.in-Some.request Waits c.self.invariant may found is (cc) (omega arith) ]
+    elim c.in-Asks.is [ inl is ↦ kept-cancel c.args.age (the_view c.self.inside) _ _ _ _ _ c.in-Some.request Asks c.self.invariant may found is (cc) (omega arith) refl | inr is ↦ kept-cancel c.args.age (the_view c.self.inside) _ _ _ _ _ c.in-Some.request Waits c.self.invariant may found is (cc) (omega arith) refl ]
 
 pub invariant_of-self-in-Woken-1 : goal.invariant_of-self-in-Woken-1
 invariant_of-self-in-Woken-1 g c =
     let may = subst (λ s. may_cancel c.args.age s ≡ true) (sym c.self.view_is) c.requires in
     let found = sym c.find.ensures ∙ c.in-Some.is in
-    kept-cancel c.args.age (the_view c.self.inside) _ _ _ c.in-Some.request Woken c.self.invariant may found c.in-Woken.is (cc) (omega arith)
+    kept-cancel c.args.age (the_view c.self.inside) _ _ _ _ _ c.in-Some.request Woken c.self.invariant may found c.in-Woken.is (cc) (omega arith) refl
 
 pub invariant_of-self-in-Dials : goal.invariant_of-self-in-Dials
 invariant_of-self-in-Dials g c =
     let may = subst (λ s. may_cancel c.args.age s ≡ true) (sym c.self.view_is) c.requires in
     let found = sym c.find.ensures ∙ c.in-Some.is in
-    elim c.in-Dials.is [ inl is ↦ kept-cancel c.args.age (the_view c.self.inside) _ _ _ c.in-Some.request (Dials c.in-Dials.number) c.self.invariant may found is (cc) (omega (arith, c.take_out.ensures.capacity)) | inr is ↦ kept-cancel c.args.age (the_view c.self.inside) _ _ _ c.in-Some.request (Checks c.in-Dials.number) c.self.invariant may found is (cc) (omega (arith, c.take_out.ensures.capacity)) ]
+    elim c.in-Dials.is [ inl is ↦ kept-cancel c.args.age (the_view c.self.inside) _ _ _ _ _ c.in-Some.request (Dials c.in-Dials.number) c.self.invariant may found is (cc (ap (λ x. x.list) c.take_out.ensures.state, ap (λ x. x.next) c.take_out.ensures.state)) (omega (arith, ap (λ x. x.room) c.take_out.ensures.state)) (ap (λ x. x.coming) c.take_out.ensures.state) | inr is ↦ kept-cancel c.args.age (the_view c.self.inside) _ _ _ _ _ c.in-Some.request (Checks c.in-Dials.number) c.self.invariant may found is (cc (ap (λ x. x.list) c.take_out.ensures.state, ap (λ x. x.next) c.take_out.ensures.state)) (omega (arith, ap (λ x. x.room) c.take_out.ensures.state)) (ap (λ x. x.coming) c.take_out.ensures.state) ]
 
 pub returns-in-Woken-clause-cost : goal.returns-in-Woken-clause-cost
 returns-in-Woken-clause-cost g c = λ d lt.

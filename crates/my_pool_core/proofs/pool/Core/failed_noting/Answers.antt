@@ -8,7 +8,7 @@ use Rattle.my_pool_core.proofs.pool.Core.failed_noting.Goals as goal
 pub invariant_of-self : goal.invariant_of-self
 invariant_of-self g c =
     let may = subst (λ s. may_settle c.args.age c.args.conn s ≡ true) (sym c.self.view_is) c.requires in
-    kept-failed c.args.age c.args.conn (the_view c.self.inside) _ _ _ c.self.invariant may (cc) (omega (arith, c.take_out.ensures.capacity))
+    kept-failed c.args.age c.args.conn (the_view c.self.inside) _ _ _ _ _ c.self.invariant may (cc (ap (λ x. x.list) c.take_out.ensures.state, ap (λ x. x.next) c.take_out.ensures.state)) (omega (arith, ap (λ x. x.room) c.take_out.ensures.state)) (ap (λ x. x.coming) c.take_out.ensures.state)
 
 pub returns-clause-cost : goal.returns-clause-cost
 returns-clause-cost g c = λ d lt.

@@ -8,4 +8,4 @@ pub returns : goal.returns
 returns c =
     let sound = subst IsSound c.self.view_is c.self.invariant.sound in
     next-is c.args.kind c.args.from c.args.self.now c.next_at.result sound
-    (c.next_at.ensures ∙ ap (least_at c.args.kind c.args.from None) (c.deref.ensures.value ∙ ap (λ s. s.connections) c.self.view_is))
+    (c.next_at.ensures ∙ ap (least_at c.args.kind c.args.from None) (ap (λ s. s.connections) c.self.view_is))
