@@ -3,7 +3,7 @@ use Rattle.std.proofs.Common.{◌≡◌, ℕ, List, [], ◌∷◌, Bool, true, f
 use Rattle.my_grammar.specs.declared.login.Login.{Login}
 use Rattle.my_reading.specs.Place.{Place}
 use Rattle.my_script.specs.declared.transcript.Outcome.{Outcome}
-use Rattle.my_script.specs.declared.transcript.Tape.{Tape}
+use Rattle.my_run_judge.specs.Seen.{TapeSeen}
 use Rattle.my_script.specs.declared.transcript.Use.{Use}
 use Rattle.my_judge.specs.Stands.{IsAt}
 use Rattle.my_run_judge.specs.declared.walk.Walker.{Walker}
@@ -12,7 +12,7 @@ use Rattle.my_run_judge.specs.Lines.{ArePolled, LastPoll, RowPoll, after_last_po
 use Rattle.my_run_judge.specs.Walks.{Walk}
 use Rattle.my_run_judge.proofs.Doing.{done_as, not_right, wrong}
 
-module _ (login : Login) (n : ℕ) (t : Tape) (outcome : Outcome) (first : ℕ) where
+module _ (login : Login) (n : ℕ) (t : TapeSeen) (outcome : Outcome) (first : ℕ) where
   abbrev PollsDone : List Use → Walk → Bool → Walker → Type 0
   PollsDone us w right new = Done login (ArePolled login n t outcome first us) (after_polls login t outcome us) w right new
 

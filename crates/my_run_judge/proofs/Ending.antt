@@ -4,7 +4,7 @@ use Rattle.my_grammar.specs.declared.login.Login.{Login}
 use Rattle.my_reading.specs.Place.{Place}
 use Rattle.my_reading.specs.Tape.{Span}
 use Rattle.my_reading.specs.Told.{Told}
-use Rattle.my_script.specs.declared.transcript.Tape.{Tape}
+use Rattle.my_run_judge.specs.Seen.{TapeSeen}
 use Rattle.my_script.specs.declared.transcript.TapeCall.{TapeCall}
 use Rattle.my_judge.specs.declared.reader.Reader.{Reader}
 use Rattle.my_judge.specs.declared.stand.Stand.{Stand}
@@ -27,23 +27,23 @@ pub read_so : (login : Login) (closed : Bool) (p : Place) (s u : Span) (right : 
     → ReadsCall login (read_of login closed (settled login closed s p) p) right new → ReadsCall login (read_of login closed (settled login closed u p) p) right new
 read_so login closed p s u right new e r = subst (λ (x : Span). ReadsCall login (read_of login closed (settled login closed x p) p) right new) e r
 
-module _ (login : Login) (t : Tape) (cancelled : Bool) (w : Walk) where
+module _ (login : Login) (t : TapeSeen) (cancelled : Bool) (w : Walk) where
   abbrev pub EndDone : Bool → Walker → Type 0
   EndDone right new = Done login (IsEnded login t cancelled) (ended login t cancelled) w right new
 
-  pub none_there : (new : Walker) → slice_get t.calls.items w.spot.next ≡ None → EndDone false new
+  pub none_there : (new : Walker) → slice_get t.calls w.spot.next ≡ None → EndDone false new
   none_there new e = record {
     right_is = (λ same. absurd cc, λ h. absurd (subst (EndsAt login t cancelled w) e h));
     after = λ same. absurd cc;
   }
 
-  pub elsewhere : (new : Walker) (c : TapeCall) → slice_get t.calls.items w.spot.next ≡ Some c → (c.sent_from ≡ length w.place.sent → ⊥) → EndDone false new
+  pub elsewhere : (new : Walker) (c : TapeCall) → slice_get t.calls w.spot.next ≡ Some c → (c.sent_from ≡ length w.place.sent → ⊥) → EndDone false new
   elsewhere new c e other = record {
     right_is = (λ same. absurd cc, λ h. let r : EndsRight login t cancelled w c = subst (EndsAt login t cancelled w) e h in absurd (other r.sent_from));
     after = λ same. absurd cc;
   }
 
-  pub read_there : (c : TapeCall) (right : Bool) (r : Reader) → slice_get t.calls.items w.spot.next ≡ Some c → c.sent_from ≡ length w.place.sent
+  pub read_there : (c : TapeCall) (right : Bool) (r : Reader) → slice_get t.calls w.spot.next ≡ Some c → c.sent_from ≡ length w.place.sent
       → ReadsCall login (read_at login t cancelled w c) right r
       → EndDone right (record { reader = r; spot = record { status = w.spot.status; next = w.spot.next + 1; from = w.spot.taken; taken = w.spot.taken } })
   read_there c right r e from reads = record {

@@ -4,7 +4,7 @@ use Rattle.my_grammar.specs.declared.login.Login.{Login}
 use Rattle.my_reading.specs.Place.{Place, first_place}
 use Rattle.my_script.specs.declared.step.Step.{Step}
 use Rattle.my_script.specs.declared.transcript.StepAnswer.{StepAnswer}
-use Rattle.my_script.specs.declared.transcript.Tape.{Tape}
+use Rattle.my_run_judge.specs.Seen.{TapeSeen}
 use Rattle.my_judge.specs.Stands.{IsAt}
 use Rattle.my_run_judge.specs.declared.judging.Found.{Found}
 use Rattle.my_run_judge.specs.declared.judging.Found.TheVariants.{Right, Wrong}
@@ -16,14 +16,14 @@ use Rattle.my_run_judge.specs.Walks.{Walk}
 use Rattle.my_run_judge.proofs.Doing.{not_right}
 
 -- What is found from here on is found of the whole.
-pub record Judged (login : Login) (n : ℕ) (t : Tape) (steps : List Step) (answers : List StepAnswer) (index : ℕ) (c : Walker)
+pub record Judged (login : Login) (n : ℕ) (t : TapeSeen) (steps : List Step) (answers : List StepAnswer) (index : ℕ) (c : Walker)
     (ss : List Step) (bs : List StepAnswer) : Type 0 where
   pub place : Place
   pub at : IsAt login place c.reader.stand
   pub rest : (v : Found) → IsFoundFrom login n t index (walk_of place c) ss bs v → IsFound login n t steps answers v
   pub all : index + length ss ≡ length steps
 
-pub at_start : (login : Login) (n : ℕ) (t : Tape) (steps : List Step) (answers : List StepAnswer) (c : Walker) → IsStart login n c
+pub at_start : (login : Login) (n : ℕ) (t : TapeSeen) (steps : List Step) (answers : List StepAnswer) (c : Walker) → IsStart login n c
     → Judged login n t steps answers 0 c steps answers
 at_start login n t steps answers c s = record {
   place = first_place login;
@@ -32,7 +32,7 @@ at_start login n t steps answers c s = record {
   all = omega arith;
 }
 
-module _ (login : Login) (n : ℕ) (t : Tape) (steps : List Step) (answers : List StepAnswer) (index : ℕ) (c : Walker)
+module _ (login : Login) (n : ℕ) (t : TapeSeen) (steps : List Step) (answers : List StepAnswer) (index : ℕ) (c : Walker)
     (ss : List Step) (bs : List StepAnswer) (j : Judged login n t steps answers index c ss bs) where
   abbrev w : Walk
   w = walk_of j.place c
@@ -71,7 +71,7 @@ module _ (login : Login) (n : ℕ) (t : Tape) (steps : List Step) (answers : Lis
   pub ends : ss ≡ [] → (v : Found) → IsFoundFrom login n t index w [] bs v → IsFound login n t steps answers v
   ends e v h = finds [] bs e refl v h
 
-module _ (login : Login) (n : ℕ) (t : Tape) (index : ℕ) (c : Walker) (bs : List StepAnswer) (e : bs ≡ []) where
+module _ (login : Login) (n : ℕ) (t : TapeSeen) (index : ℕ) (c : Walker) (bs : List StepAnswer) (e : bs ≡ []) where
   pub over_right : IsOverAt login t c true → EndsAs login n t index bs c Right
   over_right o p at = subst (λ (zs : List StepAnswer). IsFoundFrom login n t index (walk_of p c) [] zs Right) (sym e) ((o p at).0 refl)
 

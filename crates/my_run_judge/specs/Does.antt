@@ -5,7 +5,7 @@ use Rattle.my_grammar.specs.declared.login.Login.{Login}
 use Rattle.my_reading.specs.Place.{Place, first_place}
 use Rattle.my_judge.specs.Reads.{ReadsCall}
 use Rattle.my_judge.specs.Stands.{IsAt}
-use Rattle.my_script.specs.declared.transcript.Tape.{Tape}
+use Rattle.my_run_judge.specs.Seen.{TapeSeen}
 use Rattle.my_script.specs.declared.transcript.TapeCall.{TapeCall}
 use Rattle.my_run_judge.specs.declared.walk.Walker.{Walker}
 use Rattle.my_run_judge.specs.Lines.{IsOver}
@@ -33,7 +33,7 @@ abbrev pub Does : Login → (Walk → Type 0) → (Walk → Walk) → Walker →
 Does login R f old right new = (p : Place) → IsAt login p old.reader.stand → Done login R f (walk_of p old) right new
 
 -- The call that was read is right or not, and the reading is after it.
-abbrev pub IsReadCall : Login → Tape → Bool → Walker → TapeCall → Bool → Walker → Type 0
+abbrev pub IsReadCall : Login → TapeSeen → Bool → Walker → TapeCall → Bool → Walker → Type 0
 IsReadCall login t cancelled old c right new = (p : Place) → IsAt login p old.reader.stand
     → ReadsCall login (read_at login t cancelled (walk_of p old) c) right new.reader
 
@@ -43,5 +43,5 @@ pub record IsStart (login : Login) (n : ℕ) (c : Walker) : Type 0 where
   pub walk_is : walk_of (first_place login) c ≡ start login n
 
 -- the program knows whether the tape is used up
-abbrev pub IsOverAt : Login → Tape → Walker → Bool → Type 0
+abbrev pub IsOverAt : Login → TapeSeen → Walker → Bool → Type 0
 IsOverAt login t c over = (p : Place) → IsAt login p c.reader.stand → Decides over (IsOver login t (walk_of p c) c.spot.status)

@@ -1,4 +1,6 @@
+pub mod Seen
 pub mod Walks
 pub mod Lines
 pub mod Does
 pub mod Verdicts
+pub mod Transcripts

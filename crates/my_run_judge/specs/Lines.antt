@@ -18,7 +18,7 @@ use Rattle.my_script.specs.declared.step.Step.{Step}
 use Rattle.my_script.specs.declared.transcript.Outcome.{Outcome}
 use Rattle.my_script.specs.declared.transcript.Outcome.TheVariants.{Done, Pending, SetEnd, NoSet, Row, Rows, Fields, Connected, Failed, NoSuchHandle}
 use Rattle.my_script.specs.declared.transcript.StepAnswer.{StepAnswer}
-use Rattle.my_script.specs.declared.transcript.Tape.{Tape}
+use Rattle.my_run_judge.specs.Seen.{TapeSeen}
 use Rattle.my_script.specs.declared.transcript.TapeCall.{TapeCall}
 use Rattle.my_script.specs.declared.transcript.Use.{Use}
 use Rattle.my_acts.specs.declared.act.Act.{Act}
@@ -69,8 +69,8 @@ IsShownAt outcome None before = ⊥
 IsShownAt outcome (Some c) before = IsShown outcome c.answer before
 
 -- the calls from a first one to the one in turn
-abbrev pub calls_before : Tape → ℕ → ℕ → List TapeCall
-calls_before t first next = take (next - first) (drop first t.calls.items)
+abbrev pub calls_before : TapeSeen → ℕ → ℕ → List TapeCall
+calls_before t first next = take (next - first) (drop first t.calls)
 
 -- whether the call that was polled last is open
 abbrev pub is_pending : Outcome → Bool
@@ -78,44 +78,44 @@ is_pending Pending = true
 is_pending outcome = false
 
 -- the last call that was polled is open, or ended as the line shows
-abbrev pub LastRight : Login → Tape → Outcome → ℕ → Walk → Bool → Type 0
+abbrev pub LastRight : Login → TapeSeen → Outcome → ℕ → Walk → Bool → Type 0
 LastRight login t outcome first w true = Unit {0}
 LastRight login t outcome first w false =
-    IsShownAt outcome (slice_get t.calls.items w.spot.next) (calls_before t first w.spot.next) × IsEnded login t false w
+    IsShownAt outcome (slice_get t.calls w.spot.next) (calls_before t first w.spot.next) × IsEnded login t false w
 
-abbrev pub after_last : Login → Tape → Walk → Bool → Walk
+abbrev pub after_last : Login → TapeSeen → Walk → Bool → Walk
 after_last login t w true = w
 after_last login t w false = ended login t false w
 
 -- an earlier one ended, and the next row is asked for
-abbrev pub RowRight : Login → Tape → Walk → Type 0
-RowRight login t w = IsBegun (Some calls.NextRow) (slice_get t.calls.items (w.spot.next + 1)) × IsEnded login t false w
+abbrev pub RowRight : Login → TapeSeen → Walk → Type 0
+RowRight login t w = IsBegun (Some calls.NextRow) (slice_get t.calls (w.spot.next + 1)) × IsEnded login t false w
 
 -- one poll for each use, each of the call in turn
-abbrev pub Fits : ℕ → Tape → Spot → Use → Type 0
-Fits n t s u = (u.number ≡ n) × (s.taken + u.met.taken ≤ length t.taken.items)
+abbrev pub Fits : ℕ → TapeSeen → Spot → Use → Type 0
+Fits n t s u = (u.number ≡ n) × (s.taken + u.met.taken ≤ length t.taken)
 
 -- the last poll, and an earlier one
-abbrev pub LastPoll : Login → ℕ → Tape → Outcome → ℕ → Use → Walk → Type 0
+abbrev pub LastPoll : Login → ℕ → TapeSeen → Outcome → ℕ → Use → Walk → Type 0
 LastPoll login n t outcome first u w =
     Fits n t w.spot u × LastRight login t outcome first (with_taken u.met.taken w) (is_pending outcome)
 
-abbrev pub after_last_poll : Login → Tape → Outcome → Use → Walk → Walk
+abbrev pub after_last_poll : Login → TapeSeen → Outcome → Use → Walk → Walk
 after_last_poll login t outcome u w = after_last login t (with_taken u.met.taken w) (is_pending outcome)
 
-abbrev pub RowPoll : Login → ℕ → Tape → Use → Walk → Type 0
+abbrev pub RowPoll : Login → ℕ → TapeSeen → Use → Walk → Type 0
 RowPoll login n t u w = Fits n t w.spot u × RowRight login t (with_taken u.met.taken w)
 
-abbrev pub after_row_poll : Login → Tape → Use → Walk → Walk
+abbrev pub after_row_poll : Login → TapeSeen → Use → Walk → Walk
 after_row_poll login t u w = ended login t false (with_taken u.met.taken w)
 
-abbrev pub ArePolled : Login → ℕ → Tape → Outcome → ℕ → List Use → Walk → Type 0
+abbrev pub ArePolled : Login → ℕ → TapeSeen → Outcome → ℕ → List Use → Walk → Type 0
 ArePolled login n t outcome first [] w = ⊥
 ArePolled login n t outcome first (u ∷ []) w = LastPoll login n t outcome first u w
 ArePolled login n t outcome first (u ∷ v ∷ us) w =
     RowPoll login n t u w × ArePolled login n t outcome first (v ∷ us) (after_row_poll login t u w)
 
-abbrev pub after_polls : Login → Tape → Outcome → List Use → Walk → Walk
+abbrev pub after_polls : Login → TapeSeen → Outcome → List Use → Walk → Walk
 after_polls login t outcome [] w = w
 after_polls login t outcome (u ∷ []) w = after_last_poll login t outcome u w
 after_polls login t outcome (u ∷ v ∷ us) w = after_polls login t outcome (v ∷ us) (after_row_poll login t u w)
@@ -139,13 +139,13 @@ abbrev pub use_of : ℕ → Met → Use
 use_of n met = record { number = n; met = met }
 
 -- calls are polled, the first of them one that the line begins, or goes on with
-abbrev pub PollsRight : Login → ℕ → Tape → Walk → Option Call → Outcome → List Use → Type 0
-PollsRight login n t w begun outcome us = IsBegun begun (slice_get t.calls.items w.spot.next)
+abbrev pub PollsRight : Login → ℕ → TapeSeen → Walk → Option Call → Outcome → List Use → Type 0
+PollsRight login n t w begun outcome us = IsBegun begun (slice_get t.calls w.spot.next)
     × ArePolled login n t outcome (first_of w.spot.status w.spot.next) us w
     × IsTold login (after_polls login t outcome us w).place outcome
 
 -- the use of a dial that gave a link stands before those of the polls
-abbrev pub ConnectsRight : Login → ℕ → Tape → Walk → Outcome → List Use → Type 0
+abbrev pub ConnectsRight : Login → ℕ → TapeSeen → Walk → Outcome → List Use → Type 0
 ConnectsRight login n t w outcome [] = ⊥
 ConnectsRight login n t w outcome (u ∷ us) =
     (u ≡ use_of n nothing_met) × PollsRight login n t w (Some calls.Connect) outcome us
@@ -155,14 +155,14 @@ is_unanswered None = ⊥
 is_unanswered (Some c) = c.answer ≡ None
 
 -- a closed connection refuses the call that the line begins, which ends at once
-abbrev pub EndsAtOnce : Login → Tape → Walk → Step → Outcome → Type 0
-EndsAtOnce login t w step outcome = IsBegun (begun_by step) (slice_get t.calls.items w.spot.next)
-    × IsShownAt outcome (slice_get t.calls.items w.spot.next) [] × IsEnded login t false w
+abbrev pub EndsAtOnce : Login → TapeSeen → Walk → Step → Outcome → Type 0
+EndsAtOnce login t w step outcome = IsBegun (begun_by step) (slice_get t.calls w.spot.next)
+    × IsShownAt outcome (slice_get t.calls w.spot.next) [] × IsEnded login t false w
 
 -- the call in turn has no answer: it was cancelled, or is open
-abbrev pub EndsUnanswered : Login → Tape → Bool → Walk → Type 0
+abbrev pub EndsUnanswered : Login → TapeSeen → Bool → Walk → Type 0
 EndsUnanswered login t cancelled w =
-    is_unanswered (slice_get t.calls.items w.spot.next) × IsEnded login t cancelled w
+    is_unanswered (slice_get t.calls w.spot.next) × IsEnded login t cancelled w
 
 -- a dial that failed, or one that wasn't ready
 abbrev pub IsDialFault : Outcome → Type 0
@@ -174,7 +174,7 @@ DialRight n true outcome us = (us ≡ use_of n (record nothing_met { faults = 1 
 DialRight n false outcome us = us ≡ use_of n (record nothing_met { holds = 1 }) ∷ []
 
 -- the line is right where it does this
-abbrev pub ActRight : Login → ℕ → Tape → Walk → Step → Outcome → List Use → Act → Type 0
+abbrev pub ActRight : Login → ℕ → TapeSeen → Walk → Step → Outcome → List Use → Act → Type 0
 ActRight login n t w step outcome us Wrong = ⊥
 ActRight login n t w step outcome us (Skips status) = Unit {0}
 ActRight login n t w step outcome us Tells = IsTold login w.place outcome
@@ -186,7 +186,7 @@ ActRight login n t w step outcome us (Ends status) = EndsAtOnce login t w step o
 ActRight login n t w step outcome us (Cancels status) = EndsUnanswered login t true w
 
 -- what was read then
-abbrev pub after_reads : Login → Tape → Walk → Outcome → List Use → Act → Walk
+abbrev pub after_reads : Login → TapeSeen → Walk → Outcome → List Use → Act → Walk
 after_reads login t w outcome us Wrong = w
 after_reads login t w outcome us (Skips status) = w
 after_reads login t w outcome us Tells = w
@@ -209,7 +209,7 @@ status_after old (Polls status) = status
 status_after old (Ends status) = status
 status_after old (Cancels status) = status
 
-abbrev pub after_act : Login → Tape → Walk → Outcome → List Use → Act → Walk
+abbrev pub after_act : Login → TapeSeen → Walk → Outcome → List Use → Act → Walk
 after_act login t w outcome us act =
     let v = after_reads login t w outcome us act in with_status (status_after v.spot.status act) v
 
@@ -217,26 +217,26 @@ after_act login t w outcome us act =
 abbrev pub act_in : ℕ → Walk → Step → StepAnswer → Act
 act_in n w step a = act_of w.spot.status n w.spot.next w.closed step a.outcome (length a.uses.items)
 
-abbrev pub IsLine : Login → ℕ → Tape → Walk → Step → StepAnswer → Type 0
+abbrev pub IsLine : Login → ℕ → TapeSeen → Walk → Step → StepAnswer → Type 0
 IsLine login n t w step a = ActRight login n t w step a.outcome a.uses.items (act_in n w step a)
 
-abbrev pub after_line : Login → ℕ → Tape → Walk → Step → StepAnswer → Walk
+abbrev pub after_line : Login → ℕ → TapeSeen → Walk → Step → StepAnswer → Walk
 after_line login n t w step a = after_act login t w a.outcome a.uses.items (act_in n w step a)
 
 -- at the end all calls were read, and all bytes; the last call may be open, where the reading stops for bytes
-abbrev pub IsOver : Login → Tape → Walk → Status → Type 0
-IsOver login t w Open = (w.spot.next + 1 ≡ length t.calls.items) × (w.spot.taken ≡ length t.taken.items)
+abbrev pub IsOver : Login → TapeSeen → Walk → Status → Type 0
+IsOver login t w Open = (w.spot.next + 1 ≡ length t.calls) × (w.spot.taken ≡ length t.taken)
     × EndsUnanswered login t false w
-IsOver login t w (Gathers first) = (w.spot.next + 1 ≡ length t.calls.items) × (w.spot.taken ≡ length t.taken.items)
+IsOver login t w (Gathers first) = (w.spot.next + 1 ≡ length t.calls) × (w.spot.taken ≡ length t.taken)
     × EndsUnanswered login t false w
-IsOver login t w status = (w.spot.next ≡ length t.calls.items) × (w.spot.taken ≡ length t.taken.items)
+IsOver login t w status = (w.spot.next ≡ length t.calls) × (w.spot.taken ≡ length t.taken)
 
 -- the line with this index
-abbrev pub LineRight : Login → ℕ → Tape → ℕ → Walk → Step → StepAnswer → Type 0
+abbrev pub LineRight : Login → ℕ → TapeSeen → ℕ → Walk → Step → StepAnswer → Type 0
 LineRight login n t k w step a = (a.number ≡ k + 1) × IsLine login n t w step a
 
 -- The lines from this one on are right: each has its number, from 1, and there is one answer for each step.
-abbrev pub AreLines : Login → ℕ → Tape → ℕ → Walk → List Step → List StepAnswer → Type 0
+abbrev pub AreLines : Login → ℕ → TapeSeen → ℕ → Walk → List Step → List StepAnswer → Type 0
 AreLines login n t k w [] [] = IsOver login t w w.spot.status
 AreLines login n t k w [] (a ∷ bs) = ⊥
 AreLines login n t k w (s ∷ ss) [] = ⊥
@@ -244,7 +244,7 @@ AreLines login n t k w (s ∷ ss) (a ∷ bs) = LineRight login n t k w s a
     × AreLines login n t (k + 1) (after_line login n t w s a) ss bs
 
 -- The first line that isn't right is this one; the number of lines stands for the end.
-abbrev pub FirstWrong : Login → ℕ → Tape → ℕ → ℕ → Walk → List Step → List StepAnswer → Type 0
+abbrev pub FirstWrong : Login → ℕ → TapeSeen → ℕ → ℕ → Walk → List Step → List StepAnswer → Type 0
 FirstWrong login n t index k w [] [] = (index ≡ k) × (IsOver login t w w.spot.status → ⊥)
 FirstWrong login n t index k w [] (a ∷ bs) = index ≡ k
 FirstWrong login n t index k w (s ∷ ss) [] = index ≡ k

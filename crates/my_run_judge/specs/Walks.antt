@@ -8,7 +8,7 @@ use Rattle.my_reading.specs.Place.{Place, first_place}
 use Rattle.my_reading.specs.Reading.{ReadCall, is_closing}
 use Rattle.my_reading.specs.Tape.{Span, between}
 use Rattle.my_reading.specs.Told.{Told, ToldError, Dropped, told}
-use Rattle.my_script.specs.declared.transcript.Tape.{Tape}
+use Rattle.my_run_judge.specs.Seen.{TapeSeen}
 use Rattle.my_script.specs.declared.transcript.TapeCall.{TapeCall}
 use Rattle.my_judge.specs.Reads.{read_of}
 use Rattle.my_judge.specs.Settled.{settled}
@@ -42,8 +42,8 @@ with_taken n w = record {
 }
 
 -- the bytes that a call sent end where the next one begins, or at the end of the tape
-abbrev pub sent_end : Option TapeCall → Tape → ℕ
-sent_end None t = length t.sent.items
+abbrev pub sent_end : Option TapeCall → TapeSeen → ℕ
+sent_end None t = length t.sent
 sent_end (Some d) t = d.sent_from
 
 -- what the tape says of a call's end
@@ -58,29 +58,29 @@ ending_of true c = Some (Dropped false)
 ending_of false c = told_in c.answer
 
 -- the call in turn with its bytes, as it is read
-abbrev pub span_of : Tape → Bool → Spot → TapeCall → Span
+abbrev pub span_of : TapeSeen → Bool → Spot → TapeCall → Span
 span_of t cancelled s c = record {
   call = c.call;
-  sent = between c.sent_from (sent_end (slice_get t.calls.items (s.next + 1)) t) t.sent.items;
-  taken = between s.from s.taken t.taken.items;
+  sent = between c.sent_from (sent_end (slice_get t.calls (s.next + 1)) t) t.sent;
+  taken = between s.from s.taken t.taken;
   ending = ending_of cancelled c;
 }
 
-abbrev pub read_at : Login → Tape → Bool → Walk → TapeCall → ReadCall
+abbrev pub read_at : Login → TapeSeen → Bool → Walk → TapeCall → ReadCall
 read_at login t cancelled w c =
     read_of login w.closed (settled login w.closed (span_of t cancelled w.spot c) w.place) w.place
 
 -- The call begins where what was sent before it ends, and ends as the reading says.
-pub record EndsRight (login : Login) (t : Tape) (cancelled : Bool) (w : Walk) (c : TapeCall) : Type 0 where
+pub record EndsRight (login : Login) (t : TapeSeen) (cancelled : Bool) (w : Walk) (c : TapeCall) : Type 0 where
   pub sent_from : c.sent_from ≡ length w.place.sent
   pub call : IsCall login (read_at login t cancelled w c)
 
-abbrev pub EndsAt : Login → Tape → Bool → Walk → Option TapeCall → Type 0
+abbrev pub EndsAt : Login → TapeSeen → Bool → Walk → Option TapeCall → Type 0
 EndsAt login t cancelled w None = ⊥
 EndsAt login t cancelled w (Some c) = EndsRight login t cancelled w c
 
-abbrev pub IsEnded : Login → Tape → Bool → Walk → Type 0
-IsEnded login t cancelled w = EndsAt login t cancelled w (slice_get t.calls.items w.spot.next)
+abbrev pub IsEnded : Login → TapeSeen → Bool → Walk → Type 0
+IsEnded login t cancelled w = EndsAt login t cancelled w (slice_get t.calls w.spot.next)
 
 -- after that call
 abbrev pub after_read : Walk → ReadCall → Walk
@@ -90,9 +90,9 @@ after_read w c = record {
   place = c.halt.place;
 }
 
-abbrev pub ended_at : Login → Tape → Bool → Walk → Option TapeCall → Walk
+abbrev pub ended_at : Login → TapeSeen → Bool → Walk → Option TapeCall → Walk
 ended_at login t cancelled w None = w
 ended_at login t cancelled w (Some c) = after_read w (read_at login t cancelled w c)
 
-abbrev pub ended : Login → Tape → Bool → Walk → Walk
-ended login t cancelled w = ended_at login t cancelled w (slice_get t.calls.items w.spot.next)
+abbrev pub ended : Login → TapeSeen → Bool → Walk → Walk
+ended login t cancelled w = ended_at login t cancelled w (slice_get t.calls w.spot.next)

@@ -6,6 +6,8 @@ ghost use Rattle.my_run_judge.specs.Lines.{ActRight, LineRight, after_line, afte
 ghost use Rattle.my_run_judge.specs.Verdicts.{EndsAs, IsFound};
 ghost use Rattle.my_run_judge.specs.Walks.{Walk};
 
+ghost use Rattle.my_run_judge.specs.Seen.{seen};
+
 use crate::line::is_dial;
 use crate::polling::is_told_by;
 use crate::walk::{Spot, Walker};
@@ -68,8 +70,8 @@ impl Walker {
     ) -> Result<bool, NoMemory>
         requires { IsSomewhere login.now self.old }
         ensures { let uses = answer.now.uses.items in
-            let there = λ (w : Walk). ActRight login.now number tape.now w step.now answer.now.outcome uses act in
-            let after = λ (w : Walk). after_reads login.now tape.now w answer.now.outcome uses act in
+            let there = λ (w : Walk). ActRight login.now number (seen tape.now) w step.now answer.now.outcome uses act in
+            let after = λ (w : Walk). after_reads login.now (seen tape.now) w answer.now.outcome uses act in
             IfOk result (λ right. Does login.now there after self.old right self.new) }
     {
         let outcome = &answer.outcome;
@@ -100,8 +102,8 @@ impl Walker {
     ) -> Result<bool, NoMemory>
         requires somewhere { IsSomewhere login.now self.old }
         requires index { index < 2 ^ 63 }
-        ensures { let there = λ (w : Walk). LineRight login.now number tape.now index w step.now answer.now in
-            let after = λ (w : Walk). after_line login.now number tape.now w step.now answer.now in
+        ensures { let there = λ (w : Walk). LineRight login.now number (seen tape.now) index w step.now answer.now in
+            let after = λ (w : Walk). after_line login.now number (seen tape.now) w step.now answer.now in
             IfOk result (λ right. Does login.now there after self.old right self.new) }
     {
         if answer.number != index as u64 + 1 {
@@ -126,7 +128,7 @@ impl Walker {
     // Whether nothing of the tape is left, but for a call that is open.
     fn is_over(&mut self, alloc: Global, login: &Login, tape: &Tape) -> Result<bool, NoMemory>
         requires { IsSomewhere login.now self.old }
-        ensures { IfOk result (λ over. IsOverAt login.now tape.now self.old over) }
+        ensures { IfOk result (λ over. IsOverAt login.now (seen tape.now) self.old over) }
     {
         if self.spot.taken != tape.taken.len() {
             return Ok(false);
@@ -154,7 +156,7 @@ impl Walker {
     ) -> Result<Found, NoMemory>
         requires { IsSomewhere login.now self.old }
         ensures { IfOk result (λ found.
-            EndsAs login.now number tape.now index others.now self.old found) }
+            EndsAs login.now number (seen tape.now) index others.now self.old found) }
     {
         if let Some((_answer, _later)) = others.split_first() {
             return Ok(Found::Wrong(index));
@@ -176,7 +178,7 @@ impl Walker {
         answers: &[StepAnswer],
     ) -> Result<Found, NoMemory>
         requires { IsStart login.now number self.old }
-        ensures { IfOk result (λ found. IsFound login.now number tape.now steps.now answers.now found) }
+        ensures { IfOk result (λ found. IsFound login.now number (seen tape.now) steps.now answers.now found) }
     {
         let mut left = steps;
         let mut others = answers;
@@ -208,7 +210,7 @@ pub fn judge_connection(
     steps: &[Step],
     answers: &[StepAnswer],
 ) -> Result<Found, NoMemory>
-    ensures exact { IfOk result (λ found. IsFound login.now number tape.now steps.now answers.now found) }
+    ensures exact { IfOk result (λ found. IsFound login.now number (seen tape.now) steps.now answers.now found) }
 {
     let mut walker = first_walker(alloc, login, number)?;
     walker.all_lines(alloc, login, number, tape, steps, answers)

@@ -17,6 +17,8 @@ ghost use Rattle.my_run_judge.specs.Lines.{
 };
 ghost use Rattle.my_run_judge.specs.Walks.{Walk, ended};
 
+ghost use Rattle.my_run_judge.specs.Seen.{seen};
+
 use crate::polling::{first_of, is_told_by};
 use crate::shown::{is_begun, is_shown_at, is_unanswered};
 use crate::walk::Walker;
@@ -83,8 +85,8 @@ impl Walker {
         uses: &[Use],
     ) -> Result<bool, NoMemory>
         requires { IsSomewhere login.now self.old }
-        ensures { let there = ArePolled login.now number tape.now outcome.now first uses.now in
-            let after = after_polls login.now tape.now outcome.now uses.now in
+        ensures { let there = ArePolled login.now number (seen tape.now) outcome.now first uses.now in
+            let after = after_polls login.now (seen tape.now) outcome.now uses.now in
             IfOk result (λ right. Does login.now there after self.old right self.new) }
     {
         let mut left = uses;
@@ -114,8 +116,8 @@ impl Walker {
     ) -> Result<bool, NoMemory>
         requires { IsSomewhere login.now self.old }
         ensures { let begun = begun_by step.now in
-            let there = λ (w : Walk). PollsRight login.now number tape.now w begun outcome.now uses.now in
-            let after = after_polls login.now tape.now outcome.now uses.now in
+            let there = λ (w : Walk). PollsRight login.now number (seen tape.now) w begun outcome.now uses.now in
+            let after = after_polls login.now (seen tape.now) outcome.now uses.now in
             IfOk result (λ right. Does login.now there after self.old right self.new) }
     {
         if !is_begun(step, tape.calls.get(self.spot.next)) {
@@ -139,8 +141,8 @@ impl Walker {
         uses: &[Use],
     ) -> Result<bool, NoMemory>
         requires { IsSomewhere login.now self.old }
-        ensures { let there = λ (w : Walk). ConnectsRight login.now number tape.now w outcome.now uses.now in
-            let after = after_polls login.now tape.now outcome.now (drop 1 uses.now) in
+        ensures { let there = λ (w : Walk). ConnectsRight login.now number (seen tape.now) w outcome.now uses.now in
+            let after = after_polls login.now (seen tape.now) outcome.now (drop 1 uses.now) in
             IfOk result (λ right. Does login.now there after self.old right self.new) }
     {
         let Some((dial, polls)) = uses.split_first() else {
@@ -162,8 +164,8 @@ impl Walker {
         outcome: &Outcome,
     ) -> Result<bool, NoMemory>
         requires { IsSomewhere login.now self.old }
-        ensures { let there = λ (w : Walk). EndsAtOnce login.now tape.now w step.now outcome.now in
-            let after = ended login.now tape.now false in
+        ensures { let there = λ (w : Walk). EndsAtOnce login.now (seen tape.now) w step.now outcome.now in
+            let after = ended login.now (seen tape.now) false in
             IfOk result (λ right. Does login.now there after self.old right self.new) }
     {
         let call = tape.calls.get(self.spot.next);
@@ -182,8 +184,8 @@ impl Walker {
         cancelled: bool,
     ) -> Result<bool, NoMemory>
         requires { IsSomewhere login.now self.old }
-        ensures { let there = λ (w : Walk). EndsUnanswered login.now tape.now cancelled w in
-            let after = ended login.now tape.now cancelled in
+        ensures { let there = λ (w : Walk). EndsUnanswered login.now (seen tape.now) cancelled w in
+            let after = ended login.now (seen tape.now) cancelled in
             IfOk result (λ right. Does login.now there after self.old right self.new) }
     {
         if !is_unanswered(tape.calls.get(self.spot.next)) {

@@ -19,6 +19,8 @@ ghost use Rattle.my_run_judge.specs.Lines.{
 };
 ghost use Rattle.my_run_judge.specs.Walks.{Walk, ended};
 
+ghost use Rattle.my_run_judge.specs.Seen.{seen};
+
 use crate::shown::{is_next, is_pending, is_shown_at};
 use crate::walk::{Spot, Walker, call_after};
 use my_acts::Status;
@@ -32,7 +34,7 @@ use std::alloc::Global;
 
 // The calls from a first one to the one in turn.
 fn calls_before(tape: &Tape, first: usize, next: usize) -> &[TapeCall]
-    ensures { result.now ≡ calls_before tape.now first next }
+    ensures { result.now ≡ calls_before (seen tape.now) first next }
 {
     let calls = tape.calls.as_slice();
     let (_, rest) = calls.split_at(first.min(calls.len()));
@@ -61,7 +63,7 @@ fn is_next_row(call: Option<&TapeCall>) -> bool
 
 // Whether the poll is one of this connection, and took bytes of the tape.
 fn fits(number: u64, tape: &Tape, spot: Spot, used: &Use) -> bool
-    ensures { Decides result (Fits number tape.now spot used.now) }
+    ensures { Decides result (Fits number (seen tape.now) spot used.now) }
 {
     let len = tape.taken.len();
     used.number == number && spot.taken <= len && used.met.taken as usize <= len - spot.taken
@@ -116,8 +118,8 @@ impl Walker {
         first: usize,
     ) -> Result<bool, NoMemory>
         requires { IsSomewhere login.now self.old }
-        ensures { let there = λ (w : Walk). LastRight login.now tape.now outcome.now first w false in
-            let after = ended login.now tape.now false in
+        ensures { let there = λ (w : Walk). LastRight login.now (seen tape.now) outcome.now first w false in
+            let after = ended login.now (seen tape.now) false in
             IfOk result (λ right. Does login.now there after self.old right self.new) }
     {
         let call = tape.calls.get(self.spot.next);
@@ -139,8 +141,8 @@ impl Walker {
         used: &Use,
     ) -> Result<bool, NoMemory>
         requires { IsSomewhere login.now self.old }
-        ensures { let there = LastPoll login.now number tape.now outcome.now first used.now in
-            let after = after_last_poll login.now tape.now outcome.now used.now in
+        ensures { let there = LastPoll login.now number (seen tape.now) outcome.now first used.now in
+            let after = after_last_poll login.now (seen tape.now) outcome.now used.now in
             IfOk result (λ right. Does login.now there after self.old right self.new) }
     {
         if !fits(number, tape, self.spot, used) {
@@ -163,8 +165,8 @@ impl Walker {
         used: &Use,
     ) -> Result<bool, NoMemory>
         requires { IsSomewhere login.now self.old }
-        ensures { let there = RowPoll login.now number tape.now used.now in
-            let after = after_row_poll login.now tape.now used.now in
+        ensures { let there = RowPoll login.now number (seen tape.now) used.now in
+            let after = after_row_poll login.now (seen tape.now) used.now in
             IfOk result (λ right. Does login.now there after self.old right self.new) }
     {
         if !fits(number, tape, self.spot, used) {

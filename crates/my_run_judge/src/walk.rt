@@ -7,6 +7,8 @@ ghost use Rattle.my_judge.specs.Tapes.{told_of};
 ghost use Rattle.my_run_judge.specs.Does.{Does, IsReadCall, IsSomewhere};
 ghost use Rattle.my_run_judge.specs.Walks.{IsEnded, ended, ending_of, sent_end, told_in};
 
+ghost use Rattle.my_run_judge.specs.Seen.{seen};
+
 use my_acts::Status;
 use my_frame::NoMemory;
 use my_grammar::Login;
@@ -60,7 +62,7 @@ fn ending_of(alloc: Global, cancelled: bool, call: &TapeCall) -> Result<Option<E
 
 // Where the bytes end that a call sent, before this one.
 fn sent_end(after: Option<&TapeCall>, tape: &Tape) -> usize
-    ensures { result ≡ sent_end (option_copied after.entry) tape.now }
+    ensures { result ≡ sent_end (option_copied after.entry) (seen tape.now) }
 {
     match after {
         Some(next) => next.sent_from as usize,
@@ -70,7 +72,7 @@ fn sent_end(after: Option<&TapeCall>, tape: &Tape) -> usize
 
 /// The call after the one in turn.
 pub fn call_after(tape: &Tape, next: usize) -> Option<&TapeCall>
-    ensures { option_copied result ≡ slice_get tape.now.calls.items (next + 1) }
+    ensures { option_copied result ≡ slice_get (seen tape.now).calls (next + 1) }
 {
     if next < tape.calls.len() {
         tape.calls.get(next + 1)
@@ -92,7 +94,7 @@ impl Walker {
         requires { IsSomewhere login.now self.old }
         ensures spot { self.new.spot ≡ self.old.spot }
         ensures read { IfOk result (λ right.
-            IsReadCall login.now tape.now cancelled self.old call.now right self.new) }
+            IsReadCall login.now (seen tape.now) cancelled self.old call.now right self.new) }
     {
         let ending = ending_of(alloc, cancelled, call)?;
         let end = sent_end(call_after(tape, self.spot.next), tape);
@@ -111,8 +113,8 @@ impl Walker {
         cancelled: bool,
     ) -> Result<bool, NoMemory>
         requires { IsSomewhere login.now self.old }
-        ensures { let there = IsEnded login.now tape.now cancelled in
-            let after = ended login.now tape.now cancelled in
+        ensures { let there = IsEnded login.now (seen tape.now) cancelled in
+            let after = ended login.now (seen tape.now) cancelled in
             IfOk result (λ right. Does login.now there after self.old right self.new) }
     {
         let Some(call) = tape.calls.get(self.spot.next) else {
