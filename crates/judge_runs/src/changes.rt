@@ -1,84 +1,27 @@
-//! The changes that are made of each tape.
+//! The changes that are made of each transcript. Each is undone by being made again.
 
-use crate::spans::{Span, copies, tape_of};
-use my_frame::NoMemory;
-use my_judge::{Ending, Tape};
-use my_reading::{Answer, DriverError, Error};
-use std::alloc::Global;
+use my_script::{StepAnswer, Tape, TapeCall, Transcript};
 
-/// Another ending of a call.
-#[derive(Clone, Copy, Debug, PartialEq, Eq)]
-pub enum Told {
-    Ready,
-    SetEnd,
-    NoSet,
-    Closed,
-    NoMemory,
-    Cancelled,
-    CancelledClosing,
-    Open,
-}
-
-/// One change of a tape, at one of its calls.
+/// One change of a transcript: of a line, of a tape, or of a call on it.
 #[derive(Clone, Copy, Debug, PartialEq, Eq)]
 pub enum Change {
-    /// Another ending.
-    Ending(Told),
-    /// A bit of the first byte that was sent, or of the last one, is turned.
-    SentFirst,
-    SentLast,
-    /// The last byte that was received is missing.
-    TakenLess,
-    /// The call is missing, with its bytes. The last one may be: what is left is an earlier tape.
-    Missing,
-    /// The call and the next one stand in each other's place.
-    Swapped,
-}
-
-pub const CHANGES: [Change; 13] = [
-    Change::Ending(Told::Ready),
-    Change::Ending(Told::SetEnd),
-    Change::Ending(Told::NoSet),
-    Change::Ending(Told::Closed),
-    Change::Ending(Told::NoMemory),
-    Change::Ending(Told::Cancelled),
-    Change::Ending(Told::CancelledClosing),
-    Change::Ending(Told::Open),
-    Change::SentFirst,
-    Change::SentLast,
-    Change::TakenLess,
-    Change::Missing,
-    Change::Swapped,
-];
-
-fn told_ending(told: Told) -> Option<Ending> {
-    match told {
-        Told::Ready => Some(Ending::Answered(Answer::Ready)),
-        Told::SetEnd => Some(Ending::Answered(Answer::SetEnd)),
-        Told::NoSet => Some(Ending::Answered(Answer::NoSet)),
-        Told::Closed => Some(Ending::Failed(Error::Driver(DriverError::ConnectionClosed))),
-        Told::NoMemory => Some(Ending::Failed(Error::NoMemory)),
-        Told::Cancelled => Some(Ending::Cancelled(false)),
-        Told::CancelledClosing => Some(Ending::Cancelled(true)),
-        Told::Open => None,
-    }
-}
-
-fn is_answered(span: &Span) -> bool {
-    match &span.ending {
-        Some(Ending::Answered(_)) => true,
-        _ => false,
-    }
-}
-
-/// Whether a change makes another tape of the one in which this call stands.
-pub fn is_change(span: &Span, is_last: bool, change: Change) -> bool {
-    match change {
-        Change::Ending(told) => span.ending != told_ending(told),
-        Change::SentFirst | Change::SentLast => !span.sent.is_empty(),
-        Change::TakenLess => !span.taken.is_empty() && is_answered(span),
-        Change::Missing | Change::Swapped => !is_last,
-    }
+    /// The line has another number.
+    Number(usize),
+    /// The last poll or dial of a line is at another number.
+    UseNumber(usize),
+    /// It received a byte more, or less.
+    Taken(usize),
+    /// It met a hold, or didn't.
+    Hold(usize),
+    /// The first byte that a connection sent is another one, or the last one.
+    SentFirst(usize),
+    SentLast(usize),
+    /// The tape is another number's.
+    TapeNumber(usize),
+    /// A call began at another byte.
+    SentFrom(usize, usize),
+    /// A call and the next one stand in each other's place.
+    Calls(usize, usize),
 }
 
 fn turn(byte: Option<&mut u8>) {
@@ -87,33 +30,68 @@ fn turn(byte: Option<&mut u8>) {
     }
 }
 
-fn change_span(span: &mut Span, change: Change) {
+fn change_use(answer: &mut StepAnswer, change: Change) {
+    let Some(used) = answer.uses.last_mut() else {
+        return;
+    };
     match change {
-        Change::Ending(told) => span.ending = told_ending(told),
-        Change::SentFirst => turn(span.sent.first_mut()),
-        Change::SentLast => turn(span.sent.last_mut()),
-        Change::TakenLess => {
-            let _ = span.taken.pop();
+        Change::UseNumber(_) => used.number ^= 1,
+        Change::Taken(_) => used.met.taken ^= 1,
+        Change::Hold(_) => used.met.holds ^= 1,
+        _ => {}
+    }
+}
+
+fn change_answer(answers: &mut [StepAnswer], line: usize, change: Change) {
+    if let Some(answer) = answers.get_mut(line) {
+        match change {
+            Change::Number(_) => answer.number ^= 1,
+            _ => change_use(answer, change),
         }
-        Change::Missing | Change::Swapped => {}
     }
 }
 
-fn change_order(spans: &mut Vec<Span>, at: usize, change: Change) {
-    if change == Change::Missing && at < spans.len() {
-        let _ = spans.remove(at);
-    }
-    if change == Change::Swapped && at.saturating_add(1) < spans.len() {
-        spans.swap(at, at + 1);
+fn swap_calls(calls: &mut [TapeCall], at: usize) {
+    if at.saturating_add(1) < calls.len() {
+        calls.swap(at, at + 1);
     }
 }
 
-/// The tape of these calls with one change.
-pub fn changed(alloc: Global, spans: &[Span], at: usize, change: Change) -> Result<Tape, NoMemory> {
-    let mut spans = copies(alloc, spans)?;
-    if let Some(span) = spans.get_mut(at) {
-        change_span(span, change);
+fn change_call(calls: &mut [TapeCall], at: usize, change: Change) {
+    if let Change::Calls(_, _) = change {
+        swap_calls(calls, at);
+        return;
     }
-    change_order(&mut spans, at, change);
-    tape_of(alloc, spans)
+    if let Some(call) = calls.get_mut(at) {
+        call.sent_from ^= 1;
+    }
+}
+
+fn change_tape(tape: &mut Tape, change: Change) {
+    match change {
+        Change::SentFirst(_) => turn(tape.sent.first_mut()),
+        Change::SentLast(_) => turn(tape.sent.last_mut()),
+        Change::TapeNumber(_) => tape.number ^= 1,
+        Change::SentFrom(_, at) | Change::Calls(_, at) => {
+            change_call(tape.calls.as_mut_slice(), at, change)
+        }
+        _ => {}
+    }
+}
+
+/// Makes the change, or undoes it.
+pub fn toggle(transcript: &mut Transcript, change: Change) {
+    match change {
+        Change::Number(line) | Change::UseNumber(line) | Change::Taken(line) | Change::Hold(line) =>
+            change_answer(transcript.answers.as_mut_slice(), line, change),
+        Change::SentFirst(at)
+        | Change::SentLast(at)
+        | Change::TapeNumber(at)
+        | Change::SentFrom(at, _)
+        | Change::Calls(at, _) => {
+            if let Some(tape) = transcript.tapes.as_mut_slice().get_mut(at) {
+                change_tape(tape, change);
+            }
+        }
+    }
 }

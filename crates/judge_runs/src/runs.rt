@@ -1,21 +1,36 @@
 //! Runs of scripts over a world in memory.
 
 use crate::scripts::Script;
-use crate::spans::{Span, spans_of};
-use crate::starts::starts_of;
 use my_client::login_for;
 use my_frame::{MemSink, MemSource, NoMemory};
 use my_grammar::Login;
 use my_run::run_tool;
+use my_run_judge::{Found, judge_transcript};
 use my_script::{Read, Step, Transcript, read_script, read_word};
 use my_world::MemWorld;
 use std::alloc::Global;
 
-/// The connections of a run, each with its calls.
+/// A run, and what it printed.
 #[derive(Drop)]
 pub struct Run {
     pub login: Login,
-    pub connections: Vec<Vec<Span>>,
+    pub steps: Vec<Step>,
+    pub transcript: Transcript,
+}
+
+impl Run {
+    /// What is found of it.
+    pub fn found(&self, alloc: Global) -> Result<Found, NoMemory> {
+        let Transcript { answers, tapes } = &self.transcript;
+        let steps = self.steps.as_slice();
+        judge_transcript(
+            alloc,
+            &self.login,
+            steps,
+            answers.as_slice(),
+            tapes.as_slice(),
+        )
+    }
 }
 
 fn words_of(alloc: Global, word: &str) -> Result<Vec<String>, NoMemory> {
@@ -57,32 +72,17 @@ fn login_of(alloc: Global, word: &str) -> Result<Option<Login>, NoMemory> {
     }
 }
 
-fn connections_of(
-    alloc: Global,
-    transcript: Transcript,
-    steps: &[Step],
-    closes: bool,
-) -> Result<Vec<Vec<Span>>, NoMemory> {
-    let Transcript { answers, tapes } = transcript;
-    let mut connections = Vec::new(alloc);
-    for tape in tapes {
-        let starts = starts_of(alloc, steps, answers.as_slice(), tape.number)?;
-        if let Some(spans) = spans_of(alloc, tape, starts.as_slice(), closes)? {
-            connections.push(spans)?;
-        }
-    }
-    Ok(connections)
-}
-
-/// The run of a script; none where the word of its options is refused. A connection is left out where its steps begin
-/// another number of calls than its tape has, or its calls don't share out its bytes in order.
+/// The run of a script; none where the word of its options is refused.
 pub fn run_of(alloc: Global, script: &Script) -> Result<Option<Run>, NoMemory> {
     let text = text_of(alloc, script)?;
     let transcript = transcript_of(alloc, script.word, text.as_slice())?;
     let steps = steps_of(alloc, text.as_slice())?;
-    let connections = connections_of(alloc, transcript, steps.as_slice(), script.closes)?;
     let Some(login) = login_of(alloc, script.word)? else {
         return Ok(None);
     };
-    Ok(Some(Run { login, connections }))
+    Ok(Some(Run {
+        login,
+        steps,
+        transcript,
+    }))
 }

@@ -1,7 +1,5 @@
 //! The scripts that are run.
 
-use crate::changes::{Change, Told};
-
 const WORD: &str = "plain,root,,4194304,28800";
 
 const GREETING: &str =
@@ -37,118 +35,75 @@ const HELD_ROW: &str = "bytes 0 0200\nwait 0\nbytes 0 00030131\n";
 // Two rows, with a hold between them, and their end.
 const HELD_ROWS: &str = "packet 0 3 0131\nwait 0\npacket 0 4 0132\npacket 0 5 fe000002000000\n";
 
-const OPEN: Change = Change::Ending(Told::Open);
-
-const CANCELLED: Change = Change::Ending(Told::Cancelled);
-
-const CANCELLED_CLOSING: Change = Change::Ending(Told::CancelledClosing);
-
 /// A script: the word of its options, the lines of its links, and its steps.
 #[derive(Clone, Copy)]
 pub struct Script {
     pub word: &'static str,
     pub lines: [&'static str; 3],
     pub steps: &'static str,
-    /// Whether the call that it cancels closes the connection.
-    pub closes: bool,
-    /// The changes of its tapes that the reading allows, each with the index of its call.
-    pub allowed: &'static [(usize, Change)],
 }
 
-fn plain(
-    lines: [&'static str; 3],
-    steps: &'static str,
-    allowed: &'static [(usize, Change)],
-) -> Script {
+fn plain(lines: [&'static str; 3], steps: &'static str) -> Script {
     Script {
         word: WORD,
         lines,
         steps,
-        closes: false,
-        allowed,
     }
 }
 
 /// A link that fails before any byte, one that fails while the client answers, and one whose greeting is held.
-///
-/// Bytes don't show a fault of the link: where one closed the connection, the call may be open as well, or cancelled.
 pub fn connecting() -> [Script; 3] {
     [
-        plain(
-            ["fail 0\n", "", ""],
-            "conn\n",
-            &[(0, CANCELLED_CLOSING), (0, OPEN)],
-        ),
+        plain(["fail 0\n", "", ""], "conn\n"),
         plain(
             [GREETING, "accept 0 1\naccept 0 3\nwfail 0\n", ""],
             "conn\n",
-            &[(0, CANCELLED_CLOSING), (0, OPEN)],
         ),
-        plain(
-            ["bytes 0 4a00\nwait 0\n", GREETING, ""],
-            "conn\n",
-            &[(0, CANCELLED_CLOSING)],
-        ),
+        plain(["bytes 0 4a00\nwait 0\n", GREETING, ""], "conn\n"),
     ]
 }
 
 /// A row, rows that are gathered, an ERR, an OK with an ERR after it, and a quit.
-///
-/// A query that returned an ERR leaves nothing, so that it may be missing or stand elsewhere; so may a second quit.
 pub fn answered() -> [Script; 5] {
     [
         plain(
             [GREETING, HEAD, ROW_AND_END],
             "conn\nquery 0 SELECT 1\nnext 0\nnext 0\nnext 0\n",
-            &[],
         ),
         plain(
             [GREETING, TWO_SETS, ""],
             "conn\nquery 0 X\ncollect 0\ncollect 0\ncollect 0\n",
-            &[],
         ),
         plain(
             [GREETING, ERR_THEN_OK, ""],
             "conn\nquery 0 X\nfields 0\nping 0\n",
-            &[(1, Change::Missing), (1, Change::Swapped)],
         ),
         plain(
             [GREETING, OK_THEN_ERR, ""],
             "conn\nquery 0 A\nquery 0 B\nquery 0 C\nfields 0\n",
-            &[],
         ),
-        plain(
-            [GREETING, "", ""],
-            "conn\nquit 0\nquit 0\nping 0\n",
-            &[(2, Change::Missing), (2, Change::Swapped)],
-        ),
+        plain([GREETING, "", ""], "conn\nquit 0\nquit 0\nping 0\n"),
     ]
 }
 
 /// Two sets that are dropped, a held row that is cancelled and read, a row that is held, and two connections.
-///
-/// A read among rows that is cancelled closes nothing, and is as one that is open.
 pub fn held() -> [Script; 4] {
     [
         plain(
             [GREETING, TWO_SETS, ""],
             "conn\nquery 0 X\nnext 0\ndrop 0\nnext 0\n",
-            &[],
         ),
         plain(
             [GREETING, HEAD, HELD_ROW],
             "conn\nquery 0 X\nnext 0\nnext 0\ncancel 0\nnext 0\ncancel 0\n",
-            &[(2, OPEN)],
         ),
         plain(
             [GREETING, HEAD, "wait 0\npacket 0 3 0131\n"],
             "conn\nquery 0 SELECT 1\nnext 0\nnext 0\n",
-            &[(2, CANCELLED)],
         ),
         plain(
             [GREETING, GREETING_OF_THE_SECOND, ERR_THEN_OK],
             "conn\nconn\nquery 0 X\nping 1\nping 0\n",
-            &[(1, Change::Missing), (1, Change::Swapped)],
         ),
     ]
 }
@@ -156,31 +111,22 @@ pub fn held() -> [Script; 4] {
 const READS: &str = "conn\nquery 0 SELECT 1\nnext 0\nnext 0\n";
 
 /// A link that fails, one that ends, and payloads that are wrong or out of order.
-///
-/// On a closed connection a call without bytes may be missing or stand elsewhere.
 pub fn closing() -> [Script; 4] {
     [
-        plain([GREETING, HEAD, "fail 0\npacket 0 3 0131\n"], READS, &[]),
-        plain([GREETING, HEAD, "end 0\n"], READS, &[]),
-        plain([GREETING, HEAD, "packet 0 3 -\n"], READS, &[]),
-        plain(
-            [GREETING, "packet 0 5 01\n", ""],
-            READS,
-            &[(2, Change::Missing), (2, Change::Swapped)],
-        ),
+        plain([GREETING, HEAD, "fail 0\npacket 0 3 0131\n"], READS),
+        plain([GREETING, HEAD, "end 0\n"], READS),
+        plain([GREETING, HEAD, "packet 0 3 -\n"], READS),
+        plain([GREETING, "packet 0 5 01\n", ""], READS),
     ]
 }
 
 /// Settings that the server tells, with a payload that is too long for them; a write that fails, and one that is held
 /// and cancelled.
-///
-/// Where a write failed the call may be one that was cancelled.
 pub fn writing() -> [Script; 3] {
-    let told = plain([GREETING, SETTINGS, ""], "conn\nquery 0 DO 1\n", &[]);
+    let told = plain([GREETING, SETTINGS, ""], "conn\nquery 0 DO 1\n");
     let cancelled = plain(
         [GREETING, "accept 0 64\naccept 0 6\nwwait 0\n", ""],
         "conn\nquery 0 SELECT 1\ncancel 0\nquery 0 SELECT 1\n",
-        &[],
     );
     [
         Script {
@@ -190,37 +136,24 @@ pub fn writing() -> [Script; 3] {
         plain(
             [GREETING, "accept 0 64\nwfail 0\n", ""],
             "conn\nquery 0 SELECT 1\nping 0\n",
-            &[(1, CANCELLED_CLOSING)],
         ),
-        Script {
-            closes: true,
-            ..cancelled
-        },
+        cancelled,
     ]
 }
 
 /// A response of which each poll takes a byte, rows whose gathering is held and polled, and a connection that is
 /// cancelled while it is made.
 pub fn polled() -> [Script; 3] {
-    let cancelled = plain(
-        ["bytes 0 4a00\nwait 0\n", GREETING, ""],
-        "conn\ncancel 0\n",
-        &[(0, OPEN)],
-    );
+    let cancelled = plain(["bytes 0 4a00\nwait 0\n", GREETING, ""], "conn\ncancel 0\n");
     [
         plain(
             [GREETING, "drip 0 1 00000002000000\n", ""],
             "conn\nquery 0 X\npoll 0\npoll 0\npoll 0\npoll 0\npoll 0\npoll 0\npoll 0\npoll 0\npoll 0\npoll 0\nnext 0\nnext 0\n",
-            &[],
         ),
         plain(
             [GREETING, HEAD, HELD_ROWS],
             "conn\nquery 0 X\ncollect 0\npoll 0\nnext 0\n",
-            &[],
         ),
-        Script {
-            closes: true,
-            ..cancelled
-        },
+        cancelled,
     ]
 }

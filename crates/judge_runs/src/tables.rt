@@ -1,171 +1,270 @@
-//! Each connection of each script is accepted, and the changes of its tape are refuted but for those that are allowed.
+//! The transcript of each script is right, and a line of each changed one is wrong, but where the change is allowed.
 
-use crate::changes::{CHANGES, Change, changed, is_change};
+use crate::changes::{Change, toggle};
 use crate::runs::{Run, run_of};
 use crate::scripts::{Script, answered, closing, connecting, held, polled, writing};
-use crate::spans::{Span, copies, tape_of};
 use my_frame::NoMemory;
-use my_grammar::Login;
-use my_judge::{Verdict, judge};
+use my_run_judge::Found;
+use my_script::Outcome;
 use std::alloc::Global;
 use std::process::Abort;
 use std::test::Fail;
 
-/// How many tapes were accepted, and how many changes of them refuted.
+/// How many changes were refuted, and how many allowed: those of the hold of a poll, which is on no tape. Where a poll met
+/// one depends on how its bytes were divided.
 #[derive(Clone, Copy, Debug, PartialEq, Eq)]
 struct Counts {
-    accepted: usize,
     refuted: usize,
+    allowed: usize,
 }
 
-fn is_allowed(script: &Script, at: usize, change: Change) -> bool {
-    script.allowed.iter().any(|one| *one == (at, change))
-}
-
-fn found(
-    alloc: Global,
-    login: &Login,
-    spans: &[Span],
-    at: usize,
-    change: Change,
-) -> Result<Verdict, NoMemory> {
-    let tape = changed(alloc, spans, at, change)?;
-    judge(alloc, login, &tape)
-}
-
-// A change is found at its call or at the next one.
-fn is_refuted(verdict: Verdict, at: usize) -> bool {
-    match verdict {
-        Verdict::Accepted => false,
-        Verdict::Refuted(by) => by == at || by == at.saturating_add(1),
-    }
-}
-
-// The changes of one call.
-fn refute_call(
-    rt: &impl Abort,
-    alloc: Global,
-    script: &Script,
-    login: &Login,
-    spans: &[Span],
-    at: usize,
-) -> Result<usize, Fail> {
-    let Some(span) = spans.get(at) else {
-        return Ok(0);
-    };
-    let mut refuted = 0usize;
-    for change in CHANGES {
-        if !is_change(span, at.saturating_add(1) == spans.len(), change) {
-            continue;
-        }
-        let verdict = found(alloc, login, spans, at, change)?;
-        if is_allowed(script, at, change) {
-            assert_eq!(rt;
-                verdict,
-                Verdict::Accepted,
-                "call {at} of {:?}: {change:?}",
-                script.steps
-            );
+impl Counts {
+    fn count(&mut self, found: Found) {
+        if found == Found::Right {
+            self.allowed = self.allowed.saturating_add(1);
         } else {
-            assert!(rt;
-                is_refuted(verdict, at),
-                "call {at} of {:?}: {change:?}",
-                script.steps
-            );
-            refuted = refuted.saturating_add(1);
+            self.refuted = self.refuted.saturating_add(1);
         }
     }
-    Ok(refuted)
 }
 
-// One connection, and all changes of its calls.
-fn refute_each(
-    rt: &impl Abort,
+// A change that is made, judged and undone.
+fn change(alloc: Global, run: &mut Run, counts: &mut Counts, one: Change) -> Result<(), NoMemory> {
+    toggle(&mut run.transcript, one);
+    counts.count(run.found(alloc)?);
+    toggle(&mut run.transcript, one);
+    Ok(())
+}
+
+// A line whose outcome is another one.
+fn change_outcome(
     alloc: Global,
-    script: &Script,
-    login: &Login,
-    spans: &[Span],
-) -> Result<usize, Fail> {
-    let tape = tape_of(alloc, copies(alloc, spans)?)?;
-    let verdict = judge(alloc, login, &tape)?;
-    assert_eq!(rt; verdict, Verdict::Accepted, "at {:?}", script.steps);
-    let mut refuted = 0usize;
-    for at in 0..spans.len() {
-        let more = refute_call(rt, alloc, script, login, spans, at)?;
-        refuted = refuted.saturating_add(more);
-    }
-    Ok(refuted)
+    run: &mut Run,
+    counts: &mut Counts,
+    line: usize,
+    outcome: Outcome,
+) -> Result<(), NoMemory> {
+    let Some(old) = put_outcome(run, line, outcome) else {
+        return Ok(());
+    };
+    counts.count(run.found(alloc)?);
+    let _ = put_outcome(run, line, old);
+    Ok(())
 }
 
-fn count_run(rt: &impl Abort, alloc: Global, script: &Script, run: &Run) -> Result<Counts, Fail> {
-    let mut refuted = 0usize;
-    for spans in run.connections.iter() {
-        let more = refute_each(rt, alloc, script, &run.login, spans.as_slice())?;
-        refuted = refuted.saturating_add(more);
+fn put_outcome(run: &mut Run, line: usize, outcome: Outcome) -> Option<Outcome> {
+    let answer = run.transcript.answers.as_mut_slice().get_mut(line)?;
+    Some(std::mem::replace(&mut answer.outcome, outcome))
+}
+
+fn is_shown(run: &Run, line: usize, kind: usize) -> bool {
+    match run.transcript.answers.get(line) {
+        Some(answer) => match answer.outcome {
+            Outcome::Done => kind == 0,
+            Outcome::Pending => kind == 1,
+            Outcome::SetEnd => kind == 2,
+            Outcome::NoSet => kind == 3,
+            Outcome::NoSuchHandle => kind == 4,
+            _ => false,
+        },
+        None => true,
     }
-    Ok(Counts {
-        accepted: run.connections.len(),
-        refuted,
-    })
+}
+
+fn outcome_of(kind: usize) -> Outcome {
+    match kind {
+        0 => Outcome::Done,
+        1 => Outcome::Pending,
+        2 => Outcome::SetEnd,
+        3 => Outcome::NoSet,
+        _ => Outcome::NoSuchHandle,
+    }
+}
+
+// The changes of a line.
+fn change_line(
+    alloc: Global,
+    run: &mut Run,
+    counts: &mut Counts,
+    line: usize,
+) -> Result<(), NoMemory> {
+    change(alloc, run, counts, Change::Number(line))?;
+    if has_use(run, line) {
+        change(alloc, run, counts, Change::UseNumber(line))?;
+        change(alloc, run, counts, Change::Taken(line))?;
+    }
+    for kind in 0..5 {
+        if !is_shown(run, line, kind) {
+            change_outcome(alloc, run, counts, line, outcome_of(kind))?;
+        }
+    }
+    Ok(())
+}
+
+fn has_use(run: &Run, line: usize) -> bool {
+    match run.transcript.answers.get(line) {
+        Some(answer) => !answer.uses.is_empty(),
+        None => false,
+    }
+}
+
+// Whether a call and the next one aren't the same.
+fn is_other(run: &Run, at: usize, call: usize) -> bool {
+    let Some(tape) = run.transcript.tapes.get(at) else {
+        return false;
+    };
+    match (tape.calls.get(call), tape.calls.get(call.saturating_add(1))) {
+        (Some(one), Some(next)) => one.call != next.call || one.answer != next.answer,
+        _ => false,
+    }
+}
+
+// The changes of a tape's calls.
+fn change_calls(
+    alloc: Global,
+    run: &mut Run,
+    counts: &mut Counts,
+    at: usize,
+    calls: usize,
+) -> Result<(), NoMemory> {
+    for call in 0..calls {
+        change(alloc, run, counts, Change::SentFrom(at, call))?;
+        if is_other(run, at, call) {
+            change(alloc, run, counts, Change::Calls(at, call))?;
+        }
+    }
+    Ok(())
+}
+
+// The changes of a tape.
+fn change_tape(
+    alloc: Global,
+    run: &mut Run,
+    counts: &mut Counts,
+    at: usize,
+) -> Result<(), NoMemory> {
+    let (calls, sent) = match run.transcript.tapes.get(at) {
+        Some(tape) => (tape.calls.len(), !tape.sent.is_empty()),
+        None => (0, false),
+    };
+    change(alloc, run, counts, Change::TapeNumber(at))?;
+    if sent {
+        change(alloc, run, counts, Change::SentFirst(at))?;
+        change(alloc, run, counts, Change::SentLast(at))?;
+    }
+    change_calls(alloc, run, counts, at, calls)
+}
+
+// The last byte that the last connection received is missing.
+fn change_taken(alloc: Global, run: &mut Run, counts: &mut Counts) -> Result<(), NoMemory> {
+    let Some(mut tape) = run.transcript.tapes.pop() else {
+        return Ok(());
+    };
+    let last = tape.taken.pop();
+    run.transcript.tapes.push(tape)?;
+    let Some(byte) = last else {
+        return Ok(());
+    };
+    counts.count(run.found(alloc)?);
+    if let Some(tape) = run.transcript.tapes.as_mut_slice().last_mut() {
+        tape.taken.push(byte)?;
+    }
+    Ok(())
+}
+
+// The last answer is missing, or the last tape.
+fn change_ends(alloc: Global, run: &mut Run, counts: &mut Counts) -> Result<(), NoMemory> {
+    if let Some(answer) = run.transcript.answers.pop() {
+        counts.count(run.found(alloc)?);
+        run.transcript.answers.push(answer)?;
+    }
+    if let Some(tape) = run.transcript.tapes.pop() {
+        counts.count(run.found(alloc)?);
+        run.transcript.tapes.push(tape)?;
+    }
+    change_taken(alloc, run, counts)
+}
+
+// All changes of a run.
+fn change_all(alloc: Global, run: &mut Run, counts: &mut Counts) -> Result<(), NoMemory> {
+    for line in 0..run.transcript.answers.len() {
+        change_line(alloc, run, counts, line)?;
+    }
+    for at in 0..run.transcript.tapes.len() {
+        change_tape(alloc, run, counts, at)?;
+    }
+    change_ends(alloc, run, counts)
+}
+
+// A hold that is added to the last poll or dial of each line, or taken away.
+fn change_holds(alloc: Global, run: &mut Run, counts: &mut Counts) -> Result<(), NoMemory> {
+    for line in 0..run.transcript.answers.len() {
+        if has_use(run, line) {
+            change(alloc, run, counts, Change::Hold(line))?;
+        }
+    }
+    Ok(())
 }
 
 fn count_all(rt: &impl Abort, alloc: Global, scripts: &[Script]) -> Result<Counts, Fail> {
     let mut counts = Counts {
-        accepted: 0,
         refuted: 0,
+        allowed: 0,
     };
     for script in scripts {
-        if let Some(run) = run_of(alloc, script)? {
-            let more = count_run(rt, alloc, script, &run)?;
-            counts.accepted = counts.accepted.saturating_add(more.accepted);
-            counts.refuted = counts.refuted.saturating_add(more.refuted);
+        if let Some(mut run) = run_of(alloc, script)? {
+            assert_eq!(rt; run.found(alloc)?, Found::Right, "at {:?}", script.steps);
+            let before = counts.allowed;
+            change_all(alloc, &mut run, &mut counts)?;
+            assert_eq!(rt; counts.allowed, before, "at {:?}", script.steps);
+            change_holds(alloc, &mut run, &mut counts)?;
         }
     }
     Ok(counts)
 }
 
-fn counted(accepted: usize, refuted: usize) -> Counts {
-    Counts { accepted, refuted }
+fn counted(refuted: usize, allowed: usize) -> Counts {
+    Counts { refuted, allowed }
 }
 
 #[test]
 fn connections_that_are_not_made(rt: HostRuntime) -> Result<(), Fail> {
     let found = count_all(&rt, rt.alloc(), &connecting())?;
-    assert_eq!(rt; found, counted(3, 20));
+    assert_eq!(rt; found, counted(39, 3));
     Ok(())
 }
 
 #[test]
 fn calls_that_are_answered(rt: HostRuntime) -> Result<(), Fail> {
     let found = count_all(&rt, rt.alloc(), &answered())?;
-    assert_eq!(rt; found, counted(5, 249));
+    assert_eq!(rt; found, counted(241, 20));
     Ok(())
 }
 
 #[test]
 fn calls_that_are_held(rt: HostRuntime) -> Result<(), Fail> {
     let found = count_all(&rt, rt.alloc(), &held())?;
-    assert_eq!(rt; found, counted(5, 177));
+    assert_eq!(rt; found, counted(203, 17));
     Ok(())
 }
 
 #[test]
 fn reads_that_close(rt: HostRuntime) -> Result<(), Fail> {
     let found = count_all(&rt, rt.alloc(), &closing())?;
-    assert_eq!(rt; found, counted(4, 161));
+    assert_eq!(rt; found, counted(166, 11));
     Ok(())
 }
 
 #[test]
 fn writes_that_close(rt: HostRuntime) -> Result<(), Fail> {
     let found = count_all(&rt, rt.alloc(), &writing())?;
-    assert_eq!(rt; found, counted(3, 80));
+    assert_eq!(rt; found, counted(95, 6));
     Ok(())
 }
 
 #[test]
 fn calls_that_are_polled(rt: HostRuntime) -> Result<(), Fail> {
     let found = count_all(&rt, rt.alloc(), &polled())?;
-    assert_eq!(rt; found, counted(3, 109));
+    assert_eq!(rt; found, counted(183, 20));
     Ok(())
 }

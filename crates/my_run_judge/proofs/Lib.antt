@@ -3,3 +3,4 @@ pub mod Doing
 pub mod Rows
 pub mod EachPoll
 pub mod Whole
+pub mod Numbers

@@ -1,5 +1,5 @@
 -- What is found of a whole transcript.
-use Rattle.std.specs.Prelude.{◌≡◌, ◌≢◌, ◌≤◌, ◌<◌, ◌⊎◌, ◌+◌, ℕ, List, [], ◌∷◌, length}
+use Rattle.std.specs.Prelude.{◌≡◌, ◌≤◌, ◌<◌, ◌⊎◌, ◌+◌, ℕ, List, [], ◌∷◌, length, Option, Some, None, nat_lt, Bool, true, false, if◌then◌else◌}
 use Rattle.my_grammar.specs.declared.login.Login.{Login}
 use Rattle.my_script.specs.declared.step.Step.{Step}
 use Rattle.my_script.specs.declared.step.Step.TheVariants.{Conn}
@@ -8,7 +8,7 @@ use Rattle.my_script.specs.declared.transcript.Tape.{Tape}
 use Rattle.my_run_judge.specs.declared.judging.Found.{Found}
 use Rattle.my_run_judge.specs.declared.judging.Found.TheVariants.{Right, Wrong}
 use Rattle.my_run_judge.specs.Lines.{AreLines}
-use Rattle.my_run_judge.specs.Seen.{seen_at}
+use Rattle.my_run_judge.specs.Seen.{TapeSeen, nothing_seen, seen, seen_at}
 use Rattle.my_run_judge.specs.Verdicts.{IsFound}
 use Rattle.my_run_judge.specs.Walks.{start}
 
@@ -31,7 +31,11 @@ AreTapes first most (t ∷ ts) =
 -- where it has none. The number after those that were dialed stands for all that weren't.
 pub record AreRight (login : Login) (steps : List Step) (answers : List StepAnswer) (tapes : List Tape) : Type 0 where
   pub numbered : AreTapes 0 (dialed_in steps) tapes
-  pub each : (n : ℕ) → n ≤ dialed_in steps → AreLines login n (seen_at n tapes) 0 (start login n) steps answers
+  pub each : (n : ℕ) → n < dialed_in steps + 1 → AreLines login n (seen_at n tapes) 0 (start login n) steps answers
+
+abbrev pub seen_as : Option Tape → TapeSeen
+seen_as None = nothing_seen
+seen_as (Some t) = seen t
 
 -- what is found at a number
 abbrev pub FoundAt : Login → List Step → List StepAnswer → List Tape → ℕ → Found → Type 0
@@ -43,26 +47,48 @@ IsNotBefore least Right = Unit {0}
 IsNotBefore Right (Wrong line) = ⊥
 IsNotBefore (Wrong least) (Wrong line) = least ≤ line
 
+-- what is found at a number, which isn't before this
 pub record IsLeastAt (login : Login) (steps : List Step) (answers : List StepAnswer) (tapes : List Tape) (least : Found)
     (n : ℕ) : Type 0 where
   pub found : Found
   pub is : FoundAt login steps answers tapes n found
   pub not_before : IsNotBefore least found
 
--- at one of these numbers this is the first wrong line
-pub record IsWrongAt (login : Login) (steps : List Step) (answers : List StepAnswer) (tapes : List Tape) (line most : ℕ)
+-- at one of the numbers below this one the line is the first wrong one
+pub record IsWrongBelow (login : Login) (steps : List Step) (answers : List StepAnswer) (tapes : List Tape) (line most : ℕ)
     : Type 0 where
   pub number : ℕ
-  pub within : number ≤ most
+  pub below : number < most
   pub is : FoundAt login steps answers tapes number (Wrong line)
+
+abbrev pub IsSomewhere : Login → List Step → List StepAnswer → List Tape → ℕ → Found → Type 0
+IsSomewhere login steps answers tapes most Right = Unit {0}
+IsSomewhere login steps answers tapes most (Wrong line) = IsWrongBelow login steps answers tapes line most
+
+-- what is found of all numbers below this one: at none of them anything before it, and itself at one of them
+pub record IsFoundBelow (login : Login) (steps : List Step) (answers : List StepAnswer) (tapes : List Tape) (most : ℕ)
+    (found : Found) : Type 0 where
+  pub least : (n : ℕ) → n < most → IsLeastAt login steps answers tapes found n
+  pub somewhere : IsSomewhere login steps answers tapes most found
+
+abbrev pub earlier : Found → Found → Found
+earlier Right other = other
+earlier (Wrong line) Right = Wrong line
+earlier (Wrong line) (Wrong second) = if nat_lt second line then Wrong second else Wrong line
+
+-- what is found in the end, by whether the tapes are those of connections
+abbrev pub with_tapes : Found → Bool → ℕ → Found
+with_tapes Right true end = Right
+with_tapes Right false end = Wrong end
+with_tapes (Wrong line) numbered end = Wrong line
 
 -- The first wrong line: at no number one before it is wrong, and at one number it is; or the lines are right, and the tapes aren't
 -- those of connections, for which the number of lines stands.
 pub record IsFirstWrong (login : Login) (steps : List Step) (answers : List StepAnswer) (tapes : List Tape) (line : ℕ)
     : Type 0 where
-  pub wrong : IsWrongAt login steps answers tapes line (dialed_in steps)
+  pub wrong : IsWrongBelow login steps answers tapes line (dialed_in steps + 1)
       ⊎ ((line ≡ length steps) × (AreTapes 0 (dialed_in steps) tapes → ⊥))
-  pub least : (n : ℕ) → n ≤ dialed_in steps → IsLeastAt login steps answers tapes (Wrong line) n
+  pub least : (n : ℕ) → n < dialed_in steps + 1 → IsLeastAt login steps answers tapes (Wrong line) n
 
 -- The transcript is right; or this is its first wrong line.
 abbrev pub IsFoundIn : Login → List Step → List StepAnswer → List Tape → Found → Type 0

@@ -5,7 +5,6 @@ ghost use Rattle.my_run_judge.specs.Does.{Does, IsOverAt, IsSomewhere, IsStart};
 ghost use Rattle.my_run_judge.specs.Lines.{ActRight, LineRight, after_line, after_reads, status_after};
 ghost use Rattle.my_run_judge.specs.Verdicts.{EndsAs, IsFound};
 ghost use Rattle.my_run_judge.specs.Walks.{Walk};
-
 ghost use Rattle.my_run_judge.specs.Seen.{seen};
 
 use crate::line::is_dial;

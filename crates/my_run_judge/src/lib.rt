@@ -5,6 +5,8 @@ mod judging;
 mod line;
 mod polling;
 mod shown;
+mod transcript;
 mod walk;
 
 pub use judging::{Found, judge_connection};
+pub use transcript::judge_transcript;

@@ -16,7 +16,6 @@ ghost use Rattle.my_run_judge.specs.Lines.{
   use_of,
 };
 ghost use Rattle.my_run_judge.specs.Walks.{Walk, ended};
-
 ghost use Rattle.my_run_judge.specs.Seen.{seen};
 
 use crate::polling::{first_of, is_told_by};

@@ -18,7 +18,6 @@ ghost use Rattle.my_run_judge.specs.Lines.{
   first_of,
 };
 ghost use Rattle.my_run_judge.specs.Walks.{Walk, ended};
-
 ghost use Rattle.my_run_judge.specs.Seen.{seen};
 
 use crate::shown::{is_next, is_pending, is_shown_at};

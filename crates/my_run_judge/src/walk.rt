@@ -6,7 +6,6 @@ ghost use Rattle.std.specs.Option.{option_copied, option_map};
 ghost use Rattle.my_judge.specs.Tapes.{told_of};
 ghost use Rattle.my_run_judge.specs.Does.{Does, IsReadCall, IsSomewhere};
 ghost use Rattle.my_run_judge.specs.Walks.{IsEnded, ended, ending_of, sent_end, told_in};
-
 ghost use Rattle.my_run_judge.specs.Seen.{seen};
 
 use my_acts::Status;

@@ -1,0 +1,11 @@
+pub mod Places
+pub mod Going
+pub mod Tying
+pub mod Polling
+pub mod Gathering
+pub mod Stepping
+pub mod Calling
+pub mod Resuming
+pub mod Running
+pub mod Whole
+pub mod Accepted

@@ -1,0 +1,86 @@
+-- Reading on leaves what was sent as it is.
+use Rattle.std.proofs.Common.{◌≡◌, ℕ, zero, suc, List, [], ◌∷◌, ◌++◌, Bool, true, false, Option, Some, None, if◌then◌else◌, refl, sym}
+use Rattle.my_frame.specs.Front.{Front, Waiting, Broken, Whole}
+use Rattle.my_reply.specs.declared.err.ErrPacket.{ErrPacket}
+use Rattle.my_reply.specs.ErrPacket.{err_at}
+use Rattle.my_grammar.specs.declared.login.Login.{Login}
+use Rattle.my_grammar.specs.declared.spot.Kind.{Kind}
+use Rattle.my_grammar.specs.declared.spot.Kind.TheVariants as kinds
+use Rattle.my_grammar.specs.Cut.{front_of, kind_of, is_over}
+use Rattle.my_grammar.specs.Growth.{grow}
+use Rattle.my_grammar.specs.Response.{response}
+use Rattle.my_grammar.specs.Talk.{Talk, context_of, limit_of}
+use Rattle.my_reading.specs.declared.call.Call.{Call}
+use Rattle.my_reading.specs.Commands.{command_in}
+use Rattle.my_reading.specs.Course.{Part, All, Head, Item, Command, Step, Goes, Stops, unless_owed, step_of, step, run, enough, parts_of, with_command, with_front, after_payload, after_kind, after_err, is_greeting, is_rows}
+use Rattle.my_reading.specs.Place.{Place, facts_at, owed, with_talk, with_bytes, next_exchange}
+use Rattle.my_reading.specs.Reading.{halt_of}
+use Rattle.my_reading.specs.Rows.{row_of}
+use Rattle.my_reading.specs.Tape.{Span}
+use Rattle.my_reading.specs.Told.{Told, ToldRow}
+use Rattle.std.proofs.Common.{nat_lt, length}
+
+-- the step leaves these bytes sent
+abbrev Keeps : List ℕ → Step → Type 0
+Keeps bytes (Goes parts p) = p.sent ≡ bytes
+Keeps bytes (Stops p s) = p.sent ≡ bytes
+
+unless_keeps : (bytes owed : List ℕ) (p : Place) (s : Step) → p.sent ≡ bytes → Keeps bytes s → Keeps bytes (unless_owed owed p s)
+unless_keeps bytes [] p s e k = k
+unless_keeps bytes (b ∷ bs) p s e k = e
+
+either_keeps : (bytes : List ℕ) (b : Bool) (s t : Step) → Keeps bytes s → Keeps bytes t → Keeps bytes (if b then s else t)
+either_keeps bytes true s t k l = k
+either_keeps bytes false s t k l = l
+
+module _ (login : Login) (call : Call) where
+  command_keeps : (parts : List Part) (p : Place) (o : Option Talk) → Keeps p.sent (with_command call parts p o)
+  command_keeps parts p None = refl
+  command_keeps parts p (Some t) = either_keeps p.sent (nat_lt (limit_of t) (length (command_in t))) _ _ refl refl
+
+  kind_keeps : (part : Part) (parts : List Part) (k : Kind) (new : Place) (row : Told) → Keeps new.sent (after_kind part parts k new row)
+  kind_keeps Head parts (kinds.Good status) new row = refl
+  kind_keeps Item parts (kinds.Good status) new row = refl
+  kind_keeps Item parts (kinds.End status) new row = refl
+  kind_keeps Item parts kinds.Row new row = refl
+  kind_keeps part parts k new row = refl
+
+  err_keeps : (p new : Place) (e : Option ErrPacket) → new.sent ≡ p.sent → Keeps p.sent (after_err login p new e)
+  err_keeps p new None same = refl
+  err_keeps p new (Some e) same = same
+
+  payload_keeps : (part : Part) (parts : List Part) (p new : Place) (payload : List ℕ) (k : Kind) → new.sent ≡ p.sent → Keeps p.sent (after_payload login part parts p new payload k)
+  payload_keeps part parts p new payload kinds.Bad same = refl
+  payload_keeps part parts p new payload kinds.Failed same = err_keeps p new (err_at (is_greeting (context_of p.talk).spot) payload) same
+  payload_keeps part parts p new payload (kinds.Greets capabilities) same = either_keeps p.sent (nat_lt (limit_of p.talk) (length (response login payload))) _ _ refl same
+  payload_keeps part parts p new payload k same =
+      rw (sym same) (kind_keeps part parts k new (ToldRow (row_of (facts_at login p).columns payload)))
+
+  front_keeps : (part : Part) (parts : List Part) (p : Place) (f : Front) → Keeps p.sent (with_front login part parts p f)
+  front_keeps part parts p Waiting = refl
+  front_keeps part parts p (Broken fault) = refl
+  front_keeps part parts p (Whole payload rest next) =
+      payload_keeps part parts p (with_talk p (grow (kind_of p.talk payload) p.talk payload) rest) payload (kind_of p.talk payload) refl
+
+  of_keeps : (parts : List Part) (p : Place) → Keeps p.sent (step_of login call parts p)
+  of_keeps [] p = refl
+  of_keeps (Command ∷ parts) p = command_keeps parts p (next_exchange login call p)
+  of_keeps (All ∷ parts) p = either_keeps p.sent p.end_left _ _ refl (either_keeps p.sent (is_over p.talk) _ _ refl (front_keeps All parts p (front_of p.talk p.unread)))
+  of_keeps (Head ∷ parts) p = either_keeps p.sent (is_rows (context_of p.talk).spot) _ _ refl (front_keeps Head parts p (front_of p.talk p.unread))
+  of_keeps (Item ∷ parts) p = either_keeps p.sent p.end_left _ _ refl (either_keeps p.sent (is_over p.talk) _ _ refl (front_keeps Item parts p (front_of p.talk p.unread)))
+
+  step_keeps : (parts : List Part) (p : Place) → Keeps p.sent (step login call parts p)
+  unfolding step
+  step_keeps parts p = unless_keeps p.sent (owed p) p (step_of login call parts p) refl (of_keeps parts p)
+
+  run_keeps : (most : ℕ) (bytes : List ℕ) (s : Step) → Keeps bytes s → (run most login call s).place.sent ≡ bytes
+  unfolding run
+  run_keeps zero bytes (Goes parts p) k = k
+  run_keeps zero bytes (Stops p s) k = k
+  run_keeps (suc most) bytes (Goes parts p) k = run_keeps most bytes (step login call parts p) (rw (sym k) (step_keeps parts p))
+  run_keeps (suc most) bytes (Stops p s) k = k
+
+-- so after a call all bytes are sent that it sent, and those before
+pub sent_after : (login : Login) (closed : Bool) (s : Span) (p : Place) → (halt_of login closed s p).place.sent ≡ p.sent ++ s.sent
+sent_after login true s p = refl
+sent_after login false s p = run_keeps login s.call (enough login s.call (with_bytes s.sent s.taken p)) (p.sent ++ s.sent) (Goes (parts_of login s.call) (with_bytes s.sent s.taken p)) refl

@@ -1,0 +1,266 @@
+-- All lines of a run, at one number.
+use Rattle.std.proofs.Common.{◌≡◌, ◌≢◌, ◌⊎◌, ◌≤◌, ◌<◌, inl, inr, ℕ, zero, suc, ◌+◌, ◌-◌, ◌==◌, List, [], ◌∷◌, ◌++◌, length, nat_lt, Bool, true, false, Option, Some, None, refl, sym, ap, ◌∙◌, subst, arith, length-append, if◌then◌else◌}
+use Rattle.std.proofs.lemmas.Bool.Decides.{nat_tests}
+use Rattle.my_grammar.specs.declared.login.Login.{Login}
+use Rattle.my_reading.specs.declared.call.Call.TheVariants as calls
+use Rattle.my_reading.specs.Endings.{AreCalls}
+use Rattle.my_reading.specs.Reading.{reading}
+use Rattle.my_reading.specs.Tape.{Tape}
+use Rattle.my_script.specs.declared.step.Step.{Step}
+use Rattle.my_script.specs.declared.step.Step.TheVariants as steps
+use Rattle.my_script.specs.declared.transcript.Outcome.{Outcome}
+use Rattle.my_script.specs.declared.transcript.Outcome.TheVariants as outcomes
+use Rattle.my_script.specs.declared.transcript.Use.{Use}
+use Rattle.my_acts.specs.declared.act.Act.{Act}
+use Rattle.my_acts.specs.declared.act.Act.TheVariants.{Skips}
+use Rattle.my_acts.specs.declared.act.Status.{Status}
+use Rattle.my_acts.specs.declared.act.Status.TheVariants as status
+use Rattle.my_acts.specs.Acts.{act_ahead, act_here, act_of, act_there, dialed, refused, target}
+use Rattle.my_client.specs.Kept.{Asked, nothing_kept}
+use Rattle.my_world.specs.World.{Plans}
+use Rattle.my_value.specs.RowParts.{RowParts}
+use Rattle.my_steps.specs.Grows.{At, Dials, DialsNext, IsRefused, StepGrows}
+use Rattle.my_steps.specs.Handle.{Handle, Absent, Dialing, Joined, at_number, put_at}
+use Rattle.run_laws.proofs.Connecting.{AreOnce, at_once}
+use Rattle.my_run_judge.specs.declared.walk.Spot.{Spot}
+use Rattle.my_run_judge.specs.Lines.{ActRight, after_act}
+use Rattle.my_run_judge.specs.Walks.{Walk}
+use Rattle.judge_laws.proofs.Going.{shown_tape}
+use Rattle.judge_laws.proofs.Tying.{AtWalk}
+use Rattle.judge_laws.proofs.Gathering.{HasTape}
+use Rattle.judge_laws.proofs.Stepping.{LineSo, OpenAs, Spotted, StepSo, Tied, is_there}
+use Rattle.judge_laws.proofs.Calling.{asks_drop, asks_next, asks_ping, asks_query, asks_quit, calls_so, collects_so, tells_so}
+use Rattle.judge_laws.proofs.Resuming.{cancels_so, dials_so, goes_on_so}
+
+-- tests on numbers
+by_same : (m n : ℕ) (b : Bool) → (m == n) ≡ b → (m ≡ n) ⊎ (((m == n) ≡ false) × (m ≢ n))
+by_same m n true e = inl (grind (arith, nat_tests))
+by_same m n false e = inr (e, λ same. grind (arith, nat_tests))
+
+pub same_or : (m n : ℕ) → (m ≡ n) ⊎ (((m == n) ≡ false) × (m ≢ n))
+same_or m n = by_same m n (m == n) refl
+
+by_less : (m n : ℕ) (b : Bool) → nat_lt m n ≡ b → ((nat_lt m n ≡ true) × (m < n)) ⊎ ((nat_lt m n ≡ false) × (n ≤ m))
+by_less m n true e = inl (e, grind (arith, nat_tests))
+by_less m n false e = inr (e, grind (arith, nat_tests))
+
+pub less_or : (m n : ℕ) → ((nat_lt m n ≡ true) × (m < n)) ⊎ ((nat_lt m n ≡ false) × (n ≤ m))
+less_or m n = by_less m n (nat_lt m n) refl
+
+-- what stands at a number
+pub past : (hs : List Handle) (n : ℕ) → length hs ≤ n → at_number hs n ≡ Absent
+past [] n e = refl
+past (h ∷ hs) zero e = absurd (omega (arith, e))
+past (h ∷ hs) (suc n) e = past hs n (omega (arith, e))
+
+pub put_length : (m : ℕ) (h : Handle) (hs : List Handle) → length (put_at m h hs) ≡ length hs
+put_length m h [] = refl
+put_length zero h (x ∷ hs) = refl
+put_length (suc m) h (x ∷ hs) = ap suc (put_length m h hs)
+
+put_here : (m : ℕ) (h : Handle) (hs : List Handle) → m < length hs → at_number (put_at m h hs) m ≡ h
+put_here m h [] e = absurd (omega (arith, e))
+put_here zero h (x ∷ hs) e = refl
+put_here (suc m) h (x ∷ hs) e = put_here m h hs (omega (arith, e))
+
+put_there : (m n : ℕ) (h : Handle) (hs : List Handle) → m ≢ n → at_number (put_at m h hs) n ≡ at_number hs n
+put_there m n h [] e = refl
+put_there zero zero h (x ∷ hs) e = absurd (e refl)
+put_there zero (suc n) h (x ∷ hs) e = refl
+put_there (suc m) zero h (x ∷ hs) e = refl
+put_there (suc m) (suc n) h (x ∷ hs) e = put_there m n h hs (λ same. e (ap suc same))
+
+push_before : (hs : List Handle) (h : Handle) (n : ℕ) → n < length hs → at_number (hs ++ h ∷ []) n ≡ at_number hs n
+push_before [] h n e = absurd (omega (arith, e))
+push_before (x ∷ hs) h zero e = refl
+push_before (x ∷ hs) h (suc n) e = push_before hs h n (omega (arith, e))
+
+push_last : (hs : List Handle) (h : Handle) → at_number (hs ++ h ∷ []) (length hs) ≡ h
+push_last [] h = refl
+push_last (x ∷ hs) h = push_last hs h
+
+-- where the walk stands by the handles
+pub record Placed (login : Login) (t : Tape) (n : ℕ) (hs : List Handle) (w : Walk) : Type 0 where
+  pub there : n < length hs → Tied login t (at_number hs n) w
+  pub ahead : length hs ≤ n → (w.spot.status ≡ status.Ahead (n - length hs)) × AtWalk login nothing_kept w
+
+spotted_there : (t : Tape) (there : Bool) (q : Option Asked) (s : Spot) → Spotted t there q s → is_there s.status ≡ true
+spotted_there t false q s e = ap is_there e.0
+spotted_there t true None s e = ap is_there e
+spotted_there t true (Some a) s e = by_rows a.rows e
+  where
+    by_rows : (rows : Option (List RowParts)) → OpenAs t a rows s → is_there s.status ≡ true
+    by_rows None f = ap is_there f
+    by_rows (Some rows) f = ap is_there f.2
+
+tied_there : (login : Login) (t : Tape) (h : Handle) (w : Walk) → Tied login t h w → is_there w.spot.status ≡ true
+tied_there login t Absent w e = ap is_there e.0
+tied_there login t Dialing w e = ap is_there e.0
+tied_there login t (Joined there k x) w e = spotted_there t there k.pending w.spot e.0
+
+skips_there : (s : Status) (n next : ℕ) (closed : Bool) (step : Step) (o : Outcome) (uses : ℕ) → is_there s ≡ true → act_there s n next closed step o uses (target step) ≡ Skips s → act_of s n next closed step o uses ≡ Skips s
+skips_there (status.Ahead k) n next closed step o uses e f = cc
+skips_there status.Absent n next closed step o uses e f = f
+skips_there status.Dialing n next closed step o uses e f = f
+skips_there status.Idle n next closed step o uses e f = f
+skips_there status.Open n next closed step o uses e f = f
+skips_there (status.Gathers first) n next closed step o uses e f = f
+
+-- a line is right at a number, and the walk stands there after it
+pub record RunsLine (login : Login) (t : Tape) (n : ℕ) (ts : List Handle) (step : Step) (o : Outcome) (us : List Use) (w : Walk) : Type 0 where
+  pub act : Act
+  pub act_is : act_of w.spot.status n w.spot.next w.closed step o (length us) ≡ act
+  pub right : ActRight login n (shown_tape t) w step o us act
+  pub placed : Placed login t n ts (after_act login (shown_tape t) w o us act)
+
+pub record RunsSo (login : Login) (t : Tape) (n : ℕ) (hs ts : List Handle) (step : Step) (o : Outcome) (us : List Use) : Type 0 where
+  pub back : HasTape t (at_number hs n)
+  pub forth : (w : Walk) → Placed login t n hs w → RunsLine login t n ts step o us w
+
+module _ (login : Login) (t : Tape) (all : AreCalls login (reading login t).calls) (n : ℕ) where
+  -- a line that skips this number
+  skips_line : (hs ts : List Handle) (step : Step) (o : Outcome) (us : List Use) → n < length hs → n < length ts → at_number ts n ≡ at_number hs n
+      → ((s : Status) (next : ℕ) (closed : Bool) → act_there s n next closed step o (length us) (target step) ≡ Skips s) → HasTape t (at_number ts n) → RunsSo login t n hs ts step o us
+  skips_line hs ts step o us low lower same skips has = record {
+    back = subst (HasTape t) same has;
+    forth = λ w placed.
+        let tied = placed.there low in
+        record {
+          act = Skips w.spot.status;
+          act_is = skips_there w.spot.status n w.spot.next w.closed step o (length us) (tied_there login t (at_number hs n) w tied) (skips w.spot.status w.spot.next w.closed);
+          right = tt;
+          placed = record { there = λ _. subst (λ (h : Handle). Tied login t h w) (sym same) tied; ahead = λ high. absurd (omega (arith, high, lower)) };
+        };
+  }
+
+  -- a line before this number is dialed
+  ahead_line : (hs ts : List Handle) (step : Step) (o : Outcome) (us : List Use) → length hs ≤ n → length ts ≤ n
+      → act_ahead (n - length hs) n o (length us) (target step) ≡ Skips (status.Ahead (n - length ts)) → RunsSo login t n hs ts step o us
+  ahead_line hs ts step o us high higher skips = record {
+    back = subst (HasTape t) (sym (past hs n high)) tt;
+    forth = λ w placed.
+        let ahead = placed.ahead high in
+        record {
+          act = Skips (status.Ahead (n - length ts));
+          act_is = ap (λ s. act_of s n w.spot.next w.closed step o (length us)) ahead.0 ∙ skips;
+          right = tt;
+          placed = record { there = λ low. absurd (omega (arith, low, higher)); ahead = λ _. (refl, ahead.1) };
+        };
+  }
+
+  -- a step that names a number
+  module _ (m : ℕ) (R : Handle → Outcome → List Use → Handle → Type 0) (step : Step) (named : target step ≡ Some m) (absent : (o : Outcome) (us : List Use) (made : Handle) → R Absent o us made → IsRefused Absent o us made) where
+    named_line : (hs ts : List Handle) (o : Outcome) (us : List Use) → ((made : Handle) → HasTape t made → R (at_number hs m) o us made → m ≡ n → StepSo login t n (at_number hs m) made step o us)
+        → At m R hs o us ts → HasTape t (at_number ts n) → RunsSo login t n hs ts step o us
+    named_line hs ts o us here r has = by_number (less_or n (length hs)) (same_or m n)
+      where
+        same_length : length ts ≡ length hs
+        same_length = ap length r.others ∙ put_length m r.made hs
+
+        elsewhere : n < length hs → ((m == n) ≡ false) → m ≢ n → RunsSo login t n hs ts step o us
+        elsewhere low e f = skips_line hs ts step o us low (subst (λ z. n < z) (sym same_length) low) (ap (λ (xs : List Handle). at_number xs n) r.others ∙ put_there m n r.made hs f)
+            (λ s next closed. ap (act_there s n next closed step o (length us)) named ∙ ap (λ b. if b then act_here s n next closed step o (length us) else Skips s) e) has
+
+        at_it : n < length hs → m ≡ n → RunsSo login t n hs ts step o us
+        at_it low e =
+            let low_m : m < length hs = subst (λ z. z < length hs) (sym e) low in
+            let made_is : at_number ts n ≡ r.made = ap (at_number ts) (sym e) ∙ ap (λ (xs : List Handle). at_number xs m) r.others ∙ put_here m r.made hs low_m in
+            let s = here r.made (subst (HasTape t) made_is has) r.does e in
+            let was : at_number hs m ≡ at_number hs n = ap (at_number hs) e in
+            record {
+              back = subst (HasTape t) was s.back;
+              forth = λ w placed.
+                  let l = s.forth w (subst (λ (h : Handle). Tied login t h w) (sym was) (placed.there low)) in
+                  record {
+                    act = l.act;
+                    act_is = l.act_is;
+                    right = l.right;
+                    placed = record { there = λ _. subst (λ (h : Handle). Tied login t h (after_act login (shown_tape t) w o us l.act)) (sym made_is) l.tied; ahead = λ high. absurd (omega (arith, high, low, same_length)) };
+                  };
+            }
+
+        not_yet : length hs ≤ n → RunsSo login t n hs ts step o us
+        not_yet high = ahead_line hs ts step o us high (subst (λ z. z ≤ n) (sym same_length) high) (by_target (less_or m (length hs)) ∙ ap (λ z. Skips (status.Ahead (n - z))) (sym same_length))
+          where
+            back_to : n - (n - length hs) ≡ length hs
+            back_to = omega arith
+
+            by_target : ((nat_lt m (length hs) ≡ true) × (m < length hs)) ⊎ ((nat_lt m (length hs) ≡ false) × (length hs ≤ m)) → act_ahead (n - length hs) n o (length us) (target step) ≡ Skips (status.Ahead (n - length hs))
+            by_target (inl e) =
+                ap (act_ahead (n - length hs) n o (length us)) named
+                ∙ ap (λ z. if nat_lt m z then Skips (status.Ahead (n - length hs)) else refused (status.Ahead (n - length hs)) o (length us)) back_to
+                ∙ ap (λ b. if b then Skips (status.Ahead (n - length hs)) else refused (status.Ahead (n - length hs)) o (length us)) e.0
+            by_target (inr e) =
+                let no = absent o us r.made (subst (λ (h : Handle). R h o us r.made) (past hs m e.1) r.does) in
+                ap (act_ahead (n - length hs) n o (length us)) named
+                ∙ ap (λ z. if nat_lt m z then Skips (status.Ahead (n - length hs)) else refused (status.Ahead (n - length hs)) o (length us)) back_to
+                ∙ ap (λ b. if b then Skips (status.Ahead (n - length hs)) else refused (status.Ahead (n - length hs)) o (length us)) e.0
+                ∙ ap (λ (z : Outcome). refused (status.Ahead (n - length hs)) z (length us)) no.outcome
+                ∙ ap (λ (vs : List Use). refused (status.Ahead (n - length hs)) outcomes.NoSuchHandle (length vs)) no.uses
+
+        by_number : ((nat_lt n (length hs) ≡ true) × (n < length hs)) ⊎ ((nat_lt n (length hs) ≡ false) × (length hs ≤ n)) → (m ≡ n) ⊎ (((m == n) ≡ false) × (m ≢ n)) → RunsSo login t n hs ts step o us
+        by_number (inl low) (inl e) = at_it low.1 e
+        by_number (inl low) (inr e) = elsewhere low.1 e.0 e.1
+        by_number (inr high) e = not_yet high.1
+
+  -- a step that dials
+  conn_line : (plans : Plans) (hs ts : List Handle) (o : Outcome) (us : List Use) → DialsNext login plans hs o us ts → HasTape t (at_number ts n) → RunsSo login t n hs ts steps.Conn o us
+  conn_line plans hs ts o us r has = by_number (less_or n (length hs)) (same_or (length hs) n)
+    where
+      grown : length ts ≡ length hs + 1
+      grown = ap length r.others ∙ length-append hs (r.made ∷ [])
+
+      at_it : length hs ≡ n → RunsSo login t n hs ts steps.Conn o us
+      at_it e =
+          let none : n - length hs ≡ zero = omega arith in
+          let made_is : at_number ts n ≡ r.made = ap (at_number ts) (sym e) ∙ ap (λ (xs : List Handle). at_number xs (length hs)) r.others ∙ push_last hs r.made in
+          let d = subst (λ z. Dials login (plans.reads (length hs)) (plans.writes (length hs)) z o us r.made) e r.dials in
+          let high : length hs ≤ n = omega arith in
+          record {
+            back = subst (HasTape t) (sym (past hs n high)) tt;
+            forth = λ w placed.
+                let ahead = placed.ahead high in
+                let l : LineSo login t n r.made steps.Conn o us w = dials_so login t all n steps.Conn (plans.reads (length hs)) (plans.writes (length hs)) r.made o us (subst (HasTape t) made_is has) d w ahead.1
+                (λ z uses. ap (λ s. act_of s n w.spot.next w.closed steps.Conn z uses) (ahead.0 ∙ ap status.Ahead none)) in
+                record {
+                  act = l.act;
+                  act_is = l.act_is;
+                  right = l.right;
+                  placed = record { there = λ _. subst (λ (h : Handle). Tied login t h (after_act login (shown_tape t) w o us l.act)) (sym made_is) l.tied; ahead = λ up. absurd (omega (arith, up, grown, e)) };
+                };
+          }
+
+      by_number : ((nat_lt n (length hs) ≡ true) × (n < length hs)) ⊎ ((nat_lt n (length hs) ≡ false) × (length hs ≤ n)) → (length hs ≡ n) ⊎ (((length hs == n) ≡ false) × (length hs ≢ n)) → RunsSo login t n hs ts steps.Conn o us
+      by_number (inl low) e =
+          let lower : n < length ts = omega (arith, low.1, grown) in
+          skips_line hs ts steps.Conn o us low.1 lower (ap (λ (xs : List Handle). at_number xs n) r.others ∙ push_before hs r.made n low.1) (λ s next closed. refl) has
+      by_number (inr high) (inl e) = at_it e
+      by_number (inr high) (inr e) =
+          let other = e.1 in
+          let above : length hs < n = omega (arith, high.1, other) in
+          let higher : length ts ≤ n = omega (arith, above, grown) in
+          let some : (n - length hs) == 0 ≡ false = grind (arith, nat_tests) in
+          let less : (n - length hs) - 1 ≡ n - length ts = omega (arith, grown) in
+          ahead_line hs ts steps.Conn o us high.1 higher (ap (λ b. if b then dialed n o (length us) else Skips (status.Ahead ((n - length hs) - 1))) some ∙ ap (λ z. Skips (status.Ahead z)) less)
+
+  -- each step
+  pub line_so : (plans : Plans) (hs ts : List Handle) (step : Step) (o : Outcome) (us : List Use) → AreOnce hs → StepGrows login plans hs step o us ts → HasTape t (at_number ts n) → RunsSo login t n hs ts step o us
+  line_so plans hs ts steps.Conn o us once r has = conn_line plans hs ts o us r has
+  line_so plans hs ts (steps.Query m text) o us once r has = named_line m _ (steps.Query m text) refl (λ z vs made e. e) hs ts o us
+      (λ made h d e. subst (λ z. StepSo login t z (at_number hs m) made (steps.Query m text) o us) e (calls_so login t all m (steps.Query m text) (calls.Query text) (asks_query m text) (at_number hs m) made o us h d)) r has
+  line_so plans hs ts (steps.Next m) o us once r has = named_line m _ (steps.Next m) refl (λ z vs made e. e) hs ts o us
+      (λ made h d e. subst (λ z. StepSo login t z (at_number hs m) made (steps.Next m) o us) e (calls_so login t all m (steps.Next m) calls.NextRow (asks_next m) (at_number hs m) made o us h d)) r has
+  line_so plans hs ts (steps.Collect m) o us once r has = named_line m _ (steps.Collect m) refl (λ z vs made e. e) hs ts o us
+      (λ made h d e. subst (λ z. StepSo login t z (at_number hs m) made (steps.Collect m) o us) e (collects_so login t all m (at_number hs m) made o us h d)) r has
+  line_so plans hs ts (steps.Drop m) o us once r has = named_line m _ (steps.Drop m) refl (λ z vs made e. e) hs ts o us
+      (λ made h d e. subst (λ z. StepSo login t z (at_number hs m) made (steps.Drop m) o us) e (calls_so login t all m (steps.Drop m) calls.DropResult (asks_drop m) (at_number hs m) made o us h d)) r has
+  line_so plans hs ts (steps.Ping m) o us once r has = named_line m _ (steps.Ping m) refl (λ z vs made e. e) hs ts o us
+      (λ made h d e. subst (λ z. StepSo login t z (at_number hs m) made (steps.Ping m) o us) e (calls_so login t all m (steps.Ping m) calls.Ping (asks_ping m) (at_number hs m) made o us h d)) r has
+  line_so plans hs ts (steps.Quit m) o us once r has = named_line m _ (steps.Quit m) refl (λ z vs made e. e) hs ts o us
+      (λ made h d e. subst (λ z. StepSo login t z (at_number hs m) made (steps.Quit m) o us) e (calls_so login t all m (steps.Quit m) calls.Quit (asks_quit m) (at_number hs m) made o us h d)) r has
+  line_so plans hs ts (steps.Fields m) o us once r has = named_line m _ (steps.Fields m) refl (λ z vs made e. e) hs ts o us
+      (λ made h d e. subst (λ z. StepSo login t z (at_number hs m) made (steps.Fields m) o us) e (tells_so login t all m (at_number hs m) made o us h d)) r has
+  line_so plans hs ts (steps.Poll m) o us once r has = named_line m _ (steps.Poll m) refl (λ z vs made e. e) hs ts o us
+      (λ made h d e. subst (λ z. StepSo login t z (at_number hs m) made (steps.Poll m) o us) e (goes_on_so login t all m (at_number hs m) made o us (at_once login hs m once) h d)) r has
+  line_so plans hs ts (steps.Cancel m) o us once r has = named_line m _ (steps.Cancel m) refl (λ z vs made e. e) hs ts o us
+      (λ made h d e. subst (λ z. StepSo login t z (at_number hs m) made (steps.Cancel m) o us) e (cancels_so login t all m (at_number hs m) made o us (at_once login hs m once) h d)) r has
