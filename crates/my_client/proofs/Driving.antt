@@ -1,5 +1,5 @@
 -- A poll, with what it came to kept.
-use Rattle.std.proofs.Common.{◌≡◌, Some, false, refl, sym, ap, subst}
+use Rattle.std.proofs.Common.{◌≡◌, List, Option, Some, false, refl, sym, ap, ◌∙◌, subst}
 use Rattle.my_grammar.specs.declared.login.Login.{Login}
 use Rattle.my_session.specs.declared.task.Task.{Task}
 use Rattle.my_session.specs.declared.task.Task.TheVariants.{Nothing}
@@ -8,17 +8,19 @@ use Rattle.my_link.specs.Moves.{Stop, NoStop, ReadHold, WriteHold, ReadFault, Wr
 use Rattle.my_session.specs.Seen.{Seen}
 use Rattle.my_client.specs.declared.poll.After.{After}
 use Rattle.my_client.specs.declared.poll.After.TheVariants.{Pending, Answered, Failed}
-use Rattle.my_client.specs.declared.conn.Conn.{Conn}
 use Rattle.my_link.specs.declared.met.Met.{Met}
 use Rattle.my_client.specs.Causes.{Pends, PollEnds}
-use Rattle.my_client.specs.Drives.{Drives, kept_after}
+use Rattle.my_client.specs.Drives.{Drives, KeepsBy, RowsBy, kept_after}
+use Rattle.my_client.specs.Ready.{RestsBy}
+use Rattle.my_value.specs.RowParts.{RowParts}
 use Rattle.my_client.specs.Kept.{Asked, Kept}
 use Rattle.my_client.specs.Reads.{IsStepped, StopsRead}
 use Rattle.my_client.specs.Poll.{PendsAt, Causes, Polls}
 use Rattle.my_client.proofs.TapeRead.Stopping.{awaits_kept, owes_kept, waits_kept}
-use Rattle.my_client.specs.Conn.{kept_of, seen_by}
+use Rattle.my_client.specs.Conn.{seen_with}
 use Rattle.my_link.specs.Looks.{Looks}
-use Rattle.my_client.specs.Rests.{Rests, IsHeld, PollRests}
+use Rattle.my_client.specs.Rests.{Rests, IsAsked, IsHeld, PollRests}
+use Rattle.my_client.specs.Turns.{PollFor}
 
 nothing_begun : (t : Task) → t ≡ Nothing → is_begun t ≡ false
 nothing_begun t e = ap is_begun e
@@ -42,10 +44,10 @@ poll_rests login t k a u stop Pending c w = (w.asked.rests, record { begun = w.s
 poll_rests login t k a u stop (Answered answer) c w = (w.rests, record { begun = nothing_begun t.task c.0; stops = tt })
 poll_rests login t k a u stop (Failed e) c w = (w.rests, record { begun = nothing_begun t.task c.0; stops = tt })
 
-pub drives : {L : Type 0} (look : L → Looks) (login : Login) (a : Asked) (c b : Conn L) (end : Kept) (m : Met) (after : After) → Polls (seen_by look c) (seen_by look b) m after → (kept_of b).calls ≡ (kept_of c).calls → (kept_of b).pending ≡ Some a → PollRests login b.session.seen (kept_of b) a m after → end ≡ kept_after (kept_of b) a after → Drives login a b.session.seen (look c.link) (look b.link) (kept_of c) end m after
-drives look login a c b end m after w calls pending r is =
-    let rests = poll_rests login b.session.seen (kept_of b) a m w.stop after w.cause r in
-    let at : Drives login a b.session.seen (look c.link) (look b.link) (kept_of c) (kept_after (kept_of b) a after) m after = record {
+pub drives : (login : Login) (a : Asked) (s t : Seen) (x y : Looks) (k b end : Kept) (m : Met) (after : After) → Polls (seen_with s x k) (seen_with t y b) m after → b.calls ≡ k.calls → b.pending ≡ Some a → PollRests login t b a m after → end ≡ kept_after b a after → Drives login a t x y k end m after
+drives login a s t x y k b end m after w calls pending r is =
+    let rests = poll_rests login t b a m w.stop after w.cause r in
+    let at : Drives login a t x y k (kept_after b a after) m after = record {
       polled = record {
         of_call = w.of_call;
         within = w.within;
@@ -54,18 +56,30 @@ drives look login a c b end m after w calls pending r is =
         stop = w.stop;
         used = w.used;
         met = w.met;
-        following = kept_of b;
+        following = b;
         sent_is = w.sent_is;
         taken_is = w.taken_is;
         calls = calls;
         pending = pending;
-        ends = poll_ends login b.session.seen (kept_of b) a m w.stop after w.cause r;
+        ends = poll_ends login t b a m w.stop after w.cause r;
       };
       rests = rests.0;
       stepped = rests.1;
     } in
-    subst (λ (e : Kept). Drives login a b.session.seen (look c.link) (look b.link) (kept_of c) e m after) (sym is) at
+    subst (λ (e : Kept). Drives login a t x y k e m after) (sym is) at
 
--- keeping what it came to leaves the session and the link as they are
-pub drives_on : (login : Login) (a : Asked) (t u : Seen) (x y z : Looks) (k end : Kept) (m : Met) (after : After) → u ≡ t → z ≡ y → Drives login a t x y k end m after → Drives login a u x z k end m after
-drives_on login a t u x y z k end m after e f w = subst (λ (s : Seen). Drives login a s x z k end m after) (sym e) (subst (λ (l : Looks). Drives login a t x l k end m after) (sym f) w)
+-- the same where the notes keep how the call ended
+pub drives_for : (holds : Kept → Type 0) (s t : Seen) (x y : Looks) (k end : Kept) (m : Met) (after : After) (w : PollFor holds s t x y k m after) → KeepsBy w.following end after → (login : Login) (a : Asked) → IsAsked login s k a → Drives login a t x y k end m after
+drives_for holds s t x y k end m after w kept login a asked =
+    let pending : w.following.pending ≡ Some a = w.pending ∙ asked.asked in
+    drives login a s t x y k w.following end m after w.polls w.calls pending (w.rests login a asked) (kept a pending)
+
+-- the rows that it gathered
+pub rows_for : (holds : Kept → Type 0) (s t : Seen) (x y : Looks) (k : Kept) (m : Met) (after : After) (w : PollFor holds s t x y k m after) (rows : Option (List RowParts)) → RowsBy w.following after rows → RowsBy k after rows
+rows_for holds s t x y k m after w rows by a e = by a (w.pending ∙ e)
+
+-- an answered call is open no more
+pub rests_by : (t : Seen) (m : Met) (stop : Stop) (after : After) → Causes t m stop after → RestsBy after t
+rests_by t m stop Pending c = tt
+rests_by t m stop (Answered answer) c = c.0
+rests_by t m stop (Failed e) c = tt

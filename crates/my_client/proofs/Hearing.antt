@@ -1,5 +1,6 @@
 -- A connection's session goes on standing for what the connection kept.
 pub mod Beginning
+pub mod Cancelling
 pub mod Failing
 pub mod Readying
 pub mod Stepping

@@ -1,4 +1,5 @@
 pub mod Hearing
 pub mod TapeRead
 pub mod Rounds
+pub mod Turning
 pub mod Driving

@@ -4,6 +4,7 @@ use Rattle.my_link.specs.Looks.{Looks}
 use Rattle.my_session.specs.Seen.{Seen}
 use Rattle.my_client.specs.declared.conn.Conn.{Conn}
 use Rattle.my_client.specs.declared.tape.OpenCall.{OpenCall}
+use Rattle.my_client.specs.declared.tape.Tape.{Tape}
 use Rattle.my_client.specs.Kept.{Asked, Kept}
 
 abbrev pub asked_in : Option OpenCall → Option Asked
@@ -11,8 +12,11 @@ asked_in None = None
 asked_in (Some o) =
     Some (record { call = o.call; sent_from = o.sent_from; taken_from = o.taken_from; rows = option_map (λ rows. rows.items) o.rows })
 
+abbrev pub kept_in : Tape → Kept
+kept_in t = record { sent = t.sent.items; taken = t.taken.items; calls = t.calls.items; pending = asked_in t.pending }
+
 abbrev pub kept_of : {L : Type 0} → Conn L → Kept
-kept_of c = record { sent = c.sent.items; taken = c.taken.items; calls = c.calls.items; pending = asked_in c.pending }
+kept_of c = kept_in c.tape
 
 -- its session, what its link shows, and the bytes that were sent and taken
 pub record ConnSeen : Type 0 where
@@ -21,5 +25,6 @@ pub record ConnSeen : Type 0 where
   pub sent : List ℕ
   pub taken : List ℕ
 
-abbrev pub seen_by : {L : Type 0} → (L → Looks) → Conn L → ConnSeen
-seen_by look c = record { session = c.session.seen; looks = look c.link; sent = c.sent.items; taken = c.taken.items }
+-- the same, of a connection that did what was kept
+abbrev pub seen_with : Seen → Looks → Kept → ConnSeen
+seen_with s x k = record { session = s; looks = x; sent = k.sent; taken = k.taken }

@@ -45,19 +45,25 @@ RowsOf a (Answered answer) rows = rows ≡ a.rows
 RowsOf a (Failed e) rows = rows ≡ a.rows
 
 -- of each call that may be open
+abbrev pub RowsBy : Kept → After → Option (List RowParts) → Type 0
+RowsBy k after rows = (a : Asked) → k.pending ≡ Some a → RowsOf a after rows
+
 abbrev pub EachRows : {L : Type 0} → Conn L → After → Option (List RowParts) → Type 0
-EachRows c after rows = (a : Asked) → (kept_of c).pending ≡ Some a → RowsOf a after rows
+EachRows c after rows = RowsBy (kept_of c) after rows
 
 -- where a call was open, it is kept as ended so, or as the poll left it
-abbrev pub EachEnded : {L : Type 0} → Conn L → Conn L → Said → Type 0
-EachEnded c d said = (a : Asked) → (kept_of c).pending ≡ Some a → kept_of d ≡ ended_by (kept_of c) a said
+abbrev pub EndsBy : Kept → Kept → Said → Type 0
+EndsBy k end said = (a : Asked) → k.pending ≡ Some a → end ≡ ended_by k a said
 
-abbrev pub EachKept : {L : Type 0} → Conn L → Conn L → After → Type 0
-EachKept c d after = (a : Asked) → (kept_of c).pending ≡ Some a → kept_of d ≡ kept_after (kept_of c) a after
+abbrev pub EachEnded : {L : Type 0} → Conn L → Conn L → Said → Type 0
+EachEnded c d said = EndsBy (kept_of c) (kept_of d) said
+
+abbrev pub KeepsBy : Kept → Kept → After → Type 0
+KeepsBy k end after = (a : Asked) → k.pending ≡ Some a → end ≡ kept_after k a after
 
 -- the rows that it gathered are returned
-abbrev pub EachGathered : {L : Type 0} → Conn L → Option (List RowParts) → Type 0
-EachGathered c rows = (a : Asked) → (kept_of c).pending ≡ Some a → rows ≡ a.rows
+abbrev pub GathersBy : Kept → Option (List RowParts) → Type 0
+GathersBy k rows = (a : Asked) → k.pending ≡ Some a → rows ≡ a.rows
 
 -- a session whose call was cancelled stands for each history that it stood for, with that call dropped
 abbrev pub CancelStands : Seen → Seen → Type 0

@@ -7,3 +7,5 @@ pub mod Rests
 pub mod Drives
 pub mod Ready
 pub mod Poll
+pub mod Notes
+pub mod Turns

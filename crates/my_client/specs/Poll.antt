@@ -57,7 +57,7 @@ Fails x y = ReadFails x y ⊎ WriteFails x y
 
 -- by what the turn did: what became of the session, the link, and the bytes that were sent and taken
 abbrev pub TurnIs : ConnSeen → ConnSeen → Turn → Type 0
-TurnIs x y Sent = (is_open y.session.task ≡ true) × WentOut x y × (y.taken ≡ x.taken) × (length x.sent < length y.sent)
+TurnIs x y Sent = (is_open y.session.task ≡ true) × WentOut x y × (y.taken ≡ x.taken)
 TurnIs x y (Took n) = (is_open y.session.task ≡ true) × CameIn x y n × (y.sent ≡ x.sent)
 TurnIs x y (Ended error) = (y.session.task ≡ Nothing) × ReadEnds x.looks y.looks × (y.sent ≡ x.sent)
     × (y.taken ≡ x.taken)

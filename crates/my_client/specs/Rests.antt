@@ -21,8 +21,6 @@ use Rattle.my_client.specs.declared.poll.Turn.{Turn}
 use Rattle.my_client.specs.declared.poll.Turn.TheVariants.{Sent, Took, Ended, Broke, Held, Full, Answered, Faulted}
 use Rattle.my_client.specs.declared.tape.Said.TheVariants as says
 use Rattle.my_link.specs.declared.met.Met.{Met}
-use Rattle.my_client.specs.declared.conn.Conn.{Conn}
-use Rattle.my_client.specs.Conn.{asked_in, kept_of}
 use Rattle.my_client.specs.Causes.{WhyFailed, ErrorBy}
 use Rattle.my_client.specs.Kept.{Asked, Kept, IsHeard, ended_by}
 use Rattle.my_client.specs.Reads.{ComesTo, ReadsAs, StoppedRead}
@@ -91,26 +89,6 @@ PollRests login s k a u after.Pending = IsHeld login s k a
 PollRests login s k a u (after.Answered answer) = IsAnswered login s k a answer
 PollRests login s k a u (after.Failed e) = HasFailed login s k a e u.faults u.ends
 
--- The same for each login and call that the connection may have had before: of a call that fails at once, of a turn that
--- sends, of one that receives, of any turn, and of a poll.
-abbrev pub FailLeaves : {L : Type 0} → Conn L → Conn L → Error → Type 0
-FailLeaves c d e = (login : Login) (a : Asked) → IsHeard login c.session.seen (kept_of c)
-    → asked_in c.pending ≡ Some a
-    → FailsNow login c.session.seen d.session.seen (kept_of c) a e
-
-abbrev pub SendLeaves : {L : Type 0} → Conn L → Conn L → Turn → Type 0
-SendLeaves c d turn = (login : Login) (a : Asked) → IsHeld login c.session.seen (kept_of c) a
-    → TurnRests login d.session.seen (kept_of d) a turn
-
-abbrev pub ReceiveLeaves : {L : Type 0} → Conn L → Conn L → Turn → Type 0
-ReceiveLeaves c d turn = (login : Login) (a : Asked) → IsHeld login c.session.seen (kept_of c) a
-    → AwaitsBytes c.session.seen
-    → TurnRests login d.session.seen (kept_of d) a turn
-
-abbrev pub TurnLeaves : {L : Type 0} → Conn L → Conn L → Turn → Type 0
-TurnLeaves c d turn = (login : Login) (a : Asked) → IsAsked login c.session.seen (kept_of c) a
-    → TurnRests login d.session.seen (kept_of d) a turn
-
-abbrev pub PollLeaves : {L : Type 0} → Conn L → Conn L → Met → After → Type 0
-PollLeaves c d m after = (login : Login) (a : Asked) → IsAsked login c.session.seen (kept_of c) a
-    → PollRests login d.session.seen (kept_of d) a m after
+-- the same of a call that fails at once, for each login, for all that may have been kept, and for each call
+abbrev pub FailLeaves : Seen → Seen → Error → Type 0
+FailLeaves s t e = (login : Login) (k : Kept) (a : Asked) → IsHeard login s k → k.pending ≡ Some a → FailsNow login s t k a e

@@ -5,13 +5,13 @@ ghost use Rattle.my_session.specs.Tasks.{is_open};
 ghost use Rattle.my_session.specs.History.{beginning};
 ghost use Rattle.my_session.specs.Stands.{Stands};
 ghost use Rattle.my_session.specs.Steps.{fresh};
-ghost use Rattle.my_client.specs.Conn.{asked_in, kept_of};
+ghost use Rattle.my_client.specs.Conn.{kept_of};
 ghost use Rattle.my_client.specs.Kept.{Asked, nothing_kept, first_asked, first_kept};
 ghost use Rattle.my_client.specs.Login.{login_of};
 ghost use Rattle.my_client.specs.Rests.{IsAsked};
 
 use crate::login::login_for;
-use crate::tape::{DoneCall, OpenCall, ask};
+use crate::tape::{Tape, ask};
 use my_frame::NoMemory;
 use my_link::Link;
 use my_opts::Opts;
@@ -25,12 +25,7 @@ use std::alloc::Global;
 pub struct Conn<L> {
     pub session: Session,
     pub link: L,
-    /// The bytes that were sent and taken.
-    pub sent: Vec<u8>,
-    pub taken: Vec<u8>,
-    /// The calls that ended, the oldest first.
-    pub calls: Vec<DoneCall>,
-    pub pending: Option<OpenCall>,
+    pub tape: Tape,
 }
 
 // A connection over `link` on which no call began.
@@ -45,10 +40,7 @@ fn new_conn<L: Link + Drop>(alloc: Global, opts: &Opts, link: L) -> Result<Conn<
     Ok(Conn {
         session,
         link,
-        sent: Vec::new(alloc),
-        taken: Vec::new(alloc),
-        calls: Vec::new(alloc),
-        pending: None,
+        tape: Tape::new(alloc),
     })
 }
 
@@ -69,9 +61,9 @@ pub fn begin_conn<L: Link + Drop>(alloc: Global, opts: &Opts, link: L) -> Result
 
 /// Whether the open call is the handshake.
 pub fn is_connecting<L>(conn: &Conn<L>) -> bool
-    ensures { (a : Asked) → asked_in conn.now.pending ≡ Some a → result ≡ is_connect (kind_of a.call) }
+    ensures { (a : Asked) → (kept_of conn.now).pending ≡ Some a → result ≡ is_connect (kind_of a.call) }
 {
-    match &conn.pending {
+    match &conn.tape.pending {
         None => false,
         Some(open) => match open.call {
             Call::Connect => true,
@@ -82,9 +74,9 @@ pub fn is_connecting<L>(conn: &Conn<L>) -> bool
 
 /// Whether the open call gathers a set's rows.
 pub fn is_gathering<L>(conn: &Conn<L>) -> bool
-    ensures { (a : Asked) → asked_in conn.now.pending ≡ Some a → result ≡ is_some a.rows }
+    ensures { (a : Asked) → (kept_of conn.now).pending ≡ Some a → result ≡ is_some a.rows }
 {
-    match &conn.pending {
+    match &conn.tape.pending {
         None => false,
         Some(open) => open.rows.is_some(),
     }

@@ -5,8 +5,7 @@ ghost use Rattle.my_client.specs.Drives.{EachDrives, EachRows};
 ghost use Rattle.my_client.specs.Ready.{RestsBy};
 
 use crate::conn::Conn;
-use crate::poll::{After, poll_conn};
-use crate::tape::keep;
+use crate::poll::{After, poll_session};
 use my_frame::NoMemory;
 use my_link::{Link, Met};
 use my_value::Row;
@@ -24,7 +23,7 @@ pub fn drive<L: Link>(
     ensures rows { IfOk result (λ d. EachRows conn.old d.0 (option_map (λ v. v.items) d.2)) }
     ensures drives { IfOk result (λ d. EachDrives L.looks conn.old conn.new d.1 d.0) }
 {
-    let (after, met) = poll_conn(alloc, conn)?;
-    let rows = keep(alloc, conn, &after)?;
+    let (after, met) = poll_session(alloc, &mut conn.session, &mut conn.link, &mut conn.tape)?;
+    let rows = conn.tape.keep(alloc, &after)?;
     Ok((after, met, rows))
 }

@@ -4,11 +4,13 @@
 mod conn;
 mod driver;
 mod login;
+mod notes;
 mod poll;
 mod tape;
 
 pub use conn::{Conn, begin_conn, is_connecting, is_gathering, last_ok};
 pub use driver::drive;
 pub use login::login_for;
-pub use poll::{After, poll_conn};
-pub use tape::{DoneCall, OpenCall, Said, ask, cancel_call, note};
+pub use notes::Notes;
+pub use poll::{After, poll_session};
+pub use tape::{DoneCall, OpenCall, Said, Tape, ask, cancel_call, note};

@@ -1,19 +1,19 @@
-//! Polls a connection's open call until it returns or the link isn't ready.
+//! Polls a session's open call over a link until it returns or the link isn't ready.
 ghost use Rattle.std.specs.Prelude.{◌≡◌, ◌≢◌, ◌+◌, ◌<◌, ◌≤◌, true, false, IfOk, OnOk};
 ghost use Rattle.my_session.specs.Tasks.{is_open};
 ghost use Rattle.my_session.specs.Ends.{Fails};
 ghost use Rattle.my_session.specs.Steps.{StepIs, with_end};
 ghost use Rattle.my_session.specs.declared.task.Task.TheVariants.{Nothing};
-ghost use Rattle.my_client.specs.Conn.{seen_by};
-ghost use Rattle.my_client.specs.Poll.{TurnIs, took_by, is_full, met_by, came_to, Polls};
-ghost use Rattle.my_client.specs.Rests.{FailLeaves, SendLeaves, ReceiveLeaves, TurnLeaves, PollLeaves};
+ghost use Rattle.my_client.specs.Poll.{took_by, is_full, met_by, came_to};
+ghost use Rattle.my_client.specs.Rests.{FailLeaves, IsAsked, IsHeld};
+ghost use Rattle.my_client.specs.Turns.{EachPoll, EachTurn, IsAwaiting, StaysOn};
 
-use crate::conn::Conn;
+use crate::notes::Notes;
 use my_frame::NoMemory;
 use my_frame::limits::MOST_TAKEN;
 use my_link::{Link, Met, ReadStep, WriteStep};
 use my_reading::{Answer, Error};
-use my_session::{LinkFault, SessionStep};
+use my_session::{LinkFault, Session, SessionStep};
 use std::alloc::Global;
 
 /// What a poll came to.
@@ -55,98 +55,107 @@ fn fault(error: Error) -> Result<Error, NoMemory>
 }
 
 // The session was told that the link failed or ended: its next step returns the error.
-fn fail_now<L: Link>(alloc: Global, conn: &mut Conn<L>) -> Result<Error, NoMemory>
-    requires is_on { is_open conn.old.session.seen.task ≡ true }
-    requires fails { Fails conn.old.session.seen }
-    ensures task { OnOk result (conn.new.session.seen.task ≡ Nothing) }
+fn fail_now(alloc: Global, session: &mut Session) -> Result<Error, NoMemory>
+    requires is_on { is_open session.old.seen.task ≡ true }
+    requires fails { Fails session.old.seen }
+    ensures task { OnOk result (session.new.seen.task ≡ Nothing) }
     ensures found { IfOk result (λ e. e ≢ Error.NoMemory) }
-    ensures link { OnOk result (conn.new.link ≡ conn.old.link) }
-    ensures sent { OnOk result (conn.new.sent ≡ conn.old.sent) }
-    ensures taken { OnOk result (conn.new.taken ≡ conn.old.taken) }
-    ensures calls { OnOk result (conn.new.calls ≡ conn.old.calls) }
-    ensures pending { OnOk result (conn.new.pending ≡ conn.old.pending) }
-    ensures rests { IfOk result (λ e. FailLeaves conn.old conn.new e) }
+    ensures rests { IfOk result (λ e. FailLeaves session.old.seen session.new.seen e) }
 {
-    match conn.session.step(alloc) {
+    match session.step(alloc) {
         SessionStep::Fault(error) => fault(error),
         SessionStep::Send | SessionStep::Need | SessionStep::Done(_) => unreachable!(),
     }
 }
 
 // Sends some of what is owed.
-fn send<L: Link>(alloc: Global, conn: &mut Conn<L>) -> Result<Turn, NoMemory>
-    requires { StepIs conn.old.session.seen SessionStep.Send }
-    ensures turn { IfOk result (λ turn. TurnIs (seen_by L.looks conn.old) (seen_by L.looks conn.new) turn) }
+fn send<L: Link, T: Notes>(
+    alloc: Global,
+    session: &mut Session,
+    link: &mut L,
+    notes: &mut T,
+) -> Result<Turn, NoMemory>
+    requires { StepIs session.old.seen SessionStep.Send }
+    ensures turn { IfOk result (λ turn. EachTurn IsHeld T.keeps session.old.seen session.new.seen
+        (L.looks link.old) (L.looks link.new) notes.old notes.new turn) }
     ensures took { IfOk result (λ turn. took_by turn ≡ 0) }
     ensures full { IfOk result (λ turn. is_full turn ≡ false) }
-    ensures calls { OnOk result (conn.new.calls ≡ conn.old.calls) }
-    ensures pending { OnOk result (conn.new.pending ≡ conn.old.pending) }
-    ensures rests { IfOk result (λ turn. SendLeaves conn.old conn.new turn) }
+    ensures on { IfOk result (λ turn. StaysOn turn session.new.seen) }
 {
-    match conn.link.write(conn.session.owed()) {
+    match link.write(session.owed()) {
         WriteStep::Took(n) => {
-            conn.sent.extend_from_slice(&conn.session.owed()[..n])?;
-            conn.session.sent(n);
+            notes.note_sent(&session.owed()[..n])?;
+            session.sent(n);
             Ok(Turn::Sent)
         }
         WriteStep::NotYet => Ok(Turn::Held),
         WriteStep::Failed => {
-            conn.session.fail(LinkFault::Link);
-            Ok(Turn::Broke(fail_now(alloc, conn)?))
+            session.fail(LinkFault::Link);
+            Ok(Turn::Broke(fail_now(alloc, session)?))
         }
         WriteStep::NoMemory => Err(NoMemory),
     }
 }
 
 // Takes some of what the link has, at most `room` bytes.
-fn receive<L: Link>(alloc: Global, conn: &mut Conn<L>, room: u64) -> Result<Turn, NoMemory>
-    requires step { StepIs conn.old.session.seen SessionStep.Need }
+fn receive<L: Link, T: Notes>(
+    alloc: Global,
+    session: &mut Session,
+    link: &mut L,
+    notes: &mut T,
+    room: u64,
+) -> Result<Turn, NoMemory>
+    requires step { StepIs session.old.seen SessionStep.Need }
     requires room { 0 < room }
-    requires ends { Fails (with_end conn.old.session.seen) }
-    ensures turn { IfOk result (λ turn. TurnIs (seen_by L.looks conn.old) (seen_by L.looks conn.new) turn) }
+    requires ends { Fails (with_end session.old.seen) }
+    ensures turn { IfOk result (λ turn. EachTurn IsAwaiting T.keeps session.old.seen session.new.seen
+        (L.looks link.old) (L.looks link.new) notes.old notes.new turn) }
     ensures within { IfOk result (λ turn. took_by turn ≤ room) }
     ensures full { IfOk result (λ turn. is_full turn ≡ false) }
-    ensures calls { OnOk result (conn.new.calls ≡ conn.old.calls) }
-    ensures pending { OnOk result (conn.new.pending ≡ conn.old.pending) }
-    ensures rests { IfOk result (λ turn. ReceiveLeaves conn.old conn.new turn) }
+    ensures on { IfOk result (λ turn. StaysOn turn session.new.seen) }
 {
     let mut buf = [0u8; 4096];
     let most = room.min(4096) as usize;
-    match conn.link.read(&mut buf[..most]) {
+    match link.read(&mut buf[..most]) {
         ReadStep::Got(n) => {
-            conn.session.take(&buf[..n])?;
-            conn.taken.extend_from_slice(&buf[..n])?;
+            session.take(&buf[..n])?;
+            notes.note_taken(&buf[..n])?;
             Ok(Turn::Took(n as u64))
         }
         ReadStep::NotYet => Ok(Turn::Held),
         ReadStep::End => {
-            conn.session.end();
-            Ok(Turn::Ended(fail_now(alloc, conn)?))
+            session.end();
+            Ok(Turn::Ended(fail_now(alloc, session)?))
         }
         ReadStep::Failed => {
-            conn.session.fail(LinkFault::Link);
-            Ok(Turn::Broke(fail_now(alloc, conn)?))
+            session.fail(LinkFault::Link);
+            Ok(Turn::Broke(fail_now(alloc, session)?))
         }
     }
 }
 
 // One turn: what the session asks for is done with the link.
-fn take_turn<L: Link>(alloc: Global, conn: &mut Conn<L>, room: u64) -> Result<Turn, NoMemory>
-    requires { is_open conn.old.session.seen.task ≡ true }
-    ensures turn { IfOk result (λ turn. TurnIs (seen_by L.looks conn.old) (seen_by L.looks conn.new) turn) }
+fn take_turn<L: Link, T: Notes>(
+    alloc: Global,
+    session: &mut Session,
+    link: &mut L,
+    notes: &mut T,
+    room: u64,
+) -> Result<Turn, NoMemory>
+    requires { is_open session.old.seen.task ≡ true }
+    ensures turn { IfOk result (λ turn. EachTurn IsAsked T.keeps session.old.seen session.new.seen
+        (L.looks link.old) (L.looks link.new) notes.old notes.new turn) }
     ensures within { IfOk result (λ turn. took_by turn ≤ room) }
     ensures full { IfOk result (λ turn. is_full turn ≡ true → room ≡ 0) }
-    ensures calls { OnOk result (conn.new.calls ≡ conn.old.calls) }
-    ensures pending { OnOk result (conn.new.pending ≡ conn.old.pending) }
-    ensures rests { IfOk result (λ turn. TurnLeaves conn.old conn.new turn) }
+    ensures on { IfOk result (λ turn. StaysOn turn session.new.seen) }
 {
-    match conn.session.step(alloc) {
-        SessionStep::Send => send(alloc, conn),
+    match session.step(alloc) {
+        SessionStep::Send => send(alloc, session, link, notes),
         SessionStep::Need => {
             if room == 0 {
                 return Ok(Turn::Full);
             }
-            receive(alloc, conn, room)
+            receive(alloc, session, link, notes, room)
         }
         SessionStep::Done(answer) => Ok(Turn::Answered(answer)),
         SessionStep::Fault(error) => Ok(Turn::Faulted(fault(error)?)),
@@ -185,23 +194,27 @@ fn after_turn(turn: Turn) -> Option<After>
 }
 
 /// Goes on with the open call until it returns, the link isn't ready, or the poll took all that it may.
-pub fn poll_conn<L: Link>(alloc: Global, conn: &mut Conn<L>) -> Result<(After, Met), NoMemory>
-    requires { is_open conn.old.session.seen.task ≡ true }
-    ensures polls { IfOk result (λ p. Polls (seen_by L.looks conn.old) (seen_by L.looks conn.new) p.1 p.0) }
-    ensures calls { OnOk result (conn.new.calls ≡ conn.old.calls) }
-    ensures pending { OnOk result (conn.new.pending ≡ conn.old.pending) }
-    ensures rests { IfOk result (λ p. PollLeaves conn.old conn.new p.1 p.0) }
+///
+/// It returns what the poll came to and what it met. A poll that takes more turns than can be counted is out of memory.
+pub fn poll_session<L: Link, T: Notes>(
+    alloc: Global,
+    session: &mut Session,
+    link: &mut L,
+    notes: &mut T,
+) -> Result<(After, Met), NoMemory>
+    requires { is_open session.old.seen.task ≡ true }
+    ensures polls { IfOk result (λ p. EachPoll T.keeps session.old.seen session.new.seen
+        (L.looks link.old) (L.looks link.new) notes.old notes.new p.1 p.0) }
+    ensures within { IfOk result (λ p. p.1.taken ≤ MOST_TAKEN) }
 {
     let mut met = Met::nothing();
-    'turns: loop {
-        let turn = take_turn(alloc, conn, MOST_TAKEN - met.taken)?;
-        // A turn after which the poll goes on takes a byte, of at most MOST_TAKEN, or sends one, and what was sent fits
-        // into memory.
-        prove!(conn.sent.len() <= usize::MAX);
+    'turns: for _ in 0..u64::MAX {
+        let turn = take_turn(alloc, session, link, notes, MOST_TAKEN - met.taken)?;
         met = met_after(&turn, met);
         match after_turn(turn) {
             None => {}
             Some(after) => return Ok((after, met)),
         }
     }
+    Err(NoMemory)
 }

@@ -47,16 +47,13 @@ fn end_tape<L: Drop>(alloc: Global, conn: Conn<L>, number: u64) -> Result<Tape, 
     let Conn {
         session: _,
         link: _,
-        sent,
-        taken,
-        calls,
-        pending,
+        tape,
     } = conn;
-    let calls = tape_calls(alloc, calls, pending)?;
+    let calls = tape_calls(alloc, tape.calls, tape.pending)?;
     Ok(Tape {
         number,
-        sent,
-        taken,
+        sent: tape.sent,
+        taken: tape.taken,
         calls,
     })
 }

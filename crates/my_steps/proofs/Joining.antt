@@ -34,6 +34,7 @@ use Rattle.my_steps.specs.Handle.{Handle, Absent, Dialing, Joined, at_number, pu
 use Rattle.my_client.specs.Ready.{WereJoined, WasJoined, IsOpen, JoinedBy}
 use Rattle.my_steps.specs.Ready.{IsJoined, AllJoined}
 use Rattle.my_client.proofs.Hearing.{made_more}
+use Rattle.my_client.proofs.Hearing.Readying.{connect_ready}
 
 -- at rest
 rested_joined : (k : Kept) (x : Looks) → k.pending ≡ None → WasJoined k → IsJoined (Joined true k x)
@@ -60,18 +61,6 @@ ended_joined k a said w = subst WereJoined (sym (made_more k.calls (record { cal
 
 same_joined : (k m : Kept) → m.calls ≡ k.calls → WasJoined k → WasJoined m
 same_joined k m e w = subst (λ cs. WereJoined (made_of cs)) (sym e) w
-
--- the handshake that is answered connects
-connect_ready : (c : CallKind) (answer : Answer) → is_connect c ≡ true → may_be c (told answer) ≡ true → connects (told answer) c ≡ true
-connect_ready Connect answers.Ready e m = refl
-connect_ready Connect (answers.Row row) e m = cc
-connect_ready Connect answers.SetEnd e m = cc
-connect_ready Connect answers.NoSet e m = cc
-connect_ready Query answer e m = cc
-connect_ready NextRow answer e m = cc
-connect_ready DropResult answer e m = cc
-connect_ready Ping answer e m = cc
-connect_ready Quit answer e m = cc
 
 -- a poll of another call
 poll_joined : (login : Login) (a : Asked) (k b end : Kept) (u : Met) (st : Stop) (p : After) → b.calls ≡ k.calls → WasJoined k → PollEnds login a b u st p end → WasJoined end

@@ -43,7 +43,7 @@ pub(crate) fn refused_call<L>(
     ensures link { conn.new.link ≡ conn.old.link }
 {
     let copy = error.copy(alloc)?;
-    let _ = note(conn, Said::Failed(copy))?;
+    note(conn, Said::Failed(copy))?;
     Ok(unused(alloc, Outcome::Failed(error)))
 }
 

@@ -103,7 +103,7 @@ begun_stands DropResult spot connected p w first = settled_not_greeting spot (se
 begun_stands Ping spot connected p w first = settled_not_greeting spot (settled_reads spot w.1)
 begun_stands Quit spot connected p w first = settled_not_greeting spot (settled_reads spot w.1)
 
-idle_task : (t : Task) → is_open t ≡ false → t ≡ Nothing
+pub idle_task : (t : Task) → is_open t ≡ false → t ≡ Nothing
 idle_task Nothing e = refl
 idle_task (Begun c) e = cc
 idle_task (Cleaning c) e = cc
@@ -155,7 +155,7 @@ begins login s t k call rows idle e st w = record {
   asked = refl;
 }
 
-refused_so : (closed quit : Bool) → closed && not quit ≡ true → (closed ≡ true) × (quit ≡ false)
+pub refused_so : (closed quit : Bool) → closed && not quit ≡ true → (closed ≡ true) × (quit ≡ false)
 refused_so true false e = (refl, refl)
 refused_so true true e = cc
 refused_so false quit e = cc

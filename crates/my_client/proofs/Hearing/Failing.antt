@@ -1,5 +1,5 @@
 -- Why the open call failed: by its own, by the link's fault, or by the link's end.
-use Rattle.std.proofs.Common.{ℕ, ◌≡◌, ◌≢◌, suc, zero, List, [], Bool, true, false, Option, Some, None, Result, Ok, Err, IfOk, ◌⊎◌, inl, inr, refl, sym, ap, ◌∙◌, subst, arith}
+use Rattle.std.proofs.Common.{ℕ, ◌≡◌, ◌≢◌, suc, zero, [], Bool, true, false, Option, Some, None, Result, Ok, Err, IfOk, ◌⊎◌, inl, inr, refl, sym, ap, ◌∙◌, subst, arith}
 use Rattle.my_grammar.specs.declared.login.Login.{Login}
 use Rattle.my_session.specs.declared.answer.SessionStep.TheVariants as steps
 use Rattle.my_session.specs.declared.task.LinkFault.{LinkFault}
@@ -25,14 +25,13 @@ use Rattle.my_session.specs.Seen.{Seen}
 use Rattle.my_session.specs.Stands.{Stands, is_alive, owes}
 use Rattle.my_session.specs.Steps.{Steps, AllGo, goes_on, moved, with_end, with_failing, failing}
 use Rattle.my_session.proofs.Ends.{first_goes}
-use Rattle.my_client.specs.declared.tape.DoneCall.{DoneCall}
 use Rattle.my_reading.specs.declared.error.IoFault.{IoFault}
 use Rattle.my_client.specs.Causes.{KindBy, IoBy, ErrorBy}
 use Rattle.my_client.specs.Poll.{Awaits, Waits}
 use Rattle.my_client.specs.declared.tape.Said.TheVariants as says
-use Rattle.my_client.specs.Kept.{Asked, Kept, IsHeard, ended_by}
+use Rattle.my_client.specs.Kept.{Asked, Kept, ended_by}
 use Rattle.my_client.specs.Reads.{ComesTo, IsWaiting, RestRead, stop_kept}
-use Rattle.my_client.specs.Rests.{IsAsked, IsHeld, FailsNow, HasFailed, AwaitsBytes}
+use Rattle.my_client.specs.Rests.{IsAsked, IsHeld, FailsNow, FailLeaves, HasFailed, AwaitsBytes}
 use Rattle.my_client.proofs.Hearing.{heard_end, heard_failing}
 use Rattle.my_client.proofs.Hearing.Stepping.{StepStands, asked_read, fails_now, nothing_faults}
 use Rattle.my_client.proofs.TapeRead.Sessions.{broke_read, end_read, fault_read, fault_stop}
@@ -166,24 +165,18 @@ ended login s r t k a e ne w waits asks is u =
       | inr memory ↦ absurd (ne memory)
     ]
 
-pub fails_ok : {E : Type 0} (r : Result Error E) (error : Error) (s t : Seen) (k : Kept) (p : Option Asked) → IfOk r (λ e. e ≡ error) → ((login : Login) (a : Asked) → IsHeard login s k → p ≡ Some a → FailsNow login s t k a error) → IfOk r (λ e. (login : Login) → (a : Asked) → IsHeard login s k → p ≡ Some a → FailsNow login s t k a e)
-fails_ok (Ok e) error s t k p is f = λ login a w q. subst (λ (x : Error). FailsNow login s t k a x) (sym is) (f login a w q)
-fails_ok (Err e) error s t k p is f = tt
-
--- a connection that only its link or its session tells apart keeps the same
-same_kept : (k g : Kept) → g.sent ≡ k.sent → g.taken ≡ k.taken → g.calls ≡ k.calls → g.pending ≡ k.pending → g ≡ k
-same_kept k g s t c p = ap (λ (x : List ℕ). record { sent = x; taken = g.taken; calls = g.calls; pending = g.pending }) s ∙ ap (λ (x : List ℕ). record { sent = k.sent; taken = x; calls = g.calls; pending = g.pending }) t ∙ ap (λ (x : List DoneCall). record { sent = k.sent; taken = k.taken; calls = x; pending = g.pending }) c ∙ ap (λ (x : Option Asked). record { sent = k.sent; taken = k.taken; calls = k.calls; pending = x }) p
+pub fails_ok : {E : Type 0} (r : Result Error E) (error : Error) (s t : Seen) → IfOk r (λ e. e ≡ error) → FailLeaves s t error → IfOk r (λ e. FailLeaves s t e)
+fails_ok (Ok e) error s t is f = subst (λ (x : Error). FailLeaves s t x) (sym is) f
+fails_ok (Err e) error s t is f = tt
 
 -- the fault of a link, after which what was kept is the same
-pub broke_so : (login : Login) (s r t : Seen) (k g : Kept) (a : Asked) (e : Error) → e ≢ errors.NoMemory → Waits s → r ≡ with_failing s faults.Link → ((h : History) → Stands s h → Stands r h) → ((login : Login) (a : Asked) → IsHeard login r k → k.pending ≡ Some a → FailsNow login r t k a e) → g.sent ≡ k.sent → g.taken ≡ k.taken → g.calls ≡ k.calls → g.pending ≡ k.pending → IsHeld login s k a → HasFailed login t g a e 1 0
-broke_so login s r t k g a e ne asks is st fails s1 t1 c1 p1 w =
-    subst (λ (x : Kept). HasFailed login t x a e 1 0) (sym (same_kept k g s1 t1 c1 p1))
-    (broke login s r t k a e ne w asks is (fails login a (heard_failing login s r k faults.Link is st w.asked.rests.heard) w.asked.asked))
+pub broke_so : (login : Login) (s r t : Seen) (k : Kept) (a : Asked) (e : Error) → e ≢ errors.NoMemory → Waits s → r ≡ with_failing s faults.Link → ((h : History) → Stands s h → Stands r h) → FailLeaves r t e → IsHeld login s k a → HasFailed login t k a e 1 0
+broke_so login s r t k a e ne asks is st fails w =
+    broke login s r t k a e ne w asks is (fails login k a (heard_failing login s r k faults.Link is st w.asked.rests.heard) w.asked.asked)
 
-pub ended_so : (login : Login) (s r t : Seen) (k g : Kept) (a : Asked) (e : Error) → e ≢ errors.NoMemory → r ≡ with_end s → ((h : History) → Stands s h → Stands r (ending h)) → ((login : Login) (a : Asked) → IsHeard login r k → k.pending ≡ Some a → FailsNow login r t k a e) → g.sent ≡ k.sent → g.taken ≡ k.taken → g.calls ≡ k.calls → g.pending ≡ k.pending → AwaitsBytes s → Awaits s → IsHeld login s k a → HasFailed login t g a e 0 1
-ended_so login s r t k g a e ne is st fails s1 t1 c1 p1 waits asks w =
-    subst (λ (x : Kept). HasFailed login t x a e 0 1) (sym (same_kept k g s1 t1 c1 p1))
-    (ended login s r t k a e ne w waits (awaits_kept login s k a w.stopped w.asked.asked asks.needs.1) is (fails login a (heard_end login s r k is st w.asked.rests.heard) w.asked.asked))
+pub ended_so : (login : Login) (s r t : Seen) (k : Kept) (a : Asked) (e : Error) → e ≢ errors.NoMemory → r ≡ with_end s → ((h : History) → Stands s h → Stands r (ending h)) → FailLeaves r t e → AwaitsBytes s → Awaits s → IsHeld login s k a → HasFailed login t k a e 0 1
+ended_so login s r t k a e ne is st fails waits asks w =
+    ended login s r t k a e ne w waits (awaits_kept login s k a w.stopped w.asked.asked asks.needs.1) is (fails login k a (heard_end login s r k is st w.asked.rests.heard) w.asked.asked)
 
 pub faulted_same : (login : Login) (s t : Seen) (k : Kept) (a : Asked) (e x : Error) → x ≡ e → x ≢ errors.NoMemory → IsAsked login s k a → is_open s.task ≡ true → Steps s t (steps.Fault e) → t.task ≡ Nothing → StepStands s t (steps.Fault e) → EachStepReads s t (steps.Fault e) → HasFailed login t k a x 0 0
 faulted_same login s t k a e x is ne w op v n st rd = subst (λ (y : Error). HasFailed login t k a y 0 0) (sym is) (faulted login s t k a e (λ z. ne (is ∙ z)) w op v n st rd)

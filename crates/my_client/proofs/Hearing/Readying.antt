@@ -8,7 +8,10 @@ use Rattle.my_session.specs.declared.task.Task.TheVariants.{Nothing}
 use Rattle.my_reading.specs.Calls.{kind_of, is_connect}
 use Rattle.my_session.specs.Tasks.{is_open}
 use Rattle.my_session.specs.Entries.{connects, connecting_in, has_connected}
-use Rattle.my_reading.specs.Told.{Told, ToldReady, ToldRow, ToldEnd, ToldNone, ToldError, Dropped}
+use Rattle.my_reading.specs.Told.{Told, ToldReady, ToldRow, ToldEnd, ToldNone, ToldError, Dropped, told}
+use Rattle.my_reading.specs.declared.answer.Answer.{Answer}
+use Rattle.my_reading.specs.declared.answer.Answer.TheVariants as answers
+use Rattle.my_session.specs.Fits.{may_be}
 use Rattle.my_session.specs.History.{Made}
 use Rattle.my_session.specs.Seen.{Seen}
 use Rattle.my_session.specs.Stands.{TaskIs}
@@ -61,3 +64,15 @@ at_begun NextRow spot e s = s
 at_begun DropResult spot e s = s
 at_begun Ping spot e s = s
 at_begun Quit spot e s = s
+
+-- the handshake that is answered connects
+pub connect_ready : (c : CallKind) (answer : Answer) → is_connect c ≡ true → may_be c (told answer) ≡ true → connects (told answer) c ≡ true
+connect_ready Connect answers.Ready e m = refl
+connect_ready Connect (answers.Row row) e m = cc
+connect_ready Connect answers.SetEnd e m = cc
+connect_ready Connect answers.NoSet e m = cc
+connect_ready Query answer e m = cc
+connect_ready NextRow answer e m = cc
+connect_ready DropResult answer e m = cc
+connect_ready Ping answer e m = cc
+connect_ready Quit answer e m = cc

@@ -30,7 +30,9 @@ use Rattle.my_steps.specs.Keeps.{IsStood}
 use Rattle.my_client.specs.Kept.{Asked, Kept, ended_by}
 use Rattle.my_link.specs.Looks.{Looks}
 use Rattle.my_reading.specs.Endings.{closes_cancelled}
-use Rattle.my_client.specs.Reads.{ReadsAs, StopsRead, StoppedRead, place_kept}
+use Rattle.my_client.specs.Drives.{closed_by}
+use Rattle.my_client.specs.Reads.{IsStepped, ReadsAs, StopsRead, StoppedRead, place_kept}
+use Rattle.my_client.proofs.Hearing.Cancelling.{CancelLeaves, cancels}
 use Rattle.my_client.specs.Rests.{Rests}
 use Rattle.my_steps.specs.Slot.{handle_of, placed}
 use Rattle.my_client.specs.Conn.{kept_of}
@@ -39,35 +41,6 @@ use Rattle.my_client.proofs.TapeRead.Sessions.{cancel_closes, cancel_read}
 use Rattle.my_client.proofs.TapeRead.Stopping.{facts_rest}
 use Rattle.my_client.proofs.Hearing.{answer_counts, ended_of}
 use Rattle.my_client.proofs.Hearing.Failing.{is_leaving}
-
--- a cancelling closes the session exactly where the table says so
-closing_by : (s : Seen) (cl b : Bool) → s.closed ≡ b → (b ≡ true → cl ≡ false) → (cond {A = Seen} cl (fell s) (with_task s Nothing s.untold)).closed && not s.closed ≡ cl
-closing_by s true true e f = let no : true ≡ false = f refl in cc
-closing_by s true false e f = ap not e
-closing_by s false b e f = and_not s.closed
-  where
-    and_not : (b : Bool) → b && not b ≡ false
-    and_not true = refl
-    and_not false = refl
-
-closing_is : (login : Login) (s : Seen) (k : Kept) → Rests login s k → is_open s.task ≡ true → (dropped s).closed && not s.closed ≡ closes_when_cancelled s.task s.context.spot
-closing_is login s k w o = closing_by s (closes_when_cancelled s.task s.context.spot) s.closed refl (λ e. ap (λ (t : Task). closes_when_cancelled t s.context.spot) (is_leaving s.task s.closed e o w.sound w.heard.stands.heard.alive))
-
-dropped_task : (s : Seen) (b : Bool) → (cond {A = Seen} b (fell s) (with_task s Nothing s.untold)).task ≡ Nothing
-dropped_task s true = refl
-dropped_task s false = refl
-
-dropped_ended : (s : Seen) (b : Bool) → (cond {A = Seen} b (fell s) (with_task s Nothing s.untold)).ended ≡ s.ended
-dropped_ended s true = refl
-dropped_ended s false = refl
-
-dropped_login : (s : Seen) (b : Bool) → (cond {A = Seen} b (fell s) (with_task s Nothing s.untold)).login ≡ s.login
-dropped_login s true = refl
-dropped_login s false = refl
-
-dropped_open : (s : Seen) (b : Bool) → (cond {A = Seen} b (fell s) (with_task s Nothing s.untold)).closed ≡ false → s.closed ≡ false
-dropped_open s true e = cc
-dropped_open s false e = e
 
 placed_stood : {L : Type 0} (login : Login) (c : Conn L) (b : Bool) → StandsBy login c → IsStood login (placed b c)
 placed_stood login c true w = w
@@ -80,34 +53,18 @@ placed_handle look c false = refl
 pub cancelled : {L : Type 0} (look : L → Looks) (login : Login) (n : ℕ) (c d : Conn L) (connecting : Bool) (o : Outcome) (us : List Use) → is_open c.session.seen.task ≡ true → d.session.seen ≡ dropped c.session.seen → ((h : History) → Stands c.session.seen h → Stands d.session.seen (answered h (Dropped (closes_when_cancelled c.session.seen.task c.session.seen.context.spot)))) → d.link ≡ c.link → ((a : Asked) → (kept_of c).pending ≡ Some a → kept_of d ≡ ended_by (kept_of c) a (says.Cancelled (d.session.seen.closed && not c.session.seen.closed))) → ((a : Asked) → (kept_of c).pending ≡ Some a → connecting ≡ is_connect (kind_of a.call)) → o ≡ Done → us ≡ [] → StandsBy login c → Did look login (Cancels login) o us (There c) (placed (not connecting) d)
 cancelled {L} look login n c d connecting o us op seen st link kept kind e f w =
     let s = c.session.seen in
+    let t = d.session.seen in
     let k = kept_of c in
-    let closes = closes_when_cancelled s.task s.context.spot in
     let asked = is_asked login s k op w.rests.heard in
     let a = asked.0 in
-    let closing : d.session.seen.closed && not s.closed ≡ closes = ap (λ (t : Seen). t.closed && not s.closed) seen ∙ closing_is login s k w.rests op in
-    let end : kept_of d ≡ ended_by k a (says.Cancelled closes) = kept a asked.1 ∙ ap (λ (b : Bool). ended_by k a (says.Cancelled b)) closing in
-    let shut : s.task ≡ Leaving → s.closed ≡ true =
-    λ leaving. subst (λ (u : Task). TaskIs u s.context.spot s.closed (has_connected w.rests.heard.history.calls) (connecting_in (w.rests.heard.stands.newest ∷ w.rests.heard.stands.older)) w.rests.heard.stands.newest) leaving w.rests.heard.stands.heard.at in
-    let stopped : StoppedRead login s k a = subst (StopsRead login s k) asked.1 w.stepped.stops in
-    let rests : Rests login d.session.seen (ended_by k a (says.Cancelled closes)) = record {
-      heard = record {
-        history = answered w.rests.heard.history (Dropped closes);
-        stands = st w.rests.heard.history w.rests.heard.stands;
-        login_is = ap (λ (t : Seen). t.login) seen ∙ dropped_login s closes ∙ w.rests.heard.login_is;
-        kept = ended_of k a w.rests.heard.history (says.Cancelled closes) asked.1 (answer_counts (kind_of a.call) (Dropped closes) refl) w.rests.heard.kept;
-      };
-      sound = ap (λ (t : Seen). fault_in t.task) seen ∙ ap fault_in (dropped_task s closes);
-      alive = λ b. ap (λ (t : Seen). t.ended) seen ∙ dropped_ended s closes ∙ w.rests.alive (dropped_open s closes (sym (ap (λ (t : Seen). t.closed) seen) ∙ b));
-      read = cancel_read login s d.session.seen k a closes w.stepped.begun shut seen refl stopped;
-    } in
+    let closes = closed_by s t in
+    let here : CancelLeaves login s t k a = cancels login s t k a op seen st asked.1 w.rests w.stepped in
+    let end : kept_of d ≡ ended_by k a (says.Cancelled closes) = kept a asked.1 in
     let stands : StandsBy login d = record {
-      rests = subst (Rests login d.session.seen) (sym end) rests;
-      stepped = record {
-        begun = ap (λ (t : Seen). is_begun t.task) seen ∙ ap is_begun (dropped_task s closes);
-        stops = subst (λ (x : Kept). StopsRead login d.session.seen x x.pending) (sym end) tt;
-      };
+      rests = subst (Rests login t) (sym end) here.rests;
+      stepped = subst (IsStepped login t) (sym end) here.stepped;
     } in
-    let closes_so : closes ≡ closes_cancelled (kind_of a.call) (place_kept login k) = cancel_closes login s k a w.stepped.begun shut stopped asked.1 in
+    let closes_so : closes ≡ closes_cancelled (kind_of a.call) (place_kept login k) = here.closes in
     let kept_so : Joined (not connecting) (kept_of d) (look d.link) ≡ Joined (not connecting) (ended_by k a (says.Cancelled closes)) (look c.link) = ap (λ (x : Kept). Joined (not connecting) x (look d.link)) end ∙ ap (λ (l : L). Joined (not connecting) (ended_by k a (says.Cancelled closes)) (look l)) link in
     record {
       stood = placed_stood login d (not connecting) stands;

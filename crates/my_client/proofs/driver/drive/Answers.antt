@@ -1,17 +1,22 @@
-use Rattle.std.proofs.Common.{◌≡◌, Some, ap, ◌∙◌}
-use Rattle.my_link.specs.Looks.{Looks}
-use Rattle.my_client.specs.Conn.{asked_in, kept_of}
-use Rattle.my_client.proofs.Driving.{drives, drives_on}
+use Rattle.std.proofs.Common.{subst, refl, option_map}
+use Rattle.my_client.specs.Conn.{kept_in, kept_of}
+use Rattle.my_client.specs.Drives.{RowsBy, KeepsBy}
+use Rattle.my_client.specs.Kept.{Kept}
+use Rattle.my_client.proofs.Driving.{drives_for, rests_by, rows_for}
 use Rattle.my_client.proofs.driver.drive.Goals as goal
 
 pub returns-clause-drives : goal.returns-clause-drives
 returns-clause-drives g c =
-    let x : Looks = g.L.Link.looks c.args.conn.now.link in
-    let y : Looks = g.L.Link.looks c.poll_conn.new.conn.link in
-    let z : Looks = g.L.Link.looks c.keep.new.conn.link in
-    let same : z ≡ y = ap g.L.Link.looks c.in_ok-rows.ensures.link in
-    λ login a w.
-    let polled = c.in_ok-after.ensures in
-    let pending : asked_in c.poll_conn.new.conn.pending ≡ Some a = ap asked_in polled.pending ∙ w.asked in
-    drives_on login a c.poll_conn.new.conn.session.seen c.keep.new.conn.session.seen x y z (kept_of c.args.conn.now) (kept_of c.keep.new.conn) c.in_ok-after.met c.in_ok-after.after (ap (λ s. s.seen) c.in_ok-rows.ensures.session) same
-    (drives g.L.Link.looks login a c.args.conn.now c.poll_conn.new.conn (kept_of c.keep.new.conn) c.in_ok-after.met c.in_ok-after.after polled.polls (ap (λ v. v.items) polled.calls) pending (polled.rests login a w) (c.in_ok-rows.ensures.kept a pending))
+    let w = c.in_ok-after.ensures.polls (kept_of c.args.conn.now) refl in
+    drives_for _ c.args.conn.now.session.seen c.poll_session.new.session.seen (g.L.Link.looks c.args.conn.now.link) (g.L.Link.looks c.poll_session.new.link) (kept_of c.args.conn.now) (kept_in c.keep.new.self) c.in_ok-after.met c.in_ok-after.after w
+    (subst (λ (k : Kept). KeepsBy k (kept_in c.keep.new.self) c.in_ok-after.after) w.noted c.in_ok-rows.ensures.kept)
+
+pub returns-clause-rows : goal.returns-clause-rows
+returns-clause-rows g c =
+    let w = c.in_ok-after.ensures.polls (kept_of c.args.conn.now) refl in
+    rows_for _ _ _ _ _ (kept_of c.args.conn.now) c.in_ok-after.met c.in_ok-after.after w (option_map (λ v. v.items) c.in_ok-rows.rows) (subst (λ (k : Kept). RowsBy k c.in_ok-after.after (option_map (λ v. v.items) c.in_ok-rows.rows)) w.noted c.in_ok-rows.ensures.rows)
+
+pub returns-clause-rests : goal.returns-clause-rests
+returns-clause-rests g c =
+    let w = c.in_ok-after.ensures.polls (kept_of c.args.conn.now) refl in
+    rests_by c.poll_session.new.session.seen c.in_ok-after.met w.polls.stop c.in_ok-after.after w.polls.cause

@@ -13,7 +13,7 @@ pub returns-in-Ok : goal.returns-in-Ok
 returns-in-Ok g c =
     let idle : is_open c.args.conn.now.session.seen.task ≡ false = search rules in
     IfOk-weaker c.gather.result _ _
-    (λ d f login w. collect_begun g.L.Link.looks login c.args.number c.args.conn.now (record { session = c.begin.new.self; link = c.ask.new.conn.link; sent = c.ask.new.conn.sent; taken = c.ask.new.conn.taken; calls = c.ask.new.conn.calls; pending = c.ask.new.conn.pending }) c.gather.new.conn c.ask.new.conn.session.seen c.begin.new.self.seen d.outcome d.uses.items idle (not_refused _ c.in-Ok.ensures.closed.1) (ap (λ s. s.seen) c.ask.ensures.session) c.in-Ok.ensures.ok c.in-Ok.ensures.stands (search rules) c.ask.ensures.link w (λ a v. f login a v)) c.gather.ensures
+    (λ d f login w. collect_begun g.L.Link.looks login c.args.number c.args.conn.now (record { session = c.begin.new.self; link = c.ask.new.conn.link; tape = c.ask.new.conn.tape }) c.gather.new.conn c.ask.new.conn.session.seen c.begin.new.self.seen d.outcome d.uses.items idle (not_refused _ c.in-Ok.ensures.closed.1) (ap (λ s. s.seen) c.ask.ensures.session) c.in-Ok.ensures.ok c.in-Ok.ensures.stands (search rules) c.ask.ensures.link w (λ a v. f login a v)) c.gather.ensures
 
 pub returns-in-Err : goal.returns-in-Err
 returns-in-Err g c =
@@ -34,4 +34,4 @@ begin-requires-clause-order g c =
 pub gather-requires-clause-asked : goal.gather-requires-clause-asked
 gather-requires-clause-asked g c =
     let idle : is_open c.args.conn.now.session.seen.task ≡ false = search rules in
-    asked_first c.args.conn.now (record { session = c.begin.new.self; link = c.ask.new.conn.link; sent = c.ask.new.conn.sent; taken = c.ask.new.conn.taken; calls = c.ask.new.conn.calls; pending = c.ask.new.conn.pending }) c.ask.new.conn.session.seen c.requires idle (ap (λ s. s.seen) c.ask.ensures.session) (not_refused _ c.in-Ok.ensures.closed.1) c.in-Ok.ensures.ok c.in-Ok.ensures.stands (search rules)
+    asked_first c.args.conn.now (record { session = c.begin.new.self; link = c.ask.new.conn.link; tape = c.ask.new.conn.tape }) c.ask.new.conn.session.seen c.requires idle (ap (λ s. s.seen) c.ask.ensures.session) (not_refused _ c.in-Ok.ensures.closed.1) c.in-Ok.ensures.ok c.in-Ok.ensures.stands (search rules)

@@ -1,0 +1,4 @@
+pub mod Calling
+pub mod Standing
+pub mod Cancelling
+pub mod Joins

@@ -1,0 +1,6 @@
+pub mod Conn
+pub mod Calls
+pub mod Cancels
+pub mod Connects
+pub mod Connected
+pub mod States

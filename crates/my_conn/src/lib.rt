@@ -1,0 +1,12 @@
+//! A connection for callers: calls that are polled by hand, and calls that wait.
+#![tactic(auto)]
+
+mod begin;
+mod conn;
+mod connecting;
+mod states;
+
+pub use conn::Conn;
+pub use connecting::{Connected, Connecting};
+pub use my_packets::Poll;
+pub use states::{CallState, DropCall, NextAnswer, NextCall, PingCall, QueryCall, QuitCall};
