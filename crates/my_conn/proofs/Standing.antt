@@ -41,7 +41,7 @@ no_asked : (q : Option Asked) → None ≡ option_map (λ (a : Asked). kind_of a
 no_asked None e = refl
 no_asked (Some a) e = cc
 
-bool_cases : (b : Bool) → (b ≡ true) ⊎ (b ≡ false)
+pub bool_cases : (b : Bool) → (b ≡ true) ⊎ (b ≡ false)
 bool_cases true = inl refl
 bool_cases false = inr refl
 

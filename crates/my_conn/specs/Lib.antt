@@ -4,3 +4,4 @@ pub mod Cancels
 pub mod Connects
 pub mod Connected
 pub mod States
+pub mod Drives

@@ -6,7 +6,7 @@ ghost use Rattle.my_conn.specs.Calls.{lost_answer, pending_after};
 use crate::begin::{cancel_open, poll_once};
 use my_client::{After, Tape};
 use my_frame::NoMemory;
-use my_link::{Link, Met};
+use my_link::{BlockingLink, Link, Met};
 use my_reading::{Answer, Call, CallKind, DriverError, Error};
 use my_reply::OkPacket;
 use my_session::Session;
@@ -170,6 +170,28 @@ impl<L: Link> Conn<L> {
             return;
         }
         cancel_open(&mut self.session, &mut self.tape);
+        self.pending = None;
+    }
+}
+
+impl<L: BlockingLink> Conn<L> {
+    // Its link was always ready.
+    pub(crate) fn never_holds(&self)
+        ensures { (L.looks self.now.link).counts.holds ≡ 0 }
+    {
+        let _ = &self.link;
+    }
+
+    // The open call is given up: the connection is closed, and what it keeps isn't what it did any more.
+    pub(crate) fn give_up(&mut self)
+        ensures lost { self.new.lost ≡ true }
+        ensures tape { self.new.tape ≡ None }
+        ensures pending { self.new.pending ≡ None }
+        ensures link { self.new.link ≡ self.old.link }
+        ensures seen { self.new.seen ≡ self.old.seen }
+    {
+        self.lost = true;
+        self.tape = None;
         self.pending = None;
     }
 }

@@ -4,9 +4,11 @@
 mod begin;
 mod conn;
 mod connecting;
+mod drive;
 mod states;
 
 pub use conn::Conn;
 pub use connecting::{Connected, Connecting};
+pub use drive::TOO_LONG;
 pub use my_packets::Poll;
 pub use states::{CallState, DropCall, NextAnswer, NextCall, PingCall, QueryCall, QuitCall};

@@ -1,19 +1,14 @@
 -- How an open call is cancelled, and what tells without a call.
 use Rattle.my_reading.specs.declared.facts.Facts.{Facts}
-use Rattle.std.proofs.Common.{ℕ, ◌≡◌, List, [], ◌∷◌, ◌&&◌, not, Bool, true, false, cond, Option, Some, None, refl, sym, ap, ◌∙◌, subst}
+use Rattle.std.proofs.Common.{ℕ, ◌≡◌, List, [], ◌&&◌, not, Bool, true, false, Option, Some, None, refl, sym, ap, ◌∙◌, subst}
 use Rattle.my_grammar.specs.declared.login.Login.{Login}
 use Rattle.my_reply.specs.declared.ok.OkPacket.{OkPacket}
-use Rattle.my_session.specs.declared.task.Task.{Task}
-use Rattle.my_session.specs.declared.task.Task.TheVariants.{Nothing, Leaving}
 use Rattle.my_reading.specs.Calls.{kind_of, is_connect}
-use Rattle.my_session.specs.Tasks.{fault_in, is_open}
-use Rattle.my_session.specs.Fits.{is_begun}
+use Rattle.my_session.specs.Tasks.{is_open}
 use Rattle.my_reading.specs.Told.{Dropped}
 use Rattle.my_session.specs.History.{History, answered}
-use Rattle.my_session.specs.Machine.{dropped, fell, with_task}
-use Rattle.my_session.specs.Seen.{Seen}
-use Rattle.my_session.specs.Entries.{connecting_in, has_connected}
-use Rattle.my_session.specs.Stands.{Stands, TaskIs}
+use Rattle.my_session.specs.Machine.{dropped}
+use Rattle.my_session.specs.Stands.{Stands}
 use Rattle.my_session.specs.Tables.{closes_when_cancelled}
 use Rattle.my_client.specs.declared.conn.Conn.{Conn}
 use Rattle.my_steps.specs.declared.slot.Slot.{Slot}
@@ -31,16 +26,13 @@ use Rattle.my_client.specs.Kept.{Asked, Kept, ended_by}
 use Rattle.my_link.specs.Looks.{Looks}
 use Rattle.my_reading.specs.Endings.{closes_cancelled}
 use Rattle.my_client.specs.Drives.{closed_by}
-use Rattle.my_client.specs.Reads.{IsStepped, ReadsAs, StopsRead, StoppedRead, place_kept}
+use Rattle.my_client.specs.Reads.{IsStepped, ReadsAs, place_kept}
 use Rattle.my_client.proofs.Hearing.Cancelling.{CancelLeaves, cancels}
 use Rattle.my_client.specs.Rests.{Rests}
 use Rattle.my_steps.specs.Slot.{handle_of, placed}
 use Rattle.my_client.specs.Conn.{kept_of}
 use Rattle.my_client.proofs.Hearing.Beginning.{is_asked, is_idle}
-use Rattle.my_client.proofs.TapeRead.Sessions.{cancel_closes, cancel_read}
 use Rattle.my_client.proofs.TapeRead.Stopping.{facts_rest}
-use Rattle.my_client.proofs.Hearing.{answer_counts, ended_of}
-use Rattle.my_client.proofs.Hearing.Failing.{is_leaving}
 
 placed_stood : {L : Type 0} (login : Login) (c : Conn L) (b : Bool) → StandsBy login c → IsStood login (placed b c)
 placed_stood login c true w = w

@@ -1,0 +1,105 @@
+-- What a call that waits does.
+use Rattle.std.specs.Prelude.{ℕ, ◌≡◌, ◌≤◌, ◌⊎◌, List, ◌++◌, length, Some, None, true, false}
+use Rattle.std.specs.declared.result.Result.{Result}
+use Rattle.std.specs.declared.result.Result.TheVariants.{Ok, Err}
+use Rattle.my_grammar.specs.declared.login.Login.{Login}
+use Rattle.my_reading.specs.declared.answer.Answer.{Answer}
+use Rattle.my_reading.specs.declared.answer.Answer.TheVariants as answers
+use Rattle.my_reading.specs.declared.call.Call.{Call}
+use Rattle.my_reading.specs.declared.call.CallKind.{CallKind}
+use Rattle.my_reading.specs.declared.call.Call.TheVariants as calls
+use Rattle.my_reading.specs.declared.call.CallKind.TheVariants as kinds
+use Rattle.my_reading.specs.declared.call.CallKind.TheVariants.{Quit}
+use Rattle.my_reading.specs.declared.error.DriverError.TheVariants.{TooLong}
+use Rattle.my_reading.specs.declared.error.Error.{Error}
+use Rattle.my_reading.specs.declared.error.Error.TheVariants as errors
+use Rattle.my_reading.specs.Calls.{kind_of, is_quit}
+use Rattle.my_reading.specs.Errors.{connection_closed}
+use Rattle.my_reading.specs.Told.{told}
+use Rattle.my_session.specs.Fits.{may_be}
+use Rattle.my_session.specs.History.{has_closed}
+use Rattle.my_client.specs.declared.tape.Said.TheVariants as says
+use Rattle.my_client.specs.Causes.{ErrorBy, WhyFailed}
+use Rattle.my_client.specs.Kept.{Asked, Kept, asked_by, asking, ended_by, made_of}
+use Rattle.my_client.specs.Reads.{ComesTo}
+use Rattle.my_conn.specs.declared.drive.TheConstants.{TOO_LONG}
+use Rattle.my_conn.specs.declared.states.NextAnswer.{NextAnswer}
+use Rattle.my_conn.specs.declared.states.NextAnswer.TheVariants.{Row, SetEnd, NoSet}
+use Rattle.my_conn.specs.Conn.{ConnSeen, StandsFor}
+
+-- After `k`, this call began, and `n` bytes were taken in it so far.
+pub record Carries (k f : Kept) (call : Call) (n : ℕ) : Type 0 where
+  pub sent : List ℕ
+  pub came : List ℕ
+  pub sent_is : f.sent ≡ k.sent ++ sent
+  pub taken_is : f.taken ≡ k.taken ++ came
+  pub count : length came ≡ n
+  pub calls : f.calls ≡ k.calls
+  pub pending : f.pending ≡ Some (asked_by k call)
+
+-- it returned what it comes to by its bytes, or failed with a cause
+abbrev pub DriveEnds : Login → Asked → Kept → Result Answer Error → Kept → Type 0
+DriveEnds login a f (Ok answer) end = (end ≡ ended_by f a (says.Answered answer)) × ComesTo login f (told answer)
+    × (may_be (kind_of a.call) (told answer) ≡ true)
+DriveEnds login a f (Err e) end = (end ≡ ended_by f a (says.Failed e)) × WhyFailed login f e
+    × ((faults : ℕ) × (ends : ℕ) × ErrorBy login f e faults ends)
+
+pub record Driven (login : Login) (call : Call) (k : Kept) (r : Result Answer Error) (end : Kept) : Type 0 where
+  pub spent : ℕ
+  pub following : Kept
+  pub carries : Carries k following call spent
+  pub ends : DriveEnds login (asked_by k call) following r end
+
+-- a closed connection refuses each call but a quit
+pub record DriveRefused (call : Call) (k : Kept) (r : Result Answer Error) (end : Kept) : Type 0 where
+  pub closed : has_closed (made_of k.calls) ≡ true
+  pub other : is_quit (kind_of call) ≡ false
+  pub result_is : r ≡ Err connection_closed
+  pub end_is : end ≡ ended_by (asking k call None) (asked_by k call) (says.Failed connection_closed)
+
+-- at least 2^40 bytes were taken in it without an answer
+abbrev pub IsTooLong : {L : Type 0} → Call → ConnSeen L → Type 0
+IsTooLong call old = (login : Login) (k : Kept) → StandsFor login old.seen old.tape old.pending k
+    → (n : ℕ) × (f : Kept) × Carries k f call n × (TOO_LONG ≤ n)
+
+-- an answer is one of the call's kind
+abbrev pub ResultFits : CallKind → Result Answer Error → Type 0
+ResultFits c (Ok answer) = may_be c (told answer) ≡ true
+ResultFits c (Err e) = Unit {0}
+
+abbrev pub lost_result : CallKind → Result Answer Error
+lost_result Quit = Ok answers.Ready
+lost_result _ = Err connection_closed
+
+-- A call that waits. For all that the connection may have done before there is what it did then: the same, and this call. It is lost
+-- where memory ran out, and where the call was given up.
+pub record DriveIs {L : Type 0} (c : CallKind) (call : Call) (old new : ConnSeen L) (r : Result Answer Error) : Type 0 where
+  pub each : old.lost ≡ false → new.lost ≡ false → (login : Login) (k : Kept)
+      → StandsFor login old.seen old.tape old.pending k
+      → (end : Kept) × StandsFor login new.seen new.tape None end × (Driven login call k r end ⊎ DriveRefused call k r end)
+  pub loses : old.lost ≡ false → new.lost ≡ true
+      → (r ≡ Err errors.NoMemory) ⊎ ((r ≡ Err (errors.Driver TooLong)) × IsTooLong call old)
+  pub lost : old.lost ≡ true → (new.lost ≡ true) × (r ≡ lost_result c)
+  pub pending : new.pending ≡ None
+  pub fits : ResultFits c r
+
+-- what a caller is told of it: that the call is done, or what a read returned
+abbrev pub done_of : Result Answer Error → Result (Unit {0}) Error
+done_of (Ok answer) = Ok tt
+done_of (Err e) = Err e
+
+abbrev pub next_answer : Answer → NextAnswer
+next_answer answers.Ready = NoSet
+next_answer (answers.Row row) = Row row
+next_answer answers.SetEnd = SetEnd
+next_answer answers.NoSet = NoSet
+
+abbrev pub next_of : Result Answer Error → Result NextAnswer Error
+next_of (Ok answer) = Ok (next_answer answer)
+next_of (Err e) = Err e
+
+abbrev pub DoneIs : {L : Type 0} → CallKind → Call → ConnSeen L → ConnSeen L → Result (Unit {0}) Error → Type 0
+DoneIs c call old new result = (r : Result Answer Error) × (result ≡ done_of r) × DriveIs c call old new r
+
+abbrev pub NextIs : {L : Type 0} → ConnSeen L → ConnSeen L → Result NextAnswer Error → Type 0
+NextIs old new result = (r : Result Answer Error) × (result ≡ next_of r) × DriveIs kinds.NextRow calls.NextRow old new r

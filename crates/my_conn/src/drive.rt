@@ -1,0 +1,118 @@
+//! Calls that wait, over links that never hold: each polls its call until it returns.
+ghost use Rattle.std.specs.Prelude.{◌≡◌, None, true, false};
+ghost use Rattle.my_reading.specs.Calls.{is_connect, kind_of};
+ghost use Rattle.my_reading.specs.Told.{told};
+ghost use Rattle.my_reading.specs.declared.call.Call.TheVariants as calls;
+ghost use Rattle.my_reading.specs.declared.call.CallKind.TheVariants as kinds;
+ghost use Rattle.my_session.specs.Fits.{may_be};
+ghost use Rattle.my_conn.specs.Drives.{DoneIs, DriveIs, NextIs, next_answer};
+
+use crate::conn::Conn;
+use crate::states::NextAnswer;
+use my_client::After;
+use my_frame::Blob;
+use my_link::BlockingLink;
+use my_reading::{Answer, Call, CallKind, DriverError, Error};
+use std::alloc::Global;
+
+/// A call that took this many bytes without an answer is given up.
+pub const TOO_LONG: u64 = 1099511627776;
+
+impl<L: BlockingLink> Conn<L> {
+    // Begins a call, and polls it until it returns.
+    fn drive(&mut self, alloc: Global, kind: CallKind, call: Call) -> Result<Answer, Error>
+        requires idle { self.old.pending ≡ None }
+        requires kind { kind_of call ≡ kind }
+        requires other { is_connect kind ≡ false }
+        ensures { DriveIs kind call self.old self.new result }
+    {
+        let mut next = Some(call);
+        let mut spent = 0u64;
+        'polls: loop {
+            if spent >= TOO_LONG {
+                self.give_up();
+                return Err(Error::Driver(DriverError::TooLong));
+            }
+            self.never_holds();
+            let (after, met) = self.poll_call(alloc, kind, next.take());
+            self.never_holds();
+            spent += met.taken;
+            match after {
+                After::Pending => {}
+                After::Answered(answer) => return Ok(answer),
+                After::Failed(error) => return Err(error),
+            }
+        }
+    }
+}
+
+// What a read returned. It is never answered that it is done.
+fn next_answer(answer: Answer) -> NextAnswer
+    requires { may_be kinds.NextRow (told answer) ≡ true }
+    ensures { result ≡ next_answer answer }
+{
+    match answer {
+        Answer::Row(row) => NextAnswer::Row(row),
+        Answer::SetEnd => NextAnswer::SetEnd,
+        Answer::NoSet => NextAnswer::NoSet,
+        Answer::Ready => unreachable!(),
+    }
+}
+
+impl<L: BlockingLink> Conn<L> {
+    // A call that is done once it is answered.
+    fn finish(&mut self, alloc: Global, kind: CallKind, call: Call) -> Result<(), Error>
+        requires idle { self.old.pending ≡ None }
+        requires kind { kind_of call ≡ kind }
+        requires other { is_connect kind ≡ false }
+        ensures { DoneIs kind call self.old self.new result }
+    {
+        match self.drive(alloc, kind, call) {
+            Ok(_) => return Ok(()),
+            Err(error) => return Err(error),
+        }
+    }
+
+    /// Sends a query, and waits until the server accepts it.
+    pub fn query(&mut self, alloc: Global, text: Blob) -> Result<(), Error>
+        requires { self.old.pending ≡ None }
+        ensures { DoneIs kinds.Query (calls.Query text) self.old self.new result }
+    {
+        self.finish(alloc, CallKind::Query, Call::Query(text))
+    }
+
+    /// Waits for the next row.
+    pub fn next(&mut self, alloc: Global) -> Result<NextAnswer, Error>
+        requires { self.old.pending ≡ None }
+        ensures { NextIs self.old self.new result }
+    {
+        match self.drive(alloc, CallKind::NextRow, Call::NextRow) {
+            Ok(answer) => return Ok(next_answer(answer)),
+            Err(error) => return Err(error),
+        }
+    }
+
+    /// Passes over all that is left of a result.
+    pub fn drop_result(&mut self, alloc: Global) -> Result<(), Error>
+        requires { self.old.pending ≡ None }
+        ensures { DoneIs kinds.DropResult calls.DropResult self.old self.new result }
+    {
+        self.finish(alloc, CallKind::DropResult, Call::DropResult)
+    }
+
+    /// Asks whether the server is there.
+    pub fn ping(&mut self, alloc: Global) -> Result<(), Error>
+        requires { self.old.pending ≡ None }
+        ensures { DoneIs kinds.Ping calls.Ping self.old self.new result }
+    {
+        self.finish(alloc, CallKind::Ping, Call::Ping)
+    }
+
+    /// Ends the connection.
+    pub fn quit(&mut self, alloc: Global) -> Result<(), Error>
+        requires { self.old.pending ≡ None }
+        ensures { DoneIs kinds.Quit calls.Quit self.old self.new result }
+    {
+        self.finish(alloc, CallKind::Quit, Call::Quit)
+    }
+}
