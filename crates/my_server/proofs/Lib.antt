@@ -1,13 +1,3 @@
-pub mod Conversing
-pub mod Exchanges
-pub mod Goodness
-pub mod Greeted
-pub mod Heads
-pub mod Hearing
 pub mod LoginLaws
-pub mod Opening
-pub mod PayloadKinds
-pub mod ResponseLaws
 pub mod Sendable
-pub mod SetHearing
 pub mod Standing

@@ -2,7 +2,6 @@ pub mod Answer
 pub mod Arrival
 pub mod ClientLogin
 pub mod Command
-pub mod Conversation
 pub mod Core
 pub mod Faults
 pub mod History

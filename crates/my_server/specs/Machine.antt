@@ -1,7 +1,7 @@
 -- The server: what a step does, as a function. MySQL client/server protocol, "Connection Phase", "Command Phase" and
 -- "Secure Password Authentication".
-use Rattle.std.specs.Prelude.{◌≡◌, ℕ, ◌&&◌, ◌==◌, List, [], ◌∷◌, ◌++◌, length, drop, codes, find, Bool, true, false, Option, Some, None, if◌then◌else◌}
-use Rattle.std.specs.List.{AllByRecursion}
+use Rattle.std.specs.Prelude.{◌≡◌, ℕ, ◌&&◌, ◌==◌, List, [], ◌∷◌, ◌++◌, length, map, drop, bit_xor, codes, find, Bool, true, false, Option, Some, None, if◌then◌else◌}
+use Rattle.std.specs.List.{AllByRecursion, zip}
 use Rattle.std.specs.Str.{bytes_eq}
 use Rattle.sha1.specs.Sha1.{sha1}
 use Rattle.my_flags.specs.declared.flags.CapabilityFlags.{CapabilityFlags}
@@ -13,7 +13,6 @@ use Rattle.my_handshake.specs.declared.greeting.Greeting.{Greeting}
 use Rattle.my_reply.specs.declared.err.ErrPacket.{ErrPacket}
 use Rattle.my_reply.specs.declared.server.ServerPacket.TheVariants as packets
 use Rattle.my_reply.specs.Server.{server_bytes}
-use Rattle.my_grammar.specs.Scramble.{xor_bytes}
 use Rattle.my_server.specs.declared.answer.TheConstants.{DONE}
 use Rattle.my_server.specs.declared.command.CommandKind.{CommandKind}
 use Rattle.my_server.specs.declared.command.CommandKind.TheVariants as commands
@@ -59,11 +58,14 @@ abbrev pub refusal_payload : ErrPacket → List ℕ
 refusal_payload err = server_bytes (packets.Refuse err)
 
 -- The formula of native passwords: no password has no answer, and to a stored one, SHA1(SHA1(password)), the client answers
--- SHA1(password) xor SHA1(nonce, stored).
+-- SHA1(password) xor SHA1(nonce, stored), in which the server finds SHA1(password).
+abbrev pub hidden_hash : List ℕ → List ℕ → List ℕ → List ℕ
+hidden_hash nonce stored scramble = map (λ pair. bit_xor pair.0 pair.1) (zip scramble (sha1 (nonce ++ stored)))
+
 abbrev pub knows_password : Option (List ℕ) → List ℕ → List ℕ → Bool
 knows_password None nonce scramble = length scramble == 0
 knows_password (Some stored) nonce scramble =
-    length scramble == 20 && bytes_eq (sha1 (xor_bytes scramble (sha1 (nonce ++ stored)))) stored
+    length scramble == 20 && bytes_eq (sha1 (hidden_hash nonce stored scramble)) stored
 
 -- the user is the script's, and knows the password
 unfoldable pub admits : ServerScript → LoginParts → Bool

@@ -9,8 +9,8 @@ use crate::answer::reply_payloads;
 use crate::command::CommandKind;
 use crate::greet::{denied_payload, fine_payload, no_reply_payload};
 use crate::script::{Reply, ServerScript};
-use my_frame::{Blob, Listed, NoMemory};
-use my_grammar::Queue;
+use bytes::BytesMut;
+use my_frame::{Blob, Listed, NoMemory, append_payload};
 use std::alloc::Global;
 
 fn one(alloc: Global, payload: Blob) -> Result<Listed<Blob>, NoMemory>
@@ -61,13 +61,13 @@ fn command_payloads(
     }
 }
 
-fn chunked(alloc: Global, payloads: &[Blob], number: u8) -> Result<Queue, NoMemory>
-    ensures { IfOk result (λ bytes. bytes ≡ all_chunks payloads.now number) }
+fn chunked(alloc: Global, payloads: &[Blob], number: u8) -> Result<BytesMut, NoMemory>
+    ensures { IfOk result (λ bytes. bytes.items ≡ all_chunks payloads.now number) }
 {
-    let mut bytes = Queue::new(alloc);
+    let mut bytes = BytesMut::new(alloc);
     let mut next = number;
     for payload in payloads {
-        next = bytes.push_payload(payload.as_slice(), next)?;
+        next = append_payload(&mut bytes, payload.as_slice(), next)?;
     }
     Ok(bytes)
 }
@@ -80,33 +80,33 @@ pub fn command_answer(
     kind: CommandKind,
     text: &[u8],
     number: u8,
-) -> Result<Queue, NoMemory>
+) -> Result<BytesMut, NoMemory>
     requires { AreSendable script.now.replies }
     ensures { IfOk result
-        (λ bytes. bytes ≡ all_chunks (command_payloads script.now deprecates kind text.now) number) }
+        (λ bytes. bytes.items ≡ all_chunks (command_payloads script.now deprecates kind text.now) number) }
 {
     let payloads = command_payloads(alloc, script, deprecates, kind, text)?;
     chunked(alloc, payloads.as_slice(), number)
 }
 
-fn lone(alloc: Global, payload: &Blob, number: u8) -> Result<Queue, NoMemory>
-    ensures { IfOk result (λ bytes. bytes ≡ chunks payload.now number) }
+fn lone(alloc: Global, payload: &Blob, number: u8) -> Result<BytesMut, NoMemory>
+    ensures { IfOk result (λ bytes. bytes.items ≡ chunks payload.now number) }
 {
-    let mut bytes = Queue::new(alloc);
-    bytes.push_payload(payload.as_slice(), number)?;
+    let mut bytes = BytesMut::new(alloc);
+    append_payload(&mut bytes, payload.as_slice(), number)?;
     Ok(bytes)
 }
 
 /// The bytes of an OK.
-pub fn fine_answer(alloc: Global, number: u8) -> Result<Queue, NoMemory>
-    ensures { IfOk result (λ bytes. bytes ≡ chunks fine_payload number) }
+pub fn fine_answer(alloc: Global, number: u8) -> Result<BytesMut, NoMemory>
+    ensures { IfOk result (λ bytes. bytes.items ≡ chunks fine_payload number) }
 {
     lone(alloc, &fine_payload(alloc)?, number)
 }
 
 /// The bytes of the ERR for a login that isn't admitted.
-pub fn denied_answer(alloc: Global, number: u8) -> Result<Queue, NoMemory>
-    ensures { IfOk result (λ bytes. bytes ≡ chunks (refusal_payload denial) number) }
+pub fn denied_answer(alloc: Global, number: u8) -> Result<BytesMut, NoMemory>
+    ensures { IfOk result (λ bytes. bytes.items ≡ chunks (refusal_payload denial) number) }
 {
     lone(alloc, &denied_payload(alloc)?, number)
 }

@@ -2,10 +2,9 @@
 
 ghost use Rattle.std.specs.Prelude.{◌≡◌, ◌++◌, codes, IfOk};
 ghost use Rattle.my_reply.specs.Server.{server_bytes};
-ghost use Rattle.my_grammar.specs.Scramble.{xor_bytes};
 ghost use Rattle.sha1.specs.Sha1.{sha1};
 ghost use Rattle.my_server.specs.ClientLogin.{parts_of};
-ghost use Rattle.my_server.specs.Machine.{admits, denial, fine_payload, greeting_of, greeting_payload, knows_password, no_reply, refusal_payload};
+ghost use Rattle.my_server.specs.Machine.{admits, denial, fine_payload, greeting_of, greeting_payload, hidden_hash, knows_password, no_reply, refusal_payload};
 
 use crate::answer::{DONE, ok_of, written};
 use crate::login::ClientLogin;
@@ -106,15 +105,22 @@ fn salted(nonce: &[u8], stored: &[u8]) -> [u8; 20]
     hasher.finalize()
 }
 
-fn xor(alloc: Global, first: &[u8], second: &[u8]) -> Result<Vec<u8>, NoMemory>
-    ensures { IfOk result (λ v. v.items ≡ xor_bytes first.now second.now) }
+// SHA1(password), of which the scramble says that its client knows it.
+fn hidden_hash(
+    alloc: Global,
+    nonce: &[u8],
+    stored: &[u8],
+    scramble: &[u8],
+) -> Result<Vec<u8>, NoMemory>
+    ensures { IfOk result (λ hash. hash.items ≡ hidden_hash nonce.now stored.now scramble.now) }
 {
-    let bytes = first
+    let salted = salted(nonce, stored);
+    let hash = scramble
         .iter()
-        .zip(second.iter())
+        .zip(salted.iter())
         .map(|(&a, &b)| a ^ b)
         .collect(alloc)?;
-    Ok(bytes)
+    Ok(hash)
 }
 
 fn knows_password(
@@ -131,8 +137,8 @@ fn knows_password(
     if scramble.len() != 20 {
         return Ok(false);
     }
-    let answer = xor(alloc, scramble, &salted(nonce, stored))?;
-    Ok(Sha1::digest(answer.as_slice()) == *stored)
+    let hash = hidden_hash(alloc, nonce, stored, scramble)?;
+    Ok(Sha1::digest(hash.as_slice()) == *stored)
 }
 
 /// Whether the login is the user's of the script, with its password.

@@ -8,7 +8,6 @@ mod arrival;
 mod check;
 mod command;
 mod greet;
-pub mod laws;
 mod login;
 mod phase;
 mod script;

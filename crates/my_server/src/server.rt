@@ -15,9 +15,9 @@ use crate::greet::{OFFERED, admits, greeting_payload};
 use crate::login::read_login;
 use crate::phase::{CloseCause, Phase, ServerStep};
 use crate::script::{ScriptFault, ServerScript};
+use bytes::BytesMut;
 use my_flags::CapabilityFlags;
-use my_frame::{CodecError, FramedPayload, NoMemory};
-use my_grammar::Queue;
+use my_frame::{CodecError, FramedPayload, NoMemory, append_payload};
 use std::alloc::Global;
 use std::marker::Model;
 
@@ -27,8 +27,8 @@ use std::marker::Model;
 pub struct ServerCore {
     script: ServerScript,
     phase: Phase,
-    unread: Queue,
-    owed: Queue,
+    unread: BytesMut,
+    owed: BytesMut,
 }
 
 impl Model for ServerCore {
@@ -59,12 +59,12 @@ impl ServerCore {
     {
         check_script(alloc, &script)?;
         let greeting = greeting_payload(alloc, &script)?;
-        let mut owed = Queue::new(alloc);
-        owed.push_payload(greeting.as_slice(), 0)?;
+        let mut owed = BytesMut::new(alloc);
+        append_payload(&mut owed, greeting.as_slice(), 0)?;
         Ok(ServerCore {
             script,
             phase: Phase::Login,
-            unread: Queue::new(alloc),
+            unread: BytesMut::new(alloc),
             owed,
         })
     }
@@ -79,7 +79,7 @@ impl ServerCore {
     {
         match self.phase {
             Phase::Closed(_) => Ok(()),
-            Phase::Login | Phase::Commands(_) => self.unread.push(bytes),
+            Phase::Login | Phase::Commands(_) => Ok(self.unread.extend_from_slice(bytes)?),
         }
     }
 
@@ -97,7 +97,7 @@ impl ServerCore {
         ensures stands { (h : History) → Stands self.old h
             → Stands self.new (after_send h (front count self.old.owed)) }
     {
-        self.owed.skip(count);
+        self.owed.advance(count);
     }
 
     fn close(&mut self, cause: CloseCause) -> ServerStep
@@ -108,16 +108,16 @@ impl ServerCore {
     }
 
     // A payload was read, whose packets take `len` bytes.
-    fn reply(&mut self, phase: Phase, len: usize, answer: Result<Queue, NoMemory>) -> ServerStep
+    fn reply(&mut self, phase: Phase, len: usize, answer: Result<BytesMut, NoMemory>) -> ServerStep
         requires done { self.old.owed ≡ [] }
         requires room { len ≤ length self.old.unread }
         ensures { MatchResult answer
-            (λ bytes. Steps (reply_move self.old phase (drop len self.old.unread) bytes) self.old self.new result)
+            (λ bytes. Steps (reply_move self.old phase (drop len self.old.unread) bytes.items) self.old self.new result)
             (λ _. (self.new ≡ self.old) × (result ≡ ServerStep.NoMemory)) }
     {
         match answer {
             Ok(bytes) => {
-                self.unread.skip(len);
+                self.unread.advance(len);
                 self.owed = bytes;
                 self.phase = phase;
                 ServerStep::Send

@@ -9,4 +9,6 @@ mod hostile;
 #[cfg(test)]
 mod notation;
 #[cfg(test)]
+mod play;
+#[cfg(test)]
 mod talks;

@@ -3,16 +3,15 @@
 use std::alloc::{AllocError, Global};
 
 fn nibble(digit: u8) -> u8 {
-    match digit {
-        b'0'..=b'9' => digit - b'0',
-        b'a'..=b'f' => digit - b'a' + 10,
-        _ => 0,
+    if digit <= b'9' {
+        digit.wrapping_sub(b'0')
+    } else {
+        digit.wrapping_sub(b'a' - 10)
     }
 }
 
-/// The bytes that hexadecimal digits spell; blanks are passed over.
-pub fn bytes_of(alloc: Global, text: &str) -> Result<Vec<u8>, AllocError> {
-    let mut bytes = Vec::new(alloc);
+/// Adds the bytes that hexadecimal digits spell; blanks are passed over.
+pub fn add_hex(bytes: &mut Vec<u8>, text: &str) -> Result<(), AllocError> {
     let mut high = None;
     for &digit in text.as_bytes() {
         if digit == b' ' {
@@ -27,6 +26,15 @@ pub fn bytes_of(alloc: Global, text: &str) -> Result<Vec<u8>, AllocError> {
                 high = None;
             }
         }
+    }
+    Ok(())
+}
+
+/// The bytes that the texts spell, in order.
+pub fn bytes_of(alloc: Global, texts: &[&str]) -> Result<Vec<u8>, AllocError> {
+    let mut bytes = Vec::new(alloc);
+    for text in texts {
+        add_hex(&mut bytes, text)?;
     }
     Ok(bytes)
 }

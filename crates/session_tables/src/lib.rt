@@ -14,3 +14,5 @@ mod play;
 mod streams;
 #[cfg(test)]
 mod talks;
+#[cfg(test)]
+mod visit;

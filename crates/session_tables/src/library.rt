@@ -5,7 +5,7 @@ ghost use Rattle.my_session.specs.Tasks.{is_open};
 
 use crate::hex::bytes_of;
 use crate::play::{LOGIN, login};
-use my_frame::{MemSink, MemSource, Sink, SinkStep, Source, SourceStep};
+use my_frame::{MemSink, MemSource, NoMemory, Sink, SinkStep, Source, SourceStep};
 use my_reading::{Answer, Call, Error};
 use my_session::{LinkFault, Session, SessionStep};
 use std::alloc::Global;
@@ -54,14 +54,29 @@ fn call<S: Source, K: Sink>(
     Ok(Some(carry(alloc, session, server, out)?))
 }
 
+fn server(alloc: Global) -> Result<MemSource, NoMemory> {
+    Ok(MemSource::new(bytes_of(alloc, &[LOGIN])?))
+}
+
+// Whether the session connects and sends its response.
+fn connects(alloc: Global, session: &mut Session) -> Result<bool, Error> {
+    let mut server = server(alloc)?;
+    let mut out = MemSink::new(alloc, 256)?;
+    let answer = call(alloc, session, Call::Connect, &mut server, &mut out)?;
+    Ok(
+        matches!(&answer, Some(Answer::Ready))
+            && out.taken().starts_with(b"\x3c\x00\x00\x01".as_slice()),
+    )
+}
+
+fn connects_new(alloc: Global) -> Result<bool, Error> {
+    let login = login(alloc, Some(1_024), Some(28_800), "", "")?;
+    let mut session = Session::new(alloc, login)?;
+    connects(alloc, &mut session)
+}
+
 #[test]
 fn a_session_connects(rt: HostRuntime) -> Result<(), Fail> {
-    let alloc = rt.alloc();
-    let mut server = MemSource::new(bytes_of(alloc, LOGIN)?);
-    let mut out = MemSink::new(alloc, 256)?;
-    let mut session = Session::new(alloc, login(alloc, Some(1024), Some(28800))?)?;
-    let answer = call(alloc, &mut session, Call::Connect, &mut server, &mut out);
-    assert!(rt; matches!(&answer, Ok(Some(Answer::Ready))));
-    assert!(rt; out.taken().starts_with(b"\x3c\x00\x00\x01".as_slice()));
+    assert!(rt; connects_new(rt.alloc())?);
     Ok(())
 }

@@ -29,14 +29,27 @@ pub const RESPONSE: &str =
 /// What the client can do, after the greeting too.
 pub const KEPT: CapabilityFlags = CapabilityFlags(0x10f_a281);
 
-/// A user `root`, with these options of the two settings.
+fn texts(alloc: Global, list: &str) -> Result<Listed<Blob>, NoMemory> {
+    let mut texts = Listed::new(alloc);
+    for &byte in list.as_bytes() {
+        texts.push(Blob::from_slice(alloc, &[byte])?)?;
+    }
+    Ok(texts)
+}
+
+/// A user `root`, with these options of the two settings, and with texts of one byte each that set the connection up.
 pub fn login(
     alloc: Global,
     packet_limit: Option<u64>,
     wait_timeout: Option<u64>,
+    init: &str,
+    setup: &str,
 ) -> Result<Login, NoMemory> {
+    let user = Blob::from_slice(alloc, b"root")?;
+    let init = texts(alloc, init)?;
+    let setup = texts(alloc, setup)?;
     Ok(Login {
-        user: Some(Blob::from_slice(alloc, b"root")?),
+        user: Some(user),
         password: None,
         database: None,
         max_packet: 4_194_304,
@@ -44,8 +57,8 @@ pub fn login(
         capabilities: KEPT,
         packet_limit,
         wait_timeout,
-        init: Listed::new(alloc),
-        setup: Listed::new(alloc),
+        init,
+        setup,
     })
 }
 
@@ -193,23 +206,33 @@ fn go_on(
     Ok(())
 }
 
-/// Begins a call and steps it; what was sent, and the answer.
+fn begin(
+    alloc: Global,
+    session: &mut Session,
+    call: Call,
+    bytes: &[u8],
+    then: Then,
+    text: &mut String,
+) -> Result<(), NoMemory> {
+    if session.is_open() || !session.may_begin(call.kind()) {
+        return Ok(());
+    }
+    match session.begin(call) {
+        Ok(()) => go_on(alloc, session, bytes, then, text),
+        Err(error) => Ok(show_error(text, &error)?),
+    }
+}
+
+/// Begins a call and steps it, and adds what was sent, and the answer. These bytes are received meanwhile.
 pub fn turn(
     alloc: Global,
     session: &mut Session,
     call: &str,
-    bytes: &str,
+    bytes: &[&str],
     then: Then,
-) -> Result<String, NoMemory> {
-    let mut text = String::new(alloc);
+    text: &mut String,
+) -> Result<(), NoMemory> {
     let bytes = bytes_of(alloc, bytes)?;
     let call = call_of(alloc, call)?;
-    if session.is_open() || !session.may_begin(call.kind()) {
-        return Ok(text);
-    }
-    match session.begin(call) {
-        Ok(()) => go_on(alloc, session, &bytes, then, &mut text)?,
-        Err(error) => show_error(&mut text, &error)?,
-    }
-    Ok(text)
+    begin(alloc, session, call, bytes.as_slice(), then, text)
 }

@@ -1,12 +1,8 @@
 //! Talks with a server whose bytes are known.
 
-use crate::play::{LOGIN, RESPONSE, Then, login, turn};
-use my_frame::NoMemory;
-use my_frame::limits::DEFAULT_MAX_ALLOWED_PACKET;
-use my_session::Session;
+use crate::play::Then;
+use crate::visit::{PLAIN, Visit, goes};
 use std::alloc::Global;
-use std::fmt::Write;
-use std::process::Abort;
 use std::test::Fail;
 
 // A set of one column, up to the row, and one of two.
@@ -25,147 +21,108 @@ const SETS: &str = "090000000353454c4543542032 ok";
 
 const DO: &str = "0500000003444f2031 ok";
 
-// A session that is connected and then makes these calls: of each the call, the bytes that are received while it is open, and what was sent
-// for it with its answer.
-struct Talk<'a> {
-    turns: &'a [(&'a str, &'a str, &'a str)],
-    then: Then,
-}
-
-fn new_session(alloc: Global) -> Result<Session, NoMemory> {
-    let login = login(alloc, Some(DEFAULT_MAX_ALLOWED_PACKET), Some(28_800))?;
-    Session::new(alloc, login)
-}
-
-// What was sent while a session connects, with the answer.
-fn connects_so(
-    rt: &impl Abort,
-    alloc: Global,
-    session: &mut Session,
-    then: Then,
-) -> Result<(), Fail> {
-    let text = turn(alloc, session, "connect", LOGIN, then)?;
-    let mut want = String::new(alloc);
-    write!(want, "{RESPONSE}ok")?;
-    assert_eq!(rt; text.as_str(), want.as_str());
-    Ok(())
-}
-
-fn goes_on_so(
-    rt: &impl Abort,
-    alloc: Global,
-    session: &mut Session,
-    talk: &Talk,
-) -> Result<(), Fail> {
-    for (call, bytes, want) in talk.turns {
-        let text = turn(alloc, session, call, bytes, talk.then)?;
-        assert_eq!(rt; text.as_str(), *want, "{call}");
-    }
-    Ok(())
-}
-
-fn play(rt: &impl Abort, alloc: Global, talk: &Talk) -> Result<(), Fail> {
-    let mut session = new_session(alloc)?;
-    connects_so(rt, alloc, &mut session, talk.then)?;
-    goes_on_so(rt, alloc, &mut session, talk)
-}
+// The calls of a session that is connected: of each its name, the bytes that are received for it, and what was sent with
+// its answer; and what happens where bytes are awaited that don't come.
+const TALKS: &[(&[(&str, &str, &str)], Then)] = &[
+    // A read that is cancelled loses nothing, also where half a row came.
+    (
+        &[
+            ("SELECT 1", HEAD, SELECT),
+            ("next", "02000003 0131 07000004 fe000002000000", "row 31"),
+            ("next", "", "end"),
+            ("next", "", "none"),
+            ("SELECT 1", HEAD, SELECT),
+            ("next", "0200", "waits"),
+            ("next", "0003 0131 07000004 fe000002000000", "row 31"),
+            ("next", "", "end"),
+        ],
+        Then::Cancels,
+    ),
+    // Several sets are read to their end, passed over, or left to the next command.
+    (
+        &[
+            ("SELECT 2", TWO, SETS),
+            ("next", "", "row 31 32"),
+            ("next", "", "row 33 34"),
+            ("next", "", "end"),
+            ("next", "", "row 35 36"),
+            ("next", "", "end"),
+            ("next", "", "none"),
+            ("SELECT 2", TWO, SETS),
+            ("next", "", "row 31 32"),
+            ("drop", "", "ok"),
+            ("next", "", "none"),
+            ("SELECT 2", TWO, SETS),
+            ("ping", "07000001 00000002000000", "010000000e ok"),
+        ],
+        Then::Cancels,
+    ),
+    // An error that wasn't read is returned by the next command, and once; a quit is sent once.
+    (
+        &[
+            (
+                "DO 1",
+                "07000001 0000000a000000 0a000002 ff2804 23 3432303030 58",
+                DO,
+            ),
+            ("DO 1", "", "error 1064 42000 X"),
+            ("DO 1", "07000001 00000002000000", DO),
+            ("next", "", "end"),
+            (
+                "X",
+                "0a000001 ff2804 23 3432303030 58",
+                "020000000358 error 1064 42000 X",
+            ),
+            ("ping", "07000001 00000002000000", "010000000e ok"),
+            ("quit", "", "0100000001 ok"),
+            ("quit", "", "ok"),
+            ("ping", "", "error closed"),
+        ],
+        Then::Cancels,
+    ),
+    // A command that is cancelled before its answer closes the session.
+    (
+        &[("X", "", "020000000358 waits"), ("X", "", "error closed")],
+        Then::Cancels,
+    ),
+    // An empty payload is no row.
+    (
+        &[
+            ("SELECT 1", HEAD, SELECT),
+            ("next", "00000003", "error unfit 4"),
+            ("ping", "", "error closed"),
+        ],
+        Then::Cancels,
+    ),
+    (
+        &[("X", "01000005 01", "020000000358 error number 1 5")],
+        Then::Cancels,
+    ),
+    (
+        &[(
+            "X",
+            "01004001 01",
+            "020000000358 error length 4194305 4194304",
+        )],
+        Then::Cancels,
+    ),
+    (
+        &[("SELECT 1", HEAD, SELECT), ("next", "0200", "error end 4")],
+        Then::Ends,
+    ),
+    (&[("X", "", "020000000358 error link 2")], Then::Fails),
+];
 
 #[test]
 fn turns_are_answered(rt: HostRuntime) -> Result<(), Fail> {
     let alloc = rt.alloc();
-    for talk in &[
-        // A read that is cancelled loses nothing, also where half a row came.
-        Talk {
-            turns: &[
-                ("SELECT 1", HEAD, SELECT),
-                ("next", "02000003 0131 07000004 fe000002000000", "row 31"),
-                ("next", "", "end"),
-                ("next", "", "none"),
-                ("SELECT 1", HEAD, SELECT),
-                ("next", "0200", "waits"),
-                ("next", "0003 0131 07000004 fe000002000000", "row 31"),
-                ("next", "", "end"),
-            ],
-            then: Then::Cancels,
-        },
-        // Several sets are read to their end, passed over, or left to the next command.
-        Talk {
-            turns: &[
-                ("SELECT 2", TWO, SETS),
-                ("next", "", "row 31 32"),
-                ("next", "", "row 33 34"),
-                ("next", "", "end"),
-                ("next", "", "row 35 36"),
-                ("next", "", "end"),
-                ("next", "", "none"),
-                ("SELECT 2", TWO, SETS),
-                ("next", "", "row 31 32"),
-                ("drop", "", "ok"),
-                ("next", "", "none"),
-                ("SELECT 2", TWO, SETS),
-                ("ping", "07000001 00000002000000", "010000000e ok"),
-            ],
-            then: Then::Cancels,
-        },
-        // An error that wasn't read is returned by the next command, and once; a quit is sent once.
-        Talk {
-            turns: &[
-                (
-                    "DO 1",
-                    "07000001 0000000a000000 0a000002 ff2804 23 3432303030 58",
-                    DO,
-                ),
-                ("DO 1", "", "error 1064 42000 X"),
-                ("DO 1", "07000001 00000002000000", DO),
-                ("next", "", "end"),
-                (
-                    "X",
-                    "0a000001 ff2804 23 3432303030 58",
-                    "020000000358 error 1064 42000 X",
-                ),
-                ("ping", "07000001 00000002000000", "010000000e ok"),
-                ("quit", "", "0100000001 ok"),
-                ("quit", "", "ok"),
-                ("ping", "", "error closed"),
-            ],
-            then: Then::Cancels,
-        },
-        // A command that is cancelled before its answer closes the session.
-        Talk {
-            turns: &[("X", "", "020000000358 waits"), ("X", "", "error closed")],
-            then: Then::Cancels,
-        },
-        // An empty payload is no row.
-        Talk {
-            turns: &[
-                ("SELECT 1", HEAD, SELECT),
-                ("next", "00000003", "error unfit 4"),
-                ("ping", "", "error closed"),
-            ],
-            then: Then::Cancels,
-        },
-        Talk {
-            turns: &[("X", "01000005 01", "020000000358 error number 1 5")],
-            then: Then::Cancels,
-        },
-        Talk {
-            turns: &[(
-                "X",
-                "01004001 01",
-                "020000000358 error length 4194305 4194304",
-            )],
-            then: Then::Cancels,
-        },
-        Talk {
-            turns: &[("SELECT 1", HEAD, SELECT), ("next", "0200", "error end 4")],
-            then: Then::Ends,
-        },
-        Talk {
-            turns: &[("X", "", "020000000358 error link 2")],
-            then: Then::Fails,
-        },
-    ] {
-        play(&rt, alloc, talk)?;
+    for (turns, then) in TALKS {
+        let talk = Visit {
+            turns: *turns,
+            then: *then,
+            ..PLAIN
+        };
+        assert!(rt; goes(alloc, &talk)?, "{turns:?}");
     }
     Ok(())
 }

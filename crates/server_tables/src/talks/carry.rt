@@ -13,9 +13,6 @@ use my_server::{ServerCore, ServerStep};
 use my_session::{Session, SessionStep};
 use std::alloc::Global;
 
-/// How many bytes are handed over at a time: one, or all that are owed.
-pub const PIECES: [usize; 2] = [1, usize::MAX];
-
 /// What a client sends of itself, with long payloads, and with no queries after the login.
 pub fn login_of(alloc: Global, user: &str, password: Option<&str>) -> Result<Login, NoMemory> {
     let password = match password {

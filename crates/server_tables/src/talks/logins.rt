@@ -1,10 +1,10 @@
 //! Logins of a session, and what each side says of them.
 
-use crate::notation::script_of;
-use crate::talks::carry::{PIECES, login_of};
+use crate::notation::{VERSION, script_of};
+use crate::talks::carry::login_of;
 use crate::talks::visit::talk;
+use my_server::{CloseCause, ScriptFault, ServerStep};
 use std::alloc::Global;
-use std::process::Abort;
 use std::test::Fail;
 
 // SHA1(SHA1("password")).
@@ -12,41 +12,78 @@ const STORED: Option<[u8; 20]> = Some(
     *b"\x24\x70\xc0\xc0\x6d\xee\x42\xfd\x16\x18\xbb\x99\x00\x5a\xdc\xa2\xec\x9d\x1e\x19",
 );
 
-const ADMITTED: &str = "Closed(Quit)";
+const ADMITTED: &str = "";
 
-const DENIED: &str = "ERROR 1045 (28000): Access denied Closed(Denied)";
+const DENIED: &str = "1045 28000 Access denied";
 
-// What a session that connects comes to with this user and password, where the script knows this password.
-fn expect(
-    rt: &impl Abort,
+// Adds what a session reads that connects with this user and password, where the script knows this password: the
+// server's last step.
+fn connect(
     alloc: Global,
     stored: Option<[u8; 20]>,
     user: &str,
     password: Option<&str>,
-    want: &str,
-) -> Result<(), Fail> {
-    for most in PIECES {
-        let login = login_of(alloc, user, password)?;
-        let script = script_of(alloc, stored, &[])?;
-        let text = talk(alloc, login, script, most, &[])?;
-        assert_eq!(rt; text.as_str(), want, "{user}");
-    }
-    Ok(())
+    most: usize,
+    text: &mut Vec<u8>,
+) -> Result<ServerStep, ScriptFault> {
+    let login = login_of(alloc, user, password)?;
+    let script = script_of(alloc, VERSION, stored, &[])?;
+    talk(alloc, login, script, most, &[], text)
 }
+
+// Whether it reads this, and the server's last step is this.
+fn comes_to(
+    alloc: Global,
+    stored: Option<[u8; 20]>,
+    user: &str,
+    password: Option<&str>,
+    admitted: bool,
+    most: usize,
+) -> Result<bool, ScriptFault> {
+    let (want, cause) = if admitted {
+        (ADMITTED, CloseCause::Quit)
+    } else {
+        (DENIED, CloseCause::Denied)
+    };
+    let mut text = Vec::new(alloc);
+    let step = connect(alloc, stored, user, password, most, &mut text)?;
+    Ok(step == ServerStep::Closed(cause) && text.as_slice() == want.as_bytes())
+}
+
+// The same, byte by byte and all at once.
+fn is_judged(
+    alloc: Global,
+    stored: Option<[u8; 20]>,
+    user: &str,
+    password: Option<&str>,
+    admitted: bool,
+) -> Result<bool, ScriptFault> {
+    Ok(
+        comes_to(alloc, stored, user, password, admitted, 1)?
+            && comes_to(alloc, stored, user, password, admitted, usize::MAX)?,
+    )
+}
+
+// The password that the script knows, the user and the password of the client, and whether it is admitted.
+const LOGINS: &[(Option<[u8; 20]>, &str, Option<&str>, bool)] = &[
+    (STORED, "root", Some("password"), true),
+    (STORED, "root", Some("Password"), false),
+    (STORED, "root", Some("passwor"), false),
+    (STORED, "root", None, false),
+    (STORED, "Root", Some("password"), false),
+    (STORED, "", Some("password"), false),
+    (None, "root", None, true),
+    (None, "root", Some("password"), false),
+];
 
 #[test]
 fn logins_are_judged(rt: HostRuntime) -> Result<(), Fail> {
     let alloc = rt.alloc();
-    for (user, password, want) in &[
-        ("root", Some("password"), ADMITTED),
-        ("root", Some("Password"), DENIED),
-        ("root", Some("passwor"), DENIED),
-        ("root", None, DENIED),
-        ("Root", Some("password"), DENIED),
-        ("", Some("password"), DENIED),
-    ] {
-        expect(&rt, alloc, STORED, *user, *password, *want)?;
+    for (stored, user, password, admitted) in LOGINS {
+        assert!(rt;
+            is_judged(alloc, *stored, user, *password, *admitted)?,
+            "{user}"
+        );
     }
-    expect(&rt, alloc, None, "root", None, ADMITTED)?;
-    expect(&rt, alloc, None, "root", Some("password"), DENIED)
+    Ok(())
 }

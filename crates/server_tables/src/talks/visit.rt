@@ -1,14 +1,13 @@
 //! A session that visits a server.
 
 use crate::talks::carry::call;
-use crate::talks::show::show_query;
+use crate::talks::show::{show_error, show_query};
+use my_frame::NoMemory;
 use my_grammar::Login;
 use my_reading::{Call, Error};
-use my_server::{ServerCore, ServerScript};
+use my_server::{ScriptFault, ServerCore, ServerScript, ServerStep};
 use my_session::Session;
 use std::alloc::Global;
-use std::fmt::Write;
-use std::test::Fail;
 
 // Connects, reads the answers to these queries, sends a ping and quits.
 fn visit(
@@ -17,7 +16,7 @@ fn visit(
     server: &mut ServerCore,
     most: usize,
     queries: &[&str],
-    text: &mut String,
+    text: &mut Vec<u8>,
 ) -> Result<(), Error> {
     call(alloc, session, server, most, Call::Connect)?;
     for query in queries {
@@ -28,32 +27,44 @@ fn visit(
     Ok(())
 }
 
+// The same; an error is added to the text, too.
 fn show_visit(
     alloc: Global,
     session: &mut Session,
     server: &mut ServerCore,
     most: usize,
     queries: &[&str],
-) -> Result<String, Fail> {
-    let mut text = String::new(alloc);
-    if let Err(error) = visit(alloc, session, server, most, queries, &mut text) {
-        write!(text, "{error} ")?;
+    text: &mut Vec<u8>,
+) -> Result<(), NoMemory> {
+    match visit(alloc, session, server, most, queries, text) {
+        Ok(()) => Ok(()),
+        Err(error) => show_error(text, &error),
     }
-    let step = server.step(alloc);
-    write!(text, "{step:?}")?;
-    Ok(text)
 }
 
-/// What a session reads that logs in so, asks the server of this script these queries, sends a ping and quits; and
-/// the server's step after that. Bytes are handed over both ways, at most `most` at a time.
+fn visit_new(
+    alloc: Global,
+    session: &mut Session,
+    script: ServerScript,
+    most: usize,
+    queries: &[&str],
+    text: &mut Vec<u8>,
+) -> Result<ServerStep, ScriptFault> {
+    let mut server = ServerCore::new(alloc, script)?;
+    show_visit(alloc, session, &mut server, most, queries, text)?;
+    Ok(server.step(alloc))
+}
+
+/// Adds what a session reads that logs in so, asks the server of this script these queries, sends a ping and quits: the
+/// server's step after that. Bytes are handed over both ways, at most `most` at a time.
 pub fn talk(
     alloc: Global,
     login: Login,
     script: ServerScript,
     most: usize,
     queries: &[&str],
-) -> Result<String, Fail> {
-    let mut server = ServerCore::new(alloc, script)?;
+    text: &mut Vec<u8>,
+) -> Result<ServerStep, ScriptFault> {
     let mut session = Session::new(alloc, login)?;
-    show_visit(alloc, &mut session, &mut server, most, queries)
+    visit_new(alloc, &mut session, script, most, queries, text)
 }

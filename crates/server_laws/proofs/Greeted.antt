@@ -14,12 +14,12 @@ use Rattle.my_server.specs.declared.phase.Phase.{Phase}
 use Rattle.my_server.specs.declared.phase.Phase.TheVariants.{Login as AtLogin, Commands, Closed}
 use Rattle.my_server.specs.declared.phase.CloseCause.TheVariants.{Quit, Denied, BadPacket, Codec}
 use Rattle.my_server.specs.declared.script.ServerScript.{ServerScript}
-use Rattle.my_server.specs.Conversation.{IsGreeted, IsTyped}
+use Rattle.server_laws.specs.Conversation.{IsGreeted, IsTyped}
 use Rattle.my_server.specs.Faults.{is_served}
 use Rattle.my_server.specs.History.{History, IsJudged, IsNew, Stands, StandsAt, answer_bytes, kept_after, verdict_bytes}
 use Rattle.my_server.specs.Machine.{Served, greeting_payload}
-use Rattle.my_server.proofs.Opening.{greeting_is_short, greets}
-use Rattle.my_server.proofs.PayloadKinds.{PacketLaws}
+use Rattle.server_laws.proofs.Opening.{greeting_is_short, greets}
+use Rattle.server_laws.proofs.PayloadKinds.{PacketLaws}
 
 not_judged : (h : History) (admitted : Bool) (kept : CapabilityFlags) → h.login ≡ None → IsJudged h admitted kept → ⊥
 not_judged h admitted kept e w = let a = w.payload_is in cc

@@ -23,7 +23,7 @@ use Rattle.my_value.proofs.Rows.WrittenRows.{text_row_read_back}
 use Rattle.my_grammar.specs.declared.spot.Kind.TheVariants as kinds
 use Rattle.my_grammar.specs.Kinds.{cells_kind, column_kind, count_kind, ended_kind, failed_kind, good_kind, head_kind, or_else, row_kind, single_kind, described_kind}
 use Rattle.my_server.specs.Answer.{column_of, column_payload, ok_of, row_payload}
-use Rattle.my_server.proofs.Heads.{BeginsCell, length_head, no_head, reads_none, row_head}
+use Rattle.server_laws.proofs.Heads.{BeginsCell, length_head, no_head, reads_none, row_head}
 
 -- what is written is read back: laws of the packets
 pub record PacketLaws : Type 0 where

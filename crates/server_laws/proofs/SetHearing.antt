@@ -22,9 +22,9 @@ use Rattle.my_grammar.proofs.Growth.Known.{head_kind_is}
 use Rattle.my_server.specs.declared.answer.TheConstants.{DONE, FURTHER}
 use Rattle.my_server.specs.declared.script.ServerSet.{ServerSet}
 use Rattle.my_server.specs.Answer.{column_of, column_payload, end_payload, row_payload, set_payloads, set_status, sets_payloads}
-use Rattle.my_server.specs.Conversation.{AreSets, IsSet}
-use Rattle.my_server.proofs.Hearing.{Heard, heard_none, heard_one, heard_then}
-use Rattle.my_server.proofs.PayloadKinds.{PacketLaws, column_back, column_is, end_is, head_count, row_back, row_is}
+use Rattle.server_laws.specs.Conversation.{AreSets, IsSet}
+use Rattle.server_laws.proofs.Hearing.{Heard, heard_none, heard_one, heard_then}
+use Rattle.server_laws.proofs.PayloadKinds.{PacketLaws, column_back, column_is, end_is, head_count, row_back, row_is}
 
 -- A name and a row that are read back, in payloads within the limit.
 abbrev pub IsName : ℕ → List ℕ → Type 0

@@ -30,14 +30,14 @@ use Rattle.my_server.specs.declared.script.ReplyAnswer.TheVariants as answers
 use Rattle.my_server.specs.declared.script.ServerScript.{ServerScript}
 use Rattle.my_server.specs.Answer.{ok_of, reply_payloads, sets_payloads}
 use Rattle.my_server.specs.Command.{command_kind, query_text}
-use Rattle.my_server.specs.Conversation.{EndsBadly, EndsBy, EndsQuery, EndsWell, IsLoneErr, IsLoneOk, IsTyped, IsTypedAnswer, Says, SaysReply, exchange_of, exchange_by}
+use Rattle.server_laws.specs.Conversation.{EndsBadly, EndsBy, EndsQuery, EndsWell, IsLoneErr, IsLoneOk, IsTyped, IsTypedAnswer, Says, SaysReply, exchange_of, exchange_by}
 use Rattle.my_server.specs.Faults.{is_answer, is_reply, is_sent, is_served, is_set}
 use Rattle.my_server.specs.Machine.{all_chunks, answer_payloads, command_payloads, denial, fine_payload, found_payloads, no_reply, refusal_payload, reply_for}
-use Rattle.my_server.proofs.Goodness.{all_within, sets_are_good}
-use Rattle.my_server.proofs.Hearing.{Heard, heard_one}
-use Rattle.my_server.proofs.PayloadKinds.{PacketLaws, head_err, head_ok, single_err, single_ok, typed_ok}
+use Rattle.server_laws.proofs.Goodness.{all_within, sets_are_good}
+use Rattle.server_laws.proofs.Hearing.{Heard, heard_one}
+use Rattle.server_laws.proofs.PayloadKinds.{PacketLaws, head_err, head_ok, single_err, single_ok, typed_ok}
 use Rattle.my_server.proofs.Sendable.{both, found_has, replies_are_fine, served_parts}
-use Rattle.my_server.proofs.SetHearing.{sets_are_over, sets_are_read, sets_from, sets_heard}
+use Rattle.server_laws.proofs.SetHearing.{sets_are_over, sets_are_read, sets_from, sets_heard}
 
 -- The exchange of a command, whose server's bytes are these payloads.
 pub record IsExchange (script : ServerScript) (terms : Terms) (c : List ℕ) (t : Talk) : Type 0 where

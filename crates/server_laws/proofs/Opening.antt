@@ -32,13 +32,13 @@ use Rattle.my_server.specs.declared.answer.TheConstants.{DONE}
 use Rattle.my_server.specs.declared.greet.TheConstants.{OFFERED}
 use Rattle.my_server.specs.declared.script.ServerScript.{ServerScript}
 use Rattle.my_server.specs.ClientLogin.{LoginParts, login_at}
-use Rattle.my_server.specs.Conversation.{IsTyped, OpensBadly, OpensWell}
+use Rattle.server_laws.specs.Conversation.{IsTyped, OpensBadly, OpensWell}
 use Rattle.my_server.specs.Faults.{is_served, is_version}
 use Rattle.my_server.specs.History.{verdict}
 use Rattle.my_server.specs.Machine.{admits, denial, fine_payload, greeting_of, greeting_payload, kept_of, refusal_payload}
-use Rattle.my_server.proofs.Exchanges.{fine_back, single_fine, typed_denied}
+use Rattle.server_laws.proofs.Exchanges.{fine_back, single_fine, typed_denied}
 use Rattle.my_server.proofs.LoginLaws.{login_found}
-use Rattle.my_server.proofs.PayloadKinds.{PacketLaws, single_err}
+use Rattle.server_laws.proofs.PayloadKinds.{PacketLaws, single_err}
 use Rattle.my_server.proofs.Sendable.{both, served_parts}
 
 none_zero : (text : List ℕ) → list_any (λ b. b == 0) text ≡ false → AllByRecursion (λ b. b ≢ 0) text

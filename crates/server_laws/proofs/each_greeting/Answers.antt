@@ -1,6 +1,6 @@
-use Rattle.my_server.proofs.Greeted.{greeted}
-use Rattle.my_server.proofs.PayloadKinds.{PacketLaws}
-use Rattle.my_server.proofs.laws.each_greeting.Goals as goal
+use Rattle.server_laws.proofs.Greeted.{greeted}
+use Rattle.server_laws.proofs.PayloadKinds.{PacketLaws}
+use Rattle.server_laws.proofs.each_greeting.Goals as goal
 
 pub returns : goal.returns
 returns c =

@@ -18,13 +18,13 @@ use Rattle.my_server.specs.declared.phase.CloseCause.TheVariants.{Quit, Denied, 
 use Rattle.my_server.specs.declared.script.ServerScript.{ServerScript}
 use Rattle.my_server.specs.ClientLogin.{LoginParts, login_at}
 use Rattle.my_server.specs.Command.{command_kind}
-use Rattle.my_server.specs.Conversation.{EndEach, IsClient, IsHeard, IsTyped, exchange_of, client_terms}
+use Rattle.server_laws.specs.Conversation.{EndEach, IsClient, IsHeard, IsTyped, exchange_of, client_terms}
 use Rattle.my_server.specs.Faults.{is_served}
 use Rattle.my_server.specs.History.{History, IsJudged, IsNew, Stands, StandsAt, answer_bytes, kept_after, kept_by, verdict, verdict_bytes}
 use Rattle.my_server.specs.Machine.{Served, all_chunks, answer_payloads, greeting_payload, kept_of}
-use Rattle.my_server.proofs.Exchanges.{exchange}
-use Rattle.my_server.proofs.Opening.{both_deprecate, opening}
-use Rattle.my_server.proofs.PayloadKinds.{PacketLaws}
+use Rattle.server_laws.proofs.Exchanges.{exchange}
+use Rattle.server_laws.proofs.Opening.{both_deprecate, opening}
+use Rattle.server_laws.proofs.PayloadKinds.{PacketLaws}
 
 -- what the exchanges of commands are cut into
 record AreEnded (script : ServerScript) (terms : Terms) (kept : CapabilityFlags) (cs : List (List ℕ)) : Type 0 where

@@ -1,6 +1,6 @@
-use Rattle.my_server.proofs.Conversing.{heard}
-use Rattle.my_server.proofs.PayloadKinds.{PacketLaws}
-use Rattle.my_server.proofs.laws.each_conversation.Goals as goal
+use Rattle.server_laws.proofs.Conversing.{heard}
+use Rattle.server_laws.proofs.PayloadKinds.{PacketLaws}
+use Rattle.server_laws.proofs.each_conversation.Goals as goal
 
 pub returns : goal.returns
 returns c =

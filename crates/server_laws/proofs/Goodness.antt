@@ -13,7 +13,7 @@ use Rattle.my_server.specs.declared.script.ServerSet.{ServerSet}
 use Rattle.my_server.specs.Answer.{close_payloads, column_payload, end_payload, row_payload, set_payloads, set_status, sets_payloads}
 use Rattle.my_server.specs.Faults.{is_sent, is_set}
 use Rattle.my_server.proofs.Sendable.{both}
-use Rattle.my_server.proofs.SetHearing.{AreGood, IsGoodSet, IsName, IsRow}
+use Rattle.server_laws.proofs.SetHearing.{AreGood, IsGoodSet, IsName, IsRow}
 
 all_front : {X : Type 0} (P : X → Type 0) (xs ys : List X) → AllByRecursion P (xs ++ ys) → AllByRecursion P xs
 all_front {X} P [] ys w = tt

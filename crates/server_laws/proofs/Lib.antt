@@ -1,0 +1,11 @@
+pub mod AnswerLaws
+pub mod Conversing
+pub mod Exchanges
+pub mod Goodness
+pub mod Greeted
+pub mod Heads
+pub mod Hearing
+pub mod Opening
+pub mod PayloadKinds
+pub mod ResponseLaws
+pub mod SetHearing
