@@ -31,7 +31,13 @@ impl<L> Model for Conn<L> {
 
     ghost Value = { ConnSeen L };
 
-    ghost view = { λ c. record { seen = c.session.seen; link = c.link; tape = c.tape; pending = c.pending; lost = c.lost } };
+    ghost view = { λ c. record {
+      seen = c.session.seen;
+      link = c.link;
+      tape = c.tape;
+      pending = c.pending;
+      lost = c.lost;
+    } };
 
     ghost invariant = { λ c. Standing c.lost c.session.seen c.tape c.pending };
 }
