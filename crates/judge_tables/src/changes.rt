@@ -1,9 +1,9 @@
 //! The changes that are made of each tape, and what is found of it then.
 
 use crate::rows::{Line, Needs, Told};
-use crate::tapes::{Change, SetUp, changed, login, spans_of, tape_of};
+use crate::tapes::{Change, SetUp, changed, login};
 use my_frame::NoMemory;
-use my_judge::{Verdict, judge};
+use my_judge::{Tape, Verdict, judge};
 use std::alloc::Global;
 use std::process::Abort;
 use std::test::Fail;
@@ -34,7 +34,33 @@ pub struct Table<'a> {
 }
 
 fn is_among(told: Told, all: &[Told]) -> bool {
-    all.iter().any(|other| *other == told)
+    for other in all {
+        if *other == told {
+            return true;
+        }
+    }
+    false
+}
+
+fn judged(alloc: Global, set_up: SetUp, tape: &Tape) -> Result<Verdict, NoMemory> {
+    let login = login(alloc, set_up)?;
+    judge(alloc, &login, tape)
+}
+
+// What is found of the tape of these lines with a change.
+fn found(
+    alloc: Global,
+    set_up: SetUp,
+    lines: &[Line],
+    at: usize,
+    change: Change,
+) -> Result<Verdict, NoMemory> {
+    let tape = changed(alloc, lines, at, change)?;
+    judged(alloc, set_up, &tape)
+}
+
+fn expect(rt: &impl Abort, holds: bool, at: usize, change: Change) {
+    assert!(rt; holds, "call {at}: {change:?}");
 }
 
 impl<'a> Table<'a> {
@@ -45,9 +71,8 @@ impl<'a> Table<'a> {
         set_up: SetUp,
         lines: &'a [Line<'a>],
     ) -> Result<Table<'a>, NoMemory> {
-        let tape = tape_of(alloc, spans_of(alloc, lines)?)?;
-        let verdict = judge(alloc, &login(alloc, set_up)?, &tape)?;
-        assert_eq!(rt; verdict, Verdict::Accepted);
+        let verdict = found(alloc, set_up, lines, 0, Change::Nothing)?;
+        expect(rt, verdict == Verdict::Accepted, 0, Change::Nothing);
         Ok(Table {
             set_up,
             lines,
@@ -57,8 +82,7 @@ impl<'a> Table<'a> {
 
     // What is found of the tape with a change.
     fn found(&self, alloc: Global, at: usize, change: Change) -> Result<Verdict, NoMemory> {
-        let tape = changed(alloc, self.lines, at, change)?;
-        judge(alloc, &login(alloc, self.set_up)?, &tape)
+        found(alloc, self.set_up, self.lines, at, change)
     }
 
     /// The change of this call is refuted at that one.
@@ -71,7 +95,7 @@ impl<'a> Table<'a> {
         by: usize,
     ) -> Result<(), NoMemory> {
         let verdict = self.found(alloc, at, change)?;
-        assert_eq!(rt; verdict, Verdict::Refuted(by), "call {at}: {change:?}");
+        expect(rt, verdict == Verdict::Refuted(by), at, change);
         self.refuted = self.refuted.saturating_add(1);
         Ok(())
     }
@@ -85,7 +109,7 @@ impl<'a> Table<'a> {
         change: Change,
     ) -> Result<(), NoMemory> {
         let verdict = self.found(alloc, at, change)?;
-        assert_eq!(rt; verdict, Verdict::Accepted, "call {at}: {change:?}");
+        expect(rt, verdict == Verdict::Accepted, at, change);
         Ok(())
     }
 
@@ -101,7 +125,7 @@ impl<'a> Table<'a> {
             let change = Change::Ending(told);
             if is_among(told, line.also) {
                 let verdict = self.found(alloc, at, change)?;
-                assert!(rt; verdict != Verdict::Refuted(at), "call {at}: {change:?}");
+                expect(rt, verdict != Verdict::Refuted(at), at, change);
             } else if told != line.ending {
                 self.refute(rt, alloc, at, change, at)?;
             }

@@ -123,21 +123,28 @@ fn ending_of(alloc: Global, told: Told) -> Result<Option<Ending>, NoMemory> {
     })
 }
 
+fn joined(alloc: Global, parts: &[&[u8]]) -> Result<Vec<u8>, NoMemory> {
+    let mut bytes = Vec::new(alloc);
+    for part in parts {
+        bytes.extend_from_slice(part)?;
+    }
+    Ok(bytes)
+}
+
 fn span_of(alloc: Global, line: &Line) -> Result<Span, NoMemory> {
-    let mut taken = Vec::new(alloc);
-    let [first, second] = line.taken;
-    taken.extend_from_slice(first)?;
-    taken.extend_from_slice(second)?;
+    let sent = joined(alloc, &[line.sent])?;
+    let taken = joined(alloc, &line.taken)?;
+    let call = call_of(alloc, line.call)?;
+    let ending = ending_of(alloc, line.ending)?;
     Ok(Span {
-        call: call_of(alloc, line.call)?,
-        sent: Vec::from_slice(alloc, line.sent)?,
+        call,
+        sent,
         taken,
-        ending: ending_of(alloc, line.ending)?,
+        ending,
     })
 }
 
-/// The calls of these lines.
-pub fn spans_of(alloc: Global, lines: &[Line]) -> Result<Vec<Span>, NoMemory> {
+fn spans_of(alloc: Global, lines: &[Line]) -> Result<Vec<Span>, NoMemory> {
     let mut spans = Vec::new(alloc);
     for line in lines {
         spans.push(span_of(alloc, line)?)?;
@@ -145,21 +152,47 @@ pub fn spans_of(alloc: Global, lines: &[Line]) -> Result<Vec<Span>, NoMemory> {
     Ok(spans)
 }
 
-/// The tape of these calls.
-pub fn tape_of(alloc: Global, spans: Vec<Span>) -> Result<Tape, NoMemory> {
+fn add_bytes(sent: &mut Vec<u8>, taken: &mut Vec<u8>, span: &Span) -> Result<(), NoMemory> {
+    sent.extend_from_slice(span.sent.as_slice())?;
+    taken.extend_from_slice(span.taken.as_slice())?;
+    Ok(())
+}
+
+fn add_span(
+    sent: &mut Vec<u8>,
+    taken: &mut Vec<u8>,
+    calls: &mut Listed<TapeCall>,
+    span: Span,
+) -> Result<(), NoMemory> {
+    let sent_from = sent.len();
+    let taken_from = taken.len();
+    add_bytes(sent, taken, &span)?;
+    calls.push(TapeCall {
+        call: span.call,
+        sent_from,
+        taken_from,
+        ending: span.ending,
+    })
+}
+
+fn add_spans(
+    sent: &mut Vec<u8>,
+    taken: &mut Vec<u8>,
+    calls: &mut Listed<TapeCall>,
+    spans: Vec<Span>,
+) -> Result<(), NoMemory> {
+    for span in spans {
+        add_span(sent, taken, calls, span)?;
+    }
+    Ok(())
+}
+
+// The tape of these calls.
+fn tape_of(alloc: Global, spans: Vec<Span>) -> Result<Tape, NoMemory> {
     let mut sent = Vec::new(alloc);
     let mut taken = Vec::new(alloc);
     let mut calls = Listed::new(alloc);
-    for span in spans {
-        calls.push(TapeCall {
-            call: span.call,
-            sent_from: sent.len(),
-            taken_from: taken.len(),
-            ending: span.ending,
-        })?;
-        sent.extend_from_slice(span.sent.as_slice())?;
-        taken.extend_from_slice(span.taken.as_slice())?;
-    }
+    add_spans(&mut sent, &mut taken, &mut calls, spans)?;
     Ok(Tape {
         sent: Blob::from(sent),
         taken: Blob::from(taken),
@@ -170,6 +203,7 @@ pub fn tape_of(alloc: Global, spans: Vec<Span>) -> Result<Tape, NoMemory> {
 /// One change of a tape, at one of its calls.
 #[derive(Clone, Copy, Debug)]
 pub enum Change<'a> {
+    Nothing,
     /// Another ending.
     Ending(Told<'a>),
     /// A bit of the byte at this place of those that were sent, or received, is turned.
@@ -293,13 +327,22 @@ fn change_two(spans: &mut Vec<Span>, at: usize, change: Change) -> Result<(), No
     Ok(())
 }
 
-/// The tape of these lines with one change.
-pub fn changed(alloc: Global, lines: &[Line], at: usize, change: Change) -> Result<Tape, NoMemory> {
-    let mut spans = spans_of(alloc, lines)?;
+fn change_spans(
+    alloc: Global,
+    spans: &mut Vec<Span>,
+    at: usize,
+    change: Change,
+) -> Result<(), NoMemory> {
     if at < spans.len() {
         change_span(alloc, &mut spans[at], change)?;
     }
-    change_order(&mut spans, at, change)?;
-    change_two(&mut spans, at, change)?;
+    change_order(spans, at, change)?;
+    change_two(spans, at, change)
+}
+
+/// The tape of these lines with one change.
+pub fn changed(alloc: Global, lines: &[Line], at: usize, change: Change) -> Result<Tape, NoMemory> {
+    let mut spans = spans_of(alloc, lines)?;
+    change_spans(alloc, &mut spans, at, change)?;
     tape_of(alloc, spans)
 }
