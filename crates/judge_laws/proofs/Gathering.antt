@@ -3,6 +3,7 @@ use Rattle.std.proofs.Common.{◌≡◌, ◌≤◌, inl, inr, ℕ, ◌+◌, List
 use Rattle.my_value.specs.RowParts.{RowParts}
 use Rattle.my_grammar.specs.declared.login.Login.{Login}
 use Rattle.my_link.specs.Looks.{Looks}
+use Rattle.my_link.specs.Moves.{NoStop}
 use Rattle.my_reading.specs.declared.answer.Answer.TheVariants as answers
 use Rattle.my_reading.specs.declared.call.Call.TheVariants as calls
 use Rattle.my_reading.specs.declared.error.Error.{Error}
@@ -28,7 +29,8 @@ use Rattle.my_run_judge.specs.Lines.{AreRows, ArePolled, IsToldBy, after_last, a
 use Rattle.my_run_judge.specs.Walks.{Walk, ended, with_taken}
 use Rattle.judge_laws.proofs.Going.{before_begin, shown_tape}
 use Rattle.judge_laws.proofs.Tying.{AtWalk, at_begin}
-use Rattle.judge_laws.proofs.Polling.{HasRest, LastSo, ShownBy, after_so, before_more, begins_here, call_so, ended_so, fits, last_poll, next_so, poll_back}
+use Rattle.judge_laws.proofs.Meeting.{ShownBy, met_at_stop}
+use Rattle.judge_laws.proofs.Polling.{HasRest, LastSo, after_so, before_more, begins_here, call_so, ended_so, fits, last_poll, next_so, poll_back}
 
 -- the tape goes on from what stands there
 abbrev pub HasTape : Tape → Handle → Type 0
@@ -197,7 +199,7 @@ module _ (login : Login) (t : Tape) (all : AreCalls login (reading login t).call
               let f : Forth (v ∷ us) o first h shut = more.forth shut (at_begin login end calls.NextRow (Some (rows ++ row ∷ [])) shut none at_end) refl first (omega arith)
               (subst (λ m. AreRows (rows ++ row ∷ []) (calls_before (shown_tape t) first m)) (sym same) (before_more t first w.spot.next rows row _ low here refl r)) in
               record {
-                polls = ((fits login t all a k end x y u (after.Answered (answers.Row row)) kp polled has_end n number w at, (begins_here t next asked (w.spot.next + 1) count refl more.back, is_so)), f.polls);
+                polls = ((fits login t all a k end x y u (after.Answered (answers.Row row)) kp polled has_end n number w at, (polled.within, met_at_stop u.met polled.stop polled.taken polled.of_call polled.met NoStop polled.ends.3), (begins_here t next asked (w.spot.next + 1) count refl more.back, is_so)), f.polls);
                 to = f.to;
                 told = f.told;
               };

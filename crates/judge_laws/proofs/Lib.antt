@@ -9,3 +9,4 @@ pub mod Resuming
 pub mod Running
 pub mod Whole
 pub mod Accepted
+pub mod Meeting

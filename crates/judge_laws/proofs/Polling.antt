@@ -1,5 +1,5 @@
 -- The polls of a line.
-use Rattle.std.proofs.Common.{◌≡◌, ◌≤◌, ℕ, zero, suc, ◌+◌, ◌-◌, List, [], ◌∷◌, ◌++◌, length, map, take, drop, slice_get, true, false, Some, Ok, Err, refl, sym, ap, ◌∙◌, subst, arith, length-append}
+use Rattle.std.proofs.Common.{◌≡◌, ◌≤◌, ℕ, zero, suc, ◌+◌, ◌-◌, List, [], ◌∷◌, ◌++◌, length, map, take, drop, slice_get, true, false, Some, Ok, refl, sym, ap, ◌∙◌, subst, arith, length-append}
 use Rattle.my_value.specs.RowParts.{RowParts}
 use Rattle.my_grammar.specs.declared.login.Login.{Login}
 use Rattle.my_link.specs.Looks.{Looks}
@@ -18,8 +18,10 @@ use Rattle.my_client.specs.declared.tape.Said.TheVariants as says
 use Rattle.my_client.specs.Causes.{IsPolled, PollEnds}
 use Rattle.my_client.specs.Kept.{Asked, Kept, ended_by, told_by}
 use Rattle.my_run_judge.specs.Lines.{AreRows, Fits, IsBegun, IsShown, IsShownAt, LastPoll, LastRight, after_last, after_last_poll, calls_before, is_pending}
+use Rattle.my_run_judge.specs.Meets.{LastMet}
 use Rattle.my_run_judge.specs.Walks.{Walk, IsEnded, ended, with_taken}
 use Rattle.judge_laws.proofs.Going.{Begins, GoesOn, answer_of, own_span, before_end, before_move, call_here, call_of, done_by, shown_call, shown_said, shown_tape}
+use Rattle.judge_laws.proofs.Meeting.{ShownBy, shown_met}
 use Rattle.judge_laws.proofs.Tying.{AtWalk, SaidSo, at_end, at_move, is_ended}
 
 abbrev pub HasRest : Tape → Kept → Type 0
@@ -32,12 +34,6 @@ begins_here t k a n next some has = by_rest has.0 has.1
     by_rest : (rest : List TapeCall) → GoesOn t k rest → IsBegun (Some a.call) (slice_get (map shown_call t.calls) n)
     by_rest [] g = absurd (subst (λ q. Begins k g.sent_more g.taken_more q []) some g.begins)
     by_rest (c ∷ cs) g = subst (IsBegun (Some a.call)) (sym (call_here t k c cs g n next)) (subst (λ q. Begins k g.sent_more g.taken_more q (c ∷ cs)) some g.begins).0
-
--- how the line shows what the last poll came to
-abbrev pub ShownBy : Outcome → List ShownCall → After → Type 0
-ShownBy o before after.Pending = is_pending o ≡ true
-ShownBy o before (after.Answered answer) = (is_pending o ≡ false) × IsShown o (Some (Ok answer)) before
-ShownBy o before (after.Failed e) = (is_pending o ≡ false) × IsShown o (Some (Err e)) before
 
 -- one poll of the open call
 module _ (login : Login) (t : Tape) (all : AreCalls login (reading login t).calls) where
@@ -98,17 +94,21 @@ module _ (login : Login) (t : Tape) (all : AreCalls login (reading login t).call
         pub right : LastPoll login n (shown_tape t) o first u w
         pub after_is : AtWalk login end (after_last_poll login (shown_tape t) o u w)
 
-      held_so : (o : Outcome) (first : ℕ) → end ≡ f → is_pending o ≡ true → LastSo o first
-      held_so o first e is = record {
-        right = (fits, subst (λ b. LastRight login (shown_tape t) o first w2 b) (sym is) tt);
+      met_so : (o : Outcome) (before : List ShownCall) (q : After) → PollEnds login a f u.met polled.stop q end → ShownBy o before q → LastMet o u.met
+      met_so o before q e s = (polled.within, shown_met u.met polled.stop polled.taken polled.of_call polled.met login a f end o before q e s)
+
+      held_so : (o : Outcome) (first : ℕ) → LastMet o u.met → end ≡ f → is_pending o ≡ true → LastSo o first
+      held_so o first m e is = record {
+        right = (fits, m, subst (λ b. LastRight login (shown_tape t) o first w2 b) (sym is) tt);
         after_is = subst (λ b. AtWalk login end (after_last login (shown_tape t) w2 b)) (sym is) (subst (λ (z : Kept). AtWalk login z w2) (sym e) at_f);
       }
 
-      done_so : (o : Outcome) (first : ℕ) (said : Said) (so : SaidSo false (kind_of a.call) (halt_of login w2.closed (own_span f a (Some (told_by said))) w2.place).place said) → end ≡ ended_by f a said
+      done_so : (o : Outcome) (first : ℕ) → LastMet o u.met → (said : Said) (so : SaidSo false (kind_of a.call) (halt_of login w2.closed (own_span f a (Some (told_by said))) w2.place).place said) → end ≡ ended_by f a said
           → is_pending o ≡ false → IsShown o (answer_of (Some (told_by said))) (calls_before (shown_tape t) first w.spot.next) → LastSo o first
-      done_so o first said so e is shows = record {
+      done_so o first m said so e is shows = record {
         right = (
           fits,
+          m,
           subst (λ b. LastRight login (shown_tape t) o first w2 b) (sym is)
               (subst (λ c. IsShownAt o c (calls_before (shown_tape t) first w.spot.next)) (sym (call_so said so e)) shows, ended_so said so e),
         );
@@ -116,10 +116,10 @@ module _ (login : Login) (t : Tape) (all : AreCalls login (reading login t).call
       }
 
       last_of : (o : Outcome) (first : ℕ) (q : After) → PollEnds login a f u.met polled.stop q end → ShownBy o (calls_before (shown_tape t) first w.spot.next) q → LastSo o first
-      last_of o first after.Pending e s = held_so o first e.0 s
-      last_of o first (after.Answered answer) e s = done_so o first (says.Answered answer) tt e.0 s.0
+      last_of o first after.Pending e s = held_so o first (met_so o (calls_before (shown_tape t) first w.spot.next) after.Pending e s) e.0 s
+      last_of o first (after.Answered answer) e s = done_so o first (met_so o (calls_before (shown_tape t) first w.spot.next) (after.Answered answer) e s) (says.Answered answer) tt e.0 s.0
           (subst (λ x. IsShown o x (calls_before (shown_tape t) first w.spot.next)) (shown_said (says.Answered answer)) s.1)
-      last_of o first (after.Failed x) e s = done_so o first (says.Failed x) tt e.0 s.0 s.1
+      last_of o first (after.Failed x) e s = done_so o first (met_so o (calls_before (shown_tape t) first w.spot.next) (after.Failed x) e s) (says.Failed x) tt e.0 s.0 s.1
 
       pub last_poll : (o : Outcome) (first : ℕ) → ShownBy o (calls_before (shown_tape t) first w.spot.next) p → LastSo o first
       last_poll o first s = last_of o first p polled.ends s

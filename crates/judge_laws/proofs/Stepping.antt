@@ -36,7 +36,8 @@ use Rattle.my_run_judge.specs.Lines.{ActRight, IsBegun, IsShownAt, after_last_po
 use Rattle.my_run_judge.specs.Walks.{Walk, with_status}
 use Rattle.judge_laws.proofs.Going.{GoesOn, before_begin, before_end, call_here, call_of, done_by, shown_call, shown_tape}
 use Rattle.judge_laws.proofs.Tying.{AtWalk, at_begin, at_end, is_ended}
-use Rattle.judge_laws.proofs.Polling.{HasRest, LastSo, ShownBy, last_poll, poll_back}
+use Rattle.judge_laws.proofs.Meeting.{ShownBy}
+use Rattle.judge_laws.proofs.Polling.{HasRest, LastSo, last_poll, poll_back}
 use Rattle.judge_laws.proofs.Gathering.{GathersAt, HasTape, gathers}
 
 -- what the walk takes a connection for

@@ -11,8 +11,11 @@ pub enum Change {
     UseNumber(usize),
     /// It received a byte more, or less.
     Taken(usize),
-    /// It met a hold, or didn't.
+    /// It met a hold, or didn't; a fault; the end; a dead link, which no poll meets.
     Hold(usize),
+    Fault(usize),
+    End(usize),
+    Death(usize),
     /// The first byte that a connection sent is another one, or the last one.
     SentFirst(usize),
     SentLast(usize),
@@ -38,6 +41,9 @@ fn change_use(answer: &mut StepAnswer, change: Change) {
         Change::UseNumber(_) => used.number ^= 1,
         Change::Taken(_) => used.met.taken ^= 1,
         Change::Hold(_) => used.met.holds ^= 1,
+        Change::Fault(_) => used.met.faults ^= 1,
+        Change::End(_) => used.met.ends ^= 1,
+        Change::Death(_) => used.met.deaths ^= 1,
         _ => {}
     }
 }
@@ -82,8 +88,13 @@ fn change_tape(tape: &mut Tape, change: Change) {
 /// Makes the change, or undoes it.
 pub fn toggle(transcript: &mut Transcript, change: Change) {
     match change {
-        Change::Number(line) | Change::UseNumber(line) | Change::Taken(line) | Change::Hold(line) =>
-            change_answer(transcript.answers.as_mut_slice(), line, change),
+        Change::Number(line)
+        | Change::UseNumber(line)
+        | Change::Taken(line)
+        | Change::Hold(line)
+        | Change::Fault(line)
+        | Change::End(line)
+        | Change::Death(line) => change_answer(transcript.answers.as_mut_slice(), line, change),
         Change::SentFirst(at)
         | Change::SentLast(at)
         | Change::TapeNumber(at)

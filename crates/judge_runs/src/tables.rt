@@ -4,14 +4,14 @@ use crate::changes::{Change, toggle};
 use crate::runs::{Run, run_of};
 use crate::scripts::{Script, answered, closing, connecting, held, polled, writing};
 use my_frame::NoMemory;
+use my_reading::{Answer, Error};
 use my_run_judge::Found;
 use my_script::Outcome;
 use std::alloc::Global;
 use std::process::Abort;
 use std::test::Fail;
 
-/// How many changes were refuted, and how many allowed: those of the hold of a poll, which is on no tape. Where a poll met
-/// one depends on how its bytes were divided.
+/// How many changes were refuted, and how many allowed: an end that was met after bytes that are an error.
 #[derive(Clone, Copy, Debug, PartialEq, Eq)]
 struct Counts {
     refuted: usize,
@@ -81,6 +81,33 @@ fn outcome_of(kind: usize) -> Outcome {
     }
 }
 
+// The row that a line shows, with its first cell emptied.
+fn emptied(alloc: Global, run: &Run, line: usize) -> Result<Option<Outcome>, NoMemory> {
+    match run.transcript.answers.get(line) {
+        Some(answer) => match &answer.outcome {
+            Outcome::Row(row) => {
+                let mut other = row.copy(alloc)?;
+                let _ = other.take(0);
+                Ok(Some(Outcome::Row(other)))
+            }
+            _ => Ok(None),
+        },
+        None => Ok(None),
+    }
+}
+
+fn change_cell(
+    alloc: Global,
+    run: &mut Run,
+    counts: &mut Counts,
+    line: usize,
+) -> Result<(), NoMemory> {
+    match emptied(alloc, run, line)? {
+        Some(outcome) => change_outcome(alloc, run, counts, line, outcome),
+        None => Ok(()),
+    }
+}
+
 // The changes of a line.
 fn change_line(
     alloc: Global,
@@ -92,7 +119,11 @@ fn change_line(
     if has_use(run, line) {
         change(alloc, run, counts, Change::UseNumber(line))?;
         change(alloc, run, counts, Change::Taken(line))?;
+        change(alloc, run, counts, Change::Hold(line))?;
+        change(alloc, run, counts, Change::Fault(line))?;
+        change(alloc, run, counts, Change::Death(line))?;
     }
+    change_cell(alloc, run, counts, line)?;
     for kind in 0..5 {
         if !is_shown(run, line, kind) {
             change_outcome(alloc, run, counts, line, outcome_of(kind))?;
@@ -119,6 +150,45 @@ fn is_other(run: &Run, at: usize, call: usize) -> bool {
     }
 }
 
+fn answer_of(kind: usize) -> Option<Result<Answer, Error>> {
+    match kind {
+        0 => None,
+        1 => Some(Ok(Answer::Ready)),
+        2 => Some(Ok(Answer::SetEnd)),
+        _ => Some(Ok(Answer::NoSet)),
+    }
+}
+
+// The call's answer, with another one in its place.
+fn put_answer(
+    run: &mut Run,
+    at: usize,
+    call: usize,
+    answer: Option<Result<Answer, Error>>,
+) -> Option<Result<Answer, Error>> {
+    let tape = run.transcript.tapes.as_mut_slice().get_mut(at)?;
+    let call = tape.calls.as_mut_slice().get_mut(call)?;
+    std::mem::replace(&mut call.answer, answer)
+}
+
+// The changes of a call's answer: it is open, or ended otherwise.
+fn change_answers(
+    alloc: Global,
+    run: &mut Run,
+    counts: &mut Counts,
+    at: usize,
+    call: usize,
+) -> Result<(), NoMemory> {
+    for kind in 0..4 {
+        let old = put_answer(run, at, call, answer_of(kind));
+        if old != answer_of(kind) {
+            counts.count(run.found(alloc)?);
+        }
+        let _ = put_answer(run, at, call, old);
+    }
+    Ok(())
+}
+
 // The changes of a tape's calls.
 fn change_calls(
     alloc: Global,
@@ -129,6 +199,7 @@ fn change_calls(
 ) -> Result<(), NoMemory> {
     for call in 0..calls {
         change(alloc, run, counts, Change::SentFrom(at, call))?;
+        change_answers(alloc, run, counts, at, call)?;
         if is_other(run, at, call) {
             change(alloc, run, counts, Change::Calls(at, call))?;
         }
@@ -196,11 +267,11 @@ fn change_all(alloc: Global, run: &mut Run, counts: &mut Counts) -> Result<(), N
     change_ends(alloc, run, counts)
 }
 
-// A hold that is added to the last poll or dial of each line, or taken away.
-fn change_holds(alloc: Global, run: &mut Run, counts: &mut Counts) -> Result<(), NoMemory> {
+// An end that the last poll of each line met, or didn't: where the line shows an error of the bytes, both are right.
+fn change_link_ends(alloc: Global, run: &mut Run, counts: &mut Counts) -> Result<(), NoMemory> {
     for line in 0..run.transcript.answers.len() {
         if has_use(run, line) {
-            change(alloc, run, counts, Change::Hold(line))?;
+            change(alloc, run, counts, Change::End(line))?;
         }
     }
     Ok(())
@@ -217,7 +288,7 @@ fn count_all(rt: &impl Abort, alloc: Global, scripts: &[Script]) -> Result<Count
             let before = counts.allowed;
             change_all(alloc, &mut run, &mut counts)?;
             assert_eq!(rt; counts.allowed, before, "at {:?}", script.steps);
-            change_holds(alloc, &mut run, &mut counts)?;
+            change_link_ends(alloc, &mut run, &mut counts)?;
         }
     }
     Ok(counts)
@@ -230,41 +301,41 @@ fn counted(refuted: usize, allowed: usize) -> Counts {
 #[test]
 fn connections_that_are_not_made(rt: HostRuntime) -> Result<(), Fail> {
     let found = count_all(&rt, rt.alloc(), &connecting())?;
-    assert_eq!(rt; found, counted(39, 3));
+    assert_eq!(rt; found, counted(62, 0));
     Ok(())
 }
 
 #[test]
 fn calls_that_are_answered(rt: HostRuntime) -> Result<(), Fail> {
     let found = count_all(&rt, rt.alloc(), &answered())?;
-    assert_eq!(rt; found, counted(241, 20));
+    assert_eq!(rt; found, counted(399, 2));
     Ok(())
 }
 
 #[test]
 fn calls_that_are_held(rt: HostRuntime) -> Result<(), Fail> {
     let found = count_all(&rt, rt.alloc(), &held())?;
-    assert_eq!(rt; found, counted(203, 17));
+    assert_eq!(rt; found, counted(326, 1));
     Ok(())
 }
 
 #[test]
 fn reads_that_close(rt: HostRuntime) -> Result<(), Fail> {
     let found = count_all(&rt, rt.alloc(), &closing())?;
-    assert_eq!(rt; found, counted(166, 11));
+    assert_eq!(rt; found, counted(265, 2));
     Ok(())
 }
 
 #[test]
 fn writes_that_close(rt: HostRuntime) -> Result<(), Fail> {
     let found = count_all(&rt, rt.alloc(), &writing())?;
-    assert_eq!(rt; found, counted(95, 6));
+    assert_eq!(rt; found, counted(146, 1));
     Ok(())
 }
 
 #[test]
 fn calls_that_are_polled(rt: HostRuntime) -> Result<(), Fail> {
     let found = count_all(&rt, rt.alloc(), &polled())?;
-    assert_eq!(rt; found, counted(183, 20));
+    assert_eq!(rt; found, counted(298, 0));
     Ok(())
 }

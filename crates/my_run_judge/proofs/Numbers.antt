@@ -9,7 +9,7 @@ use Rattle.my_script.specs.declared.transcript.StepAnswer.{StepAnswer}
 use Rattle.my_script.specs.declared.transcript.Tape.{Tape}
 use Rattle.my_run_judge.specs.declared.judging.Found.{Found}
 use Rattle.my_run_judge.specs.declared.judging.Found.TheVariants.{Right, Wrong}
-use Rattle.my_run_judge.specs.Transcripts.{AreTapes, FoundAt, IsFoundBelow, IsFoundIn, IsLeastAt, IsNotBefore, IsSomewhere, IsWrongBelow, dialed_by, dialed_in, earlier, with_tapes}
+use Rattle.my_run_judge.specs.Transcripts.{AreTapes, FoundAt, IsFoundBelow, IsFoundIn, IsLeastAt, IsNotBefore, IsOfANumber, IsWrongBelow, dialed_by, dialed_in, earlier, with_tapes}
 use Rattle.my_run_judge.proofs.Doing.{not_right}
 
 -- how many are dialed
@@ -103,13 +103,13 @@ module _ (login : Login) (steps : List Step) (answers : List StepAnswer) (tapes 
   wrong_wider : (line n : ℕ) → IsWrongBelow login steps answers tapes line n → IsWrongBelow login steps answers tapes line (n + 1)
   wrong_wider line n w = record { number = w.number; below = let b = w.below in omega arith; is = w.is }
 
-  earlier_somewhere : (n : ℕ) (one other : Found) → IsSomewhere login steps answers tapes n one → FoundAt login steps answers tapes n other → IsSomewhere login steps answers tapes (n + 1) (earlier one other)
+  earlier_somewhere : (n : ℕ) (one other : Found) → IsOfANumber login steps answers tapes n one → FoundAt login steps answers tapes n other → IsOfANumber login steps answers tapes (n + 1) (earlier one other)
   earlier_somewhere n Right Right s f = tt
   earlier_somewhere n Right (Wrong line) s f = record { number = n; below = omega arith; is = f }
   earlier_somewhere n (Wrong line) Right s f = wrong_wider line n s
   earlier_somewhere n (Wrong line) (Wrong second) s f = by_test (nat_lt second line)
     where
-      by_test : (b : Bool) → IsSomewhere login steps answers tapes (n + 1) (if b then Wrong second else Wrong line)
+      by_test : (b : Bool) → IsOfANumber login steps answers tapes (n + 1) (if b then Wrong second else Wrong line)
       by_test true = record { number = n; below = omega arith; is = f }
       by_test false = wrong_wider line n s
 

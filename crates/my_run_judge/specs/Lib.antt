@@ -4,3 +4,4 @@ pub mod Lines
 pub mod Does
 pub mod Verdicts
 pub mod Transcripts
+pub mod Meets

@@ -18,6 +18,7 @@ use Rattle.my_script.specs.declared.step.Step.{Step}
 use Rattle.my_script.specs.declared.transcript.Outcome.{Outcome}
 use Rattle.my_script.specs.declared.transcript.Outcome.TheVariants.{Done, Pending, SetEnd, NoSet, Row, Rows, Fields, Connected, Failed, NoSuchHandle}
 use Rattle.my_script.specs.declared.transcript.StepAnswer.{StepAnswer}
+use Rattle.my_run_judge.specs.Meets.{LastMet, RowMet}
 use Rattle.my_run_judge.specs.Seen.{TapeSeen}
 use Rattle.my_script.specs.declared.transcript.TapeCall.{TapeCall}
 use Rattle.my_script.specs.declared.transcript.Use.{Use}
@@ -98,13 +99,14 @@ Fits n t s u = (u.number ≡ n) × (s.taken + u.met.taken ≤ length t.taken)
 -- the last poll, and an earlier one
 abbrev pub LastPoll : Login → ℕ → TapeSeen → Outcome → ℕ → Use → Walk → Type 0
 LastPoll login n t outcome first u w =
-    Fits n t w.spot u × LastRight login t outcome first (with_taken u.met.taken w) (is_pending outcome)
+    Fits n t w.spot u × LastMet outcome u.met
+    × LastRight login t outcome first (with_taken u.met.taken w) (is_pending outcome)
 
 abbrev pub after_last_poll : Login → TapeSeen → Outcome → Use → Walk → Walk
 after_last_poll login t outcome u w = after_last login t (with_taken u.met.taken w) (is_pending outcome)
 
 abbrev pub RowPoll : Login → ℕ → TapeSeen → Use → Walk → Type 0
-RowPoll login n t u w = Fits n t w.spot u × RowRight login t (with_taken u.met.taken w)
+RowPoll login n t u w = Fits n t w.spot u × RowMet u.met × RowRight login t (with_taken u.met.taken w)
 
 abbrev pub after_row_poll : Login → TapeSeen → Use → Walk → Walk
 after_row_poll login t u w = ended login t false (with_taken u.met.taken w)

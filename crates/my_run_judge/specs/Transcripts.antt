@@ -61,15 +61,15 @@ pub record IsWrongBelow (login : Login) (steps : List Step) (answers : List Step
   pub below : number < most
   pub is : FoundAt login steps answers tapes number (Wrong line)
 
-abbrev pub IsSomewhere : Login → List Step → List StepAnswer → List Tape → ℕ → Found → Type 0
-IsSomewhere login steps answers tapes most Right = Unit {0}
-IsSomewhere login steps answers tapes most (Wrong line) = IsWrongBelow login steps answers tapes line most
+abbrev pub IsOfANumber : Login → List Step → List StepAnswer → List Tape → ℕ → Found → Type 0
+IsOfANumber login steps answers tapes most Right = Unit {0}
+IsOfANumber login steps answers tapes most (Wrong line) = IsWrongBelow login steps answers tapes line most
 
 -- what is found of all numbers below this one: at none of them anything before it, and itself at one of them
 pub record IsFoundBelow (login : Login) (steps : List Step) (answers : List StepAnswer) (tapes : List Tape) (most : ℕ)
     (found : Found) : Type 0 where
   pub least : (n : ℕ) → n < most → IsLeastAt login steps answers tapes found n
-  pub somewhere : IsSomewhere login steps answers tapes most found
+  pub somewhere : IsOfANumber login steps answers tapes most found
 
 abbrev pub earlier : Found → Found → Found
 earlier Right other = other

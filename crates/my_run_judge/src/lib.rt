@@ -3,6 +3,7 @@
 
 mod judging;
 mod line;
+mod meets;
 mod polling;
 mod shown;
 mod transcript;

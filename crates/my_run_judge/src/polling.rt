@@ -20,6 +20,7 @@ ghost use Rattle.my_run_judge.specs.Lines.{
 ghost use Rattle.my_run_judge.specs.Walks.{Walk, ended};
 ghost use Rattle.my_run_judge.specs.Seen.{seen};
 
+use crate::meets::{last_met, row_met};
 use crate::shown::{is_next, is_pending, is_shown_at};
 use crate::walk::{Spot, Walker, call_after};
 use my_acts::Status;
@@ -144,7 +145,7 @@ impl Walker {
             let after = after_last_poll login.now (seen tape.now) outcome.now used.now in
             IfOk result (λ right. Does login.now there after self.old right self.new) }
     {
-        if !fits(number, tape, self.spot, used) {
+        if !fits(number, tape, self.spot, used) || !last_met(outcome, &used.met) {
             return Ok(false);
         }
         self.spot.taken += used.met.taken as usize;
@@ -168,7 +169,7 @@ impl Walker {
             let after = after_row_poll login.now (seen tape.now) used.now in
             IfOk result (λ right. Does login.now there after self.old right self.new) }
     {
-        if !fits(number, tape, self.spot, used) {
+        if !fits(number, tape, self.spot, used) || !row_met(&used.met) {
             return Ok(false);
         }
         self.spot.taken += used.met.taken as usize;
