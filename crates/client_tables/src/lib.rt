@@ -1,0 +1,12 @@
+//! A conversation of a connection with a server in memory, by calls that are polled by hand and by calls that wait, with ample memory.
+//! The bytes are those of the public pages of the protocol. This crate has tests alone.
+#![tactic(auto)]
+
+#[cfg(test)]
+mod drives;
+#[cfg(test)]
+mod link;
+#[cfg(test)]
+mod polls;
+#[cfg(test)]
+mod talks;

@@ -1,0 +1,191 @@
+//! One conversation, polled and waiting.
+
+use crate::drives::drives;
+use crate::link::{Line, link_of};
+use crate::polls::polls;
+use my_client::Tape;
+use my_conn::{Conn, Connected, Connecting, NextAnswer};
+use my_frame::NoMemory;
+use my_link::{BlockingLink, Link, MemLink, ReadyLink};
+use my_opts::Opts;
+use my_reading::Error;
+use std::alloc::Global;
+use std::test::Fail;
+
+/// A call, with what it should return: a read returns a row, a set's end, or that nothing is left.
+#[derive(Clone, Copy)]
+pub enum Step {
+    Ping,
+    Query,
+    Row,
+    End,
+    NoSet,
+    Drop,
+    Quit,
+}
+
+const STEPS: &[Step] = &[
+    Step::Ping,
+    Step::Query,
+    Step::Row,
+    Step::End,
+    Step::NoSet,
+    Step::Query,
+    Step::Drop,
+    Step::Quit,
+];
+
+const OK: &[u8] = b"\x00\x00\x00\x02\x00\x00\x00";
+
+const COLUMN: &[u8] =
+    b"\x03def\x00\x00\x00\x011\x00\x0c\x3f\x00\x01\x00\x00\x00\x08\x81\x00\x00\x00\x00";
+
+const END: &[u8] = b"\xfe\x00\x00\x02\x00\x00\x00";
+
+// The greeting, the OK after the client's response, and an answer to each command.
+const LINES: &[Line] = &[
+    Line::Packet(
+        0,
+        b"\x0a8.0.36\x00\x07\x00\x00\x00abcdefgh\x00\x8b\xa2\x2d\x02\x00\x1f\x01\x15\
+        \x00\x00\x00\x00\x00\x00\x00\x00\x00\x00ijklmnopqrst\x00mysql_native_password\x00",
+    ),
+    Line::Turn,
+    Line::Packet(2, OK),
+    Line::Turn,
+    Line::Packet(1, OK),
+    Line::Turn,
+    Line::Packet(1, b"\x01"),
+    Line::Packet(2, COLUMN),
+    Line::Packet(3, b"\x011"),
+    Line::Packet(4, END),
+    Line::Turn,
+    Line::Packet(1, b"\x01"),
+    Line::Packet(2, COLUMN),
+    Line::Packet(3, b"\x011"),
+    Line::Packet(4, END),
+    Line::Turn,
+];
+
+/// Whether a read returned what it should.
+pub fn is_read(answer: &Result<NextAnswer, Error>, step: Step) -> bool {
+    match answer {
+        Ok(NextAnswer::Row(row)) => matches!(step, Step::Row) && row.len() == 1,
+        Ok(NextAnswer::SetEnd) => matches!(step, Step::End),
+        Ok(NextAnswer::NoSet) => matches!(step, Step::NoSet),
+        Err(_) => false,
+    }
+}
+
+fn opts_at(alloc: Global, url: &str) -> Option<Opts> {
+    if url.len() > 1_048_576 {
+        return None;
+    }
+    match Opts::from_url(alloc, url) {
+        Ok(opts) => Some(opts),
+        Err(_) => None,
+    }
+}
+
+fn opts_of(alloc: Global) -> Option<Opts> {
+    opts_at(
+        alloc,
+        "mysql://root@localhost?max_allowed_packet=4194304&wait_timeout=28800",
+    )
+}
+
+fn link_for(alloc: Global, opts: &Opts) -> Result<Option<MemLink>, NoMemory> {
+    let target = opts.target(alloc)?;
+    link_of(alloc, &target, LINES)
+}
+
+// A connection whose handshake returns in one poll.
+fn made<L: Link + Drop>(alloc: Global, connecting: Connecting<L>) -> Option<Conn<L>> {
+    match connecting.poll(alloc) {
+        Connected::Made(conn) => Some(conn),
+        Connected::Pending(_) | Connected::Failed(_) => None,
+    }
+}
+
+// The handshake and the calls are on the tape.
+fn is_whole(tape: &Option<Tape>) -> bool {
+    match tape {
+        Some(tape) => tape.calls.len() == STEPS.len() + 1,
+        None => false,
+    }
+}
+
+fn is_told<L>(conn: &Conn<L>) -> bool {
+    conn.id() == 7 && conn.version() == b"8.0.36".as_slice()
+}
+
+fn all_polled<L: Link>(alloc: Global, conn: &mut Conn<L>) -> bool {
+    for step in STEPS {
+        if !polls(alloc, conn, *step) {
+            return false;
+        }
+    }
+    is_told(conn) && is_whole(&conn.take_tape())
+}
+
+fn all_driven<L: BlockingLink>(alloc: Global, conn: &mut Conn<L>) -> bool {
+    for step in STEPS {
+        if !drives(alloc, conn, *step) {
+            return false;
+        }
+    }
+    is_told(conn) && !is_whole(&conn.take_tape())
+}
+
+fn is_polled(alloc: Global, opts: &Opts, link: MemLink) -> bool {
+    match Connecting::new(alloc, opts, link, true) {
+        Ok(connecting) => match made(alloc, connecting) {
+            Some(conn) => {
+                let mut conn = conn;
+                all_polled(alloc, &mut conn)
+            }
+            None => false,
+        },
+        Err(_) => false,
+    }
+}
+
+fn is_driven(alloc: Global, opts: &Opts, link: MemLink) -> bool {
+    match Connecting::new(alloc, opts, ReadyLink::new(link), false) {
+        Ok(connecting) => match made(alloc, connecting) {
+            Some(conn) => {
+                let mut conn = conn;
+                all_driven(alloc, &mut conn)
+            }
+            None => false,
+        },
+        Err(_) => false,
+    }
+}
+
+fn is_right(alloc: Global, waits: bool) -> bool {
+    match opts_of(alloc) {
+        Some(opts) => match link_for(alloc, &opts) {
+            Ok(Some(link)) => {
+                if waits {
+                    is_driven(alloc, &opts, link)
+                } else {
+                    is_polled(alloc, &opts, link)
+                }
+            }
+            Ok(None) | Err(_) => false,
+        },
+        None => false,
+    }
+}
+
+#[test]
+fn each_call_is_polled(rt: HostRuntime) -> Result<(), Fail> {
+    assert!(rt; is_right(rt.alloc(), false));
+    Ok(())
+}
+
+#[test]
+fn each_call_waits(rt: HostRuntime) -> Result<(), Fail> {
+    assert!(rt; is_right(rt.alloc(), true));
+    Ok(())
+}
