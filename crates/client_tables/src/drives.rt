@@ -2,7 +2,7 @@
 
 ghost use Rattle.std.specs.Prelude.{◌≡◌, None};
 
-use crate::talks::{Step, is_read};
+use crate::talks::{Step, is_read, knows};
 use my_conn::Conn;
 use my_frame::Blob;
 use my_link::BlockingLink;
@@ -13,6 +13,7 @@ fn drive_idle<L: BlockingLink>(alloc: Global, conn: &mut Conn<L>, step: Step) ->
 {
     match step {
         Step::Ping => conn.ping(alloc).is_ok(),
+        Step::Known => knows(conn),
         Step::Query => match Blob::from_slice(alloc, b"SELECT 1") {
             Ok(text) => conn.query(alloc, text).is_ok(),
             Err(_) => false,
@@ -27,6 +28,20 @@ fn drive_idle<L: BlockingLink>(alloc: Global, conn: &mut Conn<L>, step: Step) ->
 pub fn drives<L: BlockingLink>(alloc: Global, conn: &mut Conn<L>, step: Step) -> bool {
     match conn.open_call() {
         None => drive_idle(alloc, conn, step),
+        Some(_) => false,
+    }
+}
+
+fn end_idle<L: BlockingLink + Drop>(alloc: Global, conn: Conn<L>) -> bool
+    requires { conn.pending ≡ None }
+{
+    conn.disconnect(alloc).is_ok()
+}
+
+/// Whether a connection ends.
+pub fn ends<L: BlockingLink + Drop>(alloc: Global, conn: Conn<L>) -> bool {
+    match conn.open_call() {
+        None => end_idle(alloc, conn),
         Some(_) => false,
     }
 }

@@ -2,7 +2,7 @@
 
 ghost use Rattle.std.specs.Prelude.{◌≡◌, None};
 
-use crate::talks::{Step, is_read};
+use crate::talks::{Step, is_read, knows};
 use my_conn::{Conn, DropCall, NextCall, PingCall, Poll, QueryCall, QuitCall};
 use my_frame::Blob;
 use my_link::Link;
@@ -59,6 +59,7 @@ fn poll_idle<L: Link>(alloc: Global, conn: &mut Conn<L>, step: Step) -> bool
 {
     match step {
         Step::Ping => ping(alloc, conn),
+        Step::Known => knows(conn),
         Step::Query => match Blob::from_slice(alloc, b"SELECT 1") {
             Ok(text) => query(alloc, conn, text),
             Err(_) => false,
@@ -73,6 +74,30 @@ fn poll_idle<L: Link>(alloc: Global, conn: &mut Conn<L>, step: Step) -> bool
 pub fn polls<L: Link>(alloc: Global, conn: &mut Conn<L>, step: Step) -> bool {
     match conn.open_call() {
         None => poll_idle(alloc, conn, step),
+        Some(_) => false,
+    }
+}
+
+fn cancel<L: Link>(alloc: Global, conn: &mut Conn<L>, text: Blob) -> bool
+    requires { conn.old.pending ≡ None }
+{
+    let mut call = QueryCall::new(text);
+    match call.poll(alloc, conn) {
+        Poll::Pending => {
+            call.cancel(conn);
+            true
+        }
+        Poll::Ready(_) => false,
+    }
+}
+
+/// Whether a query stays pending, where none is open, and is cancelled.
+pub fn cancels<L: Link>(alloc: Global, conn: &mut Conn<L>) -> bool {
+    match conn.open_call() {
+        None => match Blob::from_slice(alloc, b"SELECT 1") {
+            Ok(text) => cancel(alloc, conn, text),
+            Err(_) => false,
+        },
         Some(_) => false,
     }
 }

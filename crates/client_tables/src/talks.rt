@@ -1,8 +1,8 @@
 //! One conversation, polled and waiting.
 
-use crate::drives::drives;
+use crate::drives::{drives, ends};
 use crate::link::{Line, link_of};
-use crate::polls::polls;
+use crate::polls::{cancels, polls};
 use my_client::Tape;
 use my_conn::{Conn, Connected, Connecting, NextAnswer};
 use my_frame::NoMemory;
@@ -16,6 +16,8 @@ use std::test::Fail;
 #[derive(Clone, Copy)]
 pub enum Step {
     Ping,
+    /// The getters return what the last OK says.
+    Known,
     Query,
     Row,
     End,
@@ -26,6 +28,7 @@ pub enum Step {
 
 const STEPS: &[Step] = &[
     Step::Ping,
+    Step::Known,
     Step::Query,
     Step::Row,
     Step::End,
@@ -36,6 +39,9 @@ const STEPS: &[Step] = &[
 ];
 
 const OK: &[u8] = b"\x00\x00\x00\x02\x00\x00\x00";
+
+// An OK after 3 changed rows and a new one of id 7, with a warning and a remark.
+const FULL_OK: &[u8] = b"\x00\x03\x07\x02\x00\x01\x00\x04note";
 
 const COLUMN: &[u8] =
     b"\x03def\x00\x00\x00\x011\x00\x0c\x3f\x00\x01\x00\x00\x00\x08\x81\x00\x00\x00\x00";
@@ -52,7 +58,7 @@ const LINES: &[Line] = &[
     Line::Turn,
     Line::Packet(2, OK),
     Line::Turn,
-    Line::Packet(1, OK),
+    Line::Packet(1, FULL_OK),
     Line::Turn,
     Line::Packet(1, b"\x01"),
     Line::Packet(2, COLUMN),
@@ -93,9 +99,9 @@ fn opts_of(alloc: Global) -> Option<Opts> {
     )
 }
 
-fn link_for(alloc: Global, opts: &Opts) -> Result<Option<MemLink>, NoMemory> {
+fn link_for(alloc: Global, opts: &Opts, lines: &[Line]) -> Result<Option<MemLink>, NoMemory> {
     let target = opts.target(alloc)?;
-    link_of(alloc, &target, LINES)
+    link_of(alloc, &target, lines)
 }
 
 // A connection whose handshake returns in one poll.
@@ -106,16 +112,26 @@ fn made<L: Link + Drop>(alloc: Global, connecting: Connecting<L>) -> Option<Conn
     }
 }
 
-// The handshake and the calls are on the tape.
+// The handshake and the calls are on the tape; one step is no call.
 fn is_whole(tape: &Option<Tape>) -> bool {
     match tape {
-        Some(tape) => tape.calls.len() == STEPS.len() + 1,
+        Some(tape) => tape.calls.len() == STEPS.len(),
         None => false,
     }
 }
 
+/// Whether the getters return what the full OK says.
+pub fn knows<L>(conn: &Conn<L>) -> bool {
+    conn.affected_rows() == 3
+        && conn.last_insert_id() == Some(7)
+        && conn.get_warnings() == 1
+        && conn.info() == b"note".as_slice()
+        && !conn.is_disconnected()
+}
+
 fn is_told<L>(conn: &Conn<L>) -> bool {
-    conn.id() == 7 && conn.version() == b"8.0.36".as_slice()
+    let (major, minor, patch) = conn.server_version();
+    conn.id() == 7 && major == 8 && minor == 0 && patch == 36 && conn.is_disconnected()
 }
 
 fn all_polled<L: Link>(alloc: Global, conn: &mut Conn<L>) -> bool {
@@ -127,6 +143,16 @@ fn all_polled<L: Link>(alloc: Global, conn: &mut Conn<L>) -> bool {
     is_told(conn) && is_whole(&conn.take_tape())
 }
 
+// A query that is cancelled before its answer came is on the tape, and closes the connection.
+fn is_cancelled<L: Link>(alloc: Global, conn: &mut Conn<L>) -> bool {
+    cancels(alloc, conn)
+        && conn.is_disconnected()
+        && match conn.take_tape() {
+            Some(tape) => tape.calls.len() == 2,
+            None => false,
+        }
+}
+
 fn all_driven<L: BlockingLink>(alloc: Global, conn: &mut Conn<L>) -> bool {
     for step in STEPS {
         if !drives(alloc, conn, *step) {
@@ -136,12 +162,16 @@ fn all_driven<L: BlockingLink>(alloc: Global, conn: &mut Conn<L>) -> bool {
     is_told(conn) && !is_whole(&conn.take_tape())
 }
 
-fn is_polled(alloc: Global, opts: &Opts, link: MemLink) -> bool {
+fn is_polled(alloc: Global, opts: &Opts, link: MemLink, cancelled: bool) -> bool {
     match Connecting::new(alloc, opts, link, true) {
         Ok(connecting) => match made(alloc, connecting) {
             Some(conn) => {
                 let mut conn = conn;
-                all_polled(alloc, &mut conn)
+                if cancelled {
+                    is_cancelled(alloc, &mut conn)
+                } else {
+                    all_polled(alloc, &mut conn)
+                }
             }
             None => false,
         },
@@ -150,28 +180,35 @@ fn is_polled(alloc: Global, opts: &Opts, link: MemLink) -> bool {
 }
 
 fn is_driven(alloc: Global, opts: &Opts, link: MemLink) -> bool {
-    match Connecting::new(alloc, opts, ReadyLink::new(link), false) {
-        Ok(connecting) => match made(alloc, connecting) {
-            Some(conn) => {
-                let mut conn = conn;
-                all_driven(alloc, &mut conn)
-            }
-            None => false,
-        },
+    match Conn::new(alloc, opts, ReadyLink::new(link)) {
+        Ok(conn) => {
+            let mut conn = conn;
+            all_driven(alloc, &mut conn) && ends(alloc, conn)
+        }
         Err(_) => false,
     }
 }
 
-fn is_right(alloc: Global, waits: bool) -> bool {
+/// How a conversation is held.
+#[derive(Clone, Copy)]
+enum Talk {
+    Polled,
+    Cancelled,
+    Waiting,
+}
+
+fn is_so(alloc: Global, opts: &Opts, link: MemLink, talk: Talk) -> bool {
+    match talk {
+        Talk::Polled => is_polled(alloc, opts, link, false),
+        Talk::Cancelled => is_polled(alloc, opts, link, true),
+        Talk::Waiting => is_driven(alloc, opts, link),
+    }
+}
+
+fn is_right(alloc: Global, lines: &[Line], talk: Talk) -> bool {
     match opts_of(alloc) {
-        Some(opts) => match link_for(alloc, &opts) {
-            Ok(Some(link)) => {
-                if waits {
-                    is_driven(alloc, &opts, link)
-                } else {
-                    is_polled(alloc, &opts, link)
-                }
-            }
+        Some(opts) => match link_for(alloc, &opts, lines) {
+            Ok(Some(link)) => is_so(alloc, &opts, link, talk),
             Ok(None) | Err(_) => false,
         },
         None => false,
@@ -180,12 +217,19 @@ fn is_right(alloc: Global, waits: bool) -> bool {
 
 #[test]
 fn each_call_is_polled(rt: HostRuntime) -> Result<(), Fail> {
-    assert!(rt; is_right(rt.alloc(), false));
+    assert!(rt; is_right(rt.alloc(), LINES, Talk::Polled));
     Ok(())
 }
 
 #[test]
 fn each_call_waits(rt: HostRuntime) -> Result<(), Fail> {
-    assert!(rt; is_right(rt.alloc(), true));
+    assert!(rt; is_right(rt.alloc(), LINES, Talk::Waiting));
+    Ok(())
+}
+
+// Nothing comes after the handshake.
+#[test]
+fn a_query_is_cancelled(rt: HostRuntime) -> Result<(), Fail> {
+    assert!(rt; is_right(rt.alloc(), &LINES[..3], Talk::Cancelled));
     Ok(())
 }

@@ -1,5 +1,5 @@
 -- How a connection is made.
-use Rattle.std.proofs.Common.{◌≡◌, inl, inr, ◌||◌, Bool, true, false, Option, Some, None, refl, sym, ap, ◌∙◌, subst}
+use Rattle.std.proofs.Common.{◌≡◌, inl, inr, ◌||◌, Bool, true, false, Option, Some, None, is_some, refl, sym, ap, ◌∙◌, subst}
 use Rattle.my_grammar.specs.declared.login.Login.{Login}
 use Rattle.my_link.specs.Looks.{Looks}
 use Rattle.my_link.specs.declared.met.Met.{Met}
@@ -35,7 +35,7 @@ pub connects_open : (s : Seen) (p : Option Tape) → Connects s p → is_open s.
 connects_open s p w = open_kept w.0 s w.1 w.2 w.3.asked.rests w.3.asked.asked
 
 -- the handshake was polled
-record Shook (login : Login) (t : Seen) (x y : Looks) (q : Option Tape) (m : Met) (after : After) (k : Kept) (a : Asked) : Type 0 where
+pub record Shook (login : Login) (t : Seen) (x y : Looks) (q : Option Tape) (m : Met) (after : After) (k : Kept) (a : Asked) : Type 0 where
   pub end : Kept
   pub rests : Rests login t end
   pub stepped : IsStepped login t end
@@ -53,7 +53,7 @@ first_true true c e = refl
 first_true false c e = cc
 
 module _ (s t : Seen) (x y : Looks) (p q : Option Tape) (m : Met) (p1 : After) (each : EachCall None s t x y p q m p1) where
-  shook : (login : Login) (k : Kept) (a : Asked) → ConnectsFor login s p k a → Shook login t x y q m p1 k a
+  pub shook : (login : Login) (k : Kept) (a : Asked) → ConnectsFor login s p k a → Shook login t x y q m p1 k a
   shook login k a w =
       let f : CallFor login None t q x y k m p1 = each login k (a, w.asked) w.agrees in
       record { end = f.end; rests = f.rests; stepped = f.stepped; agrees = f.agrees; polled = by_does f.end f.does }
@@ -64,7 +64,7 @@ module _ (s t : Seen) (x y : Looks) (p q : Option Tape) (m : Met) (p1 : After) (
 
 -- it isn't made yet
 module _ (s t : Seen) (x y : Looks) (p q : Option Tape) (m : Met) (each : EachCall None s t x y p q m after.Pending) where
-  still : (login : Login) (k : Kept) (a : Asked) → ConnectsFor login s p k a → (end : Kept) × ConnectsFor login t q end a × IsPolled login a k x m after.Pending end y
+  pub still : (login : Login) (k : Kept) (a : Asked) → ConnectsFor login s p k a → (end : Kept) × ConnectsFor login t q end a × IsPolled login a k x m after.Pending end y
   still login k a w =
       let f : Shook login t x y q m after.Pending k a = shook s t x y p q m after.Pending each login k a w in (
         f.end,
@@ -79,14 +79,15 @@ module _ (s t : Seen) (x y : Looks) (p q : Option Tape) (m : Met) (each : EachCa
   pub connects_on : Connects s p → Connects t q
   connects_on w = let f = still w.0 w.1 w.2 w.3 in (w.0, f.0, w.2, f.1)
 
-  pends : Connects s p → PendsBy after.Pending x y m
+  pub pends : Connects s p → PendsBy after.Pending x y m
   pends w =
       let f = (shook s t x y p q m after.Pending each w.0 w.1 w.2 w.3).polled in
       ends_pend w.0 w.2 f.following _ m x f.used.moved y (moves_count f.used.moves x f.used.moved f.used.leads) f.stop after.Pending f.within f.used.stops f.ends
 
-  pub still_connects : {L : Type 0} (look : L → Looks) (link other : L) → x ≡ look link → y ≡ look other → Connects s p → StillConnects look (record { seen = s; link = link; tape = p }) (record { seen = t; link = other; tape = q })
-  still_connects look link other e f w = record {
+  pub still_connects : {L : Type 0} (look : L → Looks) (link other : L) → x ≡ look link → y ≡ look other → is_some q ≡ is_some p → Connects s p → StillConnects look (record { seen = s; link = link; tape = p }) (record { seen = t; link = other; tape = q })
+  still_connects look link other e f keeps w = record {
     met = m;
+    keeps = keeps;
     pends = subst (λ (l : Looks). PendsBy after.Pending l (look other) m) e (subst (λ (l : Looks). PendsBy after.Pending x l m) f (pends w));
     each = λ login k a v.
         let u = still login k a v in
@@ -101,7 +102,7 @@ answer_ready answers.SetEnd c e m = let no : may_be Connect (told answers.SetEnd
 answer_ready answers.NoSet c e m = let no : may_be Connect (told answers.NoSet) ≡ true = subst (λ (c : CallKind). may_be c (told answers.NoSet) ≡ true) e m in cc
 
 module _ (s t : Seen) (x y : Looks) (p q : Option Tape) (m : Met) (answer : Answer) (each : EachCall None s t x y p q m (after.Answered answer)) where
-  made : (login : Login) (k : Kept) (a : Asked) → ConnectsFor login s p k a → (end : Kept) × StandsFor login t q None end × IsPolled login a k x m (after.Answered answers.Ready) end y
+  pub made : (login : Login) (k : Kept) (a : Asked) → ConnectsFor login s p k a → (end : Kept) × StandsFor login t q None end × IsPolled login a k x m (after.Answered answers.Ready) end y
   made login k a w =
       let f : Shook login t x y q m (after.Answered answer) k a = shook s t x y p q m (after.Answered answer) each login k a w in
       let b : Kept = f.polled.following in
@@ -121,9 +122,10 @@ module _ (s t : Seen) (x y : Looks) (p q : Option Tape) (m : Met) (answer : Answ
   pub made_stands : Connects s p → Standing false t q None
   made_stands w = let f = made w.0 w.1 w.2 w.3 in (w.0, f.0, f.1)
 
-  pub makes : {L : Type 0} (look : L → Looks) (link other : L) → x ≡ look link → y ≡ look other → Makes look (record { seen = s; link = link; tape = p }) t other q
-  makes look link other e f = record {
+  pub makes : {L : Type 0} (look : L → Looks) (link other : L) → x ≡ look link → y ≡ look other → is_some q ≡ is_some p → Makes look (record { seen = s; link = link; tape = p }) t other q
+  makes look link other e f keeps = record {
     met = m;
+    keeps = keeps;
     each = λ login k a v.
         let u = made login k a v in
         (u.0, u.1, subst (λ (l : Looks). IsPolled login a k l m (after.Answered answers.Ready) u.0 (look other)) e (subst (λ (l : Looks). IsPolled login a k x m (after.Answered answers.Ready) u.0 l) f u.2));

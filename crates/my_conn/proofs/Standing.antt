@@ -1,5 +1,5 @@
 -- A connection goes on standing for what it did.
-use Rattle.std.proofs.Common.{◌≡◌, ◌⊎◌, inl, inr, ◌||◌, ◌≤◌, List, [], ◌∷◌, Bool, true, false, Option, Some, None, option_map, refl, sym, ap, ◌∙◌, subst, arith}
+use Rattle.std.proofs.Common.{◌≡◌, ◌⊎◌, inl, inr, ◌||◌, ◌≤◌, List, [], ◌∷◌, Bool, true, false, Option, Some, None, option_map, is_some, refl, sym, ap, ◌∙◌, subst, arith}
 use Rattle.my_frame.specs.Outside.{Rose}
 use Rattle.my_frame.specs.declared.limits.TheConstants.{MOST_TAKEN}
 use Rattle.my_grammar.specs.declared.login.Login.{Login}
@@ -209,8 +209,8 @@ sound_after b s t x y p q o n kind call m after e new may each w =
 
 module _ {L : Type 0} (look : L → Looks) (kind : CallKind) (call : Option Call) (b : Bool) (s t : Seen) (link other : L) (p q : Option Tape) (o n : Option CallKind) (m : Met) (after : After)
     (e : b ≡ false) (new : n ≡ pending_after kind after) (may : MayPoll kind call o) (each : EachCall call s t (look link) (look other) p q m after) (w : Standing b s p o) where
-  pub call_is : m.taken ≤ MOST_TAKEN → CallIs look kind call (record { seen = s; link = link; tape = p; pending = o; lost = b }) (record { seen = t; link = other; tape = q; pending = n; lost = b }) m after
-  call_is within =
+  pub call_is : m.taken ≤ MOST_TAKEN → is_some q ≡ is_some p → CallIs look kind call (record { seen = s; link = link; tape = p; pending = o; lost = b }) (record { seen = t; link = other; tape = q; pending = n; lost = b }) m after
+  call_is within keeps =
       let old = sound b s p o e w in
       record {
         each = λ _ _ login k v.
@@ -218,6 +218,7 @@ module _ {L : Type 0} (look : L → Looks) (kind : CallKind) (call : Option Call
             (end.0, subst (λ (n : Option CallKind). StandsFor login t q n end.0) (sym new) end.1, end.2);
         loses = λ f g. absurd (not_both b f g);
         lost = λ g. absurd (not_both b e g);
+        keeps = λ _. keeps;
         pending = new;
         fits = fits_after kind call s t (look link) (look other) p q o m after may each old;
         pends = pends_after kind call s t (look link) (look other) p q o m after may each old;

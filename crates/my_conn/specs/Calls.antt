@@ -1,5 +1,5 @@
 -- What one poll of a call does.
-use Rattle.std.specs.Prelude.{◌≡◌, ◌≤◌, ◌⊎◌, Option, Some, None, true, false}
+use Rattle.std.specs.Prelude.{◌≡◌, ◌≤◌, ◌⊎◌, Option, Some, None, true, false, is_some}
 use Rattle.my_frame.specs.declared.limits.TheConstants.{MOST_TAKEN}
 use Rattle.my_frame.specs.Outside.{Rose}
 use Rattle.my_grammar.specs.declared.login.Login.{Login}
@@ -114,6 +114,8 @@ pub record CallIs {L : Type 0} (look : L → Looks) (c : CallKind) (call : Optio
       × Does login call (look old.link) (look new.link) k end m after
   pub loses : old.lost ≡ false → new.lost ≡ true → (after ≡ Failed errors.NoMemory) × (new.tape ≡ None)
   pub lost : old.lost ≡ true → (new ≡ old) × (after ≡ lost_answer c)
+  -- where a tape was kept it is kept
+  pub keeps : new.lost ≡ false → is_some new.tape ≡ is_some old.tape
   pub pending : new.pending ≡ pending_after c after
   pub fits : AfterFits c after
   pub pends : PendsBy after (look old.link) (look new.link) m

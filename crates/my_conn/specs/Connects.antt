@@ -1,5 +1,5 @@
 -- What a poll of a connection that is being made does.
-use Rattle.std.specs.Prelude.{◌≡◌, ◌⊎◌, Option, None}
+use Rattle.std.specs.Prelude.{◌≡◌, ◌⊎◌, Option, None, is_some}
 use Rattle.my_grammar.specs.declared.login.Login.{Login}
 use Rattle.my_link.specs.Looks.{Looks}
 use Rattle.my_link.specs.declared.met.Met.{Met}
@@ -37,6 +37,7 @@ Connects s t = (login : Login) × (k : Kept) × (a : Asked) × ConnectsFor login
 pub record StillConnects {L : Type 0} (look : L → Looks) (old new : ConnectSeen L) : Type 0 where
   pub met : Met
   pub pends : PendsBy after.Pending (look old.link) (look new.link) met
+  pub keeps : is_some new.tape ≡ is_some old.tape
   pub each : (login : Login) (k : Kept) (a : Asked) → ConnectsFor login old.seen old.tape k a
       → (end : Kept) × ConnectsFor login new.seen new.tape end a
       × IsPolled login a k (look old.link) met after.Pending end (look new.link)
@@ -44,6 +45,7 @@ pub record StillConnects {L : Type 0} (look : L → Looks) (old new : ConnectSee
 -- the connection was made
 pub record Makes {L : Type 0} (look : L → Looks) (old : ConnectSeen L) (s : Seen) (link : L) (t : Option Tape) : Type 0 where
   pub met : Met
+  pub keeps : is_some t ≡ is_some old.tape
   pub each : (login : Login) (k : Kept) (a : Asked) → ConnectsFor login old.seen old.tape k a
       → (end : Kept) × StandsFor login s t None end
       × IsPolled login a k (look old.link) met (after.Answered answers.Ready) end (look link)

@@ -1,8 +1,10 @@
 -- What a call that waits does.
-use Rattle.std.specs.Prelude.{ℕ, ◌≡◌, ◌≤◌, ◌⊎◌, List, ◌++◌, length, Some, None, true, false}
+use Rattle.std.specs.Prelude.{ℕ, ◌≡◌, ◌≤◌, ◌⊎◌, List, ◌++◌, length, Some, None, true, false, is_some}
 use Rattle.std.specs.declared.result.Result.{Result}
 use Rattle.std.specs.declared.result.Result.TheVariants.{Ok, Err}
 use Rattle.my_grammar.specs.declared.login.Login.{Login}
+use Rattle.my_link.specs.Looks.{Looks}
+use Rattle.my_link.specs.Moves.{IsUsed, NoStop, Stop, ends_at, faults_at, holds_at}
 use Rattle.my_reading.specs.declared.answer.Answer.{Answer}
 use Rattle.my_reading.specs.declared.answer.Answer.TheVariants as answers
 use Rattle.my_reading.specs.declared.call.Call.{Call}
@@ -27,40 +29,52 @@ use Rattle.my_conn.specs.declared.states.NextAnswer.{NextAnswer}
 use Rattle.my_conn.specs.declared.states.NextAnswer.TheVariants.{Row, SetEnd, NoSet}
 use Rattle.my_conn.specs.Conn.{ConnSeen, StandsFor}
 
--- After `k`, this call began, and `n` bytes were taken in it so far.
-pub record Carries (k f : Kept) (call : Call) (n : ℕ) : Type 0 where
-  pub sent : List ℕ
-  pub came : List ℕ
+-- After `k` this call began, and these bytes were sent and taken in it so far.
+pub record Carries (k f : Kept) (call : Call) (sent came : List ℕ) : Type 0 where
   pub sent_is : f.sent ≡ k.sent ++ sent
   pub taken_is : f.taken ≡ k.taken ++ came
-  pub count : length came ≡ n
   pub calls : f.calls ≡ k.calls
   pub pending : f.pending ≡ Some (asked_by k call)
 
--- it returned what it comes to by its bytes, or failed with a cause
-abbrev pub DriveEnds : Login → Asked → Kept → Result Answer Error → Kept → Type 0
-DriveEnds login a f (Ok answer) end = (end ≡ ended_by f a (says.Answered answer)) × ComesTo login f (told answer)
-    × (may_be (kind_of a.call) (told answer) ≡ true)
-DriveEnds login a f (Err e) end = (end ≡ ended_by f a (says.Failed e)) × WhyFailed login f e
-    × ((faults : ℕ) × (ends : ℕ) × ErrorBy login f e faults ends)
+-- It returned what it comes to by its bytes, or failed with a cause, by what it stopped at: an answer, or an error that is in the
+-- bytes, at nothing of the link.
+abbrev pub DriveEnds : Login → Asked → Kept → Stop → Result Answer Error → Kept → Type 0
+DriveEnds login a f stop (Ok answer) end = (end ≡ ended_by f a (says.Answered answer)) × ComesTo login f (told answer)
+    × (may_be (kind_of a.call) (told answer) ≡ true) × (stop ≡ NoStop)
+DriveEnds login a f stop (Err e) end = (end ≡ ended_by f a (says.Failed e)) × WhyFailed login f e
+    × ErrorBy login f e (faults_at stop) (ends_at stop) × (holds_at stop ≡ 0)
 
-pub record Driven (login : Login) (call : Call) (k : Kept) (r : Result Answer Error) (end : Kept) : Type 0 where
-  pub spent : ℕ
+-- The link was sent exactly the bytes by which the sent ones grew, and gave exactly those by which the taken ones did; then the call
+-- returned this.
+pub record Driven (login : Login) (call : Call) (x y : Looks) (k : Kept) (r : Result Answer Error) (end : Kept) : Type 0 where
+  pub sent : List ℕ
+  pub came : List ℕ
+  pub stop : Stop
+  pub used : IsUsed x y sent came stop
   pub following : Kept
-  pub carries : Carries k following call spent
-  pub ends : DriveEnds login (asked_by k call) following r end
+  pub carries : Carries k following call sent came
+  pub ends : DriveEnds login (asked_by k call) following stop r end
 
 -- a closed connection refuses each call but a quit
-pub record DriveRefused (call : Call) (k : Kept) (r : Result Answer Error) (end : Kept) : Type 0 where
+pub record DriveRefused (call : Call) (x y : Looks) (k : Kept) (r : Result Answer Error) (end : Kept) : Type 0 where
   pub closed : has_closed (made_of k.calls) ≡ true
   pub other : is_quit (kind_of call) ≡ false
   pub result_is : r ≡ Err connection_closed
   pub end_is : end ≡ ended_by (asking k call None) (asked_by k call) (says.Failed connection_closed)
+  pub link_is : y ≡ x
+
+-- so far, over a link that was ready: `n` bytes were taken in the call
+pub record Goes (call : Call) (x y : Looks) (k f : Kept) (n : ℕ) : Type 0 where
+  pub sent : List ℕ
+  pub came : List ℕ
+  pub used : IsUsed x y sent came NoStop
+  pub carries : Carries k f call sent came
+  pub count : length came ≡ n
 
 -- at least 2^40 bytes were taken in it without an answer
-abbrev pub IsTooLong : {L : Type 0} → Call → ConnSeen L → Type 0
-IsTooLong call old = (login : Login) (k : Kept) → StandsFor login old.seen old.tape old.pending k
-    → (n : ℕ) × (f : Kept) × Carries k f call n × (TOO_LONG ≤ n)
+abbrev pub IsTooLong : {L : Type 0} → (L → Looks) → Call → ConnSeen L → ConnSeen L → Type 0
+IsTooLong look call old new = (login : Login) (k : Kept) → StandsFor login old.seen old.tape old.pending k
+    → (n : ℕ) × (f : Kept) × Goes call (look old.link) (look new.link) k f n × (TOO_LONG ≤ n)
 
 -- an answer is one of the call's kind
 abbrev pub ResultFits : CallKind → Result Answer Error → Type 0
@@ -73,13 +87,17 @@ lost_result _ = Err connection_closed
 
 -- A call that waits. For all that the connection may have done before there is what it did then: the same, and this call. It is lost
 -- where memory ran out, and where the call was given up.
-pub record DriveIs {L : Type 0} (c : CallKind) (call : Call) (old new : ConnSeen L) (r : Result Answer Error) : Type 0 where
+pub record DriveIs {L : Type 0} (look : L → Looks) (c : CallKind) (call : Call) (old new : ConnSeen L) (r : Result Answer Error)
+    : Type 0 where
   pub each : old.lost ≡ false → new.lost ≡ false → (login : Login) (k : Kept)
       → StandsFor login old.seen old.tape old.pending k
-      → (end : Kept) × StandsFor login new.seen new.tape None end × (Driven login call k r end ⊎ DriveRefused call k r end)
+      → (end : Kept) × StandsFor login new.seen new.tape None end
+      × (Driven login call (look old.link) (look new.link) k r end ⊎ DriveRefused call (look old.link) (look new.link) k r end)
   pub loses : old.lost ≡ false → new.lost ≡ true
-      → (r ≡ Err errors.NoMemory) ⊎ ((r ≡ Err (errors.Driver TooLong)) × IsTooLong call old)
-  pub lost : old.lost ≡ true → (new.lost ≡ true) × (r ≡ lost_result c)
+      → (r ≡ Err errors.NoMemory) ⊎ ((r ≡ Err (errors.Driver TooLong)) × IsTooLong look call old new)
+  pub lost : old.lost ≡ true → (new ≡ old) × (r ≡ lost_result c)
+  -- where a tape was kept it is kept
+  pub keeps : new.lost ≡ false → is_some new.tape ≡ is_some old.tape
   pub pending : new.pending ≡ None
   pub fits : ResultFits c r
 
@@ -98,8 +116,9 @@ abbrev pub next_of : Result Answer Error → Result NextAnswer Error
 next_of (Ok answer) = Ok (next_answer answer)
 next_of (Err e) = Err e
 
-abbrev pub DoneIs : {L : Type 0} → CallKind → Call → ConnSeen L → ConnSeen L → Result (Unit {0}) Error → Type 0
-DoneIs c call old new result = (r : Result Answer Error) × (result ≡ done_of r) × DriveIs c call old new r
+abbrev pub DoneIs : {L : Type 0} → (L → Looks) → CallKind → Call → ConnSeen L → ConnSeen L → Result (Unit {0}) Error → Type 0
+DoneIs look c call old new result = (r : Result Answer Error) × (result ≡ done_of r) × DriveIs look c call old new r
 
-abbrev pub NextIs : {L : Type 0} → ConnSeen L → ConnSeen L → Result NextAnswer Error → Type 0
-NextIs old new result = (r : Result Answer Error) × (result ≡ next_of r) × DriveIs kinds.NextRow calls.NextRow old new r
+abbrev pub NextIs : {L : Type 0} → (L → Looks) → ConnSeen L → ConnSeen L → Result NextAnswer Error → Type 0
+NextIs look old new result = (r : Result Answer Error) × (result ≡ next_of r)
+    × DriveIs look kinds.NextRow calls.NextRow old new r

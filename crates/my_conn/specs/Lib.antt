@@ -5,3 +5,5 @@ pub mod Connects
 pub mod Connected
 pub mod States
 pub mod Drives
+pub mod Facts
+pub mod News

@@ -1,5 +1,5 @@
 //! A call on a session, from its beginning to its end, noted on the tape, where one is kept.
-ghost use Rattle.std.specs.Prelude.{◌≡◌, ◌≤◌, Some, None, true, false, IfOk, OnOk};
+ghost use Rattle.std.specs.Prelude.{◌≡◌, ◌≤◌, Some, None, true, false, is_some, IfOk, OnOk};
 ghost use Rattle.my_reading.specs.Calls.{kind_of};
 ghost use Rattle.my_session.specs.Tasks.{is_open};
 ghost use Rattle.my_session.specs.Steps.{AtBegun};
@@ -7,6 +7,7 @@ ghost use Rattle.my_client.specs.Drives.{CancelStands, closed_by, kept_after};
 ghost use Rattle.my_session.specs.Machine.{dropped};
 ghost use Rattle.my_client.specs.Kept.{Asked, Kept, asking, ended_by};
 ghost use Rattle.my_client.specs.Notes.{Agrees};
+ghost use Rattle.my_client.specs.Turns.{EachPoll};
 ghost use Rattle.my_client.specs.declared.tape.Said.TheVariants as says;
 ghost use Rattle.my_conn.specs.Calls.{EachCall, MayStart};
 ghost use Rattle.my_conn.specs.Cancels.{EachCancel};
@@ -21,7 +22,8 @@ use std::alloc::Global;
 
 // Notes that this call begins.
 fn note_call(alloc: Global, tape: &mut Option<Tape>, call: &Call) -> Result<(), NoMemory>
-    ensures { OnOk result ((k : Kept) → Agrees tape.old k → Agrees tape.new (asking k call.now None)) }
+    ensures noted { OnOk result ((k : Kept) → Agrees tape.old k → Agrees tape.new (asking k call.now None)) }
+    ensures keeps { OnOk result (is_some tape.new ≡ is_some tape.old) }
 {
     match tape {
         None => Ok(()),
@@ -35,14 +37,41 @@ fn note_call(alloc: Global, tape: &mut Option<Tape>, call: &Call) -> Result<(), 
 
 // Notes what a poll of the open call came to.
 fn note_after(alloc: Global, tape: &mut Option<Tape>, after: &After) -> Result<(), NoMemory>
-    ensures { OnOk result ((k : Kept) (a : Asked) → Agrees tape.old k → k.pending ≡ Some a
+    ensures noted { OnOk result ((k : Kept) (a : Asked) → Agrees tape.old k → k.pending ≡ Some a
         → Agrees tape.new (kept_after k a after.now)) }
+    ensures keeps { OnOk result (is_some tape.new ≡ is_some tape.old) }
 {
     match tape {
         None => Ok(()),
         Some(tape) => {
             let _ = tape.keep(alloc, after)?;
             Ok(())
+        }
+    }
+}
+
+// Polls the session's open call over the link, and notes its bytes on the tape, where one is kept.
+fn poll_noted<L: Link>(
+    alloc: Global,
+    session: &mut Session,
+    link: &mut L,
+    tape: &mut Option<Tape>,
+) -> Result<(After, Met), NoMemory>
+    requires { is_open session.old.seen.task ≡ true }
+    ensures polls { IfOk result (λ p. EachPoll Agrees session.old.seen session.new.seen
+        (L.looks link.old) (L.looks link.new) tape.old tape.new p.1 p.0) }
+    ensures within { IfOk result (λ p. p.1.taken ≤ MOST_TAKEN) }
+    ensures keeps { OnOk result (is_some tape.new ≡ is_some tape.old) }
+{
+    match tape {
+        Some(kept) => {
+            let (after, met) = poll_session(alloc, session, link, kept)?;
+            Ok((after, met))
+        }
+        None => {
+            let mut none = None;
+            let (after, met) = poll_session(alloc, session, link, &mut none)?;
+            Ok((after, met))
         }
     }
 }
@@ -58,8 +87,9 @@ pub(crate) fn poll_open<L: Link>(
     ensures does { IfOk result (λ p. EachCall None session.old.seen session.new.seen
         (L.looks link.old) (L.looks link.new) tape.old tape.new p.1 p.0) }
     ensures within { IfOk result (λ p. p.1.taken ≤ MOST_TAKEN) }
+    ensures keeps { OnOk result (is_some tape.new ≡ is_some tape.old) }
 {
-    let (after, met) = poll_session(alloc, session, link, tape)?;
+    let (after, met) = poll_noted(alloc, session, link, tape)?;
     note_after(alloc, tape, &after)?;
     Ok((after, met))
 }
@@ -77,6 +107,7 @@ fn begin_call<L: Link>(
     ensures does { IfOk result (λ p. EachCall (Some call) session.old.seen session.new.seen
         (L.looks link.old) (L.looks link.new) tape.old tape.new p.1 p.0) }
     ensures within { IfOk result (λ p. p.1.taken ≤ MOST_TAKEN) }
+    ensures keeps { OnOk result (is_some tape.new ≡ is_some tape.old) }
 {
     note_call(alloc, tape, &call)?;
     match session.begin(call) {
@@ -101,6 +132,7 @@ pub(crate) fn poll_once<L: Link>(
     ensures does { IfOk result (λ p. EachCall call session.old.seen session.new.seen
         (L.looks link.old) (L.looks link.new) tape.old tape.new p.1 p.0) }
     ensures within { IfOk result (λ p. p.1.taken ≤ MOST_TAKEN) }
+    ensures keeps { OnOk result (is_some tape.new ≡ is_some tape.old) }
 {
     match call {
         None => return poll_open(alloc, session, link, tape),

@@ -1,5 +1,5 @@
 //! A connection that was made.
-ghost use Rattle.std.specs.Prelude.{◌≡◌, Some, None, true, false};
+ghost use Rattle.std.specs.Prelude.{◌≡◌, ◌||◌, Some, None, true, false};
 ghost use Rattle.std.specs.Option.{option_copied};
 ghost use Rattle.my_conn.specs.Calls.{lost_answer, pending_after};
 
@@ -92,6 +92,13 @@ impl<L> Conn<L> {
         ensures { result ≡ self.now.pending }
     {
         self.pending
+    }
+
+    /// Whether it is closed: no call but a quit can be made.
+    pub fn is_disconnected(&self) -> bool
+        ensures { result ≡ (self.now.lost || self.now.seen.closed) }
+    {
+        self.lost || self.session.is_closed()
     }
 
     /// The number of the connection, as the server reported it.

@@ -1,5 +1,5 @@
 //! A connection that is being made.
-ghost use Rattle.std.specs.Prelude.{◌≡◌, IfOk, is_some};
+ghost use Rattle.std.specs.Prelude.{◌≡◌, None, IfOk, is_some};
 ghost use Rattle.my_client.specs.Kept.{first_asked, first_kept};
 ghost use Rattle.my_client.specs.Login.{login_of};
 ghost use Rattle.my_conn.specs.Connected.{ConnectIs};
@@ -41,6 +41,18 @@ pub enum Connected<L> {
     Pending(Connecting<L>),
     Made(Conn<L>),
     Failed(Error),
+}
+
+impl<L> Connecting<L> {
+    /// Hands out the tape, where one is kept. None is kept from here on.
+    pub fn take_tape(&mut self) -> Option<Tape>
+        ensures tape { result ≡ self.old.tape }
+        ensures none { self.new.tape ≡ None }
+        ensures seen { self.new.seen ≡ self.old.seen }
+        ensures link { self.new.link ≡ self.old.link }
+    {
+        self.tape.take()
+    }
 }
 
 impl<L: Link + Drop> Connecting<L> {

@@ -24,7 +24,7 @@ impl<L: BlockingLink> Conn<L> {
         requires idle { self.old.pending ≡ None }
         requires kind { kind_of call ≡ kind }
         requires other { is_connect kind ≡ false }
-        ensures { DriveIs kind call self.old self.new result }
+        ensures { DriveIs L.looks kind call self.old self.new result }
     {
         let mut next = Some(call);
         let mut spent = 0u64;
@@ -65,7 +65,7 @@ impl<L: BlockingLink> Conn<L> {
         requires idle { self.old.pending ≡ None }
         requires kind { kind_of call ≡ kind }
         requires other { is_connect kind ≡ false }
-        ensures { DoneIs kind call self.old self.new result }
+        ensures { DoneIs L.looks kind call self.old self.new result }
     {
         match self.drive(alloc, kind, call) {
             Ok(_) => return Ok(()),
@@ -76,7 +76,7 @@ impl<L: BlockingLink> Conn<L> {
     /// Sends a query, and waits until the server accepts it.
     pub fn query(&mut self, alloc: Global, text: Blob) -> Result<(), Error>
         requires { self.old.pending ≡ None }
-        ensures { DoneIs kinds.Query (calls.Query text) self.old self.new result }
+        ensures { DoneIs L.looks kinds.Query (calls.Query text) self.old self.new result }
     {
         self.finish(alloc, CallKind::Query, Call::Query(text))
     }
@@ -84,7 +84,7 @@ impl<L: BlockingLink> Conn<L> {
     /// Waits for the next row.
     pub fn next(&mut self, alloc: Global) -> Result<NextAnswer, Error>
         requires { self.old.pending ≡ None }
-        ensures { NextIs self.old self.new result }
+        ensures { NextIs L.looks self.old self.new result }
     {
         match self.drive(alloc, CallKind::NextRow, Call::NextRow) {
             Ok(answer) => return Ok(next_answer(answer)),
@@ -95,7 +95,7 @@ impl<L: BlockingLink> Conn<L> {
     /// Passes over all that is left of a result.
     pub fn drop_result(&mut self, alloc: Global) -> Result<(), Error>
         requires { self.old.pending ≡ None }
-        ensures { DoneIs kinds.DropResult calls.DropResult self.old self.new result }
+        ensures { DoneIs L.looks kinds.DropResult calls.DropResult self.old self.new result }
     {
         self.finish(alloc, CallKind::DropResult, Call::DropResult)
     }
@@ -103,7 +103,7 @@ impl<L: BlockingLink> Conn<L> {
     /// Asks whether the server is there.
     pub fn ping(&mut self, alloc: Global) -> Result<(), Error>
         requires { self.old.pending ≡ None }
-        ensures { DoneIs kinds.Ping calls.Ping self.old self.new result }
+        ensures { DoneIs L.looks kinds.Ping calls.Ping self.old self.new result }
     {
         self.finish(alloc, CallKind::Ping, Call::Ping)
     }
@@ -111,7 +111,7 @@ impl<L: BlockingLink> Conn<L> {
     /// Ends the connection.
     pub fn quit(&mut self, alloc: Global) -> Result<(), Error>
         requires { self.old.pending ≡ None }
-        ensures { DoneIs kinds.Quit calls.Quit self.old self.new result }
+        ensures { DoneIs L.looks kinds.Quit calls.Quit self.old self.new result }
     {
         self.finish(alloc, CallKind::Quit, Call::Quit)
     }

@@ -3,8 +3,10 @@
 
 mod begin;
 mod conn;
+mod connect;
 mod connecting;
 mod drive;
+mod facts;
 mod states;
 
 pub use conn::Conn;

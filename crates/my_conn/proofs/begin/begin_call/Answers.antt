@@ -5,9 +5,9 @@ use Rattle.my_conn.proofs.begin.begin_call.Goals as goal
 
 pub returns-in-Ok-clause-does : goal.returns-in-Ok-clause-does
 returns-in-Ok-clause-does g c = IfOk-weaker c.poll_open.result _ _
-    (λ p f. begun_call c.args.session.now.seen c.begin.new.self.seen c.poll_open.new.session.seen _ _ c.args.tape.now c.note_call.new.tape c.poll_open.new.tape c.args.call p.1 p.0 c.requires.idle c.in_ok-note_call.ensures c.in-Ok.ensures.ok c.in-Ok.ensures.stands f)
+    (λ p f. begun_call c.args.session.now.seen c.begin.new.self.seen c.poll_open.new.session.seen _ _ c.args.tape.now c.note_call.new.tape c.poll_open.new.tape c.args.call p.1 p.0 c.requires.idle c.in_ok-note_call.ensures.noted c.in-Ok.ensures.ok c.in-Ok.ensures.stands f)
     c.poll_open.ensures.does
 
 pub returns-in_ok-note_after-in-Err-clause-does : goal.returns-in_ok-note_after-in-Err-clause-does
 returns-in_ok-note_after-in-Err-clause-does g c =
-    refused_call c.args.session.now.seen c.begin.new.self.seen _ _ c.args.tape.now c.note_call.new.tape c.note_after.new.tape c.args.call _ c.in-Err.error c.requires.idle c.in_ok-note_call.ensures (c.in-Err.ensures.closed.0 refl) c.in-Err.ensures.err c.in-Err.ensures.why c.in-Err.ensures.refused refl c.in_ok-note_after-in-Err.ensures
+    refused_call c.args.session.now.seen c.begin.new.self.seen _ _ c.args.tape.now c.note_call.new.tape c.note_after.new.tape c.args.call _ c.in-Err.error c.requires.idle c.in_ok-note_call.ensures.noted (c.in-Err.ensures.closed.0 refl) c.in-Err.ensures.err c.in-Err.ensures.why c.in-Err.ensures.refused refl c.in_ok-note_after-in-Err.ensures.noted

@@ -8,7 +8,7 @@ use Rattle.my_conn.proofs.conn.Conn.drive.Given as goal
 abbrev pub invariant-polls : goal.invariant-polls
 invariant-polls g l = record {
   may : MayPoll l.fn.kind l.next l.self.pending;
-  so : DriveSoFar l.fn.call l.next l.fn.self l.self l.spent;
+  so : DriveSoFar g.L.Link.looks l.fn.call l.next l.fn.self l.self l.spent;
   room : l.spent < TOO_LONG + MOST_TAKEN;
 }
 

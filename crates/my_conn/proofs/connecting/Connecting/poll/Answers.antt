@@ -25,7 +25,7 @@ returns-in-Pending g c =
     let v = c.self.inside in
     let x : Looks = g.L.Link.looks v.link in
     let y : Looks = g.L.Link.looks c.poll_open.new.link in
-    rw (← c.self.view_is) (still_connects v.session.seen c.poll_open.new.session.seen x y v.tape c.poll_open.new.tape c.in-Ok._met (subst (λ (f : After). EachCall None v.session.seen c.poll_open.new.session.seen x y v.tape c.poll_open.new.tape c.in-Ok._met f) c.in-Pending.is c.in-Ok.ensures.does) g.L.Link.looks v.link c.poll_open.new.link refl refl c.self.invariant)
+    rw (← c.self.view_is) (still_connects v.session.seen c.poll_open.new.session.seen x y v.tape c.poll_open.new.tape c.in-Ok._met (subst (λ (f : After). EachCall None v.session.seen c.poll_open.new.session.seen x y v.tape c.poll_open.new.tape c.in-Ok._met f) c.in-Pending.is c.in-Ok.ensures.does) g.L.Link.looks v.link c.poll_open.new.link refl refl c.in-Ok.ensures.keeps c.self.invariant)
 
 pub returns-in-Answered : goal.returns-in-Answered
 returns-in-Answered g c =
@@ -33,7 +33,7 @@ returns-in-Answered g c =
     let x : Looks = g.L.Link.looks v.link in
     let y : Looks = g.L.Link.looks c.poll_open.new.link in
     let w = c.made.ensures in
-    (w.lost, w.pending, rw (← c.self.view_is) (rw (w.seen, w.link, w.tape) (makes v.session.seen c.poll_open.new.session.seen x y v.tape c.poll_open.new.tape c.in-Ok._met c.in-Answered.field-0 (subst (λ (f : After). EachCall None v.session.seen c.poll_open.new.session.seen x y v.tape c.poll_open.new.tape c.in-Ok._met f) c.in-Answered.is c.in-Ok.ensures.does) g.L.Link.looks v.link c.poll_open.new.link refl refl)))
+    (w.lost, w.pending, rw (← c.self.view_is) (rw (w.seen, w.link, w.tape) (makes v.session.seen c.poll_open.new.session.seen x y v.tape c.poll_open.new.tape c.in-Ok._met c.in-Answered.field-0 (subst (λ (f : After). EachCall None v.session.seen c.poll_open.new.session.seen x y v.tape c.poll_open.new.tape c.in-Ok._met f) c.in-Answered.is c.in-Ok.ensures.does) g.L.Link.looks v.link c.poll_open.new.link refl refl c.in-Ok.ensures.keeps)))
 
 pub returns-in-Failed : goal.returns-in-Failed
 returns-in-Failed g c =

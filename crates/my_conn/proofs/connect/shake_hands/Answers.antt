@@ -1,0 +1,25 @@
+use Rattle.std.proofs.Common.{inr, ◌∙◌, arith}
+use Rattle.my_conn.proofs.Shaking.{shake_done, shake_failed, shake_full, shake_on, shake_open}
+use Rattle.my_conn.proofs.connect.shake_hands.Goals as goal
+
+pub poll_open-requires : goal.poll_open-requires
+poll_open-requires g c = shake_open _ _ _ _ _ _ (c.polls.invariant.so c.requires.0 c.requires.1)
+
+pub returns-in-Answered-clause-shakes : goal.returns-in-Answered-clause-shakes
+returns-in-Answered-clause-shakes g c = λ login w. shake_done _ _ _ _ _ _ _ _ _ _ _ (c.polls.invariant.so login w) c.in-Ok.ensures.does c.in-Answered.field-0 c.in-Answered.is
+
+pub returns-in-Answered-clause-keeps : goal.returns-in-Answered-clause-keeps
+returns-in-Answered-clause-keeps g c = c.in-Ok.ensures.keeps ∙ c.polls.invariant.keeps
+
+pub returns-in-Failed-clause-shakes : goal.returns-in-Failed-clause-shakes
+returns-in-Failed-clause-shakes g c = λ login w. inr (inr (shake_failed _ _ _ _ _ _ _ _ _ _ _ (c.polls.invariant.so login w) c.in-Ok.ensures.does c.in-Failed.error c.in-Failed.is))
+
+pub polls-smaller : goal.polls-smaller
+polls-smaller g c = omega (arith, c.if-spent-ge-TOO_LONG.false, shake_full _ _ _ _ _ _ _ _ _ _ _ (c.polls.invariant.so c.requires.0 c.requires.1) c.in-Ok.ensures.does c.in-Pending.is c.never_holds.ensures c.never_holds-in-Ok.ensures)
+
+pub polls-preserved : goal.polls-preserved
+polls-preserved g c = record {
+  so = λ login w. shake_on _ _ _ _ _ _ _ _ _ _ _ (c.polls.invariant.so login w) c.in-Ok.ensures.does c.in-Pending.is c.never_holds.ensures c.never_holds-in-Ok.ensures;
+  room = omega (arith, c.if-spent-ge-TOO_LONG.false, c.in-Ok.ensures.within);
+  keeps = c.in-Ok.ensures.keeps ∙ c.polls.invariant.keeps;
+}

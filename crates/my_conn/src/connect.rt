@@ -1,0 +1,93 @@
+//! Connecting over a link that never holds.
+ghost use Rattle.std.specs.Prelude.{◌≡◌, None, OnOk, is_some};
+ghost use Rattle.my_grammar.specs.declared.login.Login.{Login as LoginOf};
+ghost use Rattle.my_client.specs.Kept.{first_asked, first_kept};
+ghost use Rattle.my_client.specs.Login.{login_of};
+ghost use Rattle.my_conn.specs.Connects.{ConnectsFor};
+ghost use Rattle.my_conn.specs.Drives.{DoneIs};
+ghost use Rattle.my_conn.specs.News.{NewIs, ShakesTo};
+ghost use Rattle.my_conn.specs.Conn.{ConnSeen};
+ghost use Rattle.my_reading.specs.declared.call.Call.TheVariants as calls;
+ghost use Rattle.my_reading.specs.declared.call.CallKind.TheVariants as kinds;
+
+use crate::begin::poll_open;
+use crate::conn::Conn;
+use crate::drive::TOO_LONG;
+use my_client::{After, Conn as Begun, Tape, begin_conn};
+use my_frame::NoMemory;
+use my_link::BlockingLink;
+use my_opts::Opts;
+use my_reading::{DriverError, Error};
+use my_session::Session;
+use std::alloc::Global;
+
+// The link was always ready.
+fn never_holds<L: BlockingLink>(link: &L)
+    ensures { (L.looks link.now).counts.holds ≡ 0 }
+{
+    let _ = link;
+}
+
+// Polls the handshake until it returns.
+fn shake_hands<L: BlockingLink>(
+    alloc: Global,
+    session: &mut Session,
+    link: &mut L,
+    tape: &mut Option<Tape>,
+) -> Result<(), Error>
+    requires { (login : LoginOf) × ConnectsFor login session.old.seen tape.old first_kept first_asked }
+    ensures shakes { (login : LoginOf) → ConnectsFor login session.old.seen tape.old first_kept first_asked
+        → ShakesTo login (L.looks link.old) (L.looks link.new) session.new.seen tape.new result }
+    ensures keeps { OnOk result (is_some tape.new ≡ is_some tape.old) }
+{
+    let mut spent = 0u64;
+    'polls: loop {
+        if spent >= TOO_LONG {
+            return Err(Error::Driver(DriverError::TooLong));
+        }
+        never_holds(link);
+        match poll_open(alloc, session, link, tape) {
+            Err(NoMemory) => return Err(Error::NoMemory),
+            Ok((after, met)) => {
+                never_holds(link);
+                spent += met.taken;
+                match after {
+                    After::Pending => {}
+                    After::Answered(_) => return Ok(()),
+                    After::Failed(error) => return Err(error),
+                }
+            }
+        }
+    }
+}
+
+impl<L: BlockingLink + Drop> Conn<L> {
+    /// Connects over this link, and waits until the connection is made. It keeps no tape.
+    pub fn new(alloc: Global, opts: &Opts, link: L) -> Result<Conn<L>, Error>
+        ensures { NewIs L.looks (login_of opts.now) (L.looks link) result }
+    {
+        let begun = match begin_conn(alloc, opts, link) {
+            Ok(begun) => begun,
+            Err(NoMemory) => return Err(Error::NoMemory),
+        };
+        let Begun {
+            mut session,
+            mut link,
+            tape: _,
+        } = begun;
+        let mut tape = None;
+        match shake_hands(alloc, &mut session, &mut link, &mut tape) {
+            Ok(()) => Ok(Conn::made(session, link, tape)),
+            Err(error) => Err(error),
+        }
+    }
+
+    /// Ends the connection, and lets it go.
+    pub fn disconnect(self, alloc: Global) -> Result<(), Error>
+        requires { self.pending ≡ None }
+        ensures { (end : ConnSeen L) × DoneIs L.looks kinds.Quit calls.Quit self end result }
+    {
+        let mut conn = self;
+        conn.quit(alloc)
+    }
+}
