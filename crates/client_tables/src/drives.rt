@@ -2,6 +2,7 @@
 
 ghost use Rattle.std.specs.Prelude.{◌≡◌, None};
 
+use crate::library::count_rows;
 use crate::talks::{Step, is_read, knows};
 use my_conn::Conn;
 use my_frame::Blob;
@@ -42,6 +43,23 @@ fn end_idle<L: BlockingLink + Drop>(alloc: Global, conn: Conn<L>) -> bool
 pub fn ends<L: BlockingLink + Drop>(alloc: Global, conn: Conn<L>) -> bool {
     match conn.open_call() {
         None => end_idle(alloc, conn),
+        Some(_) => false,
+    }
+}
+
+fn count_idle<L: BlockingLink>(alloc: Global, conn: &mut Conn<L>) -> bool
+    requires { conn.old.pending ≡ None }
+{
+    match count_rows(alloc, conn, b"SELECT 1") {
+        Ok(count) => count == 1,
+        Err(_) => false,
+    }
+}
+
+/// Whether a query, where no call is open, has one row.
+pub fn counts<L: BlockingLink>(alloc: Global, conn: &mut Conn<L>) -> bool {
+    match conn.open_call() {
+        None => count_idle(alloc, conn),
         Some(_) => false,
     }
 }

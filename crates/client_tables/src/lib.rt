@@ -5,6 +5,8 @@
 #[cfg(test)]
 mod drives;
 #[cfg(test)]
+mod library;
+#[cfg(test)]
 mod link;
 #[cfg(test)]
 mod polls;

@@ -1,6 +1,6 @@
 //! One conversation, polled and waiting.
 
-use crate::drives::{drives, ends};
+use crate::drives::{counts, drives, ends};
 use crate::link::{Line, link_of};
 use crate::polls::{cancels, polls};
 use my_client::Tape;
@@ -179,11 +179,16 @@ fn is_polled(alloc: Global, opts: &Opts, link: MemLink, cancelled: bool) -> bool
     }
 }
 
-fn is_driven(alloc: Global, opts: &Opts, link: MemLink) -> bool {
+fn is_driven(alloc: Global, opts: &Opts, link: MemLink, counted: bool) -> bool {
     match Conn::new(alloc, opts, ReadyLink::new(link)) {
         Ok(conn) => {
             let mut conn = conn;
-            all_driven(alloc, &mut conn) && ends(alloc, conn)
+            let right = if counted {
+                drives(alloc, &mut conn, Step::Ping) && counts(alloc, &mut conn)
+            } else {
+                all_driven(alloc, &mut conn)
+            };
+            right && ends(alloc, conn)
         }
         Err(_) => false,
     }
@@ -195,13 +200,15 @@ enum Talk {
     Polled,
     Cancelled,
     Waiting,
+    Counted,
 }
 
 fn is_so(alloc: Global, opts: &Opts, link: MemLink, talk: Talk) -> bool {
     match talk {
         Talk::Polled => is_polled(alloc, opts, link, false),
         Talk::Cancelled => is_polled(alloc, opts, link, true),
-        Talk::Waiting => is_driven(alloc, opts, link),
+        Talk::Waiting => is_driven(alloc, opts, link, false),
+        Talk::Counted => is_driven(alloc, opts, link, true),
     }
 }
 
@@ -224,6 +231,12 @@ fn each_call_is_polled(rt: HostRuntime) -> Result<(), Fail> {
 #[test]
 fn each_call_waits(rt: HostRuntime) -> Result<(), Fail> {
     assert!(rt; is_right(rt.alloc(), LINES, Talk::Waiting));
+    Ok(())
+}
+
+#[test]
+fn rows_are_counted(rt: HostRuntime) -> Result<(), Fail> {
+    assert!(rt; is_right(rt.alloc(), LINES, Talk::Counted));
     Ok(())
 }
 

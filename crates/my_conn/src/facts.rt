@@ -24,7 +24,8 @@ impl<L> Conn<L> {
         }
     }
 
-    /// The id that the server generated for the last new row, by the last OK; none where it generated none, or without an OK.
+    /// The id that the server generated for the last new row, by the last OK; none where it generated none,
+    /// or without an OK.
     pub fn last_insert_id(&self) -> Option<u64>
         ensures { result ≡ insert_by self.now.seen.facts.ok }
     {
