@@ -58,24 +58,24 @@ put_length m h [] = refl
 put_length zero h (x ∷ hs) = refl
 put_length (suc m) h (x ∷ hs) = ap suc (put_length m h hs)
 
-put_here : (m : ℕ) (h : Handle) (hs : List Handle) → m < length hs → at_number (put_at m h hs) m ≡ h
+pub put_here : (m : ℕ) (h : Handle) (hs : List Handle) → m < length hs → at_number (put_at m h hs) m ≡ h
 put_here m h [] e = absurd (omega (arith, e))
 put_here zero h (x ∷ hs) e = refl
 put_here (suc m) h (x ∷ hs) e = put_here m h hs (omega (arith, e))
 
-put_there : (m n : ℕ) (h : Handle) (hs : List Handle) → m ≢ n → at_number (put_at m h hs) n ≡ at_number hs n
+pub put_there : (m n : ℕ) (h : Handle) (hs : List Handle) → m ≢ n → at_number (put_at m h hs) n ≡ at_number hs n
 put_there m n h [] e = refl
 put_there zero zero h (x ∷ hs) e = absurd (e refl)
 put_there zero (suc n) h (x ∷ hs) e = refl
 put_there (suc m) zero h (x ∷ hs) e = refl
 put_there (suc m) (suc n) h (x ∷ hs) e = put_there m n h hs (λ same. e (ap suc same))
 
-push_before : (hs : List Handle) (h : Handle) (n : ℕ) → n < length hs → at_number (hs ++ h ∷ []) n ≡ at_number hs n
+pub push_before : (hs : List Handle) (h : Handle) (n : ℕ) → n < length hs → at_number (hs ++ h ∷ []) n ≡ at_number hs n
 push_before [] h n e = absurd (omega (arith, e))
 push_before (x ∷ hs) h zero e = refl
 push_before (x ∷ hs) h (suc n) e = push_before hs h n (omega (arith, e))
 
-push_last : (hs : List Handle) (h : Handle) → at_number (hs ++ h ∷ []) (length hs) ≡ h
+pub push_last : (hs : List Handle) (h : Handle) → at_number (hs ++ h ∷ []) (length hs) ≡ h
 push_last [] h = refl
 push_last (x ∷ hs) h = push_last hs h
 

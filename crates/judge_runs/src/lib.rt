@@ -1,9 +1,11 @@
-//! Runs of the program whose transcripts `my_run_judge` finds right, and several hundred changes of these that it refutes.
+//! Runs of the program that `my_plan_judge` finds right, and changes of their transcripts and plans that it refutes.
 //! This crate has tests alone.
 #![tactic(auto)]
 
 #[cfg(test)]
 mod changes;
+#[cfg(test)]
+mod plans;
 #[cfg(test)]
 mod runs;
 #[cfg(test)]

@@ -4,29 +4,43 @@ use crate::scripts::Script;
 use my_client::login_for;
 use my_frame::{MemSink, MemSource, NoMemory};
 use my_grammar::Login;
+use my_plan_judge::judge_run;
 use my_run::run_tool;
 use my_run_judge::{Found, judge_transcript};
-use my_script::{Read, Step, Transcript, read_script, read_word};
+use my_script::{Read, Script as ReadLines, Transcript, read_script, read_word};
 use my_world::MemWorld;
 use std::alloc::Global;
 
-/// A run, and what it printed.
+/// A run: the lines of its plan and its steps, and what it printed.
 #[derive(Drop)]
 pub struct Run {
     pub login: Login,
-    pub steps: Vec<Step>,
+    pub read: ReadLines,
     pub transcript: Transcript,
 }
 
 impl Run {
-    /// What is found of it.
-    pub fn found(&self, alloc: Global) -> Result<Found, NoMemory> {
+    /// What is found of its transcript alone.
+    pub fn found_alone(&self, alloc: Global) -> Result<Found, NoMemory> {
         let Transcript { answers, tapes } = &self.transcript;
-        let steps = self.steps.as_slice();
+        let steps = self.read.steps.as_slice();
         judge_transcript(
             alloc,
             &self.login,
             steps,
+            answers.as_slice(),
+            tapes.as_slice(),
+        )
+    }
+
+    /// What is found of it.
+    pub fn found(&self, alloc: Global) -> Result<Found, NoMemory> {
+        let Transcript { answers, tapes } = &self.transcript;
+        judge_run(
+            alloc,
+            &self.login,
+            self.read.plan.as_slice(),
+            self.read.steps.as_slice(),
             answers.as_slice(),
             tapes.as_slice(),
         )
@@ -58,10 +72,13 @@ fn transcript_of(alloc: Global, word: &str, text: &[u8]) -> Result<Transcript, N
     Ok(run_tool(alloc, &words, &mut src, &mut out, &mut world).transcript)
 }
 
-fn steps_of(alloc: Global, text: &[u8]) -> Result<Vec<Step>, NoMemory> {
+fn lines_of(alloc: Global, text: &[u8]) -> Result<ReadLines, NoMemory> {
     match read_script(alloc, true, text)? {
-        Read::Good(script) => Ok(script.steps),
-        Read::Bad(_) => Ok(Vec::new(alloc)),
+        Read::Good(script) => Ok(script),
+        Read::Bad(_) => Ok(ReadLines {
+            plan: Vec::new(alloc),
+            steps: Vec::new(alloc),
+        }),
     }
 }
 
@@ -76,13 +93,13 @@ fn login_of(alloc: Global, word: &str) -> Result<Option<Login>, NoMemory> {
 pub fn run_of(alloc: Global, script: &Script) -> Result<Option<Run>, NoMemory> {
     let text = text_of(alloc, script)?;
     let transcript = transcript_of(alloc, script.word, text.as_slice())?;
-    let steps = steps_of(alloc, text.as_slice())?;
+    let read = lines_of(alloc, text.as_slice())?;
     let Some(login) = login_of(alloc, script.word)? else {
         return Ok(None);
     };
     Ok(Some(Run {
         login,
-        steps,
+        read,
         transcript,
     }))
 }

@@ -1,6 +1,7 @@
-//! The transcript of each script is right, and a line of each changed one is wrong, but where the change is allowed.
+//! The run of each script is right, and a line of each changed one is wrong, but where the change is allowed.
 
 use crate::changes::{Change, toggle};
+use crate::plans::{change_plan, refuse_dial};
 use crate::runs::{Run, run_of};
 use crate::scripts::{Script, answered, closing, connecting, held, polled, writing};
 use my_frame::NoMemory;
@@ -11,15 +12,23 @@ use std::alloc::Global;
 use std::process::Abort;
 use std::test::Fail;
 
-/// How many changes were refuted, and how many allowed: an end that was met after bytes that are an error.
+/// How many changes were refuted, and how many allowed.
 #[derive(Clone, Copy, Debug, PartialEq, Eq)]
-struct Counts {
-    refuted: usize,
-    allowed: usize,
+pub struct Counts {
+    pub refuted: usize,
+    pub allowed: usize,
+}
+
+/// Of transcripts, and of plans, of which lines that no read or write came to may be others, and one that is missing where
+/// the next one begins with the bytes that were read.
+#[derive(Clone, Copy, Debug, PartialEq, Eq)]
+struct Sums {
+    transcripts: Counts,
+    plans: Counts,
 }
 
 impl Counts {
-    fn count(&mut self, found: Found) {
+    pub fn count(&mut self, found: Found) {
         if found == Found::Right {
             self.allowed = self.allowed.saturating_add(1);
         } else {
@@ -121,6 +130,7 @@ fn change_line(
         change(alloc, run, counts, Change::Taken(line))?;
         change(alloc, run, counts, Change::Hold(line))?;
         change(alloc, run, counts, Change::Fault(line))?;
+        change(alloc, run, counts, Change::End(line))?;
         change(alloc, run, counts, Change::Death(line))?;
     }
     change_cell(alloc, run, counts, line)?;
@@ -267,75 +277,87 @@ fn change_all(alloc: Global, run: &mut Run, counts: &mut Counts) -> Result<(), N
     change_ends(alloc, run, counts)
 }
 
-// An end that the last poll of each line met, or didn't: where the line shows an error of the bytes, both are right.
-fn change_link_ends(alloc: Global, run: &mut Run, counts: &mut Counts) -> Result<(), NoMemory> {
-    for line in 0..run.transcript.answers.len() {
-        if has_use(run, line) {
-            change(alloc, run, counts, Change::End(line))?;
-        }
-    }
-    Ok(())
-}
-
-fn count_all(rt: &impl Abort, alloc: Global, scripts: &[Script]) -> Result<Counts, Fail> {
-    let mut counts = Counts {
-        refuted: 0,
-        allowed: 0,
-    };
+fn count_all(rt: &impl Abort, alloc: Global, scripts: &[Script]) -> Result<Sums, Fail> {
+    let mut transcripts = counted(0, 0);
+    let mut plans = counted(0, 0);
     for script in scripts {
         if let Some(mut run) = run_of(alloc, script)? {
             assert_eq!(rt; run.found(alloc)?, Found::Right, "at {:?}", script.steps);
-            let before = counts.allowed;
-            change_all(alloc, &mut run, &mut counts)?;
-            assert_eq!(rt; counts.allowed, before, "at {:?}", script.steps);
-            change_link_ends(alloc, &mut run, &mut counts)?;
+            change_all(alloc, &mut run, &mut transcripts)?;
+            change_plan(alloc, &mut run, &mut plans)?;
         }
     }
-    Ok(counts)
+    Ok(Sums { transcripts, plans })
 }
 
 fn counted(refuted: usize, allowed: usize) -> Counts {
     Counts { refuted, allowed }
 }
 
+fn refuted(refuted: usize, plans: Counts) -> Sums {
+    Sums {
+        transcripts: counted(refuted, 0),
+        plans,
+    }
+}
+
 #[test]
 fn connections_that_are_not_made(rt: HostRuntime) -> Result<(), Fail> {
     let found = count_all(&rt, rt.alloc(), &connecting())?;
-    assert_eq!(rt; found, counted(62, 0));
+    assert_eq!(rt; found, refuted(62, counted(8, 10)));
     Ok(())
 }
 
 #[test]
 fn calls_that_are_answered(rt: HostRuntime) -> Result<(), Fail> {
     let found = count_all(&rt, rt.alloc(), &answered())?;
-    assert_eq!(rt; found, counted(399, 2));
+    assert_eq!(rt; found, refuted(401, counted(90, 0)));
     Ok(())
 }
 
 #[test]
 fn calls_that_are_held(rt: HostRuntime) -> Result<(), Fail> {
     let found = count_all(&rt, rt.alloc(), &held())?;
-    assert_eq!(rt; found, counted(326, 1));
+    assert_eq!(rt; found, refuted(327, counted(88, 3)));
     Ok(())
 }
 
 #[test]
 fn reads_that_close(rt: HostRuntime) -> Result<(), Fail> {
     let found = count_all(&rt, rt.alloc(), &closing())?;
-    assert_eq!(rt; found, counted(265, 2));
+    assert_eq!(rt; found, refuted(267, counted(51, 3)));
     Ok(())
 }
 
 #[test]
 fn writes_that_close(rt: HostRuntime) -> Result<(), Fail> {
     let found = count_all(&rt, rt.alloc(), &writing())?;
-    assert_eq!(rt; found, counted(146, 1));
+    assert_eq!(rt; found, refuted(147, counted(37, 0)));
     Ok(())
 }
 
 #[test]
 fn calls_that_are_polled(rt: HostRuntime) -> Result<(), Fail> {
     let found = count_all(&rt, rt.alloc(), &polled())?;
-    assert_eq!(rt; found, counted(298, 0));
+    assert_eq!(rt; found, refuted(298, counted(31, 7)));
+    Ok(())
+}
+
+// A dial that failed, or wasn't ready, is right by itself, and refuted over a plan.
+fn is_dial_refuted(alloc: Global, fault: bool) -> Result<bool, Fail> {
+    let [script, _, _] = connecting();
+    let Some(mut run) = run_of(alloc, &script)? else {
+        return Ok(false);
+    };
+    refuse_dial(&mut run, fault);
+    let alone = run.found_alone(alloc)?;
+    Ok(alone == Found::Right && run.found(alloc)? == Found::Wrong(0))
+}
+
+#[test]
+fn dials_over_a_plan(rt: HostRuntime) -> Result<(), Fail> {
+    for fault in [true, false] {
+        assert!(rt; is_dial_refuted(rt.alloc(), fault)?);
+    }
     Ok(())
 }

@@ -67,11 +67,11 @@ module _ (most : ℕ) (all : List Tape) (first : ℕ) (left : List Tape) (so : N
     }
 
 -- the earlier of two findings
-not_before_itself : (x : Found) → IsNotBefore x x
+pub not_before_itself : (x : Found) → IsNotBefore x x
 not_before_itself Right = tt
 not_before_itself (Wrong line) = omega arith
 
-earlier_first : (one other x : Found) → IsNotBefore one x → IsNotBefore (earlier one other) x
+pub earlier_first : (one other x : Found) → IsNotBefore one x → IsNotBefore (earlier one other) x
 earlier_first Right Right x r = r
 earlier_first Right (Wrong second) Right r = tt
 earlier_first Right (Wrong second) (Wrong line) r = absurd r
@@ -87,7 +87,7 @@ earlier_first (Wrong line) (Wrong second) (Wrong k) r = by_test (nat_lt second l
     by_test true e = let low : line ≤ k = r in grind (arith, nat_tests)
     by_test false e = r
 
-earlier_second : (one other : Found) → IsNotBefore (earlier one other) other
+pub earlier_second : (one other : Found) → IsNotBefore (earlier one other) other
 earlier_second Right other = not_before_itself other
 earlier_second (Wrong line) Right = tt
 earlier_second (Wrong line) (Wrong second) = by_test (nat_lt second line) refl

@@ -11,7 +11,7 @@ use Rattle.my_reading.specs.declared.error.IoKind.TheVariants as kinds
 use Rattle.my_script.specs.declared.transcript.Outcome.{Outcome}
 use Rattle.my_script.specs.declared.transcript.Outcome.TheVariants.{Done, Pending, SetEnd, NoSet, Row, Rows, Fields, Connected, Failed, NoSuchHandle}
 
--- bytes, and so many faults, holds and ends; a poll counts nothing else
+-- these counts of bytes, faults, holds and ends; a poll counts nothing else
 abbrev pub met_at : ℕ → ℕ → ℕ → ℕ → Met
 met_at taken faults holds ends = record {
   faults = faults;

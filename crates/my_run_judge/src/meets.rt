@@ -19,7 +19,7 @@ use my_link::Met;
 use my_reading::{Error, IoError, IoKind};
 use my_script::Outcome;
 
-// Whether bytes and so many faults, holds and ends were met, and nothing else.
+// Whether bytes were met, and these counts of faults, holds and ends, and nothing else.
 fn has_met(met: &Met, faults: u64, holds: u64, ends: u64) -> bool
     ensures { Decides result (HasMet met.now faults holds ends) }
 {

@@ -105,8 +105,8 @@ fn judge_number(
     judge_connection(alloc, login, number, tape, steps, answers)
 }
 
-// The earlier of two findings.
-fn earlier(one: Found, other: Found) -> Found
+/// The earlier of two findings; a wrong line is earlier than that all is right.
+pub fn earlier(one: Found, other: Found) -> Found
     ensures { result ≡ earlier one other }
 {
     match one {

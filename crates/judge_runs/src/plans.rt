@@ -1,0 +1,117 @@
+//! The changes that are made of each plan, and of dials.
+
+use crate::runs::Run;
+use crate::tables::Counts;
+use my_frame::NoMemory;
+use my_reading::{Error, IoError, IoFault, IoKind};
+use my_script::{Outcome, StepAnswer};
+use my_world::WorldLine;
+use std::alloc::Global;
+use std::mem;
+
+// The line at this place, with another one in its place.
+fn put_line(run: &mut Run, at: usize, line: WorldLine) -> Option<WorldLine> {
+    let old = run.read.plan.as_mut_slice().get_mut(at)?;
+    Some(mem::replace(old, line))
+}
+
+fn change_line(
+    alloc: Global,
+    run: &mut Run,
+    counts: &mut Counts,
+    at: usize,
+    line: WorldLine,
+) -> Result<(), NoMemory> {
+    let Some(old) = put_line(run, at, line) else {
+        return Ok(());
+    };
+    counts.count(run.found(alloc)?);
+    let _ = put_line(run, at, old);
+    Ok(())
+}
+
+// Whether the line is a packet, whose number is then another one, or is again.
+fn turn_number(run: &mut Run, at: usize) -> bool {
+    match run.read.plan.as_mut_slice().get_mut(at) {
+        Some(WorldLine::Packet(_, number, _) | WorldLine::Drip(_, number, _)) => {
+            *number ^= 1;
+            true
+        }
+        _ => false,
+    }
+}
+
+fn change_number(
+    alloc: Global,
+    run: &mut Run,
+    counts: &mut Counts,
+    at: usize,
+) -> Result<(), NoMemory> {
+    if turn_number(run, at) {
+        counts.count(run.found(alloc)?);
+        let _ = turn_number(run, at);
+    }
+    Ok(())
+}
+
+// Whether the line gives bytes, a fault or an end; the others are holds, and what writes take.
+fn is_given(run: &Run, at: usize) -> bool {
+    match run.read.plan.get(at) {
+        Some(
+            WorldLine::Packet(_, _, _)
+            | WorldLine::Drip(_, _, _)
+            | WorldLine::Bytes(_, _)
+            | WorldLine::Fail(_)
+            | WorldLine::WriteFail(_),
+        ) => true,
+        _ => false,
+    }
+}
+
+fn is_end(run: &Run, at: usize) -> bool {
+    match run.read.plan.get(at) {
+        Some(WorldLine::End(_)) => true,
+        _ => false,
+    }
+}
+
+/// Changes each line of the plan that gives bytes, a fault or an end: it is taken away, an end of the first link stands
+/// in its place, or a packet has another number.
+pub fn change_plan(alloc: Global, run: &mut Run, counts: &mut Counts) -> Result<(), NoMemory> {
+    for at in 0..run.read.plan.len() {
+        let given = is_given(run, at);
+        if given || is_end(run, at) {
+            change_line(alloc, run, counts, at, WorldLine::Wait(9))?;
+        }
+        if given {
+            change_line(alloc, run, counts, at, WorldLine::End(0))?;
+        }
+        change_number(alloc, run, counts, at)?;
+    }
+    Ok(())
+}
+
+fn dial_answer(answer: &mut StepAnswer, fault: bool) {
+    let _ = answer.uses.pop();
+    if let Some(used) = answer.uses.last_mut() {
+        used.met.faults = u64::from(fault);
+        used.met.holds = u64::from(!fault);
+    }
+    answer.outcome = if fault {
+        let fault = IoFault {
+            kind: IoKind::Dial,
+            place: 0,
+        };
+        Outcome::Failed(Error::Io(IoError::Io(fault)))
+    } else {
+        Outcome::Pending
+    };
+}
+
+/// The first line shows that its dial failed, or wasn't ready, and there is no tape.
+pub fn refuse_dial(run: &mut Run, fault: bool) {
+    if let Some(answer) = run.transcript.answers.as_mut_slice().first_mut() {
+        dial_answer(answer, fault);
+    }
+    run.transcript.tapes.clear();
+}

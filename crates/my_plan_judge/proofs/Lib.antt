@@ -1,0 +1,4 @@
+pub mod Planning
+pub mod Keeping
+pub mod Following
+pub mod Finding

@@ -1,0 +1,4 @@
+pub mod Planned
+pub mod Left
+pub mod Lines
+pub mod Runs

@@ -1,0 +1,5 @@
+pub mod Spending
+pub mod Walking
+pub mod Stepping
+pub mod Running
+pub mod Keeping

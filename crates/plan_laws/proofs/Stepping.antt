@@ -1,0 +1,169 @@
+-- What a step does to the link at its number.
+use Rattle.std.proofs.Common.{ℕ, ◌≡◌, List, [], ◌∷◌, Option, Some, None, Bool, true, false, refl, sym, ap, ◌∙◌, subst}
+use Rattle.my_value.specs.RowParts.{RowParts}
+use Rattle.my_grammar.specs.declared.login.Login.{Login}
+use Rattle.my_link.specs.declared.link.ReadItem.{ReadItem}
+use Rattle.my_link.specs.declared.link.WriteItem.{WriteItem}
+use Rattle.my_link.specs.Looks.{Looks}
+use Rattle.my_reading.specs.declared.answer.Answer.TheVariants as answers
+use Rattle.my_reading.specs.declared.call.Call.{Call}
+use Rattle.my_client.specs.declared.poll.After.{After}
+use Rattle.my_client.specs.declared.poll.After.TheVariants as after
+use Rattle.my_script.specs.declared.transcript.Outcome.{Outcome}
+use Rattle.my_script.specs.declared.transcript.Use.{Use}
+use Rattle.my_client.specs.Kept.{Asked, Kept, asking, asked_by, first_asked, first_kept}
+use Rattle.my_steps.specs.Grows.{IsRefused, OnConnection, PolledOnce, IsClosed, Begins, BeginsOn, Calls, ConnectShows, Connects, HasPlan, Dials, Holds, Fails, Links, Gathers, GathersOn, Collects, CollectsOn, CollectsAt, PollsOn, GoesOnWith, GoesOn, CancelsWith, Cancels, TellsWith, TellsFields}
+use Rattle.my_steps.specs.Handle.{Handle, Absent, Dialing, Joined}
+use Rattle.my_steps.specs.Sums.{quiet}
+use Rattle.plan_laws.proofs.Spending.{Has}
+use Rattle.plan_laws.proofs.Walking.{OnePoll, Walks, polled_once, walks_one}
+
+-- from a link on, these polls lead to what stands there
+pub record WalksTo (n : ℕ) (us : List Use) (x : Looks) (taken : List ℕ) (t : Handle) : Type 0 where
+  pub there : Bool
+  pub kept : Kept
+  pub link : Looks
+  pub is : t ≡ Joined there kept link
+  pub walks : Walks n us x taken link kept.taken
+
+-- at a number that has a link; elsewhere nothing is done
+abbrev pub Goes : ℕ → Handle → List Use → Handle → Type 0
+Goes n Absent us t = (us ≡ []) × (t ≡ Absent)
+Goes n Dialing us t = Unit {0}
+Goes n (Joined there k x) us t = WalksTo n us x k.taken t
+
+module _ (n : ℕ) where
+  rests : (there : Bool) (k : Kept) (l : Kept) (x : Looks) (us : List Use) (t : Handle) → us ≡ [] → l.taken ≡ k.taken → t ≡ Joined there l x → WalksTo n us x k.taken t
+  rests there k l x us t e f g = record {
+    there = there;
+    kept = l;
+    link = x;
+    is = g;
+    walks = subst (λ (vs : List Use). Walks n vs x k.taken x l.taken) (sym e) (refl, f);
+  }
+
+  one : (there : Bool) (l : Kept) (x y : Looks) (taken : List ℕ) (u : Use) (us : List Use) (t : Handle) → us ≡ u ∷ [] → Walks n (u ∷ []) x taken y l.taken → t ≡ Joined there l y → WalksTo n us x taken t
+  one there l x y taken u us t e w g = record { there = there; kept = l; link = y; is = g; walks = subst (λ (vs : List Use). Walks n vs x taken y l.taken) (sym e) w }
+
+  refused : (h : Handle) (o : Outcome) (us : List Use) (t : Handle) → IsRefused h o us t → Goes n h us t
+  refused Absent o us t r = (r.uses, r.same)
+  refused Dialing o us t r = tt
+  refused (Joined there k x) o us t r = rests there k k x us t r.uses refl r.same
+
+  once : (login : Login) (a : Asked) (k : Kept) (x : Looks) (o : Outcome) (us : List Use) (t : Handle) → PolledOnce login n a k x o us t → WalksTo n us x k.taken t
+  once login a k x o us t r = one true r.end x r.link k.taken r.used us t r.uses (walks_one n r.used x k.taken r.link r.end.taken r.number (polled_once login a k x r.used.met r.after r.end r.link r.polled)) r.left
+
+  closed : (k : Kept) (x : Looks) (call : Call) (o : Outcome) (us : List Use) (t : Handle) → IsClosed k x call o us t → WalksTo n us x k.taken t
+  closed k x call o us t r = rests true k _ x us t r.uses refl r.left
+
+  begins : (b : Bool) (login : Login) (call : Call) (k : Kept) (x : Looks) (o : Outcome) (us : List Use) (t : Handle) → Begins b login n call k x o us t → WalksTo n us x k.taken t
+  begins true login call k x o us t r = closed k x call o us t r
+  begins false login call k x o us t r = once login (asked_by k call) (asking k call None) x o us t r
+
+  begins_on : (q : Option Asked) (login : Login) (call : Call) (k : Kept) (x : Looks) (o : Outcome) (us : List Use) (t : Handle) → BeginsOn q login n call k x o us t → WalksTo n us x k.taken t
+  begins_on None login call k x o us t r = begins _ login call k x o us t r
+  begins_on (Some a) login call k x o us t r = refused (Joined true k x) o us t r
+
+  on : (R : Kept → Looks → Outcome → List Use → Handle → Type 0) (o : Outcome) (us : List Use) (h t : Handle) → ((k : Kept) (x : Looks) → R k x o us t → WalksTo n us x k.taken t) → OnConnection R h o us t → Goes n h us t
+  on R o us Absent t go r = refused Absent o us t r
+  on R o us Dialing t go r = tt
+  on R o us (Joined false k x) t go r = refused (Joined false k x) o us t r
+  on R o us (Joined true k x) t go r = go k x r
+
+  pub calls_go : (login : Login) (call : Call) (o : Outcome) (us : List Use) (h t : Handle) → Calls login n call h o us t → Goes n h us t
+  calls_go login call o us h t = on (λ k. BeginsOn k.pending login n call k) o us h t (λ k x. begins_on k.pending login call k x o us t)
+
+  -- rows that are gathered
+  gathers_on : (More : Asked → Kept → Looks → Outcome → Handle → Type 0) (u : Use) (us : List Use) (a : Asked) (end : Kept) (x y : Looks) (taken : List ℕ) (o : Outcome) (t : Handle) (p : After)
+      → ((b : Asked) (k : Kept) → k.taken ≡ end.taken → More b k y o t → WalksTo n (u ∷ us) x taken t) → Walks n (u ∷ []) x taken y end.taken → GathersOn More a p end y o us t → WalksTo n (u ∷ us) x taken t
+  gathers_on More u us a end x y taken o t after.Pending more w r = one true end x y taken u (u ∷ us) t (ap (λ (vs : List Use). u ∷ vs) r.1) w r.2
+  gathers_on More u us a end x y taken o t (after.Answered answers.Ready) more w r = one true end x y taken u (u ∷ us) t (ap (λ (vs : List Use). u ∷ vs) r.1) w r.2
+  gathers_on More u us a end x y taken o t (after.Answered (answers.Row row)) more w r = more _ _ refl r
+  gathers_on More u us a end x y taken o t (after.Answered answers.SetEnd) more w r = one true end x y taken u (u ∷ us) t (ap (λ (vs : List Use). u ∷ vs) r.1) w r.2
+  gathers_on More u us a end x y taken o t (after.Answered answers.NoSet) more w r = one true end x y taken u (u ∷ us) t (ap (λ (vs : List Use). u ∷ vs) r.1) w r.2
+  gathers_on More u us a end x y taken o t (after.Failed e) more w r = one true end x y taken u (u ∷ us) t (ap (λ (vs : List Use). u ∷ vs) r.1) w r.2
+
+  gathers : (login : Login) (us : List Use) (a : Asked) (k : Kept) (x : Looks) (o : Outcome) (t : Handle) → Gathers login n us a k x o t → WalksTo n us x k.taken t
+  gathers login [] a k x o t r = absurd r
+  gathers login (u ∷ us) a k x o t r =
+      gathers_on (Gathers login n us) u us a r.1 x r.2 k.taken o t r.0
+      (λ b m e w.
+      let more : WalksTo n us r.2 m.taken t = gathers login us b m r.2 o t w in
+      record { there = more.there; kept = more.kept; link = more.link; is = more.is; walks = (r.5, r.2, m.taken, subst (λ (bs : List ℕ). OnePoll u.met x k.taken r.2 bs) (sym e) poll, more.walks) })
+      (walks_one n u x k.taken r.2 r.1.taken r.5 poll) r.4
+    where
+      poll : OnePoll u.met x k.taken r.2 r.1.taken
+      poll = polled_once login a k x u.met r.0 r.1 r.2 r.3
+
+  collects_by : (b : Bool) (login : Login) (k : Kept) (x : Looks) (o : Outcome) (us : List Use) (t : Handle) → Collects b login n k x o us t → WalksTo n us x k.taken t
+  collects_by true login k x o us t r = closed k x _ o us t r
+  collects_by false login k x o us t r = gathers login us _ _ x o t r
+
+  collects_on : (q : Option Asked) (login : Login) (k : Kept) (x : Looks) (o : Outcome) (us : List Use) (t : Handle) → CollectsOn q login n k x o us t → WalksTo n us x k.taken t
+  collects_on None login k x o us t r = collects_by _ login k x o us t r
+  collects_on (Some a) login k x o us t r = refused (Joined true k x) o us t r
+
+  pub collects_go : (login : Login) (o : Outcome) (us : List Use) (h t : Handle) → CollectsAt login n h o us t → Goes n h us t
+  collects_go login o us h t = on (λ k. CollectsOn k.pending login n k) o us h t (λ k x. collects_on k.pending login k x o us t)
+
+  -- the handshake
+  shown : (login : Login) (p : After) (end : Kept) (x y : Looks) (taken : List ℕ) (u : Use) (o : Outcome) (t : Handle) → Walks n (u ∷ []) x taken y end.taken → ConnectShows login n p end y o t → WalksTo n (u ∷ []) x taken t
+  shown login after.Pending end x y taken u o t w r = one true end x y taken u (u ∷ []) t refl w r.1
+  shown login (after.Answered answer) end x y taken u o t w r = one true end x y taken u (u ∷ []) t refl w r.1
+  shown login (after.Failed e) end x y taken u o t w r = one false end x y taken u (u ∷ []) t refl w r.1
+
+  connects : (login : Login) (a : Asked) (k : Kept) (x : Looks) (o : Outcome) (u : Use) (t : Handle) → Connects login n a k x o u t → WalksTo n (u ∷ []) x k.taken t
+  connects login a k x o u t r = shown login r.after r.end x r.link k.taken u o t (walks_one n u x k.taken r.link r.end.taken r.number (polled_once login a k x u.met r.after r.end r.link r.polled)) r.shows
+
+  polls_on : (b : Bool) (rows : Option (List RowParts)) (login : Login) (a : Asked) (k : Kept) (x : Looks) (o : Outcome) (us : List Use) (t : Handle) → PollsOn b rows login n a k x o us t → WalksTo n us x k.taken t
+  polls_on true rows login a k x o us t r = subst (λ (vs : List Use). WalksTo n vs x k.taken t) (sym r.1) (connects login a k x o r.0 t r.2)
+  polls_on false None login a k x o us t r = once login a k x o us t r
+  polls_on false (Some rows) login a k x o us t r = gathers login us a k x o t r
+
+  goes_on_with : (q : Option Asked) (login : Login) (k : Kept) (x : Looks) (o : Outcome) (us : List Use) (t : Handle) → GoesOnWith q login n k x o us t → WalksTo n us x k.taken t
+  goes_on_with None login k x o us t r = refused (Joined true k x) o us t r
+  goes_on_with (Some a) login k x o us t r = polls_on _ a.rows login a k x o us t r
+
+  pub goes_on_go : (login : Login) (o : Outcome) (us : List Use) (h t : Handle) → GoesOn login n h o us t → Goes n h us t
+  goes_on_go login o us Absent t r = refused Absent o us t r
+  goes_on_go login o us Dialing t r = tt
+  goes_on_go login o us (Joined false k x) t r = refused (Joined false k x) o us t r
+  goes_on_go login o us (Joined true k x) t r = goes_on_with k.pending login k x o us t r
+
+  cancels_with : (q : Option Asked) (login : Login) (k : Kept) (x : Looks) (o : Outcome) (us : List Use) (t : Handle) → CancelsWith q login k x o us t → WalksTo n us x k.taken t
+  cancels_with None login k x o us t r = refused (Joined true k x) o us t r
+  cancels_with (Some a) login k x o us t r = rests _ k _ x us t r.uses refl r.left
+
+  pub cancels_go : (login : Login) (o : Outcome) (us : List Use) (h t : Handle) → Cancels login h o us t → Goes n h us t
+  cancels_go login o us Absent t r = refused Absent o us t r
+  cancels_go login o us Dialing t r = tt
+  cancels_go login o us (Joined false k x) t r = refused (Joined false k x) o us t r
+  cancels_go login o us (Joined true k x) t r = cancels_with k.pending login k x o us t r
+
+  tells_with : (q : Option Asked) (login : Login) (k : Kept) (x : Looks) (o : Outcome) (us : List Use) (t : Handle) → TellsWith q login k x o us t → WalksTo n us x k.taken t
+  tells_with None login k x o us t r = rests true k k x us t r.uses refl r.left
+  tells_with (Some a) login k x o us t r = refused (Joined true k x) o us t r
+
+  pub tells_go : (login : Login) (o : Outcome) (us : List Use) (h t : Handle) → TellsFields login h o us t → Goes n h us t
+  tells_go login o us h t = on (λ k. TellsWith k.pending login k) o us h t (λ k x. tells_with k.pending login k x o us t)
+
+  -- a dial of a link whose plan is told
+  pub record DialsTo (is : List ReadItem) (ws : List WriteItem) (us : List Use) (t : Handle) : Type 0 where
+    pub used : Use
+    pub link : Looks
+    pub uses : us ≡ quiet n ∷ used ∷ []
+    pub has : Has link is ws
+    pub walks : WalksTo n (used ∷ []) link [] t
+
+  pub dials_go : (login : Login) (plan : Option (List ReadItem)) (rules : Option (List WriteItem)) (is : List ReadItem) (ws : List WriteItem) (o : Outcome) (us : List Use) (t : Handle) → plan ≡ Some is → rules ≡ Some ws
+      → Dials login plan rules n o us t → DialsTo is ws us t
+  dials_go login plan rules is ws o us t e f (Holds a b c d) = absurd (let k : None ≡ Some is = sym d ∙ e in cc)
+  dials_go login plan rules is ws o us t e f (Fails a b c d) = absurd (let k : None ≡ Some is = sym d ∙ e in cc)
+  dials_go login plan rules is ws o us t e f (Links used x a new r) =
+      let told : HasPlan (Some is) rules x = subst (λ (p : Option (List ReadItem)). HasPlan p rules x) e new.planned in record {
+        used = used;
+        link = x;
+        uses = a;
+        has = record { items = told.0; writes = told.1 ∙ f };
+        walks = connects login first_asked first_kept x o used t r;
+      }
