@@ -72,7 +72,8 @@ pub record IsStill (s t : State) : Type 0 where
 -- a connection stays where it was, or was idle with times that pass a test and is returned now
 abbrev pub MayReturn : (Times → Bool) → Bool → Option Place → Option Place → Type 0
 MayReturn test marked before later =
-    (later ≡ before) ⊎ ((times : Times) × (before ≡ Some (Idle times)) × (test times ≡ true) × (later ≡ Some (Returned marked)))
+    (later ≡ before)
+    ⊎ ((times : Times) × (before ≡ Some (Idle times)) × (test times ≡ true) × (later ≡ Some (Returned marked)))
 
 -- the same of each connection
 pub record IsAging (test : Times → Bool) (marked : Bool) (s t : State) : Type 0 where

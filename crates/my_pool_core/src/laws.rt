@@ -1,7 +1,7 @@
 //! What holds of a pool whatever happens to it. Each law is the clause of a function that does nothing, over the
 //! definitions by which each event's method says what it does.
 
-ghost use Rattle.std.specs.Prelude.{◌≡◌, ℕ, ◌≤◌, ◌<◌, true, List, length, All, Bool, false, Option, Some, None, ◌||◌, ◌&&◌, not, ◌⊎◌, ◌+◌, ◌++◌, [], ◌∷◌};
+ghost use Rattle.std.specs.Prelude.{◌≡◌, ℕ, ◌≤◌, ◌<◌, true, List, length, All, Bool, false, Some, None, ◌||◌, ◌&&◌, not, ◌⊎◌, ◌+◌, ◌++◌, [], ◌∷◌};
 ghost use Rattle.my_pool_parts.specs.declared.connection.Place.TheVariants.{Idle, Connecting, Checking, Cleaning};
 ghost use Rattle.my_pool_parts.specs.declared.connection.Times.{Times};
 ghost use Rattle.my_pool_parts.specs.Connections.{latest_usable};
@@ -13,7 +13,7 @@ ghost use Rattle.my_pool_core.specs.declared.event.PoolEvent.{PoolEvent};
 ghost use Rattle.my_pool_core.specs.declared.limits.Limits.{Limits};
 ghost use Rattle.my_pool_core.specs.declared.event.PoolEvent.TheVariants as events;
 ghost use Rattle.my_pool_core.specs.Counted.{room, due, idle};
-ghost use Rattle.my_pool_core.specs.Events.{new_pool, may_poll, poll_request, takes_place, is_gone, is_at_end, request, request_age, take_returned, decide, done, may_decide, may_done};
+ghost use Rattle.my_pool_core.specs.Events.{new_pool, poll_request, takes_place, is_gone, is_at_end, request, request_age, take_returned, decide, done};
 ghost use Rattle.my_pool_core.specs.Moves.{token_after, PlacesMove, home_after, lease_after, verdict_place, is_verdict_on, IsKeeping};
 ghost use Rattle.my_pool_core.specs.Owners.{Token, Free, token, number_in, is_home, is_lease, Making, Looking, place_at, is_working, mark_at};
 ghost use Rattle.my_pool_core.specs.Sound.{IsSound, IsCovered};

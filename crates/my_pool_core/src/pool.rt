@@ -1,6 +1,6 @@
 //! A pool's state.
 
-ghost use Rattle.std.specs.Prelude.{◌≡◌, IsTrue, OnOk};
+ghost use Rattle.std.specs.Prelude.{◌≡◌};
 ghost use Rattle.my_pool_core.specs.Events.{new_pool};
 
 mod asking;

@@ -41,7 +41,8 @@ IsKeyed [] = Unit {0}
 IsKeyed (e ∷ es) = (e.0 ≡ e.1.request.age) × IsKeyed es
 
 -- a map of requests beside the free slots, of which there may be as many as there are slots
-pub record IsSeated (es : List (ℕ × Seat)) (free : List ℕ) (room : ℕ) (held : List (Option ℕ)) (dialing queued : ℕ) : Type 0 where
+pub record IsSeated (es : List (ℕ × Seat)) (free : List ℕ) (room : ℕ) (held : List (Option ℕ)) (dialing queued : ℕ)
+    : Type 0 where
   pub keyed : IsKeyed es
   pub live : IsLive (requests_of es) (slots_of es ++ free) held dialing queued
   pub roomy : length es + length free ≤ room

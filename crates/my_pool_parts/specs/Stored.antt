@@ -27,7 +27,7 @@ abbrev pub numbers_at : (Connection → Bool) → List Connection → List ℕ
 numbers_at test [] = []
 numbers_at test (c ∷ cs) = if test c then c.number ∷ numbers_at test cs else numbers_at test cs
 
--- a connection of a list that is idle, of which so many stand before it, and that alone has its number there
+-- an idle connection of a list, before which `index` others of the list are idle, and which alone has its number
 pub record IsIdleAt (index number : ℕ) (cs : List Connection) : Type 0 where
   pub front : List Connection
   pub here : Connection

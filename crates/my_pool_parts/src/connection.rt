@@ -1,10 +1,7 @@
 //! A counted connection and its place.
 
-ghost use Rattle.std.specs.Prelude.{◌≡◌, ◌≤◌, ◌++◌, [], ◌∷◌, IsTrue, length, find, position, remove, slice_index_or, ◌<◌, vec_len, vec_capacity};
-ghost use Rattle.std.specs.List.{list_any};
-ghost use Rattle.my_pool_parts.specs.Connections.{may_finish, is_kind, placed, returned, has_number, is_idle, is_idle_place, is_leased, is_leased_place, is_past, is_over, is_usable, is_usable_place, is_outdated, is_cleaning, is_resetting, is_closing, is_returned, is_marked, mark_of_place, move_to, latest_usable, retire, lasting, outdated, next_to_clean};
-ghost use Rattle.my_pool_parts.specs.Lists.{how_many, found_is, without};
-ghost use Rattle.my_pool_parts.specs.Next.{lesser, least_at};
+ghost use Rattle.std.specs.Prelude.{◌≡◌};
+ghost use Rattle.my_pool_parts.specs.Connections.{is_kind, is_past, is_over, is_usable, is_usable_place, is_outdated, mark_of_place};
 
 /// What an idle connection's life is measured by, in milliseconds.
 #[derive(Clone, Copy, Debug, PartialEq, Eq)]
@@ -129,49 +126,5 @@ impl Place {
             Place::Returned { marked } | Place::Cleaning { marked } => *marked,
             _ => false,
         }
-    }
-}
-
-impl Connection {
-    /// Whether it is idle.
-    pub fn is_idle(&self) -> bool
-        ensures { result ≡ is_idle self.now }
-    {
-        matches!(self.place, Place::Idle(_))
-    }
-
-    /// Whether it is leased.
-    pub fn is_leased(&self) -> bool
-        ensures { result ≡ is_leased self.now }
-    {
-        matches!(self.place, Place::Leased)
-    }
-
-    /// Whether it is returned.
-    pub fn is_returned(&self) -> bool
-        ensures { result ≡ is_returned self.now }
-    {
-        matches!(self.place, Place::Returned { .. })
-    }
-
-    /// Whether it is being cleaned.
-    pub fn is_cleaning(&self) -> bool
-        ensures { result ≡ is_cleaning self.now }
-    {
-        matches!(self.place, Place::Cleaning { .. })
-    }
-
-    /// Whether it is being reset.
-    pub fn is_resetting(&self) -> bool
-        ensures { result ≡ is_resetting self.now }
-    {
-        matches!(self.place, Place::Resetting)
-    }
-
-    /// Whether it is being closed.
-    pub fn is_closing(&self) -> bool
-        ensures { result ≡ is_closing self.now }
-    {
-        matches!(self.place, Place::Closing)
     }
 }

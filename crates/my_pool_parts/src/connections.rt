@@ -1,8 +1,8 @@
 //! The counted connections, in the order in which they came to their places.
 
-ghost use Rattle.std.specs.Prelude.{◌≡◌, ◌≤◌, ◌<◌, ◌+◌, ◌-◌, ◌^◌, ◌++◌, [], ◌∷◌, IsTrue, None, find, option_map, length, OnOk, OnErr, IfOk, if◌then◌else◌};
+ghost use Rattle.std.specs.Prelude.{◌≡◌, ◌≤◌, ◌<◌, ◌+◌, ◌-◌, ◌^◌, ◌++◌, [], ◌∷◌, IsTrue, None, find, length, OnOk, IfOk, if◌then◌else◌};
 ghost use Rattle.std.specs.List.{list_any};
-ghost use Rattle.my_pool_parts.specs.Connections.{has_number, may_finish, is_cleaning, is_marked, is_resetting, move_to, placed, is_idle, is_idle_place, is_returned_place, is_leased_place, is_leased, latest_usable, retire, is_usable, is_outdated, lasting, outdated, next_to_clean};
+ghost use Rattle.my_pool_parts.specs.Connections.{has_number, is_kind, may_finish, is_marked, move_to, placed, is_idle, is_leased, latest_usable, retire, is_usable, is_outdated, lasting, outdated, next_to_clean};
 ghost use Rattle.my_pool_parts.specs.Next.{least_at};
 ghost use Rattle.my_pool_parts.specs.Lists.{without, how_many, found_is};
 ghost use Rattle.my_pool_parts.specs.Stored.{stored, IsIdleAt, connecting};
@@ -15,7 +15,7 @@ use std::alloc::Global;
 use std::collections::VecDeque;
 use std::marker::Model;
 
-/// Counted connections with their places. One is found by its number, and the idle and the returned ones stand in queues.
+/// Counted connections with their places. One is found by its number; the idle and the returned ones stand in queues.
 ///
 /// Only `reserve`, `expect` and `list` take memory.
 #[derive(Debug, Drop)]
@@ -43,25 +43,14 @@ impl Model for Connections {
         (deque_capacity c.idle) (deque_capacity c.returned) };
 }
 
-/// Whether a place, where there is one, is idle.
-fn is_idle_at(place: &Option<Place>) -> bool
-    ensures { result ≡ found_is is_idle_place place.now }
+/// Whether a place, where there is one, is of a kind.
+fn is_at(place: &Option<Place>, kind: PlaceKind) -> bool
+    ensures { result ≡ found_is (is_kind kind) place.now }
 {
-    matches!(place, Some(Place::Idle(_)))
-}
-
-/// Whether a place, where there is one, is that of a returned one.
-fn is_returned_at(place: &Option<Place>) -> bool
-    ensures { result ≡ found_is is_returned_place place.now }
-{
-    matches!(place, Some(Place::Returned { .. }))
-}
-
-/// Whether a place, where there is one, is that of a leased one.
-fn is_leased_at(place: &Option<Place>) -> bool
-    ensures { result ≡ found_is is_leased_place place.now }
-{
-    matches!(place, Some(Place::Leased))
+    match place {
+        Some(place) => place.is(kind),
+        None => false,
+    }
 }
 
 /// One that is counted, or not.
@@ -86,13 +75,6 @@ impl Connections {
         }
     }
 
-    /// Where the connection of a number is.
-    pub fn place(&self, number: u64) -> Option<Place>
-        ensures { result ≡ option_map (λ c. c.place) (find (has_number number) self.now.list) }
-    {
-        self.arrivals.place(number)
-    }
-
     /// How many there are.
     pub fn len(&self) -> usize
         ensures { result ≡ length self.now.list }
@@ -114,7 +96,7 @@ impl Connections {
         self.leased
     }
 
-    /// The number of the idle one before which so many stand.
+    /// The number of the idle one before which `index` others stand.
     fn idle_at(&self, index: usize) -> u64
         requires { index < how_many is_idle self.now.list }
         ensures { IsIdleAt index result self.now.list }
@@ -129,9 +111,9 @@ impl Connections {
             ≡ stored (without (has_number number) self.old.list) self.old.next self.old.coming self.old.room }
     {
         let old = self.arrivals.place(number);
-        leave(&mut self.idle, is_idle_at(&old), number);
-        leave(&mut self.returned, is_returned_at(&old), number);
-        self.leased -= count_of(is_leased_at(&old));
+        leave(&mut self.idle, is_at(&old, PlaceKind::Idle), number);
+        leave(&mut self.returned, is_at(&old, PlaceKind::Returned), number);
+        self.leased -= count_of(is_at(&old, PlaceKind::Leased));
         self.count -= 1;
         self.arrivals.take_out(number);
     }
@@ -144,11 +126,12 @@ impl Connections {
     {
         let old = self.arrivals.place(number);
         let new = Some(place);
-        leave(&mut self.idle, is_idle_at(&old), number);
-        leave(&mut self.returned, is_returned_at(&old), number);
-        enter(&mut self.idle, is_idle_at(&new), number);
-        enter(&mut self.returned, is_returned_at(&new), number);
-        self.leased = self.leased - count_of(is_leased_at(&old)) + count_of(is_leased_at(&new));
+        leave(&mut self.idle, is_at(&old, PlaceKind::Idle), number);
+        leave(&mut self.returned, is_at(&old, PlaceKind::Returned), number);
+        enter(&mut self.idle, is_at(&new, PlaceKind::Idle), number);
+        enter(&mut self.returned, is_at(&new, PlaceKind::Returned), number);
+        self.leased = self.leased - count_of(is_at(&old, PlaceKind::Leased))
+            + count_of(is_at(&new, PlaceKind::Leased));
         self.arrivals.move_to(number, place);
     }
 
@@ -167,7 +150,7 @@ impl Connections {
     pub fn find(&self, number: u64) -> Option<Connection>
         ensures { result ≡ find (has_number number) self.now.list }
     {
-        match self.place(number) {
+        match self.arrivals.place(number) {
             Some(place) => Some(Connection { number, place }),
             None => None,
         }
@@ -185,14 +168,14 @@ impl Connections {
         requires memory { 0 < self.old.coming }
         requires room { length self.old.list < self.old.room }
         ensures number { result ≡ self.old.next }
-        ensures state { self.new ≡ stored (self.old.list ++ placed self.old.next connecting ∷ []) (self.old.next + 1)
-            (self.old.coming - 1) self.old.room }
+        ensures state { let all = self.old.list ++ placed self.old.next connecting ∷ []
+            in self.new ≡ stored all (self.old.next + 1) (self.old.coming - 1) self.old.room }
     {
         self.count += 1;
         self.arrivals.add(Place::Connecting)
     }
 
-    /// There is room for so many connections more from now on. Out of memory, there may be no more.
+    /// There is room for `more` connections beside those that are counted. Out of memory, there may be less.
     pub fn reserve(&mut self, more: usize) -> Result<(), NoMemory>
         requires { more ≤ 2 ^ 63 }
         ensures same { self.new ≡ stored self.old.list self.old.next self.old.coming self.new.room }
@@ -209,7 +192,7 @@ impl Connections {
         Ok(())
     }
 
-    /// So many numbers have their memory from now on. Out of memory, as many as before.
+    /// At least `numbers` numbers have their memory from now on. Out of memory, as many as before.
     pub fn expect(&mut self, numbers: u64) -> Result<(), NoMemory>
         requires more { numbers ≤ self.old.coming + 1 }
         requires limited { self.old.next + numbers < 2 ^ 64 }
@@ -316,22 +299,12 @@ impl Connections {
         self.arrivals.next_at(kind, from)
     }
 
-    /// Whether the connection of a number is leased.
-    pub fn is_leased(&self, number: u64) -> bool
-        ensures { result ≡ found_is is_leased (find (has_number number) self.now.list) }
+    /// Whether the connection of a number is counted and at a place of a kind.
+    pub fn is_at(&self, number: u64, kind: PlaceKind) -> bool
+        ensures { result ≡ found_is (λ c. is_kind kind c.place) (find (has_number number) self.now.list) }
     {
         match self.find(number) {
-            Some(connection) => connection.is_leased(),
-            None => false,
-        }
-    }
-
-    /// Whether the connection of a number is being cleaned.
-    pub fn is_cleaning(&self, number: u64) -> bool
-        ensures { result ≡ found_is is_cleaning (find (has_number number) self.now.list) }
-    {
-        match self.find(number) {
-            Some(connection) => connection.is_cleaning(),
+            Some(connection) => connection.place.is(kind),
             None => false,
         }
     }
@@ -342,9 +315,10 @@ impl Connections {
     {
         match self.find(number) {
             Some(connection) => {
-                connection.is_resetting()
-                    || connection.is_closing()
-                    || (connection.is_cleaning() && !ok)
+                let place = connection.place;
+                place.is(PlaceKind::Resetting)
+                    || place.is(PlaceKind::Closing)
+                    || (place.is(PlaceKind::Cleaning) && !ok)
             }
             None => false,
         }
@@ -356,16 +330,6 @@ impl Connections {
     {
         match self.find(number) {
             Some(connection) => connection.place.mark(),
-            None => false,
-        }
-    }
-
-    /// Whether the connection of a number is being reset.
-    pub fn is_resetting(&self, number: u64) -> bool
-        ensures { result ≡ found_is is_resetting (find (has_number number) self.now.list) }
-    {
-        match self.find(number) {
-            Some(connection) => connection.is_resetting(),
             None => false,
         }
     }

@@ -1,9 +1,7 @@
 //! The live requests.
 
 ghost use Rattle.std.specs.Prelude.{◌≡◌};
-ghost use Rattle.std.specs.List.{list_any};
-ghost use Rattle.my_pool_parts.specs.Lists.{how_many, found_is};
-ghost use Rattle.my_pool_parts.specs.Requests.{last_age, asking, is_free, holds, has_age, is_waiting, is_waiting_standing, is_woken, is_woken_standing, is_dialing, is_dialing_standing, is_queued, may_dial, changed, set_standing, set_waiting, ended, roused, wake, wake_all, waits_up_to, has_waited, is_live, let_go, with_last};
+ghost use Rattle.my_pool_parts.specs.Requests.{asking, is_free, holds, is_waiting, is_dialing, is_queued, changed};
 
 /// The last age and the last number.
 pub const LAST: u64 = u64::MAX;
@@ -50,13 +48,6 @@ impl Request {
         ensures { result ≡ is_waiting self.now }
     {
         matches!(self.standing, Standing::Waits)
-    }
-
-    /// Whether it was woken and not polled since.
-    pub fn is_woken(&self) -> bool
-        ensures { result ≡ is_woken self.now }
-    {
-        matches!(self.standing, Standing::Woken)
     }
 
     /// Whether it waits, or was woken and not polled since.

@@ -10,6 +10,3 @@ mod tree;
 pub use entry::Entry;
 pub use heap::WaitHeap;
 pub use ledger::{Counted, Ledger, Uncounted};
-
-#[cfg(test)]
-mod tests;

@@ -1,11 +1,17 @@
-//! Tables over my_pool_core: lists of events with what each returns, and many events from a seed. This crate has
-//! tests alone.
+//! Tables over my_pool_core: lists of events with what each returns, and many events from a seed; and over my_wait_heap,
+//! beside a scanned list. This crate has tests alone.
 #![tactic(auto)]
 
+#[cfg(test)]
+mod heap;
 #[cfg(test)]
 mod line;
 #[cfg(test)]
 mod many;
+#[cfg(test)]
+mod requests;
+#[cfg(test)]
+mod returns;
 #[cfg(test)]
 mod scanned;
 #[cfg(test)]

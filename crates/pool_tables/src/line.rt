@@ -1,158 +1,161 @@
-//! A list of events as lines: the word of an event with its numbers, or a word for what is seen of the pool; and after
-//! " = " what it returns, or what is seen.
+//! An event with what it returns, or what is seen of a pool, as a line of a table.
 
-use my_pool_core::{Core, Facts, Limits, PoolEvent};
-use std::alloc::Global;
-use std::fmt::Write;
-use std::process::Abort;
-use std::test::Fail;
+use my_frame::NoMemory;
+use my_pool_core::{Answer, Core, Facts, Limits, Metrics, PollAnswer, PoolEvent, Verdict};
+use my_pool_parts::{Place, Standing};
 
-/// At most `max` connections, of which `min` stay idle, and no other one.
-pub fn limits(min: u64, max: u64, waiting: Option<u64>) -> Limits {
-    Limits {
-        max,
-        min,
-        bound: min,
-        inactive: 0,
-        waiting,
-    }
-}
-
-/// What a line says after its word: numbers, of which missing ones are 0, what is known of a connection, and whether it
-/// went well.
+/// A line.
 #[derive(Clone, Copy)]
-struct Words {
-    numbers: [u64; 2],
-    facts: Facts,
-    ok: bool,
+pub enum Line {
+    /// A connection is asked for, and the request has this age.
+    Ask(u64),
+    /// A request is polled at a moment.
+    Poll(u64, u64, PollAnswer),
+    Cancel(u64),
+    /// The connection of a request is good, or isn't: its age and number.
+    Ready(u64, u64),
+    Failed(u64, u64),
+    Give(u64),
+    Detach(u64),
+    /// The next connection to be cleaned.
+    Next(Option<u64>),
+    /// What is decided on a connection by what is known of it, at a moment.
+    Decide(u64, Facts, u64, Verdict),
+    /// A reset, a close or a cleaning ended, well or not.
+    Ended(u64, bool, u64, Verdict),
+    /// Idle connections are looked through at a moment, and this number of them is moved.
+    Age(u64, u64),
+    Close,
+    Gone(bool),
+    /// An event that may not happen now.
+    NotNow(PoolEvent),
+    /// How many connections are counted.
+    Counted(u64),
+    /// The oldest age that waits.
+    Oldest(Option<u64>),
+    /// The request of an age: whether it ever waited, and what it does.
+    Live(u64, bool, Standing),
+    /// The request of an age isn't live.
+    Over(u64),
+    /// Where the connection of a number is.
+    At(u64, Place),
+    Shows(Metrics),
 }
 
 /// A connection that may be kept.
-pub fn clean() -> Facts {
-    Facts {
-        link_closed: false,
-        dirty: false,
-        expired: false,
-        reset: false,
-        last_io: 0,
-        ttl: 0,
-        deadline: None,
-    }
-}
+pub const CLEAN: Facts = Facts {
+    link_closed: false,
+    dirty: false,
+    expired: false,
+    reset: false,
+    last_io: 0,
+    ttl: 0,
+    deadline: None,
+};
 
-/// A number in decimal digits.
-fn number(text: &str) -> Result<u64, Fail> {
-    Ok(text.parse::<u64>().ok().ok_or("no number")?)
-}
+/// One connection at most.
+pub const ONE: Limits = Limits {
+    max: 1,
+    min: 1,
+    bound: 1,
+    inactive: 0,
+    waiting: None,
+};
 
-/// Reads the words of a line after its first.
-fn words_of(text: &str) -> Result<Words, Fail> {
-    let mut words = Words {
-        numbers: [0; 2],
-        facts: clean(),
-        ok: true,
-    };
-    let mut index = 0usize;
-    for word in text.split_whitespace() {
-        match word {
-            "closed" => words.facts.link_closed = true,
-            "dirty" => words.facts.dirty = true,
-            "expired" => words.facts.expired = true,
-            "reset" => words.facts.reset = true,
-            "failed" => words.ok = false,
-            _ => {
-                if let Some(ttl) = word.strip_prefix("ttl=") {
-                    words.facts.ttl = u128::from(number(ttl)?);
-                } else if let Some(deadline) = word.strip_prefix("deadline=") {
-                    words.facts.deadline = Some(u128::from(number(deadline)?));
-                } else if index < 2 {
-                    words.numbers[index] = number(word)?;
-                    index += 1;
-                }
-            }
+/// Nothing is there, and nothing happened.
+pub const NOTHING: Metrics = Metrics {
+    connection_count: 0,
+    connections_in_pool: 0,
+    connections_in_use: 0,
+    active_wait_requests: 0,
+    create_failed: 0,
+    discarded_unestablished_connection: 0,
+    dirty_connection_return: 0,
+    discarded_expired_connection: 0,
+    resetting_connection: 0,
+    discarded_superfluous_connection: 0,
+    connection_returned_to_pool: 0,
+    discarded_error_during_cleanup: 0,
+};
+
+/// The limits of a pool, the number of its first connection, and its events.
+pub type Script = (Limits, u64, &'static [Line]);
+
+/// The event of a line, and what it returns; None for a line that says what is seen.
+fn event_of(line: Line) -> Option<(PoolEvent, Answer)> {
+    let facts = CLEAN;
+    Some(match line {
+        Line::Ask(age) => (PoolEvent::Request, Answer::Age(age)),
+        Line::Poll(age, now, answer) => (PoolEvent::PollRequest { age, now }, Answer::Poll(answer)),
+        Line::Cancel(age) => (PoolEvent::Cancel { age }, Answer::Done),
+        Line::Ready(age, conn) => (PoolEvent::Ready { age, conn }, Answer::Done),
+        Line::Failed(age, conn) => (PoolEvent::Failed { age, conn }, Answer::Done),
+        Line::Give(conn) => (PoolEvent::GiveBack { conn }, Answer::Done),
+        Line::Detach(conn) => (PoolEvent::Detach { conn }, Answer::Done),
+        Line::Next(conn) => (PoolEvent::TakeReturned, Answer::Returned(conn)),
+        Line::Decide(conn, facts, now, verdict) => {
+            (
+                PoolEvent::Decide { conn, facts, now },
+                Answer::Verdict(verdict),
+            )
         }
-    }
-    Ok(words)
-}
-
-/// The event of a word with what follows it; None for any other word.
-fn event_of(word: &str, words: &Words) -> Option<PoolEvent> {
-    let n = words.numbers[0];
-    let now = words.numbers[1];
-    let facts = words.facts;
-    Some(match word {
-        "ask" => PoolEvent::Request,
-        "poll" => PoolEvent::PollRequest { age: n, now },
-        "cancel" => PoolEvent::Cancel { age: n },
-        "ready" => PoolEvent::Ready { age: n, conn: now },
-        "failed" => PoolEvent::Failed { age: n, conn: now },
-        "give" => PoolEvent::GiveBack { conn: n },
-        "detach" => PoolEvent::Detach { conn: n },
-        "next" => PoolEvent::TakeReturned,
-        "decide" => PoolEvent::Decide {
-            conn: n,
-            facts,
-            now,
-        },
-        "done" => PoolEvent::Done {
-            conn: n,
-            ok: words.ok,
-            facts,
-            now,
-        },
-        "ttl" => PoolEvent::CheckTtl { now: n },
-        "close" => PoolEvent::Close,
-        "gone" => PoolEvent::PollDisconnect,
+        Line::Ended(conn, ok, now, verdict) => {
+            (
+                PoolEvent::Done {
+                    conn,
+                    ok,
+                    facts,
+                    now,
+                },
+                Answer::Verdict(verdict),
+            )
+        }
+        Line::Age(now, moved) => (PoolEvent::CheckTtl { now }, Answer::Moved(moved)),
+        Line::Close => (PoolEvent::Close, Answer::Done),
+        Line::Gone(gone) => (PoolEvent::PollDisconnect, Answer::Gone(gone)),
         _ => return None,
     })
 }
 
-/// What is seen of a pool, written at the end of a text.
-fn see(core: &Core, word: &str, number: u64, out: &mut String) -> Result<(), Fail> {
-    match word {
-        "counted" => write!(out, "{}", core.metrics().connection_count)?,
-        "at" => write!(out, "{:?}", core.connection(number))?,
-        "request" => write!(out, "{:?}", core.live_request(number))?,
-        "oldest" => write!(out, "{:?}", core.oldest_waiting())?,
-        _ => write!(out, "{:?}", core.metrics())?,
+/// Whether a pool is as a line says.
+fn is_seen(core: &Core, line: Line) -> bool {
+    match line {
+        Line::NotNow(event) => !core.may(&event),
+        Line::Counted(count) => core.metrics().connection_count == count,
+        Line::Oldest(age) => core.oldest_waiting() == age,
+        Line::Live(age, waited, standing) => match core.live_request(age) {
+            Some(request) => request.waited == waited && request.standing == standing,
+            None => false,
+        },
+        Line::Over(age) => core.live_request(age).is_none(),
+        Line::At(number, place) => match core.connection(number) {
+            Some(connection) => connection.place == place,
+            None => false,
+        },
+        Line::Shows(metrics) => core.metrics() == metrics,
+        _ => false,
     }
-    Ok(())
 }
 
-/// What an event returns, or what is seen, written at the end of a text.
-fn tell(core: &mut Core, line: &str, out: &mut String) -> Result<(), Fail> {
-    let (word, rest) = line.split_once(' ').unwrap_or((line, ""));
-    let words = words_of(rest)?;
-    let Some(event) = event_of(word, &words) else {
-        return see(core, word, words.numbers[0], out);
-    };
+/// Whether an event may happen, and returns this.
+fn happens(core: &mut Core, event: PoolEvent, want: Answer) -> Result<bool, NoMemory> {
     if !core.may(&event) {
-        out.push_str("not now")?;
-        return Ok(());
+        return Ok(false);
     }
     let answer = core.apply(event)?;
-    write!(out, "{answer:?}")?;
-    Ok(())
+    Ok(answer == want)
 }
 
-/// Each line is as it says; the text is used for each.
-fn play_with(
-    rt: &impl Abort,
-    core: &mut Core,
-    script: &str,
-    told: &mut String,
-) -> Result<(), Fail> {
-    for line in script.lines() {
-        let (left, want) = line.split_once(" = ").ok_or("no answer")?;
-        told.clear();
-        tell(core, left, told)?;
-        assert_eq!(rt; told.as_str(), want, "{line}");
+/// The first line that isn't as it says.
+pub fn first_wrong(core: &mut Core, lines: &[Line]) -> Result<Option<usize>, NoMemory> {
+    for (index, line) in lines.iter().enumerate() {
+        let right = match event_of(*line) {
+            Some((event, want)) => happens(core, event, want)?,
+            None => is_seen(core, *line),
+        };
+        if !right {
+            return Ok(Some(index));
+        }
     }
-    Ok(())
-}
-
-/// Each line is as it says.
-pub fn play(rt: &impl Abort, alloc: Global, core: &mut Core, script: &str) -> Result<(), Fail> {
-    let mut told = String::new(alloc);
-    play_with(rt, core, script, &mut told)
+    Ok(None)
 }

@@ -4,29 +4,28 @@ use crate::scanned::scanned;
 use crate::seed::{Dice, some_event};
 use crate::seen::{Lists, calls_agree};
 use crate::sound::{Shown, connections_are_sound, end_is_sound, is_covered, requests_are_sound};
-use crate::tally::{NAMES, Tally, name_of};
+use crate::tally::{Tally, name_of};
 use my_frame::NoMemory;
 use my_opts_parts::{Millis, PoolConstraints, PoolOpts};
 use my_pool_core::{Core, Limits, PoolEvent};
 use my_pool_parts::Request;
 use std::alloc::Global;
-use std::process::Abort;
 use std::test::Fail;
 
 /// How many events happen to each pool.
 const EVENTS: usize = 300;
 
 /// The options of a round: bounds, times and limits vary.
-fn options(round: u64) -> Result<PoolOpts, Fail> {
+fn options(round: u64) -> Option<PoolOpts> {
     let min = round % 3;
     let max = min.max(1) + round % 4;
-    let constraints = PoolConstraints::new(min, max).ok_or("the bounds are in order")?;
+    let constraints = PoolConstraints::new(min, max)?;
     let waiting = if round % 2 == 0 {
         None
     } else {
         Some(round % 5)
     };
-    Ok(
+    Some(
         PoolOpts::new()
             .with_constraints(constraints)
             .with_inactive_connection_ttl(Millis::from_millis(round % 3))
@@ -68,94 +67,67 @@ impl Played {
             && lists.requests == self.plain
     }
 
-    /// An event happens, where it may.
-    fn happen(
+    /// An event happens, where it may: whether the pool is as it should be then.
+    fn happens(
         &mut self,
-        rt: &impl Abort,
         alloc: Global,
         event: PoolEvent,
         tally: &mut Tally,
-    ) -> Result<(), Fail> {
+    ) -> Result<bool, NoMemory> {
         if !self.core.may(&event) {
-            return Ok(());
+            return Ok(true);
         }
         let answer = self.core.apply(event)?;
         self.events.push(event)?;
-        tally.count(name_of(event, answer))?;
+        tally.count(name_of(event, answer));
         scanned(&mut self.plain, event, answer)?;
         self.lists = Lists::of(alloc, &self.core)?;
         let empty = self.core.is_closed() && self.lists.connections.is_empty();
         self.shown.follow(answer, empty);
-        assert!(rt; self.is_right(), "{event:?}");
-        Ok(())
+        Ok(self.is_right())
     }
 
-    /// Events from a seed happen.
-    fn play(
-        &mut self,
-        rt: &impl Abort,
-        alloc: Global,
-        seed: u64,
-        tally: &mut Tally,
-    ) -> Result<(), Fail> {
+    /// Events from a seed happen: whether there were enough, and the pool was as it should be after each.
+    fn play(&mut self, alloc: Global, seed: u64, tally: &mut Tally) -> Result<bool, NoMemory> {
         let mut dice = Dice::new(seed);
         for turn in 0..4000u64 {
             let count = self.events.len();
             let closes = count > EVENTS / 4 * 3;
             if count < EVENTS
                 && let Some(event) = some_event(&self.lists, &mut dice, turn / 8, closes)
+                && !self.happens(alloc, event, tally)?
             {
-                self.happen(rt, alloc, event, tally)?;
+                return Ok(false);
             }
         }
-        assert_eq!(rt; self.events.len(), EVENTS, "{seed}");
-        Ok(())
+        Ok(self.events.len() == EVENTS)
     }
-}
 
-/// Whether a pool has the lists and the counts of another.
-fn is_same(alloc: Global, core: &Core, played: &Played) -> Result<bool, NoMemory> {
-    let lists = Lists::of(alloc, core)?;
-    Ok(
-        core.metrics() == played.core.metrics()
-            && lists.connections == played.lists.connections
-            && lists.requests == played.lists.requests,
-    )
-}
+    /// Whether another pool has the same lists and counts.
+    fn is_same(&self, alloc: Global, core: &Core) -> Result<bool, NoMemory> {
+        let lists = Lists::of(alloc, core)?;
+        Ok(
+            core.metrics() == self.core.metrics()
+                && lists.connections == self.lists.connections
+                && lists.requests == self.lists.requests,
+        )
+    }
 
-/// Whether a replay of the events of a pool is that pool.
-fn is_replayed(alloc: Global, opts: &PoolOpts, first: u64, played: &Played) -> Result<bool, Fail> {
-    let again = Core::replay(alloc, opts, first, &played.events)?.ok_or("each event happened")?;
-    Ok(is_same(alloc, &again, played)?)
-}
+    /// Whether a replay of the events is this pool.
+    fn is_replayed(&self, alloc: Global, opts: &PoolOpts, first: u64) -> Result<bool, NoMemory> {
+        match Core::replay(alloc, opts, first, &self.events)? {
+            Some(again) => self.is_same(alloc, &again),
+            None => Ok(false),
+        }
+    }
 
-/// Whether events are refused.
-fn is_refused(
-    alloc: Global,
-    opts: &PoolOpts,
-    first: u64,
-    events: &[PoolEvent],
-) -> Result<bool, NoMemory> {
-    let none = Core::replay(alloc, opts, first, events)?;
-    Ok(none.is_none())
-}
-
-/// Events happen to a pool, which their replay makes again; with an event more that may not happen there is none.
-fn check(
-    rt: &impl Abort,
-    alloc: Global,
-    opts: &PoolOpts,
-    round: u64,
-    played: &mut Played,
-    tally: &mut Tally,
-) -> Result<(), Fail> {
-    let first = first_number(round);
-    played.play(rt, alloc, round, tally)?;
-    assert!(rt; is_replayed(alloc, opts, first, played)?);
-    let conn = first.wrapping_sub(1);
-    played.events.push(PoolEvent::GiveBack { conn })?;
-    assert!(rt; is_refused(alloc, opts, first, &played.events)?);
-    Ok(())
+    /// Whether a replay with an event more, that may not happen, is refused.
+    fn is_refused(&mut self, alloc: Global, opts: &PoolOpts, first: u64) -> Result<bool, NoMemory> {
+        let conn = first.wrapping_sub(1);
+        self.events.push(PoolEvent::GiveBack { conn })?;
+        let none = Core::replay(alloc, opts, first, &self.events)?;
+        Ok(none.is_none())
+    }
 }
 
 /// The limits that options give.
@@ -169,33 +141,42 @@ fn limits_of(opts: &PoolOpts) -> Limits {
     }
 }
 
-/// Events happen to a new pool.
-fn play_round(rt: &impl Abort, alloc: Global, round: u64, tally: &mut Tally) -> Result<(), Fail> {
-    let opts = options(round)?;
+/// Events happen to a new pool: whether it was as it should be after each, their replay makes it again, and a replay
+/// with one that may not happen is refused.
+fn plays(alloc: Global, opts: &PoolOpts, round: u64, tally: &mut Tally) -> Result<bool, NoMemory> {
     let first = first_number(round);
-    let core = Core::new(alloc, &opts, first)?;
+    let core = Core::new(alloc, opts, first)?;
     let mut played = Played {
         core,
-        limits: limits_of(&opts),
+        limits: limits_of(opts),
         events: Vec::new(alloc),
         plain: Vec::new(alloc),
         lists: Lists::new(alloc),
         shown: Shown::new(first),
     };
-    check(rt, alloc, &opts, round, &mut played, tally)
+    Ok(
+        played.play(alloc, round, tally)?
+            && played.is_replayed(alloc, opts, first)?
+            && played.is_refused(alloc, opts, first)?,
+    )
+}
+
+/// The first round whose pool isn't as it should be.
+fn wrong_round(alloc: Global, tally: &mut Tally) -> Result<Option<u64>, NoMemory> {
+    for round in 0..200u64 {
+        if let Some(opts) = options(round)
+            && !plays(alloc, &opts, round, tally)?
+        {
+            return Ok(Some(round));
+        }
+    }
+    Ok(None)
 }
 
 #[test]
 fn many_events(rt: HostRuntime) -> Result<(), Fail> {
-    let mut tally = Tally::new(rt.alloc());
-    for round in 0..200u64 {
-        play_round(&rt, rt.alloc(), round, &mut tally)?;
-    }
-    for name in NAMES {
-        println!(rt; "{name}: {}", tally.of(name))?;
-    }
-    for name in NAMES {
-        assert!(rt; tally.of(name) >= 100, "{name}");
-    }
+    let mut tally = Tally::new();
+    assert_eq!(rt; wrong_round(rt.alloc(), &mut tally)?, None);
+    assert_eq!(rt; tally.first_below(100), None);
     Ok(())
 }

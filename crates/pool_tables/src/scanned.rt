@@ -1,52 +1,56 @@
 //! The live requests as a list that is scanned.
 
+use my_frame::NoMemory;
 use my_pool_core::{Answer, PollAnswer, PoolEvent, Verdict};
 use my_pool_parts::{Request, Standing};
-use std::test::Fail;
 
-/// The oldest waiting request of a scanned list is woken.
-fn scanned_wake(plain: &mut Vec<Request>) {
-    if let Some(index) = plain.iter().position(|r| r.is_waiting()) {
-        let request = &mut plain[index];
-        request.standing = Standing::Woken;
-    }
-}
-
-/// Each waiting request of a scanned list is woken.
-fn scanned_wake_all(plain: &mut Vec<Request>) {
+/// The oldest waiting request of a scanned list is woken, or each one.
+fn scanned_wake(plain: &mut Vec<Request>, all: bool) {
     for request in plain.iter_mut() {
         if request.is_waiting() {
             request.standing = Standing::Woken;
+            if !all {
+                return;
+            }
         }
     }
+}
+
+/// What the request of an age in a scanned list does.
+fn scanned_standing(plain: &[Request], age: u64) -> Option<Standing> {
+    for request in plain {
+        if request.age == age {
+            return Some(request.standing);
+        }
+    }
+    None
 }
 
 /// The request of an age in a scanned list gets another standing, or where it gets none ends.
 fn scanned_set(plain: &mut Vec<Request>, age: u64, standing: Option<Standing>) {
-    if let Some(index) = plain.iter().position(|r| r.age == age) {
-        match standing {
-            Some(standing) => {
-                let request = &mut plain[index];
+    let mut found = plain.len();
+    for (index, request) in plain.iter_mut().enumerate() {
+        if request.age == age {
+            found = index;
+            if let Some(standing) = standing {
                 request.waited = request.waited || matches!(standing, Standing::Waits);
                 request.standing = standing;
             }
-            None => {
-                if age < u64::MAX {
-                    plain.remove(index);
-                }
-            }
         }
+    }
+    if standing.is_none() && age < u64::MAX && found < plain.len() {
+        plain.remove(found);
     }
 }
 
 /// A scanned list of requests after an event and what it returned.
-pub fn scanned(plain: &mut Vec<Request>, event: PoolEvent, answer: Answer) -> Result<(), Fail> {
+pub fn scanned(plain: &mut Vec<Request>, event: PoolEvent, answer: Answer) -> Result<(), NoMemory> {
     match (event, answer) {
         (PoolEvent::Request, Answer::Age(age)) => {
             if age == u64::MAX {
-                scanned_wake_all(plain);
+                scanned_wake(plain, true);
             }
-            if plain.iter().all(|r| r.age != age) {
+            if scanned_standing(plain, age).is_none() {
                 plain.push(Request {
                     age,
                     waited: false,
@@ -64,23 +68,22 @@ pub fn scanned(plain: &mut Vec<Request>, event: PoolEvent, answer: Answer) -> Re
             scanned_set(plain, age, standing);
         }
         (PoolEvent::Cancel { age }, _) => {
-            let wakes = plain.iter().any(|r| r.age == age
-                && !matches!(r.standing, Standing::Asks | Standing::Waits));
+            let before = scanned_standing(plain, age);
             scanned_set(plain, age, None);
-            if wakes {
-                scanned_wake(plain);
+            if !matches!(before, Some(Standing::Asks | Standing::Waits)) {
+                scanned_wake(plain, false);
             }
         }
         (PoolEvent::Ready { age, .. }, _) => scanned_set(plain, age, None),
         (PoolEvent::Failed { age, .. }, _) => {
-            let dials = plain.iter().any(|r| r.age == age && r.is_dialing());
+            let dials = matches!(scanned_standing(plain, age), Some(Standing::Dials(_)));
             scanned_set(plain, age, if dials { None } else { Some(Standing::Asks) });
-            scanned_wake(plain);
+            scanned_wake(plain, false);
         }
         (PoolEvent::Detach { .. }, _)
         | (_, Answer::Verdict(Verdict::Drop))
-        | (_, Answer::Verdict(Verdict::Keep)) => scanned_wake(plain),
-        (PoolEvent::Close, _) => scanned_wake_all(plain),
+        | (_, Answer::Verdict(Verdict::Keep)) => scanned_wake(plain, false),
+        (PoolEvent::Close, _) => scanned_wake(plain, true),
         _ => {}
     }
     Ok(())

@@ -5,6 +5,14 @@ use my_pool_core::Core;
 use my_pool_parts::{Connection, PlaceKind, Request};
 use std::alloc::Global;
 
+/// Kinds of places.
+const KINDS: &[PlaceKind] = &[
+    PlaceKind::Idle,
+    PlaceKind::Leased,
+    PlaceKind::Cleaning,
+    PlaceKind::Closing,
+];
+
 /// A pool's connections and live requests.
 #[derive(Drop)]
 pub struct Lists {
@@ -46,14 +54,19 @@ fn scanned_next(lists: &Lists, kind: PlaceKind, from: u64) -> Option<u64> {
     next
 }
 
+/// The oldest waiting age that a look through the requests finds.
+fn scanned_oldest(lists: &Lists) -> Option<u64> {
+    for request in &lists.requests {
+        if request.is_waiting() {
+            return Some(request.age);
+        }
+    }
+    None
+}
+
 /// Whether the calls by age and by number return what a look through the lists finds.
 pub fn calls_agree(core: &Core, lists: &Lists) -> bool {
-    let oldest = lists
-        .requests
-        .iter()
-        .find(|r| r.is_waiting())
-        .map(|r| r.age);
-    if core.oldest_waiting() != oldest {
+    if core.oldest_waiting() != scanned_oldest(lists) {
         return false;
     }
     for request in &lists.requests {
@@ -67,14 +80,9 @@ pub fn calls_agree(core: &Core, lists: &Lists) -> bool {
         if core.connection(connection.number) != Some(*connection) {
             return false;
         }
-        for kind in [
-            PlaceKind::Idle,
-            PlaceKind::Leased,
-            PlaceKind::Cleaning,
-            PlaceKind::Closing,
-        ] {
+        for kind in KINDS {
             let from = connection.number;
-            if core.next_at(kind, from) != scanned_next(lists, kind, from) {
+            if core.next_at(*kind, from) != scanned_next(lists, *kind, from) {
                 return false;
             }
         }

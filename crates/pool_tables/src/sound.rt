@@ -2,7 +2,7 @@
 
 use crate::seen::Lists;
 use my_pool_core::{Answer, Core, Limits, PollAnswer};
-use my_pool_parts::{Place, Request, Standing};
+use my_pool_parts::{Place, PlaceKind, Request, Standing};
 
 /// What the answers of a pool show of it: the next age, the next number, and whether it is settled.
 #[derive(Clone, Copy)]
@@ -37,25 +37,35 @@ impl Shown {
 
 /// How many connections have a number.
 fn count_number(lists: &Lists, number: u64) -> usize {
-    lists
-        .connections
-        .iter()
-        .filter(|c| c.number == number)
-        .count()
+    let mut count = 0usize;
+    for connection in &lists.connections {
+        if connection.number == number {
+            count = count.saturating_add(1);
+        }
+    }
+    count
 }
 
 /// How many requests make or look at the connection of a number, as its standing says.
 fn holders(lists: &Lists, standing: Standing) -> usize {
-    lists
-        .requests
-        .iter()
-        .filter(|r| r.standing == standing)
-        .count()
+    let mut count = 0usize;
+    for request in &lists.requests {
+        if request.standing == standing {
+            count = count.saturating_add(1);
+        }
+    }
+    count
 }
 
 /// How many connections are idle.
 fn count_idle(lists: &Lists) -> usize {
-    lists.connections.iter().filter(|c| c.is_idle()).count()
+    let mut count = 0usize;
+    for connection in &lists.connections {
+        if connection.place.is(PlaceKind::Idle) {
+            count = count.saturating_add(1);
+        }
+    }
+    count
 }
 
 /// Whether there are no more connections and no more idle ones than may be, each is counted once and below the next
@@ -83,7 +93,7 @@ pub fn connections_are_sound(lists: &Lists, limits: Limits, shown: &Shown) -> bo
 fn request_is_sound(core: &Core, lists: &Lists, request: &Request, shown: &Shown) -> bool {
     let last = request.age == u64::MAX;
     let asks = matches!(request.standing, Standing::Asks);
-    let queued = request.is_waiting() || request.is_woken();
+    let queued = request.is_waiting() || matches!(request.standing, Standing::Woken);
     let there = match request.standing {
         Standing::Dials(number) | Standing::Checks(number) => count_number(lists, number) == 1,
         _ => true,
@@ -131,7 +141,7 @@ pub fn is_covered(core: &Core, lists: &Lists, max: u64) -> bool {
             let left = max.saturating_sub(lists.connections.len() as u64);
             return core.is_closed() || idle.saturating_add(left) <= woken;
         }
-        if request.is_woken() {
+        if matches!(request.standing, Standing::Woken) {
             woken = woken.saturating_add(1);
         }
     }

@@ -1,10 +1,10 @@
-//! Counts of steps.
+//! Counts of the ages that a pool's events compare.
 
-use crate::line::{clean, limits, play};
+use crate::line::{CLEAN, Line, ONE, first_wrong};
+use my_frame::NoMemory;
 use my_pool_core::{Core, PollAnswer, PoolEvent, Verdict};
 use my_wait_heap::Counted;
 use std::alloc::Global;
-use std::process::Abort;
 use std::test::Fail;
 
 /// How many binary digits a number has.
@@ -20,56 +20,69 @@ fn digits(n: u64) -> u64 {
     count
 }
 
-/// A new request waits.
-fn ask(rt: &impl Abort, core: &mut Core, age: u64, steps: &mut Counted) -> Result<(), Fail> {
-    assert_eq!(rt; core.request_noting(steps)?, age);
-    assert!(rt; core.may(&PoolEvent::PollRequest { age, now: 0 }));
-    let answer = core.poll_request_noting(age, 0, steps);
-    assert_eq!(rt; answer, PollAnswer::Wait);
-    Ok(())
+/// Whether a new request gets this age and waits.
+fn asks(core: &mut Core, age: u64, steps: &mut Counted) -> Result<bool, NoMemory> {
+    let given = core.request_noting(steps)?;
+    Ok(
+        given == age
+            && core.may(&PoolEvent::PollRequest { age, now: 0 })
+            && core.poll_request_noting(age, 0, steps) == PollAnswer::Wait,
+    )
 }
 
-/// A connection that is being cleaned is kept, and the request that it wakes takes it.
-fn serve(rt: &impl Abort, core: &mut Core, conn: u64, age: u64, steps: &mut Counted) {
+/// Whether a connection that is being cleaned is kept, and the request that it wakes takes it.
+fn serves(core: &mut Core, conn: u64, age: u64, steps: &mut Counted) -> bool {
     let now = 0;
-    let facts = clean();
-    assert!(rt; core.may(&PoolEvent::Decide { conn, facts, now }));
-    let verdict = core.decide_noting(conn, facts, now, steps);
-    assert!(rt; verdict == Verdict::Keep && core.may(&PoolEvent::PollRequest { age, now }));
-    let answer = core.poll_request_noting(age, now, steps);
-    assert!(rt; answer == PollAnswer::Take(conn) && core.may(&PoolEvent::Ready { age, conn }));
+    let facts = CLEAN;
+    if !core.may(&PoolEvent::Decide { conn, facts, now })
+        || core.decide_noting(conn, facts, now, steps) != Verdict::Keep
+        || !core.may(&PoolEvent::PollRequest { age, now })
+        || core.poll_request_noting(age, now, steps) != PollAnswer::Take(conn)
+        || !core.may(&PoolEvent::Ready { age, conn })
+    {
+        return false;
+    }
     core.ready_noting(age, conn, steps);
+    true
 }
 
 /// `waiting` requests wait, and the oldest gets the connection that came back: how many ages are compared from the
-/// last request to `ready`.
-fn count_steps(rt: &impl Abort, alloc: Global, core: &mut Core, waiting: u64) -> Result<u64, Fail> {
-    let lease = "ask = Age(0)\npoll 0 0 = Poll(Dial(1000))\nready 0 1000 = Done";
-    play(rt, alloc, core, lease)?;
+/// last request to `ready`; None where something else happens.
+fn count_steps(core: &mut Core, waiting: u64) -> Result<Option<u64>, NoMemory> {
+    let lease = [
+        Line::Ask(0),
+        Line::Poll(0, 0, PollAnswer::Dial(1000)),
+        Line::Ready(0, 1000),
+    ];
+    if first_wrong(core, &lease)?.is_some() {
+        return Ok(None);
+    }
     let mut steps = Counted::new();
     for age in 1..=waiting {
         steps = Counted::new();
-        ask(rt, core, age, &mut steps)?;
+        if !asks(core, age, &mut steps)? {
+            return Ok(None);
+        }
     }
-    let back = "give 1000 = Done\nnext = Returned(Some(1000))";
-    play(rt, alloc, core, back)?;
-    serve(rt, core, 1000, 1, &mut steps);
-    Ok(steps.count())
+    let back = [Line::Give(1000), Line::Next(Some(1000))];
+    if first_wrong(core, &back)?.is_some() || !serves(core, 1000, 1, &mut steps) {
+        return Ok(None);
+    }
+    Ok(Some(steps.count()))
 }
 
 /// The same in a new pool.
-fn steps_to_ready(rt: &impl Abort, alloc: Global, waiting: u64) -> Result<u64, Fail> {
-    let mut core = Core::with_limits(alloc, limits(1, 1, None), 1000);
-    count_steps(rt, alloc, &mut core, waiting)
+fn steps_to_ready(alloc: Global, waiting: u64) -> Result<Option<u64>, NoMemory> {
+    let mut core = Core::with_limits(alloc, ONE, 1000);
+    count_steps(&mut core, waiting)
 }
 
 #[test]
 fn few_steps(rt: HostRuntime) -> Result<(), Fail> {
-    for waiting in [10, 1000, 100000] {
-        let steps = steps_to_ready(&rt, rt.alloc(), waiting)?;
-        println!(rt; "waiting={waiting} steps={steps}")?;
+    for waiting in [10u64, 1000, 100000] {
+        let steps = steps_to_ready(rt.alloc(), waiting)?.unwrap_or(0);
         let bound = digits(waiting).saturating_mul(15).saturating_add(13);
-        assert!(rt; steps > 0 && steps <= bound, "{waiting} {steps} {bound}");
+        assert!(rt; steps > 0 && steps <= bound);
     }
     Ok(())
 }

@@ -1,10 +1,9 @@
 //! How often each event happened, and how often it returned what.
 
 use my_pool_core::{Answer, PollAnswer, PoolEvent, Verdict};
-use std::alloc::{AllocError, Global};
 
 /// Each event, with each of its answers.
-pub const NAMES: [&str; 28] = [
+const NAMES: [&str; 28] = [
     "Request",
     "Request last",
     "Poll Wait",
@@ -101,38 +100,31 @@ pub fn name_of(event: PoolEvent, answer: Answer) -> &'static str {
 }
 
 /// Counts by name.
-#[derive(Drop)]
-pub struct Tally {
-    counts: Vec<(&'static str, u64)>,
-}
+#[derive(Clone, Copy)]
+pub struct Tally([u64; 28]);
 
 impl Tally {
     /// Nothing happened yet.
-    pub fn new(alloc: Global) -> Tally {
-        Tally {
-            counts: Vec::new(alloc),
-        }
+    pub fn new() -> Tally {
+        Tally([0; 28])
     }
 
     /// One more of this name.
-    pub fn count(&mut self, name: &'static str) -> Result<(), AllocError> {
-        for entry in self.counts.iter_mut() {
-            if entry.0 == name {
-                entry.1 = entry.1.saturating_add(1);
-                return Ok(());
+    pub fn count(&mut self, name: &str) {
+        for (index, entry) in NAMES.iter().enumerate() {
+            if *entry == name && index < 28 {
+                self.0[index] = self.0[index].saturating_add(1);
             }
         }
-        self.counts.push((name, 1))?;
-        Ok(())
     }
 
-    /// How many there were of this name.
-    pub fn of(&self, name: &str) -> u64 {
-        for entry in &self.counts {
-            if entry.0 == name {
-                return entry.1;
+    /// The first name of which there were fewer than `least`.
+    pub fn first_below(&self, least: u64) -> Option<&'static str> {
+        for (index, entry) in NAMES.iter().enumerate() {
+            if index < 28 && self.0[index] < least {
+                return Some(*entry);
             }
         }
-        0
+        None
     }
 }

@@ -9,6 +9,7 @@ use super::Core;
 use crate::event::{Answer, PoolEvent};
 use my_frame::NoMemory;
 use my_opts_parts::PoolOpts;
+use my_pool_parts::PlaceKind;
 use std::alloc::Global;
 
 impl Core {
@@ -23,9 +24,9 @@ impl Core {
                 self.requests.is_held(age, conn)
             }
             PoolEvent::GiveBack { conn } | PoolEvent::Detach { conn } => {
-                self.connections.is_leased(conn)
+                self.connections.is_at(conn, PlaceKind::Leased)
             }
-            PoolEvent::Decide { conn, .. } => self.connections.is_cleaning(conn),
+            PoolEvent::Decide { conn, .. } => self.connections.is_at(conn, PlaceKind::Cleaning),
             PoolEvent::Done { conn, ok, .. } => self.connections.is_finishing(conn, ok),
             PoolEvent::Request
             | PoolEvent::TakeReturned

@@ -5,7 +5,7 @@ ghost use Rattle.my_pool_core.specs.Events.{may_move, freed, may_give_back, give
 
 use super::Core;
 use crate::event::{Facts, Verdict};
-use my_pool_parts::{Place, Times};
+use my_pool_parts::{Place, PlaceKind};
 use my_wait_heap::{Ledger, Uncounted};
 
 impl Core {
@@ -154,7 +154,7 @@ impl Core {
         ensures answer { result ≡ (done conn ok facts now self.old).answer }
         ensures cost { (d : ℕ) → length self.old.requests < 2 ^ d → C.noted steps.new ≤ C.noted steps.old + 3 * d + 2 }
     {
-        if ok && self.connections.is_resetting(conn) {
+        if ok && self.connections.is_at(conn, PlaceKind::Resetting) {
             if self.closed {
                 self.connections.move_to(conn, Place::Closing);
                 self.counts.superfluous();

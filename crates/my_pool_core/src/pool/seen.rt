@@ -1,10 +1,9 @@
 //! What is seen of a pool.
 
-ghost use Rattle.std.specs.Prelude.{◌≡◌, MatchOption, IfOk, None, find};
+ghost use Rattle.std.specs.Prelude.{◌≡◌, MatchOption, IfOk, find};
 ghost use Rattle.my_pool_parts.specs.Connections.{has_number};
 ghost use Rattle.my_pool_parts.specs.Requests.{has_age, IsRising};
 ghost use Rattle.my_pool_core.specs.Owners.{IsNextAt, IsNoneAt};
-ghost use Rattle.my_pool_parts.specs.Next.{least_at};
 ghost use Rattle.my_pool_core.specs.Sound.{IsSound};
 ghost use Rattle.my_pool_core.specs.Wakes.{waits, oldest_waiting};
 

@@ -1,6 +1,6 @@
 //! The events of the whole pool, and its counts.
 
-ghost use Rattle.std.specs.Prelude.{◌≡◌, ℕ, ◌+◌, ◌*◌, ◌^◌, ◌≤◌, ◌<◌, IsTrue, length};
+ghost use Rattle.std.specs.Prelude.{◌≡◌, ℕ, ◌+◌, ◌*◌, ◌^◌, ◌≤◌, ◌<◌, length};
 ghost use Rattle.my_pool_parts.specs.Lists.{how_many};
 ghost use Rattle.my_pool_parts.specs.Requests.{is_waiting};
 ghost use Rattle.my_pool_core.specs.Events.{check_ttl, check_ttl_moved, close, is_gone};

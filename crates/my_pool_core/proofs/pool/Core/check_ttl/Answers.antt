@@ -1,7 +1,6 @@
 use Rattle.std.proofs.Common.{◌-◌, ◌++◌, ap, ◌∙◌, arith}
 use Rattle.my_pool_core.specs.State.{State}
-use Rattle.my_pool_parts.specs.Lists.{how_many}
-use Rattle.my_pool_parts.specs.Connections.{is_idle, lasting, outdated}
+use Rattle.my_pool_parts.specs.Connections.{lasting, outdated}
 use Rattle.my_pool_core.specs.contracts.pool.Core.{the_view}
 use Rattle.my_pool_core.proofs.Keeping.{kept-swept}
 use Rattle.my_pool_core.proofs.pool.Core.check_ttl.Goals as goal

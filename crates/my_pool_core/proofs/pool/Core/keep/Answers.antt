@@ -3,8 +3,6 @@ use Rattle.my_pool_core.specs.contracts.pool.Core.{the_view}
 use Rattle.my_pool_core.proofs.Keeping.{movable-there, kept-moved, kept-rested}
 use Rattle.my_pool_core.specs.Events.{may_move, superfluous}
 use Rattle.my_pool_parts.specs.declared.connection.Place.TheVariants.{Closing}
-use Rattle.my_pool_parts.specs.Lists.{how_many}
-use Rattle.my_pool_parts.specs.Connections.{is_idle}
 use Rattle.my_pool_core.proofs.pool.Core.keep.Goals as goal
 
 pub move_to-requires : goal.move_to-requires
