@@ -30,7 +30,7 @@ pub enum ServerStep {
 }
 
 /// Where a server is with its client.
-#[derive(Clone, Copy, Debug, PartialEq, Eq)]
+#[derive(Clone, Copy)]
 pub enum Phase {
     /// The client's login is awaited.
     Login,

@@ -5,7 +5,7 @@ use my_reply::{ErrPacket, OkPacket};
 use thiserror::Error;
 
 /// A server's identity, the one user that it admits, and its replies.
-#[derive(Debug, Drop, PartialEq, Eq)]
+#[derive(Drop)]
 pub struct ServerScript {
     /// The server's version as text, of at most 255 bytes without a zero.
     pub version: Blob,
@@ -21,14 +21,14 @@ pub struct ServerScript {
 }
 
 /// The answer to the queries of one text.
-#[derive(Debug, Drop, PartialEq, Eq)]
+#[derive(Drop)]
 pub struct Reply {
     pub text: Blob,
     pub answer: ReplyAnswer,
 }
 
 /// How a query is answered.
-#[derive(Debug, Drop, PartialEq, Eq)]
+#[derive(Drop)]
 pub enum ReplyAnswer {
     /// An OK, whose status is SERVER_STATUS_AUTOCOMMIT alone.
     Fine(OkPacket),
@@ -39,7 +39,7 @@ pub enum ReplyAnswer {
 }
 
 /// A set of rows.
-#[derive(Debug, Drop, PartialEq, Eq)]
+#[derive(Drop)]
 pub struct ServerSet {
     /// The names of the columns, from 1 to 65,535.
     pub names: Listed<Blob>,

@@ -157,7 +157,7 @@ impl ServerCore {
             Steps (answer_move s kept f.payload rest f.span.next (command_kind f.payload)) s self.new result }
     {
         let kind = command_kind(found.payload.as_slice());
-        if kind == CommandKind::Quit {
+        if matches!(kind, CommandKind::Quit) {
             return self.close(CloseCause::Quit);
         }
         let answer = command_answer(

@@ -3,12 +3,16 @@
 #![tactic(auto)]
 
 #[cfg(test)]
-mod faults;
+mod carry;
 #[cfg(test)]
-mod hostile;
+mod faults;
 #[cfg(test)]
 mod notation;
 #[cfg(test)]
 mod play;
+#[cfg(test)]
+mod plays;
+#[cfg(test)]
+mod reading;
 #[cfg(test)]
 mod talks;

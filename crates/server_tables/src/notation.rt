@@ -1,8 +1,8 @@
 //! Scripts of a server as short texts.
 //!
-//! Sets are separated by `|`, the names and the rows of a set by `/`, cells by `,`. A cell `~` is NULL, `-` is empty,
-//! and `#300` has 300 bytes `x`; `@300` are 300 names or cells `1`. `ok2` is an OK of the status 2, `err` an ERR, and
-//! `none` no set.
+//! Sets are separated by `|`, the names and the rows of a set by `/`, names and cells by `,`. A cell `~` is NULL, `-` is
+//! empty, and `#300` has 300 bytes `x`; `a@300` are 300 names or cells `a`, and `1,2*300` are 300 rows `1,2`. `ok2` is an
+//! OK of the status 2, `err` an ERR, and `none` no set.
 
 use my_flags::StatusFlags;
 use my_frame::{Blob, Listed, NoMemory, Text};
@@ -12,14 +12,6 @@ use std::alloc::Global;
 
 /// The version that most scripts have.
 pub const VERSION: &[u8] = b"8.0.36";
-
-fn repeated(alloc: Global, byte: u8, count: usize) -> Result<Blob, NoMemory> {
-    let mut bytes = Vec::new(alloc);
-    for _ in 0..count {
-        bytes.push(byte)?;
-    }
-    Ok(Blob::from(bytes))
-}
 
 /// The number that decimal digits are.
 pub fn number_of(digits: &str) -> usize {
@@ -31,14 +23,33 @@ pub fn number_of(digits: &str) -> usize {
     number
 }
 
+// What stands before the mark, and the number after it; 1 where there is no mark.
+fn counted(text: &str, mark: char) -> (&str, usize) {
+    match text.split_once(mark) {
+        Some((item, count)) => (item, number_of(count)),
+        None => (text, 1),
+    }
+}
+
 fn text_of(alloc: Global, token: &str) -> Result<Blob, NoMemory> {
-    if let Some(count) = token.strip_prefix('#') {
-        return repeated(alloc, b'x', number_of(count));
+    let mut bytes = Vec::new(alloc);
+    match token.strip_prefix('#') {
+        Some(count) => crate::play::fill(&mut bytes, number_of(count))?,
+        None if token == "-" => {}
+        None => bytes.extend_from_slice(token.as_bytes())?,
     }
-    match token {
-        "-" => Ok(Blob::new(alloc)),
-        _ => Blob::from_slice(alloc, token.as_bytes()),
+    Ok(Blob::from(bytes))
+}
+
+fn names_of(alloc: Global, text: &str) -> Result<Listed<Blob>, NoMemory> {
+    let mut names = Listed::new(alloc);
+    for token in text.split(',') {
+        let (name, count) = counted(token, '@');
+        for _ in 0..count {
+            names.push(text_of(alloc, name)?)?;
+        }
     }
+    Ok(names)
 }
 
 fn cell_of(alloc: Global, token: &str) -> Result<Option<Blob>, NoMemory> {
@@ -48,48 +59,24 @@ fn cell_of(alloc: Global, token: &str) -> Result<Option<Blob>, NoMemory> {
     }
 }
 
-fn add_names(alloc: Global, names: &mut Listed<Blob>, text: &str) -> Result<(), NoMemory> {
-    if let Some(count) = text.strip_prefix('@') {
-        for _ in 0..number_of(count) {
-            names.push(text_of(alloc, "1")?)?;
-        }
-    } else if !text.is_empty() {
-        for token in text.split(',') {
-            names.push(text_of(alloc, token)?)?;
-        }
-    }
-    Ok(())
-}
-
-fn add_cells(alloc: Global, cells: &mut Listed<Option<Blob>>, text: &str) -> Result<(), NoMemory> {
-    if let Some(count) = text.strip_prefix('@') {
-        for _ in 0..number_of(count) {
-            cells.push(cell_of(alloc, "1")?)?;
-        }
-    } else if !text.is_empty() {
-        for token in text.split(',') {
-            cells.push(cell_of(alloc, token)?)?;
-        }
-    }
-    Ok(())
-}
-
-fn names_of(alloc: Global, text: &str) -> Result<Listed<Blob>, NoMemory> {
-    let mut names = Listed::new(alloc);
-    add_names(alloc, &mut names, text)?;
-    Ok(names)
-}
-
 fn row_of(alloc: Global, text: &str) -> Result<Listed<Option<Blob>>, NoMemory> {
     let mut cells = Listed::new(alloc);
-    add_cells(alloc, &mut cells, text)?;
+    for token in text.split(',') {
+        let (cell, count) = counted(token, '@');
+        for _ in 0..count {
+            cells.push(cell_of(alloc, cell)?)?;
+        }
+    }
     Ok(cells)
 }
 
 fn rows_of(alloc: Global, text: &str) -> Result<Listed<Listed<Option<Blob>>>, NoMemory> {
     let mut rows = Listed::new(alloc);
-    for row in text.split('/').skip(1) {
-        rows.push(row_of(alloc, row)?)?;
+    for part in text.split('/').skip(1) {
+        let (row, count) = counted(part, '*');
+        for _ in 0..count {
+            rows.push(row_of(alloc, row)?)?;
+        }
     }
     Ok(rows)
 }
@@ -129,12 +116,11 @@ fn err_of(alloc: Global) -> Result<ErrPacket, NoMemory> {
     })
 }
 
-fn answer_of(alloc: Global, text: &str) -> Result<ReplyAnswer, NoMemory> {
-    if text == "err" {
-        return Ok(ReplyAnswer::Refuse(err_of(alloc)?));
-    }
+/// The answer that a text is.
+pub fn answer_of(alloc: Global, text: &str) -> Result<ReplyAnswer, NoMemory> {
     match text.strip_prefix("ok") {
         Some(status) => Ok(ReplyAnswer::Fine(ok_of(alloc, number_of(status)))),
+        None if text == "err" => Ok(ReplyAnswer::Refuse(err_of(alloc)?)),
         None => Ok(ReplyAnswer::Sets(sets_of(alloc, text)?)),
     }
 }

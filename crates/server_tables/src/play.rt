@@ -1,25 +1,9 @@
 //! A server that is handed known bytes.
 
-use crate::notation::{VERSION, script_of};
+use crate::notation::{VERSION, number_of, script_of};
 use my_frame::NoMemory;
 use my_server::{ScriptFault, ServerCore, ServerStep};
 use std::alloc::Global;
-
-/// The greeting of version 8.0.36, id 7.
-pub const GREETING: &str =
-    "4a000000 0a 382e302e333600 07000000 6162636465666768 00 8ba2 2d 0200 1f01 15 \
-    00000000000000000000 696a6b6c6d6e6f707172737400 6d7973716c5f6e61746976655f70617373776f726400";
-
-/// The login of `root` without a password, with EOF packets deprecated and without; and the OK after it.
-pub const LOGIN: &str =
-    "3c000001 81a20f01 00004000 2d 0000000000000000000000000000000000000000000000 \
-    726f6f7400 00 6d7973716c5f6e61746976655f70617373776f726400";
-
-pub const OLD_LOGIN: &str =
-    "3c000001 81a20f00 00004000 2d 0000000000000000000000000000000000000000000000 \
-    726f6f7400 00 6d7973716c5f6e61746976655f70617373776f726400";
-
-pub const ADMITTED: &str = "07000002 00000002000000";
 
 fn digit_of(digit: u8) -> u8 {
     if digit <= b'9' {
@@ -29,13 +13,9 @@ fn digit_of(digit: u8) -> u8 {
     }
 }
 
-/// Adds the bytes that hexadecimal digits spell; blanks are passed over.
-pub fn add_hex(bytes: &mut Vec<u8>, text: &str) -> Result<(), NoMemory> {
+fn add_pairs(bytes: &mut Vec<u8>, digits: &[u8]) -> Result<(), NoMemory> {
     let mut high = None;
-    for &digit in text.as_bytes() {
-        if digit == b' ' {
-            continue;
-        }
+    for &digit in digits {
         high = match high {
             None => Some(digit_of(digit)),
             Some(first) => {
@@ -43,6 +23,25 @@ pub fn add_hex(bytes: &mut Vec<u8>, text: &str) -> Result<(), NoMemory> {
                 None
             }
         };
+    }
+    Ok(())
+}
+
+/// Adds `count` bytes `x`.
+pub fn fill(bytes: &mut Vec<u8>, count: usize) -> Result<(), NoMemory> {
+    for _ in 0..count {
+        bytes.push(b'x')?;
+    }
+    Ok(())
+}
+
+/// Adds the bytes that words of hexadecimal digits spell; `#300` is 300 bytes `x`.
+pub fn add_hex(bytes: &mut Vec<u8>, text: &str) -> Result<(), NoMemory> {
+    for word in text.split(' ') {
+        match word.strip_prefix('#') {
+            Some(count) => fill(bytes, number_of(count))?,
+            None => add_pairs(bytes, word.as_bytes())?,
+        }
     }
     Ok(())
 }
@@ -80,9 +79,9 @@ fn serve(
     Ok(ServerStep::Send)
 }
 
-/// Hands these bytes, at most `most` at a time, to a server that answers the query `SELECT 1`, and a query in two sets:
-/// its last step. What it sent is added to `sent`. Where it closes it is handed what is left, and has to read nothing of it.
-pub fn play(
+// The last step of a server that answers the query `SELECT 1`, and a query in two sets. What it sent is added to `sent`.
+// Where it closes it is handed what is left, and has to read nothing of it.
+fn play(
     alloc: Global,
     input: &[u8],
     most: usize,
@@ -92,4 +91,31 @@ pub fn play(
     let script = script_of(alloc, VERSION, None, &replies)?;
     let mut server = ServerCore::new(alloc, script)?;
     Ok(serve(alloc, &mut server, input, most, sent)?)
+}
+
+// Whether it sends these bytes and comes to this step.
+fn plays(
+    alloc: Global,
+    input: &[u8],
+    most: usize,
+    want: &[u8],
+    end: ServerStep,
+) -> Result<bool, ScriptFault> {
+    let mut sent = Vec::new(alloc);
+    let step = play(alloc, input, most, &mut sent)?;
+    Ok(step == end && sent.as_slice() == want)
+}
+
+/// Whether a server that is handed these bytes sends these and comes to this step, byte by byte and all at once; a long
+/// input is handed over in pieces of 65,536 bytes.
+pub fn plays_both(
+    alloc: Global,
+    input: &[u8],
+    want: &[u8],
+    end: ServerStep,
+) -> Result<bool, ScriptFault> {
+    if input.len() > 65_536 {
+        return plays(alloc, input, 65_536, want, end);
+    }
+    Ok(plays(alloc, input, 1, want, end)? && plays(alloc, input, usize::MAX, want, end)?)
 }

@@ -1,7 +1,178 @@
 //! Talks of a session with a scripted server: what the session reads is what the script says.
 
-mod carry;
-mod logins;
-mod sets;
-mod show;
-mod visit;
+use crate::carry::login_of;
+use crate::notation::{VERSION, answer_of, script_of};
+use crate::reading::{Want, answers, reads};
+use my_frame::NoMemory;
+use my_reading::Call;
+use my_server::{CloseCause, ReplyAnswer, ScriptFault, ServerCore, ServerStep};
+use my_session::Session;
+use std::alloc::Global;
+use std::test::Fail;
+
+// SHA1(SHA1("password")).
+const STORED: Option<[u8; 20]> = Some(
+    *b"\x24\x70\xc0\xc0\x6d\xee\x42\xfd\x16\x18\xbb\x99\x00\x5a\xdc\xa2\xec\x9d\x1e\x19",
+);
+
+// A script's password, a client's user and password, whether it is admitted, whether all bytes are handed over at once
+// alone, and answers that it reads then, each in a talk of its own.
+struct Talk {
+    stored: Option<[u8; 20]>,
+    user: &'static str,
+    password: Option<&'static str>,
+    admitted: bool,
+    whole: bool,
+    answers: &'static str,
+}
+
+const KNOWN: Talk = Talk {
+    stored: STORED,
+    user: "root",
+    password: Some("password"),
+    admitted: true,
+    whole: false,
+    answers: "n/1",
+};
+
+const OPEN: Talk = Talk {
+    stored: None,
+    user: "root",
+    password: None,
+    admitted: true,
+    whole: false,
+    answers: "n/1",
+};
+
+const TALKS: &[Talk] = &[
+    KNOWN,
+    Talk {
+        password: Some("Password"),
+        admitted: false,
+        ..KNOWN
+    },
+    Talk {
+        password: Some("passwor"),
+        admitted: false,
+        ..KNOWN
+    },
+    Talk {
+        password: None,
+        admitted: false,
+        ..KNOWN
+    },
+    Talk {
+        user: "Root",
+        admitted: false,
+        ..KNOWN
+    },
+    Talk {
+        user: "",
+        admitted: false,
+        ..KNOWN
+    },
+    Talk {
+        password: Some("password"),
+        admitted: false,
+        ..OPEN
+    },
+    // One set for each number of columns and rows, each kind of cell, and each length of a text's length; several sets.
+    Talk {
+        answers: "n/1 a,b/1,2/3,4 n/~ n/- a,b/~,-/-,~ -/- n/#250 n/#251 n/#65535 n/#65536 #251/1 n/1/2/3/~/- \
+            a,b,c,d,e/~,~,~,~,~ n/1|m/2 a,b/1,2|n/1|a,b,c/1,2,3 n/~|n/-|n/~ n n|m n|m/1|n ok2 err",
+        ..OPEN
+    },
+    // Sequence ids go on after 255 from 0, and a payload of 2^24 bytes has two packets.
+    Talk {
+        answers: "n/1*300 a,b@299/1,2@299",
+        ..OPEN
+    },
+    Talk {
+        whole: true,
+        answers: "n/#16777216/1",
+        ..OPEN
+    },
+];
+
+// What the two queries of a talk are answered.
+#[derive(Drop)]
+struct Wants {
+    first: ReplyAnswer,
+    second: ReplyAnswer,
+}
+
+// Whether a session that connects is admitted, reads both answers, pings and quits, or is denied.
+fn visits(
+    alloc: Global,
+    session: &mut Session,
+    server: &mut ServerCore,
+    most: usize,
+    admitted: bool,
+    wants: &Wants,
+) -> Result<bool, NoMemory> {
+    if !admitted {
+        let denied = Want::Refused(1_045, "28000", "Access denied");
+        return Ok(
+            answers(alloc, session, server, most, Call::Connect, denied)
+                && server.step(alloc) == ServerStep::Closed(CloseCause::Denied),
+        );
+    }
+    Ok(
+        answers(alloc, session, server, most, Call::Connect, Want::Ready)
+            && reads(alloc, session, server, most, "A", &wants.first)?
+            && reads(alloc, session, server, most, "B", &wants.second)?
+            && answers(alloc, session, server, most, Call::Ping, Want::Ready)
+            && answers(alloc, session, server, most, Call::Quit, Want::Ready)
+            && server.step(alloc) == ServerStep::Closed(CloseCause::Quit),
+    )
+}
+
+// It alone owns a server.
+fn meets(
+    alloc: Global,
+    session: &mut Session,
+    talk: &Talk,
+    answer: &str,
+    most: usize,
+    wants: &Wants,
+) -> Result<bool, ScriptFault> {
+    let replies = [("A", "n/2"), ("B", answer), ("B", "n/3")];
+    let script = script_of(alloc, VERSION, talk.stored, &replies)?;
+    let mut server = ServerCore::new(alloc, script)?;
+    Ok(visits(alloc, session, &mut server, most, talk.admitted, wants)?)
+}
+
+// It alone owns a session.
+fn goes(
+    alloc: Global,
+    talk: &Talk,
+    answer: &str,
+    most: usize,
+    wants: &Wants,
+) -> Result<bool, ScriptFault> {
+    let login = login_of(alloc, talk.user, talk.password)?;
+    let mut session = Session::new(alloc, login)?;
+    meets(alloc, &mut session, talk, answer, most, wants)
+}
+
+// Whether the talk with this answer goes so, all at once and byte by byte.
+fn goes_both(alloc: Global, talk: &Talk, answer: &str) -> Result<bool, ScriptFault> {
+    let first = answer_of(alloc, "n/2")?;
+    let second = answer_of(alloc, answer)?;
+    let wants = Wants { first, second };
+    Ok(
+        goes(alloc, talk, answer, usize::MAX, &wants)?
+            && (talk.whole || goes(alloc, talk, answer, 1, &wants)?),
+    )
+}
+
+#[test]
+fn sessions_read_scripts(rt: HostRuntime) -> Result<(), Fail> {
+    let alloc = rt.alloc();
+    for talk in TALKS {
+        for answer in talk.answers.split(' ') {
+            assert!(rt; goes_both(alloc, talk, answer)?, "{answer}");
+        }
+    }
+    Ok(())
+}

@@ -1,16 +1,34 @@
-//! What clients send to a scripted server in a login's place and after one, and what it answers to each.
+//! What clients send to a scripted server, and what it answers.
 
-use crate::play::{ADMITTED, GREETING, LOGIN, OLD_LOGIN, add_hex, play};
-use my_frame::{CodecFault, FULL_LENGTH, NoMemory};
+use crate::play::{add_hex, plays_both};
+use my_frame::{CodecFault, NoMemory};
 use my_server::{CloseCause, ScriptFault, ServerStep};
 use std::alloc::Global;
 use std::test::Fail;
+
+// The greeting of version 8.0.36, id 7.
+const GREETING: &str =
+    "4a000000 0a 382e302e333600 07000000 6162636465666768 00 8ba2 2d 0200 1f01 15 \
+    00000000000000000000 696a6b6c6d6e6f707172737400 6d7973716c5f6e61746976655f70617373776f726400";
+
+// The login of `root` without a password, with EOF packets deprecated and without; and the OK after it.
+const LOGIN: &str = "3c000001 81a20f01 00004000 2d 0000000000000000000000000000000000000000000000 \
+    726f6f7400 00 6d7973716c5f6e61746976655f70617373776f726400";
+
+const OLD_LOGIN: &str =
+    "3c000001 81a20f00 00004000 2d 0000000000000000000000000000000000000000000000 \
+    726f6f7400 00 6d7973716c5f6e61746976655f70617373776f726400";
+
+const ADMITTED: &str = "07000002 00000002000000";
 
 const DENIED: &str = "16000002 ff1504 23 3238303030 4163636573732064656e696564";
 
 const OK: &str = "07000001 00000002000000";
 
 const NO_REPLY: &str = "11000001 ff2804 23 3432303030 6e6f207265706c79";
+
+// The ERR after a command of two packets.
+const LATE_NO_REPLY: &str = "11000002 ff2804 23 3432303030 6e6f207265706c79";
 
 const NEED: ServerStep = ServerStep::Need;
 
@@ -36,33 +54,37 @@ const FIRST: ServerStep = ServerStep::Closed(CloseCause::Codec(CodecFault::OutOf
     found: 1,
 }));
 
-// What is sent in a login's place, and what follows; what is answered after the greeting; and the last step.
-const LOGINS: &[(&str, &str, &str, ServerStep)] = &[
-    ("", "", "", NEED),
-    (LOGIN, "", ADMITTED, NEED),
-    (OLD_LOGIN, "", ADMITTED, NEED),
+// What a client sends, in two parts; what it is answered after the greeting, in two parts; and the last step.
+const PLAYS: &[(&str, &str, &str, &str, ServerStep)] = &[
+    ("", "", "", "", NEED),
+    (LOGIN, "", ADMITTED, "", NEED),
+    (OLD_LOGIN, "", ADMITTED, "", NEED),
     // Without a plugin's name, of the user `roo`, and with a scramble. Of the last, no further payload is read.
     (
         "26000001 00820000 00004000 2d 0000000000000000000000000000000000000000000000 726f6f7400 00",
         "",
         ADMITTED,
+        "",
         NEED,
     ),
     (
         "25000001 00820000 00004000 2d 0000000000000000000000000000000000000000000000 726f6f00 00",
         "",
         DENIED,
+        "",
         REFUSED,
     ),
     (
         "27000001 00820000 00004000 2d 0000000000000000000000000000000000000000000000 726f6f7400 0161",
         "01000000 0e",
         DENIED,
+        "",
         REFUSED,
     ),
     // Without PROTOCOL_41, without SECURE_CONNECTION, an empty payload, and a request for TLS.
     (
         "26000001 00800000 00004000 2d 0000000000000000000000000000000000000000000000 726f6f7400 00",
+        "",
         "",
         "",
         BAD,
@@ -71,45 +93,78 @@ const LOGINS: &[(&str, &str, &str, ServerStep)] = &[
         "26000001 00020000 00004000 2d 0000000000000000000000000000000000000000000000 726f6f7400 00",
         "",
         "",
+        "",
         BAD,
     ),
-    ("00000001", "", "", BAD),
+    ("00000001", "", "", "", BAD),
     (
         "20000001 81aa0f01 00004000 2d 0000000000000000000000000000000000000000000000",
+        "",
         "",
         "",
         BAD,
     ),
     // A closed server reads no login.
-    ("00000001", LOGIN, "", BAD),
+    ("00000001", LOGIN, "", "", BAD),
     // Sequence ids, and a header that isn't whole.
-    ("3c000000", "81a20f01", "", ZEROTH),
-    ("3c000002", "", "", SECOND),
-    ("3c0000", "", "", NEED),
-];
-
-// What is sent after a login; what is answered after the greeting and the OK; and the last step.
-const COMMANDS: &[(&str, &str, &str, ServerStep)] = &[
+    ("3c000000", "81a20f01", "", "", ZEROTH),
+    ("3c000002", "", "", "", SECOND),
+    ("3c0000", "", "", "", NEED),
     // PING, RESET_CONNECTION, and QUIT, after which nothing is read.
-    (LOGIN, "01000000 0e", OK, NEED),
-    (LOGIN, "01000000 1f", OK, NEED),
-    (LOGIN, "01000000 01", "", QUIT),
-    (LOGIN, "01000000 01 01000000 0e", "", QUIT),
+    (LOGIN, "01000000 0e", ADMITTED, OK, NEED),
+    (LOGIN, "01000000 1f", ADMITTED, OK, NEED),
+    (LOGIN, "01000000 01", ADMITTED, "", QUIT),
+    (LOGIN, "01000000 01 01000000 0e", ADMITTED, "", QUIT),
     // An empty payload, a command of more bytes than it has, unknown commands, and a query that isn't in the script.
-    (LOGIN, "00000000", NO_REPLY, NEED),
-    (LOGIN, "02000000 0e00", NO_REPLY, NEED),
-    (LOGIN, "02000000 0100", NO_REPLY, NEED),
-    (LOGIN, "09000000 16 53454c4543542031", NO_REPLY, NEED),
-    (LOGIN, "01000000 ff", NO_REPLY, NEED),
-    (LOGIN, "01000000 03", NO_REPLY, NEED),
-    (LOGIN, "0a000000 03 53454c454354203100", NO_REPLY, NEED),
+    (LOGIN, "00000000", ADMITTED, NO_REPLY, NEED),
+    (LOGIN, "02000000 0e00", ADMITTED, NO_REPLY, NEED),
+    (LOGIN, "02000000 0100", ADMITTED, NO_REPLY, NEED),
+    (
+        LOGIN,
+        "09000000 16 53454c4543542031",
+        ADMITTED,
+        NO_REPLY,
+        NEED,
+    ),
+    (LOGIN, "01000000 ff", ADMITTED, NO_REPLY, NEED),
+    (LOGIN, "01000000 03", ADMITTED, NO_REPLY, NEED),
+    (
+        LOGIN,
+        "0a000000 03 53454c454354203100",
+        ADMITTED,
+        NO_REPLY,
+        NEED,
+    ),
     // A wrong sequence id, and a part of a command.
-    (LOGIN, "01000001 0e", "", FIRST),
-    (LOGIN, "02000000 0e", "", NEED),
+    (LOGIN, "01000001 0e", ADMITTED, "", FIRST),
+    (LOGIN, "02000000 0e", ADMITTED, "", NEED),
+    // Queries of 2^24 - 1 and of 2^24 bytes, and one whose second packet has a wrong sequence id.
+    (
+        LOGIN,
+        "ffffff00 03 #16777214 00000001",
+        ADMITTED,
+        LATE_NO_REPLY,
+        NEED,
+    ),
+    (
+        LOGIN,
+        "ffffff00 03 #16777214 01000001 78",
+        ADMITTED,
+        LATE_NO_REPLY,
+        NEED,
+    ),
+    (
+        LOGIN,
+        "ffffff00 03 #16777214 01000000 78",
+        ADMITTED,
+        "",
+        ZEROTH,
+    ),
     // A query, and one with two sets.
     (
         LOGIN,
         "09000000 03 53454c4543542031",
+        ADMITTED,
         "01000001 01 17000002 03646566 00 00 00 0131 00 0c 2d00 00040000 fd 0000 00 0000 \
             02000003 0131 07000004 fe000002000000",
         NEED,
@@ -117,6 +172,7 @@ const COMMANDS: &[(&str, &str, &str, ServerStep)] = &[
     (
         LOGIN,
         "02000000 03 32",
+        ADMITTED,
         "01000001 01 17000002 03646566 00 00 00 0131 00 0c 2d00 00040000 fd 0000 00 0000 \
             02000003 0131 07000004 fe00000a000000 \
             01000005 01 17000006 03646566 00 00 00 0131 00 0c 2d00 00040000 fd 0000 00 0000 \
@@ -127,6 +183,7 @@ const COMMANDS: &[(&str, &str, &str, ServerStep)] = &[
     (
         OLD_LOGIN,
         "09000000 03 53454c4543542031",
+        ADMITTED,
         "01000001 01 17000002 03646566 00 00 00 0131 00 0c 2d00 00040000 fd 0000 00 0000 \
             05000003 fe00000200 02000004 0131 05000005 fe00000200",
         NEED,
@@ -134,87 +191,40 @@ const COMMANDS: &[(&str, &str, &str, ServerStep)] = &[
     (
         OLD_LOGIN,
         "02000000 03 32",
+        ADMITTED,
         "01000001 01 17000002 03646566 00 00 00 0131 00 0c 2d00 00040000 fd 0000 00 0000 \
             05000003 fe00000a00 02000004 0131 05000005 fe00000a00 \
             01000006 01 17000007 03646566 00 00 00 0131 00 0c 2d00 00040000 fd 0000 00 0000 \
             05000008 fe00000200 05000009 fe00000200",
         NEED,
     ),
-    (OLD_LOGIN, "01000000 0e", OK, NEED),
+    (OLD_LOGIN, "01000000 0e", ADMITTED, OK, NEED),
 ];
 
-fn spell(bytes: &mut Vec<u8>, first: &str, second: &str, third: &str) -> Result<(), NoMemory> {
-    add_hex(bytes, first)?;
-    add_hex(bytes, second)?;
-    add_hex(bytes, third)
-}
-
-// What a server sends that is handed these bytes, at most `most` at a time, where it comes to this step.
-fn answer(
-    alloc: Global,
-    input: &[u8],
-    most: usize,
-    sent: &mut Vec<u8>,
-    end: ServerStep,
-) -> Result<bool, ScriptFault> {
-    Ok(play(alloc, input, most, sent)? == end)
-}
-
-// Whether a server that is handed these bytes, at most `most` at a time, sends these and comes to this step.
-fn answers(
-    alloc: Global,
-    input: &[u8],
-    most: usize,
-    want: &[u8],
-    end: ServerStep,
-) -> Result<bool, ScriptFault> {
-    let mut sent = Vec::new(alloc);
-    let ends = answer(alloc, input, most, &mut sent, end)?;
-    Ok(ends && sent.as_slice() == want)
-}
-
-// The same, byte by byte and all at once.
-fn answers_both(
-    alloc: Global,
-    input: &[u8],
-    want: &[u8],
-    end: ServerStep,
-) -> Result<bool, ScriptFault> {
-    Ok(answers(alloc, input, 1, want, end)? && answers(alloc, input, usize::MAX, want, end)?)
-}
-
-// Whether a server answers these bytes by its greeting and these.
+// Whether a client that sends two parts is answered by the greeting and two parts, and the server comes to this step.
 fn is_played(
     alloc: Global,
-    login: &str,
-    input: &str,
-    admitted: &str,
-    want: &str,
+    input: (&str, &str),
+    answer: (&str, &str),
     end: ServerStep,
 ) -> Result<bool, ScriptFault> {
     let mut bytes = Vec::new(alloc);
-    let mut answer = Vec::new(alloc);
-    spell(&mut bytes, login, input, "")?;
-    spell(&mut answer, GREETING, admitted, want)?;
-    answers_both(alloc, bytes.as_slice(), answer.as_slice(), end)
+    let mut want = Vec::new(alloc);
+    add_hex(&mut bytes, input.0)?;
+    add_hex(&mut bytes, input.1)?;
+    add_hex(&mut want, GREETING)?;
+    add_hex(&mut want, answer.0)?;
+    add_hex(&mut want, answer.1)?;
+    plays_both(alloc, bytes.as_slice(), want.as_slice(), end)
 }
 
 #[test]
-fn logins_are_answered(rt: HostRuntime) -> Result<(), Fail> {
+fn clients_are_answered(rt: HostRuntime) -> Result<(), Fail> {
     let alloc = rt.alloc();
-    for (login, input, want, end) in LOGINS {
-        assert!(rt; is_played(alloc, login, input, "", want, *end)?, "{login}");
-    }
-    Ok(())
-}
-
-#[test]
-fn commands_are_answered(rt: HostRuntime) -> Result<(), Fail> {
-    let alloc = rt.alloc();
-    for (login, input, want, end) in COMMANDS {
+    for (first, second, verdict, answer, end) in PLAYS {
         assert!(rt;
-            is_played(alloc, login, input, ADMITTED, want, *end)?,
-            "{input}"
+            is_played(alloc, (*first, *second), (*verdict, *answer), *end)?,
+            "{second}"
         );
     }
     Ok(())
@@ -222,21 +232,20 @@ fn commands_are_answered(rt: HostRuntime) -> Result<(), Fail> {
 
 fn add_packet(bytes: &mut Vec<u8>, payload: &[u8]) -> Result<(), NoMemory> {
     bytes.extend_from_slice(&[(payload.len() % 256) as u8, 0, 0, 1])?;
-    bytes.extend_from_slice(payload)?;
-    Ok(())
+    Ok(bytes.extend_from_slice(payload)?)
 }
 
 // Whether a packet of these bytes is no login.
 fn is_no_login(alloc: Global, payload: &[u8], greeting: &[u8]) -> Result<bool, ScriptFault> {
     let mut packet = Vec::new(alloc);
     add_packet(&mut packet, payload)?;
-    answers_both(alloc, packet.as_slice(), greeting, BAD)
+    plays_both(alloc, packet.as_slice(), greeting, BAD)
 }
 
 // Whether more is needed after each part of a login, and a packet of only that part is none.
 fn are_cuts_refused(alloc: Global, login: &[u8], greeting: &[u8]) -> Result<bool, ScriptFault> {
     for end in 4..login.len() {
-        if !answers_both(alloc, &login[..end], greeting, NEED)?
+        if !plays_both(alloc, &login[..end], greeting, NEED)?
             || !is_no_login(alloc, &login[4..end], greeting)?
         {
             return Ok(false);
@@ -256,48 +265,5 @@ fn are_logins_refused(alloc: Global) -> Result<bool, ScriptFault> {
 #[test]
 fn cut_logins_are_refused(rt: HostRuntime) -> Result<(), Fail> {
     assert!(rt; are_logins_refused(rt.alloc())?);
-    Ok(())
-}
-
-fn fill(bytes: &mut Vec<u8>, count: usize) -> Result<(), NoMemory> {
-    for _ in 0..count {
-        bytes.push(b'x')?;
-    }
-    Ok(())
-}
-
-// Adds a query of two packets, the second of `length` bytes with the sequence id `number`.
-fn add_query(bytes: &mut Vec<u8>, number: u8, length: u8) -> Result<(), NoMemory> {
-    bytes.extend_from_slice(b"\xFF\xFF\xFF\x00\x03")?;
-    fill(bytes, FULL_LENGTH - 1)?;
-    bytes.extend_from_slice(&[length, 0, 0, number])?;
-    fill(bytes, usize::from(length))
-}
-
-fn is_long_answered(
-    alloc: Global,
-    number: u8,
-    length: u8,
-    want: &str,
-    end: ServerStep,
-) -> Result<bool, ScriptFault> {
-    let mut bytes = Vec::new(alloc);
-    let mut answer = Vec::new(alloc);
-    add_hex(&mut bytes, LOGIN)?;
-    add_query(&mut bytes, number, length)?;
-    spell(&mut answer, GREETING, ADMITTED, want)?;
-    answers(alloc, bytes.as_slice(), 65_536, answer.as_slice(), end)
-}
-
-// The ERR after a command of two packets.
-const LATE_NO_REPLY: &str = "11000002 ff2804 23 3432303030 6e6f207265706c79";
-
-// Queries of 2^24 - 1 and of 2^24 bytes, and one whose second packet has a wrong sequence id.
-#[test]
-fn long_commands_are_answered(rt: HostRuntime) -> Result<(), Fail> {
-    let alloc = rt.alloc();
-    assert!(rt; is_long_answered(alloc, 1, 0, LATE_NO_REPLY, NEED)?);
-    assert!(rt; is_long_answered(alloc, 1, 1, LATE_NO_REPLY, NEED)?);
-    assert!(rt; is_long_answered(alloc, 0, 1, "", ZEROTH)?);
     Ok(())
 }
