@@ -1,5 +1,6 @@
-//! A conversation of a connection with a server in memory, by calls that are polled by hand and by calls that wait, with ample memory.
-//! The bytes are those of the public pages of the protocol. This crate has tests alone.
+//! A conversation of a connection with a server in memory, by calls that are polled by hand and by calls that wait, with
+//! ample memory; packets over a link that plays a list, and a pool of buffers. The bytes are those of the public pages of
+//! the protocol. This crate has tests alone.
 #![tactic(auto)]
 
 #[cfg(test)]
@@ -8,6 +9,8 @@ mod drives;
 mod library;
 #[cfg(test)]
 mod link;
+#[cfg(test)]
+mod packets;
 #[cfg(test)]
 mod polls;
 #[cfg(test)]

@@ -1,5 +1,6 @@
 ghost use Rattle.my_command.specs.Client.Packet.{PartsFit};
 
+use crate::copies::attributes_are_copied;
 use crate::sent::{Case, packet_of};
 use my_command::{ClientPacket, write_client};
 use my_frame::NoMemory;
@@ -109,15 +110,6 @@ fn case_is_well(alloc: Global, case: Case, want: &[u8]) -> Result<bool, NoMemory
     is_well(alloc, &packet, want)
 }
 
-#[test]
-fn ample_packets_are_written_and_copied(rt: HostRuntime) -> Result<(), Fail> {
-    let alloc = rt.alloc();
-    for (case, want) in SENT {
-        assert!(rt; case_is_well(alloc, *case, want)?, "{want:?}");
-    }
-    Ok(())
-}
-
 fn differs(alloc: Global, packet: &ClientPacket, case: Case) -> Result<bool, NoMemory> {
     let other = packet_of(alloc, case)?;
     Ok(other != *packet)
@@ -137,7 +129,11 @@ fn query_is_alone(alloc: Global) -> Result<bool, NoMemory> {
 }
 
 #[test]
-fn ample_other_packets_are_not_equal(rt: HostRuntime) -> Result<(), Fail> {
-    assert!(rt; query_is_alone(rt.alloc())?);
+fn ample_packets_are_written_and_copied(rt: HostRuntime) -> Result<(), Fail> {
+    let alloc = rt.alloc();
+    for (case, want) in SENT {
+        assert!(rt; case_is_well(alloc, *case, want)?);
+    }
+    assert!(rt; query_is_alone(alloc)? && attributes_are_copied(alloc)?);
     Ok(())
 }

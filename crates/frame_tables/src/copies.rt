@@ -1,10 +1,8 @@
-use my_frame::Text;
-use std::test::Fail;
+use my_frame::{NoMemory, Text};
+use std::alloc::Global;
 
-#[test]
-fn ample_copies_of_texts(rt: HostRuntime) -> Result<(), Fail> {
-    let alloc = rt.alloc();
-    let text = Text::from_str(alloc, "x")?;
-    assert_eq!(rt; text.copy(alloc)?.as_str(), "x");
-    Ok(())
+/// Whether a copy of a text is that text.
+pub fn text_is_copied(alloc: Global, text: &str) -> Result<bool, NoMemory> {
+    let copy = Text::from_str(alloc, text)?.copy(alloc)?;
+    Ok(copy.as_str() == text)
 }

@@ -1,5 +1,7 @@
+use my_frame::NoMemory;
 use my_frame::numbers::take_len;
 use my_frame::writing::put_len;
+use std::alloc::Global;
 use std::test::Fail;
 
 // Bytes, the number at their front, and how many bytes are after it.
@@ -23,11 +25,10 @@ const LENS: &[(&[u8], Option<(u64, usize)>)] = &[
     ),
 ];
 
-#[test]
-fn lengths_of_every_width(rt: HostRuntime) {
-    for (bytes, want) in LENS {
-        let got = take_len(bytes).map(|(number, rest)| (number, rest.len()));
-        assert_eq!(rt; got, *want, "{bytes:?}");
+fn is_length(bytes: &[u8], want: Option<(u64, usize)>) -> bool {
+    match take_len(bytes) {
+        Some((number, rest)) => want == Some((number, rest.len())),
+        None => want.is_none(),
     }
 }
 
@@ -43,12 +44,20 @@ const SHORTEST: &[(u64, &[u8])] = &[
     (u64::MAX, b"\xfe\xff\xff\xff\xff\xff\xff\xff\xff"),
 ];
 
+fn is_written(alloc: Global, number: u64, want: &[u8]) -> Result<bool, NoMemory> {
+    let mut out = Vec::new(alloc);
+    put_len(&mut out, number)?;
+    Ok(out.as_slice() == want)
+}
+
 #[test]
-fn ample_lengths_are_written_in_the_shortest_form(rt: HostRuntime) -> Result<(), Fail> {
+fn ample_lengths_of_every_width(rt: HostRuntime) -> Result<(), Fail> {
+    let alloc = rt.alloc();
+    for (bytes, want) in LENS {
+        assert!(rt; is_length(bytes, *want));
+    }
     for (number, want) in SHORTEST {
-        let mut out = Vec::new(rt.alloc());
-        put_len(&mut out, *number)?;
-        assert!(rt; out.as_slice() == *want, "{number}: {out:?}");
+        assert!(rt; is_written(alloc, *number, want)?);
     }
     Ok(())
 }

@@ -5,8 +5,6 @@ use crate::tapes::{Change, SetUp, changed, login};
 use my_frame::NoMemory;
 use my_judge::{Tape, Verdict, judge};
 use std::alloc::Global;
-use std::process::Abort;
-use std::test::Fail;
 
 const ENDINGS: [Told<'static>; 14] = [
     Told::Ready,
@@ -25,12 +23,24 @@ const ENDINGS: [Told<'static>; 14] = [
     Told::Open,
 ];
 
-/// A tape, and how many changes of it were refuted.
-#[derive(Drop)]
+/// A tape that is accepted, and changes of it.
+#[derive(Clone, Copy)]
 pub struct Table<'a> {
-    set_up: SetUp,
-    lines: &'a [Line<'a>],
+    pub set_up: SetUp,
+    pub lines: &'a [Line<'a>],
+    /// A call, a change of it, and the call at which it is refuted; where there is none the reading allows it.
+    pub checks: &'a [(usize, Change<'a>, Option<usize>)],
+    /// The first call of which all changes are made.
+    pub from: usize,
+    /// How many changes are refuted.
+    pub refuted: usize,
+}
+
+// How many changes were refuted, and whether each had the verdict that it should.
+#[derive(Drop)]
+struct Count {
     refuted: usize,
+    is_right: bool,
 }
 
 fn is_among(told: Told, all: &[Told]) -> bool {
@@ -47,162 +57,185 @@ fn judged(alloc: Global, set_up: SetUp, tape: &Tape) -> Result<Verdict, NoMemory
     judge(alloc, &login, tape)
 }
 
-// What is found of the tape of these lines with a change.
-fn found(
+// What is found of the tape with a change.
+fn found(alloc: Global, table: &Table, at: usize, change: Change) -> Result<Verdict, NoMemory> {
+    let tape = changed(alloc, table.lines, at, change)?;
+    judged(alloc, table.set_up, &tape)
+}
+
+// The change of this call is refuted at that one.
+fn refute(
     alloc: Global,
-    set_up: SetUp,
-    lines: &[Line],
+    table: &Table,
+    count: &mut Count,
     at: usize,
     change: Change,
-) -> Result<Verdict, NoMemory> {
-    let tape = changed(alloc, lines, at, change)?;
-    judged(alloc, set_up, &tape)
+    by: usize,
+) -> Result<(), NoMemory> {
+    if found(alloc, table, at, change)? != Verdict::Refuted(by) {
+        count.is_right = false;
+    }
+    count.refuted = count.refuted.saturating_add(1);
+    Ok(())
 }
 
-fn expect(rt: &impl Abort, holds: bool, at: usize, change: Change) {
-    assert!(rt; holds, "call {at}: {change:?}");
+// The change is one that the reading allows.
+fn allow(
+    alloc: Global,
+    table: &Table,
+    count: &mut Count,
+    at: usize,
+    change: Change,
+) -> Result<(), NoMemory> {
+    if found(alloc, table, at, change)? != Verdict::Accepted {
+        count.is_right = false;
+    }
+    Ok(())
 }
 
-impl<'a> Table<'a> {
-    /// A tape that is accepted.
-    pub fn new(
-        rt: &impl Abort,
-        alloc: Global,
-        set_up: SetUp,
-        lines: &'a [Line<'a>],
-    ) -> Result<Table<'a>, NoMemory> {
-        let verdict = found(alloc, set_up, lines, 0, Change::Nothing)?;
-        expect(rt, verdict == Verdict::Accepted, 0, Change::Nothing);
-        Ok(Table {
-            set_up,
-            lines,
-            refuted: 0,
-        })
+// An ending that the bytes allow may close the connection.
+fn may_end(
+    alloc: Global,
+    table: &Table,
+    count: &mut Count,
+    at: usize,
+    change: Change,
+) -> Result<(), NoMemory> {
+    if found(alloc, table, at, change)? == Verdict::Refuted(at) {
+        count.is_right = false;
     }
+    Ok(())
+}
 
-    // What is found of the tape with a change.
-    fn found(&self, alloc: Global, at: usize, change: Change) -> Result<Verdict, NoMemory> {
-        found(alloc, self.set_up, self.lines, at, change)
+// Each other ending is refuted, but for those that the bytes allow.
+fn endings(
+    alloc: Global,
+    table: &Table,
+    count: &mut Count,
+    at: usize,
+    line: &Line,
+) -> Result<(), NoMemory> {
+    for told in ENDINGS {
+        if is_among(told, line.also) {
+            may_end(alloc, table, count, at, Change::Ending(told))?;
+        } else if told != line.ending {
+            refute(alloc, table, count, at, Change::Ending(told), at)?;
+        }
     }
+    Ok(())
+}
 
-    /// The change of this call is refuted at that one.
-    pub fn refute(
-        &mut self,
-        rt: &impl Abort,
-        alloc: Global,
-        at: usize,
-        change: Change,
-        by: usize,
-    ) -> Result<(), NoMemory> {
-        let verdict = self.found(alloc, at, change)?;
-        expect(rt, verdict == Verdict::Refuted(by), at, change);
-        self.refuted = self.refuted.saturating_add(1);
-        Ok(())
+// Whether another call follows.
+fn is_followed(table: &Table, at: usize) -> bool {
+    at.saturating_add(1) < table.lines.len()
+}
+
+// Bytes that were sent are those of the call.
+fn sent(
+    alloc: Global,
+    table: &Table,
+    count: &mut Count,
+    at: usize,
+    line: &Line,
+) -> Result<(), NoMemory> {
+    refute(alloc, table, count, at, Change::SentMore, at)?;
+    let bytes = line.sent.len();
+    if bytes == 0 {
+        return Ok(());
     }
-
-    /// The change is one that the reading allows.
-    pub fn allow(
-        &self,
-        rt: &impl Abort,
-        alloc: Global,
-        at: usize,
-        change: Change,
-    ) -> Result<(), NoMemory> {
-        let verdict = self.found(alloc, at, change)?;
-        expect(rt, verdict == Verdict::Accepted, at, change);
-        Ok(())
+    for place in [0, bytes / 2, bytes - 1] {
+        refute(alloc, table, count, at, Change::SentByte(place), at)?;
     }
+    if line.needs != Needs::More {
+        refute(alloc, table, count, at, Change::SentLess, at)?;
+        if is_followed(table, at) {
+            refute(alloc, table, count, at, Change::SentLater, at)?;
+        }
+    }
+    if at > 0 {
+        refute(alloc, table, count, at, Change::MissingName, at - 1)?;
+        refute(alloc, table, count, at - 1, Change::SentEarlier, at - 1)?;
+    }
+    Ok(())
+}
 
-    // Each other ending is refuted, but for those that the bytes allow. These may close the connection.
-    fn endings(
-        &mut self,
-        rt: &impl Abort,
-        alloc: Global,
-        at: usize,
-        line: &Line,
-    ) -> Result<(), NoMemory> {
-        for told in ENDINGS {
-            let change = Change::Ending(told);
-            if is_among(told, line.also) {
-                let verdict = self.found(alloc, at, change)?;
-                expect(rt, verdict != Verdict::Refuted(at), at, change);
-            } else if told != line.ending {
-                self.refute(rt, alloc, at, change, at)?;
+// A call needs the headers of the bytes that it received, and all of them.
+fn taken(
+    alloc: Global,
+    table: &Table,
+    count: &mut Count,
+    at: usize,
+    line: &Line,
+) -> Result<(), NoMemory> {
+    let [first, _] = line.taken;
+    if first.is_empty() {
+        return Ok(());
+    }
+    match line.needs {
+        Needs::All => {
+            refute(alloc, table, count, at, Change::TakenByte(0), at)?;
+            refute(alloc, table, count, at, Change::TakenByte(3), at)?;
+            refute(alloc, table, count, at, Change::TakenLess, at)?;
+            if is_followed(table, at) {
+                refute(alloc, table, count, at, Change::TakenLater, at)?;
             }
         }
-        Ok(())
+        Needs::Number => {
+            refute(alloc, table, count, at, Change::TakenByte(3), at)?;
+            allow(alloc, table, count, at, Change::TakenByte(0))?;
+            allow(alloc, table, count, at, Change::TakenLess)?;
+        }
+        Needs::More | Needs::Nothing => {}
     }
+    Ok(())
+}
 
-    // Bytes that were sent are those of the call.
-    fn sent(
-        &mut self,
-        rt: &impl Abort,
-        alloc: Global,
-        at: usize,
-        line: &Line,
-    ) -> Result<(), NoMemory> {
-        self.refute(rt, alloc, at, Change::SentMore, at)?;
-        let count = line.sent.len();
-        if count == 0 {
-            return Ok(());
-        }
-        for place in [0, count / 2, count - 1] {
-            self.refute(rt, alloc, at, Change::SentByte(place), at)?;
-        }
-        if line.needs != Needs::More {
-            self.refute(rt, alloc, at, Change::SentLess, at)?;
-            if at.saturating_add(1) < self.lines.len() {
-                self.refute(rt, alloc, at, Change::SentLater, at)?;
-            }
-        }
-        if at > 0 {
-            self.refute(rt, alloc, at, Change::MissingName, at - 1)?;
-            self.refute(rt, alloc, at - 1, Change::SentEarlier, at - 1)?;
-        }
-        Ok(())
+fn all_of_line(
+    alloc: Global,
+    table: &Table,
+    count: &mut Count,
+    at: usize,
+    line: &Line,
+) -> Result<(), NoMemory> {
+    endings(alloc, table, count, at, line)?;
+    sent(alloc, table, count, at, line)?;
+    taken(alloc, table, count, at, line)?;
+    if line.needs == Needs::Nothing {
+        refute(alloc, table, count, at, Change::TakenMore, at)?;
     }
+    Ok(())
+}
 
-    // A call needs the headers of the bytes that it received, and all of them.
-    fn taken(
-        &mut self,
-        rt: &impl Abort,
-        alloc: Global,
-        at: usize,
-        line: &Line,
-    ) -> Result<(), NoMemory> {
-        let [first, _] = line.taken;
-        if first.is_empty() {
-            return Ok(());
+// All changes of each call from the table's first one on.
+fn all(alloc: Global, table: &Table, count: &mut Count) -> Result<(), NoMemory> {
+    let mut at = 0usize;
+    for line in table.lines {
+        if at >= table.from {
+            all_of_line(alloc, table, count, at, line)?;
         }
-        match line.needs {
-            Needs::All => {
-                self.refute(rt, alloc, at, Change::TakenByte(0), at)?;
-                self.refute(rt, alloc, at, Change::TakenByte(3), at)?;
-                self.refute(rt, alloc, at, Change::TakenLess, at)?;
-                if at.saturating_add(1) < self.lines.len() {
-                    self.refute(rt, alloc, at, Change::TakenLater, at)?;
-                }
-            }
-            Needs::Number => {
-                self.refute(rt, alloc, at, Change::TakenByte(3), at)?;
-                self.allow(rt, alloc, at, Change::TakenByte(0))?;
-                self.allow(rt, alloc, at, Change::TakenLess)?;
-            }
-            Needs::More | Needs::Nothing => {}
-        }
-        Ok(())
+        at = at.wrapping_add(1);
     }
+    Ok(())
+}
 
-    /// All changes of each call from this one on; with those before, as many as were refuted.
-    pub fn all(mut self, rt: &impl Abort, alloc: Global, from: usize) -> Result<usize, Fail> {
-        for (at, line) in self.lines.iter().enumerate().skip(from) {
-            self.endings(rt, alloc, at, line)?;
-            self.sent(rt, alloc, at, line)?;
-            self.taken(rt, alloc, at, line)?;
-            if line.needs == Needs::Nothing {
-                self.refute(rt, alloc, at, Change::TakenMore, at)?;
-            }
+fn listed(alloc: Global, table: &Table, count: &mut Count) -> Result<(), NoMemory> {
+    for (at, change, by) in table.checks {
+        match by {
+            Some(by) => refute(alloc, table, count, *at, *change, *by)?,
+            None => allow(alloc, table, count, *at, *change)?,
         }
-        Ok(self.refuted)
     }
+    Ok(())
+}
+
+/// Whether the tape is accepted, each change has its verdict, and as many are refuted as should be.
+pub fn is_right(alloc: Global, table: &Table) -> Result<bool, NoMemory> {
+    let mut count = Count {
+        refuted: 0,
+        is_right: true,
+    };
+    allow(alloc, table, &mut count, 0, Change::Nothing)?;
+    listed(alloc, table, &mut count)?;
+    all(alloc, table, &mut count)?;
+    Ok(count.is_right && count.refuted == table.refuted)
 }

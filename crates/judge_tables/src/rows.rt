@@ -29,7 +29,7 @@ pub const OK: &[u8] = b"\x07\x00\x00\x01\x00\x00\x00\x02\x00\x00\x00";
 pub const OK_AND_MORE: &[u8] = b"\x07\x00\x00\x01\x00\x00\x00\x0a\x00\x00\x00";
 
 // A head of one column, which is named 1.
-pub const HEAD: &[u8] =
+const HEAD: &[u8] =
     b"\x01\x00\x00\x01\x01\x17\x00\x00\x02\x03def\x00\x00\x00\x011\x00\x0c\x3f\x00\x01\x00\x00\x00\x08\
     \x81\x00\x00\x00\x00";
 
@@ -42,7 +42,7 @@ pub const ERR: &[u8] = b"\x0a\x00\x00\x01\xff\x28\x04#42000X";
 
 pub const ERR_OF_ROW: &[u8] = b"\x0a\x00\x00\x03\xff\x28\x04#42000X";
 
-pub const SELECT: &[u8] = b"\x09\x00\x00\x00\x03SELECT 1";
+const SELECT: &[u8] = b"\x09\x00\x00\x00\x03SELECT 1";
 
 pub const DO: &[u8] = b"\x05\x00\x00\x00\x03DO 1";
 
@@ -62,7 +62,7 @@ pub enum Said<'a> {
 }
 
 /// How a call ended, if it did.
-#[derive(Clone, Copy, Debug, PartialEq)]
+#[derive(Clone, Copy, PartialEq)]
 pub enum Told<'a> {
     Ready,
     /// A row of one cell.
@@ -106,73 +106,48 @@ pub struct Line<'a> {
     pub needs: Needs,
 }
 
-/// A call that returns this once all its bytes came.
-pub fn returns<'a>(call: Said<'a>, sent: &'a [u8], taken: &'a [u8], ending: Told<'a>) -> Line<'a> {
-    Line {
-        call,
-        sent,
-        taken: [taken, b""],
-        ending,
-        also: &[],
-        needs: Needs::All,
-    }
-}
+/// A call that returns once all its bytes came.
+pub const RETURNS: Line<'static> = Line {
+    call: Said::NextRow,
+    sent: b"",
+    taken: [b"", b""],
+    ending: Told::Ready,
+    also: &[],
+    needs: Needs::All,
+};
 
-/// A call that awaits more, and ended so or otherwise.
-pub fn waits<'a>(
-    call: Said<'a>,
-    sent: &'a [u8],
-    taken: &'a [u8],
-    ending: Told<'a>,
-    also: &'a [Told<'a>],
-) -> Line<'a> {
-    Line {
-        call,
-        sent,
-        taken: [taken, b""],
-        ending,
-        also,
-        needs: Needs::More,
-    }
-}
+/// A call that awaits more.
+pub const WAITS: Line<'static> = Line {
+    needs: Needs::More,
+    ..RETURNS
+};
 
 /// A call on a closed connection.
-pub fn closed<'a>(call: Said<'a>, ending: Told<'a>) -> Line<'a> {
-    Line {
-        call,
-        sent: b"",
-        taken: [b"", b""],
-        ending,
-        also: &[],
-        needs: Needs::Nothing,
-    }
-}
+pub const CLOSED: Line<'static> = Line {
+    needs: Needs::Nothing,
+    ..RETURNS
+};
 
 /// The login.
-pub fn connects() -> Line<'static> {
-    Line {
-        call: Said::Connect,
-        sent: RESPONSE,
-        taken: [GREETING, LOGGED_IN],
-        ending: Told::Ready,
-        also: &[],
-        needs: Needs::All,
-    }
-}
+pub const CONNECTS: Line<'static> = Line {
+    call: Said::Connect,
+    sent: RESPONSE,
+    taken: [GREETING, LOGGED_IN],
+    ..RETURNS
+};
 
 /// The login of a client that asks for the longest packet and sends `DO 1`.
-pub fn sets_up() -> Line<'static> {
-    Line {
-        call: Said::Connect,
-        sent: SET_UP,
-        taken: [GREETING, SETTINGS],
-        ending: Told::Ready,
-        also: &[],
-        needs: Needs::All,
-    }
-}
+pub const SETS_UP: Line<'static> = Line {
+    call: Said::Connect,
+    sent: SET_UP,
+    taken: [GREETING, SETTINGS],
+    ..RETURNS
+};
 
 /// A query whose first set is begun.
-pub fn selects() -> Line<'static> {
-    returns(Said::Query(b"SELECT 1"), SELECT, HEAD, Told::Ready)
-}
+pub const SELECTS: Line<'static> = Line {
+    call: Said::Query(b"SELECT 1"),
+    sent: SELECT,
+    taken: [HEAD, b""],
+    ..RETURNS
+};

@@ -201,7 +201,7 @@ fn tape_of(alloc: Global, spans: Vec<Span>) -> Result<Tape, NoMemory> {
 }
 
 /// One change of a tape, at one of its calls.
-#[derive(Clone, Copy, Debug)]
+#[derive(Clone, Copy)]
 pub enum Change<'a> {
     Nothing,
     /// Another ending.

@@ -7,17 +7,7 @@ ghost use Rattle.my_cli.specs.Page.{page_text, PageEnds};
 ghost use Rattle.my_script.specs.Words.{command_of};
 
 mod help;
-#[cfg(test)]
-mod live_tests;
 mod message;
-#[cfg(test)]
-mod set_tests;
-#[cfg(test)]
-mod tests;
-#[cfg(test)]
-mod url_tests;
-#[cfg(test)]
-mod world_tests;
 
 use help::{Page, asked_page};
 use message::message;

@@ -4,8 +4,6 @@
 
 mod link;
 mod stream;
-#[cfg(test)]
-mod tests;
 mod world;
 
 pub use link::{RealLink, SocketLink, StreamLink, TcpLink};

@@ -4,8 +4,6 @@
 mod buffers;
 mod poll;
 mod read;
-#[cfg(test)]
-mod tests;
 mod write;
 
 pub use buffers::{BufferPool, PooledBuf};

@@ -1,11 +1,12 @@
-//! What getters return: whether the host is the machine itself, the capabilities of a client, when a
-//! connection of a pool ends, and what a transaction begins with.
+//! What getters return: whether the host is the machine itself, when a connection of a pool ends, and what a
+//! transaction begins with.
 
+use my_frame::NoMemory;
 use my_opts::{
     DEFAULT_PORT, DEFAULT_STMT_CACHE_SIZE, IsolationLevel, Millis, Opts, OptsBuilder,
     PoolConstraints, PoolOpts, TxOpts,
 };
-use std::alloc::Global;
+use std::alloc::{AllocError, Global};
 use std::test::Fail;
 
 /// Hosts, and whether each is the machine itself.
@@ -25,14 +26,6 @@ const HOSTS: &[(&str, bool)] = &[
     ("::2", false),
     ("[::1", false),
     ("[]", false),
-];
-
-/// URLs, and the capabilities of their clients.
-const CAPABILITIES: &[(&str, u32)] = &[
-    ("mysql://h", 0x010F_A281),
-    ("mysql://h/shop", 0x010F_A289),
-    ("mysql://h?client_found_rows=true", 0x010F_A283),
-    ("mysql://h/shop?client_found_rows=true", 0x010F_A28B),
 ];
 
 /// Bounds of a pool, and whether a pool can have them.
@@ -66,29 +59,10 @@ const LIVES: &[Life] = &[
 /// How long idle connections stay in milliseconds, and how many connections stay.
 const IDLE: &[(u64, u64)] = &[(0, 10), (1, 100)];
 
-fn is_loopback(alloc: Global, host: &str) -> Result<bool, Fail> {
+fn is_loopback(alloc: Global, host: &str) -> Result<bool, NoMemory> {
     let host = String::from_str(alloc, host)?;
     let opts = Opts::from(OptsBuilder::new(alloc)?.ip_or_hostname(host));
     Ok(opts.addr_is_loopback())
-}
-
-#[test]
-fn ample_hosts(rt: HostRuntime) -> Result<(), Fail> {
-    for (host, expected) in HOSTS {
-        let found = is_loopback(rt.alloc(), host)?;
-        assert!(rt; found == *expected, "{host}");
-    }
-    Ok(())
-}
-
-#[test]
-fn ample_capabilities(rt: HostRuntime) -> Result<(), Fail> {
-    for (url, expected) in CAPABILITIES {
-        assert!(rt; url.len() <= 1000);
-        let found = Opts::from_url(rt.alloc(), url)?.get_capabilities().0;
-        assert!(rt; found == *expected, "{url}: {found}");
-    }
-    Ok(())
 }
 
 fn end_of(life: &Life) -> Option<u128> {
@@ -105,21 +79,6 @@ fn kept(ttl: u64) -> u64 {
         .active_bound()
 }
 
-#[test]
-fn pools_keep_their_bounds(rt: HostRuntime) {
-    for (min, max, expected) in BOUNDS {
-        let found = PoolConstraints::new(*min, *max).is_some();
-        assert!(rt; found == *expected, "{min} {max}");
-    }
-    for life in LIVES {
-        let found = end_of(life);
-        assert!(rt; found == life.4, "{life:?}: {found:?}");
-    }
-    for (ttl, expected) in IDLE {
-        assert!(rt; kept(*ttl) == *expected, "{ttl}");
-    }
-}
-
 /// Levels with their words and numbers.
 const LEVELS: &[(IsolationLevel, &str, u8)] = &[
     (IsolationLevel::ReadUncommitted, "READ UNCOMMITTED", 0),
@@ -128,14 +87,14 @@ const LEVELS: &[(IsolationLevel, &str, u8)] = &[
     (IsolationLevel::Serializable, "SERIALIZABLE", 3),
 ];
 
-#[test]
-fn ample_levels(rt: HostRuntime) -> Result<(), Fail> {
-    for (level, words, number) in LEVELS {
-        let found = format!(in rt.alloc(); "{level}")?;
-        assert!(rt; found.as_str() == *words, "{found}");
-        assert!(rt; level.number() == *number, "{words}");
-    }
-    Ok(())
+fn is_level(
+    alloc: Global,
+    level: IsolationLevel,
+    words: &str,
+    number: u8,
+) -> Result<bool, AllocError> {
+    let text = level.to_string(alloc)?;
+    Ok(text.as_str() == words && level.number() == number)
 }
 
 fn transaction() -> TxOpts {
@@ -146,15 +105,41 @@ fn transaction() -> TxOpts {
     opts
 }
 
-#[test]
-fn values_keep_what_was_set(rt: HostRuntime) -> Result<(), Fail> {
+fn is_kept(opts: &TxOpts) -> bool {
+    opts.consistent_snapshot()
+        && opts.isolation_level() == Some(IsolationLevel::ReadCommitted)
+        && opts.readonly() == Some(false)
+        && *opts != TxOpts::default()
+}
+
+// A copy equals what was set.
+fn values_are_kept() -> Result<bool, AllocError> {
     let opts = transaction();
-    assert!(rt; opts.consistent_snapshot());
-    assert!(rt; opts.isolation_level() == Some(IsolationLevel::ReadCommitted));
-    assert!(rt; opts.readonly() == Some(false));
-    assert!(rt; opts.clone()? == opts);
-    assert!(rt; opts != TxOpts::default());
-    assert!(rt; PoolOpts::default().clone()? == PoolOpts::new());
-    assert!(rt; DEFAULT_PORT == 3306 && DEFAULT_STMT_CACHE_SIZE == 32);
+    Ok(is_kept(&opts) && opts.clone()? == opts && PoolOpts::default().clone()? == PoolOpts::new())
+}
+
+#[test]
+fn ample_answers(rt: HostRuntime) -> Result<(), Fail> {
+    let alloc = rt.alloc();
+    for (host, expected) in HOSTS {
+        assert!(rt; is_loopback(alloc, host)? == *expected);
+    }
+    for (level, words, number) in LEVELS {
+        assert!(rt; is_level(alloc, *level, words, *number)?);
+    }
+    assert!(rt; values_are_kept()? && DEFAULT_PORT == 3306 && DEFAULT_STMT_CACHE_SIZE == 32);
     Ok(())
+}
+
+#[test]
+fn pools_keep_their_bounds(rt: HostRuntime) {
+    for (min, max, expected) in BOUNDS {
+        assert!(rt; PoolConstraints::new(*min, *max).is_some() == *expected);
+    }
+    for life in LIVES {
+        assert!(rt; end_of(life) == life.4);
+    }
+    for (ttl, expected) in IDLE {
+        assert!(rt; kept(*ttl) == *expected);
+    }
 }

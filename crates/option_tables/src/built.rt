@@ -1,15 +1,17 @@
 //! Options that are built by calls, each as a line, with their target.
 
-use crate::line::line_of_owned;
+use crate::line::{after, after_number, is_line_of, is_over};
 use my_frame::NoMemory;
-use my_opts::{Millis, Opts, OptsBuilder, PoolConstraints, PoolOpts, Target};
+use my_opts::{
+    DEFAULT_POOL_CONSTRAINTS, Millis, Opts, OptsBuilder, PoolConstraints, PoolOpts, Target,
+};
 use std::alloc::{AllocError, Global};
 use std::collections::BTreeMap;
 use std::net::{IpAddr, Ipv4Addr, Ipv6Addr};
 use std::test::Fail;
 
 /// Which options.
-#[derive(Clone, Copy, Debug)]
+#[derive(Clone, Copy)]
 enum Case {
     /// Nothing is said.
     Default,
@@ -101,7 +103,7 @@ fn queries(alloc: Global, first: &str, second: &str) -> Result<Vec<String>, Allo
     Ok(queries)
 }
 
-fn attributes(alloc: Global) -> Result<BTreeMap<String, String>, Fail> {
+fn attributes(alloc: Global) -> Result<BTreeMap<String, String>, AllocError> {
     let name = text(alloc, "b")?;
     let value = text(alloc, "=2")?;
     let mut attributes = BTreeMap::new(alloc);
@@ -114,7 +116,7 @@ fn pair(alloc: Global, first: &str, second: &str) -> Result<(String, String), Al
     Ok((first, text(alloc, second)?))
 }
 
-fn lists(alloc: Global) -> Result<OptsBuilder, Fail> {
+fn lists(alloc: Global) -> Result<OptsBuilder, NoMemory> {
     let init = queries(alloc, "A", "B")?;
     let setup = queries(alloc, "C", "D")?;
     let ips = Vec::from_slice(alloc, &[IpAddr::V4(Ipv4Addr::new(10, 0, 0, 1))])?;
@@ -124,20 +126,23 @@ fn lists(alloc: Global) -> Result<OptsBuilder, Fail> {
     Ok(builder.connect_attributes(Some(attributes)))
 }
 
-fn copied(alloc: Global) -> Result<OptsBuilder, Fail> {
-    let builder = lists(alloc)?;
-    let copy = builder.copy(alloc)?;
-    Ok(copy.tcp_port(1))
+fn with_port(alloc: Global, builder: &OptsBuilder) -> Result<OptsBuilder, NoMemory> {
+    Ok(builder.copy(alloc)?.tcp_port(1))
 }
 
-fn two_more(alloc: Global) -> Result<OptsBuilder, Fail> {
+fn copied(alloc: Global) -> Result<OptsBuilder, NoMemory> {
+    let builder = lists(alloc)?;
+    with_port(alloc, &builder)
+}
+
+fn two_more(alloc: Global) -> Result<OptsBuilder, NoMemory> {
     let (first, early) = pair(alloc, "_os", "=1")?;
     let (second, late) = pair(alloc, "_os", "=9")?;
     let builder = lists(alloc)?.connect_attribute(alloc, first, early)?;
-    Ok(builder.connect_attribute(alloc, second, late)?)
+    builder.connect_attribute(alloc, second, late)
 }
 
-fn texts(alloc: Global) -> Result<OptsBuilder, Fail> {
+fn texts(alloc: Global) -> Result<OptsBuilder, NoMemory> {
     let (user, pass) = pair(alloc, "u", "p w")?;
     let (db_name, socket) = pair(alloc, "d", "/s")?;
     let host = text(alloc, "foo")?;
@@ -146,14 +151,16 @@ fn texts(alloc: Global) -> Result<OptsBuilder, Fail> {
     Ok(builder.db_name(Some(db_name)).socket(Some(socket)))
 }
 
-fn mixed(alloc: Global) -> Result<OptsBuilder, Fail> {
+fn constraints() -> PoolConstraints {
+    PoolConstraints::new(3, 20).unwrap_or(DEFAULT_POOL_CONSTRAINTS)
+}
+
+fn mixed(alloc: Global) -> Result<OptsBuilder, NoMemory> {
     let host = text(alloc, "h")?;
-    let bounds = PoolConstraints::new(3, 20).ok_or("no bounds")?;
+    let pool = PoolOpts::new().with_constraints(constraints());
     let builder = texts(alloc)?.ip_or_hostname(host).tcp_port(7);
-    let builder = builder
-        .conn_ttl(Some(Millis::from_secs(2)))
-        .secure_auth(false);
-    Ok(builder.pool_opts(PoolOpts::new().with_constraints(bounds)))
+    let builder = builder.conn_ttl(Some(Millis::from_secs(2)));
+    Ok(builder.secure_auth(false).pool_opts(pool))
 }
 
 fn numbers(builder: OptsBuilder) -> OptsBuilder {
@@ -175,33 +182,30 @@ fn truths(builder: OptsBuilder) -> OptsBuilder {
         .enable_cleartext_plugin(true)
 }
 
-fn pool() -> Option<PoolOpts> {
-    Some(
-        PoolOpts::new()
-            .with_constraints(PoolConstraints::new(3, 20)?)
-            .with_inactive_connection_ttl(Millis::from_millis(1))
-            .with_ttl_check_interval(Millis::from_secs(1))
-            .with_abs_conn_ttl(Some(Millis::from_secs(4)))
-            .with_abs_conn_ttl_jitter(Some(Millis::from_secs(5)))
-            .with_reset_connection(false)
-            .with_max_waiting(Some(6)),
-    )
+fn pool() -> PoolOpts {
+    PoolOpts::new()
+        .with_constraints(constraints())
+        .with_inactive_connection_ttl(Millis::from_millis(1))
+        .with_ttl_check_interval(Millis::from_secs(1))
+        .with_abs_conn_ttl(Some(Millis::from_secs(4)))
+        .with_abs_conn_ttl_jitter(Some(Millis::from_secs(5)))
+        .with_reset_connection(false)
+        .with_max_waiting(Some(6))
 }
 
-fn limited(alloc: Global) -> Result<OptsBuilder, Fail> {
-    Ok(
-        OptsBuilder::from_url(alloc, "mysql://root@localhost")?
-            .max_allowed_packet(Some(1))
-            .wait_timeout(Some(99_999_999)),
-    )
+// Nothing is said where the URL is refused, which is another line.
+fn limited(alloc: Global) -> Result<OptsBuilder, NoMemory> {
+    match OptsBuilder::from_url(alloc, "mysql://root@localhost") {
+        Ok(builder) => Ok(
+            builder
+                .max_allowed_packet(Some(1))
+                .wait_timeout(Some(99_999_999)),
+        ),
+        Err(_) => OptsBuilder::new(alloc),
+    }
 }
 
-fn pooled(alloc: Global) -> Result<OptsBuilder, Fail> {
-    let pool = pool().ok_or("no bounds")?;
-    Ok(OptsBuilder::new(alloc)?.pool_opts(pool))
-}
-
-fn known(alloc: Global) -> Result<OptsBuilder, Fail> {
+fn known(alloc: Global) -> Result<OptsBuilder, NoMemory> {
     let ips = [
         IpAddr::V4(Ipv4Addr::new(10, 0, 0, 1)),
         IpAddr::V6(Ipv6Addr::LOCALHOST),
@@ -212,21 +216,21 @@ fn known(alloc: Global) -> Result<OptsBuilder, Fail> {
     Ok(builder.resolved_ips(Some(ips)))
 }
 
-fn new(alloc: Global) -> Result<OptsBuilder, Fail> {
-    Ok(OptsBuilder::new(alloc)?)
-}
-
-fn numbered(alloc: Global) -> Result<OptsBuilder, Fail> {
+fn numbered(alloc: Global) -> Result<OptsBuilder, NoMemory> {
     Ok(numbers(OptsBuilder::new(alloc)?))
 }
 
-fn turned(alloc: Global) -> Result<OptsBuilder, Fail> {
+fn turned(alloc: Global) -> Result<OptsBuilder, NoMemory> {
     Ok(truths(OptsBuilder::new(alloc)?))
 }
 
-fn builder_of(alloc: Global, case: Case) -> Result<OptsBuilder, Fail> {
+fn pooled(alloc: Global) -> Result<OptsBuilder, NoMemory> {
+    Ok(OptsBuilder::new(alloc)?.pool_opts(pool()))
+}
+
+fn builder_of(alloc: Global, case: Case) -> Result<OptsBuilder, NoMemory> {
     match case {
-        Case::Default => new(alloc),
+        Case::Default => OptsBuilder::new(alloc),
         Case::Lists => lists(alloc),
         Case::Copied => copied(alloc),
         Case::Attributes => two_more(alloc),
@@ -240,39 +244,24 @@ fn builder_of(alloc: Global, case: Case) -> Result<OptsBuilder, Fail> {
     }
 }
 
-fn target_line(alloc: Global, target: Target) -> Result<String, AllocError> {
+fn is_target(target: &Target, line: &str) -> bool {
     match target {
-        Target::Socket(path) => Ok(path.into_string()),
+        Target::Socket(path) => path.as_str() == line,
         Target::Tcp { host, port, ips } => {
             let known = match ips {
-                Some(ips) => ips.as_vec().len(),
+                Some(ips) => ips.len(),
                 None => 0,
             };
-            format!(in alloc; "{} {port} ips={known}", host.as_str())
+            let line = after(Some(line.as_bytes()), host.as_str());
+            let line = after_number(line, " ", u128::from(*port));
+            is_over(after_number(line, " ips=", known as u128))
         }
     }
 }
 
-fn line_of_case(alloc: Global, case: Case) -> Result<String, Fail> {
-    let builder = builder_of(alloc, case)?;
-    Ok(line_of_owned(alloc, Opts::from(builder))?)
-}
-
-fn target_of_case(alloc: Global, case: Case) -> Result<String, Fail> {
-    let opts = Opts::from(builder_of(alloc, case)?);
+fn has_target(alloc: Global, opts: &Opts, line: &str) -> Result<bool, NoMemory> {
     let target = opts.target(alloc)?;
-    Ok(target_line(alloc, target)?)
-}
-
-#[test]
-fn ample_builders_give_what_was_set(rt: HostRuntime) -> Result<(), Fail> {
-    for (case, expected, target) in BUILT {
-        let line = line_of_case(rt.alloc(), *case)?;
-        assert!(rt; line.as_str() == *expected, "{case:?}: {line}");
-        let place = target_of_case(rt.alloc(), *case)?;
-        assert!(rt; place.as_str() == *target, "{case:?}: {place}");
-    }
-    Ok(())
+    Ok(is_target(&target, line))
 }
 
 // Whether a copy is equal, and differs with another port.
@@ -283,18 +272,21 @@ fn is_copied(alloc: Global, opts: &Opts) -> Result<bool, NoMemory> {
     Ok(is_same && other != *opts)
 }
 
-fn is_owned_copied(alloc: Global, opts: Opts) -> Result<bool, NoMemory> {
-    is_copied(alloc, &opts)
+fn are_well(alloc: Global, opts: &Opts, line: &str, target: &str) -> Result<bool, NoMemory> {
+    Ok(is_line_of(opts, line) && has_target(alloc, opts, target)? && is_copied(alloc, opts)?)
+}
+
+// Whether options have this line and this target, and are copied.
+fn case_is_well(alloc: Global, case: Case, line: &str, target: &str) -> Result<bool, NoMemory> {
+    let opts = Opts::from(builder_of(alloc, case)?);
+    are_well(alloc, &opts, line, target)
 }
 
 #[test]
-fn ample_copies_of_options(rt: HostRuntime) -> Result<(), Fail> {
-    for (case, _, _) in BUILT {
-        let builder = builder_of(rt.alloc(), *case)?;
-        assert!(rt;
-            is_owned_copied(rt.alloc(), Opts::from(builder))?,
-            "{case:?}"
-        );
+fn ample_builders_give_what_was_set(rt: HostRuntime) -> Result<(), Fail> {
+    let alloc = rt.alloc();
+    for (case, line, target) in BUILT {
+        assert!(rt; case_is_well(alloc, *case, line, target)?);
     }
     Ok(())
 }

@@ -1,13 +1,14 @@
-//! Changes of user, lists and refusals.
+//! Changes of user, and lists.
 
-use crate::line::line_of_owned;
-use my_opts::{ChangeUserOpts, Listed, Opts, OptsBuilder, UrlError, UrlFault};
+use crate::line::is_line_of;
+use my_frame::NoMemory;
+use my_opts::{ChangeUserOpts, Listed, Opts, UrlFault};
 use std::alloc::{AllocError, Global};
 use std::net::{IpAddr, Ipv4Addr};
 use std::test::Fail;
 
 /// For each part a new value, if it changes.
-#[derive(Clone, Copy, Debug)]
+#[derive(Clone, Copy)]
 struct Change {
     user: Option<Option<&'static str>>,
     pass: Option<Option<&'static str>>,
@@ -87,57 +88,55 @@ fn change_of(alloc: Global, change: &Change) -> Result<ChangeUserOpts, AllocErro
     Ok(made)
 }
 
-fn changed_line(alloc: Global, change: &Change) -> Result<(bool, String), Fail> {
-    let made = change_of(alloc, change)?;
+// Whether the change says what was set, and equals its copy, and the change of nothing where nothing was set.
+fn is_kept(alloc: Global, made: &ChangeUserOpts, change: &Change) -> Result<bool, NoMemory> {
+    let copy = made.copy(alloc)?;
+    let is_none = change.user.is_none() && change.pass.is_none() && change.db_name.is_none();
+    Ok(
+        made.user() == change.user
+            && made.pass() == change.pass
+            && made.db_name() == change.db_name
+            && copy == *made
+            && (copy == ChangeUserOpts::default()) == is_none,
+    )
+}
+
+fn changes(
+    alloc: Global,
+    made: ChangeUserOpts,
+    would_change: bool,
+    line: &str,
+) -> Result<bool, UrlFault> {
     let opts = Opts::from_url(alloc, "mysql://u@h/d")?;
-    let would_change = made.would_change(&opts);
-    let line = line_of_owned(alloc, made.update_opts(opts))?;
-    Ok((would_change, line))
+    let changes = made.would_change(&opts);
+    let changed = made.update_opts(opts);
+    Ok(changes == would_change && is_line_of(&changed, line))
 }
 
-#[test]
-fn ample_changes(rt: HostRuntime) -> Result<(), Fail> {
-    for (change, would_change, expected) in CHANGES {
-        let (changed, line) = changed_line(rt.alloc(), change)?;
-        assert!(rt; changed == *would_change, "{change:?}");
-        assert!(rt; line.as_str() == *expected, "{change:?}: {line}");
-    }
-    Ok(())
+fn is_well(
+    alloc: Global,
+    change: &Change,
+    would_change: bool,
+    line: &str,
+) -> Result<bool, UrlFault> {
+    let made = change_of(alloc, change)?;
+    let is_kept = is_kept(alloc, &made, change)?;
+    Ok(is_kept && changes(alloc, made, would_change, line)?)
 }
 
-#[test]
-fn ample_changes_are_kept(rt: HostRuntime) -> Result<(), Fail> {
-    for (change, _, _) in CHANGES {
-        let made = change_of(rt.alloc(), change)?;
-        assert!(rt; made.user() == change.user, "{change:?}");
-        assert!(rt; made.pass() == change.pass, "{change:?}");
-        assert!(rt; made.db_name() == change.db_name, "{change:?}");
-        let copy = made.copy(rt.alloc())?;
-        assert!(rt; copy == made, "{change:?}");
-        let is_none = change.user.is_none() && change.pass.is_none() && change.db_name.is_none();
-        assert!(rt;
-            (made == ChangeUserOpts::default()) == is_none,
-            "{change:?}"
-        );
-    }
-    Ok(())
-}
-
-#[test]
-fn ample_copies_of_lists(rt: HostRuntime) -> Result<(), Fail> {
-    let alloc = rt.alloc();
+// A list equals its copy.
+fn is_copied(alloc: Global) -> Result<bool, NoMemory> {
     let ips = [IpAddr::V4(Ipv4Addr::new(10, 0, 0, 1))];
     let ips = Listed::from(Vec::from_slice(alloc, &ips)?);
-    assert!(rt; ips.copy(alloc)? == ips);
-    Ok(())
+    Ok(ips.copy(alloc)? == ips)
 }
 
 #[test]
-fn refusals_are_equal(rt: HostRuntime) -> Result<(), Fail> {
-    let refused = OptsBuilder::from_url(rt.alloc(), "mysql:///")
-        .err()
-        .ok_or("given")?;
-    assert!(rt; refused == UrlFault::Url(UrlError::Invalid));
-    assert!(rt; refused != UrlFault::Url(UrlError::Parse));
+fn ample_changes_and_copies(rt: HostRuntime) -> Result<(), Fail> {
+    let alloc = rt.alloc();
+    for (change, would_change, line) in CHANGES {
+        assert!(rt; is_well(alloc, change, *would_change, line)?);
+    }
+    assert!(rt; is_copied(alloc)?);
     Ok(())
 }

@@ -11,6 +11,4 @@ mod changes;
 #[cfg(test)]
 mod line;
 #[cfg(test)]
-mod refusals;
-#[cfg(test)]
 mod urls;

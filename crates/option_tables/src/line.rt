@@ -1,201 +1,215 @@
 //! Options and refusals as lines: of options the host, the port and all that differs from the defaults, with
-//! blanks between.
+//! blanks between. What options say is taken from a line's front, piece by piece.
 
 use my_opts::{DEFAULT_POOL_CONSTRAINTS, Millis, Opts, PoolConstraints, UrlError, UrlFault};
-use std::alloc::{AllocError, Global};
 use std::collections::BTreeMap;
-use std::net::IpAddr;
+use std::net::{IpAddr, Ipv4Addr, Ipv6Addr};
 
-/// What a refusal says.
-pub fn refusal(alloc: Global, fault: &UrlFault) -> Result<String, AllocError> {
-    match fault {
-        UrlFault::Url(error) => cause(alloc, error),
-        UrlFault::NoMemory => String::from_str(alloc, "NoMemory"),
+/// What is left of a line after this text; `None` where the line doesn't begin with it.
+pub fn after<'a>(line: Option<&'a [u8]>, text: &str) -> Option<&'a [u8]> {
+    line?.strip_prefix(text.as_bytes())
+}
+
+// What is left after the digits of this number.
+fn after_digits(line: &[u8], number: u128) -> Option<&[u8]> {
+    let mut found = 0u128;
+    let mut count = 0usize;
+    for &byte in line {
+        let digit: u8 = byte.wrapping_sub(b'0');
+        if digit > 9 {
+            break;
+        }
+        found = found.wrapping_mul(10).wrapping_add(u128::from(digit));
+        count = count.wrapping_add(1);
+    }
+    if count == 0 || found != number {
+        return None;
+    }
+    line.get(count..)
+}
+
+/// What is left after a name and this number.
+pub fn after_number<'a>(line: Option<&'a [u8]>, name: &str, number: u128) -> Option<&'a [u8]> {
+    after_digits(after(line, name)?, number)
+}
+
+/// Whether nothing is left of a line.
+pub fn is_over(line: Option<&[u8]>) -> bool {
+    match line {
+        Some(rest) => rest.is_empty(),
+        None => false,
     }
 }
 
-fn cause(alloc: Global, error: &UrlError) -> Result<String, AllocError> {
+fn text<'a>(line: Option<&'a [u8]>, name: &str, value: Option<&str>) -> Option<&'a [u8]> {
+    match value {
+        Some(value) => after(after(line, name), value),
+        None => line,
+    }
+}
+
+fn number<'a>(line: Option<&'a [u8]>, name: &str, value: Option<u64>) -> Option<&'a [u8]> {
+    match value {
+        Some(value) => after_number(line, name, u128::from(value)),
+        None => line,
+    }
+}
+
+fn time<'a>(line: Option<&'a [u8]>, name: &str, value: Option<Millis>) -> Option<&'a [u8]> {
+    match value {
+        Some(value) => after_number(line, name, value.as_millis()),
+        None => line,
+    }
+}
+
+// A number that isn't the default.
+fn other<'a>(line: Option<&'a [u8]>, name: &str, value: u128, default: u128) -> Option<&'a [u8]> {
+    if value == default {
+        line
+    } else {
+        after_number(line, name, value)
+    }
+}
+
+fn truth<'a>(line: Option<&'a [u8]>, name: &str, holds: bool) -> Option<&'a [u8]> {
+    if holds { after(line, name) } else { line }
+}
+
+fn texts<'a>(line: &'a str, opts: &Opts) -> Option<&'a [u8]> {
+    let line = after(Some(line.as_bytes()), opts.ip_or_hostname());
+    let line = after_number(line, " ", u128::from(opts.tcp_port()));
+    let line = text(line, " user=", opts.user());
+    let line = text(line, " pass=", opts.pass());
+    let line = text(line, " db=", opts.db_name());
+    text(line, " socket=", opts.socket())
+}
+
+fn numbers<'a>(line: Option<&'a [u8]>, opts: &Opts) -> Option<&'a [u8]> {
+    let line = number(line, " packet=", opts.max_allowed_packet());
+    let line = number(line, " wait=", opts.wait_timeout());
+    let line = time(line, " conn_ttl=", opts.conn_ttl());
+    let line = time(line, " keepalive=", opts.tcp_keepalive());
+    let line = time(line, " abs_ttl=", opts.abs_conn_ttl());
+    let line = time(line, " jitter=", opts.abs_conn_ttl_jitter());
+    other(line, " cache=", u128::from(opts.stmt_cache_size()), 32)
+}
+
+fn bounds<'a>(line: Option<&'a [u8]>, bounds: PoolConstraints) -> Option<&'a [u8]> {
+    if bounds == DEFAULT_POOL_CONSTRAINTS {
+        return line;
+    }
+    let line = after_number(line, " pool=", u128::from(bounds.min()));
+    after_number(line, "..", u128::from(bounds.max()))
+}
+
+fn pool<'a>(line: Option<&'a [u8]>, opts: &Opts) -> Option<&'a [u8]> {
+    let pool = opts.pool_opts();
+    let line = bounds(line, pool.constraints());
+    let line = number(line, " max_waiting=", pool.max_waiting());
+    let ttl = pool.inactive_connection_ttl().as_millis();
+    let line = other(line, " inactive_ttl=", ttl, 0);
+    let interval = pool.ttl_check_interval().as_millis();
+    let line = other(line, " interval=", interval, 30_000);
+    truth(line, " reset_connection=false", !pool.reset_connection())
+}
+
+fn truths<'a>(line: Option<&'a [u8]>, opts: &Opts) -> Option<&'a [u8]> {
+    let line = truth(line, " tcp_nodelay=false", !opts.tcp_nodelay());
+    let line = truth(line, " prefer_socket=false", !opts.prefer_socket());
+    let line = truth(line, " secure_auth=false", !opts.secure_auth());
+    let line = truth(line, " client_found_rows", opts.client_found_rows());
+    let cleartext = opts.enable_cleartext_plugin();
+    let line = truth(line, " enable_cleartext_plugin", cleartext);
+    truth(line, " loopback", opts.addr_is_loopback())
+}
+
+fn queries<'a>(line: Option<&'a [u8]>, name: &str, queries: &[String]) -> Option<&'a [u8]> {
+    let mut line = line;
+    for query in queries {
+        line = after(after(line, name), query.as_str());
+    }
+    line
+}
+
+// The addresses that lines have.
+fn ip_text(ip: IpAddr) -> &'static str {
+    if ip == IpAddr::V4(Ipv4Addr::new(10, 0, 0, 1)) {
+        " ip=10.0.0.1"
+    } else if ip == IpAddr::V6(Ipv6Addr::LOCALHOST) {
+        " ip=::1"
+    } else {
+        " ip=?"
+    }
+}
+
+fn ips<'a>(line: Option<&'a [u8]>, ips: &[IpAddr]) -> Option<&'a [u8]> {
+    let mut line = line;
+    for ip in ips {
+        line = after(line, ip_text(*ip));
+    }
+    line
+}
+
+fn attributes<'a>(
+    line: Option<&'a [u8]>,
+    attributes: &BTreeMap<String, String>,
+) -> Option<&'a [u8]> {
+    let mut line = line;
+    for (name, value) in attributes {
+        line = after(after(after(line, " "), name.as_str()), value.as_str());
+    }
+    line
+}
+
+fn lists<'a>(line: Option<&'a [u8]>, opts: &Opts) -> Option<&'a [u8]> {
+    let line = queries(line, " init=", opts.init());
+    let line = queries(line, " setup=", opts.setup());
+    let line = match opts.resolved_ips() {
+        Some(known) => ips(line, known.as_slice()),
+        None => line,
+    };
+    match opts.connect_attributes() {
+        Some(named) => attributes(line, named),
+        None => line,
+    }
+}
+
+/// Whether options say this.
+pub fn is_line_of(opts: &Opts, line: &str) -> bool {
+    let line = texts(line, opts);
+    let line = pool(numbers(line, opts), opts);
+    is_over(lists(truths(line, opts), opts))
+}
+
+fn after_cause<'a>(line: Option<&'a [u8]>, error: &UrlError) -> Option<&'a [u8]> {
     match error {
         UrlError::FeatureRequired { feature, param } => {
-            format!(in alloc; "FeatureRequired {} {}", feature.as_str(), param.as_str())
+            let line = after(after(line, "FeatureRequired "), feature.as_str());
+            after(after(line, " "), param.as_str())
         }
-        UrlError::Invalid => String::from_str(alloc, "Invalid"),
+        UrlError::Invalid => after(line, "Invalid"),
         UrlError::InvalidParamValue { param, value } => {
-            format!(in alloc; "InvalidParamValue {} {}", param.as_str(), value.as_str())
+            let line = after(after(line, "InvalidParamValue "), param.as_str());
+            after(after(line, " "), value.as_str())
         }
         UrlError::InvalidPoolConstraints { min, max } => {
-            format!(in alloc; "InvalidPoolConstraints {min} {max}")
+            let line = after_number(line, "InvalidPoolConstraints ", u128::from(*min));
+            after_number(line, " ", u128::from(*max))
         }
-        UrlError::Parse => String::from_str(alloc, "Parse"),
+        UrlError::Parse => after(line, "Parse"),
         UrlError::UnknownParameter { param } => {
-            format!(in alloc; "UnknownParameter {}", param.as_str())
+            after(after(line, "UnknownParameter "), param.as_str())
         }
         UrlError::UnsupportedScheme { scheme } => {
-            format!(in alloc; "UnsupportedScheme {}", scheme.as_str())
+            after(after(line, "UnsupportedScheme "), scheme.as_str())
         }
     }
 }
 
-/// What options say.
-fn line_of(alloc: Global, opts: &Opts) -> Result<String, AllocError> {
-    let mut line = format!(in alloc; "{} {}", opts.ip_or_hostname(), opts.tcp_port())?;
-    put_texts(&mut line, opts)?;
-    put_numbers(&mut line, alloc, opts)?;
-    put_pool(&mut line, alloc, opts)?;
-    put_truths(&mut line, opts)?;
-    put_lists(&mut line, alloc, opts)?;
-    Ok(line)
-}
-
-/// What options say that are not used again.
-pub fn line_of_owned(alloc: Global, opts: Opts) -> Result<String, AllocError> {
-    line_of(alloc, &opts)
-}
-
-fn put_texts(line: &mut String, opts: &Opts) -> Result<(), AllocError> {
-    put_text(line, " user=", opts.user())?;
-    put_text(line, " pass=", opts.pass())?;
-    put_text(line, " db=", opts.db_name())?;
-    put_text(line, " socket=", opts.socket())
-}
-
-fn put_text(line: &mut String, name: &str, value: Option<&str>) -> Result<(), AllocError> {
-    if let Some(value) = value {
-        line.push_str(name)?;
-        line.push_str(value)?;
+/// Whether a refusal says this.
+pub fn is_refusal(fault: &UrlFault, line: &str) -> bool {
+    match fault {
+        UrlFault::Url(error) => is_over(after_cause(Some(line.as_bytes()), error)),
+        UrlFault::NoMemory => false,
     }
-    Ok(())
-}
-
-fn put_numbers(line: &mut String, alloc: Global, opts: &Opts) -> Result<(), AllocError> {
-    put_number(
-        line,
-        alloc,
-        " packet=",
-        opts.max_allowed_packet().map(u128::from),
-    )?;
-    put_number(line, alloc, " wait=", opts.wait_timeout().map(u128::from))?;
-    put_number(line, alloc, " conn_ttl=", millis(opts.conn_ttl()))?;
-    put_number(line, alloc, " keepalive=", millis(opts.tcp_keepalive()))?;
-    put_number(line, alloc, " abs_ttl=", millis(opts.abs_conn_ttl()))?;
-    put_number(line, alloc, " jitter=", millis(opts.abs_conn_ttl_jitter()))?;
-    put_number(
-        line,
-        alloc,
-        " cache=",
-        other(opts.stmt_cache_size() as u128, 32),
-    )
-}
-
-fn put_pool(line: &mut String, alloc: Global, opts: &Opts) -> Result<(), AllocError> {
-    let pool = opts.pool_opts();
-    put_bounds(line, alloc, pool.constraints())?;
-    put_number(
-        line,
-        alloc,
-        " max_waiting=",
-        pool.max_waiting().map(u128::from),
-    )?;
-    let ttl = pool.inactive_connection_ttl().as_millis();
-    put_number(line, alloc, " inactive_ttl=", other(ttl, 0))?;
-    let interval = pool.ttl_check_interval().as_millis();
-    put_number(line, alloc, " interval=", other(interval, 30_000))?;
-    put_where(line, " reset_connection=false", !pool.reset_connection())
-}
-
-fn put_bounds(line: &mut String, alloc: Global, bounds: PoolConstraints) -> Result<(), AllocError> {
-    if bounds != DEFAULT_POOL_CONSTRAINTS {
-        let text = format!(in alloc; " pool={}..{}", bounds.min(), bounds.max())?;
-        line.push_str(text.as_str())?;
-    }
-    Ok(())
-}
-
-fn millis(time: Option<Millis>) -> Option<u128> {
-    match time {
-        Some(time) => Some(time.as_millis()),
-        None => None,
-    }
-}
-
-/// The number, where it isn't the default.
-fn other(number: u128, default: u128) -> Option<u128> {
-    if number == default {
-        None
-    } else {
-        Some(number)
-    }
-}
-
-fn put_number(
-    line: &mut String,
-    alloc: Global,
-    name: &str,
-    value: Option<u128>,
-) -> Result<(), AllocError> {
-    if let Some(value) = value {
-        let number = format!(in alloc; "{name}{value}")?;
-        line.push_str(number.as_str())?;
-    }
-    Ok(())
-}
-
-fn put_truths(line: &mut String, opts: &Opts) -> Result<(), AllocError> {
-    put_where(line, " tcp_nodelay=false", !opts.tcp_nodelay())?;
-    put_where(line, " prefer_socket=false", !opts.prefer_socket())?;
-    put_where(line, " secure_auth=false", !opts.secure_auth())?;
-    put_where(line, " client_found_rows", opts.client_found_rows())?;
-    put_where(
-        line,
-        " enable_cleartext_plugin",
-        opts.enable_cleartext_plugin(),
-    )?;
-    put_where(line, " loopback", opts.addr_is_loopback())
-}
-
-fn put_where(line: &mut String, name: &str, holds: bool) -> Result<(), AllocError> {
-    if holds {
-        line.push_str(name)?;
-    }
-    Ok(())
-}
-
-fn put_lists(line: &mut String, alloc: Global, opts: &Opts) -> Result<(), AllocError> {
-    put_queries(line, " init=", opts.init())?;
-    put_queries(line, " setup=", opts.setup())?;
-    if let Some(ips) = opts.resolved_ips() {
-        put_ips(line, alloc, ips.as_slice())?;
-    }
-    if let Some(attributes) = opts.connect_attributes() {
-        put_attributes(line, attributes)?;
-    }
-    Ok(())
-}
-
-fn put_queries(line: &mut String, name: &str, queries: &[String]) -> Result<(), AllocError> {
-    for query in queries {
-        line.push_str(name)?;
-        line.push_str(query.as_str())?;
-    }
-    Ok(())
-}
-
-fn put_ips(line: &mut String, alloc: Global, ips: &[IpAddr]) -> Result<(), AllocError> {
-    for ip in ips {
-        let text = format!(in alloc; " ip={ip}")?;
-        line.push_str(text.as_str())?;
-    }
-    Ok(())
-}
-
-fn put_attributes(
-    line: &mut String,
-    attributes: &BTreeMap<String, String>,
-) -> Result<(), AllocError> {
-    for (name, value) in attributes {
-        line.push_str(" ")?;
-        line.push_str(name.as_str())?;
-        line.push_str(value.as_str())?;
-    }
-    Ok(())
 }

@@ -1,10 +1,11 @@
-//! URLs with the options that they give, or with the refusal.
+//! URLs with what they give: options or a refusal.
 
-use crate::line::{line_of_owned, refusal};
+ghost use Rattle.std.specs.Prelude.{◌≤◌, length};
+
+use crate::line::{is_line_of, is_refusal};
 use my_frame::NoMemory;
-use my_opts::{Opts, UrlFault};
-use std::alloc::Global;
-use std::process::Abort;
+use my_opts::{Opts, OptsBuilder, UrlError, UrlFault};
+use std::alloc::{AllocError, Global};
 use std::test::Fail;
 
 /// A line for each URL: the URL, and the line of its options or of its refusal.
@@ -153,12 +154,82 @@ mysql://h?pool_min=x&bar=1 -> InvalidParamValue pool_min x
 mysql://h?compression=on&bar=1 -> FeatureRequired compression compression
 mysql://h?require_ssl=true&compression=x -> InvalidParamValue compression x";
 
-/// URLs that hold blanks.
-const BLANKS: &[(&str, &str)] = &[
-    ("", "Parse"),
-    (" mysql://h/d b \n", "h 3306 db=d b"),
-    ("my\tsql://h\n/db", "h 3306 db=db"),
-    ("mysql://hö/ü", "h%C3%B6 3306 db=ü"),
+/// What is looked at.
+#[derive(Clone, Copy)]
+enum Look<'a> {
+    /// The line of the options, or of the refusal.
+    Line(&'a str),
+    /// What the refusal says to a user: one line that names the parameter and the cause.
+    Text(&'a str),
+    /// What the client is capable of.
+    Capabilities(u32),
+    /// A refusal that is no other one.
+    Invalid,
+}
+
+/// Further URLs: those that hold blanks, the texts of refusals, one that a builder refuses, and the capabilities of
+/// clients.
+const LOOKS: &[(&str, Look)] = &[
+    ("", Look::Line("Parse")),
+    (" mysql://h/d b \n", Look::Line("h 3306 db=d b")),
+    ("my\tsql://h\n/db", Look::Line("h 3306 db=db")),
+    ("mysql://hö/ü", Look::Line("h%C3%B6 3306 db=ü")),
+    ("mysql://h?bar=baz", Look::Text("unknown parameter bar")),
+    ("mysql://h?=1", Look::Text("unknown parameter ")),
+    (
+        "mysql://h?a%0Ab=1",
+        Look::Text("unknown parameter a\u{fffd}b"),
+    ),
+    (
+        "mysql://h?pool_min=x",
+        Look::Text("the value of pool_min is no number up to 18446744073709551615"),
+    ),
+    (
+        "mysql://h?conn_ttl=-1",
+        Look::Text("the value of conn_ttl is no number up to 18446744073709551615"),
+    ),
+    (
+        "mysql://h?tcp_keepalive=4294967296",
+        Look::Text("the value of tcp_keepalive is no number up to 4294967295"),
+    ),
+    (
+        "mysql://h?tcp_nodelay=yes",
+        Look::Text("the value of tcp_nodelay is neither true nor false"),
+    ),
+    (
+        "mysql://h?compression=a",
+        Look::Text("the value of compression is none of its values"),
+    ),
+    (
+        "mysql://h?compression=fast",
+        Look::Text("compression needs compression, which this client lacks"),
+    ),
+    (
+        "mysql://h?require_ssl=true",
+        Look::Text("require_ssl needs tls, which this client lacks"),
+    ),
+    (
+        "mysql://h?pool_max=5",
+        Look::Text("pool_min 10 is above pool_max 5"),
+    ),
+    (
+        "mysql://h?pool_min=0&pool_max=0",
+        Look::Text("pool_max is 0"),
+    ),
+    ("postgres://h", Look::Text("unsupported scheme postgres")),
+    ("mysql:///db", Look::Text("no host")),
+    ("42", Look::Text("no URL")),
+    ("mysql:///", Look::Invalid),
+    ("mysql://h", Look::Capabilities(0x010F_A281)),
+    ("mysql://h/shop", Look::Capabilities(0x010F_A289)),
+    (
+        "mysql://h?client_found_rows=true",
+        Look::Capabilities(0x010F_A283),
+    ),
+    (
+        "mysql://h/shop?client_found_rows=true",
+        Look::Capabilities(0x010F_A28B),
+    ),
 ];
 
 fn is_copied(alloc: Global, fault: &UrlFault) -> Result<bool, NoMemory> {
@@ -166,22 +237,58 @@ fn is_copied(alloc: Global, fault: &UrlFault) -> Result<bool, NoMemory> {
     Ok(copy == *fault)
 }
 
-/// The line of a URL's options, or of its refusal.
-fn line_of_url(rt: &impl Abort, alloc: Global, url: &str) -> Result<String, Fail> {
-    assert!(rt; url.len() <= 1000);
-    match Opts::from_url(alloc, url) {
-        Ok(opts) => Ok(line_of_owned(alloc, opts)?),
-        Err(fault) => {
-            assert!(rt; is_copied(alloc, &fault)?);
-            Ok(refusal(alloc, &fault)?)
-        }
+fn says(alloc: Global, fault: &UrlFault, want: &str) -> Result<bool, AllocError> {
+    let text = fault.to_string(alloc)?;
+    Ok(text.as_str() == want)
+}
+
+fn opts_are(opts: &Opts, look: Look) -> bool {
+    match look {
+        Look::Line(line) => is_line_of(opts, line),
+        Look::Text(_) | Look::Invalid => false,
+        Look::Capabilities(flags) => opts.get_capabilities().0 == flags,
     }
 }
 
-fn gives(rt: &impl Abort, alloc: Global, url: &str, expected: &str) -> Result<(), Fail> {
-    let line = line_of_url(rt, alloc, url)?;
-    assert!(rt; line.as_str() == expected, "{url}: {line}, not {expected}");
-    Ok(())
+fn is_invalid(fault: &UrlFault) -> bool {
+    *fault == UrlFault::Url(UrlError::Invalid) && *fault != UrlFault::Url(UrlError::Parse)
+}
+
+fn refusal_is(alloc: Global, fault: &UrlFault, look: Look) -> Result<bool, NoMemory> {
+    match look {
+        Look::Line(line) => Ok(is_refusal(fault, line) && is_copied(alloc, fault)?),
+        Look::Text(text) => Ok(says(alloc, fault, text)?),
+        Look::Capabilities(_) => Ok(false),
+        Look::Invalid => Ok(is_invalid(fault)),
+    }
+}
+
+// A builder is asked for a refusal alone.
+fn opts_of(alloc: Global, url: &str, look: Look) -> Result<Opts, UrlFault>
+    requires { length url.now ≤ 1048576 }
+{
+    match look {
+        Look::Invalid => Ok(Opts::from(OptsBuilder::from_url(alloc, url)?)),
+        _ => Opts::from_url(alloc, url),
+    }
+}
+
+// Whether a URL gives what is looked for.
+fn gives(alloc: Global, url: &str, look: Look) -> Result<bool, NoMemory> {
+    if url.len() > 1_000 {
+        return Ok(false);
+    }
+    match opts_of(alloc, url, look) {
+        Ok(opts) => Ok(opts_are(&opts, look)),
+        Err(fault) => refusal_is(alloc, &fault, look),
+    }
+}
+
+fn row_holds(alloc: Global, row: &str) -> Result<bool, NoMemory> {
+    match row.split_once(" -> ") {
+        Some((url, line)) => gives(alloc, url, Look::Line(line)),
+        None => Ok(false),
+    }
 }
 
 #[test]
@@ -189,13 +296,13 @@ fn ample_urls_give_what_is_beside_them(rt: HostRuntime) -> Result<(), Fail> {
     let alloc = rt.alloc();
     let mut count = 0u64;
     for row in URLS.lines() {
-        let (url, expected) = row.split_once(" -> ").ok_or("no arrow")?;
-        gives(&rt, alloc, url, expected)?;
+        assert!(rt; row_holds(alloc, row)?);
         count = count.wrapping_add(1);
     }
-    assert_eq!(rt; count, 143);
-    for (url, expected) in BLANKS {
-        gives(&rt, alloc, url, expected)?;
+    assert!(rt; count == 143);
+    for (url, look) in LOOKS {
+        assert!(rt; gives(alloc, url, *look)?);
     }
+    assert!(rt; says(alloc, &UrlFault::NoMemory, "out of memory")?);
     Ok(())
 }

@@ -5,9 +5,9 @@
 #[cfg(test)]
 mod answers;
 #[cfg(test)]
-mod line;
-#[cfg(test)]
 mod payloads;
+#[cfg(test)]
+mod readers;
 #[cfg(test)]
 mod reads;
 #[cfg(test)]

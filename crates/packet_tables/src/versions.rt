@@ -18,15 +18,14 @@ const VERSIONS: &[(&[u8], bool, [u16; 3])] = &[
     (b"100.1.1", false, [0, 0, 0]),
 ];
 
+fn is_version(text: &[u8], mariadb: bool, numbers: [u16; 3]) -> bool {
+    let version = server_version(text);
+    version.mariadb == mariadb && [version.major, version.minor, version.patch] == numbers
+}
+
 #[test]
 fn versions(rt: HostRuntime) {
     for (text, mariadb, numbers) in VERSIONS {
-        let version = server_version(text);
-        assert_eq!(rt; version.mariadb, *mariadb, "{text:?}");
-        assert_eq!(rt;
-            [version.major, version.minor, version.patch],
-            *numbers,
-            "{text:?}"
-        );
+        assert!(rt; is_version(text, *mariadb, *numbers));
     }
 }

@@ -2,15 +2,15 @@
 
 use crate::made::bytes;
 use my_command::statement::{ParameterType, put_bulk_head};
-use my_frame::Blob;
+use my_frame::{Blob, NoMemory};
 use my_params::bulk::{bulk_list_len, join_types, put_bulk_list, types_agree, types_of};
 use my_params::{Params, ParamsError, execute_body, into_values, parameter_of};
 use my_value::Value;
-use std::alloc::Global;
+use std::alloc::{AllocError, Global};
 use std::test::Fail;
 
 // The names foo, bar and foo.
-fn three_names(alloc: Global) -> Result<Vec<Blob>, Fail> {
+fn three_names(alloc: Global) -> Result<Vec<Blob>, NoMemory> {
     let mut names = Vec::new(alloc);
     for name in [b"foo", b"bar", b"foo"] {
         names.push(Blob::from_slice(alloc, name)?)?;
@@ -18,91 +18,140 @@ fn three_names(alloc: Global) -> Result<Vec<Blob>, Fail> {
     Ok(names)
 }
 
+fn add_pair(
+    alloc: Global,
+    pairs: &mut Vec<(Blob, Value)>,
+    name: &[u8],
+    value: Value,
+) -> Result<(), NoMemory> {
+    let name = Blob::from_slice(alloc, name)?;
+    Ok(pairs.push((name, value))?)
+}
+
 // Two values for foo, of which the last counts, and one for bar.
-fn three_pairs(alloc: Global) -> Result<Vec<(Blob, Value)>, Fail> {
+fn three_pairs(alloc: Global) -> Result<Params, NoMemory> {
     let mut pairs = Vec::new(alloc);
-    pairs.push((Blob::from_slice(alloc, b"foo")?, Value::Int(1)))?;
-    pairs.push((Blob::from_slice(alloc, b"bar")?, Value::Int(42)))?;
-    pairs.push((Blob::from_slice(alloc, b"foo")?, bytes(alloc, b"bar")?))?;
-    Ok(pairs)
+    add_pair(alloc, &mut pairs, b"foo", Value::Int(1))?;
+    add_pair(alloc, &mut pairs, b"bar", Value::Int(42))?;
+    add_pair(alloc, &mut pairs, b"foo", bytes(alloc, b"bar")?)?;
+    Ok(Params::Named(pairs))
 }
 
-#[test]
-fn filled_parameters(rt: HostRuntime) -> Result<(), Fail> {
-    let alloc = rt.alloc();
-    let names = three_names(alloc)?;
-    let params = Params::Named(three_pairs(alloc)?);
-    let values = into_values(alloc, params, names.as_slice())?;
-    let want = [bytes(alloc, b"bar")?, Value::Int(42), bytes(alloc, b"bar")?];
-    assert_eq!(rt; values.as_slice(), want.as_slice());
-    let (body, long) = execute_body(alloc, 1, values.as_slice())?;
-    assert_eq!(rt;
-        body.as_slice(),
-        b"\x17\x01\0\0\0\0\x01\0\0\0\0\x01\xfd\0\x08\0\xfd\0\x03bar\x2a\0\0\0\0\0\0\0\x03bar".as_slice()
-    );
-    assert!(rt; !long);
-    Ok(())
+fn one(alloc: Global, value: Value) -> Result<Vec<Value>, AllocError> {
+    let mut values = Vec::new(alloc);
+    values.push(value)?;
+    Ok(values)
 }
 
-#[test]
-fn refused_parameters(rt: HostRuntime) -> Result<(), Fail> {
-    let alloc = rt.alloc();
-    let names = three_names(alloc)?;
-    let missing = into_values(alloc, Params::Empty, names.as_slice()).err();
-    let foo = Blob::from_slice(alloc, b"foo")?;
-    assert_eq!(rt; missing, Some(ParamsError::Missing(foo)));
-    let positional = Params::Positional(vec![in alloc; Value::Int(1)]?);
-    let kind = into_values(alloc, positional, names.as_slice()).err();
-    assert_eq!(rt; kind, Some(ParamsError::Kind));
-    let float = Params::Positional(vec![in alloc; Value::FloatBits(1)]?);
-    assert_eq!(rt;
-        into_values(alloc, float, &[]).err(),
-        Some(ParamsError::Kind)
-    );
-    assert!(rt; into_values(alloc, Params::Empty, &[]).is_ok());
-    Ok(())
-}
-
-// A body of one chunk and its last byte, and one byte more.
-#[test]
-fn long_data(rt: HostRuntime) -> Result<(), Fail> {
-    let alloc = rt.alloc();
-    for (count, len, wanted) in [(16_777_197, 16_777_215, false), (16_777_198, 14, true)] {
-        let text = vec![in alloc; 7u8; count]?;
-        let values = [Value::Bytes(Blob::from(text))];
-        let (body, long) = execute_body(alloc, 1, &values)?;
-        assert_eq!(rt; body.len(), len);
-        assert_eq!(rt; long, wanted);
+// Whether values are sent as this body, without long data.
+fn are_sent(
+    alloc: Global,
+    statement: u32,
+    values: &[Value],
+    want: &[u8],
+) -> Result<bool, NoMemory> {
+    if values.len() > 65_535 {
+        return Ok(false);
     }
-    Ok(())
+    let (body, is_long) = execute_body(alloc, statement, values)?;
+    Ok(body.as_slice() == want && !is_long)
+}
+
+fn are_filled(values: &[Value]) -> bool {
+    match values {
+        [Value::Bytes(first), Value::Int(42), Value::Bytes(last)] => {
+            first.as_slice() == b"bar".as_slice() && last.as_slice() == b"bar".as_slice()
+        }
+        _ => false,
+    }
+}
+
+const FILLED: &[u8] =
+    b"\x17\x01\0\0\0\0\x01\0\0\0\0\x01\xfd\0\x08\0\xfd\0\x03bar\x2a\0\0\0\0\0\0\0\x03bar";
+
+fn fills(alloc: Global, names: &[Blob]) -> Result<bool, NoMemory> {
+    match into_values(alloc, three_pairs(alloc)?, names) {
+        Ok(values) => Ok(
+            are_filled(values.as_slice()) && are_sent(alloc, 1, values.as_slice(), FILLED)?,
+        ),
+        Err(_) => Ok(false),
+    }
+}
+
+// Whether nothing is given for the first name.
+fn lacks_foo(alloc: Global, names: &[Blob]) -> bool {
+    match into_values(alloc, Params::Empty, names) {
+        Err(ParamsError::Missing(name)) => name.as_slice() == b"foo".as_slice(),
+        _ => false,
+    }
+}
+
+// Whether a value by place is refused where a text has these names.
+fn is_other_kind(alloc: Global, value: Value, names: &[Blob]) -> Result<bool, NoMemory> {
+    let values = Params::Positional(one(alloc, value)?);
+    Ok(matches!(&into_values(alloc, values, names), Err(ParamsError::Kind)))
+}
+
+fn are_well(alloc: Global, names: &[Blob]) -> Result<bool, NoMemory> {
+    Ok(
+        fills(alloc, names)?
+            && lacks_foo(alloc, names)
+            && is_other_kind(alloc, Value::Int(1), names)?
+            && is_other_kind(alloc, Value::FloatBits(1), &[])?
+            && into_values(alloc, Params::Empty, &[]).is_ok(),
+    )
+}
+
+fn names_are_filled(alloc: Global) -> Result<bool, NoMemory> {
+    are_well(alloc, three_names(alloc)?.as_slice())
+}
+
+fn is_as_long(alloc: Global, values: &[Value], len: usize, long: bool) -> Result<bool, NoMemory> {
+    if values.len() > 65_535 {
+        return Ok(false);
+    }
+    let (body, is_long) = execute_body(alloc, 1, values)?;
+    Ok(body.len() == len && is_long == long)
+}
+
+// Whether a text of `count` bytes is sent as a body of `len` bytes, with long data or without.
+fn is_sent_long(alloc: Global, count: usize, len: usize, long: bool) -> Result<bool, NoMemory> {
+    let text = vec![in alloc; 7u8; count]?;
+    let values = one(alloc, Value::Bytes(Blob::from(text)))?;
+    is_as_long(alloc, values.as_slice(), len, long)
 }
 
 // Nine values: each kind, with two bytes of the bitmap.
-#[test]
-fn every_kind_is_sent(rt: HostRuntime) -> Result<(), Fail> {
-    let values = [
-        Value::NULL,
-        Value::Int(-1),
-        Value::UInt(1),
-        Value::Date(0, 0, 0, 0, 0, 0, 0),
-        Value::Date(2020, 12, 31, 0, 0, 0, 0),
-        Value::Date(0, 0, 0, 0, 0, 1, 0),
-        Value::Time(true, 0, 0, 0, 0, 0),
-        Value::Time(false, 0, 0, 0, 0, 1),
-        Value::NULL,
-    ];
-    let (body, _) = execute_body(rt.alloc(), 2, &values)?;
-    let want =
-        b"\x17\x02\0\0\0\0\x01\0\0\0\x01\x01\x01\x06\0\x08\0\x08\x80\x0c\0\x0c\0\x0c\0\x0b\0\x0b\0\x06\0\xff\xff\xff\xff\xff\xff\xff\xff\x01\0\0\0\0\0\0\0\0\x04\xe4\x07\x0c\x1f\x07\0\0\0\0\0\0\x01\x08\x01\0\0\0\0\0\0\0\x0c\0\0\0\0\0\0\0\0\x01\0\0\0";
-    assert_eq!(rt; body.as_slice(), want.as_slice());
-    let (empty, long) = execute_body(rt.alloc(), 2, &[])?;
-    assert_eq!(rt; empty.as_slice(), b"\x17\x02\0\0\0\0\x01\0\0\0".as_slice());
-    assert!(rt; !long);
-    Ok(())
+fn nth(place: u8) -> Value {
+    match place {
+        1 => Value::Int(-1),
+        2 => Value::UInt(1),
+        3 => Value::Date(0, 0, 0, 0, 0, 0, 0),
+        4 => Value::Date(2020, 12, 31, 0, 0, 0, 0),
+        5 => Value::Date(0, 0, 0, 0, 0, 1, 0),
+        6 => Value::Time(true, 0, 0, 0, 0, 0),
+        7 => Value::Time(false, 0, 0, 0, 0, 1),
+        _ => Value::NULL,
+    }
+}
+
+fn nine(alloc: Global) -> Result<Vec<Value>, AllocError> {
+    let mut values = Vec::new(alloc);
+    for place in 0..9 {
+        values.push(nth(place))?;
+    }
+    Ok(values)
+}
+
+const NINE: &[u8] =
+    b"\x17\x02\0\0\0\0\x01\0\0\0\x01\x01\x01\x06\0\x08\0\x08\x80\x0c\0\x0c\0\x0c\0\x0b\0\x0b\0\x06\0\xff\xff\xff\xff\xff\xff\xff\xff\x01\0\0\0\0\0\0\0\0\x04\xe4\x07\x0c\x1f\x07\0\0\0\0\0\0\x01\x08\x01\0\0\0\0\0\0\0\x0c\0\0\0\0\0\0\0\0\x01\0\0\0";
+
+fn nine_are_sent(alloc: Global) -> Result<bool, NoMemory> {
+    are_sent(alloc, 2, nine(alloc)?.as_slice(), NINE)
 }
 
 // Two lists as they are sent.
-fn two_lists(alloc: Global, first: &[Value], second: &[Value]) -> Result<Vec<u8>, Fail> {
+fn two_lists(alloc: Global, first: &[Value], second: &[Value]) -> Result<Vec<u8>, NoMemory> {
     let types = types_of(alloc, first)?;
     let types = join_types(alloc, types.as_slice(), second)?;
     let mut out = Vec::new(alloc);
@@ -112,56 +161,107 @@ fn two_lists(alloc: Global, first: &[Value], second: &[Value]) -> Result<Vec<u8>
     Ok(out)
 }
 
-#[test]
-fn lists_in_bulk(rt: HostRuntime) -> Result<(), Fail> {
-    let first = [Value::Int(1)];
-    let second = [Value::NULL];
-    let out = two_lists(rt.alloc(), &first, &second)?;
-    assert_eq!(rt;
-        out.as_slice(),
-        b"\xfa\x01\0\0\0\x80\0\x08\0\0\x01\0\0\0\0\0\0\0\x01".as_slice()
-    );
-    assert_eq!(rt; bulk_list_len(&first), 9);
-    assert_eq!(rt; bulk_list_len(&second), 1);
-    let types = types_of(rt.alloc(), &first)?;
-    assert!(rt; types_agree(types.as_slice(), &second));
-    assert!(rt; !types_agree(types.as_slice(), &[Value::UInt(2)]));
-    assert!(rt; !types_agree(types.as_slice(), &[]));
-    Ok(())
+const LISTS: &[u8] = b"\xfa\x01\0\0\0\x80\0\x08\0\0\x01\0\0\0\0\0\0\0\x01";
+
+fn are_lists(alloc: Global, first: &[Value], second: &[Value]) -> Result<bool, NoMemory> {
+    let out = two_lists(alloc, first, second)?;
+    Ok(out.as_slice() == LISTS && bulk_list_len(first) == 9 && bulk_list_len(second) == 1)
 }
 
-// Each kind of value is copied.
-#[test]
-fn ample_values(rt: HostRuntime) -> Result<(), Fail> {
-    let values = [
-        bytes(rt.alloc(), b"ab")?,
-        Value::NULL,
-        Value::Int(-1),
-        Value::UInt(1),
-        Value::FloatBits(2),
-        Value::DoubleBits(3),
-        Value::Date(1, 2, 3, 4, 5, 6, 7),
-        Value::Time(true, 1, 2, 3, 4, 5),
-    ];
-    for value in &values {
-        assert_eq!(rt; value.copy(rt.alloc())?, *value);
-    }
-    let params = Params::Named(three_pairs(rt.alloc())?);
-    assert_eq!(rt; params.copy(rt.alloc())?, params);
-    Ok(())
+// Whether a list has the types of the first one.
+fn agrees(alloc: Global, first: &[Value], other: &[Value]) -> Result<bool, NoMemory> {
+    let types = types_of(alloc, first)?;
+    Ok(types_agree(types.as_slice(), other))
 }
 
-// A value as a parameter of a packet: bytes that were sent before are empty, NULL is none.
-#[test]
-fn values_as_parameters(rt: HostRuntime) -> Result<(), Fail> {
-    let alloc = rt.alloc();
+fn lists_are_well(
+    alloc: Global,
+    first: &[Value],
+    second: &[Value],
+    other: &[Value],
+) -> Result<bool, NoMemory> {
+    Ok(
+        are_lists(alloc, first, second)?
+            && agrees(alloc, first, second)?
+            && !agrees(alloc, first, other)?
+            && !agrees(alloc, first, &[])?,
+    )
+}
+
+fn lists_are_sent(alloc: Global) -> Result<bool, NoMemory> {
+    let first = one(alloc, Value::Int(1))?;
+    let second = one(alloc, Value::NULL)?;
+    let other = one(alloc, Value::UInt(2))?;
+    lists_are_well(alloc, first.as_slice(), second.as_slice(), other.as_slice())
+}
+
+fn is_copied(alloc: Global, value: &Value) -> Result<bool, NoMemory> {
+    let copy = value.copy(alloc)?;
+    Ok(copy == *value)
+}
+
+// Each kind of value.
+fn values_are_copied(alloc: Global) -> Result<bool, NoMemory> {
+    Ok(
+        is_copied(alloc, &bytes(alloc, b"ab")?)?
+            && is_copied(alloc, &Value::NULL)?
+            && is_copied(alloc, &Value::Int(-1))?
+            && is_copied(alloc, &Value::UInt(1))?
+            && is_copied(alloc, &Value::FloatBits(2))?
+            && is_copied(alloc, &Value::DoubleBits(3))?
+            && is_copied(alloc, &Value::Date(1, 2, 3, 4, 5, 6, 7))?
+            && is_copied(alloc, &Value::Time(true, 1, 2, 3, 4, 5))?,
+    )
+}
+
+fn are_copied(alloc: Global, params: &Params) -> Result<bool, NoMemory> {
+    let copy = params.copy(alloc)?;
+    Ok(copy == *params)
+}
+
+fn pairs_are_copied(alloc: Global) -> Result<bool, NoMemory> {
+    are_copied(alloc, &three_pairs(alloc)?)
+}
+
+// Whether a parameter has this value and, where it is a text, its type.
+fn is_parameter(
+    alloc: Global,
+    value: &Value,
+    ahead: bool,
+    want: Option<&[u8]>,
+) -> Result<bool, NoMemory> {
+    let parameter = parameter_of(alloc, value, ahead)?;
+    Ok(match (&parameter.value, want) {
+        (Some(bytes), Some(want)) => {
+            bytes.as_slice() == want && parameter.form == ParameterType { kind: 253, flag: 0 }
+        }
+        (None, None) => true,
+        _ => false,
+    })
+}
+
+fn text_is_parameter(alloc: Global) -> Result<bool, NoMemory> {
     let text = bytes(alloc, b"ab")?;
-    let whole = parameter_of(alloc, &text, false)?;
-    let wanted = Blob::from_slice(alloc, b"\x02ab")?;
-    assert!(rt; whole.value == Some(wanted));
-    let ahead = parameter_of(alloc, &text, true)?;
-    assert!(rt; ahead.value == Some(Blob::new(alloc)));
-    assert_eq!(rt; ahead.form, ParameterType { kind: 253, flag: 0 });
-    assert!(rt; parameter_of(alloc, &Value::NULL, true)?.value == None);
+    let is_whole = is_parameter(alloc, &text, false, Some(b"\x02ab"))?;
+    Ok(is_whole && is_parameter(alloc, &text, true, Some(b""))?)
+}
+
+// Names are filled, each kind of value is sent and copied, and long texts are sent ahead: a body of one chunk and its last
+// byte, and one byte more. Bytes that were sent ahead are empty parameters, and NULL is none.
+#[test]
+fn parameters_are_sent(rt: HostRuntime) -> Result<(), Fail> {
+    let alloc = rt.alloc();
+    assert!(rt;
+        names_are_filled(alloc)?
+            && is_sent_long(alloc, 16_777_197, 16_777_215, false)?
+            && is_sent_long(alloc, 16_777_198, 14, true)?
+            && nine_are_sent(alloc)?
+            && are_sent(alloc, 2, &[], b"\x17\x02\0\0\0\0\x01\0\0\0")?
+            && lists_are_sent(alloc)?
+            && values_are_copied(alloc)?
+            && pairs_are_copied(alloc)?
+            && text_is_parameter(alloc)?
+            && is_parameter(alloc, &Value::NULL, true, None)?
+    );
     Ok(())
 }

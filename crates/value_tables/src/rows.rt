@@ -1,9 +1,9 @@
 //! Rows of both protocols, cell by cell.
 
-use crate::made::{bytes, columns};
+use crate::made::columns;
 use my_frame::{NoMemory, ReadError};
-use my_value::{Value, is_binary_row, is_text_row, read_binary_row, read_text_row};
-use std::alloc::Global;
+use my_value::{Columns, Row, Value, is_binary_row, is_text_row, read_binary_row, read_text_row};
+use std::alloc::{AllocError, Global};
 use std::test::Fail;
 
 /// What a cell is read as.
@@ -121,11 +121,9 @@ const CELLS: &[(u8, u16, &[u8], Want)] = &[
     (255, 0, b"\x01\x31", Want::Text(b"1")),
 ];
 
-// The value that is wanted; nothing where the cell is malformed.
-fn wanted(alloc: Global, want: Want) -> Result<Option<Value>, NoMemory> {
-    Ok(Some(match want {
-        Want::Malformed => return Ok(None),
-        Want::Null => Value::NULL,
+fn plain(want: Want) -> Value {
+    match want {
+        Want::Malformed | Want::Null | Want::Text(_) => Value::NULL,
         Want::Int(n) => Value::Int(n),
         Want::UInt(n) => Value::UInt(n),
         Want::FloatBits(bits) => Value::FloatBits(bits),
@@ -136,121 +134,174 @@ fn wanted(alloc: Global, want: Want) -> Result<Option<Value>, NoMemory> {
         Want::Time(negative, days, hours, minutes, seconds, micros) => {
             Value::Time(negative, days, hours, minutes, seconds, micros)
         }
-        Want::Text(text) => bytes(alloc, text)?,
-    }))
+    }
 }
 
-// The cell of a row of one cell; nothing where it is malformed.
-fn read_cell(
+fn is_wanted(value: &Value, want: Want) -> bool {
+    match want {
+        Want::Malformed => false,
+        Want::Text(text) => match value {
+            Value::Bytes(bytes) => bytes.as_slice() == text,
+            _ => false,
+        },
+        _ => *value == plain(want),
+    }
+}
+
+fn are_wanted(values: &[Value], wants: &[Want]) -> bool {
+    let mut at = 0usize;
+    for value in values {
+        match wants.get(at) {
+            Some(want) if is_wanted(value, *want) => {}
+            _ => return false,
+        }
+        at = at.wrapping_add(1);
+    }
+    at == wants.len()
+}
+
+// Whether a row has these columns and cells.
+fn is_row(row: Row, columns: &Columns, wants: &[Want]) -> bool {
+    let is_over = row.len() == wants.len() && row.columns_ref() == columns.as_slice();
+    is_over && are_wanted(row.unwrap().as_slice(), wants)
+}
+
+// Whether a row was read as it is wanted; a malformed one is wanted where no cell is.
+fn is_read(
+    read: Result<Row, ReadError>,
+    columns: &Columns,
+    wants: &[Want],
+) -> Result<bool, NoMemory> {
+    match read {
+        Ok(row) => Ok(is_row(row, columns, wants)),
+        Err(ReadError::Malformed) => Ok(is_malformed(wants)),
+        Err(ReadError::NoMemory) => Err(NoMemory),
+    }
+}
+
+fn is_malformed(wants: &[Want]) -> bool {
+    matches!(wants, [] | [Want::Malformed])
+}
+
+fn is_binary(
+    alloc: Global,
+    payload: &[u8],
+    columns: &Columns,
+    wants: &[Want],
+) -> Result<bool, NoMemory> {
+    let is_right = is_binary_row(columns.as_slice(), payload) != is_malformed(wants);
+    Ok(is_right && is_read(read_binary_row(alloc, payload, columns), columns, wants)?)
+}
+
+fn is_text(
+    alloc: Global,
+    payload: &[u8],
+    columns: &Columns,
+    wants: &[Want],
+) -> Result<bool, NoMemory> {
+    let is_right = is_text_row(columns.len(), payload) != is_malformed(wants);
+    Ok(is_right && is_read(read_text_row(alloc, payload, columns), columns, wants)?)
+}
+
+// The payload of a binary row of one cell.
+fn payload_of(alloc: Global, cell: &[u8]) -> Result<Vec<u8>, AllocError> {
+    let mut payload = vec![in alloc; 0u8, 0]?;
+    payload.extend_from_slice(cell)?;
+    Ok(payload)
+}
+
+fn is_cell(
     alloc: Global,
     column_type: u8,
     flags: u16,
     cell: &[u8],
-) -> Result<Option<Value>, NoMemory> {
+    want: Want,
+) -> Result<bool, NoMemory> {
+    let payload = payload_of(alloc, cell)?;
     let columns = columns(alloc, 1, column_type, flags)?;
-    let mut payload = vec![in alloc; 0u8, 0]?;
-    payload.extend_from_slice(cell)?;
-    if !is_binary_row(columns.as_slice(), payload.as_slice()) {
-        return Ok(None);
-    }
-    match read_binary_row(alloc, payload.as_slice(), &columns) {
-        Ok(mut row) => Ok(row.take(0)),
-        Err(ReadError::Malformed) => Ok(None),
-        Err(ReadError::NoMemory) => Err(NoMemory),
-    }
-}
-
-#[test]
-fn cells(rt: HostRuntime) -> Result<(), Fail> {
-    let alloc = rt.alloc();
-    for (column_type, flags, cell, want) in CELLS {
-        let found = read_cell(alloc, *column_type, *flags, cell)?;
-        assert!(rt; found == wanted(alloc, *want)?, "{column_type} {cell:?}");
-    }
-    Ok(())
+    is_binary(alloc, payload.as_slice(), &columns, &[want])
 }
 
 // Seven columns of TINY: the bits of the cells begin at the third bit of the bitmap.
-#[test]
-fn binary_nulls(rt: HostRuntime) -> Result<(), Fail> {
-    let columns = columns(rt.alloc(), 7, 1, 0)?;
-    let row = read_binary_row(rt.alloc(), b"\0\x08\x01\x01\x03\x04\x05\x06", &columns)?;
-    assert_eq!(rt; row.len(), 7);
-    assert_eq!(rt; row.columns_ref(), columns.as_slice());
-    let want = [
-        Value::Int(1),
-        Value::NULL,
-        Value::Int(3),
-        Value::Int(4),
-        Value::Int(5),
-        Value::Int(6),
-        Value::NULL,
-    ];
-    assert_eq!(rt; row.unwrap().as_slice(), want.as_slice());
-    for payload in [
-        b"".as_slice(),
-        b"\0",
-        b"\0\x08",
-        b"\x01\x08\x01\x01\x03\x04\x05\x06",
-    ] {
-        assert!(rt; !is_binary_row(columns.as_slice(), payload));
-    }
-    Ok(())
+const NULLS: &[(&[u8], &[Want])] = &[
+    (
+        b"\0\x08\x01\x01\x03\x04\x05\x06",
+        &[
+            Want::Int(1),
+            Want::Null,
+            Want::Int(3),
+            Want::Int(4),
+            Want::Int(5),
+            Want::Int(6),
+            Want::Null,
+        ],
+    ),
+    (b"", &[]),
+    (b"\0", &[]),
+    (b"\0\x08", &[]),
+    (b"\x01\x08\x01\x01\x03\x04\x05\x06", &[]),
+];
+
+fn is_of_seven(alloc: Global, payload: &[u8], wants: &[Want]) -> Result<bool, NoMemory> {
+    let columns = columns(alloc, 7, 1, 0)?;
+    is_binary(alloc, payload, &columns, wants)
 }
 
-// The cells of a text row of two cells; nothing where it is malformed.
-fn read_text(alloc: Global, payload: &[u8]) -> Result<Option<Vec<Value>>, NoMemory> {
+// Text rows of two cells.
+const TEXTS: &[(&[u8], &[Want])] = &[
+    (b"\x01\x31\x01\x32", &[Want::Text(b"1"), Want::Text(b"2")]),
+    (b"\xfb\0", &[Want::Null, Want::Text(b"")]),
+    (b"\xfc\x01\0\x31\xfb", &[Want::Text(b"1"), Want::Null]),
+    (b"\x01\x31", &[]),
+    (b"\x01\x31\x01\x32\0", &[]),
+    (b"\x01\x31\xff", &[]),
+    (b"\x01\x31\x02\x32", &[]),
+    (b"", &[]),
+];
+
+fn is_of_two(alloc: Global, payload: &[u8], wants: &[Want]) -> Result<bool, NoMemory> {
     let columns = columns(alloc, 2, 253, 0)?;
-    if !is_text_row(2, payload) {
-        return Ok(None);
-    }
-    match read_text_row(alloc, payload, &columns) {
-        Ok(row) => Ok(Some(row.unwrap())),
-        Err(ReadError::Malformed) => Ok(None),
-        Err(ReadError::NoMemory) => Err(NoMemory),
+    is_text(alloc, payload, &columns, wants)
+}
+
+// Whether a third cell isn't there, and the second one is taken.
+fn is_taken(row: &mut Row) -> bool {
+    let is_over = row.as_ref(2).is_none() && row.take(2).is_none();
+    match row.take(1) {
+        Some(value) => is_over && is_wanted(&value, Want::Text(b"2")),
+        None => false,
     }
 }
 
-#[test]
-fn text_rows(rt: HostRuntime) -> Result<(), Fail> {
-    let alloc = rt.alloc();
-    let one = bytes(alloc, b"1")?;
-    for (payload, want) in [
-        (
-            b"\x01\x31\x01\x32".as_slice(),
-            [one.copy(alloc)?, bytes(alloc, b"2")?],
-        ),
-        (b"\xfb\0", [Value::NULL, bytes(alloc, b"")?]),
-        (b"\xfc\x01\0\x31\xfb", [one, Value::NULL]),
-    ] {
-        let cells = read_text(alloc, payload)?.ok_or("a row")?;
-        assert_eq!(rt; cells.as_slice(), want.as_slice(), "{payload:?}");
-    }
-    for payload in [
-        b"\x01\x31".as_slice(),
-        b"\x01\x31\x01\x32\0",
-        b"\x01\x31\xff",
-        b"\x01\x31\x02\x32",
-        b"",
-    ] {
-        assert!(rt; read_text(alloc, payload)?.is_none(), "{payload:?}");
-    }
-    Ok(())
+fn is_left(alloc: Global, row: &Row) -> Result<bool, NoMemory> {
+    let left = row.copy(alloc)?.unwrap();
+    Ok(are_wanted(left.as_slice(), &[Want::Text(b"1"), Want::Null]))
+}
+
+fn is_changed(alloc: Global, row: &mut Row, whole: &Row) -> Result<bool, NoMemory> {
+    Ok(*row == *whole && is_taken(row) && *row != *whole && is_left(alloc, row)?)
+}
+
+fn row_is_changed(alloc: Global) -> Result<bool, ReadError> {
+    let columns = columns(alloc, 2, 253, 0)?;
+    let mut row = read_text_row(alloc, b"\x01\x31\x01\x32", &columns)?;
+    let whole = row.copy(alloc)?;
+    Ok(is_changed(alloc, &mut row, &whole)?)
 }
 
 // A cell that was taken is NULL afterwards, in a copy too; rows compare by cells and columns.
 #[test]
-fn taken_cells(rt: HostRuntime) -> Result<(), Fail> {
+fn rows(rt: HostRuntime) -> Result<(), Fail> {
     let alloc = rt.alloc();
-    let columns = columns(alloc, 2, 253, 0)?;
-    let mut row = read_text_row(alloc, b"\x01\x31\x01\x32", &columns)?;
-    let whole = row.copy(alloc)?;
-    assert!(rt; row == whole);
-    assert_eq!(rt; row.as_ref(2), None);
-    assert_eq!(rt; row.take(2), None);
-    assert_eq!(rt; row.take(1), Some(bytes(alloc, b"2")?));
-    assert!(rt; row != whole);
-    let want = [bytes(alloc, b"1")?, Value::NULL];
-    assert_eq!(rt; row.copy(alloc)?.unwrap().as_slice(), want.as_slice());
+    for (column_type, flags, cell, want) in CELLS {
+        assert!(rt; is_cell(alloc, *column_type, *flags, cell, *want)?);
+    }
+    for (payload, wants) in NULLS {
+        assert!(rt; is_of_seven(alloc, payload, wants)?);
+    }
+    for (payload, wants) in TEXTS {
+        assert!(rt; is_of_two(alloc, payload, wants)?);
+    }
+    assert!(rt; row_is_changed(alloc)?);
     Ok(())
 }

@@ -1,80 +1,113 @@
 //! The texts of errors.
 
 use crate::made::{bytes, columns};
-use my_frame::Blob;
+use my_frame::{Blob, NoMemory};
 use my_params::{ParamsError, ParseFault};
 use my_value::{FromRowError, FromValueError, Row, Value};
+use std::alloc::{AllocError, Global};
 use std::test::Fail;
 
-// A name is printed as text, with U+FFFD in place of what is no UTF-8.
-#[test]
-fn missing_names(rt: HostRuntime) -> Result<(), Fail> {
-    let alloc = rt.alloc();
-    for (name, want) in [
-        (b"foo".as_slice(), "no value for the parameter foo"),
-        (b"\xc3\xbc", "no value for the parameter \u{fc}"),
-        (
-            b"a\xffb\xc3",
-            "no value for the parameter a\u{fffd}b\u{fffd}",
-        ),
-        (b"", "no value for the parameter "),
-    ] {
-        let error = ParamsError::Missing(Blob::from_slice(alloc, name)?);
-        assert_eq!(rt; error.copy(alloc)?.to_string(alloc)?.as_str(), want);
-    }
-    Ok(())
+// Names of parameters as they are printed: as text, with U+FFFD in place of what is no UTF-8.
+const NAMES: &[(&[u8], &str)] = &[
+    (b"foo", "no value for the parameter foo"),
+    (b"\xc3\xbc", "no value for the parameter \u{fc}"),
+    (
+        b"a\xffb\xc3",
+        "no value for the parameter a\u{fffd}b\u{fffd}",
+    ),
+    (b"", "no value for the parameter "),
+];
+
+fn says_of_name(alloc: Global, error: &ParamsError, want: &str) -> Result<bool, NoMemory> {
+    let text = error.copy(alloc)?.to_string(alloc)?;
+    Ok(text.as_str() == want)
 }
 
-#[test]
-fn other_texts(rt: HostRuntime) -> Result<(), Fail> {
-    let alloc = rt.alloc();
-    let kind = ParamsError::Kind.to_string(alloc)?;
-    assert_eq!(rt; kind.as_str(), "parameters of another kind than the text's");
-    let mixed = ParseFault::MixedParams.to_string(alloc)?;
-    assert_eq!(rt;
-        mixed.as_str(),
-        "named and positional parameters in one text"
-    );
-    Ok(())
+fn is_missing(alloc: Global, name: &[u8], want: &str) -> Result<bool, NoMemory> {
+    let error = ParamsError::Missing(Blob::from_slice(alloc, name)?);
+    says_of_name(alloc, &error, want)
 }
 
-// What isn't converted is printed as text.
-#[test]
-fn refused_values(rt: HostRuntime) -> Result<(), Fail> {
-    let alloc = rt.alloc();
-    let cases = [
-        (Value::NULL, "NULL"),
-        (bytes(alloc, b"1a\xff")?, "1a\u{fffd}"),
-        (Value::Int(-256), "-256"),
-        (Value::UInt(256), "256"),
-        (Value::FloatBits(0x3f80_0000), "float 0x3f800000"),
-        (Value::DoubleBits(1), "double 0x0000000000000001"),
-        (
-            Value::Date(2020, 12, 31, 1, 2, 3, 4),
-            "2020-12-31 01:02:03.000004",
-        ),
-        (Value::Time(true, 1, 2, 3, 4, 5), "-1 02:03:04.000005"),
-        (Value::Time(false, 0, 0, 0, 0, 0), "0 00:00:00.000000"),
-    ];
-    for (value, want) in &cases {
-        let error = FromValueError::Value(value.copy(alloc)?);
-        let text = error.copy(alloc)?.to_string(alloc)?;
-        let want = format!(in alloc; "the value doesn't convert: {want}")?;
-        assert_eq!(rt; text, want);
-    }
-    Ok(())
+fn is_mixed(alloc: Global, want: &str) -> Result<bool, AllocError> {
+    let text = ParseFault::MixedParams.to_string(alloc)?;
+    Ok(text.as_str() == want)
 }
 
-#[test]
-fn refused_rows(rt: HostRuntime) -> Result<(), Fail> {
-    let alloc = rt.alloc();
-    let columns = columns(alloc, 3, 253, 0)?;
+fn says(alloc: Global, error: &FromValueError, want: &str) -> Result<bool, NoMemory> {
+    let text = error.copy(alloc)?.to_string(alloc)?;
+    Ok(text.as_str().strip_prefix("the value doesn't convert: ") == Some(want))
+}
+
+fn is_printed(alloc: Global, value: Value, want: &str) -> Result<bool, NoMemory> {
+    says(alloc, &FromValueError::Value(value), want)
+}
+
+fn cells(alloc: Global) -> Result<Vec<Value>, NoMemory> {
+    let last = bytes(alloc, b"abc")?;
     let mut cells = Vec::new(alloc);
     cells.push(Value::Int(1))?;
     cells.push(Value::NULL)?;
-    cells.push(bytes(alloc, b"abc")?)?;
-    let error = FromRowError::Row(Row::new(cells, columns));
+    cells.push(last)?;
+    Ok(cells)
+}
+
+// The row 1, NULL and `abc`.
+fn three(alloc: Global) -> Result<Row, NoMemory> {
+    let columns = columns(alloc, 3, 253, 0)?;
+    Ok(Row::new(cells(alloc)?, columns))
+}
+
+fn says_of_row(alloc: Global, error: &FromRowError, want: &str) -> Result<bool, NoMemory> {
     let text = error.copy(alloc)?.to_string(alloc)?;
-    assert_eq!(rt; text.as_str(), "the row doesn't convert: (1, NULL, abc)");
+    Ok(text.as_str() == want)
+}
+
+fn row_is_printed(alloc: Global, want: &str) -> Result<bool, NoMemory> {
+    let error = FromRowError::Row(three(alloc)?);
+    says_of_row(alloc, &error, want)
+}
+
+const OTHER: &str = "parameters of another kind than the text's";
+
+const MIXED: &str = "named and positional parameters in one text";
+
+const ROW: &str = "the row doesn't convert: (1, NULL, abc)";
+
+// What isn't converted is printed as text.
+fn values_are_printed(alloc: Global) -> Result<bool, NoMemory> {
+    let date = Value::Date(2020, 12, 31, 1, 2, 3, 4);
+    Ok(
+        is_printed(alloc, date, "2020-12-31 01:02:03.000004")?
+            && is_printed(
+                alloc,
+                Value::Time(true, 1, 2, 3, 4, 5),
+                "-1 02:03:04.000005",
+            )?
+            && is_printed(
+                alloc,
+                Value::Time(false, 0, 0, 0, 0, 0),
+                "0 00:00:00.000000",
+            )?
+            && is_printed(alloc, bytes(alloc, b"1a\xff")?, "1a\u{fffd}")?
+            && is_printed(alloc, Value::NULL, "NULL")?
+            && is_printed(alloc, Value::Int(-256), "-256")?
+            && is_printed(alloc, Value::UInt(256), "256")?
+            && is_printed(alloc, Value::FloatBits(0x3f80_0000), "float 0x3f800000")?
+            && is_printed(alloc, Value::DoubleBits(1), "double 0x0000000000000001")?,
+    )
+}
+
+#[test]
+fn errors_are_printed(rt: HostRuntime) -> Result<(), Fail> {
+    let alloc = rt.alloc();
+    for (name, want) in NAMES {
+        assert!(rt; is_missing(alloc, name, want)?);
+    }
+    assert!(rt;
+        says_of_name(alloc, &ParamsError::Kind, OTHER)?
+            && is_mixed(alloc, MIXED)?
+            && values_are_printed(alloc)?
+            && row_is_printed(alloc, ROW)?
+    );
     Ok(())
 }
