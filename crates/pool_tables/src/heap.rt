@@ -109,7 +109,7 @@ fn agrees(heap: &mut WaitHeap, list: &mut [Option<u64>; SLOTS], x: u64, turn: u6
         list[slot] = None;
         removes(heap, slot, &mut steps)
     } else {
-        let age = (x >> 8) % 1000000 * 10000 + turn;
+        let age = ((x >> 8) % 1000000 * 10000).saturating_add(turn);
         list[slot] = Some(age);
         most = bound(len, 1, 0);
         pushes(heap, slot, age, &mut steps)
