@@ -2,7 +2,7 @@
 
 use crate::play::{Cause, PLAIN, Run, WORD, goes, is_read};
 use crate::{answers, sets};
-use my_frame::{Source, SourceStep};
+use my_frame::{NoMemory, Source, SourceStep};
 use std::alloc::Global;
 use std::test::Fail;
 
@@ -206,24 +206,55 @@ const FAILED: Run<'static> = Run { status: 4, ..PLAIN };
 
 const TOO_LONG: Run<'static> = Run { status: 7, ..PLAIN };
 
-const TABLES: &[&[Run]] = &[
-    WORDS,
-    REFUSALS,
-    answers::RESPONSES,
-    answers::LINKS,
-    answers::URLS,
-    sets::TALKS,
-];
-
-// Each run; a run whose source fails, and one whose source never ends.
-#[test]
-fn runs(rt: HostRuntime) -> Result<(), Fail> {
-    let alloc = rt.alloc();
-    for table in TABLES {
-        for run in *table {
-            assert!(rt; goes(alloc, run)?);
+fn all_go(alloc: Global, table: &[Run]) -> Result<bool, NoMemory> {
+    for run in table {
+        if !goes(alloc, run)? {
+            return Ok(false);
         }
     }
+    Ok(true)
+}
+
+#[test]
+fn words_and_lines(rt: HostRuntime) -> Result<(), Fail> {
+    assert!(rt; all_go(rt.alloc(), WORDS)?);
+    Ok(())
+}
+
+#[test]
+fn refused_words(rt: HostRuntime) -> Result<(), Fail> {
+    assert!(rt; all_go(rt.alloc(), REFUSALS)?);
+    Ok(())
+}
+
+#[test]
+fn responses(rt: HostRuntime) -> Result<(), Fail> {
+    assert!(rt; all_go(rt.alloc(), answers::RESPONSES)?);
+    Ok(())
+}
+
+#[test]
+fn links(rt: HostRuntime) -> Result<(), Fail> {
+    assert!(rt; all_go(rt.alloc(), answers::LINKS)?);
+    Ok(())
+}
+
+#[test]
+fn urls(rt: HostRuntime) -> Result<(), Fail> {
+    assert!(rt; all_go(rt.alloc(), answers::URLS)?);
+    Ok(())
+}
+
+#[test]
+fn sets_of_rows(rt: HostRuntime) -> Result<(), Fail> {
+    assert!(rt; all_go(rt.alloc(), sets::TALKS)?);
+    Ok(())
+}
+
+// A source whose every read fails, and one that never ends.
+#[test]
+fn sources_without_an_end(rt: HostRuntime) -> Result<(), Fail> {
+    let alloc = rt.alloc();
     assert!(rt;
         is_read(alloc, &mut Broken { faults: 0 }, &FAILED)?
             && is_read(alloc, &mut Endless, &TOO_LONG)?
