@@ -33,7 +33,11 @@ fn change_line(
 // Whether the line is a packet, whose number is then another one, or is again.
 fn turn_number(run: &mut Run, at: usize) -> bool {
     match run.read.plan.as_mut_slice().get_mut(at) {
-        Some(WorldLine::Packet(_, number, _) | WorldLine::Drip(_, number, _)) => {
+        Some(WorldLine::Packet(_, number, _)) => {
+            *number ^= 1;
+            true
+        }
+        Some(WorldLine::Drip(_, number, _)) => {
             *number ^= 1;
             true
         }
