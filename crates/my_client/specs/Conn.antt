@@ -2,7 +2,7 @@
 use Rattle.std.specs.Prelude.{ℕ, List, Option, Some, None, option_map}
 use Rattle.my_link.specs.Looks.{Looks}
 use Rattle.my_session.specs.Seen.{Seen}
-use Rattle.my_client.specs.declared.conn.Conn.{Conn}
+use Rattle.my_client.specs.declared.conn.TapedConn.{TapedConn}
 use Rattle.my_client.specs.declared.tape.OpenCall.{OpenCall}
 use Rattle.my_client.specs.declared.tape.Tape.{Tape}
 use Rattle.my_client.specs.Kept.{Asked, Kept}
@@ -15,7 +15,7 @@ asked_in (Some o) =
 abbrev pub kept_in : Tape → Kept
 kept_in t = record { sent = t.sent.items; taken = t.taken.items; calls = t.calls.items; pending = asked_in t.pending }
 
-abbrev pub kept_of : {L : Type 0} → Conn L → Kept
+abbrev pub kept_of : {L : Type 0} → TapedConn L → Kept
 kept_of c = kept_in c.tape
 
 -- its session, what its link shows, and the bytes that were sent and taken

@@ -5,7 +5,7 @@ use Rattle.my_grammar.specs.declared.login.Login.{Login}
 use Rattle.my_session.specs.Seen.{Seen}
 use Rattle.my_client.specs.declared.poll.After.{After}
 use Rattle.my_client.specs.declared.poll.After.TheVariants.{Pending, Answered, Failed}
-use Rattle.my_client.specs.declared.conn.Conn.{Conn}
+use Rattle.my_client.specs.declared.conn.TapedConn.{TapedConn}
 use Rattle.my_link.specs.declared.met.Met.{Met}
 use Rattle.my_client.specs.declared.tape.Said.{Said}
 use Rattle.my_client.specs.declared.tape.Said.TheVariants as says
@@ -34,7 +34,7 @@ pub record Drives (login : Login) (a : Asked) (t : Seen) (x y : Looks) (k end : 
   pub stepped : IsStepped login t end
 
 -- of each call that may be open
-abbrev pub EachDrives : {L : Type 0} → (L → Looks) → Conn L → Conn L → Met → After → Type 0
+abbrev pub EachDrives : {L : Type 0} → (L → Looks) → TapedConn L → TapedConn L → Met → After → Type 0
 EachDrives look c d m after = (login : Login) (a : Asked) → IsAsked login c.session.seen (kept_of c) a
     → Drives login a d.session.seen (look c.link) (look d.link) (kept_of c) (kept_of d) m after
 
@@ -48,14 +48,14 @@ RowsOf a (Failed e) rows = rows ≡ a.rows
 abbrev pub RowsBy : Kept → After → Option (List RowParts) → Type 0
 RowsBy k after rows = (a : Asked) → k.pending ≡ Some a → RowsOf a after rows
 
-abbrev pub EachRows : {L : Type 0} → Conn L → After → Option (List RowParts) → Type 0
+abbrev pub EachRows : {L : Type 0} → TapedConn L → After → Option (List RowParts) → Type 0
 EachRows c after rows = RowsBy (kept_of c) after rows
 
 -- where a call was open, it is kept as ended so, or as the poll left it
 abbrev pub EndsBy : Kept → Kept → Said → Type 0
 EndsBy k end said = (a : Asked) → k.pending ≡ Some a → end ≡ ended_by k a said
 
-abbrev pub EachEnded : {L : Type 0} → Conn L → Conn L → Said → Type 0
+abbrev pub EachEnded : {L : Type 0} → TapedConn L → TapedConn L → Said → Type 0
 EachEnded c d said = EndsBy (kept_of c) (kept_of d) said
 
 abbrev pub KeepsBy : Kept → Kept → After → Type 0

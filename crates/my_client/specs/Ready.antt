@@ -10,14 +10,14 @@ use Rattle.my_session.specs.Seen.{Seen}
 use Rattle.my_session.specs.Steps.{is_settled}
 use Rattle.my_client.specs.declared.poll.After.{After}
 use Rattle.my_client.specs.declared.poll.After.TheVariants.{Pending, Answered, Failed}
-use Rattle.my_client.specs.declared.conn.Conn.{Conn}
+use Rattle.my_client.specs.declared.conn.TapedConn.{TapedConn}
 use Rattle.my_client.specs.Kept.{Asked, Kept, made_of}
 use Rattle.my_client.specs.Reads.{IsStepped}
 use Rattle.my_client.specs.Rests.{Rests, IsAsked}
 use Rattle.my_client.specs.Conn.{kept_of}
 
 -- a connection's session stands for what the connection kept, and its open call, if there is one, was stepped
-pub record StandsBy {L : Type 0} (login : Login) (c : Conn L) : Type 0 where
+pub record StandsBy {L : Type 0} (login : Login) (c : TapedConn L) : Type 0 where
   pub rests : Rests login c.session.seen (kept_of c)
   pub stepped : IsStepped login c.session.seen (kept_of c)
 
@@ -41,11 +41,11 @@ JoinedBy None k = WasJoined k
 JoinedBy (Some a) k = (is_connect (kind_of a.call) ≡ false → WasJoined k) × (is_some a.rows ≡ true → IsOpen k)
 
 -- a connection on which a call may begin
-abbrev pub ConnReady : {L : Type 0} → Conn L → Type 0
+abbrev pub ConnReady : {L : Type 0} → TapedConn L → Type 0
 ConnReady c = (login : Login) × StandsBy login c × JoinedBy (kept_of c).pending (kept_of c)
 
 -- the open call isn't the handshake, and the session isn't closed
-abbrev pub AskedReady : {L : Type 0} → Conn L → Type 0
+abbrev pub AskedReady : {L : Type 0} → TapedConn L → Type 0
 AskedReady c = (login : Login) × (a : Asked) × IsAsked login c.session.seen (kept_of c) a
     × WasJoined (kept_of c) × IsOpen (kept_of c)
 

@@ -20,16 +20,16 @@ use my_reply::OkPacket;
 use my_session::Session;
 use std::alloc::Global;
 
-/// A connection: a session on its link, with what it did so far.
+/// A connection of which a tape is kept: a session on its link, with what it did so far.
 #[derive(Drop)]
-pub struct Conn<L> {
+pub struct TapedConn<L> {
     pub session: Session,
     pub link: L,
     pub tape: Tape,
 }
 
 // A connection over `link` on which no call began.
-fn new_conn<L: Link + Drop>(alloc: Global, opts: &Opts, link: L) -> Result<Conn<L>, NoMemory>
+fn new_conn<L: Link + Drop>(alloc: Global, opts: &Opts, link: L) -> Result<TapedConn<L>, NoMemory>
     ensures seen { IfOk result (λ c. c.session.seen ≡ fresh (login_of opts.now)) }
     ensures stands { IfOk result (λ c. Stands c.session.seen beginning) }
     ensures kept { IfOk result (λ c. kept_of c ≡ nothing_kept) }
@@ -37,7 +37,7 @@ fn new_conn<L: Link + Drop>(alloc: Global, opts: &Opts, link: L) -> Result<Conn<
 {
     let login = login_for(alloc, opts)?;
     let session = Session::new(alloc, login)?;
-    Ok(Conn {
+    Ok(TapedConn {
         session,
         link,
         tape: Tape::new(alloc),
@@ -45,7 +45,11 @@ fn new_conn<L: Link + Drop>(alloc: Global, opts: &Opts, link: L) -> Result<Conn<
 }
 
 /// A connection over `link` whose handshake is begun.
-pub fn begin_conn<L: Link + Drop>(alloc: Global, opts: &Opts, link: L) -> Result<Conn<L>, NoMemory>
+pub fn begin_conn<L: Link + Drop>(
+    alloc: Global,
+    opts: &Opts,
+    link: L,
+) -> Result<TapedConn<L>, NoMemory>
     ensures asked { IfOk result (λ c. IsAsked (login_of opts.now) c.session.seen (kept_of c) first_asked) }
     ensures kept { IfOk result (λ c. kept_of c ≡ first_kept) }
     ensures open { IfOk result (λ c. is_open c.session.seen.task ≡ true) }
@@ -60,7 +64,7 @@ pub fn begin_conn<L: Link + Drop>(alloc: Global, opts: &Opts, link: L) -> Result
 }
 
 /// Whether the open call is the handshake.
-pub fn is_connecting<L>(conn: &Conn<L>) -> bool
+pub fn is_connecting<L>(conn: &TapedConn<L>) -> bool
     ensures { (a : Asked) → (kept_of conn.now).pending ≡ Some a → result ≡ is_connect (kind_of a.call) }
 {
     match &conn.tape.pending {
@@ -73,7 +77,7 @@ pub fn is_connecting<L>(conn: &Conn<L>) -> bool
 }
 
 /// Whether the open call gathers a set's rows.
-pub fn is_gathering<L>(conn: &Conn<L>) -> bool
+pub fn is_gathering<L>(conn: &TapedConn<L>) -> bool
     ensures { (a : Asked) → (kept_of conn.now).pending ≡ Some a → result ≡ is_some a.rows }
 {
     match &conn.tape.pending {
@@ -83,7 +87,7 @@ pub fn is_gathering<L>(conn: &Conn<L>) -> bool
 }
 
 /// A copy of the server's last OK packet.
-pub fn last_ok<L>(alloc: Global, conn: &Conn<L>) -> Result<Option<OkPacket>, NoMemory>
+pub fn last_ok<L>(alloc: Global, conn: &TapedConn<L>) -> Result<Option<OkPacket>, NoMemory>
     ensures { IfOk result (λ ok. ok ≡ conn.now.session.seen.facts.ok) }
 {
     match conn.session.last_ok() {

@@ -4,7 +4,7 @@ ghost use Rattle.my_session.specs.Tasks.{is_open};
 ghost use Rattle.my_client.specs.Drives.{EachDrives, EachRows};
 ghost use Rattle.my_client.specs.Ready.{RestsBy};
 
-use crate::conn::Conn;
+use crate::conn::TapedConn;
 use crate::poll::{After, poll_session};
 use my_frame::NoMemory;
 use my_link::{Link, Met};
@@ -16,7 +16,7 @@ use std::alloc::Global;
 /// The result is what the poll came to, what it met, and the rows that the call gathered, where it ended.
 pub fn drive<L: Link>(
     alloc: Global,
-    conn: &mut Conn<L>,
+    conn: &mut TapedConn<L>,
 ) -> Result<(After, Met, Option<Vec<Row>>), NoMemory>
     requires { is_open conn.old.session.seen.task ≡ true }
     ensures rests { IfOk result (λ d. RestsBy d.0 conn.new.session.seen) }

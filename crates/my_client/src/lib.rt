@@ -8,7 +8,7 @@ mod notes;
 mod poll;
 mod tape;
 
-pub use conn::{Conn, begin_conn, is_connecting, is_gathering, last_ok};
+pub use conn::{TapedConn, begin_conn, is_connecting, is_gathering, last_ok};
 pub use driver::drive;
 pub use login::login_for;
 pub use notes::Notes;

@@ -7,7 +7,7 @@ ghost use Rattle.my_client.specs.Drives.{EachEnded, RowsBy, EndsBy, KeepsBy, Gat
 ghost use Rattle.my_client.specs.Kept.{asking, nothing_kept};
 ghost use Rattle.my_client.specs.declared.tape.Said.TheVariants as says;
 
-use crate::conn::Conn;
+use crate::conn::TapedConn;
 use crate::poll::After;
 use my_frame::NoMemory;
 use my_reading::{Answer, Call, Error};
@@ -121,7 +121,7 @@ impl Tape {
 }
 
 /// Keeps that this call is open, and the rows that it gathers, where it gathers any.
-pub fn ask<L>(conn: &mut Conn<L>, call: Call, rows: Option<Vec<Row>>)
+pub fn ask<L>(conn: &mut TapedConn<L>, call: Call, rows: Option<Vec<Row>>)
     ensures kept { kept_of conn.new ≡ asking (kept_of conn.old) call (option_map (λ rows. rows.items) rows) }
     ensures session { conn.new.session ≡ conn.old.session }
     ensures link { conn.new.link ≡ conn.old.link }
@@ -130,7 +130,7 @@ pub fn ask<L>(conn: &mut Conn<L>, call: Call, rows: Option<Vec<Row>>)
 }
 
 /// Keeps how the open call ended.
-pub fn note<L>(conn: &mut Conn<L>, said: Said) -> Result<(), NoMemory>
+pub fn note<L>(conn: &mut TapedConn<L>, said: Said) -> Result<(), NoMemory>
     ensures kept { OnOk result (EachEnded conn.old conn.new said) }
     ensures session { conn.new.session ≡ conn.old.session }
     ensures link { conn.new.link ≡ conn.old.link }
@@ -140,7 +140,7 @@ pub fn note<L>(conn: &mut Conn<L>, said: Said) -> Result<(), NoMemory>
 }
 
 /// Cancels the open call.
-pub fn cancel_call<L>(conn: &mut Conn<L>) -> Result<(), NoMemory>
+pub fn cancel_call<L>(conn: &mut TapedConn<L>) -> Result<(), NoMemory>
     requires { is_open conn.old.session.seen.task ≡ true }
     ensures seen { conn.new.session.seen ≡ dropped conn.old.session.seen }
     ensures stands { CancelStands conn.old.session.seen conn.new.session.seen }

@@ -13,7 +13,7 @@ ghost use Rattle.my_reading.specs.declared.call.CallKind.TheVariants as kinds;
 use crate::begin::poll_open;
 use crate::conn::Conn;
 use crate::drive::TOO_LONG;
-use my_client::{After, Conn as Begun, Tape, begin_conn};
+use my_client::{After, Tape, TapedConn, begin_conn};
 use my_frame::NoMemory;
 use my_link::BlockingLink;
 use my_opts::Opts;
@@ -70,7 +70,7 @@ impl<L: BlockingLink + Drop> Conn<L> {
             Ok(begun) => begun,
             Err(NoMemory) => return Err(Error::NoMemory),
         };
-        let Begun {
+        let TapedConn {
             mut session,
             mut link,
             tape: _,

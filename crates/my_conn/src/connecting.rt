@@ -7,7 +7,7 @@ ghost use Rattle.my_conn.specs.Connects.{ConnectsFor};
 
 use crate::begin::poll_open;
 use crate::conn::Conn;
-use my_client::{After, Conn as Begun, Tape, begin_conn};
+use my_client::{After, Tape, TapedConn, begin_conn};
 use my_frame::NoMemory;
 use my_link::Link;
 use my_opts::Opts;
@@ -67,7 +67,7 @@ impl<L: Link + Drop> Connecting<L> {
         ensures tape { IfOk result (λ c. is_some c.tape ≡ keep_tape) }
         ensures link { IfOk result (λ c. c.link ≡ link) }
     {
-        let Begun {
+        let TapedConn {
             session,
             link,
             tape,

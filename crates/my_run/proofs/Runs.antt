@@ -7,7 +7,7 @@ use Rattle.my_grammar.specs.declared.login.Login.{Login}
 use Rattle.my_session.proofs.History.{each_history}
 use Rattle.my_session.specs.Law.{IsLawful}
 use Rattle.my_link.specs.declared.link.ReadItem.{ReadItem}
-use Rattle.my_client.specs.declared.conn.Conn.{Conn}
+use Rattle.my_client.specs.declared.conn.TapedConn.{TapedConn}
 use Rattle.my_steps.specs.declared.slot.Slot.{Slot}
 use Rattle.my_steps.specs.declared.slot.Slot.TheVariants.{Gone, Held, There, Ended}
 use Rattle.my_script.specs.declared.step.Step.{Step}
@@ -28,7 +28,7 @@ use Rattle.my_run.specs.Tapes.{tape_view, tapes_in}
 use Rattle.my_client.proofs.TapeRead.{is_read}
 use Rattle.my_run.proofs.Runs.Fitting.{IsFit, AllFit, step_fits}
 
-said : {L : Type 0} (login : Login) (c : Conn L) → StandsBy login c → IsSaid login (kept_of c)
+said : {L : Type 0} (login : Login) (c : TapedConn L) → StandsBy login c → IsSaid login (kept_of c)
 said login c w = record { history = w.rests.heard.history; kept = w.rests.heard.kept; law = subst (λ l. IsLawful l w.rests.heard.history) w.rests.heard.login_is (each_history c.session.seen w.rests.heard.history w.rests.heard.stands).law; read = is_read login c.session.seen (kept_of c) (kept_of c).pending refl w.rests.read w.stepped.stops }
 
 -- what stands at each number is explained

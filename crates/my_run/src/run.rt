@@ -7,7 +7,7 @@ ghost use Rattle.my_steps.specs.Slot.{handle_of};
 ghost use Rattle.my_run.specs.Tapes.{tape_view, tape_of, tape_at, tapes_in};
 
 use crate::tape::tape_calls;
-use my_client::Conn;
+use my_client::TapedConn;
 use my_frame::NoMemory;
 use my_link::Link;
 use my_opts::Opts;
@@ -41,10 +41,10 @@ fn run_each<N: World>(
 }
 
 // The tape of a connection at the end of a run.
-fn end_tape<L: Drop>(alloc: Global, conn: Conn<L>, number: u64) -> Result<Tape, NoMemory>
+fn end_tape<L: Drop>(alloc: Global, conn: TapedConn<L>, number: u64) -> Result<Tape, NoMemory>
     ensures { IfOk result (λ t. tape_view t ≡ tape_of number (kept_of conn)) }
 {
-    let Conn {
+    let TapedConn {
         session: _,
         link: _,
         tape,

@@ -16,7 +16,7 @@ use Rattle.my_script.specs.declared.step.Step.TheVariants as steps
 use Rattle.my_script.specs.declared.transcript.Outcome.{Outcome}
 use Rattle.my_script.specs.declared.transcript.Outcome.TheVariants.{NoSuchHandle}
 use Rattle.my_script.specs.declared.transcript.Use.{Use}
-use Rattle.my_client.specs.declared.conn.Conn.{Conn}
+use Rattle.my_client.specs.declared.conn.TapedConn.{TapedConn}
 use Rattle.my_client.specs.Conn.{kept_of}
 use Rattle.my_client.specs.Kept.{Kept}
 use Rattle.my_steps.specs.declared.slot.Slot.{Slot}
@@ -57,7 +57,7 @@ refusal h o us e f = record { outcome = e; uses = f; same = refl }
 pub gone_did : {L : Type 0} (look : L → Looks) (login : Login) (n : ℕ) (work : Work) (o : Outcome) (us : List Use) (s : Slot L) → s ≡ Gone → o ≡ NoSuchHandle → us ≡ [] → IsStood login s → Did look login (does_at login n work) o us s Gone
 gone_did look login n work o us s is e f w = back_did look login (does_at login n work) o us s Gone is w (absent_refuses login n work o us (refusal Absent o us e f))
 
-pub ended_did : {L : Type 0} (look : L → Looks) (login : Login) (n : ℕ) (work : Work) (o : Outcome) (us : List Use) (s : Slot L) (c : Conn L) → s ≡ Ended c → o ≡ NoSuchHandle → us ≡ [] → IsStood login s → Did look login (does_at login n work) o us s (Ended c)
+pub ended_did : {L : Type 0} (look : L → Looks) (login : Login) (n : ℕ) (work : Work) (o : Outcome) (us : List Use) (s : Slot L) (c : TapedConn L) → s ≡ Ended c → o ≡ NoSuchHandle → us ≡ [] → IsStood login s → Did look login (does_at login n work) o us s (Ended c)
 ended_did look login n work o us s c is e f w = back_did look login (does_at login n work) o us s (Ended c) is w (ended_refuses login n work (kept_of c) (look c.link) o us (refusal (Joined false (kept_of c) (look c.link)) o us e f))
 
 -- a held dial is what a poll and a cancelling name; each other work is refused there

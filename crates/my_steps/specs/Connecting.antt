@@ -4,7 +4,7 @@ use Rattle.my_handshake.specs.Version.{version_of}
 use Rattle.my_grammar.specs.declared.login.Login.{Login}
 use Rattle.my_client.specs.declared.poll.After.{After}
 use Rattle.my_client.specs.declared.poll.After.TheVariants as after
-use Rattle.my_client.specs.declared.conn.Conn.{Conn}
+use Rattle.my_client.specs.declared.conn.TapedConn.{TapedConn}
 use Rattle.my_steps.specs.declared.slot.Slot.{Slot}
 use Rattle.my_steps.specs.declared.slot.Slot.TheVariants.{There, Ended}
 use Rattle.my_script.specs.declared.transcript.Outcome.{Outcome}
@@ -22,7 +22,7 @@ use Rattle.my_client.specs.Conn.{kept_of}
 use Rattle.my_client.specs.Rests.{IsAsked}
 
 -- where the connection stands once its handshake was polled, and what the step shows
-abbrev pub Settles : {L : Type 0} → Conn L → ℕ → After → Slot L → Outcome → Type 0
+abbrev pub Settles : {L : Type 0} → TapedConn L → ℕ → After → Slot L → Outcome → Type 0
 Settles c n after.Pending slot o = (slot ≡ There c) × (o ≡ Pending)
 Settles c n (after.Answered answer) slot o = (slot ≡ There c)
     × (o ≡ Connected n c.session.seen.facts.connection (version_of c.session.seen.facts.version))
@@ -45,7 +45,7 @@ pub record Dialed {L : Type 0} (look : L → Looks) (login : Login) (n : ℕ) (t
   pub again : Dials login None None n o us (handle_of look slot)
 
 -- of each call that may be open on the connection: the poll of a handshake, after these uses
-abbrev pub EachJoins : {L : Type 0} → (L → Looks) → ℕ → List Use → Conn L → Slot L → StepResult → Type 0
+abbrev pub EachJoins : {L : Type 0} → (L → Looks) → ℕ → List Use → TapedConn L → Slot L → StepResult → Type 0
 EachJoins look n before c slot r = (login : Login) (a : Asked) → IsAsked login c.session.seen (kept_of c) a
     → (used : Use) × (r.uses.items ≡ before ++ used ∷ [])
     × Joins look login n a (kept_of c) (look c.link) slot r.outcome used

@@ -10,7 +10,7 @@ use Rattle.my_script.specs.declared.step.Step.{Step}
 use Rattle.my_script.specs.declared.step.Step.TheVariants as steps
 use Rattle.my_script.specs.declared.transcript.Outcome.{Outcome}
 use Rattle.my_script.specs.declared.transcript.Use.{Use}
-use Rattle.my_client.specs.declared.conn.Conn.{Conn}
+use Rattle.my_client.specs.declared.conn.TapedConn.{TapedConn}
 use Rattle.my_client.specs.Conn.{kept_of}
 use Rattle.my_client.specs.Kept.{Asked, Kept}
 use Rattle.my_client.specs.Ready.{StandsBy}
@@ -74,12 +74,12 @@ errand_of (steps.Collect n) = Some (record { number = n; work = works.Collect })
 errand_of (steps.Poll n) = Some (record { number = n; work = works.Poll })
 
 -- of each call that may be open on the connection: what a poll of it did
-abbrev pub EachPolled : {L : Type 0} → (L → Looks) → ℕ → Conn L → Conn L → StepResult → Type 0
+abbrev pub EachPolled : {L : Type 0} → (L → Looks) → ℕ → TapedConn L → TapedConn L → StepResult → Type 0
 EachPolled look n c d r = (login : Login) (a : Asked) → IsAsked login c.session.seen (kept_of c) a
     → OpenPolled login n a d.session.seen (look c.link) (look d.link) (kept_of c) (kept_of d) r.outcome r.uses.items
 
 -- of each login for which the connection stands: what a step's work did to it
-abbrev pub EachDid : {L : Type 0} → (L → Looks) → ℕ → Work → Conn L → Slot L → StepResult → Type 0
+abbrev pub EachDid : {L : Type 0} → (L → Looks) → ℕ → Work → TapedConn L → Slot L → StepResult → Type 0
 EachDid look n work c slot r = (login : Login) → StandsBy login c
     → Did look login (does_at login n work) r.outcome r.uses.items (There c) slot
 

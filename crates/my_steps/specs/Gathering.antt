@@ -13,7 +13,7 @@ use Rattle.my_steps.specs.declared.gather.Gathering.{Gathering}
 use Rattle.my_steps.specs.declared.gather.Gathering.TheVariants.{On, Over}
 use Rattle.my_client.specs.declared.poll.After.{After}
 use Rattle.my_client.specs.declared.poll.After.TheVariants as after
-use Rattle.my_client.specs.declared.conn.Conn.{Conn}
+use Rattle.my_client.specs.declared.conn.TapedConn.{TapedConn}
 use Rattle.my_script.specs.declared.transcript.Outcome.{Outcome}
 use Rattle.my_script.specs.declared.transcript.Outcome.TheVariants.{Done, Pending, Failed}
 use Rattle.my_script.specs.declared.transcript.Use.{Use}
@@ -43,14 +43,14 @@ asking_on k rows row = asking k NextRow (Some (unwrap_or rows [] ++ row ∷ []))
 abbrev pub BeginStands : Seen → Seen → Type 0
 BeginStands s t = (h : History) → Stands s h → Stands t (began h NextRow)
 
-pub record AsksNext {L : Type 0} (c d : Conn L) (rows : List RowParts) : Type 0 where
+pub record AsksNext {L : Type 0} (c d : TapedConn L) (rows : List RowParts) : Type 0 where
   pub idle : c.session.seen.task ≡ Nothing
   pub kept : kept_of d ≡ asking (kept_of c) NextRow (Some rows)
   pub seen : d.session.seen ≡ begun c.session.seen NextRow
   pub stands : (h : History) → Stands c.session.seen h → Stands d.session.seen (began h NextRow)
   pub link : d.link ≡ c.link
 
-abbrev pub GoesNext : {L : Type 0} → Conn L → Conn L → Option (List RowParts) → After → Type 0
+abbrev pub GoesNext : {L : Type 0} → TapedConn L → TapedConn L → Option (List RowParts) → After → Type 0
 GoesNext c d rows after.Pending = ⊥
 GoesNext c d rows (after.Answered answers.Ready) = ⊥
 GoesNext c d rows (after.Answered (answers.Row row)) = AsksNext c d (unwrap_or rows [] ++ row ∷ [])
@@ -58,19 +58,19 @@ GoesNext c d rows (after.Answered answers.SetEnd) = ⊥
 GoesNext c d rows (after.Answered answers.NoSet) = ⊥
 GoesNext c d rows (after.Failed e) = ⊥
 
-abbrev pub Goes : {L : Type 0} → Conn L → Conn L → Option (List RowParts) → After → Gathering → Type 0
+abbrev pub Goes : {L : Type 0} → TapedConn L → TapedConn L → Option (List RowParts) → After → Gathering → Type 0
 Goes c d rows after On = GoesNext c d rows after
 Goes c d rows after (Over o) = (d ≡ c) × Shows rows after o
 
 -- what a gathering did, from a connection on
-pub record GatherDid {L : Type 0} (look : L → Looks) (login : Login) (n : ℕ) (a : Asked) (c d : Conn L)
+pub record GatherDid {L : Type 0} (look : L → Looks) (login : Login) (n : ℕ) (a : Asked) (c d : TapedConn L)
     (o : Outcome) (us : List Use) : Type 0 where
   pub gathers : Gathers login n us a (kept_of c) (look c.link) o (Joined true (kept_of d) (look d.link))
   pub rests : Rests login d.session.seen (kept_of d)
   pub stepped : IsStepped login d.session.seen (kept_of d)
 
 -- so far in a gathering
-pub record GatherSoFar {L : Type 0} (look : L → Looks) (login : Login) (n : ℕ) (a : Asked) (c d : Conn L)
+pub record GatherSoFar {L : Type 0} (look : L → Looks) (login : Login) (n : ℕ) (a : Asked) (c d : TapedConn L)
     (us : List Use) : Type 0 where
   pub now : Asked
   pub asked : IsAsked login d.session.seen (kept_of d) now
@@ -78,6 +78,6 @@ pub record GatherSoFar {L : Type 0} (look : L → Looks) (login : Login) (n : �
       → Gathers login n (us ++ vs) a (kept_of c) (look c.link) o t
 
 -- of each call that may be open on the connection
-abbrev pub EachGathers : {L : Type 0} → (L → Looks) → ℕ → Conn L → Conn L → StepResult → Type 0
+abbrev pub EachGathers : {L : Type 0} → (L → Looks) → ℕ → TapedConn L → TapedConn L → StepResult → Type 0
 EachGathers look n c d r = (login : Login) (a : Asked) → IsAsked login c.session.seen (kept_of c) a
     → GatherDid look login n a c d r.outcome r.uses.items

@@ -10,7 +10,7 @@ ghost use Rattle.my_steps.specs.declared.slot.Slot.TheVariants.{There as ThereAt
 ghost use Rattle.my_steps.specs.declared.work.Work.TheVariants.{Begin as BeginWork};
 
 use crate::outcome::{StepResult, shown, unused, used_once};
-use my_client::{Conn, Said, ask, drive, note};
+use my_client::{Said, TapedConn, ask, drive, note};
 use my_frame::NoMemory;
 use my_link::Link;
 use my_reading::{Call, Error};
@@ -20,7 +20,7 @@ use std::alloc::Global;
 /// Polls the open call.
 pub(crate) fn poll_open<L: Link>(
     alloc: Global,
-    conn: &mut Conn<L>,
+    conn: &mut TapedConn<L>,
     number: u64,
 ) -> Result<StepResult, NoMemory>
     requires { is_open conn.old.session.seen.task ≡ true }
@@ -33,7 +33,7 @@ pub(crate) fn poll_open<L: Link>(
 /// The session is closed, and refuses the call.
 pub(crate) fn refused_call<L>(
     alloc: Global,
-    conn: &mut Conn<L>,
+    conn: &mut TapedConn<L>,
     error: Error,
 ) -> Result<StepResult, NoMemory>
     ensures outcome { IfOk result (λ d. d.outcome ≡ Outcome.Failed error) }
@@ -50,7 +50,7 @@ pub(crate) fn refused_call<L>(
 /// Begins a call other than the handshake, and polls it.
 pub(crate) fn begin_call<L: Link>(
     alloc: Global,
-    conn: &mut Conn<L>,
+    conn: &mut TapedConn<L>,
     number: u64,
     call: Call,
 ) -> Result<StepResult, NoMemory>

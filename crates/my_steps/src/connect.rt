@@ -13,7 +13,7 @@ ghost use Rattle.my_steps.specs.Sums.{quiet};
 
 use crate::outcome::{StepResult, Worked, used_once};
 use crate::slot::{Slot, place};
-use my_client::{After, Conn, begin_conn, drive};
+use my_client::{After, TapedConn, begin_conn, drive};
 use my_frame::NoMemory;
 use my_handshake::server_version;
 use my_link::{Link, Met};
@@ -33,7 +33,7 @@ fn dial_error() -> Error
 }
 
 // Whether the connection is there after a poll of its handshake, and what the step shows.
-fn settle<L>(conn: &Conn<L>, number: u64, after: After) -> (bool, Outcome)
+fn settle<L>(conn: &TapedConn<L>, number: u64, after: After) -> (bool, Outcome)
     ensures { Settles conn.now number after (placed result.0 conn.now) result.1 }
 {
     match after {
@@ -50,7 +50,7 @@ fn settle<L>(conn: &Conn<L>, number: u64, after: After) -> (bool, Outcome)
 /// Polls the handshake, after these uses.
 pub(crate) fn poll_connect<L: Link>(
     alloc: Global,
-    conn: &mut Conn<L>,
+    conn: &mut TapedConn<L>,
     number: u64,
     mut uses: Vec<Use>,
 ) -> Result<Worked, NoMemory>
@@ -67,7 +67,7 @@ pub(crate) fn poll_connect<L: Link>(
 }
 
 // Polls the first call, after the dial that gave the link.
-fn join<L: Link>(alloc: Global, conn: &mut Conn<L>, number: u64) -> Result<Worked, NoMemory>
+fn join<L: Link>(alloc: Global, conn: &mut TapedConn<L>, number: u64) -> Result<Worked, NoMemory>
     requires { is_open conn.old.session.seen.task ≡ true }
     ensures { IfOk result (λ w. EachJoins L.looks number (quiet number ∷ []) conn.old (placed w.there conn.new) w.did) }
 {

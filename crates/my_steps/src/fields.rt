@@ -5,7 +5,7 @@ ghost use Rattle.my_steps.specs.declared.slot.Slot.TheVariants.{There as ThereAt
 ghost use Rattle.my_steps.specs.declared.work.Work.TheVariants.{Fields as FieldsWork};
 
 use crate::outcome::{StepResult, unused};
-use my_client::{Conn, last_ok};
+use my_client::{TapedConn, last_ok};
 use my_frame::NoMemory;
 use my_link::Link;
 use my_script::Outcome;
@@ -14,7 +14,7 @@ use std::alloc::Global;
 /// Tells the last OK packet, unless a call is open.
 pub(crate) fn tell<L: Link>(
     alloc: Global,
-    conn: &Conn<L>,
+    conn: &TapedConn<L>,
     number: u64,
 ) -> Result<StepResult, NoMemory>
     ensures { IfOk result (λ d. EachDid L.looks number FieldsWork conn.now (ThereAt conn.now) d) }

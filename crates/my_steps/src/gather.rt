@@ -14,7 +14,7 @@ ghost use Rattle.my_steps.specs.declared.work.Work.TheVariants.{Collect as Colle
 
 use crate::begin::refused_call;
 use crate::outcome::{StepResult, unused};
-use my_client::{After, Conn, ask, drive};
+use my_client::{After, TapedConn, ask, drive};
 use my_frame::NoMemory;
 use my_link::Link;
 use my_reading::{Answer, Call};
@@ -39,7 +39,7 @@ fn rows_so_far(alloc: Global, rows: Option<Vec<Row>>) -> Vec<Row>
 }
 
 // The next row is asked for.
-fn ask_next<L>(conn: &mut Conn<L>, rows: Vec<Row>)
+fn ask_next<L>(conn: &mut TapedConn<L>, rows: Vec<Row>)
     requires idle { conn.old.session.seen.task ≡ Nothing }
     requires ready { IsReady conn.old.session.seen }
     requires open { conn.old.session.seen.closed ≡ false }
@@ -58,7 +58,7 @@ fn ask_next<L>(conn: &mut Conn<L>, rows: Vec<Row>)
 // A row came: it goes to the others, and the next one is asked for.
 fn add_row<L>(
     alloc: Global,
-    conn: &mut Conn<L>,
+    conn: &mut TapedConn<L>,
     rows: Option<Vec<Row>>,
     row: Row,
 ) -> Result<(), NoMemory>
@@ -79,7 +79,7 @@ fn add_row<L>(
 
 fn go_on<L>(
     alloc: Global,
-    conn: &mut Conn<L>,
+    conn: &mut TapedConn<L>,
     after: After,
     rows: Option<Vec<Row>>,
 ) -> Result<Gathering, NoMemory>
@@ -108,7 +108,7 @@ fn go_on<L>(
 /// Polls the open call, and after each row the next one, until something else comes.
 pub(crate) fn gather<L: Link>(
     alloc: Global,
-    conn: &mut Conn<L>,
+    conn: &mut TapedConn<L>,
     number: u64,
 ) -> Result<StepResult, NoMemory>
     requires is_on { is_open conn.old.session.seen.task ≡ true }
@@ -131,7 +131,7 @@ pub(crate) fn gather<L: Link>(
 /// Gathers the rows of the set that is read.
 pub(crate) fn collect_call<L: Link>(
     alloc: Global,
-    conn: &mut Conn<L>,
+    conn: &mut TapedConn<L>,
     number: u64,
 ) -> Result<StepResult, NoMemory>
     requires { ConnReady conn.old }

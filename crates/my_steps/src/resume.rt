@@ -9,7 +9,7 @@ use crate::begin::poll_open;
 use crate::connect::poll_connect;
 use crate::gather::gather;
 use crate::outcome::{Worked, unused};
-use my_client::{Conn, is_connecting, is_gathering};
+use my_client::{TapedConn, is_connecting, is_gathering};
 use my_frame::NoMemory;
 use my_link::Link;
 use my_script::Outcome;
@@ -18,7 +18,7 @@ use std::alloc::Global;
 /// Polls the open call: the handshake, a gathering, or another call.
 pub(crate) fn resume_there<L: Link>(
     alloc: Global,
-    conn: &mut Conn<L>,
+    conn: &mut TapedConn<L>,
     number: u64,
 ) -> Result<Worked, NoMemory>
     requires { ConnReady conn.old }

@@ -2,7 +2,7 @@
 ghost use Rattle.std.specs.Prelude.{◌≡◌};
 ghost use Rattle.my_steps.specs.Slot.{placed};
 
-use my_client::Conn;
+use my_client::TapedConn;
 
 /// What is at a number that a `conn` took.
 #[derive(Drop)]
@@ -11,13 +11,13 @@ pub enum Slot<L> {
     Gone,
     /// Its dial wasn't ready.
     Held,
-    There(Conn<L>),
+    There(TapedConn<L>),
     /// Its handshake failed, or was cancelled.
-    Ended(Conn<L>),
+    Ended(TapedConn<L>),
 }
 
 /// A connection that steps may still name, or one that isn't there any more.
-pub(crate) fn place<L: Drop>(conn: Conn<L>, there: bool) -> Slot<L>
+pub(crate) fn place<L: Drop>(conn: TapedConn<L>, there: bool) -> Slot<L>
     ensures { result ≡ placed there conn }
 {
     if there {

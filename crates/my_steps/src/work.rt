@@ -19,7 +19,7 @@ use crate::gather::collect_call;
 use crate::outcome::{StepResult, Worked, unused};
 use crate::resume::resume_there;
 use crate::slot::{Slot, place};
-use my_client::Conn;
+use my_client::TapedConn;
 use my_frame::NoMemory;
 use my_link::Link;
 use my_opts::Opts;
@@ -50,7 +50,7 @@ pub(crate) struct Errand {
 // On a connection that is there.
 fn work_there<L: Link>(
     alloc: Global,
-    conn: &mut Conn<L>,
+    conn: &mut TapedConn<L>,
     number: u64,
     work: Work,
 ) -> Result<Worked, NoMemory>
@@ -79,7 +79,7 @@ fn work_there<L: Link>(
 // Owns the connection for the step.
 fn work_conn<L: Link + Drop>(
     alloc: Global,
-    mut conn: Conn<L>,
+    mut conn: TapedConn<L>,
     number: u64,
     work: Work,
 ) -> Result<(Slot<L>, StepResult), NoMemory>

@@ -24,7 +24,7 @@ use Rattle.my_session.proofs.Stands.Spots.{settled_not_greeting, settled_reads}
 use Rattle.my_session.specs.Steps.{begun, fresh, is_refused}
 use Rattle.my_client.specs.declared.tape.Said.TheVariants as says
 use Rattle.my_client.specs.Kept.{asked_by, first_asked, first_kept, nothing_kept, Asked, Kept, IsHeard, made_of, is_note, answers_in, call_in, asking, ended_by}
-use Rattle.my_client.specs.declared.conn.Conn.{Conn}
+use Rattle.my_client.specs.declared.conn.TapedConn.{TapedConn}
 use Rattle.my_client.specs.Conn.{kept_of}
 use Rattle.my_client.specs.Reads.{OpenRead, QuitRead, RestRead, ReadsAs}
 use Rattle.my_client.specs.Rests.{Rests, IsAsked}
@@ -191,7 +191,7 @@ fresh_rests login s e st = record {
 }
 
 -- the handshake of a new connection begins
-pub first_begins : {L : Type 0} (login : Login) (c b : Conn L) (t : Seen) → c.session.seen ≡ fresh login → Stands c.session.seen beginning → kept_of c ≡ nothing_kept → kept_of b ≡ asking (kept_of c) calls.Connect None → b.session ≡ c.session → t ≡ begun b.session.seen calls.Connect → ((h : History) → Stands b.session.seen h → Stands t (began h calls.Connect)) → IsAsked login t (kept_of b) first_asked
+pub first_begins : {L : Type 0} (login : Login) (c b : TapedConn L) (t : Seen) → c.session.seen ≡ fresh login → Stands c.session.seen beginning → kept_of c ≡ nothing_kept → kept_of b ≡ asking (kept_of c) calls.Connect None → b.session ≡ c.session → t ≡ begun b.session.seen calls.Connect → ((h : History) → Stands b.session.seen h → Stands t (began h calls.Connect)) → IsAsked login t (kept_of b) first_asked
 first_begins login c b t seen st kept bkept bsession is begun_st =
     let here : kept_of b ≡ first_kept = bkept ∙ ap (λ (k : Kept). asking k calls.Connect None) kept in
     let same : b.session.seen ≡ c.session.seen = ap (λ s. s.seen) bsession in

@@ -19,7 +19,7 @@ use Rattle.my_steps.specs.Sums.{use_of}
 use Rattle.my_client.specs.declared.tape.Said.TheVariants as says
 use Rattle.my_script.specs.declared.transcript.Outcome.{Outcome}
 use Rattle.my_script.specs.declared.transcript.Use.{Use}
-use Rattle.my_client.specs.declared.conn.Conn.{Conn}
+use Rattle.my_client.specs.declared.conn.TapedConn.{TapedConn}
 use Rattle.my_steps.specs.declared.slot.Slot.TheVariants.{There}
 use Rattle.my_script.specs.declared.transcript.Outcome.TheVariants.{NoSuchHandle, Failed}
 use Rattle.my_steps.specs.Did.{Did, OpenPolled}
@@ -42,7 +42,7 @@ open_polled login n a t x y k end met p o us w e f = record {
 }
 
 -- the step finds an open call
-pub refused_did : {L : Type 0} (look : L → Looks) (login : Login) (n : ℕ) (call : Call) (c : Conn L) (o : Outcome) (us : List Use) → is_open c.session.seen.task ≡ true → o ≡ NoSuchHandle → us ≡ [] → StandsBy login c → Did look login (Calls login n call) o us (There c) (There c)
+pub refused_did : {L : Type 0} (look : L → Looks) (login : Login) (n : ℕ) (call : Call) (c : TapedConn L) (o : Outcome) (us : List Use) → is_open c.session.seen.task ≡ true → o ≡ NoSuchHandle → us ≡ [] → StandsBy login c → Did look login (Calls login n call) o us (There c) (There c)
 refused_did look login n call c o us op e f w =
     let a = is_asked login c.session.seen (kept_of c) op w.rests.heard in
     record {
@@ -51,7 +51,7 @@ refused_did look login n call c o us op e f w =
     }
 
 -- the step begins its call, and polls it
-pub begun_did : {L : Type 0} (look : L → Looks) (login : Login) (n : ℕ) (call : Call) (c d : Conn L) (o : Outcome) (us : List Use) → is_open c.session.seen.task ≡ false → is_refused c.session.seen.closed (kind_of call) ≡ false → StandsBy login c → OpenPolled login n (asked_by (kept_of c) call) d.session.seen (look c.link) (look d.link) (asking (kept_of c) call None) (kept_of d) o us → Did look login (Calls login n call) o us (There c) (There d)
+pub begun_did : {L : Type 0} (look : L → Looks) (login : Login) (n : ℕ) (call : Call) (c d : TapedConn L) (o : Outcome) (us : List Use) → is_open c.session.seen.task ≡ false → is_refused c.session.seen.closed (kind_of call) ≡ false → StandsBy login c → OpenPolled login n (asked_by (kept_of c) call) d.session.seen (look c.link) (look d.link) (asking (kept_of c) call None) (kept_of d) o us → Did look login (Calls login n call) o us (There c) (There d)
 begun_did look login n call c d o us idle open_still w v =
     let pending : (kept_of c).pending ≡ None = is_idle login c.session.seen (kept_of c) idle w.rests.heard in
     let known : is_refused (has_closed (made_of (kept_of c).calls)) (kind_of call) ≡ false = ap (λ (b : Bool). is_refused b (kind_of call)) (sym (closed_kept login c.session.seen (kept_of c) w.rests.heard)) ∙ open_still in
@@ -61,7 +61,7 @@ begun_did look login n call c d o us idle open_still w v =
     }
 
 -- the session is closed
-pub closed_did : {L : Type 0} (look : L → Looks) (login : Login) (n : ℕ) (call : Call) (c d : Conn L) (o : Outcome) (us : List Use) → is_open c.session.seen.task ≡ false → is_refused c.session.seen.closed (kind_of call) ≡ true → StandsBy login c → Rests login d.session.seen (ended_by (asking (kept_of c) call None) (asked_by (kept_of c) call) (says.Failed connection_closed)) → d.session.seen ≡ c.session.seen → kept_of d ≡ ended_by (asking (kept_of c) call None) (asked_by (kept_of c) call) (says.Failed connection_closed) → d.link ≡ c.link → o ≡ Failed connection_closed → us ≡ [] → Did look login (Calls login n call) o us (There c) (There d)
+pub closed_did : {L : Type 0} (look : L → Looks) (login : Login) (n : ℕ) (call : Call) (c d : TapedConn L) (o : Outcome) (us : List Use) → is_open c.session.seen.task ≡ false → is_refused c.session.seen.closed (kind_of call) ≡ true → StandsBy login c → Rests login d.session.seen (ended_by (asking (kept_of c) call None) (asked_by (kept_of c) call) (says.Failed connection_closed)) → d.session.seen ≡ c.session.seen → kept_of d ≡ ended_by (asking (kept_of c) call None) (asked_by (kept_of c) call) (says.Failed connection_closed) → d.link ≡ c.link → o ≡ Failed connection_closed → us ≡ [] → Did look login (Calls login n call) o us (There c) (There d)
 closed_did {L} look login n call c d o us idle shut w rests seen kept link e f =
     let pending : (kept_of c).pending ≡ None = is_idle login c.session.seen (kept_of c) idle w.rests.heard in
     let left : Joined true (kept_of d) (look d.link) ≡ Joined true (ended_by (asking (kept_of c) call None) (asked_by (kept_of c) call) (says.Failed connection_closed)) (look c.link) = ap (λ (k : Kept). Joined true k (look d.link)) kept ∙ ap (λ (l : L). Joined true (ended_by (asking (kept_of c) call None) (asked_by (kept_of c) call) (says.Failed connection_closed)) (look l)) link in
@@ -76,7 +76,7 @@ not_refused true f = let no : false ≡ true = f refl in cc
 not_refused false f = refl
 
 -- the same, where what was kept and the link are told by equations
-pub begun_so : {L : Type 0} (look : L → Looks) (login : Login) (n : ℕ) (call copy : Call) (c b d : Conn L) (s t : Seen) (o : Outcome) (us : List Use) → copy ≡ call → is_open c.session.seen.task ≡ false → is_refused s.closed (kind_of call) ≡ false → s ≡ c.session.seen → t ≡ begun s call → ((h : History) → Stands s h → Stands t (began h call)) → kept_of b ≡ asking (kept_of c) copy None → b.link ≡ c.link → StandsBy login c → ((a : Asked) → IsAsked login t (kept_of b) a → OpenPolled login n a d.session.seen (look b.link) (look d.link) (kept_of b) (kept_of d) o us) → Did look login (Calls login n call) o us (There c) (There d)
+pub begun_so : {L : Type 0} (look : L → Looks) (login : Login) (n : ℕ) (call copy : Call) (c b d : TapedConn L) (s t : Seen) (o : Outcome) (us : List Use) → copy ≡ call → is_open c.session.seen.task ≡ false → is_refused s.closed (kind_of call) ≡ false → s ≡ c.session.seen → t ≡ begun s call → ((h : History) → Stands s h → Stands t (began h call)) → kept_of b ≡ asking (kept_of c) copy None → b.link ≡ c.link → StandsBy login c → ((a : Asked) → IsAsked login t (kept_of b) a → OpenPolled login n a d.session.seen (look b.link) (look d.link) (kept_of b) (kept_of d) o us) → Did look login (Calls login n call) o us (There c) (There d)
 begun_so look login n call copy c b d s t o us same idle open_still seen is st kept link w polled =
     let here : kept_of b ≡ asking (kept_of c) call None = kept ∙ ap (λ (x : Call). asking (kept_of c) x None) same in
     let rests : Rests login s (kept_of c) = subst (λ (s : Seen). Rests login s (kept_of c)) (sym seen) w.rests in
@@ -86,7 +86,7 @@ begun_so look login n call copy c b d s t o us same idle open_still seen is st k
     (subst (λ (l : _). OpenPolled login n (asked_by (kept_of c) call) d.session.seen (look l) (look d.link) (asking (kept_of c) call None) (kept_of d) o us) link
     (subst (λ (k : Kept). OpenPolled login n (asked_by (kept_of c) call) d.session.seen (look b.link) (look d.link) k (kept_of d) o us) here p))
 
-pub closed_so : {L : Type 0} (look : L → Looks) (login : Login) (n : ℕ) (call copy : Call) (c b d : Conn L) (s t : Seen) (e : Error) (o : Outcome) (us : List Use) → copy ≡ call → is_open c.session.seen.task ≡ false → is_refused s.closed (kind_of call) ≡ true → s ≡ c.session.seen → t ≡ s → ((h : History) → Stands s h → Stands t (answered (began h call) (ToldError connection_closed))) → kept_of b ≡ asking (kept_of c) copy None → b.link ≡ c.link → e ≡ connection_closed → ((a : Asked) → (kept_of b).pending ≡ Some a → kept_of d ≡ ended_by (kept_of b) a (says.Failed e)) → d.session.seen ≡ t → d.link ≡ b.link → StandsBy login c → o ≡ Failed e → us ≡ [] → Did look login (Calls login n call) o us (There c) (There d)
+pub closed_so : {L : Type 0} (look : L → Looks) (login : Login) (n : ℕ) (call copy : Call) (c b d : TapedConn L) (s t : Seen) (e : Error) (o : Outcome) (us : List Use) → copy ≡ call → is_open c.session.seen.task ≡ false → is_refused s.closed (kind_of call) ≡ true → s ≡ c.session.seen → t ≡ s → ((h : History) → Stands s h → Stands t (answered (began h call) (ToldError connection_closed))) → kept_of b ≡ asking (kept_of c) copy None → b.link ≡ c.link → e ≡ connection_closed → ((a : Asked) → (kept_of b).pending ≡ Some a → kept_of d ≡ ended_by (kept_of b) a (says.Failed e)) → d.session.seen ≡ t → d.link ≡ b.link → StandsBy login c → o ≡ Failed e → us ≡ [] → Did look login (Calls login n call) o us (There c) (There d)
 closed_so look login n call copy c b d s t e o us same idle shut seen is st kept link why noted session dlink w shown none =
     let here : kept_of b ≡ asking (kept_of c) call None = kept ∙ ap (λ (x : Call). asking (kept_of c) x None) same in
     let rests : Rests login s (kept_of c) = subst (λ (s : Seen). Rests login s (kept_of c)) (sym seen) w.rests in

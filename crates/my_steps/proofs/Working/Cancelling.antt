@@ -10,7 +10,7 @@ use Rattle.my_session.specs.History.{History, answered}
 use Rattle.my_session.specs.Machine.{dropped}
 use Rattle.my_session.specs.Stands.{Stands}
 use Rattle.my_session.specs.Tables.{closes_when_cancelled}
-use Rattle.my_client.specs.declared.conn.Conn.{Conn}
+use Rattle.my_client.specs.declared.conn.TapedConn.{TapedConn}
 use Rattle.my_steps.specs.declared.slot.Slot.{Slot}
 use Rattle.my_steps.specs.declared.slot.Slot.TheVariants.{Gone, Held, There}
 use Rattle.my_client.specs.declared.tape.Said.TheVariants as says
@@ -34,15 +34,15 @@ use Rattle.my_client.specs.Conn.{kept_of}
 use Rattle.my_client.proofs.Hearing.Beginning.{is_asked, is_idle}
 use Rattle.my_client.proofs.TapeRead.Stopping.{facts_rest}
 
-placed_stood : {L : Type 0} (login : Login) (c : Conn L) (b : Bool) → StandsBy login c → IsStood login (placed b c)
+placed_stood : {L : Type 0} (login : Login) (c : TapedConn L) (b : Bool) → StandsBy login c → IsStood login (placed b c)
 placed_stood login c true w = w
 placed_stood login c false w = w
 
-placed_handle : {L : Type 0} (look : L → Looks) (c : Conn L) (b : Bool) → handle_of look (placed b c) ≡ Joined b (kept_of c) (look c.link)
+placed_handle : {L : Type 0} (look : L → Looks) (c : TapedConn L) (b : Bool) → handle_of look (placed b c) ≡ Joined b (kept_of c) (look c.link)
 placed_handle look c true = refl
 placed_handle look c false = refl
 
-pub cancelled : {L : Type 0} (look : L → Looks) (login : Login) (n : ℕ) (c d : Conn L) (connecting : Bool) (o : Outcome) (us : List Use) → is_open c.session.seen.task ≡ true → d.session.seen ≡ dropped c.session.seen → ((h : History) → Stands c.session.seen h → Stands d.session.seen (answered h (Dropped (closes_when_cancelled c.session.seen.task c.session.seen.context.spot)))) → d.link ≡ c.link → ((a : Asked) → (kept_of c).pending ≡ Some a → kept_of d ≡ ended_by (kept_of c) a (says.Cancelled (d.session.seen.closed && not c.session.seen.closed))) → ((a : Asked) → (kept_of c).pending ≡ Some a → connecting ≡ is_connect (kind_of a.call)) → o ≡ Done → us ≡ [] → StandsBy login c → Did look login (Cancels login) o us (There c) (placed (not connecting) d)
+pub cancelled : {L : Type 0} (look : L → Looks) (login : Login) (n : ℕ) (c d : TapedConn L) (connecting : Bool) (o : Outcome) (us : List Use) → is_open c.session.seen.task ≡ true → d.session.seen ≡ dropped c.session.seen → ((h : History) → Stands c.session.seen h → Stands d.session.seen (answered h (Dropped (closes_when_cancelled c.session.seen.task c.session.seen.context.spot)))) → d.link ≡ c.link → ((a : Asked) → (kept_of c).pending ≡ Some a → kept_of d ≡ ended_by (kept_of c) a (says.Cancelled (d.session.seen.closed && not c.session.seen.closed))) → ((a : Asked) → (kept_of c).pending ≡ Some a → connecting ≡ is_connect (kind_of a.call)) → o ≡ Done → us ≡ [] → StandsBy login c → Did look login (Cancels login) o us (There c) (placed (not connecting) d)
 cancelled {L} look login n c d connecting o us op seen st link kept kind e f w =
     let s = c.session.seen in
     let t = d.session.seen in
@@ -69,7 +69,7 @@ cancelled {L} look login n c d connecting o us op seen st link kept kind e f w =
     }
 
 -- nothing to cancel
-pub not_cancelled : {L : Type 0} (look : L → Looks) (login : Login) (n : ℕ) (c : Conn L) (o : Outcome) (us : List Use) → is_open c.session.seen.task ≡ false → o ≡ NoSuchHandle → us ≡ [] → StandsBy login c → Did look login (Cancels login) o us (There c) (There c)
+pub not_cancelled : {L : Type 0} (look : L → Looks) (login : Login) (n : ℕ) (c : TapedConn L) (o : Outcome) (us : List Use) → is_open c.session.seen.task ≡ false → o ≡ NoSuchHandle → us ≡ [] → StandsBy login c → Did look login (Cancels login) o us (There c) (There c)
 not_cancelled look login n c o us idle e f w = record {
   stood = w;
   does = subst (λ (p : Option Asked). CancelsWith p login (kept_of c) (look c.link) o us (Joined true (kept_of c) (look c.link))) (sym (is_idle login c.session.seen (kept_of c) idle w.rests.heard)) (record { outcome = e; uses = f; same = refl });
@@ -94,12 +94,12 @@ pub back_did : {L : Type 0} (look : L → Looks) (login : Login) (R : Handle →
 back_did {L} look login R o us s t e w r = subst (λ (x : Slot L). Did look login R o us x t) (sym e) (same_did look login R o us t (subst (IsStood login) e w) r)
 
 -- the step finds an open call
-pub collect_refused : {L : Type 0} (look : L → Looks) (login : Login) (n : ℕ) (c : Conn L) (o : Outcome) (us : List Use) → is_open c.session.seen.task ≡ true → o ≡ NoSuchHandle → us ≡ [] → StandsBy login c → Did look login (CollectsAt login n) o us (There c) (There c)
+pub collect_refused : {L : Type 0} (look : L → Looks) (login : Login) (n : ℕ) (c : TapedConn L) (o : Outcome) (us : List Use) → is_open c.session.seen.task ≡ true → o ≡ NoSuchHandle → us ≡ [] → StandsBy login c → Did look login (CollectsAt login n) o us (There c) (There c)
 collect_refused look login n c o us op e f w = same_did look login (CollectsAt login n) o us (There c) w
     (subst (λ (p : Option Asked). CollectsOn p login n (kept_of c) (look c.link) o us (Joined true (kept_of c) (look c.link))) (sym (is_asked login c.session.seen (kept_of c) op w.rests.heard).1) (record { outcome = e; uses = f; same = refl }))
 
 -- the last OK is told
-pub fields_did : {L : Type 0} (look : L → Looks) (login : Login) (n : ℕ) (c : Conn L) (fields : Option OkPacket) (us : List Use) → is_open c.session.seen.task ≡ false → fields ≡ c.session.seen.facts.ok → us ≡ [] → StandsBy login c → Did look login (TellsFields login) (Fields fields) us (There c) (There c)
+pub fields_did : {L : Type 0} (look : L → Looks) (login : Login) (n : ℕ) (c : TapedConn L) (fields : Option OkPacket) (us : List Use) → is_open c.session.seen.task ≡ false → fields ≡ c.session.seen.facts.ok → us ≡ [] → StandsBy login c → Did look login (TellsFields login) (Fields fields) us (There c) (There c)
 fields_did look login n c fields us idle e f w =
     let none : (kept_of c).pending ≡ None = is_idle login c.session.seen (kept_of c) idle w.rests.heard in
     let facts = facts_rest login c.session.seen (kept_of c) none w.rests.heard.login_is (subst (ReadsAs login c.session.seen (kept_of c)) none w.rests.read) in
@@ -107,9 +107,9 @@ fields_did look login n c fields us idle e f w =
     (subst (λ (p : Option Asked). TellsWith p login (kept_of c) (look c.link) (Fields fields) us (Joined true (kept_of c) (look c.link))) (sym none) (record { outcome = ap Fields (e ∙ ap (λ (x : Facts). x.ok) facts); uses = f; left = refl }))
 
 -- as the step shows it
-pub fields_so : {L : Type 0} (look : L → Looks) (login : Login) (n : ℕ) (c : Conn L) (fields : Option OkPacket) (o : Outcome) (us : List Use) → is_open c.session.seen.task ≡ false → fields ≡ c.session.seen.facts.ok → o ≡ Fields fields → us ≡ [] → StandsBy login c → Did look login (TellsFields login) o us (There c) (There c)
+pub fields_so : {L : Type 0} (look : L → Looks) (login : Login) (n : ℕ) (c : TapedConn L) (fields : Option OkPacket) (o : Outcome) (us : List Use) → is_open c.session.seen.task ≡ false → fields ≡ c.session.seen.facts.ok → o ≡ Fields fields → us ≡ [] → StandsBy login c → Did look login (TellsFields login) o us (There c) (There c)
 fields_so {L} look login n c fields o us idle e shown f w = subst (λ (x : Outcome). Did look login (TellsFields login) x us (There c) (There c)) (sym shown) (fields_did look login n c fields us idle e f w)
 
-pub no_fields : {L : Type 0} (look : L → Looks) (login : Login) (n : ℕ) (c : Conn L) (o : Outcome) (us : List Use) → is_open c.session.seen.task ≡ true → o ≡ NoSuchHandle → us ≡ [] → StandsBy login c → Did look login (TellsFields login) o us (There c) (There c)
+pub no_fields : {L : Type 0} (look : L → Looks) (login : Login) (n : ℕ) (c : TapedConn L) (o : Outcome) (us : List Use) → is_open c.session.seen.task ≡ true → o ≡ NoSuchHandle → us ≡ [] → StandsBy login c → Did look login (TellsFields login) o us (There c) (There c)
 no_fields look login n c o us op e f w = same_did look login (TellsFields login) o us (There c) w
     (subst (λ (p : Option Asked). TellsWith p login (kept_of c) (look c.link) o us (Joined true (kept_of c) (look c.link))) (sym (is_asked login c.session.seen (kept_of c) op w.rests.heard).1) (record { outcome = e; uses = f; same = refl }))

@@ -13,7 +13,7 @@ use Rattle.my_steps.specs.Sums.{use_of, quiet, held_use, failed_use}
 use Rattle.my_link.specs.Met.{nothing_met}
 use Rattle.my_link.specs.Outside.{no_counts}
 use Rattle.my_steps.specs.Dialing.{DialsTo, dial_met}
-use Rattle.my_client.specs.declared.conn.Conn.{Conn}
+use Rattle.my_client.specs.declared.conn.TapedConn.{TapedConn}
 use Rattle.my_steps.specs.declared.slot.Slot.{Slot}
 use Rattle.my_steps.specs.declared.slot.Slot.TheVariants.{Gone, Held, There, Ended}
 use Rattle.my_script.specs.declared.transcript.Outcome.{Outcome}
@@ -39,7 +39,7 @@ use Rattle.my_client.specs.Conn.{kept_of}
 use Rattle.my_steps.specs.Slot.{handle_of}
 
 -- the handshake was polled
-shows : {L : Type 0} (look : L → Looks) (login : Login) (n : ℕ) (c : Conn L) (after : After) (slot : Slot L) (o : Outcome) (a : Asked) (k : Kept) (u : Met) (stop : Stop) → PollEnds login a k u stop after (kept_of c) → Rests login c.session.seen (kept_of c) → Settles c n after slot o → ConnectShows login n after (kept_of c) (look c.link) o (handle_of look slot)
+shows : {L : Type 0} (look : L → Looks) (login : Login) (n : ℕ) (c : TapedConn L) (after : After) (slot : Slot L) (o : Outcome) (a : Asked) (k : Kept) (u : Met) (stop : Stop) → PollEnds login a k u stop after (kept_of c) → Rests login c.session.seen (kept_of c) → Settles c n after slot o → ConnectShows login n after (kept_of c) (look c.link) o (handle_of look slot)
 shows look login n c after.Pending slot o a k u stop ends w s = (s.1, ap (handle_of look) s.0)
 shows look login n c (after.Answered answer) slot o a k u stop ends w s =
     let none : (kept_of c).pending ≡ None = ap (λ (x : Kept). x.pending) ends.0 in
@@ -47,12 +47,12 @@ shows look login n c (after.Answered answer) slot o a k u stop ends w s =
     (s.1 ∙ ap (λ (x : Facts). Connected n x.connection (version_of x.version)) facts, ap (handle_of look) s.0)
 shows look login n c (after.Failed x) slot o a k u stop ends w s = (s.1, ap (handle_of look) s.0)
 
-slot_is : {L : Type 0} (P : Slot L → Type 0) (c : Conn L) (n : ℕ) (after : After) (slot : Slot L) (o : Outcome) → Settles c n after slot o → P (There c) → P (Ended c) → P slot
+slot_is : {L : Type 0} (P : Slot L → Type 0) (c : TapedConn L) (n : ℕ) (after : After) (slot : Slot L) (o : Outcome) → Settles c n after slot o → P (There c) → P (Ended c) → P slot
 slot_is P c n after.Pending slot o s p q = subst P (sym s.0) p
 slot_is P c n (after.Answered answer) slot o s p q = subst P (sym s.0) p
 slot_is P c n (after.Failed e) slot o s p q = subst P (sym s.0) q
 
-pub joins : {L : Type 0} (look : L → Looks) (login : Login) (n : ℕ) (a : Asked) (k : Kept) (x : Looks) (c : Conn L) (met : Met) (p : After) (slot : Slot L) (o : Outcome) → Drives login a c.session.seen x (look c.link) k (kept_of c) met p → Settles c n p slot o → Joins look login n a k x slot o (use_of n met)
+pub joins : {L : Type 0} (look : L → Looks) (login : Login) (n : ℕ) (a : Asked) (k : Kept) (x : Looks) (c : TapedConn L) (met : Met) (p : After) (slot : Slot L) (o : Outcome) → Drives login a c.session.seen x (look c.link) k (kept_of c) met p → Settles c n p slot o → Joins look login n a k x slot o (use_of n met)
 joins {L} look login n a k x c met p slot o w s =
     let stands : StandsBy login c = record { rests = w.rests; stepped = w.stepped } in
     record {
@@ -109,7 +109,7 @@ pub no_dial : (c d : DialCounts) → d ≡ c → DialsTo c d nothing_met
 no_dial c d e = record { faults = ap (λ (x : DialCounts). x.faults) e; holds = ap (λ (x : DialCounts). x.holds) e }
 
 -- the connection's first call
-pub joins_first : {L : Type 0} (look : L → Looks) (login : Login) (n : ℕ) (l : L) (c : Conn L) (slot : Slot L) (o : Outcome) (u : Use) → kept_of c ≡ first_kept → c.link ≡ l → Joins look login n first_asked (kept_of c) (look c.link) slot o u → Joins look login n first_asked first_kept (look l) slot o u
+pub joins_first : {L : Type 0} (look : L → Looks) (login : Login) (n : ℕ) (l : L) (c : TapedConn L) (slot : Slot L) (o : Outcome) (u : Use) → kept_of c ≡ first_kept → c.link ≡ l → Joins look login n first_asked (kept_of c) (look c.link) slot o u → Joins look login n first_asked first_kept (look l) slot o u
 joins_first {L} look login n l c slot o u kept link w = subst (λ (x : L). Joins look login n first_asked first_kept (look x) slot o u) link (subst (λ (k : Kept). Joins look login n first_asked k (look c.link) slot o u) kept w)
 
 pub at_end : (told plans : Plans) (n k : ℕ) → n ≡ k → SameFrom k told plans → SameAt told plans n

@@ -21,7 +21,7 @@ use Rattle.my_client.specs.declared.poll.After.{After}
 use Rattle.my_client.specs.declared.poll.After.TheVariants as after
 use Rattle.my_link.specs.declared.met.Met.{Met}
 use Rattle.my_steps.specs.Sums.{use_of}
-use Rattle.my_client.specs.declared.conn.Conn.{Conn}
+use Rattle.my_client.specs.declared.conn.TapedConn.{TapedConn}
 use Rattle.my_steps.specs.declared.slot.Slot.TheVariants.{There}
 use Rattle.my_client.specs.declared.tape.Said.TheVariants as says
 use Rattle.my_script.specs.declared.transcript.Outcome.{Outcome}
@@ -41,7 +41,7 @@ use Rattle.my_client.proofs.Hearing.Beginning.{begins, refuses, closed_kept, is_
 use Rattle.my_steps.proofs.Working.Beginning.{closed_did}
 
 -- nothing was gathered yet
-pub none_gathered : {L : Type 0} (look : L → Looks) (login : Login) (n : ℕ) (a : Asked) (c : Conn L) (us : List Use) → us ≡ [] → IsAsked login c.session.seen (kept_of c) a → GatherSoFar look login n a c c us
+pub none_gathered : {L : Type 0} (look : L → Looks) (login : Login) (n : ℕ) (a : Asked) (c : TapedConn L) (us : List Use) → us ≡ [] → IsAsked login c.session.seen (kept_of c) a → GatherSoFar look login n a c c us
 none_gathered look login n a c us e w = record {
   now = a;
   asked = w;
@@ -49,7 +49,7 @@ none_gathered look login n a c us e w = record {
 }
 
 -- after a row the next is asked for
-pub next_row : {L : Type 0} (e f : Conn L) (rows : Option (List RowParts)) (p : After) → GoesNext e f rows p → (row : RowParts) × (p ≡ after.Answered (answers.Row row)) × AsksNext e f (unwrap_or rows [] ++ row ∷ [])
+pub next_row : {L : Type 0} (e f : TapedConn L) (rows : Option (List RowParts)) (p : After) → GoesNext e f rows p → (row : RowParts) × (p ≡ after.Answered (answers.Row row)) × AsksNext e f (unwrap_or rows [] ++ row ∷ [])
 next_row e f rows after.Pending g = absurd g
 next_row e f rows (after.Answered answers.Ready) g = absurd g
 next_row e f rows (after.Answered (answers.Row row)) g = (row, refl, g)
@@ -57,7 +57,7 @@ next_row e f rows (after.Answered answers.SetEnd) g = absurd g
 next_row e f rows (after.Answered answers.NoSet) g = absurd g
 next_row e f rows (after.Failed x) g = absurd g
 
-module _ {L : Type 0} (look : L → Looks) (login : Login) (n : ℕ) (a : Asked) (c d e f : Conn L) (us more : List Use) (met : Met) (p : After) (rows : Option (List RowParts)) (so : GatherSoFar look login n a c d us) (w : Drives login so.now e.session.seen (look d.link) (look e.link) (kept_of d) (kept_of e) met p) (r : RowsOf so.now p rows) (is : more ≡ us ++ use_of n met ∷ []) where
+module _ {L : Type 0} (look : L → Looks) (login : Login) (n : ℕ) (a : Asked) (c d e f : TapedConn L) (us more : List Use) (met : Met) (p : After) (rows : Option (List RowParts)) (so : GatherSoFar look login n a c d us) (w : Drives login so.now e.session.seen (look d.link) (look e.link) (kept_of d) (kept_of e) met p) (r : RowsOf so.now p rows) (is : more ≡ us ++ use_of n met ∷ []) where
   onto_more : (vs : List Use) (o : Outcome) (t : Handle) → GathersOn (Gathers login n vs) so.now p (kept_of e) (look e.link) o vs t → Gathers login n (more ++ vs) a (kept_of c) (look c.link) o t
   onto_more vs o t g =
       let whole : Gathers login n (us ++ use_of n met ∷ vs) a (kept_of c) (look c.link) o t = so.onto (use_of n met ∷ vs) o t (p, kept_of e, look e.link, w.polled, g, refl) in
@@ -94,14 +94,14 @@ module _ {L : Type 0} (look : L → Looks) (login : Login) (n : ℕ) (a : Asked)
         rests = w.rests;
         stepped = w.stepped;
       } in
-      subst (λ (x : Conn L). GatherDid look login n a c x o more) (sym same) done
+      subst (λ (x : TapedConn L). GatherDid look login n a c x o more) (sym same) done
 
 -- a step begins to gather
 and_true : (b : Bool) → is_refused b (kind_of NextRow) ≡ false → b ≡ false
 and_true true e = e
 and_true false e = refl
 
-pub collect_begun : {L : Type 0} (look : L → Looks) (login : Login) (n : ℕ) (c b d : Conn L) (s t : Seen) (o : Outcome) (us : List Use) → is_open c.session.seen.task ≡ false → is_refused s.closed (kind_of NextRow) ≡ false → s ≡ c.session.seen → t ≡ begun s NextRow → ((h : History) → Stands s h → Stands t (began h NextRow)) → kept_of b ≡ asking (kept_of c) NextRow (Some []) → b.link ≡ c.link → StandsBy login c → ((a : Asked) → IsAsked login t (kept_of b) a → GatherDid look login n a b d o us) → Did look login (CollectsAt login n) o us (There c) (There d)
+pub collect_begun : {L : Type 0} (look : L → Looks) (login : Login) (n : ℕ) (c b d : TapedConn L) (s t : Seen) (o : Outcome) (us : List Use) → is_open c.session.seen.task ≡ false → is_refused s.closed (kind_of NextRow) ≡ false → s ≡ c.session.seen → t ≡ begun s NextRow → ((h : History) → Stands s h → Stands t (began h NextRow)) → kept_of b ≡ asking (kept_of c) NextRow (Some []) → b.link ≡ c.link → StandsBy login c → ((a : Asked) → IsAsked login t (kept_of b) a → GatherDid look login n a b d o us) → Did look login (CollectsAt login n) o us (There c) (There d)
 collect_begun {L} look login n c b d s t o us idle open_still seen is st kept link w did =
     let k = kept_of c in
     let a : Asked = record { call = NextRow; sent_from = length k.sent; taken_from = length k.taken; rows = Some [] } in
@@ -119,7 +119,7 @@ closed_true : (b : Bool) → is_refused b (kind_of NextRow) ≡ true → b ≡ t
 closed_true true e = refl
 closed_true false e = e
 
-pub collect_closed : {L : Type 0} (look : L → Looks) (login : Login) (n : ℕ) (c b d : Conn L) (s t : Seen) (e : Error) (o : Outcome) (us : List Use) → is_open c.session.seen.task ≡ false → is_refused s.closed (kind_of NextRow) ≡ true → s ≡ c.session.seen → t ≡ s → ((h : History) → Stands s h → Stands t (answered (began h NextRow) (ToldError connection_closed))) → kept_of b ≡ asking (kept_of c) NextRow (Some []) → b.link ≡ c.link → e ≡ connection_closed → ((a : Asked) → (kept_of b).pending ≡ Some a → kept_of d ≡ ended_by (kept_of b) a (says.Failed e)) → d.session.seen ≡ t → d.link ≡ b.link → StandsBy login c → o ≡ Failed e → us ≡ [] → Did look login (CollectsAt login n) o us (There c) (There d)
+pub collect_closed : {L : Type 0} (look : L → Looks) (login : Login) (n : ℕ) (c b d : TapedConn L) (s t : Seen) (e : Error) (o : Outcome) (us : List Use) → is_open c.session.seen.task ≡ false → is_refused s.closed (kind_of NextRow) ≡ true → s ≡ c.session.seen → t ≡ s → ((h : History) → Stands s h → Stands t (answered (began h NextRow) (ToldError connection_closed))) → kept_of b ≡ asking (kept_of c) NextRow (Some []) → b.link ≡ c.link → e ≡ connection_closed → ((a : Asked) → (kept_of b).pending ≡ Some a → kept_of d ≡ ended_by (kept_of b) a (says.Failed e)) → d.session.seen ≡ t → d.link ≡ b.link → StandsBy login c → o ≡ Failed e → us ≡ [] → Did look login (CollectsAt login n) o us (There c) (There d)
 collect_closed {L} look login n c b d s t e o us idle shut seen is st kept link why noted session dlink w shown none =
     let k = kept_of c in
     let a : Asked = record { call = NextRow; sent_from = length k.sent; taken_from = length k.taken; rows = Some [] } in
@@ -140,12 +140,12 @@ task_open true k = refl
 task_open false k = refl
 
 -- after a row a call is open
-pub goes_on_open : {L : Type 0} (e f : Conn L) (rows : Option (List RowParts)) (p : After) → Goes e f rows p On → is_open f.session.seen.task ≡ true
+pub goes_on_open : {L : Type 0} (e f : TapedConn L) (rows : Option (List RowParts)) (p : After) → Goes e f rows p On → is_open f.session.seen.task ≡ true
 goes_on_open e f rows p g = let asks = (next_row e f rows p g).2 in ap (λ (s : Seen). is_open s.task) asks.seen ∙ task_open e.session.seen.closed (kind_of NextRow)
 
 -- the steps of the loop, by what follows each poll
-pub gather_next : {L : Type 0} (look : L → Looks) (login : Login) (n : ℕ) (a : Asked) (c d e f : Conn L) (us more : List Use) (met : Met) (p : After) (rows : Option (List RowParts)) → GatherSoFar look login n a c d us → ((login : Login) (a : Asked) → IsAsked login d.session.seen (kept_of d) a → Drives login a e.session.seen (look d.link) (look e.link) (kept_of d) (kept_of e) met p) → ((a : Asked) → (kept_of d).pending ≡ Some a → RowsOf a p rows) → more ≡ us ++ use_of n met ∷ [] → Goes e f rows p On → GatherSoFar look login n a c f more
+pub gather_next : {L : Type 0} (look : L → Looks) (login : Login) (n : ℕ) (a : Asked) (c d e f : TapedConn L) (us more : List Use) (met : Met) (p : After) (rows : Option (List RowParts)) → GatherSoFar look login n a c d us → ((login : Login) (a : Asked) → IsAsked login d.session.seen (kept_of d) a → Drives login a e.session.seen (look d.link) (look e.link) (kept_of d) (kept_of e) met p) → ((a : Asked) → (kept_of d).pending ≡ Some a → RowsOf a p rows) → more ≡ us ++ use_of n met ∷ [] → Goes e f rows p On → GatherSoFar look login n a c f more
 gather_next look login n a c d e f us more met p rows so w r is g = gather_on look login n a c d e f us more met p rows so (w login so.now so.asked) (r so.now so.asked.asked) is g
 
-pub gather_done : {L : Type 0} (look : L → Looks) (login : Login) (n : ℕ) (a : Asked) (c d e f : Conn L) (us more : List Use) (met : Met) (p : After) (rows : Option (List RowParts)) (o : Outcome) → GatherSoFar look login n a c d us → ((login : Login) (a : Asked) → IsAsked login d.session.seen (kept_of d) a → Drives login a e.session.seen (look d.link) (look e.link) (kept_of d) (kept_of e) met p) → ((a : Asked) → (kept_of d).pending ≡ Some a → RowsOf a p rows) → more ≡ us ++ use_of n met ∷ [] → Goes e f rows p (Over o) → GatherDid look login n a c f o more
+pub gather_done : {L : Type 0} (look : L → Looks) (login : Login) (n : ℕ) (a : Asked) (c d e f : TapedConn L) (us more : List Use) (met : Met) (p : After) (rows : Option (List RowParts)) (o : Outcome) → GatherSoFar look login n a c d us → ((login : Login) (a : Asked) → IsAsked login d.session.seen (kept_of d) a → Drives login a e.session.seen (look d.link) (look e.link) (kept_of d) (kept_of e) met p) → ((a : Asked) → (kept_of d).pending ≡ Some a → RowsOf a p rows) → more ≡ us ++ use_of n met ∷ [] → Goes e f rows p (Over o) → GatherDid look login n a c f o more
 gather_done look login n a c d e f us more met p rows o so w r is g = gather_over look login n a c d e f us more met p rows so (w login so.now so.asked) (r so.now so.asked.asked) is o g.0 g.1

@@ -2,7 +2,7 @@
 use Rattle.std.proofs.Common.{ℕ, ◌≡◌, ◌<◌, ◌≤◌, zero, suc, List, [], ◌∷◌, length, map, get_or, slice_set, Result, Ok, Err, IfOk, OnOk, refl, sym, ap, ◌∙◌, subst, arith}
 use Rattle.std.proofs.lemmas.List.{length-map}
 use Rattle.my_grammar.specs.declared.login.Login.{Login}
-use Rattle.my_client.specs.declared.conn.Conn.{Conn}
+use Rattle.my_client.specs.declared.conn.TapedConn.{TapedConn}
 use Rattle.my_steps.specs.declared.slot.Slot.{Slot}
 use Rattle.my_steps.specs.declared.slot.Slot.TheVariants.{There}
 use Rattle.my_script.specs.declared.transcript.Outcome.{Outcome}
@@ -81,5 +81,5 @@ pub did_kept : {T E : Type 0} (r : Result T E) (P Q R : T → Type 0) (K : Type 
 did_kept (Ok x) P Q R K p q k f = f x p q k
 did_kept (Err e) P Q R K p q k f = tt
 
-pub put_did : {L : Type 0} (look : L → Looks) (login : Login) (R : Handle → Outcome → List Use → Handle → Type 0) (o : Outcome) (us : List Use) (s : Slot L) (c : Conn L) (t : Slot L) → s ≡ There c → IsStood login s → (StandsBy login c → Did look login R o us (There c) t) → Did look login R o us s t
+pub put_did : {L : Type 0} (look : L → Looks) (login : Login) (R : Handle → Outcome → List Use → Handle → Type 0) (o : Outcome) (us : List Use) (s : Slot L) (c : TapedConn L) (t : Slot L) → s ≡ There c → IsStood login s → (StandsBy login c → Did look login R o us (There c) t) → Did look login R o us s t
 put_did {L} look login R o us s c t e w f = subst (λ (x : Slot L). Did look login R o us x t) (sym e) (f (subst (IsStood login) e w))

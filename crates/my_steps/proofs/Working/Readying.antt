@@ -15,7 +15,7 @@ use Rattle.my_steps.specs.declared.gather.Gathering.TheVariants.{On}
 use Rattle.my_client.specs.declared.poll.After.{After}
 use Rattle.my_client.specs.declared.poll.After.TheVariants as after
 use Rattle.my_link.specs.declared.met.Met.{Met}
-use Rattle.my_client.specs.declared.conn.Conn.{Conn}
+use Rattle.my_client.specs.declared.conn.TapedConn.{TapedConn}
 use Rattle.my_steps.specs.declared.slot.Slot.{Slot}
 use Rattle.my_steps.specs.declared.slot.Slot.TheVariants.{There}
 use Rattle.my_client.specs.Drives.{Drives}
@@ -40,14 +40,14 @@ pub ready_here : {L : Type 0} (look : L → Looks) (ss : List (Slot L)) (n : ℕ
 ready_here look ss n v h e r = (r.0, stood_here r.0 ss n v h e r.1, subst IsJoined (handle_got look ss n v h ∙ ap (handle_of look) (sym e)) (at_joined (map (handle_of look) ss) n r.2))
 
 -- on the connection there
-pub ready_there : {L : Type 0} (look : L → Looks) (s : Slot L) (c : Conn L) → s ≡ There c → SlotReady look s → ConnReady c
+pub ready_there : {L : Type 0} (look : L → Looks) (s : Slot L) (c : TapedConn L) → s ≡ There c → SlotReady look s → ConnReady c
 ready_there {L} look s c e r = subst (λ (x : Slot L). SlotReady look x) e r
 
-pub conn_ready : {L : Type 0} (c : Conn L) → ConnReady c → IsReady c.session.seen
+pub conn_ready : {L : Type 0} (c : TapedConn L) → ConnReady c → IsReady c.session.seen
 conn_ready c r = is_ready r.0 c.session.seen (kept_of c) r.1.rests.heard (λ none. subst (λ (q : Option Asked). JoinedBy q (kept_of c)) none r.2)
 
 -- a call begins there
-pub call_at : {L : Type 0} (c : Conn L) (s : Seen) (call : Call) → ConnReady c → is_open c.session.seen.task ≡ false → s ≡ c.session.seen → is_connect (kind_of call) ≡ false → s.closed ≡ false → AtBegun (kind_of call) s.context.spot
+pub call_at : {L : Type 0} (c : TapedConn L) (s : Seen) (call : Call) → ConnReady c → is_open c.session.seen.task ≡ false → s ≡ c.session.seen → is_connect (kind_of call) ≡ false → s.closed ≡ false → AtBegun (kind_of call) s.context.spot
 call_at c s call r idle same kind still = at_begun (kind_of call) s.context.spot kind (ap (λ (t : Seen). is_settled t.context.spot) same ∙ conn_ready c r (no_task c.session.seen.task idle) (sym (ap (λ (t : Seen). t.closed) same) ∙ still))
 
 -- a gathering begins, goes on after a poll, or is taken up again
@@ -55,7 +55,7 @@ still_open : (b : Bool) → is_refused b (kind_of NextRow) ≡ false → b ≡ f
 still_open true e = e
 still_open false e = refl
 
-pub asked_first : {L : Type 0} (c d : Conn L) (s : Seen) → ConnReady c → is_open c.session.seen.task ≡ false → s ≡ c.session.seen → is_refused s.closed (kind_of NextRow) ≡ false → d.session.seen ≡ begun s NextRow → ((h : History) → Stands s h → Stands d.session.seen (began h NextRow)) → kept_of d ≡ asking (kept_of c) NextRow (Some []) → AskedReady d
+pub asked_first : {L : Type 0} (c d : TapedConn L) (s : Seen) → ConnReady c → is_open c.session.seen.task ≡ false → s ≡ c.session.seen → is_refused s.closed (kind_of NextRow) ≡ false → d.session.seen ≡ begun s NextRow → ((h : History) → Stands s h → Stands d.session.seen (began h NextRow)) → kept_of d ≡ asking (kept_of c) NextRow (Some []) → AskedReady d
 asked_first c d s r idle same still is st kept =
     let none : (kept_of c).pending ≡ None = is_idle r.0 c.session.seen (kept_of c) idle r.1.rests.heard in
     let rests : Rests r.0 s (kept_of c) = subst (λ (t : Seen). Rests r.0 t (kept_of c)) (sym same) r.1.rests in
@@ -63,13 +63,13 @@ asked_first c d s r idle same still is st kept =
     let alive : IsOpen (kept_of c) = sym (closed_kept r.0 c.session.seen (kept_of c) r.1.rests.heard) ∙ sym (ap (λ (t : Seen). t.closed) same) ∙ still_open s.closed still in
     (r.0, a, subst (λ (k : Kept). IsAsked r.0 d.session.seen k a) (sym kept) (begins r.0 s d.session.seen (kept_of c) NextRow (Some []) (ap (λ (t : Seen). is_open t.task) same ∙ idle) is st rests), subst WasJoined (sym kept) (subst (λ (q : Option Asked). JoinedBy q (kept_of c)) none r.2), subst IsOpen (sym kept) alive)
 
-pub asked_again : {L : Type 0} (c : Conn L) (connecting gathering : Bool) → ConnReady c → is_open c.session.seen.task ≡ true → ((a : Asked) → (kept_of c).pending ≡ Some a → connecting ≡ is_connect (kind_of a.call)) → connecting ≡ false → ((a : Asked) → (kept_of c).pending ≡ Some a → gathering ≡ is_some a.rows) → gathering ≡ true → AskedReady c
+pub asked_again : {L : Type 0} (c : TapedConn L) (connecting gathering : Bool) → ConnReady c → is_open c.session.seen.task ≡ true → ((a : Asked) → (kept_of c).pending ≡ Some a → connecting ≡ is_connect (kind_of a.call)) → connecting ≡ false → ((a : Asked) → (kept_of c).pending ≡ Some a → gathering ≡ is_some a.rows) → gathering ≡ true → AskedReady c
 asked_again c connecting gathering r op kind other rows some =
     let a = open_asked r.0 c op r.1 in
     let j : JoinedBy (Some a.0) (kept_of c) = subst (λ (q : Option Asked). JoinedBy q (kept_of c)) a.1.asked r.2 in
     (r.0, a.0, a.1, j.0 (sym (kind a.0 a.1.asked) ∙ other), j.1 (sym (rows a.0 a.1.asked) ∙ some))
 
-module _ {L : Type 0} (x y : Looks) (d e : Conn L) (met : Met) (p : After) (r : AskedReady d) (drives : (login : Login) (a : Asked) → IsAsked login d.session.seen (kept_of d) a → Drives login a e.session.seen x y (kept_of d) (kept_of e) met p) where
+module _ {L : Type 0} (x y : Looks) (d e : TapedConn L) (met : Met) (p : After) (r : AskedReady d) (drives : (login : Login) (a : Asked) → IsAsked login d.session.seen (kept_of d) a → Drives login a e.session.seen x y (kept_of d) (kept_of e) met p) where
   following : Drives r.0 r.1 e.session.seen x y (kept_of d) (kept_of e) met p
   following = drives r.0 r.1 r.2
 
@@ -93,7 +93,7 @@ module _ {L : Type 0} (x y : Looks) (d e : Conn L) (met : Met) (p : After) (r : 
       by_after (after.Answered answers.NoSet) is = tt
       by_after (after.Failed error) is = tt
 
-  pub asked_next : (f : Conn L) (rows : Option (List RowParts)) → Goes e f rows p On → AskedReady f
+  pub asked_next : (f : TapedConn L) (rows : Option (List RowParts)) → Goes e f rows p On → AskedReady f
   asked_next f rows g =
       let next = next_row e f rows p g in
       let asks = next.2 in
