@@ -1,5 +1,6 @@
 pub mod Login
 pub mod Kept
+pub mod Room
 pub mod Reads
 pub mod Conn
 pub mod Causes

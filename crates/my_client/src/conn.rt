@@ -1,23 +1,27 @@
 //! A connection: a session on its link.
-ghost use Rattle.std.specs.Prelude.{◌≡◌, Some, is_some, true, IfOk};
+ghost use Rattle.std.specs.Prelude.{◌≡◌, Some, is_some, option_map, true, IfOk, OnOk};
 ghost use Rattle.my_reading.specs.Calls.{is_connect, kind_of};
 ghost use Rattle.my_session.specs.Tasks.{is_open};
 ghost use Rattle.my_session.specs.History.{beginning};
+ghost use Rattle.my_session.specs.Machine.{dropped};
 ghost use Rattle.my_session.specs.Stands.{Stands};
 ghost use Rattle.my_session.specs.Steps.{fresh};
 ghost use Rattle.my_client.specs.Conn.{kept_of};
-ghost use Rattle.my_client.specs.Kept.{Asked, nothing_kept, first_asked, first_kept};
+ghost use Rattle.my_client.specs.Drives.{CancelStands, EachEnded, closed_by};
+ghost use Rattle.my_client.specs.Kept.{Asked, asking, nothing_kept, first_asked, first_kept};
 ghost use Rattle.my_client.specs.Login.{login_of};
 ghost use Rattle.my_client.specs.Rests.{IsAsked};
+ghost use Rattle.my_client.specs.declared.tape.Said.TheVariants as says;
 
 use crate::login::login_for;
-use crate::tape::{Tape, ask};
+use crate::tape::{Said, Tape};
 use my_frame::NoMemory;
 use my_link::Link;
 use my_opts::Opts;
 use my_reading::Call;
 use my_reply::OkPacket;
 use my_session::Session;
+use my_value::Row;
 use std::alloc::Global;
 
 /// A connection of which a tape is kept: a session on its link, with what it did so far.
@@ -56,11 +60,45 @@ pub fn begin_conn<L: Link + Drop>(
     ensures link { IfOk result (λ c. c.link ≡ link) }
 {
     let mut conn = new_conn(alloc, opts, link)?;
-    ask(&mut conn, Call::Connect, None);
+    ask(&mut conn, Call::Connect, None)?;
     match conn.session.begin(Call::Connect) {
         Ok(()) => Ok(conn),
         Err(_) => unreachable!(),
     }
+}
+
+/// Keeps that this call is open, and the rows that it gathers, where it gathers any. It takes room for how the call ends.
+pub fn ask<L>(conn: &mut TapedConn<L>, call: Call, rows: Option<Vec<Row>>) -> Result<(), NoMemory>
+    ensures kept { OnOk result (
+        kept_of conn.new ≡ asking (kept_of conn.old) call (option_map (λ rows. rows.items) rows)) }
+    ensures session { conn.new.session ≡ conn.old.session }
+    ensures link { conn.new.link ≡ conn.old.link }
+{
+    conn.tape.ask(call, rows)
+}
+
+/// Keeps how the open call ended. It takes no memory.
+pub fn note<L>(conn: &mut TapedConn<L>, said: Said)
+    ensures kept { EachEnded conn.old conn.new said }
+    ensures session { conn.new.session ≡ conn.old.session }
+    ensures link { conn.new.link ≡ conn.old.link }
+{
+    let _ = conn.tape.note(said);
+}
+
+/// Cancels the open call. It takes no memory.
+pub fn cancel_call<L>(conn: &mut TapedConn<L>)
+    requires { is_open conn.old.session.seen.task ≡ true }
+    ensures seen { conn.new.session.seen ≡ dropped conn.old.session.seen }
+    ensures stands { CancelStands conn.old.session.seen conn.new.session.seen }
+    ensures link { conn.new.link ≡ conn.old.link }
+    ensures kept { EachEnded conn.old conn.new
+        (says.Cancelled (closed_by conn.old.session.seen conn.new.session.seen)) }
+{
+    let was_closed = conn.session.is_closed();
+    conn.session.cancel();
+    let closing = conn.session.is_closed() && !was_closed;
+    note(conn, Said::Cancelled(closing));
 }
 
 /// Whether the open call is the handshake.

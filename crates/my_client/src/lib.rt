@@ -8,9 +8,11 @@ mod notes;
 mod poll;
 mod tape;
 
-pub use conn::{TapedConn, begin_conn, is_connecting, is_gathering, last_ok};
+pub use conn::{
+    TapedConn, ask, begin_conn, cancel_call, is_connecting, is_gathering, last_ok, note,
+};
 pub use driver::drive;
 pub use login::login_for;
 pub use notes::Notes;
 pub use poll::{After, poll_session};
-pub use tape::{DoneCall, OpenCall, Said, Tape, ask, cancel_call, note};
+pub use tape::{DoneCall, OpenCall, Said, Tape};

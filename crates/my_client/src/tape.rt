@@ -1,13 +1,7 @@
 //! What a connection keeps of its calls.
-ghost use Rattle.std.specs.Prelude.{◌≡◌, option_map, true, IfOk, OnOk};
-ghost use Rattle.my_session.specs.Tasks.{is_open};
-ghost use Rattle.my_session.specs.Machine.{dropped};
-ghost use Rattle.my_client.specs.Conn.{kept_in, kept_of};
-ghost use Rattle.my_client.specs.Drives.{EachEnded, RowsBy, EndsBy, KeepsBy, GathersBy, CancelStands, closed_by};
-ghost use Rattle.my_client.specs.Kept.{asking, nothing_kept};
-ghost use Rattle.my_client.specs.declared.tape.Said.TheVariants as says;
+ghost use Rattle.std.specs.Prelude.{◌+◌, ◌≤◌, vec_capacity, vec_len};
+ghost use Rattle.my_client.specs.Room.{open_count};
 
-use crate::conn::TapedConn;
 use crate::poll::After;
 use my_frame::NoMemory;
 use my_reading::{Answer, Call, Error};
@@ -44,7 +38,7 @@ pub struct OpenCall {
     pub rows: Option<Vec<Row>>,
 }
 
-/// What a connection did.
+/// What a connection did. While a call is open there is room for how it ends.
 #[derive(Drop)]
 pub struct Tape {
     /// The bytes that were sent and taken.
@@ -53,9 +47,15 @@ pub struct Tape {
     /// The calls that ended, the oldest first.
     pub calls: Vec<DoneCall>,
     pub pending: Option<OpenCall>,
+    ghost room: { vec_len calls + open_count pending ≤ vec_capacity calls },
 }
 
 impl Tape {
+    ghost use Rattle.std.specs.Prelude.{◌≡◌, option_map, IfOk, OnErr, OnOk};
+    ghost use Rattle.my_client.specs.Conn.{kept_in};
+    ghost use Rattle.my_client.specs.Drives.{RowsBy, EndsBy, KeepsBy, GathersBy};
+    ghost use Rattle.my_client.specs.Kept.{asking, nothing_kept};
+
     /// A tape of nothing.
     pub fn new(alloc: Global) -> Tape
         ensures { kept_in result ≡ nothing_kept }
@@ -68,10 +68,14 @@ impl Tape {
         }
     }
 
-    /// Keeps that this call is open, and the rows that it gathers, where it gathers any.
-    pub fn ask(&mut self, call: Call, rows: Option<Vec<Row>>)
-        ensures kept { kept_in self.new ≡ asking (kept_in self.old) call (option_map (λ rows. rows.items) rows) }
+    /// Keeps that this call is open, and the rows that it gathers, where it gathers any. It takes room for how the call
+    /// ends.
+    pub fn ask(&mut self, call: Call, rows: Option<Vec<Row>>) -> Result<(), NoMemory>
+        ensures kept { OnOk result (
+            kept_in self.new ≡ asking (kept_in self.old) call (option_map (λ rows. rows.items) rows)) }
+        ensures same { OnErr result (kept_in self.new ≡ kept_in self.old) }
     {
+        self.calls.reserve(1)?;
         let sent_from = self.sent.len() as u64;
         let taken_from = self.taken.len() as u64;
         self.pending = Some(OpenCall {
@@ -80,23 +84,24 @@ impl Tape {
             taken_from,
             rows,
         });
+        Ok(())
     }
 
-    /// Keeps how the open call ended, and returns the rows that it gathered.
-    pub fn note(&mut self, said: Said) -> Result<Option<Vec<Row>>, NoMemory>
-        ensures rows { IfOk result (λ rows. GathersBy (kept_in self.old) (option_map (λ v. v.items) rows)) }
-        ensures kept { OnOk result (EndsBy (kept_in self.old) (kept_in self.new) said) }
+    /// Keeps how the open call ended, and returns the rows that it gathered. It takes no memory.
+    pub fn note(&mut self, said: Said) -> Option<Vec<Row>>
+        ensures rows { GathersBy (kept_in self.old) (option_map (λ v. v.items) result) }
+        ensures kept { EndsBy (kept_in self.old) (kept_in self.new) said }
     {
         match self.pending.take() {
-            None => Ok(None),
+            None => None,
             Some(open) => {
-                self.calls.push(DoneCall {
+                self.calls.push_reserved(DoneCall {
                     call: open.call,
                     sent_from: open.sent_from,
                     taken_from: open.taken_from,
                     said,
-                })?;
-                Ok(open.rows)
+                });
+                open.rows
             }
         }
     }
@@ -110,46 +115,12 @@ impl Tape {
             After::Pending => Ok(None),
             After::Answered(answer) => {
                 let copy = answer.copy(alloc)?;
-                self.note(Said::Answered(copy))
+                Ok(self.note(Said::Answered(copy)))
             }
             After::Failed(error) => {
                 let copy = error.copy(alloc)?;
-                self.note(Said::Failed(copy))
+                Ok(self.note(Said::Failed(copy)))
             }
         }
     }
-}
-
-/// Keeps that this call is open, and the rows that it gathers, where it gathers any.
-pub fn ask<L>(conn: &mut TapedConn<L>, call: Call, rows: Option<Vec<Row>>)
-    ensures kept { kept_of conn.new ≡ asking (kept_of conn.old) call (option_map (λ rows. rows.items) rows) }
-    ensures session { conn.new.session ≡ conn.old.session }
-    ensures link { conn.new.link ≡ conn.old.link }
-{
-    conn.tape.ask(call, rows);
-}
-
-/// Keeps how the open call ended.
-pub fn note<L>(conn: &mut TapedConn<L>, said: Said) -> Result<(), NoMemory>
-    ensures kept { OnOk result (EachEnded conn.old conn.new said) }
-    ensures session { conn.new.session ≡ conn.old.session }
-    ensures link { conn.new.link ≡ conn.old.link }
-{
-    let _ = conn.tape.note(said)?;
-    Ok(())
-}
-
-/// Cancels the open call.
-pub fn cancel_call<L>(conn: &mut TapedConn<L>) -> Result<(), NoMemory>
-    requires { is_open conn.old.session.seen.task ≡ true }
-    ensures seen { conn.new.session.seen ≡ dropped conn.old.session.seen }
-    ensures stands { CancelStands conn.old.session.seen conn.new.session.seen }
-    ensures link { conn.new.link ≡ conn.old.link }
-    ensures kept { OnOk result (EachEnded conn.old conn.new
-        (says.Cancelled (closed_by conn.old.session.seen conn.new.session.seen))) }
-{
-    let was_closed = conn.session.is_closed();
-    conn.session.cancel();
-    let closing = conn.session.is_closed() && !was_closed;
-    note(conn, Said::Cancelled(closing))
 }

@@ -1,5 +1,5 @@
 -- How a connection's open call is cancelled.
-use Rattle.std.proofs.Common.{◌≡◌, Bool, true, false, Option, Some, None, refl, sym, ◌∙◌, subst}
+use Rattle.std.proofs.Common.{◌≡◌, Bool, true, false, Option, Some, None, is_some, refl, sym, ◌∙◌, subst}
 use Rattle.my_grammar.specs.declared.login.Login.{Login}
 use Rattle.my_reading.specs.declared.call.CallKind.{CallKind}
 use Rattle.my_session.specs.Machine.{dropped}
@@ -54,9 +54,10 @@ module _ (kind : CallKind) (s t : Seen) (p q : Option Tape) (o : Option CallKind
       let end = stands_cancelled old.0 old.1 old.2 in
       subst (λ (b : Bool). Standing b t q None) (sym e) (old.0, cancelled_by old.0 old.1 end.0, end.2)
 
-  pub open_cancelled : {L : Type 0} (link : L) (b : Bool) → CancelIs (record { seen = s; link = link; tape = p; pending = o; lost = b }) (record { seen = t; link = link; tape = q; pending = None; lost = b })
-  open_cancelled link b = record {
+  pub open_cancelled : {L : Type 0} (link : L) (b : Bool) → is_some q ≡ is_some p → CancelIs (record { seen = s; link = link; tape = p; pending = o; lost = b }) (record { seen = t; link = link; tape = q; pending = None; lost = b })
+  open_cancelled link b keeps = record {
     each = λ _ login k w. stands_cancelled login k w;
+    keeps = keeps;
     pending = refl;
     link = refl;
     lost = refl;
@@ -66,6 +67,7 @@ module _ (kind : CallKind) (s t : Seen) (p q : Option Tape) (o : Option CallKind
 pub lost_cancelled : {L : Type 0} (link : L) (s : Seen) (p : Option Tape) (o : Option CallKind) (b : Bool) → b ≡ true → Standing b s p o → CancelIs (record { seen = s; link = link; tape = p; pending = o; lost = b }) (record { seen = s; link = link; tape = p; pending = o; lost = b })
 lost_cancelled link s p o b e w = record {
   each = λ f. absurd (not_both b f e);
+  keeps = refl;
   pending = subst (λ (b : Bool). Standing b s p o) e w;
   link = refl;
   lost = refl;

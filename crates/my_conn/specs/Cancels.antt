@@ -1,5 +1,5 @@
 -- What the cancelling of a call does.
-use Rattle.std.specs.Prelude.{◌≡◌, Option, Some, None, false}
+use Rattle.std.specs.Prelude.{◌≡◌, Option, Some, None, false, is_some}
 use Rattle.my_grammar.specs.declared.login.Login.{Login}
 use Rattle.my_reading.specs.Calls.{kind_of}
 use Rattle.my_reading.specs.Endings.{closes_cancelled}
@@ -31,6 +31,8 @@ EachCancel s t p q = (login : Login) (k : Kept) (a : Asked) → Rests login s k 
 pub record CancelIs {L : Type 0} (old new : ConnSeen L) : Type 0 where
   pub each : old.lost ≡ false → (login : Login) (k : Kept) → StandsFor login old.seen old.tape old.pending k
       → (a : Asked) × (k.pending ≡ Some a) × StandsFor login new.seen new.tape None (cancelled_by login k a)
+  -- where a tape was kept it is kept
+  pub keeps : is_some new.tape ≡ is_some old.tape
   pub pending : new.pending ≡ None
   pub link : new.link ≡ old.link
   pub lost : new.lost ≡ old.lost

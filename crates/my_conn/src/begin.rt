@@ -29,7 +29,7 @@ fn note_call(alloc: Global, tape: &mut Option<Tape>, call: &Call) -> Result<(), 
         None => Ok(()),
         Some(tape) => {
             let copy = call.copy(alloc)?;
-            tape.ask(copy, None);
+            tape.ask(copy, None)?;
             Ok(())
         }
     }
@@ -140,17 +140,17 @@ pub(crate) fn poll_once<L: Link>(
     }
 }
 
-// Notes that the open call was cancelled. Where that finds no memory, no tape is kept from here on.
+// Notes that the open call was cancelled.
 fn note_cancel(tape: &mut Option<Tape>, closing: bool)
-    ensures { (k : Kept) (a : Asked) → Agrees tape.old k → k.pending ≡ Some a
+    ensures noted { (k : Kept) (a : Asked) → Agrees tape.old k → k.pending ≡ Some a
         → Agrees tape.new (ended_by k a (says.Cancelled closing)) }
+    ensures keeps { is_some tape.new ≡ is_some tape.old }
 {
-    match tape.take() {
+    match tape {
         None => {}
-        Some(mut kept) => match kept.note(Said::Cancelled(closing)) {
-            Ok(_) => *tape = Some(kept),
-            Err(NoMemory) => {}
-        },
+        Some(tape) => {
+            let _ = tape.note(Said::Cancelled(closing));
+        }
     }
 }
 
@@ -169,7 +169,8 @@ fn cancel_session(session: &mut Session) -> bool
 /// Cancels the open call.
 pub(crate) fn cancel_open(session: &mut Session, tape: &mut Option<Tape>)
     requires { is_open session.old.seen.task ≡ true }
-    ensures { EachCancel session.old.seen session.new.seen tape.old tape.new }
+    ensures does { EachCancel session.old.seen session.new.seen tape.old tape.new }
+    ensures keeps { is_some tape.new ≡ is_some tape.old }
 {
     let closing = cancel_session(session);
     note_cancel(tape, closing);

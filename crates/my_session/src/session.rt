@@ -1,6 +1,6 @@
 //! A session: its state, and the calls by which a caller begins a call, carries its bytes, and ends it early.
 
-ghost use Rattle.std.specs.Prelude.{◌≡◌, ◌≤◌, ◌++◌, ◌↔◌, ◌||◌, length, drop, take as front, true, false, OnOk, OnErr, IfOk, IfErr, IsErr};
+ghost use Rattle.std.specs.Prelude.{◌≡◌, ◌≤◌, ◌++◌, ◌↔◌, ◌||◌, ◌==◌, not, length, drop, take as front, true, false, OnOk, OnErr, IfOk, IfErr, IsErr};
 ghost use Rattle.std.specs.Option.{option_copied};
 ghost use Rattle.my_reading.specs.Calls.{kind_of};
 ghost use Rattle.my_session.specs.Steps.{is_refused, failing};
@@ -193,6 +193,13 @@ impl Session {
         ensures { result.now ≡ self.now.seen.owed }
     {
         self.owed.as_slice()
+    }
+
+    /// Whether bytes were received that weren't read.
+    pub fn has_unread(&self) -> bool
+        ensures { result ≡ not (length self.now.seen.unread == 0) }
+    {
+        !self.unread.is_empty()
     }
 
     /// `count` of the bytes owed were sent.

@@ -43,7 +43,7 @@ pub(crate) fn refused_call<L>(
     ensures link { conn.new.link ≡ conn.old.link }
 {
     let copy = error.copy(alloc)?;
-    note(conn, Said::Failed(copy))?;
+    note(conn, Said::Failed(copy));
     Ok(unused(alloc, Outcome::Failed(error)))
 }
 
@@ -62,7 +62,7 @@ pub(crate) fn begin_call<L: Link>(
         return Ok(unused(alloc, Outcome::NoSuchHandle));
     }
     let copy = call.copy(alloc)?;
-    ask(conn, copy, None);
+    ask(conn, copy, None)?;
     match conn.session.begin(call) {
         Ok(()) => poll_open(alloc, conn, number),
         Err(error) => refused_call(alloc, conn, error),

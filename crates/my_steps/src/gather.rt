@@ -39,18 +39,18 @@ fn rows_so_far(alloc: Global, rows: Option<Vec<Row>>) -> Vec<Row>
 }
 
 // The next row is asked for.
-fn ask_next<L>(conn: &mut TapedConn<L>, rows: Vec<Row>)
+fn ask_next<L>(conn: &mut TapedConn<L>, rows: Vec<Row>) -> Result<(), NoMemory>
     requires idle { conn.old.session.seen.task ≡ Nothing }
     requires ready { IsReady conn.old.session.seen }
     requires open { conn.old.session.seen.closed ≡ false }
-    ensures kept { kept_of conn.new ≡ asking (kept_of conn.old) NextRowOf (Some rows.items) }
-    ensures seen { conn.new.session.seen ≡ begun conn.old.session.seen NextRowOf }
-    ensures stands { BeginStands conn.old.session.seen conn.new.session.seen }
+    ensures kept { OnOk result (kept_of conn.new ≡ asking (kept_of conn.old) NextRowOf (Some rows.items)) }
+    ensures seen { OnOk result (conn.new.session.seen ≡ begun conn.old.session.seen NextRowOf) }
+    ensures stands { OnOk result (BeginStands conn.old.session.seen conn.new.session.seen) }
     ensures link { conn.new.link ≡ conn.old.link }
 {
-    ask(conn, Call::NextRow, Some(rows));
+    ask(conn, Call::NextRow, Some(rows))?;
     match conn.session.begin(Call::NextRow) {
-        Ok(()) => {}
+        Ok(()) => Ok(()),
         Err(_) => unreachable!(),
     }
 }
@@ -73,7 +73,7 @@ fn add_row<L>(
 {
     let mut all = rows_so_far(alloc, rows);
     all.push(row)?;
-    ask_next(conn, all);
+    ask_next(conn, all)?;
     Ok(())
 }
 
@@ -140,7 +140,7 @@ pub(crate) fn collect_call<L: Link>(
     if conn.session.is_open() {
         return Ok(unused(alloc, Outcome::NoSuchHandle));
     }
-    ask(conn, Call::NextRow, Some(Vec::new(alloc)));
+    ask(conn, Call::NextRow, Some(Vec::new(alloc)))?;
     match conn.session.begin(Call::NextRow) {
         Ok(()) => gather(alloc, conn, number),
         Err(error) => refused_call(alloc, conn, error),

@@ -72,7 +72,7 @@ fn work_there<L: Link>(
             Ok(Worked { there: true, did })
         }
         Work::Poll => resume_there(alloc, conn, number),
-        Work::Cancel => cancel_there(alloc, conn, number),
+        Work::Cancel => Ok(cancel_there(alloc, conn, number)),
     }
 }
 

@@ -3,4 +3,4 @@ use Rattle.my_client.proofs.Hearing.Beginning.{first_begins}
 use Rattle.my_client.proofs.conn.begin_conn.Goals as goal
 
 pub returns-clause-asked : goal.returns-clause-asked
-returns-clause-asked g c = first_begins (login_of c.args.opts.now) c.in_ok-conn.conn c.ask.new.conn c.begin.new.self.seen c.in_ok-conn.ensures.seen c.in_ok-conn.ensures.stands c.in_ok-conn.ensures.kept c.ask.ensures.kept c.ask.ensures.session c.in-Ok.ensures.ok c.in-Ok.ensures.stands
+returns-clause-asked g c = first_begins (login_of c.args.opts.now) c.in_ok-conn.conn c.ask.new.conn c.begin.new.self.seen c.in_ok-conn.ensures.seen c.in_ok-conn.ensures.stands c.in_ok-conn.ensures.kept c.in_ok-ask.ensures.kept c.ask.ensures.session c.in-Ok.ensures.ok c.in-Ok.ensures.stands

@@ -18,4 +18,4 @@ pub returns-in-Poll : goal.returns-in-Poll
 returns-in-Poll g c = IfOk-weaker c.resume_there.result _ _ (λ r f login w. work_is g.L.Link.looks login c.args.number c.args.work works.Poll r.did.outcome r.did.uses.items (There c.args.conn.now) (placed r.there c.resume_there.new.conn) c.in-Poll.is (f login w)) c.resume_there.ensures
 
 pub returns-in-Cancel : goal.returns-in-Cancel
-returns-in-Cancel g c = IfOk-weaker c.cancel_there.result _ _ (λ r f login w. work_is g.L.Link.looks login c.args.number c.args.work works.Cancel r.did.outcome r.did.uses.items (There c.args.conn.now) (placed r.there c.cancel_there.new.conn) c.in-Cancel.is (f login w)) c.cancel_there.ensures
+returns-in-Cancel g c = λ login w. work_is g.L.Link.looks login c.args.number c.args.work works.Cancel c.cancel_there.result.did.outcome c.cancel_there.result.did.uses.items (There c.args.conn.now) (placed c.cancel_there.result.there c.cancel_there.new.conn) c.in-Cancel.is (c.cancel_there.ensures login w)

@@ -13,12 +13,12 @@ cancel_open-requires g c =
 pub invariant_of-self : goal.invariant_of-self
 invariant_of-self g c =
     let v = c.self.inside in
-    sound_cancelled c.args.kind v.session.seen c.cancel_open.new.session.seen v.tape c.cancel_open.new.tape v.pending (ap (λ (s : ConnSeen g.row.L.Denot). s.pending) c.self.view_is ∙ c.requires) c.cancel_open.ensures v.lost c.if-self.false c.self.invariant
+    sound_cancelled c.args.kind v.session.seen c.cancel_open.new.session.seen v.tape c.cancel_open.new.tape v.pending (ap (λ (s : ConnSeen g.row.L.Denot). s.pending) c.self.view_is ∙ c.requires) c.cancel_open.ensures.does v.lost c.if-self.false c.self.invariant
 
 pub returns : goal.returns
 returns g c =
     let v = c.self.inside in
-    rw (← c.self.view_is) (open_cancelled c.args.kind v.session.seen c.cancel_open.new.session.seen v.tape c.cancel_open.new.tape v.pending (ap (λ (s : ConnSeen g.row.L.Denot). s.pending) c.self.view_is ∙ c.requires) c.cancel_open.ensures v.link v.lost)
+    rw (← c.self.view_is) (open_cancelled c.args.kind v.session.seen c.cancel_open.new.session.seen v.tape c.cancel_open.new.tape v.pending (ap (λ (s : ConnSeen g.row.L.Denot). s.pending) c.self.view_is ∙ c.requires) c.cancel_open.ensures.does v.link v.lost c.cancel_open.ensures.keeps)
 
 pub returns-then-self : goal.returns-then-self
 returns-then-self g c =
