@@ -3,63 +3,54 @@
 ghost use Rattle.std.specs.Prelude.{◌≡◌, None};
 
 use crate::library::count_rows;
-use crate::talks::{Step, is_read, knows};
+use crate::told::{of_check, of_done, of_facts, of_read, of_server};
 use my_conn::Conn;
 use my_frame::Blob;
 use my_link::BlockingLink;
 use std::alloc::Global;
 
-fn drive_idle<L: BlockingLink>(alloc: Global, conn: &mut Conn<L>, step: Step) -> bool
+fn drive_idle<L: BlockingLink>(alloc: Global, conn: &mut Conn<L>, step: u8) -> u8
     requires { conn.old.pending ≡ None }
 {
     match step {
-        Step::Ping => conn.ping(alloc).is_ok(),
-        Step::Known => knows(conn),
-        Step::Query => match Blob::from_slice(alloc, b"SELECT 1") {
-            Ok(text) => conn.query(alloc, text).is_ok(),
-            Err(_) => false,
+        b'q' => match Blob::from_slice(alloc, b"SELECT 1") {
+            Ok(text) => of_done(&conn.query(alloc, text)),
+            Err(_) => b'?',
         },
-        Step::Row | Step::End | Step::NoSet => is_read(&conn.next(alloc), step),
-        Step::Drop => conn.drop_result(alloc).is_ok(),
-        Step::Quit => conn.quit(alloc).is_ok(),
+        b'r' => of_read(&conn.next(alloc)),
+        b'd' => of_done(&conn.drop_result(alloc)),
+        b'p' => of_done(&conn.ping(alloc)),
+        b'u' => of_done(&conn.quit(alloc)),
+        b'c' => of_check(conn.check()),
+        b'i' => of_facts(conn),
+        b'v' => of_server(conn),
+        // The rows of a query are counted.
+        b'n' => match count_rows(alloc, conn, b"SELECT 1") {
+            Ok(1) => b'1',
+            Ok(_) | Err(_) => b'?',
+        },
+        _ => b'?',
     }
 }
 
-/// Whether a call, where none is open, returns what it should.
-pub fn drives<L: BlockingLink>(alloc: Global, conn: &mut Conn<L>, step: Step) -> bool {
+/// What a step returns.
+pub fn driven<L: BlockingLink>(alloc: Global, conn: &mut Conn<L>, step: u8) -> u8 {
     match conn.open_call() {
         None => drive_idle(alloc, conn, step),
-        Some(_) => false,
+        Some(_) => b'?',
     }
 }
 
-fn end_idle<L: BlockingLink + Drop>(alloc: Global, conn: Conn<L>) -> bool
+fn end_idle<L: BlockingLink + Drop>(alloc: Global, conn: Conn<L>) -> u8
     requires { conn.pending ≡ None }
 {
-    conn.disconnect(alloc).is_ok()
+    of_done(&conn.disconnect(alloc))
 }
 
-/// Whether a connection ends.
-pub fn ends<L: BlockingLink + Drop>(alloc: Global, conn: Conn<L>) -> bool {
+/// What a connection's end returns.
+pub fn ended<L: BlockingLink + Drop>(alloc: Global, conn: Conn<L>) -> u8 {
     match conn.open_call() {
         None => end_idle(alloc, conn),
-        Some(_) => false,
-    }
-}
-
-fn count_idle<L: BlockingLink>(alloc: Global, conn: &mut Conn<L>) -> bool
-    requires { conn.old.pending ≡ None }
-{
-    match count_rows(alloc, conn, b"SELECT 1") {
-        Ok(count) => count == 1,
-        Err(_) => false,
-    }
-}
-
-/// Whether a query, where no call is open, has one row.
-pub fn counts<L: BlockingLink>(alloc: Global, conn: &mut Conn<L>) -> bool {
-    match conn.open_call() {
-        None => count_idle(alloc, conn),
-        Some(_) => false,
+        Some(_) => b'?',
     }
 }

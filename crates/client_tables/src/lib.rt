@@ -1,5 +1,5 @@
-//! A conversation of a connection with a server in memory, by calls that are polled by hand and by calls that wait, with
-//! ample memory; packets over a link that plays a list, and a pool of buffers. The bytes are those of the public pages of
+//! Conversations of a connection with a server in memory, by calls that are polled by hand and by calls that wait, with
+//! ample memory, and how they are cut or fail; packets over a link that plays a list, and a pool of buffers. The bytes are those of the public pages of
 //! the protocol. This crate has tests alone.
 #![tactic(auto)]
 
@@ -15,3 +15,5 @@ mod packets;
 mod polls;
 #[cfg(test)]
 mod talks;
+#[cfg(test)]
+mod told;

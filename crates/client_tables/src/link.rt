@@ -1,4 +1,4 @@
-//! A link in memory that greets a client and then plays some packets.
+//! What a link plays and what a client sends, as letters.
 
 use my_frame::{Blob, NoMemory};
 use my_link::MemLink;
@@ -6,34 +6,81 @@ use my_opts::Target;
 use my_world::{DialStep, MemWorld, World, WorldLine};
 use std::alloc::Global;
 
-/// What the link plays.
-#[derive(Clone, Copy)]
-pub enum Line<'a> {
-    /// A packet with this number.
-    Packet(u8, &'a [u8]),
-    /// What follows can be read once a write took a byte.
-    Turn,
-}
+const GREETING: &[u8] =
+    b"\x4a\x00\x00\x00\x0a8.0.36\x00\x07\x00\x00\x00abcdefgh\x00\x8b\xa2\x2d\x02\x00\x1f\x01\x15\
+    \x00\x00\x00\x00\x00\x00\x00\x00\x00\x00ijklmnopqrst\x00mysql_native_password\x00";
 
-fn line_of(alloc: Global, line: &Line) -> Result<WorldLine, NoMemory> {
-    match line {
-        Line::Packet(number, payload) => {
-            let payload = Blob::from_slice(alloc, *payload)?;
-            Ok(WorldLine::Packet(0, *number, payload))
-        }
-        Line::Turn => Ok(WorldLine::Turn(0)),
+const LOGIN: &[u8] = b"\x3c\x00\x00\x01\x81\xa2\x0f\x01\x00\x00\x40\x00\x2d\
+    \x00\x00\x00\x00\x00\x00\x00\x00\x00\x00\x00\x00\x00\x00\x00\x00\x00\x00\x00\x00\x00\x00\x00\
+    root\x00\x00mysql_native_password\x00";
+
+const COLUMN: &[u8] =
+    b"\x17\x00\x00\x02\x03def\x00\x00\x00\x011\x00\x0c\x3f\x00\x01\x00\x00\x00\x08\x81\x00\x00\x00\x00";
+
+/// The bytes that a letter stands for: packets of the server or of the client, or parts of one.
+pub fn piece(letter: u8) -> &'static [u8] {
+    match letter {
+        b'g' => GREETING,
+        // An OK to the login, and one with a byte more.
+        b'k' => b"\x07\x00\x00\x02\x00\x00\x00\x02\x00\x00\x00",
+        b'K' => b"\x07\x00\x00\x02\x00\x00\x00\x02\x00\x00\x00\x01",
+        // An OK to a command; one after 3 changed rows and a new one of id 7, with a warning and a remark.
+        b'o' => b"\x07\x00\x00\x01\x00\x00\x00\x02\x00\x00\x00",
+        b'O' => b"\x0c\x00\x00\x01\x00\x03\x07\x02\x00\x01\x00\x04note",
+        // An ERR to the login, and to a command.
+        b'E' => b"\x0d\x00\x00\x02\xff\x15\x04#28000Nope",
+        b'e' => b"\x0d\x00\x00\x01\xff\x28\x04#42000Nope",
+        // A set of one column and one row; its end where a further set follows; the row in two parts.
+        b'1' => b"\x01\x00\x00\x01\x01",
+        b'2' => COLUMN,
+        b'3' => b"\x02\x00\x00\x03\x011",
+        b'4' => b"\x07\x00\x00\x04\xfe\x00\x00\x02\x00\x00\x00",
+        b'7' => b"\x07\x00\x00\x04\xfe\x00\x00\x0a\x00\x00\x00",
+        b'5' => b"\x02\x00",
+        b'6' => b"\x00\x03\x011",
+        // The client's response, a query with its first part, a ping and a quit.
+        b'l' => LOGIN,
+        b'q' => b"\x09\x00\x00\x00\x03SELECT 1",
+        b'Q' => b"\x09\x00\x00\x00\x03S",
+        b'p' => b"\x01\x00\x00\x00\x0e",
+        b'u' => b"\x01\x00\x00\x00\x01",
+        _ => b"",
     }
 }
 
-/// A link that plays these lines in order; none where the dial fails.
-pub fn link_of(
-    alloc: Global,
-    target: &Target,
-    lines: &[Line],
-) -> Result<Option<MemLink>, NoMemory> {
+/// Whether bytes are those of these letters.
+pub fn is_of(bytes: &[u8], letters: &str) -> bool {
+    let mut rest = bytes;
+    for letter in letters.as_bytes() {
+        match rest.strip_prefix(piece(*letter)) {
+            Some(more) => rest = more,
+            None => return false,
+        }
+    }
+    rest.is_empty()
+}
+
+// Bytes that can be read, or what a read or a write meets.
+fn line_of(alloc: Global, letter: u8) -> Result<WorldLine, NoMemory> {
+    Ok(match letter {
+        b't' => WorldLine::Turn(0),
+        b'w' => WorldLine::Wait(0),
+        b'f' => WorldLine::Fail(0),
+        b'z' => WorldLine::End(0),
+        // The login is taken, the first part of a query, no write once; a write fails.
+        b'L' => WorldLine::Accept(0, 64),
+        b'A' => WorldLine::Accept(0, 6),
+        b'W' => WorldLine::WriteWait(0),
+        b'F' => WorldLine::WriteFail(0),
+        bytes => WorldLine::Bytes(0, Blob::from_slice(alloc, piece(bytes))?),
+    })
+}
+
+/// A link that plays these letters in order; none where the dial fails.
+pub fn link_of(alloc: Global, target: &Target, plan: &str) -> Result<Option<MemLink>, NoMemory> {
     let mut world = MemWorld::new(alloc);
-    for line in lines {
-        let line = line_of(alloc, line)?;
+    for letter in plan.as_bytes() {
+        let line = line_of(alloc, *letter)?;
         world.prepare(&line)?;
     }
     match world.dial(0, target) {

@@ -1,103 +1,88 @@
-//! Calls that are polled by hand, once each.
+//! Calls that are polled by hand.
 
 ghost use Rattle.std.specs.Prelude.{◌≡◌, None};
+ghost use Rattle.my_conn.specs.Calls.{MayPoll};
 
-use crate::talks::{Step, is_read, knows};
-use my_conn::{Conn, DropCall, NextCall, PingCall, Poll, QueryCall, QuitCall};
+use crate::told::{of_check, of_done, of_facts, of_read, of_server, of_tape};
+use my_conn::{
+    CallState, Conn, Connected, Connecting, DropCall, NextAnswer, NextCall, PingCall, Poll,
+    QueryCall, QuitCall, Returns,
+};
 use my_frame::Blob;
 use my_link::Link;
 use my_reading::Error;
 use std::alloc::Global;
 
-fn is_done(poll: &Poll<Result<(), Error>>) -> bool {
-    match poll {
-        Poll::Ready(Ok(())) => true,
-        Poll::Ready(Err(_)) | Poll::Pending => false,
+/// Polls a handshake while it is pending, at most so many times.
+pub fn shake<L: Link + Drop>(alloc: Global, connecting: Connecting<L>, polls: u64) -> Connected<L> {
+    let mut connecting = connecting;
+    'polls: for _ in 0..polls {
+        match connecting.poll(alloc) {
+            Connected::Pending(next) => connecting = next,
+            done => return done,
+        }
+    }
+    Connected::Pending(connecting)
+}
+
+// Polls a call while it is pending, at most so many times, and cancels it then.
+fn play<C: Returns, L: Link>(
+    alloc: Global,
+    conn: &mut Conn<L>,
+    call: CallState<C>,
+    polls: u64,
+) -> Option<Result<C::Answer, Error>>
+    requires { MayPoll C.KIND call.call conn.old.pending }
+{
+    let mut call = call;
+    'polls: for _ in 0..polls {
+        match call.poll(alloc, conn) {
+            Poll::Ready(answer) => return Some(answer),
+            Poll::Pending => {}
+        }
+    }
+    call.cancel(conn);
+    None
+}
+
+fn done(answer: &Option<Result<(), Error>>) -> u8 {
+    match answer {
+        Some(answer) => of_done(answer),
+        None => b'.',
     }
 }
 
-fn query<L: Link>(alloc: Global, conn: &mut Conn<L>, text: Blob) -> bool
-    requires { conn.old.pending ≡ None }
-{
-    let mut call = QueryCall::new(text);
-    is_done(&call.poll(alloc, conn))
-}
-
-fn next<L: Link>(alloc: Global, conn: &mut Conn<L>, step: Step) -> bool
-    requires { conn.old.pending ≡ None }
-{
-    let mut call = NextCall::new();
-    match call.poll(alloc, conn) {
-        Poll::Ready(answer) => is_read(&answer, step),
-        Poll::Pending => false,
+fn read(answer: &Option<Result<NextAnswer, Error>>) -> u8 {
+    match answer {
+        Some(answer) => of_read(answer),
+        None => b'.',
     }
 }
 
-fn drop_result<L: Link>(alloc: Global, conn: &mut Conn<L>) -> bool
-    requires { conn.old.pending ≡ None }
-{
-    let mut call = DropCall::new();
-    is_done(&call.poll(alloc, conn))
-}
-
-fn ping<L: Link>(alloc: Global, conn: &mut Conn<L>) -> bool
-    requires { conn.old.pending ≡ None }
-{
-    let mut call = PingCall::new();
-    is_done(&call.poll(alloc, conn))
-}
-
-fn quit<L: Link>(alloc: Global, conn: &mut Conn<L>) -> bool
-    requires { conn.old.pending ≡ None }
-{
-    let mut call = QuitCall::new();
-    is_done(&call.poll(alloc, conn))
-}
-
-fn poll_idle<L: Link>(alloc: Global, conn: &mut Conn<L>, step: Step) -> bool
+fn poll_idle<L: Link>(alloc: Global, conn: &mut Conn<L>, step: u8, polls: u64) -> u8
     requires { conn.old.pending ≡ None }
 {
     match step {
-        Step::Ping => ping(alloc, conn),
-        Step::Known => knows(conn),
-        Step::Query => match Blob::from_slice(alloc, b"SELECT 1") {
-            Ok(text) => query(alloc, conn, text),
-            Err(_) => false,
+        b'q' => match Blob::from_slice(alloc, b"SELECT 1") {
+            Ok(text) => done(&play(alloc, conn, QueryCall::new(text), polls)),
+            Err(_) => b'?',
         },
-        Step::Row | Step::End | Step::NoSet => next(alloc, conn, step),
-        Step::Drop => drop_result(alloc, conn),
-        Step::Quit => quit(alloc, conn),
+        b'r' => read(&play(alloc, conn, NextCall::new(), polls)),
+        b'd' => done(&play(alloc, conn, DropCall::new(), polls)),
+        b'p' => done(&play(alloc, conn, PingCall::new(), polls)),
+        b'u' => done(&play(alloc, conn, QuitCall::new(), polls)),
+        b'c' => of_check(conn.check()),
+        b't' => of_tape(&conn.take_tape()),
+        b'i' => of_facts(conn),
+        b'v' => of_server(conn),
+        _ => b'?',
     }
 }
 
-/// Whether a call, where none is open, returns in one poll what it should.
-pub fn polls<L: Link>(alloc: Global, conn: &mut Conn<L>, step: Step) -> bool {
+/// What a step returns within so many polls. A call that is still pending then is cancelled.
+pub fn polled<L: Link>(alloc: Global, conn: &mut Conn<L>, step: u8, polls: u64) -> u8 {
     match conn.open_call() {
-        None => poll_idle(alloc, conn, step),
-        Some(_) => false,
-    }
-}
-
-fn cancel<L: Link>(alloc: Global, conn: &mut Conn<L>, text: Blob) -> bool
-    requires { conn.old.pending ≡ None }
-{
-    let mut call = QueryCall::new(text);
-    match call.poll(alloc, conn) {
-        Poll::Pending => {
-            call.cancel(conn);
-            true
-        }
-        Poll::Ready(_) => false,
-    }
-}
-
-/// Whether a query stays pending, where none is open, and is cancelled.
-pub fn cancels<L: Link>(alloc: Global, conn: &mut Conn<L>) -> bool {
-    match conn.open_call() {
-        None => match Blob::from_slice(alloc, b"SELECT 1") {
-            Ok(text) => cancel(alloc, conn, text),
-            Err(_) => false,
-        },
-        Some(_) => false,
+        None => poll_idle(alloc, conn, step, polls),
+        Some(_) => b'?',
     }
 }

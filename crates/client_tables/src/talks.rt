@@ -1,88 +1,193 @@
-//! One conversation, polled and waiting.
+//! Conversations, polled and waiting, and how they are cut or fail.
 
-use crate::drives::{counts, drives, ends};
-use crate::link::{Line, link_of};
-use crate::polls::{cancels, polls};
-use my_client::Tape;
-use my_conn::{Conn, Connected, Connecting, NextAnswer};
+use crate::drives::{driven, ended};
+use crate::link::link_of;
+use crate::polls::{polled, shake};
+use crate::told::{is_kept, of_error};
+use my_conn::{Conn, Connected, Connecting};
 use my_frame::NoMemory;
 use my_link::{BlockingLink, Link, MemLink, ReadyLink};
 use my_opts::Opts;
-use my_reading::Error;
 use std::alloc::Global;
 use std::test::Fail;
 
-/// A call, with what it should return: a read returns a row, a set's end, or that nothing is left.
+// A row has what the link plays, the steps, at most how many times each is polled, and what each returns; and of the tape
+// the bytes sent, those taken, and how each call ended. `-` is no tape: none was asked for, or none is kept at the end.
+// `.` is no bytes.
+//
+// Steps: `a` the handshake, which is the first; `q` a query, `r` a read of the next row, `d` a drop of the result, `p` a
+// ping, `u` a quit, `c` a check; `i` the facts of the last OK, `v` those of the server and the options, `t` the tape is
+// taken.
+// Returned: `k` done, `r` a row, `e` the end of a set, `n` that nothing is there, `.` pending; `S` a server's error, `L` a
+// fault of the link, `U` an end that came too early, `C` that the connection is closed; `A` alive, `D` dead; `c` closed.
+// Ended: `k` answered, `e` failed, `x` cancelled, `X` cancelled with the connection closed by that, `.` not yet.
+const POLLED: &str = "\
+gtktOt1234t1234t apivqrrrqduv 111111111111 kkkkkrenkkkc lpqqu gkO12341234 kkkkkkkkk
+w a 1 . . . .
+5w a 2 . . 5 .
+wgtwk a 3 k l gk k
+z a 1 U . . -
+5z a 1 U . . -
+f a 1 L . . -
+gF a 1 L . . -
+gtE a 1 S . . -
+gtktetot aqp 111 kSk lqp gkeo kek
+gtkt125z aqrpu 11111 kkUCk lq gk125 kkeek
+gtktf aqpu 1111 kLCk lq gk keek
+gtktLF aqu 111 kLk l gk kek
+gtktot aqp 101 k.k lp gko kk
+gtktLW aqp 111 k.C l gk kXe
+gtktLAW aqp 111 k.C lQ gk kXe
+gtkt aqp 121 k.C lq gk kXe
+gtkt1w aqp 111 k.C lq gk1 kXe
+gtkt125w64 aqrrr 11111 kk.re lq gk12564 kkxkk
+gtkt12w34to aqdp 1111 kk.k lqp gk1234o kkxk
+gtkt1237w aqdp 1111 kk.C lq gk1237 kkXe
+gtkt app 111 k.C lp gk kXe
+gtktLW auv 111 k.c l gk kX
+gtkt auu 111 kkk lu gk kkk
+gtkt ac 11 kA l gk k
+gtkz ac 11 kD l gk k
+gtKt ac 11 kD l gK k
+gtktOt apt 111 kkn - - -
+gtktotot aptpt 11111 kkkkn . . -";
+
+// A row has what the link plays, the steps and what each returns, as above; `n` counts the rows of a query. A link that
+// isn't ready has failed.
+const WAITING: &str = "\
+gtktOt1234t1234t1234t apivqrrrqdnuv kkkkkrenkk1kc
+w a L
+z a U
+5z a U
+f a L
+gF a L
+gtE a S
+gtktetot aqp kSk
+gtkt125z aqrpuv kkUCkc
+gtktf aqp kLC
+gtkt aqpu kLCk
+gtktLF aqpu kLCk
+gtkt ac kA
+gtkz ac kD
+gtKt ac kD";
+
+// The words of a row.
 #[derive(Clone, Copy)]
-pub enum Step {
-    Ping,
-    /// The getters return what the last OK says.
-    Known,
-    Query,
-    Row,
-    End,
-    NoSet,
-    Drop,
-    Quit,
+struct Row<'a> {
+    plan: &'a str,
+    steps: &'a str,
+    polls: &'a str,
+    says: &'a str,
+    sent: &'a str,
+    taken: &'a str,
+    calls: &'a str,
 }
 
-const STEPS: &[Step] = &[
-    Step::Ping,
-    Step::Known,
-    Step::Query,
-    Step::Row,
-    Step::End,
-    Step::NoSet,
-    Step::Query,
-    Step::Drop,
-    Step::Quit,
-];
+fn word(row: &str, number: usize) -> &str {
+    for (i, word) in row.split(' ').enumerate() {
+        if i == number {
+            return word;
+        }
+    }
+    ""
+}
 
-const OK: &[u8] = b"\x00\x00\x00\x02\x00\x00\x00";
-
-// An OK after 3 changed rows and a new one of id 7, with a warning and a remark.
-const FULL_OK: &[u8] = b"\x00\x03\x07\x02\x00\x01\x00\x04note";
-
-const COLUMN: &[u8] =
-    b"\x03def\x00\x00\x00\x011\x00\x0c\x3f\x00\x01\x00\x00\x00\x08\x81\x00\x00\x00\x00";
-
-const END: &[u8] = b"\xfe\x00\x00\x02\x00\x00\x00";
-
-// The greeting, the OK after the client's response, and an answer to each command.
-const LINES: &[Line] = &[
-    Line::Packet(
-        0,
-        b"\x0a8.0.36\x00\x07\x00\x00\x00abcdefgh\x00\x8b\xa2\x2d\x02\x00\x1f\x01\x15\
-        \x00\x00\x00\x00\x00\x00\x00\x00\x00\x00ijklmnopqrst\x00mysql_native_password\x00",
-    ),
-    Line::Turn,
-    Line::Packet(2, OK),
-    Line::Turn,
-    Line::Packet(1, FULL_OK),
-    Line::Turn,
-    Line::Packet(1, b"\x01"),
-    Line::Packet(2, COLUMN),
-    Line::Packet(3, b"\x011"),
-    Line::Packet(4, END),
-    Line::Turn,
-    Line::Packet(1, b"\x01"),
-    Line::Packet(2, COLUMN),
-    Line::Packet(3, b"\x011"),
-    Line::Packet(4, END),
-    Line::Turn,
-];
-
-/// Whether a read returned what it should.
-pub fn is_read(answer: &Result<NextAnswer, Error>, step: Step) -> bool {
-    match answer {
-        Ok(NextAnswer::Row(row)) => matches!(step, Step::Row) && row.len() == 1,
-        Ok(NextAnswer::SetEnd) => matches!(step, Step::End),
-        Ok(NextAnswer::NoSet) => matches!(step, Step::NoSet),
-        Err(_) => false,
+fn polled_row(row: &str) -> Row<'_> {
+    Row {
+        plan: word(row, 0),
+        steps: word(row, 1),
+        polls: word(row, 2),
+        says: word(row, 3),
+        sent: word(row, 4),
+        taken: word(row, 5),
+        calls: word(row, 6),
     }
 }
 
-fn opts_at(alloc: Global, url: &str) -> Option<Opts> {
+fn waiting_row(row: &str) -> Row<'_> {
+    Row {
+        plan: word(row, 0),
+        steps: word(row, 1),
+        polls: "",
+        says: word(row, 2),
+        sent: "-",
+        taken: "-",
+        calls: "-",
+    }
+}
+
+fn at(letters: &str, number: usize) -> u8 {
+    match letters.as_bytes().get(number) {
+        Some(letter) => *letter,
+        None => b'?',
+    }
+}
+
+fn count_at(digits: &str, number: usize) -> u64 {
+    u64::from(at(digits, number).wrapping_sub(b'0'))
+}
+
+// Whether each step after the handshake returns what it should.
+fn are_polled<L: Link>(alloc: Global, conn: &mut Conn<L>, row: &Row) -> bool {
+    for (i, step) in row.steps.as_bytes().iter().enumerate() {
+        if i > 0 && polled(alloc, conn, *step, count_at(row.polls, i)) != at(row.says, i) {
+            return false;
+        }
+    }
+    true
+}
+
+fn are_driven<L: BlockingLink>(alloc: Global, conn: &mut Conn<L>, row: &Row) -> bool {
+    for (i, step) in row.steps.as_bytes().iter().enumerate() {
+        if i > 0 && driven(alloc, conn, *step) != at(row.says, i) {
+            return false;
+        }
+    }
+    conn.take_tape().is_none()
+}
+
+// A tape is handed out once.
+fn is_right<L: Link>(alloc: Global, connected: &mut Connected<L>, row: &Row) -> bool {
+    let said = at(row.says, 0);
+    match connected {
+        Connected::Made(conn) => {
+            said == b'k'
+                && are_polled(alloc, conn, row)
+                && is_kept(&conn.take_tape(), row.sent, row.taken, row.calls)
+                && conn.take_tape().is_none()
+        }
+        Connected::Pending(connecting) => {
+            said == b'.'
+                && is_kept(&connecting.take_tape(), row.sent, row.taken, row.calls)
+                && connecting.take_tape().is_none()
+        }
+        Connected::Failed(error) => said == of_error(error),
+    }
+}
+
+fn is_polled(alloc: Global, opts: Opts, link: MemLink, row: &Row) -> bool {
+    match Connecting::new(alloc, opts, link, row.sent != "-") {
+        Ok(connecting) => {
+            let mut connected = shake(alloc, connecting, count_at(row.polls, 0));
+            is_right(alloc, &mut connected, row)
+        }
+        Err(NoMemory) => false,
+    }
+}
+
+fn is_driven(alloc: Global, opts: Opts, link: MemLink, row: &Row) -> bool {
+    match Conn::new(alloc, opts, ReadyLink::new(link)) {
+        Ok(conn) => {
+            let mut conn = conn;
+            let right = at(row.says, 0) == b'k' && are_driven(alloc, &mut conn, row);
+            ended(alloc, conn) == b'k' && right
+        }
+        Err(error) => at(row.says, 0) == of_error(&error),
+    }
+}
+
+fn opts_of(alloc: Global) -> Option<Opts> {
+    let url = "mysql://root@localhost?max_allowed_packet=4194304&wait_timeout=28800";
     if url.len() > 1_048_576 {
         return None;
     }
@@ -92,157 +197,39 @@ fn opts_at(alloc: Global, url: &str) -> Option<Opts> {
     }
 }
 
-fn opts_of(alloc: Global) -> Option<Opts> {
-    opts_at(
-        alloc,
-        "mysql://root@localhost?max_allowed_packet=4194304&wait_timeout=28800",
-    )
-}
-
-fn link_for(alloc: Global, opts: &Opts, lines: &[Line]) -> Result<Option<MemLink>, NoMemory> {
+fn link_for(alloc: Global, opts: &Opts, plan: &str) -> Result<Option<MemLink>, NoMemory> {
     let target = opts.target(alloc)?;
-    link_of(alloc, &target, lines)
+    link_of(alloc, &target, plan)
 }
 
-// A connection whose handshake returns in one poll.
-fn made<L: Link + Drop>(alloc: Global, connecting: Connecting<L>) -> Option<Conn<L>> {
-    match connecting.poll(alloc) {
-        Connected::Made(conn) => Some(conn),
-        Connected::Pending(_) | Connected::Failed(_) => None,
-    }
-}
-
-// The handshake and the calls are on the tape; one step is no call.
-fn is_whole(tape: &Option<Tape>) -> bool {
-    match tape {
-        Some(tape) => tape.calls.len() == STEPS.len(),
-        None => false,
-    }
-}
-
-/// Whether the getters return what the full OK says.
-pub fn knows<L>(conn: &Conn<L>) -> bool {
-    conn.affected_rows() == 3
-        && conn.last_insert_id() == Some(7)
-        && conn.get_warnings() == 1
-        && conn.info() == b"note".as_slice()
-        && !conn.is_disconnected()
-}
-
-fn is_told<L>(conn: &Conn<L>) -> bool {
-    let (major, minor, patch) = conn.server_version();
-    conn.id() == 7 && major == 8 && minor == 0 && patch == 36 && conn.is_disconnected()
-}
-
-fn all_polled<L: Link>(alloc: Global, conn: &mut Conn<L>) -> bool {
-    for step in STEPS {
-        if !polls(alloc, conn, *step) {
-            return false;
-        }
-    }
-    is_told(conn) && is_whole(&conn.take_tape())
-}
-
-// A query that is cancelled before its answer came is on the tape, and closes the connection.
-fn is_cancelled<L: Link>(alloc: Global, conn: &mut Conn<L>) -> bool {
-    cancels(alloc, conn)
-        && conn.is_disconnected()
-        && match conn.take_tape() {
-            Some(tape) => tape.calls.len() == 2,
-            None => false,
-        }
-}
-
-fn all_driven<L: BlockingLink>(alloc: Global, conn: &mut Conn<L>) -> bool {
-    for step in STEPS {
-        if !drives(alloc, conn, *step) {
-            return false;
-        }
-    }
-    is_told(conn) && !is_whole(&conn.take_tape())
-}
-
-fn is_polled(alloc: Global, opts: &Opts, link: MemLink, cancelled: bool) -> bool {
-    match Connecting::new(alloc, opts, link, true) {
-        Ok(connecting) => match made(alloc, connecting) {
-            Some(conn) => {
-                let mut conn = conn;
-                if cancelled {
-                    is_cancelled(alloc, &mut conn)
+fn is_so(alloc: Global, row: &Row, waiting: bool) -> bool {
+    match opts_of(alloc) {
+        Some(opts) => match link_for(alloc, &opts, row.plan) {
+            Ok(Some(link)) => {
+                if waiting {
+                    is_driven(alloc, opts, link, row)
                 } else {
-                    all_polled(alloc, &mut conn)
+                    is_polled(alloc, opts, link, row)
                 }
             }
-            None => false,
-        },
-        Err(_) => false,
-    }
-}
-
-fn is_driven(alloc: Global, opts: &Opts, link: MemLink, counted: bool) -> bool {
-    match Conn::new(alloc, opts, ReadyLink::new(link)) {
-        Ok(conn) => {
-            let mut conn = conn;
-            let right = if counted {
-                drives(alloc, &mut conn, Step::Ping) && counts(alloc, &mut conn)
-            } else {
-                all_driven(alloc, &mut conn)
-            };
-            right && ends(alloc, conn)
-        }
-        Err(_) => false,
-    }
-}
-
-/// How a conversation is held.
-#[derive(Clone, Copy)]
-enum Talk {
-    Polled,
-    Cancelled,
-    Waiting,
-    Counted,
-}
-
-fn is_so(alloc: Global, opts: &Opts, link: MemLink, talk: Talk) -> bool {
-    match talk {
-        Talk::Polled => is_polled(alloc, opts, link, false),
-        Talk::Cancelled => is_polled(alloc, opts, link, true),
-        Talk::Waiting => is_driven(alloc, opts, link, false),
-        Talk::Counted => is_driven(alloc, opts, link, true),
-    }
-}
-
-fn is_right(alloc: Global, lines: &[Line], talk: Talk) -> bool {
-    match opts_of(alloc) {
-        Some(opts) => match link_for(alloc, &opts, lines) {
-            Ok(Some(link)) => is_so(alloc, &opts, link, talk),
-            Ok(None) | Err(_) => false,
+            Ok(None) | Err(NoMemory) => false,
         },
         None => false,
     }
 }
 
 #[test]
-fn each_call_is_polled(rt: HostRuntime) -> Result<(), Fail> {
-    assert!(rt; is_right(rt.alloc(), LINES, Talk::Polled));
+fn talks_are_polled(rt: HostRuntime) -> Result<(), Fail> {
+    for row in POLLED.split('\n') {
+        assert!(rt; is_so(rt.alloc(), &polled_row(row), false), "{row}");
+    }
     Ok(())
 }
 
 #[test]
-fn each_call_waits(rt: HostRuntime) -> Result<(), Fail> {
-    assert!(rt; is_right(rt.alloc(), LINES, Talk::Waiting));
-    Ok(())
-}
-
-#[test]
-fn rows_are_counted(rt: HostRuntime) -> Result<(), Fail> {
-    assert!(rt; is_right(rt.alloc(), LINES, Talk::Counted));
-    Ok(())
-}
-
-// Nothing comes after the handshake.
-#[test]
-fn a_query_is_cancelled(rt: HostRuntime) -> Result<(), Fail> {
-    assert!(rt; is_right(rt.alloc(), &LINES[..3], Talk::Cancelled));
+fn talks_wait(rt: HostRuntime) -> Result<(), Fail> {
+    for row in WAITING.split('\n') {
+        assert!(rt; is_so(rt.alloc(), &waiting_row(row), true), "{row}");
+    }
     Ok(())
 }

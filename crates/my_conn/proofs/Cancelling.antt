@@ -5,6 +5,7 @@ use Rattle.my_reading.specs.declared.call.CallKind.{CallKind}
 use Rattle.my_session.specs.Machine.{dropped}
 use Rattle.my_session.specs.Seen.{Seen}
 use Rattle.my_session.specs.Tasks.{is_open}
+use Rattle.my_opts.specs.Opts.{OptsView}
 use Rattle.my_reading.specs.Calls.{kind_of}
 use Rattle.my_reading.specs.Endings.{closes_cancelled}
 use Rattle.my_client.specs.declared.tape.Said.TheVariants as says
@@ -54,20 +55,22 @@ module _ (kind : CallKind) (s t : Seen) (p q : Option Tape) (o : Option CallKind
       let end = stands_cancelled old.0 old.1 old.2 in
       subst (λ (b : Bool). Standing b t q None) (sym e) (old.0, cancelled_by old.0 old.1 end.0, end.2)
 
-  pub open_cancelled : {L : Type 0} (link : L) (b : Bool) → is_some q ≡ is_some p → CancelIs (record { seen = s; link = link; tape = p; pending = o; lost = b }) (record { seen = t; link = link; tape = q; pending = None; lost = b })
-  open_cancelled link b keeps = record {
+  pub open_cancelled : {L : Type 0} (v : OptsView) (link : L) (b : Bool) → is_some q ≡ is_some p → CancelIs (record { opts = v; seen = s; link = link; tape = p; pending = o; lost = b }) (record { opts = v; seen = t; link = link; tape = q; pending = None; lost = b })
+  open_cancelled v link b keeps = record {
     each = λ _ login k w. stands_cancelled login k w;
     keeps = keeps;
+    opts = refl;
     pending = refl;
     link = refl;
     lost = refl;
   }
 
 -- a lost connection has no open call
-pub lost_cancelled : {L : Type 0} (link : L) (s : Seen) (p : Option Tape) (o : Option CallKind) (b : Bool) → b ≡ true → Standing b s p o → CancelIs (record { seen = s; link = link; tape = p; pending = o; lost = b }) (record { seen = s; link = link; tape = p; pending = o; lost = b })
-lost_cancelled link s p o b e w = record {
+pub lost_cancelled : {L : Type 0} (v : OptsView) (link : L) (s : Seen) (p : Option Tape) (o : Option CallKind) (b : Bool) → b ≡ true → Standing b s p o → CancelIs (record { opts = v; seen = s; link = link; tape = p; pending = o; lost = b }) (record { opts = v; seen = s; link = link; tape = p; pending = o; lost = b })
+lost_cancelled v link s p o b e w = record {
   each = λ f. absurd (not_both b f e);
   keeps = refl;
+  opts = refl;
   pending = subst (λ (b : Bool). Standing b s p o) e w;
   link = refl;
   lost = refl;

@@ -90,7 +90,7 @@ begun_carries k call = record { sent_is = sym (append-nil k.sent); taken_is = sy
 -- so far: the call is to begin, or is open
 abbrev pub DriveSoFar : {L : Type 0} → (L → Looks) → Call → Option Call → ConnSeen L → ConnSeen L → ℕ → Type 0
 DriveSoFar look call (Some c) old cur n = (c ≡ call) × (cur ≡ old) × (n ≡ 0)
-DriveSoFar look call None old cur n = (old.lost ≡ false) × (cur.lost ≡ false) × (is_some cur.tape ≡ is_some old.tape) × ((login : Login) (k : Kept) → StandsFor login old.seen old.tape old.pending k
+DriveSoFar look call None old cur n = (old.lost ≡ false) × (cur.lost ≡ false) × (is_some cur.tape ≡ is_some old.tape) × (cur.opts ≡ old.opts) × ((login : Login) (k : Kept) → StandsFor login old.seen old.tape old.pending k
     → (f : Kept) × StandsFor login cur.seen cur.tape cur.pending f × Goes call (look old.link) (look cur.link) k f n)
 
 no_pending : (c : CallKind) → Pending ≡ lost_answer c → ⊥
@@ -146,13 +146,17 @@ module _ {L : Type 0} (look : L → Looks) (kind : CallKind) (call : Call) (old 
       let p : Polled login call (look old.link) (look old.link) (look new.link) k u.0 m.taken after = begun_polled login call (look old.link) (look new.link) k u.0 m after u.2 in
       (u.0, u.1, subst (λ (o : ConnSeen L). Polled login call (look old.link) (look o.link) (look new.link) k u.0 (n + m.taken) after) (sym so.1) (subst (λ (i : ℕ). Polled login call (look old.link) (look old.link) (look new.link) k u.0 i after) (omega (arith, so.2)) p))
   each_polled None cur n so is e f login k w =
-      let v = so.3 login k w in
+      let v = so.4 login k w in
       let u = is.each so.1 f login v.0 v.1 in
       (u.0, u.1, open_polled login call (look old.link) (look cur.link) (look new.link) k v.0 u.0 n m after v.2 u.2)
 
   keeps_on : (next : Option Call) (cur : ConnSeen L) (n : ℕ) → DriveSoFar look call next old cur n → CallIs look kind next cur new m after → new.lost ≡ false → is_some new.tape ≡ is_some old.tape
   keeps_on (Some c) cur n so is e = is.keeps e ∙ ap (λ (o : ConnSeen L). is_some o.tape) so.1
   keeps_on None cur n so is e = is.keeps e ∙ so.2
+
+  same_opts : (next : Option Call) (cur : ConnSeen L) (n : ℕ) → DriveSoFar look call next old cur n → CallIs look kind next cur new m after → new.opts ≡ old.opts
+  same_opts (Some c) cur n so is = is.opts ∙ ap (λ (o : ConnSeen L). o.opts) so.1
+  same_opts None cur n so is = is.opts ∙ so.3
 
   -- what a lost connection, or one that loses, comes to
   was_sound : (next : Option Call) (cur : ConnSeen L) (n : ℕ) → DriveSoFar look call next old cur n → cur.lost ≡ old.lost
@@ -177,6 +181,7 @@ module _ {L : Type 0} (look : L → Looks) (kind : CallKind) (call : Call) (old 
         old_sound,
         new_sound,
         keeps_on next cur n so is new_sound,
+        same_opts next cur n so is,
         λ login k w.
             let u = each_polled next cur n so is old_sound new_sound login k w in
             (u.0, u.1, u.2.goes e none still),
@@ -212,6 +217,7 @@ module _ {L : Type 0} (look : L → Looks) (kind : CallKind) (call : Call) (old 
         loses = λ f g. inl (subst (λ (p : After). Results p r) (is.loses (same ∙ f) g).0 e);
         lost = λ f. ((is.lost (same ∙ f)).0 ∙ was_same next cur n so f, result_lost r (is.lost (same ∙ f)).1 e);
         keeps = keeps_on next cur n so is;
+        opts = same_opts next cur n so is;
         pending = none;
         fits = by_after after is.fits e;
       }
@@ -222,21 +228,22 @@ module _ {L : Type 0} (look : L → Looks) (kind : CallKind) (call : Call) (old 
       by_after (Failed x) w e = subst (ResultFits kind) (sym e) tt
 
 -- it took too long
-pub drive_long : {L : Type 0} (look : L → Looks) (kind : CallKind) (call : Call) (old cur new : ConnSeen L) (next : Option Call) (n : ℕ) (r : Result Answer Error) → DriveSoFar look call next old cur n → TOO_LONG ≤ n → new.lost ≡ true → new.pending ≡ None → new.link ≡ cur.link → r ≡ Err (errors.Driver TooLong) → DriveIs look kind call old new r
-drive_long look kind call old cur new (Some c) n r so long lost none link e = absurd (no_bytes (omega (arith, so.2, long)))
+pub drive_long : {L : Type 0} (look : L → Looks) (kind : CallKind) (call : Call) (old cur new : ConnSeen L) (next : Option Call) (n : ℕ) (r : Result Answer Error) → DriveSoFar look call next old cur n → TOO_LONG ≤ n → new.lost ≡ true → new.pending ≡ None → new.link ≡ cur.link → new.opts ≡ cur.opts → r ≡ Err (errors.Driver TooLong) → DriveIs look kind call old new r
+drive_long look kind call old cur new (Some c) n r so long lost none link opts e = absurd (no_bytes (omega (arith, so.2, long)))
   where
     no_bytes : 1 ≤ 0 → ⊥
     no_bytes h = omega (arith, h)
-drive_long {L} look kind call old cur new None n r so long lost none link e = record {
+drive_long {L} look kind call old cur new None n r so long lost none link opts e = record {
   each = λ f g. absurd (not_both new.lost g lost);
   loses = λ f g. inr (
     e,
     λ login k w.
-        let u = so.3 login k w in
+        let u = so.4 login k w in
         (n, u.0, subst (λ (l : L). Goes call (look old.link) (look l) k u.0 n) (sym link) u.2, long),
   );
   lost = λ f. absurd (not_both old.lost so.0 f);
   keeps = λ g. absurd (not_both new.lost g lost);
+  opts = opts ∙ so.3;
   pending = none;
   fits = subst (ResultFits kind) (sym e) tt;
 }

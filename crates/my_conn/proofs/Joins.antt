@@ -15,6 +15,7 @@ use Rattle.my_session.specs.Entries.{connects, has_connected}
 use Rattle.my_session.specs.Fits.{may_be}
 use Rattle.my_session.specs.Seen.{Seen}
 use Rattle.my_session.specs.Tasks.{is_open}
+use Rattle.my_opts.specs.Opts.{OptsView}
 use Rattle.my_client.specs.declared.poll.After.{After}
 use Rattle.my_client.specs.declared.poll.After.TheVariants as after
 use Rattle.my_client.specs.declared.tape.Said.TheVariants as says
@@ -84,10 +85,11 @@ module _ (s t : Seen) (x y : Looks) (p q : Option Tape) (m : Met) (each : EachCa
       let f = (shook s t x y p q m after.Pending each w.0 w.1 w.2 w.3).polled in
       ends_pend w.0 w.2 f.following _ m x f.used.moved y (moves_count f.used.moves x f.used.moved f.used.leads) f.stop after.Pending f.within f.used.stops f.ends
 
-  pub still_connects : {L : Type 0} (look : L → Looks) (link other : L) → x ≡ look link → y ≡ look other → is_some q ≡ is_some p → Connects s p → StillConnects look (record { seen = s; link = link; tape = p }) (record { seen = t; link = other; tape = q })
-  still_connects look link other e f keeps w = record {
+  pub still_connects : {L : Type 0} (look : L → Looks) (v : OptsView) (link other : L) → x ≡ look link → y ≡ look other → is_some q ≡ is_some p → Connects s p → StillConnects look (record { opts = v; seen = s; link = link; tape = p }) (record { opts = v; seen = t; link = other; tape = q })
+  still_connects look v link other e f keeps w = record {
     met = m;
     keeps = keeps;
+    opts = refl;
     pends = subst (λ (l : Looks). PendsBy after.Pending l (look other) m) e (subst (λ (l : Looks). PendsBy after.Pending x l m) f (pends w));
     each = λ login k a v.
         let u = still login k a v in
@@ -122,8 +124,8 @@ module _ (s t : Seen) (x y : Looks) (p q : Option Tape) (m : Met) (answer : Answ
   pub made_stands : Connects s p → Standing false t q None
   made_stands w = let f = made w.0 w.1 w.2 w.3 in (w.0, f.0, f.1)
 
-  pub makes : {L : Type 0} (look : L → Looks) (link other : L) → x ≡ look link → y ≡ look other → is_some q ≡ is_some p → Makes look (record { seen = s; link = link; tape = p }) t other q
-  makes look link other e f keeps = record {
+  pub makes : {L : Type 0} (look : L → Looks) (v : OptsView) (link other : L) → x ≡ look link → y ≡ look other → is_some q ≡ is_some p → Makes look (record { opts = v; seen = s; link = link; tape = p }) t other q
+  makes look v link other e f keeps = record {
     met = m;
     keeps = keeps;
     each = λ login k a v.
@@ -132,8 +134,8 @@ module _ (s t : Seen) (x y : Looks) (p q : Option Tape) (m : Met) (answer : Answ
   }
 
 -- it failed
-pub fails_to : {L : Type 0} (look : L → Looks) (link : L) (s t : Seen) (y : Looks) (p q : Option Tape) (m : Met) (e : Error) → EachCall None s t (look link) y p q m (after.Failed e) → ConnectFails look (record { seen = s; link = link; tape = p }) e
-fails_to look link s t y p q m e each = inr (record {
+pub fails_to : {L : Type 0} (look : L → Looks) (v : OptsView) (link : L) (s t : Seen) (y : Looks) (p q : Option Tape) (m : Met) (e : Error) → EachCall None s t (look link) y p q m (after.Failed e) → ConnectFails look (record { opts = v; seen = s; link = link; tape = p }) e
+fails_to look v link s t y p q m e each = inr (record {
   met = m;
   left = y;
   each = λ login k a w.

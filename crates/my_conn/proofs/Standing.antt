@@ -12,6 +12,7 @@ use Rattle.my_reading.specs.declared.call.Call.{Call}
 use Rattle.my_reading.specs.declared.call.CallKind.{CallKind}
 use Rattle.my_session.specs.Entries.{connects, has_connected}
 use Rattle.my_session.specs.Seen.{Seen}
+use Rattle.my_opts.specs.Opts.{OptsView}
 use Rattle.my_session.specs.Tasks.{is_open}
 use Rattle.my_client.specs.declared.poll.After.{After}
 use Rattle.my_client.specs.declared.poll.After.TheVariants.{Pending, Answered, Failed}
@@ -209,8 +210,8 @@ sound_after b s t x y p q o n kind call m after e new may each w =
 
 module _ {L : Type 0} (look : L → Looks) (kind : CallKind) (call : Option Call) (b : Bool) (s t : Seen) (link other : L) (p q : Option Tape) (o n : Option CallKind) (m : Met) (after : After)
     (e : b ≡ false) (new : n ≡ pending_after kind after) (may : MayPoll kind call o) (each : EachCall call s t (look link) (look other) p q m after) (w : Standing b s p o) where
-  pub call_is : m.taken ≤ MOST_TAKEN → is_some q ≡ is_some p → CallIs look kind call (record { seen = s; link = link; tape = p; pending = o; lost = b }) (record { seen = t; link = other; tape = q; pending = n; lost = b }) m after
-  call_is within keeps =
+  pub call_is : (v : OptsView) → m.taken ≤ MOST_TAKEN → is_some q ≡ is_some p → CallIs look kind call (record { opts = v; seen = s; link = link; tape = p; pending = o; lost = b }) (record { opts = v; seen = t; link = other; tape = q; pending = n; lost = b }) m after
+  call_is v within keeps =
       let old = sound b s p o e w in
       record {
         each = λ _ _ login k v.
@@ -219,6 +220,7 @@ module _ {L : Type 0} (look : L → Looks) (kind : CallKind) (call : Option Call
         loses = λ f g. absurd (not_both b f g);
         lost = λ g. absurd (not_both b e g);
         keeps = λ _. keeps;
+        opts = refl;
         pending = new;
         fits = fits_after kind call s t (look link) (look other) p q o m after may each old;
         pends = pends_after kind call s t (look link) (look other) p q o m after may each old;

@@ -116,6 +116,7 @@ pub record CallIs {L : Type 0} (look : L → Looks) (c : CallKind) (call : Optio
   pub lost : old.lost ≡ true → (new ≡ old) × (after ≡ lost_answer c)
   -- where a tape was kept it is kept
   pub keeps : new.lost ≡ false → is_some new.tape ≡ is_some old.tape
+  pub opts : new.opts ≡ old.opts
   pub pending : new.pending ≡ pending_after c after
   pub fits : AfterFits c after
   pub pends : PendsBy after (look old.link) (look new.link) m

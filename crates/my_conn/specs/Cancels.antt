@@ -33,6 +33,7 @@ pub record CancelIs {L : Type 0} (old new : ConnSeen L) : Type 0 where
       → (a : Asked) × (k.pending ≡ Some a) × StandsFor login new.seen new.tape None (cancelled_by login k a)
   -- where a tape was kept it is kept
   pub keeps : is_some new.tape ≡ is_some old.tape
+  pub opts : new.opts ≡ old.opts
   pub pending : new.pending ≡ None
   pub link : new.link ≡ old.link
   pub lost : new.lost ≡ old.lost

@@ -5,14 +5,17 @@ use Rattle.my_reading.specs.declared.call.CallKind.{CallKind}
 use Rattle.my_reading.specs.Calls.{kind_of}
 use Rattle.my_session.specs.Entries.{has_connected}
 use Rattle.my_session.specs.Seen.{Seen}
+use Rattle.my_opts.specs.Opts.{OptsView}
 use Rattle.my_client.specs.declared.tape.Tape.{Tape}
 use Rattle.my_client.specs.Kept.{Kept, made_of}
 use Rattle.my_client.specs.Notes.{Agrees}
 use Rattle.my_client.specs.Reads.{IsStepped}
 use Rattle.my_client.specs.Rests.{Rests}
 
--- its session, its link, its tape, where one is kept, the kind of the open call, and whether it is lost
+-- the options that it was made with, its session, its link, its tape, where one is kept, the kind of the open call, and whether it is
+-- lost
 pub record ConnSeen (L : Type 0) : Type 0 where
+  pub opts : OptsView
   pub seen : Seen
   pub link : L
   pub tape : Option Tape

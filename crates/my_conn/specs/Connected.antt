@@ -7,5 +7,5 @@ use Rattle.my_conn.specs.Connects.{ConnectSeen, ConnectFails, Makes, StillConnec
 
 abbrev pub ConnectIs : {L : Type 0} → (L → Looks) → ConnectSeen L → Connected L → Type 0
 ConnectIs look old (Pending c) = StillConnects look old c
-ConnectIs look old (Made c) = (c.lost ≡ false) × (c.pending ≡ None) × Makes look old c.seen c.link c.tape
+ConnectIs look old (Made c) = (c.lost ≡ false) × (c.pending ≡ None) × (c.opts ≡ old.opts) × Makes look old c.seen c.link c.tape
 ConnectIs look old (Failed e) = ConnectFails look old e

@@ -9,6 +9,7 @@ use Rattle.my_reading.specs.declared.error.Error.{Error}
 use Rattle.my_reading.specs.declared.error.Error.TheVariants as errors
 use Rattle.my_reading.specs.Calls.{kind_of}
 use Rattle.my_session.specs.Seen.{Seen}
+use Rattle.my_opts.specs.Opts.{OptsView}
 use Rattle.my_client.specs.declared.poll.After.TheVariants as after
 use Rattle.my_client.specs.declared.tape.Tape.{Tape}
 use Rattle.my_client.specs.Causes.{IsPolled}
@@ -18,8 +19,9 @@ use Rattle.my_client.specs.Rests.{IsAsked}
 use Rattle.my_conn.specs.Calls.{PendsBy}
 use Rattle.my_conn.specs.Conn.{StandsFor}
 
--- its session, its link, and its tape, where one is kept
+-- the options that it is made with, its session, its link, and its tape, where one is kept
 pub record ConnectSeen (L : Type 0) : Type 0 where
+  pub opts : OptsView
   pub seen : Seen
   pub link : L
   pub tape : Option Tape
@@ -38,6 +40,7 @@ pub record StillConnects {L : Type 0} (look : L → Looks) (old new : ConnectSee
   pub met : Met
   pub pends : PendsBy after.Pending (look old.link) (look new.link) met
   pub keeps : is_some new.tape ≡ is_some old.tape
+  pub opts : new.opts ≡ old.opts
   pub each : (login : Login) (k : Kept) (a : Asked) → ConnectsFor login old.seen old.tape k a
       → (end : Kept) × ConnectsFor login new.seen new.tape end a
       × IsPolled login a k (look old.link) met after.Pending end (look new.link)

@@ -25,9 +25,9 @@ use Rattle.my_client.specs.Causes.{ErrorBy, WhyFailed}
 use Rattle.my_client.specs.Kept.{Asked, Kept, asked_by, asking, ended_by, made_of}
 use Rattle.my_client.specs.Reads.{ComesTo}
 use Rattle.my_conn.specs.declared.drive.TheConstants.{TOO_LONG}
-use Rattle.my_conn.specs.declared.states.NextAnswer.{NextAnswer}
-use Rattle.my_conn.specs.declared.states.NextAnswer.TheVariants.{Row, SetEnd, NoSet}
+use Rattle.my_conn.specs.declared.calls.NextAnswer.{NextAnswer}
 use Rattle.my_conn.specs.Conn.{ConnSeen, StandsFor}
+use Rattle.my_conn.specs.States.{done_of, next_of, waited_by}
 
 -- After `k` this call began, and these bytes were sent and taken in it so far.
 pub record Carries (k f : Kept) (call : Call) (sent came : List ℕ) : Type 0 where
@@ -98,27 +98,17 @@ pub record DriveIs {L : Type 0} (look : L → Looks) (c : CallKind) (call : Call
   pub lost : old.lost ≡ true → (new ≡ old) × (r ≡ lost_result c)
   -- where a tape was kept it is kept
   pub keeps : new.lost ≡ false → is_some new.tape ≡ is_some old.tape
+  pub opts : new.opts ≡ old.opts
   pub pending : new.pending ≡ None
   pub fits : ResultFits c r
 
--- what a caller is told of it: that the call is done, or what a read returned
-abbrev pub done_of : Result Answer Error → Result (Unit {0}) Error
-done_of (Ok answer) = Ok tt
-done_of (Err e) = Err e
-
-abbrev pub next_answer : Answer → NextAnswer
-next_answer answers.Ready = NoSet
-next_answer (answers.Row row) = Row row
-next_answer answers.SetEnd = SetEnd
-next_answer answers.NoSet = NoSet
-
-abbrev pub next_of : Result Answer Error → Result NextAnswer Error
-next_of (Ok answer) = Ok (next_answer answer)
-next_of (Err e) = Err e
+-- what a caller is told of it
+abbrev pub WaitIs : {L A : Type 0} → (L → Looks) → (Answer → A) → CallKind → Call → ConnSeen L → ConnSeen L → Result A Error → Type 0
+WaitIs look answer_of c call old new result = (r : Result Answer Error) × (result ≡ waited_by answer_of r)
+    × DriveIs look c call old new r
 
 abbrev pub DoneIs : {L : Type 0} → (L → Looks) → CallKind → Call → ConnSeen L → ConnSeen L → Result (Unit {0}) Error → Type 0
-DoneIs look c call old new result = (r : Result Answer Error) × (result ≡ done_of r) × DriveIs look c call old new r
+DoneIs look c call old new result = WaitIs look done_of c call old new result
 
 abbrev pub NextIs : {L : Type 0} → (L → Looks) → ConnSeen L → ConnSeen L → Result NextAnswer Error → Type 0
-NextIs look old new result = (r : Result Answer Error) × (result ≡ next_of r)
-    × DriveIs look kinds.NextRow calls.NextRow old new r
+NextIs look old new result = WaitIs look next_of kinds.NextRow calls.NextRow old new result

@@ -6,7 +6,8 @@ ghost use Rattle.my_conn.specs.Calls.{lost_answer, pending_after};
 use crate::begin::{cancel_open, poll_once};
 use my_client::{After, Tape};
 use my_frame::NoMemory;
-use my_link::{BlockingLink, Link, Met};
+use my_link::{CheckStep, Link, Met};
+use my_opts::Opts;
 use my_reading::{Answer, Call, CallKind, DriverError, Error};
 use my_reply::OkPacket;
 use my_session::Session;
@@ -18,6 +19,7 @@ use std::marker::Model;
 /// Out of memory, it is lost: it is closed then, and keeps no tape.
 #[derive(Drop)]
 pub struct Conn<L> {
+    opts: Opts,
     session: Session,
     link: L,
     tape: Option<Tape>,
@@ -32,6 +34,7 @@ impl<L> Model for Conn<L> {
     ghost Value = { ConnSeen L };
 
     ghost view = { λ c. record {
+      opts = c.opts;
       seen = c.session.seen;
       link = c.link;
       tape = c.tape;
@@ -70,8 +73,9 @@ impl<L> Conn<L> {
     ghost use Rattle.my_conn.specs.Conn.{Standing};
 
     // A connection whose handshake was answered.
-    pub(crate) fn made(session: Session, link: L, tape: Option<Tape>) -> Conn<L>
+    pub(crate) fn made(opts: Opts, session: Session, link: L, tape: Option<Tape>) -> Conn<L>
         requires { Standing false session.seen tape None }
+        ensures opts { result.opts ≡ opts }
         ensures seen { result.seen ≡ session.seen }
         ensures link { result.link ≡ link }
         ensures tape { result.tape ≡ tape }
@@ -79,12 +83,20 @@ impl<L> Conn<L> {
         ensures lost { result.lost ≡ false }
     {
         Conn {
+            opts,
             session,
             link,
             tape,
             pending: None,
             lost: false,
         }
+    }
+
+    /// The options that it was made with.
+    pub fn opts(&self) -> &Opts
+        ensures { result.now ≡ self.now.opts }
+    {
+        &self.opts
     }
 
     /// The kind of the call that is open.
@@ -126,6 +138,7 @@ impl<L> Conn<L> {
     pub fn take_tape(&mut self) -> Option<Tape>
         ensures tape { result ≡ self.old.tape }
         ensures none { self.new.tape ≡ None }
+        ensures opts { self.new.opts ≡ self.old.opts }
         ensures seen { self.new.seen ≡ self.old.seen }
         ensures link { self.new.link ≡ self.old.link }
         ensures pending { self.new.pending ≡ self.old.pending }
@@ -138,6 +151,7 @@ impl<L> Conn<L> {
 impl<L: Link> Conn<L> {
     ghost use Rattle.my_conn.specs.Calls.{CallIs, MayPoll};
     ghost use Rattle.my_conn.specs.Cancels.{CancelIs};
+    ghost use Rattle.my_conn.specs.Checks.{CheckedIs};
 
     /// Polls a call of this kind once: `call` begins, or where there is none, the open one goes on.
     pub(crate) fn poll_call(
@@ -185,14 +199,24 @@ impl<L: Link> Conn<L> {
         cancel_open(&mut self.session, &mut self.tape);
         self.pending = None;
     }
+
+    /// Whether its link is alive, while nothing is expected from it. It is dead where bytes were received that no call
+    /// read.
+    pub fn check(&mut self) -> CheckStep
+        ensures { CheckedIs L.looks self.old self.new result }
+    {
+        if self.session.has_unread() {
+            return CheckStep::Dead;
+        }
+        self.link.check()
+    }
 }
 
-impl<L: BlockingLink> Conn<L> {
-    // Its link was always ready.
-    pub(crate) fn never_holds(&self)
-        ensures { (L.looks self.now.link).counts.holds ≡ 0 }
+impl<L> Conn<L> {
+    pub(crate) fn link(&self) -> &L
+        ensures { result.now ≡ self.now.link }
     {
-        let _ = &self.link;
+        &self.link
     }
 
     // The open call is given up: the connection is closed, and what it keeps isn't what it did any more.
@@ -200,6 +224,7 @@ impl<L: BlockingLink> Conn<L> {
         ensures lost { self.new.lost ≡ true }
         ensures tape { self.new.tape ≡ None }
         ensures pending { self.new.pending ≡ None }
+        ensures opts { self.new.opts ≡ self.old.opts }
         ensures link { self.new.link ≡ self.old.link }
         ensures seen { self.new.seen ≡ self.old.seen }
     {

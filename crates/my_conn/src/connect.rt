@@ -1,5 +1,5 @@
 //! Connecting over a link that never holds.
-ghost use Rattle.std.specs.Prelude.{◌≡◌, None, OnOk, is_some};
+ghost use Rattle.std.specs.Prelude.{◌≡◌, None, IfOk, OnOk, is_some};
 ghost use Rattle.my_grammar.specs.declared.login.Login.{Login as LoginOf};
 ghost use Rattle.my_client.specs.Kept.{first_asked, first_kept};
 ghost use Rattle.my_client.specs.Login.{login_of};
@@ -12,7 +12,7 @@ ghost use Rattle.my_reading.specs.declared.call.CallKind.TheVariants as kinds;
 
 use crate::begin::poll_open;
 use crate::conn::Conn;
-use crate::drive::TOO_LONG;
+use crate::drive::{TOO_LONG, never_holds};
 use my_client::{After, Tape, TapedConn, begin_conn};
 use my_frame::NoMemory;
 use my_link::BlockingLink;
@@ -20,13 +20,6 @@ use my_opts::Opts;
 use my_reading::{DriverError, Error};
 use my_session::Session;
 use std::alloc::Global;
-
-// The link was always ready.
-fn never_holds<L: BlockingLink>(link: &L)
-    ensures { (L.looks link.now).counts.holds ≡ 0 }
-{
-    let _ = link;
-}
 
 // Polls the handshake until it returns.
 fn shake_hands<L: BlockingLink>(
@@ -63,10 +56,11 @@ fn shake_hands<L: BlockingLink>(
 
 impl<L: BlockingLink + Drop> Conn<L> {
     /// Connects over this link, and waits until the connection is made. It keeps no tape.
-    pub fn new(alloc: Global, opts: &Opts, link: L) -> Result<Conn<L>, Error>
-        ensures { NewIs L.looks (login_of opts.now) (L.looks link) result }
+    pub fn new(alloc: Global, opts: Opts, link: L) -> Result<Conn<L>, Error>
+        ensures news { NewIs L.looks (login_of opts) (L.looks link) result }
+        ensures opts { IfOk result (λ c. c.opts ≡ opts) }
     {
-        let begun = match begin_conn(alloc, opts, link) {
+        let begun = match begin_conn(alloc, &opts, link) {
             Ok(begun) => begun,
             Err(NoMemory) => return Err(Error::NoMemory),
         };
@@ -77,7 +71,7 @@ impl<L: BlockingLink + Drop> Conn<L> {
         } = begun;
         let mut tape = None;
         match shake_hands(alloc, &mut session, &mut link, &mut tape) {
-            Ok(()) => Ok(Conn::made(session, link, tape)),
+            Ok(()) => Ok(Conn::made(opts, session, link, tape)),
             Err(error) => Err(error),
         }
     }

@@ -19,6 +19,7 @@ use std::marker::Model;
 /// A connection that is being made. It owns its link.
 #[derive(Drop)]
 pub struct Connecting<L> {
+    opts: Opts,
     session: Session,
     link: L,
     tape: Option<Tape>,
@@ -29,7 +30,7 @@ impl<L> Model for Connecting<L> {
 
     ghost Value = { ConnectSeen L };
 
-    ghost view = { λ c. record { seen = c.session.seen; link = c.link; tape = c.tape } };
+    ghost view = { λ c. record { opts = c.opts; seen = c.session.seen; link = c.link; tape = c.tape } };
 
     ghost invariant = { λ c. Connects c.session.seen c.tape };
 }
@@ -48,6 +49,7 @@ impl<L> Connecting<L> {
     pub fn take_tape(&mut self) -> Option<Tape>
         ensures tape { result ≡ self.old.tape }
         ensures none { self.new.tape ≡ None }
+        ensures opts { self.new.opts ≡ self.old.opts }
         ensures seen { self.new.seen ≡ self.old.seen }
         ensures link { self.new.link ≡ self.old.link }
     {
@@ -59,21 +61,23 @@ impl<L: Link + Drop> Connecting<L> {
     /// The handshake begins. Where `keep_tape` is set, the connection keeps all bytes and calls.
     pub fn new(
         alloc: Global,
-        opts: &Opts,
+        opts: Opts,
         link: L,
         keep_tape: bool,
     ) -> Result<Connecting<L>, NoMemory>
-        ensures begins { IfOk result (λ c. ConnectsFor (login_of opts.now) c.seen c.tape first_kept first_asked) }
+        ensures begins { IfOk result (λ c. ConnectsFor (login_of opts) c.seen c.tape first_kept first_asked) }
         ensures tape { IfOk result (λ c. is_some c.tape ≡ keep_tape) }
         ensures link { IfOk result (λ c. c.link ≡ link) }
+        ensures opts { IfOk result (λ c. c.opts ≡ opts) }
     {
         let TapedConn {
             session,
             link,
             tape,
-        } = begin_conn(alloc, opts, link)?;
+        } = begin_conn(alloc, &opts, link)?;
         let tape = if keep_tape { Some(tape) } else { None };
         Ok(Connecting {
+            opts,
             session,
             link,
             tape,
@@ -85,6 +89,7 @@ impl<L: Link + Drop> Connecting<L> {
         ensures { ConnectIs L.looks self result }
     {
         let Connecting {
+            opts,
             mut session,
             mut link,
             mut tape,
@@ -93,11 +98,12 @@ impl<L: Link + Drop> Connecting<L> {
             Err(NoMemory) => Connected::Failed(Error::NoMemory),
             Ok((after, _met)) => match after {
                 After::Pending => Connected::Pending(Connecting {
+                    opts,
                     session,
                     link,
                     tape,
                 }),
-                After::Answered(_) => Connected::Made(Conn::made(session, link, tape)),
+                After::Answered(_) => Connected::Made(Conn::made(opts, session, link, tape)),
                 After::Failed(error) => Connected::Failed(error),
             },
         }

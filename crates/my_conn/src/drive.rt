@@ -1,14 +1,13 @@
 //! Calls that wait, over links that never hold: each polls its call until it returns.
-ghost use Rattle.std.specs.Prelude.{◌≡◌, None, true, false};
+ghost use Rattle.std.specs.Prelude.{◌≡◌, None, false};
 ghost use Rattle.my_reading.specs.Calls.{is_connect, kind_of};
-ghost use Rattle.my_reading.specs.Told.{told};
 ghost use Rattle.my_reading.specs.declared.call.Call.TheVariants as calls;
 ghost use Rattle.my_reading.specs.declared.call.CallKind.TheVariants as kinds;
-ghost use Rattle.my_session.specs.Fits.{may_be};
-ghost use Rattle.my_conn.specs.Drives.{DoneIs, DriveIs, NextIs, next_answer};
+ghost use Rattle.my_conn.specs.Drives.{DoneIs, DriveIs, NextIs, WaitIs};
 
+use crate::calls::{DropResult, NextAnswer, NextRow, Ping, Query, Quit};
 use crate::conn::Conn;
-use crate::states::NextAnswer;
+use crate::states::Returns;
 use my_client::After;
 use my_frame::Blob;
 use my_link::BlockingLink;
@@ -17,6 +16,13 @@ use std::alloc::Global;
 
 /// A call that took this many bytes without an answer is given up.
 pub const TOO_LONG: u64 = 1099511627776;
+
+/// The link was always ready.
+pub(crate) fn never_holds<L: BlockingLink>(link: &L)
+    ensures { (L.looks link.now).counts.holds ≡ 0 }
+{
+    let _ = link;
+}
 
 impl<L: BlockingLink> Conn<L> {
     // Begins a call, and polls it until it returns.
@@ -33,9 +39,9 @@ impl<L: BlockingLink> Conn<L> {
                 self.give_up();
                 return Err(Error::Driver(DriverError::TooLong));
             }
-            self.never_holds();
+            never_holds(self.link());
             let (after, met) = self.poll_call(alloc, kind, next.take());
-            self.never_holds();
+            never_holds(self.link());
             spent += met.taken;
             match after {
                 After::Pending => {}
@@ -46,29 +52,16 @@ impl<L: BlockingLink> Conn<L> {
     }
 }
 
-// What a read returned. It is never answered that it is done.
-fn next_answer(answer: Answer) -> NextAnswer
-    requires { may_be kinds.NextRow (told answer) ≡ true }
-    ensures { result ≡ next_answer answer }
-{
-    match answer {
-        Answer::Row(row) => NextAnswer::Row(row),
-        Answer::SetEnd => NextAnswer::SetEnd,
-        Answer::NoSet => NextAnswer::NoSet,
-        Answer::Ready => unreachable!(),
-    }
-}
-
 impl<L: BlockingLink> Conn<L> {
-    // A call that is done once it is answered.
-    fn finish(&mut self, alloc: Global, kind: CallKind, call: Call) -> Result<(), Error>
+    // Makes a call of this kind, and waits for what it is to the caller.
+    fn wait<C: Returns>(&mut self, alloc: Global, call: Call) -> Result<C::Answer, Error>
         requires idle { self.old.pending ≡ None }
-        requires kind { kind_of call ≡ kind }
-        requires other { is_connect kind ≡ false }
-        ensures { DoneIs L.looks kind call self.old self.new result }
+        requires kind { kind_of call ≡ C.KIND }
+        requires other { is_connect C.KIND ≡ false }
+        ensures { WaitIs L.looks C.answer C.KIND call self.old self.new result }
     {
-        match self.drive(alloc, kind, call) {
-            Ok(_) => return Ok(()),
+        match self.drive(alloc, C::KIND, call) {
+            Ok(answer) => return Ok(C::answer(answer)),
             Err(error) => return Err(error),
         }
     }
@@ -78,7 +71,7 @@ impl<L: BlockingLink> Conn<L> {
         requires { self.old.pending ≡ None }
         ensures { DoneIs L.looks kinds.Query (calls.Query text) self.old self.new result }
     {
-        self.finish(alloc, CallKind::Query, Call::Query(text))
+        self.wait::<Query>(alloc, Call::Query(text))
     }
 
     /// Waits for the next row.
@@ -86,10 +79,7 @@ impl<L: BlockingLink> Conn<L> {
         requires { self.old.pending ≡ None }
         ensures { NextIs L.looks self.old self.new result }
     {
-        match self.drive(alloc, CallKind::NextRow, Call::NextRow) {
-            Ok(answer) => return Ok(next_answer(answer)),
-            Err(error) => return Err(error),
-        }
+        self.wait::<NextRow>(alloc, Call::NextRow)
     }
 
     /// Passes over all that is left of a result.
@@ -97,7 +87,7 @@ impl<L: BlockingLink> Conn<L> {
         requires { self.old.pending ≡ None }
         ensures { DoneIs L.looks kinds.DropResult calls.DropResult self.old self.new result }
     {
-        self.finish(alloc, CallKind::DropResult, Call::DropResult)
+        self.wait::<DropResult>(alloc, Call::DropResult)
     }
 
     /// Asks whether the server is there.
@@ -105,7 +95,7 @@ impl<L: BlockingLink> Conn<L> {
         requires { self.old.pending ≡ None }
         ensures { DoneIs L.looks kinds.Ping calls.Ping self.old self.new result }
     {
-        self.finish(alloc, CallKind::Ping, Call::Ping)
+        self.wait::<Ping>(alloc, Call::Ping)
     }
 
     /// Ends the connection.
@@ -113,6 +103,6 @@ impl<L: BlockingLink> Conn<L> {
         requires { self.old.pending ≡ None }
         ensures { DoneIs L.looks kinds.Quit calls.Quit self.old self.new result }
     {
-        self.finish(alloc, CallKind::Quit, Call::Quit)
+        self.wait::<Quit>(alloc, Call::Quit)
     }
 }

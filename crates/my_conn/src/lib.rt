@@ -2,6 +2,7 @@
 #![tactic(auto)]
 
 mod begin;
+mod calls;
 mod conn;
 mod connect;
 mod connecting;
@@ -9,8 +10,12 @@ mod drive;
 mod facts;
 mod states;
 
+pub use calls::{
+    DropCall, DropResult, NextAnswer, NextCall, NextRow, Ping, PingCall, Query, QueryCall, Quit,
+    QuitCall,
+};
 pub use conn::Conn;
 pub use connecting::{Connected, Connecting};
 pub use drive::TOO_LONG;
 pub use my_packets::Poll;
-pub use states::{CallState, DropCall, NextAnswer, NextCall, PingCall, QueryCall, QuitCall};
+pub use states::{CallState, Returns};

@@ -18,4 +18,4 @@ invariant_of-self g c =
 pub returns-in-Ok : goal.returns-in-Ok
 returns-in-Ok g c =
     let v = c.self.inside in
-    rw (← c.self.view_is) (call_is g.L.Link.looks c.args.kind c.args.call v.lost v.session.seen c.poll_once.new.session.seen v.link c.poll_once.new.link v.tape c.poll_once.new.tape v.pending c.pending_after-self-inside.result c.in-Ok.met c.in-Ok.after c.if-self.false c.pending_after-self-inside.ensures (subst (λ (s : ConnSeen g.row.L.Denot). MayPoll c.args.kind c.args.call s.pending) (sym c.self.view_is) c.requires) c.in-Ok.ensures.does c.self.invariant c.in-Ok.ensures.within c.in-Ok.ensures.keeps)
+    rw (← c.self.view_is) (call_is g.L.Link.looks c.args.kind c.args.call v.lost v.session.seen c.poll_once.new.session.seen v.link c.poll_once.new.link v.tape c.poll_once.new.tape v.pending c.pending_after-self-inside.result c.in-Ok.met c.in-Ok.after c.if-self.false c.pending_after-self-inside.ensures (subst (λ (s : ConnSeen g.row.L.Denot). MayPoll c.args.kind c.args.call s.pending) (sym c.self.view_is) c.requires) c.in-Ok.ensures.does c.self.invariant v.opts c.in-Ok.ensures.within c.in-Ok.ensures.keeps)

@@ -1,0 +1,5 @@
+use Rattle.my_conn.specs.Calls.{MayPoll}
+use Rattle.client_tables.proofs.polls.play.Given as goal
+
+abbrev pub invariant-polls : goal.invariant-polls
+invariant-polls g l = MayPoll g.C.Returns.KIND l.call.call l.conn.pending

@@ -1,0 +1,126 @@
+//! What calls return, as letters.
+
+use crate::link::is_of;
+use my_client::{Said, Tape};
+use my_conn::{Conn, NextAnswer};
+use my_link::CheckStep;
+use my_reading::{DriverError, Error, IoError, IoKind};
+
+/// The letter of an error.
+pub fn of_error(error: &Error) -> u8 {
+    match error {
+        Error::Server(_) => b'S',
+        Error::Driver(DriverError::ConnectionClosed) => b'C',
+        Error::Io(IoError::Io(fault)) => match fault.kind {
+            IoKind::Link => b'L',
+            IoKind::UnexpectedEof => b'U',
+            IoKind::Dial | IoKind::InvalidData => b'?',
+        },
+        Error::Io(IoError::Codec(_)) | Error::Driver(_) | Error::NoMemory => b'?',
+    }
+}
+
+/// The letter of a call that is done.
+pub fn of_done(answer: &Result<(), Error>) -> u8 {
+    match answer {
+        Ok(()) => b'k',
+        Err(error) => of_error(error),
+    }
+}
+
+/// The letter of what a read returned.
+pub fn of_read(answer: &Result<NextAnswer, Error>) -> u8 {
+    match answer {
+        Ok(NextAnswer::Row(_)) => b'r',
+        Ok(NextAnswer::SetEnd) => b'e',
+        Ok(NextAnswer::NoSet) => b'n',
+        Err(error) => of_error(error),
+    }
+}
+
+/// The letter of what a check said.
+pub fn of_check(step: CheckStep) -> u8 {
+    match step {
+        CheckStep::Alive => b'A',
+        CheckStep::Dead => b'D',
+        CheckStep::NotYet => b'.',
+        CheckStep::Failed => b'L',
+    }
+}
+
+/// Whether a tape is kept.
+pub fn of_tape(tape: &Option<Tape>) -> u8 {
+    match tape {
+        Some(_) => b'k',
+        None => b'n',
+    }
+}
+
+fn yes(right: bool) -> u8 {
+    if right { b'k' } else { b'?' }
+}
+
+/// Whether the getters return what the full OK says.
+pub fn of_facts<L>(conn: &Conn<L>) -> u8 {
+    yes(
+        conn.affected_rows() == 3
+            && conn.last_insert_id() == Some(7)
+            && conn.get_warnings() == 1
+            && conn.info() == b"note".as_slice(),
+    )
+}
+
+/// Whether the getters return what the greeting said, and the options that the connection was made with; and whether it
+/// is closed.
+pub fn of_server<L>(conn: &Conn<L>) -> u8 {
+    let right = conn.id() == 7
+        && conn.server_version() == (8, 0, 36)
+        && conn.opts().user() == Some("root")
+        && conn.opts().wait_timeout() == Some(28800);
+    if conn.is_disconnected() {
+        b'c'
+    } else {
+        yes(right)
+    }
+}
+
+fn of_said(said: &Said) -> u8 {
+    match said {
+        Said::Answered(_) => b'k',
+        Said::Failed(_) => b'e',
+        Said::Cancelled(false) => b'x',
+        Said::Cancelled(true) => b'X',
+    }
+}
+
+// How the call of this number ended.
+fn of_call(tape: &Tape, number: usize) -> u8 {
+    match tape.calls.get(number) {
+        Some(call) => of_said(&call.said),
+        None => match &tape.pending {
+            Some(_) => b'.',
+            None => b'?',
+        },
+    }
+}
+
+fn are_calls(tape: &Tape, letters: &[u8]) -> bool {
+    for (number, letter) in letters.iter().enumerate() {
+        if of_call(tape, number) != *letter {
+            return false;
+        }
+    }
+    tape.calls.len() <= letters.len()
+}
+
+/// Whether a tape has these bytes and calls, or isn't kept.
+pub fn is_kept(tape: &Option<Tape>, sent: &str, taken: &str, calls: &str) -> bool {
+    match tape {
+        Some(tape) => {
+            is_of(tape.sent.as_slice(), sent)
+                && is_of(tape.taken.as_slice(), taken)
+                && are_calls(tape, calls.as_bytes())
+        }
+        None => calls == "-",
+    }
+}
