@@ -15,9 +15,9 @@ use Rattle.my_pool_parts.specs.declared.request.Standing.TheVariants.{Asks, Wait
 use Rattle.my_pool_core.specs.declared.limits.Counts.{Counts}
 use Rattle.my_pool_parts.specs.Lists.{without, how_many, found_is}
 use Rattle.my_pool_parts.specs.Connections.{placed, has_number, is_idle, is_idle_place, is_usable, is_left, move_to, latest_usable, unexpired, expired, retire, next_to_clean, mark_of_place, is_marked, is_resetting, is_leased}
-use Rattle.my_pool_parts.specs.Requests.{asking, has_age, is_waiting, is_woken, is_free, holds, holds_number, is_dialing, standing_as, ended, wake, waits_up_to, is_queued, has_waited, is_live, let_go}
+use Rattle.my_pool_parts.specs.Requests.{asking, has_age, is_waiting, is_woken, is_free, holds, holds_number, is_dialing, standing_as, ended, wake, waits_up_to, is_queued, has_waited, is_live}
 use Rattle.my_pool_core.specs.State.{State}
-use Rattle.my_pool_core.specs.Events.{Polled, Decided, is_at_end, request, may_poll, queued, sought, poll_request, is_full, may_cancel, cancel_standing, cancel_found, cancel, creation_failed, may_settle, ready, failed, may_give_back, give_back, detach, found_next, take_returned, may_decide, resting, keep, decide, may_done, done, check_ttl, above_min, unestablished, dirty_return, outlived, being_reset, superfluous, cleanup_failed}
+use Rattle.my_pool_core.specs.Events.{Polled, Decided, is_at_end, request, may_poll, queued, sought, poll_request, is_full, may_cancel, cancel_standing, cancel_found, cancel, creation_failed, may_settle, ready, failed, may_give_back, give_back, detach, found_next, take_returned, may_decide, resting, keep, decide, may_done, done, check_ttl, above_min, unestablished, dirty_return, outlived, being_reset, superfluous, cleanup_failed, let_go}
 use Rattle.my_pool_core.specs.Sound.{IsSound, IsCovered, woken_first, is_unmarked}
 use Rattle.my_pool_parts.proofs.Finding.{one, count-without-le, count-change, count-found, count-push, count-append, found-any, shorter-where-any}
 use Rattle.my_pool_core.proofs.Kept.Fewer.{move-count}

@@ -13,10 +13,10 @@ use Rattle.my_pool_parts.specs.declared.request.Request.{Request}
 use Rattle.my_pool_parts.specs.declared.request.Standing.{Standing}
 use Rattle.my_pool_parts.specs.declared.request.Standing.TheVariants.{Asks, Waits, Woken, Dials, Checks}
 use Rattle.my_pool_parts.specs.Lists.{without, how_many, found_is}
-use Rattle.my_pool_parts.specs.Connections.{has_number, is_leased, is_idle, is_idle_place, is_connecting_place, is_checking_place, is_cleaning_place, is_resetting_place, is_closing_place, returned, placed, move_to, is_cleaning, next_to_clean, mark_of_place, latest_usable, retire, may_finish}
+use Rattle.my_pool_parts.specs.Connections.{has_number, is_leased, is_idle, is_idle_place, is_connecting_place, is_checking_place, is_cleaning_place, is_resetting_place, is_closing_place, returned, placed, move_to, is_cleaning, next_to_clean, mark_of_place, latest_usable, retire}
 use Rattle.my_pool_parts.specs.Requests.{asking, last_age, may_dial, roused, standing_as, has_age, holds, holds_number, is_free, ended, set_waiting, wake, wake_all, with_last, IsRising}
 use Rattle.my_pool_core.specs.State.{State}
-use Rattle.my_pool_core.specs.Events.{is_at_end, request, dialed, taken, above_min, may_move, freed, moved, resting, kept, is_unheld, may_poll, may_cancel, cancel, cancel_found, cancel_standing, may_settle, ready, failed, may_give_back, give_back, close, check_ttl, may_decide, may_done}
+use Rattle.my_pool_core.specs.Events.{is_at_end, request, dialed, taken, above_min, may_move, freed, moved, resting, kept, is_unheld, may_poll, may_cancel, cancel, cancel_found, cancel_standing, may_settle, ready, failed, may_give_back, give_back, close, check_ttl, may_decide, may_done, may_finish}
 use Rattle.my_pool_core.specs.Sound.{IsSound, IsKept, is_dialer, is_unnumbered}
 use Rattle.my_pool_core.specs.State.{one_more}
 use Rattle.std.specs.Prelude.{nat_le, nat_lt, ◌==◌}

@@ -16,8 +16,8 @@ use Rattle.my_pool_core.specs.declared.event.PollAnswer.TheVariants.{Wait, Take,
 use Rattle.my_pool_core.specs.declared.event.Verdict.{Verdict}
 use Rattle.my_pool_core.specs.declared.event.Verdict.TheVariants.{Drop, Clean, Close, Reset, Keep}
 use Rattle.my_pool_parts.specs.Lists.{without, found_is, how_many}
-use Rattle.my_pool_parts.specs.Connections.{may_finish, placed, has_number, is_idle, is_leased, is_cleaning, is_marked, is_resetting, is_connecting, is_checking, mark_of_place, move_to, latest_usable, retire, lasting, outdated, next_to_clean}
-use Rattle.my_pool_parts.specs.Requests.{with_last, has_waited, is_live, let_go, last_age, asking, has_age, is_free, holds, set_standing, set_waiting, ended, wake, wake_all, waits_up_to, may_dial, is_queued}
+use Rattle.my_pool_parts.specs.Connections.{placed, has_number, is_idle, is_leased, is_cleaning, is_marked, is_resetting, is_closing, is_connecting, is_checking, mark_of_place, move_to, latest_usable, retire, lasting, outdated, next_to_clean}
+use Rattle.my_pool_parts.specs.Requests.{with_last, has_waited, is_live, is_dialing, last_age, asking, has_age, is_free, holds, set_standing, set_waiting, ended, wake, wake_all, waits_up_to, may_dial, is_queued}
 use Rattle.my_pool_core.specs.State.{State, one_more}
 
 -- the counts of a new pool
@@ -231,6 +231,10 @@ ready age number s = record s {
   requests = ended age s.requests;
 }
 
+-- a request that was making a connection ends, one that was looking at it has no connection again
+abbrev pub let_go : ℕ → List Request → List Request
+let_go age rs = if found_is is_dialing (find (has_age age) rs) then ended age rs else set_standing age Asks rs
+
 -- it isn't: it is freed, and the request lets it go
 abbrev pub failed : ℕ → ℕ → State → State
 failed age number s = freed number (let_go age s.requests) (record s { counts = creation_failed s.counts })
@@ -291,6 +295,10 @@ decide number facts now s =
     else if facts.reset
     then record { state = record (moved number Resetting s) { counts = being_reset s.counts }; answer = Reset }
     else keep number facts now s
+
+-- a reset, a close, or a cleaning that failed came to its end
+abbrev pub may_finish : Bool → Connection → Bool
+may_finish ok c = is_resetting c || is_closing c || (is_cleaning c && not ok)
 
 abbrev pub may_done : ℕ → Bool → State → Bool
 may_done number ok s = found_is (may_finish ok) (find (has_number number) s.connections)

@@ -1,6 +1,7 @@
 -- The numbers of those that pass a test, as a connection leaves its place and goes to the end.
 use Rattle.std.proofs.Common.{◌≡◌, ℕ, ◌+◌, ◌-◌, ◌≤◌, ◌<◌, zero, suc, Bool, true, false, cond, Option, Some, None, List, [], ◌∷◌, ◌++◌, length, refl, sym, ap, ◌∙◌, arith, option_map, get_or, take, OnSome, is_some, IsSome, append-nil, length-append}
 use Rattle.std.specs.Prelude.{find, ◌==◌, ◌||◌}
+use mir.Val.{bool_byte}
 use Rattle.std.specs.List.{list_any}
 use Rattle.std.proofs.lemmas.Bool.Decides.{nat_tests}
 use Rattle.my_pool_parts.specs.declared.connection.Connection.{Connection}
@@ -192,6 +193,11 @@ without-back n (suc k) (x ∷ q) d h l e =
 pub on-some : {X P : Type 0} (o : Option X) (x : X) → o ≡ Some x → OnSome o P → P
 on-some None x e p = absurd (cc)
 on-some (Some y) x e p = p
+
+-- a truth as a number
+pub byte-one : (b : Bool) → bool_byte b ≡ one b
+byte-one true = refl
+byte-one false = refl
 
 pub one-le : (b : Bool) → one b ≤ 1
 one-le true = omega arith

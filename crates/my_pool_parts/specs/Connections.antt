@@ -180,7 +180,3 @@ is_kind kinds.Returned place = is_returned_place place
 is_kind kinds.Cleaning place = is_cleaning_place place
 is_kind kinds.Resetting place = is_resetting_place place
 is_kind kinds.Closing place = is_closing_place place
-
--- a reset, a close, or a cleaning that failed came to its end
-abbrev pub may_finish : Bool → Connection → Bool
-may_finish ok c = is_resetting c || is_closing c || (is_cleaning c && not ok)

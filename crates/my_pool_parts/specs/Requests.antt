@@ -4,7 +4,7 @@ use Rattle.std.specs.List.{list_any}
 use Rattle.my_pool_parts.specs.declared.request.Request.{Request}
 use Rattle.my_pool_parts.specs.declared.request.Standing.{Standing}
 use Rattle.my_pool_parts.specs.declared.request.Standing.TheVariants.{Asks, Waits, Woken, Dials, Checks}
-use Rattle.my_pool_parts.specs.Lists.{without, change_first, found_is}
+use Rattle.my_pool_parts.specs.Lists.{without, change_first}
 
 -- the last age, which stays live for good once it is given
 abbrev pub last_age : ℕ
@@ -122,10 +122,6 @@ has_waited r = r.waited
 -- a request is given up where it is live
 abbrev pub is_live : Request → Bool
 is_live r = true
-
--- a request that was making a connection ends, one that was looking at it has no connection again
-abbrev pub let_go : ℕ → List Request → List Request
-let_go age rs = if found_is is_dialing (find (has_age age) rs) then ended age rs else set_standing age Asks rs
 
 -- the ages rise, from this one on
 abbrev pub IsRising : ℕ → List Request → Type 0

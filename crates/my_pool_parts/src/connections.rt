@@ -1,8 +1,8 @@
 //! The counted connections, in the order in which they came to their places.
 
-ghost use Rattle.std.specs.Prelude.{◌≡◌, ◌≤◌, ◌<◌, ◌+◌, ◌-◌, ◌^◌, ◌++◌, [], ◌∷◌, IsTrue, None, find, length, OnOk, IfOk, if◌then◌else◌};
+ghost use Rattle.std.specs.Prelude.{◌≡◌, ◌≤◌, ◌<◌, ◌+◌, ◌-◌, ◌^◌, ◌++◌, [], ◌∷◌, IsTrue, None, find, length, OnOk, IfOk};
 ghost use Rattle.std.specs.List.{list_any};
-ghost use Rattle.my_pool_parts.specs.Connections.{has_number, is_kind, may_finish, is_marked, move_to, placed, is_idle, is_leased, latest_usable, retire, is_usable, is_outdated, lasting, outdated, next_to_clean};
+ghost use Rattle.my_pool_parts.specs.Connections.{has_number, is_kind, is_marked, move_to, placed, is_idle, is_leased, latest_usable, retire, is_usable, is_outdated, lasting, outdated, next_to_clean};
 ghost use Rattle.my_pool_parts.specs.Next.{least_at};
 ghost use Rattle.my_pool_parts.specs.Lists.{without, how_many, found_is};
 ghost use Rattle.my_pool_parts.specs.Stored.{stored, IsIdleAt, connecting};
@@ -51,13 +51,6 @@ fn is_at(place: &Option<Place>, kind: PlaceKind) -> bool
         Some(place) => place.is(kind),
         None => false,
     }
-}
-
-/// One that is counted, or not.
-fn count_of(counted: bool) -> usize
-    ensures { result ≡ (if counted then 1 else 0) }
-{
-    if counted { 1 } else { 0 }
 }
 
 impl Connections {
@@ -113,7 +106,7 @@ impl Connections {
         let old = self.arrivals.place(number);
         leave(&mut self.idle, is_at(&old, PlaceKind::Idle), number);
         leave(&mut self.returned, is_at(&old, PlaceKind::Returned), number);
-        self.leased -= count_of(is_at(&old, PlaceKind::Leased));
+        self.leased -= usize::from(is_at(&old, PlaceKind::Leased));
         self.count -= 1;
         self.arrivals.take_out(number);
     }
@@ -130,8 +123,8 @@ impl Connections {
         leave(&mut self.returned, is_at(&old, PlaceKind::Returned), number);
         enter(&mut self.idle, is_at(&new, PlaceKind::Idle), number);
         enter(&mut self.returned, is_at(&new, PlaceKind::Returned), number);
-        self.leased = self.leased - count_of(is_at(&old, PlaceKind::Leased))
-            + count_of(is_at(&new, PlaceKind::Leased));
+        self.leased = self.leased - usize::from(is_at(&old, PlaceKind::Leased))
+            + usize::from(is_at(&new, PlaceKind::Leased));
         self.arrivals.move_to(number, place);
     }
 
@@ -305,21 +298,6 @@ impl Connections {
     {
         match self.find(number) {
             Some(connection) => connection.place.is(kind),
-            None => false,
-        }
-    }
-
-    /// Whether the connection of a number is being reset or closed, or its cleaning failed.
-    pub fn is_finishing(&self, number: u64, ok: bool) -> bool
-        ensures { result ≡ found_is (may_finish ok) (find (has_number number) self.now.list) }
-    {
-        match self.find(number) {
-            Some(connection) => {
-                let place = connection.place;
-                place.is(PlaceKind::Resetting)
-                    || place.is(PlaceKind::Closing)
-                    || (place.is(PlaceKind::Cleaning) && !ok)
-            }
             None => false,
         }
     }

@@ -1,4 +1,5 @@
-//! What a pool consists of: its connections with their places, and its live requests with the heap of those that wait.
+//! Containers of a pool, which know none of its events: connections in the order in which they came to their places, and
+//! live requests in the order of their ages, with the heap of those that wait.
 #![tactic(auto)]
 
 mod arrivals;

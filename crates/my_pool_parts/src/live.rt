@@ -7,7 +7,7 @@ ghost use Rattle.std.specs.Prelude.{◌≡◌, ℕ, ◌+◌, ◌*◌, ◌^◌, �
 ghost use Rattle.std.specs.List.{list_any};
 ghost use Rattle.my_wait_heap.specs.Ages.{age_of, how_many as how_many_held};
 ghost use Rattle.my_pool_parts.specs.Lists.{how_many, found_is, change_first};
-ghost use Rattle.my_pool_parts.specs.Requests.{last_age, asking, is_free, holds, has_age, is_waiting, is_queued, is_dialing, may_dial, set_standing, set_waiting, ended, wake, wake_all, waits_up_to, has_waited, is_live, let_go, with_last, IsRising, oldest_in, changed};
+ghost use Rattle.my_pool_parts.specs.Requests.{last_age, asking, is_free, holds, has_age, is_waiting, is_queued, is_dialing, may_dial, set_standing, set_waiting, ended, wake, wake_all, waits_up_to, has_waited, with_last, IsRising, oldest_in, changed};
 ghost use Rattle.my_pool_parts.specs.Live.{IsQueue};
 
 use crate::request::{LAST, Request, Standing};
@@ -169,13 +169,6 @@ impl Live {
         }
     }
 
-    /// Whether the request of an age is live.
-    pub fn is_live(&self, age: u64) -> bool
-        ensures { result ≡ found_is is_live (find (has_age age) self.now) }
-    {
-        self.find(age).is_some()
-    }
-
     /// Whether the request of an age is live and has no connection.
     pub fn is_free(&self, age: u64) -> bool
         ensures { result ≡ found_is is_free (find (has_age age) self.now) }
@@ -240,22 +233,6 @@ impl Live {
         self.free.push(slot).unwrap();
     }
 
-    /// The request of an age ends where it makes a connection, and else asks again.
-    pub fn let_go<C: Ledger>(&mut self, age: u64, steps: &mut C)
-        ensures requests { self.new ≡ let_go age self.old }
-        ensures cost { (d : ℕ) → length self.old < 2 ^ d → C.noted steps.new ≤ C.noted steps.old + 4 * d + 3 }
-    {
-        let dials = match self.find(age) {
-            Some(request) => request.is_dialing(),
-            None => false,
-        };
-        if dials {
-            self.end(age, steps);
-        } else {
-            self.set_standing(age, Standing::Asks, steps);
-        }
-    }
-
     /// The oldest waiting request is woken.
     pub fn wake<C: Ledger>(&mut self, steps: &mut C)
         ensures requests { self.new ≡ wake self.old }
@@ -296,16 +273,6 @@ impl Live {
         ensures { result ≡ oldest_in self.now }
     {
         self.waiting.least()
-    }
-
-    /// Whether the request of an age waits.
-    pub fn is_waiting(&self, age: u64) -> bool
-        ensures { result ≡ found_is is_waiting (find (has_age age) self.now) }
-    {
-        match self.find(age) {
-            Some(request) => request.is_waiting(),
-            None => false,
-        }
     }
 
     /// Whether the request of the last age is live.

@@ -113,20 +113,35 @@ impl Played {
         )
     }
 
-    /// Whether a replay of the events is this pool.
-    fn is_replayed(&self, alloc: Global, opts: &PoolOpts, first: u64) -> Result<bool, NoMemory> {
+    /// Whether a replay of the events is this pool; None where it is refused.
+    fn replayed(
+        &self,
+        alloc: Global,
+        opts: &PoolOpts,
+        first: u64,
+    ) -> Result<Option<bool>, NoMemory> {
         match Core::replay(alloc, opts, first, &self.events)? {
-            Some(again) => self.is_same(alloc, &again),
-            None => Ok(false),
+            Some(again) => Ok(Some(self.is_same(alloc, &again)?)),
+            None => Ok(None),
         }
     }
 
-    /// Whether a replay with an event more, that may not happen, is refused.
-    fn is_refused(&mut self, alloc: Global, opts: &PoolOpts, first: u64) -> Result<bool, NoMemory> {
+    /// Events happen: whether the pool was as it should be after each, their replay makes it again, and a replay with
+    /// one that may not happen is refused.
+    fn is_played(
+        &mut self,
+        alloc: Global,
+        opts: &PoolOpts,
+        round: u64,
+        tally: &mut Tally,
+    ) -> Result<bool, NoMemory> {
+        let first = first_number(round);
+        if !self.play(alloc, round, tally)? || self.replayed(alloc, opts, first)? != Some(true) {
+            return Ok(false);
+        }
         let conn = first.wrapping_sub(1);
         self.events.push(PoolEvent::GiveBack { conn })?;
-        let none = Core::replay(alloc, opts, first, &self.events)?;
-        Ok(none.is_none())
+        Ok(self.replayed(alloc, opts, first)?.is_none())
     }
 }
 
@@ -141,8 +156,7 @@ fn limits_of(opts: &PoolOpts) -> Limits {
     }
 }
 
-/// Events happen to a new pool: whether it was as it should be after each, their replay makes it again, and a replay
-/// with one that may not happen is refused.
+/// The same of a new pool.
 fn plays(alloc: Global, opts: &PoolOpts, round: u64, tally: &mut Tally) -> Result<bool, NoMemory> {
     let first = first_number(round);
     let core = Core::new(alloc, opts, first)?;
@@ -154,11 +168,7 @@ fn plays(alloc: Global, opts: &PoolOpts, round: u64, tally: &mut Tally) -> Resul
         lists: Lists::new(alloc),
         shown: Shown::new(first),
     };
-    Ok(
-        played.play(alloc, round, tally)?
-            && played.is_replayed(alloc, opts, first)?
-            && played.is_refused(alloc, opts, first)?,
-    )
+    played.is_played(alloc, opts, round, tally)
 }
 
 /// The first round whose pool isn't as it should be.

@@ -72,30 +72,40 @@ fn ten_come_back(core: &mut Core) -> Result<bool, NoMemory> {
     Ok(true)
 }
 
-#[test]
-fn ample_superfluous(rt: HostRuntime) -> Result<(), Fail> {
+/// Whether ten are leased and come back.
+fn five_are_closed(core: &mut Core) -> Result<bool, NoMemory> {
+    Ok(ten_are_leased(core)? && ten_come_back(core)?)
+}
+
+/// The same in a new pool, where five may be idle.
+fn closes_superfluous(alloc: Global) -> Result<bool, NoMemory> {
     let limits = Limits {
         max: 10,
         min: 5,
         bound: 5,
         ..ONE
     };
-    let mut core = Core::with_limits(rt.alloc(), limits, 1000);
-    assert!(rt; ten_are_leased(&mut core)? && ten_come_back(&mut core)?);
+    let mut core = Core::with_limits(alloc, limits, 1000);
+    five_are_closed(&mut core)
+}
+
+#[test]
+fn ample_superfluous(rt: HostRuntime) -> Result<(), Fail> {
+    assert!(rt; closes_superfluous(rt.alloc())?);
     Ok(())
 }
 
-/// Whether a pool by options begins with the number that it was given.
-fn begins(alloc: Global, opts: &PoolOpts) -> Result<bool, NoMemory> {
+/// The first line of a pool by options that isn't as it says.
+fn wrong_beginning(alloc: Global, opts: &PoolOpts) -> Result<Option<usize>, NoMemory> {
     let mut core = Core::new(alloc, opts, 1000)?;
     let lines = [Line::Ask(0), Line::Poll(0, 0, PollAnswer::Dial(1000))];
-    Ok(first_wrong(&mut core, &lines)?.is_none())
+    first_wrong(&mut core, &lines)
 }
 
 #[test]
 fn ample_new(rt: HostRuntime) -> Result<(), Fail> {
     let constraints = PoolConstraints::new(1, 2).ok_or("the bounds are in order")?;
     let opts = PoolOpts::new().with_constraints(constraints);
-    assert!(rt; begins(rt.alloc(), &opts)?);
+    assert_eq!(rt; wrong_beginning(rt.alloc(), &opts)?, None);
     Ok(())
 }

@@ -15,9 +15,9 @@ use Rattle.my_pool_parts.specs.declared.request.Standing.{Standing}
 use Rattle.my_pool_parts.specs.declared.request.Standing.TheVariants.{Asks, Waits, Woken, Dials, Checks}
 use Rattle.my_pool_parts.specs.Lists.{without, change_first, how_many, found_is}
 use Rattle.my_pool_parts.specs.Connections.{has_number, is_idle, is_marked, is_resetting, next_to_clean, retire, latest_usable}
-use Rattle.my_pool_parts.specs.Requests.{last_age, asking, has_age, is_waiting, is_waiting_standing, is_asking, is_asking_standing, is_dialing, is_queued, holds, holds_number, standing_as, now_waiting, set_standing, set_waiting, ended, wake, wake_all, roused, waits_up_to, may_dial, with_last, has_waited, is_live, let_go, IsRising}
+use Rattle.my_pool_parts.specs.Requests.{last_age, asking, has_age, is_waiting, is_waiting_standing, is_asking, is_asking_standing, is_dialing, is_queued, holds, holds_number, standing_as, now_waiting, set_standing, set_waiting, ended, wake, wake_all, roused, waits_up_to, may_dial, with_last, has_waited, is_live, IsRising}
 use Rattle.my_pool_core.specs.State.{State}
-use Rattle.my_pool_core.specs.Events.{Polled, Decided, is_at_end, request, request_age, is_full, full_answer, queued, sought, poll_request, cancel, cancel_found, cancel_standing, may_cancel, may_settle, failed, found_next, keep, decide, done}
+use Rattle.my_pool_core.specs.Events.{Polled, Decided, is_at_end, request, request_age, is_full, full_answer, queued, sought, poll_request, cancel, cancel_found, cancel_standing, may_cancel, may_settle, failed, found_next, keep, decide, done, let_go}
 use Rattle.my_pool_core.specs.Steps.{may, step}
 use Rattle.my_pool_core.specs.Sound.{IsSound, is_unborn, is_last_busy}
 use Rattle.my_pool_core.specs.Wakes.{waits, is_oldest, hands_on, frees, wakes}

@@ -4,13 +4,29 @@ ghost use Rattle.std.specs.Prelude.{◌≡◌, ℕ, ◌+◌, ◌*◌, ◌^◌, �
 ghost use Rattle.my_pool_parts.specs.Lists.{found_is, how_many};
 ghost use Rattle.my_pool_parts.specs.Connections.{has_number, is_idle};
 ghost use Rattle.my_pool_parts.specs.Requests.{is_waiting};
-ghost use Rattle.my_pool_core.specs.Events.{is_at_end, request, request_age, may_poll, poll_request, queued, sought, dialed, may_cancel, cancel, may_settle, ready, failed};
+ghost use Rattle.my_pool_core.specs.Events.{is_at_end, request, request_age, may_poll, poll_request, queued, sought, dialed, may_cancel, cancel, may_settle, ready, let_go, failed};
 
 use super::Core;
 use crate::event::PollAnswer;
 use my_frame::NoMemory;
-use my_pool_parts::{LAST, Place, Standing};
+use my_pool_parts::{LAST, Live, Place, Standing};
 use my_wait_heap::{Ledger, Uncounted};
+
+/// The request of an age ends where it makes a connection, and else asks again.
+fn let_go<C: Ledger>(requests: &mut Live, age: u64, steps: &mut C)
+    ensures requests { requests.new ≡ let_go age requests.old }
+    ensures cost { (d : ℕ) → length requests.old < 2 ^ d → C.noted steps.new ≤ C.noted steps.old + 3 * d + 2 }
+{
+    let dials = match requests.find(age) {
+        Some(request) => request.is_dialing(),
+        None => false,
+    };
+    if dials {
+        requests.end(age, steps);
+    } else {
+        requests.set_standing(age, Standing::Asks, steps);
+    }
+}
 
 impl Core {
     /// Whether ages or numbers have reached their last one.
@@ -216,7 +232,7 @@ impl Core {
         ensures state { self.new ≡ failed age conn self.old }
         ensures cost { (d : ℕ) → length self.old.requests < 2 ^ d → C.noted steps.new ≤ C.noted steps.old + 7 * d + 5 }
     {
-        self.requests.let_go(age, steps);
+        let_go(&mut self.requests, age, steps);
         self.connections.take_out(conn);
         self.spare += 1;
         self.requests.wake(steps);

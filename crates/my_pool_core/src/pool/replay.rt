@@ -1,16 +1,33 @@
 //! Any event, whichever it is: so a list of events is replayed by a loop.
 
-ghost use Rattle.std.specs.Prelude.{◌≡◌, true, IsOk, OnOk, OnErr, IfOk, IfSome, MatchOption};
-ghost use Rattle.my_pool_core.specs.Events.{new_pool};
+ghost use Rattle.std.specs.Prelude.{◌≡◌, true, IsOk, OnOk, OnErr, IfOk, IfSome, MatchOption, find};
+ghost use Rattle.my_pool_core.specs.Events.{new_pool, may_finish};
 ghost use Rattle.my_pool_core.specs.Made.{limits_of};
+ghost use Rattle.my_pool_parts.specs.Connections.{has_number};
+ghost use Rattle.my_pool_parts.specs.Lists.{found_is};
 ghost use Rattle.my_pool_core.specs.Steps.{may, step, answer, AllMay, after};
 
 use super::Core;
 use crate::event::{Answer, PoolEvent};
 use my_frame::NoMemory;
 use my_opts_parts::PoolOpts;
-use my_pool_parts::PlaceKind;
+use my_pool_parts::{Connections, PlaceKind};
 use std::alloc::Global;
+
+/// Whether the connection of a number is being reset or closed, or its cleaning failed.
+fn is_finishing(connections: &Connections, number: u64, ok: bool) -> bool
+    ensures { result ≡ found_is (may_finish ok) (find (has_number number) connections.now.list) }
+{
+    match connections.find(number) {
+        Some(connection) => {
+            let place = connection.place;
+            place.is(PlaceKind::Resetting)
+                || place.is(PlaceKind::Closing)
+                || (place.is(PlaceKind::Cleaning) && !ok)
+        }
+        None => false,
+    }
+}
 
 impl Core {
     /// Whether an event may happen: what the method of that event asks for.
@@ -19,7 +36,7 @@ impl Core {
     {
         match *event {
             PoolEvent::PollRequest { age, .. } => self.requests.is_free(age),
-            PoolEvent::Cancel { age } => self.requests.is_live(age),
+            PoolEvent::Cancel { age } => self.requests.find(age).is_some(),
             PoolEvent::Ready { age, conn } | PoolEvent::Failed { age, conn } => {
                 self.requests.is_held(age, conn)
             }
@@ -27,7 +44,7 @@ impl Core {
                 self.connections.is_at(conn, PlaceKind::Leased)
             }
             PoolEvent::Decide { conn, .. } => self.connections.is_at(conn, PlaceKind::Cleaning),
-            PoolEvent::Done { conn, ok, .. } => self.connections.is_finishing(conn, ok),
+            PoolEvent::Done { conn, ok, .. } => is_finishing(&self.connections, conn, ok),
             PoolEvent::Request
             | PoolEvent::TakeReturned
             | PoolEvent::CheckTtl { .. }

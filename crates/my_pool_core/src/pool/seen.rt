@@ -31,7 +31,10 @@ impl Core {
     pub fn is_waiting(&self, age: u64) -> bool
         ensures { result ≡ waits age self.now }
     {
-        self.requests.is_waiting(age)
+        match self.requests.find(age) {
+            Some(request) => request.is_waiting(),
+            None => false,
+        }
     }
 
     /// The live request of an age.

@@ -1,19 +1,16 @@
 -- What bounds the steps: an event makes the list of requests no longer, and wakes one that waits after another.
 use Rattle.std.proofs.Common.{◌≡◌, ℕ, ◌+◌, ◌*◌, ◌^◌, ◌<◌, ◌≤◌, true, false, cond, List, [], ◌∷◌, ◌++◌, length, length-append, zero, suc, refl, ap, ◌∙◌, arith}
-use Rattle.std.specs.Prelude.{◌==◌, find}
+use Rattle.std.specs.Prelude.{◌==◌}
 use Rattle.std.specs.List.{list_any}
 use Rattle.std.proofs.Math.Nat.{pow-suc}
 use Rattle.my_pool_parts.specs.declared.request.Request.{Request}
-use Rattle.my_pool_parts.specs.declared.request.Standing.TheVariants.{Asks, Woken}
-use Rattle.my_pool_parts.specs.Lists.{how_many, found_is, without}
-use Rattle.my_pool_parts.specs.Requests.{last_age, asking, has_age, is_waiting, is_dialing, standing_as, set_standing, ended, wake, let_go, with_last}
+use Rattle.my_pool_parts.specs.declared.request.Standing.TheVariants.{Woken}
+use Rattle.my_pool_parts.specs.Lists.{how_many, without}
+use Rattle.my_pool_parts.specs.Requests.{last_age, asking, has_age, is_waiting, standing_as, ended, wake, with_last}
 use Rattle.my_pool_parts.proofs.Finding.{shorter-without, length-change, count-append}
 
 pub ended-short : (age : ℕ) (rs : List Request) → length (ended age rs) ≤ length rs
 ended-short age rs = elim (age == last_age) as (λ b. length (cond b rs (without (has_age age) rs)) ≤ length rs) [ true ↦ omega arith | false ↦ shorter-without (has_age age) rs ]
-
-pub let-go-short : (age : ℕ) (rs : List Request) → length (let_go age rs) ≤ length rs
-let-go-short age rs = elim (found_is is_dialing (find (has_age age) rs)) as (λ b. length (cond b (ended age rs) (set_standing age Asks rs)) ≤ length rs) [ true ↦ ended-short age rs | false ↦ omega (arith, length-change (has_age age) (standing_as Asks) rs) ]
 
 pub wake-long : (rs : List Request) → length (wake rs) ≡ length rs
 wake-long rs = length-change is_waiting (standing_as Woken) rs

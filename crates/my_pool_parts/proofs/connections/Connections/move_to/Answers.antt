@@ -4,7 +4,7 @@ use Rattle.my_pool_parts.specs.Connections.{has_number, is_idle, is_returned, is
 use Rattle.my_pool_parts.specs.Lists.{without, found_is}
 use Rattle.my_pool_parts.proofs.Finding.{one, count-le-length}
 use Rattle.my_pool_parts.specs.Stored.{numbers_at, IsStored}
-use Rattle.my_pool_parts.proofs.Queues.{queue-once, queue-room, leaves, leased-counted, stored-moved, one-le}
+use Rattle.my_pool_parts.proofs.Queues.{byte-one, queue-once, queue-room, leaves, leased-counted, stored-moved, one-le}
 use Rattle.my_pool_parts.proofs.connections.Connections.move_to.Goals as goal
 
 pub leave-requires : goal.leave-requires
@@ -32,12 +32,12 @@ enter-requires-2 c =
 pub overflow_sub-self : goal.overflow_sub-self
 overflow_sub-self c =
     let was = c.is_at-5.ensures ∙ ap (found_is is_leased_place) c.place-old.ensures in
-    omega (arith, c.count_of.ensures, leased-counted c.args.number c.self.inside.arrivals.list c.self.inside.leased c.is_at-5.result c.self.invariant.leased_are was)
+    omega (arith, c.from.ensures ∙ byte-one c.is_at-5.result, leased-counted c.args.number c.self.inside.arrivals.list c.self.inside.leased c.is_at-5.result c.self.invariant.leased_are was)
 
 pub overflow_add-self : goal.overflow_add-self
 overflow_add-self c =
     let inv = c.self.invariant in
-    omega (arith, c.self.inside.idle.small.0, inv.idle_fit, inv.few, inv.leased_are, count-le-length is_leased c.self.inside.arrivals.list, c.count_of-2.ensures, one-le c.is_at-6.result)
+    omega (arith, c.self.inside.idle.small.0, inv.idle_fit, inv.few, inv.leased_are, count-le-length is_leased c.self.inside.arrivals.list, c.from-2.ensures ∙ byte-one c.is_at-6.result, one-le c.is_at-6.result)
 
 pub invariant_of-self : goal.invariant_of-self
 invariant_of-self c =
@@ -50,6 +50,6 @@ invariant_of-self c =
     let left2 = leaves is_returned_place n cs c.self.inside.returned.items c.is_at-2.result inv.returned_are (inv.once n) (c.is_at-2.ensures ∙ ap (found_is is_returned_place) c.place-old.ensures) in
     let idle = c.enter.ensures.items ∙ ap (λ q. q ++ cond c.is_at-3.result (n ∷ []) []) (c.leave.ensures.items ∙ left) ∙ ap (λ b. numbers_at is_idle (without (has_number n) cs) ++ cond b (n ∷ []) []) c.is_at-3.ensures in
     let returned = c.enter-2.ensures.items ∙ ap (λ q. q ++ cond c.is_at-4.result (n ∷ []) []) (c.leave-2.ensures.items ∙ left2) ∙ ap (λ b. numbers_at is_returned (without (has_number n) cs) ++ cond b (n ∷ []) []) c.is_at-4.ensures in
-    subst (λ xs. IsStored xs c.enter.new.queue.items c.enter-2.new.queue.items c.self.inside.count (c.self.inside.leased - c.count_of.result + c.count_of-2.result) c.self.inside.room (deque_capacity c.enter.new.queue) (deque_capacity c.enter-2.new.queue))
+    subst (λ xs. IsStored xs c.enter.new.queue.items c.enter-2.new.queue.items c.self.inside.count (c.self.inside.leased - c.from.result + c.from-2.result) c.self.inside.room (deque_capacity c.enter.new.queue) (deque_capacity c.enter-2.new.queue))
     (sym (ap (λ a. a.list) c.move_to.ensures))
-    (stored-moved n c.args.place cs _ _ _ _ _ _ _ _ _ _ _ _ c.is_at-5.result inv (subst (λ s. list_any (has_number c.args.number) s.list ≡ true) (sym c.self.view_is) c.requires) was (omega (arith, c.count_of.ensures, c.count_of-2.ensures, ap one c.is_at-6.ensures, fewer)) idle returned (c.enter.ensures.capacity ∙ c.leave.ensures.capacity) (c.enter-2.ensures.capacity ∙ c.leave-2.ensures.capacity))
+    (stored-moved n c.args.place cs _ _ _ _ _ _ _ _ _ _ _ _ c.is_at-5.result inv (subst (λ s. list_any (has_number c.args.number) s.list ≡ true) (sym c.self.view_is) c.requires) was (omega (arith, c.from.ensures ∙ byte-one c.is_at-5.result, c.from-2.ensures ∙ byte-one c.is_at-6.result, ap one c.is_at-6.ensures, fewer)) idle returned (c.enter.ensures.capacity ∙ c.leave.ensures.capacity) (c.enter-2.ensures.capacity ∙ c.leave-2.ensures.capacity))

@@ -3,7 +3,7 @@ use Rattle.std.specs.List.{list_any}
 use Rattle.my_pool_parts.specs.Connections.{has_number, is_idle, is_returned, is_idle_place, is_returned_place, is_leased_place}
 use Rattle.my_pool_parts.specs.Lists.{found_is}
 use Rattle.my_pool_parts.specs.Stored.{IsStored}
-use Rattle.my_pool_parts.proofs.Queues.{queue-once, leaves, leased-counted, stored-left}
+use Rattle.my_pool_parts.proofs.Queues.{byte-one, queue-once, leaves, leased-counted, stored-left}
 use Rattle.my_pool_parts.proofs.connections.Connections.take.Goals as goal
 
 pub leave-requires : goal.leave-requires
@@ -15,7 +15,7 @@ leave-requires-2 c = queue-once is_returned c.args.number c.self.inside.arrivals
 pub overflow_sub-self : goal.overflow_sub-self
 overflow_sub-self c =
     let was = c.is_at-3.ensures ∙ ap (found_is is_leased_place) c.place-old.ensures in
-    omega (arith, c.count_of.ensures, leased-counted c.args.number c.self.inside.arrivals.list c.self.inside.leased c.is_at-3.result c.self.invariant.leased_are was)
+    omega (arith, c.from.ensures ∙ byte-one c.is_at-3.result, leased-counted c.args.number c.self.inside.arrivals.list c.self.inside.leased c.is_at-3.result c.self.invariant.leased_are was)
 
 pub invariant_of-self : goal.invariant_of-self
 invariant_of-self c =
@@ -26,6 +26,6 @@ invariant_of-self c =
     let fewer = leased-counted n cs c.self.inside.leased c.is_at-3.result inv.leased_are was in
     let idle = c.leave.ensures.items ∙ leaves is_idle_place n cs c.self.inside.idle.items c.is_at.result inv.idle_are (inv.once n) (c.is_at.ensures ∙ ap (found_is is_idle_place) c.place-old.ensures) in
     let returned = c.leave-2.ensures.items ∙ leaves is_returned_place n cs c.self.inside.returned.items c.is_at-2.result inv.returned_are (inv.once n) (c.is_at-2.ensures ∙ ap (found_is is_returned_place) c.place-old.ensures) in
-    subst (λ xs. IsStored xs c.leave.new.queue.items c.leave-2.new.queue.items (c.self.inside.count - 1) (c.self.inside.leased - c.count_of.result) c.self.inside.room (deque_capacity c.leave.new.queue) (deque_capacity c.leave-2.new.queue))
+    subst (λ xs. IsStored xs c.leave.new.queue.items c.leave-2.new.queue.items (c.self.inside.count - 1) (c.self.inside.leased - c.from.result) c.self.inside.room (deque_capacity c.leave.new.queue) (deque_capacity c.leave-2.new.queue))
     (sym (ap (λ a. a.list) c.take_out.ensures))
-    (stored-left n cs _ _ _ _ _ _ _ _ _ _ _ _ c.is_at-3.result inv (subst (λ s. list_any (has_number c.args.number) s.list ≡ true) (sym c.self.view_is) c.requires) was (omega (arith, c.count_of.ensures, fewer)) idle returned c.leave.ensures.capacity c.leave-2.ensures.capacity)
+    (stored-left n cs _ _ _ _ _ _ _ _ _ _ _ _ c.is_at-3.result inv (subst (λ s. list_any (has_number c.args.number) s.list ≡ true) (sym c.self.view_is) c.requires) was (omega (arith, c.from.ensures ∙ byte-one c.is_at-3.result, fewer)) idle returned c.leave.ensures.capacity c.leave-2.ensures.capacity)
