@@ -93,16 +93,27 @@ login_from capabilities user scramble =
     then Some (record { capabilities = capabilities; user = user; scramble = scramble })
     else None
 
+-- the bytes after the greatest packet's length, a charset and 23 reserved bytes
+abbrev pub after_fixed : List ℕ → Option (List ℕ)
+after_fixed bytes = do
+  max_packet ← number_at 4 bytes
+  charset ← number_at 1 max_packet.1
+  reserved ← bytes_at 23 charset.1
+  Some reserved.1
+
+-- the rest of a login of these capabilities: the user's name, the answer to the nonce, and the parts after it
+unfoldable pub named_at : CapabilityFlags → List ℕ → Option LoginParts
+named_at capabilities bytes = do
+  user ← text0_at bytes
+  scramble ← short_at user.1
+  rest ← after_parts capabilities scramble.1
+  login_from capabilities user.0 scramble.0
+
 unfoldable pub login_at : List ℕ → Option LoginParts
 login_at payload = do
   bits ← number_at 4 payload
-  max_packet ← number_at 4 bits.1
-  charset ← number_at 1 max_packet.1
-  reserved ← bytes_at 23 charset.1
-  user ← text0_at reserved.1
-  scramble ← short_at user.1
-  rest ← after_parts (flags_of bits.0) scramble.1
-  login_from (flags_of bits.0) user.0 scramble.0
+  rest ← after_fixed bits.1
+  named_at (flags_of bits.0) rest
 
 -- Which responses to a greeting are read as logins: numbers and lengths fit their bytes, and the needed capabilities are there, with
 -- that of naming a plugin.

@@ -3,11 +3,11 @@
 ghost use Rattle.std.specs.Prelude.{◌≡◌, ◌++◌, ◌∷◌, [], IfOk, OnOk};
 ghost use Rattle.std.specs.Option.{option_copied};
 ghost use Rattle.my_frame.specs.Chunks.{chunks};
-ghost use Rattle.my_server.specs.Machine.{AreSendable, all_chunks, command_payloads, denial, fine_payload, found_payloads, refusal_payload, reply_for};
+ghost use Rattle.my_server.specs.Machine.{AreSendable, all_chunks, command_payloads, denial, fine_payload, found_payloads, greeting_payload, refusal_payload, reply_for};
 
 use crate::answer::reply_payloads;
 use crate::command::CommandKind;
-use crate::greet::{denied_payload, fine_payload, no_reply_payload};
+use crate::greet::{denied_payload, fine_payload, greeting_payload, no_reply_payload};
 use crate::script::{Reply, ServerScript};
 use bytes::BytesMut;
 use my_frame::{Blob, Listed, NoMemory, append_payload};
@@ -95,6 +95,13 @@ fn lone(alloc: Global, payload: &Blob, number: u8) -> Result<BytesMut, NoMemory>
     let mut bytes = BytesMut::new(alloc);
     append_payload(&mut bytes, payload.as_slice(), number)?;
     Ok(bytes)
+}
+
+/// The bytes of the greeting, which is the first payload.
+pub fn greeting_answer(alloc: Global, script: &ServerScript) -> Result<BytesMut, NoMemory>
+    ensures { IfOk result (λ bytes. bytes.items ≡ chunks (greeting_payload script.now) 0) }
+{
+    lone(alloc, &greeting_payload(alloc, script)?, 0)
 }
 
 /// The bytes of an OK.

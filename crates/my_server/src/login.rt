@@ -2,7 +2,7 @@
 
 ghost use Rattle.std.specs.Prelude.{◌≡◌, ◌↔◌, List, ℕ, Some, IfSome};
 ghost use Rattle.std.specs.Option.{option_map};
-ghost use Rattle.my_server.specs.ClientLogin.{IsLogin, LoginParts, after_parts, after_text, after_text0, login_at, parts_of, short_at};
+ghost use Rattle.my_server.specs.ClientLogin.{IsLogin, LoginParts, after_fixed, after_parts, after_text, after_text0, login_at, named_at, parts_of, short_at};
 
 use my_flags::CapabilityFlags;
 use my_frame::numbers::{take_bytes, take_text, take_text0, take_u8, take_u32};
@@ -60,17 +60,23 @@ fn after_parts(capabilities: CapabilityFlags, bytes: &[u8]) -> Option<&[u8]>
     after_text(capabilities.sends_connect_attrs(), rest)
 }
 
-#[tactic(auto, unfolding(crate::specs::ClientLogin::login_at))]
-fn login_of(payload: &[u8]) -> Option<ClientLogin<'_>>
-    ensures { option_map parts_of result ≡ login_at payload.now }
+// The bytes after the greatest packet's length, a charset and 23 reserved bytes.
+fn after_fixed(bytes: &[u8]) -> Option<&[u8]>
+    ensures { option_map (λ x. x.now) result ≡ after_fixed bytes.now }
 {
-    let (bits, rest) = take_u32(payload)?;
-    let (_max_packet, rest) = take_u32(rest)?;
+    let (_max_packet, rest) = take_u32(bytes)?;
     let (_charset, rest) = take_u8(rest)?;
     let (_reserved, rest) = take_bytes(rest, 23)?;
-    let (user, rest) = take_text0(rest)?;
+    Some(rest)
+}
+
+// What follows the fixed bytes of a login of these capabilities.
+#[tactic(auto, unfolding(crate::specs::ClientLogin::named_at))]
+fn named(capabilities: CapabilityFlags, bytes: &[u8]) -> Option<ClientLogin<'_>>
+    ensures { option_map parts_of result ≡ named_at capabilities bytes.now }
+{
+    let (user, rest) = take_text0(bytes)?;
     let (scramble, rest) = take_short(rest)?;
-    let capabilities = CapabilityFlags(bits);
     let _rest = after_parts(capabilities, rest)?;
     if !capabilities.contains(LOGIN_CAPABILITIES) {
         return None;
@@ -80,6 +86,15 @@ fn login_of(payload: &[u8]) -> Option<ClientLogin<'_>>
         user,
         scramble,
     })
+}
+
+#[tactic(auto, unfolding(crate::specs::ClientLogin::login_at))]
+fn login_of(payload: &[u8]) -> Option<ClientLogin<'_>>
+    ensures { option_map parts_of result ≡ login_at payload.now }
+{
+    let (bits, rest) = take_u32(payload)?;
+    let rest = after_fixed(rest)?;
+    named(CapabilityFlags(bits), rest)
 }
 
 /// Reads a client's login, where the payload is one: its capabilities contain `LOGIN_CAPABILITIES`, and all

@@ -5,21 +5,31 @@ ghost use Rattle.my_frame.specs.Chunks.{chunks};
 ghost use Rattle.my_frame.specs.Front.{front_at};
 ghost use Rattle.my_server.specs.Arrival.{Arrives};
 ghost use Rattle.my_server.specs.Faults.{Blames, script_fault};
-ghost use Rattle.my_server.specs.Machine.{all_chunks};
+ghost use Rattle.my_server.specs.Machine.{all_chunks, greeting_payload};
 
-use crate::answering::{command_answer, denied_answer, fine_answer};
+use crate::answering::{command_answer, denied_answer, fine_answer, greeting_answer};
 use crate::arrival::payload_there;
 use crate::check::check_script;
 use crate::command::{CommandKind, command_kind, query_text};
-use crate::greet::{OFFERED, admits, greeting_payload};
+use crate::greet::{OFFERED, admits};
 use crate::login::read_login;
 use crate::phase::{CloseCause, Phase, ServerStep};
 use crate::script::{ScriptFault, ServerScript};
 use bytes::BytesMut;
 use my_flags::CapabilityFlags;
-use my_frame::{CodecError, FramedPayload, NoMemory, append_payload};
+use my_frame::{CodecError, FramedPayload, NoMemory};
 use std::alloc::Global;
 use std::marker::Model;
+
+// The greeting's bytes, where the script can be served.
+fn opening(alloc: Global, script: &ServerScript) -> Result<BytesMut, ScriptFault>
+    ensures { MatchResult result
+        (λ bytes. (bytes.items ≡ chunks (greeting_payload script.now) 0) × (script_fault script.now ≡ None))
+        (λ e. Blames e (script_fault script.now)) }
+{
+    check_script(alloc, script)?;
+    Ok(greeting_answer(alloc, script)?)
+}
 
 /// A server of one client, with no input or output of its own: a caller steps it, sends what is owed, and hands in
 /// what is received.
@@ -57,10 +67,7 @@ impl ServerCore {
             (λ e. Blames e (script_fault script)) }
         ensures stands { IfOk result (λ core. Stands core (beginning script)) }
     {
-        check_script(alloc, &script)?;
-        let greeting = greeting_payload(alloc, &script)?;
-        let mut owed = BytesMut::new(alloc);
-        append_payload(&mut owed, greeting.as_slice(), 0)?;
+        let owed = opening(alloc, &script)?;
         Ok(ServerCore {
             script,
             phase: Phase::Login,
