@@ -35,11 +35,12 @@ pub fn ok_of(alloc: Global, status: StatusFlags) -> OkPacket
 fn column_of(alloc: Global, name: &Blob) -> Result<Column, NoMemory>
     ensures { IfOk result (λ column. column ≡ column_of name.now) }
 {
+    let name = name.copy(alloc)?;
     Ok(Column {
         schema: Blob::new(alloc),
         table: Blob::new(alloc),
         org_table: Blob::new(alloc),
-        name: name.copy(alloc)?,
+        name,
         org_name: Blob::new(alloc),
         charset: 45,
         length: 1_024,

@@ -1,7 +1,7 @@
 //! Whether a script can be served.
 
 ghost use Rattle.std.specs.Prelude.{◌≡◌, ◌==◌, None, IfOk, MatchResult, length};
-ghost use Rattle.std.specs.List.{list_all, list_any};
+ghost use Rattle.std.specs.List.{list_all};
 ghost use Rattle.my_server.specs.Faults.{Blames, is_answer, is_reply, is_sent, is_set, is_version, reply_fault, script_fault};
 
 use crate::answer::{DONE, reply_payloads};
@@ -10,16 +10,10 @@ use my_frame::limits::GREATEST_MAX_ALLOWED_PACKET;
 use my_frame::{Blob, Listed, NoMemory};
 use std::alloc::Global;
 
-fn has_zero(text: &[u8]) -> bool
-    ensures { result ≡ list_any (λ b. b == 0) text.now }
-{
-    text.iter().any(|b| *b == 0)
-}
-
 fn is_version(version: &[u8]) -> bool
     ensures { result ≡ is_version version.now }
 {
-    version.len() <= 255 && !has_zero(version)
+    version.len() <= 255 && !version.contains(&0)
 }
 
 // Whether each row has this number of cells.
