@@ -7,7 +7,7 @@
 use my_flags::StatusFlags;
 use my_frame::{Blob, Listed, NoMemory, Text};
 use my_reply::{ErrPacket, OkPacket};
-use my_server::{Reply, ReplyAnswer, ServerScript, ServerSet};
+use my_server::{Reply, ReplyAnswer, ScriptFault, ServerCore, ServerScript, ServerSet};
 use std::alloc::Global;
 
 /// The version that most scripts have.
@@ -41,15 +41,14 @@ fn text_of(alloc: Global, token: &str) -> Result<Blob, NoMemory> {
     Ok(Blob::from(bytes))
 }
 
-fn names_of(alloc: Global, text: &str) -> Result<Listed<Blob>, NoMemory> {
-    let mut names = Listed::new(alloc);
+fn add_names(alloc: Global, names: &mut Listed<Blob>, text: &str) -> Result<(), NoMemory> {
     for token in text.split(',') {
         let (name, count) = counted(token, '@');
         for _ in 0..count {
             names.push(text_of(alloc, name)?)?;
         }
     }
-    Ok(names)
+    Ok(())
 }
 
 fn cell_of(alloc: Global, token: &str) -> Result<Option<Blob>, NoMemory> {
@@ -59,40 +58,57 @@ fn cell_of(alloc: Global, token: &str) -> Result<Option<Blob>, NoMemory> {
     }
 }
 
-fn row_of(alloc: Global, text: &str) -> Result<Listed<Option<Blob>>, NoMemory> {
-    let mut cells = Listed::new(alloc);
+fn add_cells(alloc: Global, cells: &mut Listed<Option<Blob>>, text: &str) -> Result<(), NoMemory> {
     for token in text.split(',') {
         let (cell, count) = counted(token, '@');
         for _ in 0..count {
             cells.push(cell_of(alloc, cell)?)?;
         }
     }
+    Ok(())
+}
+
+fn row_of(alloc: Global, text: &str) -> Result<Listed<Option<Blob>>, NoMemory> {
+    let mut cells = Listed::new(alloc);
+    add_cells(alloc, &mut cells, text)?;
     Ok(cells)
 }
 
-fn rows_of(alloc: Global, text: &str) -> Result<Listed<Listed<Option<Blob>>>, NoMemory> {
-    let mut rows = Listed::new(alloc);
+fn add_rows(
+    alloc: Global,
+    rows: &mut Listed<Listed<Option<Blob>>>,
+    text: &str,
+) -> Result<(), NoMemory> {
     for part in text.split('/').skip(1) {
         let (row, count) = counted(part, '*');
         for _ in 0..count {
             rows.push(row_of(alloc, row)?)?;
         }
     }
-    Ok(rows)
+    Ok(())
 }
 
 fn set_of(alloc: Global, text: &str) -> Result<ServerSet, NoMemory> {
-    let names = names_of(alloc, text.split('/').next().unwrap_or(""))?;
-    let rows = rows_of(alloc, text)?;
-    Ok(ServerSet { names, rows })
+    let mut set = ServerSet {
+        names: Listed::new(alloc),
+        rows: Listed::new(alloc),
+    };
+    add_names(alloc, &mut set.names, text.split('/').next().unwrap_or(""))?;
+    add_rows(alloc, &mut set.rows, text)?;
+    Ok(set)
+}
+
+fn add_sets(alloc: Global, sets: &mut Listed<ServerSet>, text: &str) -> Result<(), NoMemory> {
+    for set in text.split('|') {
+        sets.push(set_of(alloc, set)?)?;
+    }
+    Ok(())
 }
 
 fn sets_of(alloc: Global, text: &str) -> Result<Listed<ServerSet>, NoMemory> {
     let mut sets = Listed::new(alloc);
     if text != "none" {
-        for set in text.split('|') {
-            sets.push(set_of(alloc, set)?)?;
-        }
+        add_sets(alloc, &mut sets, text)?;
     }
     Ok(sets)
 }
@@ -141,8 +157,7 @@ fn replies_of(alloc: Global, replies: &[(&str, &str)]) -> Result<Listed<Reply>, 
     Ok(list)
 }
 
-/// A script of the id 7, for the user `root`.
-pub fn script_of(
+fn script_of(
     alloc: Global,
     version: &[u8],
     stored: Option<[u8; 20]>,
@@ -158,4 +173,14 @@ pub fn script_of(
         stored,
         replies: replies_of(alloc, replies)?,
     })
+}
+
+/// A server of a script of the id 7, for the user `root`.
+pub fn server_of(
+    alloc: Global,
+    version: &[u8],
+    stored: Option<[u8; 20]>,
+    replies: &[(&str, &str)],
+) -> Result<ServerCore, ScriptFault> {
+    ServerCore::new(alloc, script_of(alloc, version, stored, replies)?)
 }

@@ -1,6 +1,7 @@
 //! Whether a session reads what a script says.
 
 use crate::carry::call;
+use crate::notation::answer_of;
 use my_frame::{Blob, NoMemory};
 use my_reading::{Answer, Call, Error};
 use my_server::{ReplyAnswer, ServerCore, ServerSet};
@@ -117,32 +118,41 @@ fn reads_sets(
     answers(alloc, session, server, most, Call::NextRow, Want::NoSet)
 }
 
-/// Whether the session reads this answer to a query: the sets of the script, or its OK or ERR.
+// Whether the session reads this answer to a query: the sets of the script, or its OK or ERR.
+fn reads_answer(
+    alloc: Global,
+    session: &mut Session,
+    server: &mut ServerCore,
+    most: usize,
+    query: Call,
+    want: &ReplyAnswer,
+) -> bool {
+    match want {
+        ReplyAnswer::Fine(ok) => {
+            answers(alloc, session, server, most, query, Want::Ready)
+                && session.last_ok() == Some(ok)
+        }
+        ReplyAnswer::Refuse(err) => {
+            let refused = Want::Refused(err.code, "42S02", err.message.as_str());
+            answers(alloc, session, server, most, query, refused)
+        }
+        ReplyAnswer::Sets(sets) => {
+            answers(alloc, session, server, most, query, Want::Ready)
+                && reads_sets(alloc, session, server, most, sets.as_slice())
+        }
+    }
+}
+
+/// Whether the session reads the answer that a text is to a query.
 pub fn reads(
     alloc: Global,
     session: &mut Session,
     server: &mut ServerCore,
     most: usize,
     query: &str,
-    want: &ReplyAnswer,
+    answer: &str,
 ) -> Result<bool, NoMemory> {
-    let query = Call::Query(Blob::from_slice(alloc, query.as_bytes())?);
-    match want {
-        ReplyAnswer::Fine(ok) => Ok(
-            answers(alloc, session, server, most, query, Want::Ready)
-                && session.last_ok() == Some(ok),
-        ),
-        ReplyAnswer::Refuse(err) => Ok(answers(
-            alloc,
-            session,
-            server,
-            most,
-            query,
-            Want::Refused(err.code, "42S02", err.message.as_str()),
-        )),
-        ReplyAnswer::Sets(sets) => Ok(
-            answers(alloc, session, server, most, query, Want::Ready)
-                && reads_sets(alloc, session, server, most, sets.as_slice()),
-        ),
-    }
+    let query = Blob::from_slice(alloc, query.as_bytes())?;
+    let want = answer_of(alloc, answer)?;
+    Ok(reads_answer(alloc, session, server, most, Call::Query(query), &want))
 }

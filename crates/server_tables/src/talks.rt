@@ -1,11 +1,10 @@
 //! Talks of a session with a scripted server: what the session reads is what the script says.
 
 use crate::carry::login_of;
-use crate::notation::{VERSION, answer_of, script_of};
+use crate::notation::{VERSION, server_of};
 use crate::reading::{Want, answers, reads};
-use my_frame::NoMemory;
 use my_reading::Call;
-use my_server::{CloseCause, ReplyAnswer, ScriptFault, ServerCore, ServerStep};
+use my_server::{CloseCause, ScriptFault, ServerCore, ServerStep};
 use my_session::Session;
 use std::alloc::Global;
 use std::test::Fail;
@@ -94,13 +93,6 @@ const TALKS: &[Talk] = &[
     },
 ];
 
-// What the two queries of a talk are answered.
-#[derive(Drop)]
-struct Wants {
-    first: ReplyAnswer,
-    second: ReplyAnswer,
-}
-
 // Whether a session that connects is admitted, reads both answers, pings and quits, or is denied.
 fn visits(
     alloc: Global,
@@ -108,8 +100,8 @@ fn visits(
     server: &mut ServerCore,
     most: usize,
     admitted: bool,
-    wants: &Wants,
-) -> Result<bool, NoMemory> {
+    answer: &str,
+) -> Result<bool, ScriptFault> {
     if !admitted {
         let denied = Want::Refused(1_045, "28000", "Access denied");
         return Ok(
@@ -119,8 +111,8 @@ fn visits(
     }
     Ok(
         answers(alloc, session, server, most, Call::Connect, Want::Ready)
-            && reads(alloc, session, server, most, "A", &wants.first)?
-            && reads(alloc, session, server, most, "B", &wants.second)?
+            && reads(alloc, session, server, most, "A", "n/2")?
+            && reads(alloc, session, server, most, "B", answer)?
             && answers(alloc, session, server, most, Call::Ping, Want::Ready)
             && answers(alloc, session, server, most, Call::Quit, Want::Ready)
             && server.step(alloc) == ServerStep::Closed(CloseCause::Quit),
@@ -134,44 +126,31 @@ fn meets(
     talk: &Talk,
     answer: &str,
     most: usize,
-    wants: &Wants,
 ) -> Result<bool, ScriptFault> {
     let replies = [("A", "n/2"), ("B", answer), ("B", "n/3")];
-    let script = script_of(alloc, VERSION, talk.stored, &replies)?;
-    let mut server = ServerCore::new(alloc, script)?;
-    Ok(visits(alloc, session, &mut server, most, talk.admitted, wants)?)
+    let mut server = server_of(alloc, VERSION, talk.stored, &replies)?;
+    visits(alloc, session, &mut server, most, talk.admitted, answer)
 }
 
 // It alone owns a session.
-fn goes(
-    alloc: Global,
-    talk: &Talk,
-    answer: &str,
-    most: usize,
-    wants: &Wants,
-) -> Result<bool, ScriptFault> {
+fn goes(alloc: Global, talk: &Talk, answer: &str, most: usize) -> Result<bool, ScriptFault> {
     let login = login_of(alloc, talk.user, talk.password)?;
     let mut session = Session::new(alloc, login)?;
-    meets(alloc, &mut session, talk, answer, most, wants)
+    meets(alloc, &mut session, talk, answer, most)
 }
 
 // Whether the talk with this answer goes so, all at once and byte by byte.
 fn goes_both(alloc: Global, talk: &Talk, answer: &str) -> Result<bool, ScriptFault> {
-    let first = answer_of(alloc, "n/2")?;
-    let second = answer_of(alloc, answer)?;
-    let wants = Wants { first, second };
-    Ok(
-        goes(alloc, talk, answer, usize::MAX, &wants)?
-            && (talk.whole || goes(alloc, talk, answer, 1, &wants)?),
-    )
+    Ok(goes(alloc, talk, answer, usize::MAX)? && (talk.whole || goes(alloc, talk, answer, 1)?))
 }
 
 #[test]
 fn sessions_read_scripts(rt: HostRuntime) -> Result<(), Fail> {
-    let alloc = rt.alloc();
     for talk in TALKS {
         for answer in talk.answers.split(' ') {
-            assert!(rt; goes_both(alloc, talk, answer)?, "{answer}");
+            if !goes_both(rt.alloc(), talk, answer)? {
+                return Err(Fail::new(answer));
+            }
         }
     }
     Ok(())
