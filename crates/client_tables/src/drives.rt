@@ -3,7 +3,7 @@
 ghost use Rattle.std.specs.Prelude.{◌≡◌, None};
 
 use crate::library::count_rows;
-use crate::told::{of_check, of_done, of_facts, of_read, of_server};
+use crate::told::{of_check, of_done, of_facts, of_read, of_server, of_taken};
 use my_conn::Conn;
 use my_frame::Blob;
 use my_link::BlockingLink;
@@ -18,6 +18,7 @@ fn drive_idle<L: BlockingLink>(alloc: Global, conn: &mut Conn<L>, step: u8) -> u
             Err(_) => b'?',
         },
         b'r' => of_read(&conn.next(alloc)),
+        b's' => of_taken(&conn.stream(alloc)),
         b'd' => of_done(&conn.drop_result(alloc)),
         b'p' => of_done(&conn.ping(alloc)),
         b'u' => of_done(&conn.quit(alloc)),

@@ -36,6 +36,9 @@ pub fn piece(letter: u8) -> &'static [u8] {
         b'3' => b"\x02\x00\x00\x03\x011",
         b'4' => b"\x07\x00\x00\x04\xfe\x00\x00\x02\x00\x00\x00",
         b'7' => b"\x07\x00\x00\x04\xfe\x00\x00\x0a\x00\x00\x00",
+        // A further set: a lone OK, and an ERR.
+        b'8' => b"\x07\x00\x00\x05\x00\x00\x00\x02\x00\x00\x00",
+        b'9' => b"\x0d\x00\x00\x05\xff\x28\x04#42000Nope",
         b'5' => b"\x02\x00",
         b'6' => b"\x00\x03\x011",
         // The client's response, a query with its first part, a ping and a quit.

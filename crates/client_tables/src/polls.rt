@@ -3,10 +3,10 @@
 ghost use Rattle.std.specs.Prelude.{◌≡◌, None};
 ghost use Rattle.my_conn.specs.Calls.{MayPoll};
 
-use crate::told::{of_check, of_done, of_facts, of_read, of_server, of_tape};
+use crate::told::{of_check, of_done, of_facts, of_read, of_server, of_taken, of_tape};
 use my_conn::{
     CallState, Conn, Connected, Connecting, DropCall, NextAnswer, NextCall, PingCall, Poll,
-    QueryCall, QuitCall, Returns,
+    QueryCall, QuitCall, Returns, StreamCall,
 };
 use my_frame::Blob;
 use my_link::Link;
@@ -59,6 +59,21 @@ fn read(answer: &Option<Result<NextAnswer, Error>>) -> u8 {
     }
 }
 
+// Polls the taking of a set as above.
+fn take<L: Link>(alloc: Global, conn: &mut Conn<L>, polls: u64) -> u8
+    requires { conn.old.pending ≡ None }
+{
+    let mut call = StreamCall::new();
+    'polls: for _ in 0..polls {
+        match call.poll(alloc, conn) {
+            Poll::Ready(answer) => return of_taken(&answer),
+            Poll::Pending => {}
+        }
+    }
+    call.cancel(conn);
+    b'.'
+}
+
 fn poll_idle<L: Link>(alloc: Global, conn: &mut Conn<L>, step: u8, polls: u64) -> u8
     requires { conn.old.pending ≡ None }
 {
@@ -68,6 +83,7 @@ fn poll_idle<L: Link>(alloc: Global, conn: &mut Conn<L>, step: u8, polls: u64) -
             Err(_) => b'?',
         },
         b'r' => read(&play(alloc, conn, NextCall::new(), polls)),
+        b's' => take(alloc, conn, polls),
         b'd' => done(&play(alloc, conn, DropCall::new(), polls)),
         b'p' => done(&play(alloc, conn, PingCall::new(), polls)),
         b'u' => done(&play(alloc, conn, QuitCall::new(), polls)),

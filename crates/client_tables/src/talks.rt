@@ -15,10 +15,10 @@ use std::test::Fail;
 // the bytes sent, those taken, and how each call ended. `-` is no tape: none was asked for, or none is kept at the end.
 // `.` is no bytes.
 //
-// Steps: `a` the handshake, which is the first; `q` a query, `r` a read of the next row, `d` a drop of the result, `p` a
-// ping, `u` a quit, `c` a check; `i` the facts of the last OK, `v` those of the server and the options, `t` the tape is
-// taken.
-// Returned: `k` done, `r` a row, `e` the end of a set, `n` that nothing is there, `.` pending; `S` a server's error, `L` a
+// Steps: `a` the handshake, which is the first; `q` a query, `r` a read of the next row, `s` a stream that takes a set,
+// `d` a drop of the result, `p` a ping, `u` a quit, `c` a check; `i` the facts of the last OK, `v` those of the server and
+// the options, `t` the tape is taken.
+// Returned: `k` done, or a set is taken, `r` a row, `e` the end of a set, `n` that nothing is there, `.` pending; `S` a server's error, `L` a
 // fault of the link, `U` an end that came too early, `C` that the connection is closed; `A` alive, `D` dead; `c` closed.
 // Ended: `k` answered, `e` failed, `x` cancelled, `X` cancelled with the connection closed by that, `.` not yet.
 const POLLED: &str = "\
@@ -50,6 +50,11 @@ gtkt ac 11 kA l gk k
 gtkz ac 11 kD l gk k
 gtKt ac 11 kD l gK k
 gtktOt apt 111 kkn - - -
+gtkt12378 aqsrsrrs 11111111 kkkrkenn lq gk12378 kkkkkkkkk
+gtkt123w78 aqssrs 111111 kkk.ek lq gk12378 kkkxkk
+gtkt1237w aqssq 11111 kkk.C lq gk1237 kkkkXe
+gtkt1237w8 aqss 1112 kkkk lq gk12378 kkkkk
+gtkt12379 aqss 1111 kkkS lq gk12379 kkkke
 gtktotot aptpt 11111 kkkkn . . -";
 
 // A row has what the link plays, the steps and what each returns, as above; `n` counts the rows of a query. A link that
@@ -67,6 +72,8 @@ gtkt125z aqrpuv kkUCkc
 gtktf aqp kLC
 gtkt aqpu kLCk
 gtktLF aqpu kLCk
+gtkt12378 aqsrsrrs kkkrkenn
+gtkt12379 aqss kkkS
 gtkt ac kA
 gtkz ac kD
 gtKt ac kD";

@@ -38,6 +38,15 @@ pub fn of_read(answer: &Result<NextAnswer, Error>) -> u8 {
     }
 }
 
+/// The letter of a set that was taken, or that nothing is left.
+pub fn of_taken(answer: &Result<bool, Error>) -> u8 {
+    match answer {
+        Ok(true) => b'k',
+        Ok(false) => b'n',
+        Err(error) => of_error(error),
+    }
+}
+
 /// The letter of what a check said.
 pub fn of_check(step: CheckStep) -> u8 {
     match step {

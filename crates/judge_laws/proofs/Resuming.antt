@@ -76,6 +76,8 @@ is_connecting calls.Connect e = refl
 is_connecting (calls.Query text) e = cc
 is_connecting calls.NextRow e = cc
 is_connecting calls.DropResult e = cc
+is_connecting calls.TakeSet e = cc
+is_connecting calls.SkipTaken e = cc
 is_connecting calls.Ping e = cc
 is_connecting calls.Quit e = cc
 
@@ -205,6 +207,8 @@ module _ (login : Login) (t : Tape) (all : AreCalls login (reading login t).call
           not_next (calls.Query text) e f = cc
           not_next calls.NextRow e f = cc
           not_next calls.DropResult e f = cc
+          not_next calls.TakeSet e f = cc
+          not_next calls.SkipTaken e f = cc
           not_next calls.Ping e f = cc
           not_next calls.Quit e f = cc
   polls_on false k a x made o us kp once con None rs has r =

@@ -57,6 +57,8 @@ pub enum Said<'a> {
     Query(&'a [u8]),
     NextRow,
     DropResult,
+    TakeSet,
+    SkipTaken,
     Ping,
     Quit,
 }

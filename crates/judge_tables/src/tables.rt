@@ -375,6 +375,42 @@ const TABLES: &[Table] = &[
         from: 1,
         refuted: 54,
     },
+    // A stream takes a set and reads its row; what is left of the set is passed over, and then nothing is left to be taken.
+    Table {
+        set_up: SetUp::Plain,
+        lines: &[
+            CONNECTS,
+            SELECTS,
+            Line {
+                call: Said::TakeSet,
+                ..RETURNS
+            },
+            Line {
+                call: Said::NextRow,
+                taken: [ROW, b""],
+                ending: Told::Row(b"1"),
+                ..RETURNS
+            },
+            Line {
+                call: Said::SkipTaken,
+                taken: [END, b""],
+                ..RETURNS
+            },
+            Line {
+                call: Said::TakeSet,
+                ending: Told::NoSet,
+                ..RETURNS
+            },
+        ],
+        checks: &[
+            (2, Change::Missing, None),
+            (3, Change::Missing, Some(3)),
+            (4, Change::Missing, Some(4)),
+            (5, Change::Swapped, None),
+        ],
+        from: 1,
+        refuted: 91,
+    },
     // A link that fails where a row is awaited.
     Table {
         set_up: SetUp::Plain,

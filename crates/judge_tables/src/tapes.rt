@@ -62,6 +62,8 @@ fn call_of(alloc: Global, said: Said) -> Result<Call, NoMemory> {
         Said::Query(text) => Call::Query(Blob::from_slice(alloc, text)?),
         Said::NextRow => Call::NextRow,
         Said::DropResult => Call::DropResult,
+        Said::TakeSet => Call::TakeSet,
+        Said::SkipTaken => Call::SkipTaken,
         Said::Ping => Call::Ping,
         Said::Quit => Call::Quit,
     })

@@ -8,33 +8,33 @@ use Rattle.std.proofs.Common.{ℕ, ◌≡◌, List, [], ◌∷◌, ◌++◌, tru
 use Rattle.my_grammar.specs.declared.login.Login.{Login}
 use Rattle.my_reading.specs.declared.call.Call.{Call}
 use Rattle.my_reading.specs.declared.call.CallKind.{CallKind}
-use Rattle.my_reading.specs.declared.call.CallKind.TheVariants.{Connect, Query, NextRow, DropResult, Ping, Quit}
+use Rattle.my_reading.specs.declared.call.CallKind.TheVariants.{Connect, Query, NextRow, DropResult, TakeSet, SkipTaken, Ping, Quit}
 use Rattle.my_session.specs.declared.task.LinkFault.{LinkFault}
 use Rattle.my_reading.specs.Calls.{kind_of, call_of}
 use Rattle.my_session.specs.Fits.{may_be}
 use Rattle.my_reading.specs.Told.{Told, ToldReady, ToldRow, ToldEnd, ToldNone, ToldError, Dropped}
 use Rattle.my_session.specs.History.{History, Made, answered, noted, passing, gone, took, ending}
-use Rattle.my_session.specs.Passed.{IsItem, ArePassed}
+use Rattle.my_session.specs.Passed.{IsItem, ArePassed, is_passing}
 use Rattle.my_session.specs.Seen.{Seen}
 use Rattle.my_session.specs.Stands.{Stands, call_with}
 use Rattle.my_session.specs.Steps.{with_owed, with_unread, with_end, with_failing}
 use Rattle.my_client.specs.declared.tape.DoneCall.{DoneCall}
 use Rattle.my_client.specs.declared.tape.Said.{Said}
-use Rattle.my_client.specs.Kept.{Asked, Kept, IsOf, IsHeard, told_by, made_of, is_note, answers_in, call_in, ended_by}
+use Rattle.my_client.specs.Kept.{Asked, Kept, IsOf, IsHeard, told_by, made_of, passes_over, is_note, answers_in, call_in, ended_by}
 
 -- a call that ended is the newest of the history
 pub made_more : (ds : List DoneCall) (d : DoneCall) → made_of (ds ++ d ∷ []) ≡ record { call = d.call; what = told_by d.said } ∷ made_of ds
 made_more [] d = refl
 made_more (x ∷ ds) d = ap (λ ms. ms ++ record { call = x.call; what = told_by x.said } ∷ []) (made_more ds d)
 
--- what a dropping passed over is a note
-item_noted : (t : Told) → IsItem t → is_note DropResult t ≡ true
-item_noted ToldReady i = absurd i
-item_noted (ToldRow row) i = refl
-item_noted ToldEnd i = refl
-item_noted ToldNone i = absurd i
-item_noted (ToldError e) i = absurd i
-item_noted (Dropped closing) i = absurd i
+-- what a call passed over is a note
+item_noted : (c : CallKind) (t : Told) → passes_over c ≡ true → IsItem t → is_note c t ≡ true
+item_noted c ToldReady p i = absurd i
+item_noted c (ToldRow row) p i = ap (λ b. b && true) p
+item_noted c ToldEnd p i = ap (λ b. b && true) p
+item_noted c ToldNone p i = absurd i
+item_noted c (ToldError e) p i = absurd i
+item_noted c (Dropped closing) p i = absurd i
 
 -- an answer is no note
 pub answer_counts : (c : CallKind) (t : Told) → may_be c t ≡ true → is_note c t ≡ false
@@ -47,6 +47,13 @@ answer_counts DropResult ToldEnd m = cc
 answer_counts DropResult ToldNone m = cc
 answer_counts DropResult (ToldError e) m = refl
 answer_counts DropResult (Dropped closing) m = refl
+answer_counts TakeSet t m = refl
+answer_counts SkipTaken ToldReady m = refl
+answer_counts SkipTaken (ToldRow row) m = cc
+answer_counts SkipTaken ToldEnd m = cc
+answer_counts SkipTaken ToldNone m = cc
+answer_counts SkipTaken (ToldError e) m = refl
+answer_counts SkipTaken (Dropped closing) m = refl
 answer_counts Ping t m = refl
 answer_counts Quit t m = refl
 
@@ -55,18 +62,28 @@ pending_passing h [] = refl
 pending_passing h (t ∷ ts) = pending_passing h ts
 
 -- what a call passed over adds nothing to what was kept
-answers_noted : (p : Option Call) (t : Told) (ms : List Made) → p ≡ call_with (Some DropResult) [] → IsItem t → answers_in (noted (record { sent = []; taken = []; calls = ms; pending = p; ended = false; lost = false }) t).calls ≡ answers_in ms
-answers_noted p t ms e i = subst (λ (p : Option Call). answers_in (noted (record { sent = []; taken = []; calls = ms; pending = p; ended = false; lost = false }) t).calls ≡ answers_in ms) (sym e) (ap (λ b. cond b (answers_in ms) (record { call = call_of DropResult []; what = t } ∷ answers_in ms)) (item_noted t i))
+answers_noted : (c : CallKind) (p : Option Call) (t : Told) (ms : List Made) → p ≡ call_with (Some c) [] → is_note (kind_of (call_of c [])) t ≡ true → answers_in (noted (record { sent = []; taken = []; calls = ms; pending = p; ended = false; lost = false }) t).calls ≡ answers_in ms
+answers_noted c p t ms e i = subst (λ (p : Option Call). answers_in (noted (record { sent = []; taken = []; calls = ms; pending = p; ended = false; lost = false }) t).calls ≡ answers_in ms) (sym e) (ap (λ b. cond b (answers_in ms) (record { call = call_of c []; what = t } ∷ answers_in ms)) i)
+
+noted_by : (kind : Option CallKind) (text : List ℕ) (p : Option Call) (t : Told) (ms : List Made) → p ≡ call_with kind text → is_passing kind ≡ true → IsItem t → answers_in (noted (record { sent = []; taken = []; calls = ms; pending = p; ended = false; lost = false }) t).calls ≡ answers_in ms
+noted_by None text p t ms e passing i = cc
+noted_by (Some Connect) text p t ms e passing i = cc
+noted_by (Some Query) text p t ms e passing i = cc
+noted_by (Some NextRow) text p t ms e passing i = cc
+noted_by (Some DropResult) text p t ms e passing i = answers_noted DropResult p t ms e (item_noted DropResult t refl i)
+noted_by (Some TakeSet) text p t ms e passing i = cc
+noted_by (Some SkipTaken) text p t ms e passing i = answers_noted SkipTaken p t ms e (item_noted SkipTaken t refl i)
+noted_by (Some Ping) text p t ms e passing i = cc
+noted_by (Some Quit) text p t ms e passing i = cc
 
 pub passing_of : (k : Kept) (h : History) (kind : Option CallKind) (text : List ℕ) (ts : List Told) → h.pending ≡ call_with kind text → ArePassed kind ts → IsOf k h → IsOf k (passing h ts)
 passing_of k h kind text [] p a w = w
 passing_of k h kind text (t ∷ ts) p a w =
     let u = passing_of k h kind text ts p a.2 w in
-    let dropping : (passing h ts).pending ≡ call_with (Some DropResult) text = pending_passing h ts ∙ p ∙ ap (λ c. call_with c text) a.0 in
     record {
       sent_is = u.sent_is;
       taken_is = u.taken_is;
-      calls_are = answers_noted (passing h ts).pending t (passing h ts).calls dropping a.1 ∙ u.calls_are;
+      calls_are = noted_by kind text (passing h ts).pending t (passing h ts).calls (pending_passing h ts ∙ p) a.0 a.1 ∙ u.calls_are;
       pending_is = u.pending_is;
       lost_is = u.lost_is;
     }
@@ -76,6 +93,8 @@ kind_back Connect text = refl
 kind_back Query text = refl
 kind_back NextRow text = refl
 kind_back DropResult text = refl
+kind_back TakeSet text = refl
+kind_back SkipTaken text = refl
 kind_back Ping text = refl
 kind_back Quit text = refl
 

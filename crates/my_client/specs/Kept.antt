@@ -5,9 +5,10 @@ use Rattle.my_grammar.specs.declared.login.Login.{Login}
 use Rattle.my_reading.specs.declared.call.Call.{Call}
 use Rattle.my_reading.specs.declared.call.Call.TheVariants as calls
 use Rattle.my_reading.specs.declared.call.CallKind.{CallKind}
-use Rattle.my_reading.specs.declared.call.CallKind.TheVariants.{Connect, Query, NextRow, DropResult, Ping, Quit}
+use Rattle.my_reading.specs.declared.call.CallKind.TheVariants.{Connect, Query, NextRow, DropResult, TakeSet, SkipTaken, Ping, Quit}
 use Rattle.my_reading.specs.Calls.{kind_of}
 use Rattle.my_reading.specs.Told.{Told, ToldReady, ToldRow, ToldEnd, ToldNone, ToldError, Dropped, told}
+pub use Rattle.my_session.specs.Passed.{passes_over}
 use Rattle.my_session.specs.History.{History, Made}
 use Rattle.my_session.specs.Seen.{Seen}
 use Rattle.my_session.specs.Stands.{Stands}
@@ -42,14 +43,6 @@ abbrev pub made_of : List DoneCall → List Made
 made_of [] = []
 made_of (d ∷ ds) = made_of ds ++ record { call = d.call; what = told_by d.said } ∷ []
 
-abbrev pub is_drop : CallKind → Bool
-is_drop Connect = false
-is_drop Query = false
-is_drop NextRow = false
-is_drop DropResult = true
-is_drop Ping = false
-is_drop Quit = false
-
 abbrev pub is_item : Told → Bool
 is_item ToldReady = false
 is_item (ToldRow row) = true
@@ -58,9 +51,9 @@ is_item ToldNone = false
 is_item (ToldError e) = false
 is_item (Dropped closing) = false
 
--- a history notes the rows and ends that a dropping passes over; they are no answers
+-- a history notes the rows and ends that a call passes over; they are no answers
 abbrev pub is_note : CallKind → Told → Bool
-is_note c t = is_drop c && is_item t
+is_note c t = passes_over c && is_item t
 
 abbrev pub answers_in : List Made → List Made
 answers_in [] = []

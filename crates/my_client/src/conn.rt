@@ -109,7 +109,13 @@ pub fn is_connecting<L>(conn: &TapedConn<L>) -> bool
         None => false,
         Some(open) => match open.call {
             Call::Connect => true,
-            Call::Query(_) | Call::NextRow | Call::DropResult | Call::Ping | Call::Quit => false,
+            Call::Query(_)
+            | Call::NextRow
+            | Call::DropResult
+            | Call::TakeSet
+            | Call::SkipTaken
+            | Call::Ping
+            | Call::Quit => false,
         },
     }
 }

@@ -10,7 +10,7 @@ use Rattle.my_reading.specs.Errors.{connection_closed}
 use Rattle.my_reading.specs.declared.answer.Answer.{Answer}
 use Rattle.my_reading.specs.declared.call.Call.{Call}
 use Rattle.my_reading.specs.declared.call.CallKind.{CallKind}
-use Rattle.my_reading.specs.declared.call.CallKind.TheVariants.{Connect, Query, NextRow, DropResult, Ping, Quit}
+use Rattle.my_reading.specs.declared.call.CallKind.TheVariants.{Connect, Query, NextRow, DropResult, TakeSet, SkipTaken, Ping, Quit}
 use Rattle.my_reading.specs.declared.error.Error.{Error}
 use Rattle.my_reading.specs.declared.error.DriverError.TheVariants.{TooLong}
 use Rattle.my_reading.specs.declared.error.Error.TheVariants as errors
@@ -98,6 +98,8 @@ no_pending Connect e = cc
 no_pending Query e = cc
 no_pending NextRow e = cc
 no_pending DropResult e = cc
+no_pending TakeSet e = cc
+no_pending SkipTaken e = cc
 no_pending Ping e = cc
 no_pending Quit e = cc
 
@@ -195,6 +197,8 @@ module _ {L : Type 0} (look : L → Looks) (kind : CallKind) (call : Call) (old 
       by_kind Query f = f
       by_kind NextRow f = f
       by_kind DropResult f = f
+      by_kind TakeSet f = f
+      by_kind SkipTaken f = f
       by_kind Ping f = f
       by_kind Quit f = f
 

@@ -8,3 +8,4 @@ pub mod States
 pub mod Drives
 pub mod Facts
 pub mod News
+pub mod Streams

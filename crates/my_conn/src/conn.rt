@@ -1,6 +1,7 @@
 //! A connection that was made.
 ghost use Rattle.std.specs.Prelude.{◌≡◌, ◌||◌, Some, None, true, false};
 ghost use Rattle.std.specs.Option.{option_copied};
+ghost use Rattle.my_session.specs.Steps.{is_taken};
 ghost use Rattle.my_conn.specs.Calls.{lost_answer, pending_after};
 
 use crate::begin::{cancel_open, poll_once};
@@ -55,6 +56,8 @@ fn lost_answer(kind: CallKind) -> After
         | CallKind::Query
         | CallKind::NextRow
         | CallKind::DropResult
+        | CallKind::TakeSet
+        | CallKind::SkipTaken
         | CallKind::Ping => After::Failed(Error::Driver(DriverError::ConnectionClosed)),
     }
 }
@@ -111,6 +114,13 @@ impl<L> Conn<L> {
         ensures { result ≡ (self.now.lost || self.now.seen.closed) }
     {
         self.lost || self.session.is_closed()
+    }
+
+    /// Whether a stream took the set that is read, or whose end is left for a read to return.
+    pub fn is_taken(&self) -> bool
+        ensures { result ≡ is_taken self.now.seen }
+    {
+        self.session.is_taken()
     }
 
     /// The number of the connection, as the server reported it.

@@ -9,6 +9,7 @@ mod connecting;
 mod drive;
 mod facts;
 mod states;
+mod stream;
 
 pub use calls::{
     DropCall, DropResult, NextAnswer, NextCall, NextRow, Ping, PingCall, Query, QueryCall, Quit,
@@ -19,3 +20,4 @@ pub use connecting::{Connected, Connecting};
 pub use drive::TOO_LONG;
 pub use my_packets::Poll;
 pub use states::{CallState, Returns};
+pub use stream::StreamCall;

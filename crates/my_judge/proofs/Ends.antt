@@ -99,6 +99,8 @@ closes_so kinds.Connect p spot e = refl
 closes_so kinds.Query p spot e = refl
 closes_so kinds.NextRow p spot e = ap (closes_at kinds.NextRow) e
 closes_so kinds.DropResult p spot e = ap (closes_at kinds.DropResult) e
+closes_so kinds.TakeSet p spot e = ap (closes_at kinds.TakeSet) e
+closes_so kinds.SkipTaken p spot e = ap (closes_at kinds.SkipTaken) e
 closes_so kinds.Ping p spot e = refl
 closes_so kinds.Quit p spot e = refl
 

@@ -1,5 +1,5 @@
 -- A step of the program is the reading's step.
-use Rattle.std.proofs.Common.{◌≡◌, ℕ, zero, suc, ◌<◌, ◌≤◌, List, [], ◌∷◌, length, drop, map, nat_lt, slice_get, Option, Some, None, Bool, true, false, cond, refl, sym, ap, ◌∙◌, subst, arith}
+use Rattle.std.proofs.Common.{◌≡◌, ℕ, zero, suc, ◌<◌, ◌≤◌, List, [], ◌∷◌, length, drop, map, nat_lt, slice_get, Option, Some, None, Bool, true, false, ◌||◌, cond, refl, sym, ap, ◌∙◌, subst, arith}
 use Rattle.std.proofs.lemmas.Bool.Decides.{nat_tests}
 use Rattle.my_command.specs.declared.client.ClientPacket.TheVariants as packets
 use Rattle.my_command.specs.Client.Packet.{client_bytes as packet_bytes}
@@ -24,7 +24,7 @@ use Rattle.my_reading.specs.declared.call.Call.TheVariants as calls
 use Rattle.my_reading.specs.Commands.{arranging_texts, connecting, query_of, command_in}
 use Rattle.my_reading.specs.Course.{Step, Goes, Stops, step, step_of, unless_owed, reads, with_front, after_payload, after_kind, after_err, with_command, failure, is_greeting, is_rows}
 use Rattle.my_reading.specs.Errors.{codec_error}
-use Rattle.my_reading.specs.Place.{Place, exchanges, facts_at, client_side, connects_in, terms_of, owed, next_exchange, with_end, with_talk, with_exchange}
+use Rattle.my_reading.specs.Place.{Place, exchanges, facts_at, client_side, connects_in, terms_of, owed, next_exchange, with_end, with_taken, with_talk, with_exchange}
 use Rattle.my_reading.specs.Rows.{row_of}
 use Rattle.my_reading.specs.Told.{ToldRow}
 use Rattle.my_judge.specs.declared.part.Part.{Part as CodePart}
@@ -35,9 +35,9 @@ use Rattle.my_judge.specs.declared.step.Step.TheVariants as steps
 use Rattle.my_judge.specs.declared.step.Stop.TheVariants as code_stops
 use Rattle.my_judge.specs.declared.tape.Ending.TheVariants as endings
 use Rattle.my_judge.specs.Parts.{part_of}
-use Rattle.my_judge.specs.Stands.{IsAt, Turn, stand_of, heard, asked, turn, with_end as with_left, after_kind as code_kind, after_err as code_err, after_greeting as code_greeting, after_payload as code_payload, with_front as code_front, reads as code_reads, arranges, commands, begins, steps as code_step}
+use Rattle.my_judge.specs.Stands.{IsAt, Turn, stand_of, heard, asked, turn, with_end as with_left, with_taken as with_mark, after_kind as code_kind, after_err as code_err, after_greeting as code_greeting, after_payload as code_payload, with_front as code_front, reads as code_reads, arranges, commands, begins, steps as code_step}
 use Rattle.my_judge.specs.Tapes.{stop_of}
-use Rattle.my_judge.proofs.Places.{limit_is, at_here, at_end, at_no_end, at_heard}
+use Rattle.my_judge.proofs.Places.{limit_is, at_here, at_end, at_no_end, at_taken, at_end_taken, at_heard}
 
 -- a step of a call of which these parts are left
 abbrev pub Follows : Login → List CodePart → Stand → CodeStep → Step → Type 0
@@ -95,6 +95,16 @@ module _ (login : Login) (part : CodePart) (more : List CodePart) (new : Place) 
       by_part parts.Item kinds.Row = (refl, at)
       by_part parts.Item (kinds.End status) = (refl, at)
       by_part parts.Item kinds.Bad = (refl, at)
+      by_part parts.Set (kinds.Good status) = (refl, subst (λ (x : Stand). IsAt login (with_taken (with_end new)) (with_mark (with_left true x))) (sym is) (at_end_taken login new n arranged fits same))
+      by_part parts.Set (kinds.Greets c) = (refl, at)
+      by_part parts.Set kinds.Failed = (refl, at)
+      by_part parts.Set (kinds.Count c) = (refl, at)
+      by_part parts.Set kinds.Column = (refl, at)
+      by_part parts.Set kinds.ColumnsDone = (refl, at)
+      by_part parts.Set kinds.Row = (refl, at)
+      by_part parts.Set (kinds.End status) = (refl, at)
+      by_part parts.Set kinds.Bad = (refl, at)
+      by_part parts.Rest k = (refl, at)
 
 module _ (login : Login) (p : Place) (n : ℕ) (arranged : connects_in (exchanges p) ≡ suc n) (fits : Fits p.talk) (same : login_in login p.talk ≡ login) where
   abbrev s : Stand
@@ -185,6 +195,8 @@ module _ (login : Login) (p : Place) (n : ℕ) (arranged : connects_in (exchange
       (asked_at (calls.Query text) talk _ n refl refl arranged (record { kinds = tt; within = tt }) refl) refl
   commands_follow calls.NextRow more = (refl, here)
   commands_follow calls.DropResult more = (refl, here)
+  commands_follow calls.TakeSet more = (refl, here)
+  commands_follow calls.SkipTaken more = (refl, here)
   commands_follow calls.Ping more =
       let talk : Talk = Asked terms (packet_bytes packets.Ping) in
       asks_follows calls.Ping more talk (turn steps.Passes (asked spots.Single (packet_bytes packets.Ping) n s)) n
@@ -202,6 +214,10 @@ module _ (login : Login) (p : Place) (n : ℕ) (arranged : connects_in (exchange
   begins_follow call (parts.Head ∷ more) = either login (parts.Head ∷ more) (is_rows (context_of p.talk).spot) _ _ _ _ (λ _. (refl, here)) (λ _. reads_follow parts.Head more)
   begins_follow call (parts.Item ∷ more) = either login (parts.Item ∷ more) p.end_left _ _ _ _ (λ _. (refl, at_no_end login p n arranged fits same))
       (λ _. either login (parts.Item ∷ more) (is_over p.talk) _ _ _ _ (λ _. (refl, here)) (λ _. reads_follow parts.Item more))
+  begins_follow call (parts.Set ∷ more) = either login (parts.Set ∷ more) (p.end_left || is_rows (context_of p.talk).spot) _ _ _ _ (λ _. (refl, at_taken login p n arranged fits same))
+      (λ _. either login (parts.Set ∷ more) (is_over p.talk) _ _ _ _ (λ _. (refl, here)) (λ _. reads_follow parts.Set more))
+  begins_follow call (parts.Rest ∷ more) = either login (parts.Rest ∷ more) p.end_left _ _ _ _ (λ _. (refl, at_no_end login p n arranged fits same))
+      (λ _. either login (parts.Rest ∷ more) (is_rows (context_of p.talk).spot) _ _ _ _ (λ _. reads_follow parts.Rest more) (λ _. (refl, here)))
 
   -- while bytes are owed the call waits
   owing : (left : List CodePart) (x : Step) (bytes : List ℕ) (b : ℕ) (more : List ℕ) → bytes ≡ b ∷ more → TurnIs login left (turn (steps.Stops code_stops.Owes) s) (unless_owed bytes p x)

@@ -1,5 +1,5 @@
 -- The places that steps lead to, and what is known of them.
-use Rattle.std.proofs.Common.{◌≡◌, ℕ, suc, ◌≤◌, List, ◌∷◌, ◌++◌, length, true, false, refl, sym, ap, ◌∙◌, arith}
+use Rattle.std.proofs.Common.{◌≡◌, ℕ, suc, ◌≤◌, List, ◌∷◌, ◌++◌, length, Bool, true, false, ◌&&◌, refl, sym, ap, ◌∙◌, arith}
 use Rattle.std.proofs.lemmas.List.{append_assoc}
 use Rattle.my_frame.specs.Front.{Whole}
 use Rattle.my_grammar.proofs.Cutting.Fronts.{takes_whole}
@@ -13,9 +13,9 @@ use Rattle.my_grammar.specs.Talk.{Talk, Start, Unwelcome, Greeted, Settled, Aske
 use Rattle.my_reading.specs.Commands.{arranging_texts}
 use Rattle.my_reading.specs.declared.facts.Facts.{Facts}
 use Rattle.my_reading.specs.Facts.{facts_by}
-use Rattle.my_reading.specs.Place.{Place, exchanges, facts_at, facts_of, client_side, connects_in, with_bytes, with_end, without_end, with_talk}
+use Rattle.my_reading.specs.Place.{Place, exchanges, facts_at, facts_of, client_side, connects_in, with_bytes, with_end, without_end, with_taken, with_talk, is_rows}
 use Rattle.my_judge.specs.declared.stand.Stand.{Stand}
-use Rattle.my_judge.specs.Stands.{IsAt, stand_of, heard, with_bytes as with_more, with_end as with_left}
+use Rattle.my_judge.specs.Stands.{IsAt, stand_of, heard, with_bytes as with_more, with_end as with_left, with_taken as with_mark}
 
 pub limit_is : (t : Talk) → (context_of t).terms.limit ≡ limit_of t
 limit_is (Start login) = refl
@@ -28,14 +28,15 @@ limit_is (Queried terms c sets) = refl
 limit_is (Silent terms c) = refl
 
 -- a stand whose fields are these
-same_stand : (login : Login) (p : Place) (n : ℕ) (c : Context) (m : ℕ) (f : Facts) (bytes : List ℕ)
-    → c ≡ context_of p.talk → m ≡ number_of (turns p.talk) → f ≡ facts_at login p → bytes ≡ client_side (exchanges p)
-    → (let s : Stand = record { context = c; number = m; facts = f; texts = arranging_texts login; arranged = n; end_left = p.end_left; unread = p.unread; said = bytes; sent = p.sent } in s) ≡ stand_of login p n
-same_stand login p n c m f bytes ec em ef eb =
-    ap (λ (x : Context). let s : Stand = record { context = x; number = m; facts = f; texts = arranging_texts login; arranged = n; end_left = p.end_left; unread = p.unread; said = bytes; sent = p.sent } in s) ec
-    ∙ ap (λ (x : ℕ). let s : Stand = record { context = context_of p.talk; number = x; facts = f; texts = arranging_texts login; arranged = n; end_left = p.end_left; unread = p.unread; said = bytes; sent = p.sent } in s) em
-    ∙ ap (λ (x : Facts). let s : Stand = record { context = context_of p.talk; number = number_of (turns p.talk); facts = x; texts = arranging_texts login; arranged = n; end_left = p.end_left; unread = p.unread; said = bytes; sent = p.sent } in s) ef
-    ∙ ap (λ (x : List ℕ). let s : Stand = record { context = context_of p.talk; number = number_of (turns p.talk); facts = facts_at login p; texts = arranging_texts login; arranged = n; end_left = p.end_left; unread = p.unread; said = x; sent = p.sent } in s) eb
+same_stand : (login : Login) (p : Place) (n : ℕ) (c : Context) (m : ℕ) (f : Facts) (bytes : List ℕ) (mark : Bool)
+    → c ≡ context_of p.talk → m ≡ number_of (turns p.talk) → f ≡ facts_at login p → bytes ≡ client_side (exchanges p) → mark ≡ p.taken
+    → (let s : Stand = record { context = c; number = m; facts = f; texts = arranging_texts login; arranged = n; end_left = p.end_left; taken = mark; unread = p.unread; said = bytes; sent = p.sent } in s) ≡ stand_of login p n
+same_stand login p n c m f bytes mark ec em ef eb ek =
+    ap (λ (x : Context). let s : Stand = record { context = x; number = m; facts = f; texts = arranging_texts login; arranged = n; end_left = p.end_left; taken = mark; unread = p.unread; said = bytes; sent = p.sent } in s) ec
+    ∙ ap (λ (x : ℕ). let s : Stand = record { context = context_of p.talk; number = x; facts = f; texts = arranging_texts login; arranged = n; end_left = p.end_left; taken = mark; unread = p.unread; said = bytes; sent = p.sent } in s) em
+    ∙ ap (λ (x : Facts). let s : Stand = record { context = context_of p.talk; number = number_of (turns p.talk); facts = x; texts = arranging_texts login; arranged = n; end_left = p.end_left; taken = mark; unread = p.unread; said = bytes; sent = p.sent } in s) ef
+    ∙ ap (λ (x : List ℕ). let s : Stand = record { context = context_of p.talk; number = number_of (turns p.talk); facts = facts_at login p; texts = arranging_texts login; arranged = n; end_left = p.end_left; taken = mark; unread = p.unread; said = x; sent = p.sent } in s) eb
+    ∙ ap (λ (x : Bool). let s : Stand = record { context = context_of p.talk; number = number_of (turns p.talk); facts = facts_at login p; texts = arranging_texts login; arranged = n; end_left = p.end_left; taken = x; unread = p.unread; said = client_side (exchanges p); sent = p.sent } in s) ek
 
 module _ (login : Login) (p : Place) (n : ℕ) (arranged : connects_in (exchanges p) ≡ suc n) (fits : Fits p.talk) (same : login_in login p.talk ≡ login) where
   pub at_here : IsAt login p (stand_of login p n)
@@ -46,6 +47,12 @@ module _ (login : Login) (p : Place) (n : ℕ) (arranged : connects_in (exchange
 
   pub at_no_end : IsAt login (without_end p) (with_left false (stand_of login p n))
   at_no_end = record { stand_is = refl; arranged_is = arranged; fits = fits; login_is = same }
+
+  pub at_taken : IsAt login (with_taken p) (with_mark (stand_of login p n))
+  at_taken = record { stand_is = refl; arranged_is = arranged; fits = fits; login_is = same }
+
+  pub at_end_taken : IsAt login (with_taken (with_end p)) (with_mark (with_left true (stand_of login p n)))
+  at_end_taken = record { stand_is = refl; arranged_is = arranged; fits = fits; login_is = same }
 
   -- a payload that fits is read
   pub at_heard : (payload rest : List ℕ) (next : ℕ) → front_of p.talk p.unread ≡ Whole payload rest next → is_bad (kind_of p.talk payload) ≡ false
@@ -59,11 +66,12 @@ module _ (login : Login) (p : Place) (n : ℕ) (arranged : connects_in (exchange
       let turned : turns (grow k p.talk payload) ≡ replies login k payload ++ Server payload ∷ turns p.talk = g.turns_are login ∙ ap (λ l. replies l k payload ++ Server payload ∷ turns p.talk) same in
       let client : client_bytes (turns (grow k p.talk payload)) ≡ client_bytes (turns p.talk) ++ said login k payload (number_of (turns p.talk)) = ap client_bytes turned ∙ r.client in
       record {
-        stand_is = same_stand login (with_talk p (grow k p.talk payload) rest) n _ _ _ _
+        stand_is = same_stand login (with_talk p (grow k p.talk payload) rest) n _ _ _ _ _
             (sym g.context)
             (sym (ap number_of turned ∙ r.number))
             (sym (ap (λ ps. facts_by ps (facts_of login p.older)) g.packets_are))
-            (append_assoc (client_side p.older) (client_bytes (turns p.talk)) (said login k payload (number_of (turns p.talk))) ∙ ap (λ bs. client_side p.older ++ bs) (sym client));
+            (append_assoc (client_side p.older) (client_bytes (turns p.talk)) (said login k payload (number_of (turns p.talk))) ∙ ap (λ bs. client_side p.older ++ bs) (sym client))
+            (ap (λ (x : Context). p.taken && is_rows x.spot) (sym g.context));
         arranged_is = arranged;
         fits = g.fits;
         login_is = g.login_is login ∙ same;

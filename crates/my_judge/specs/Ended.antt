@@ -2,7 +2,7 @@
 use Rattle.std.specs.Prelude.{◌≡◌, ◌⊎◌, Option, Some, None, Bool, true, false}
 use Rattle.my_grammar.specs.declared.spot.Spot.{Spot}
 use Rattle.my_reading.specs.declared.call.CallKind.{CallKind}
-use Rattle.my_reading.specs.declared.call.CallKind.TheVariants.{NextRow, DropResult}
+use Rattle.my_reading.specs.declared.call.CallKind.TheVariants.{NextRow, DropResult, TakeSet, SkipTaken}
 use Rattle.my_reading.specs.declared.error.IoKind.TheVariants.{Link}
 use Rattle.my_reading.specs.Endings.{awaits_head}
 use Rattle.my_reading.specs.Errors.{io_error, unexpected_eof}
@@ -16,6 +16,8 @@ use Rattle.my_judge.specs.declared.tape.Ending.TheVariants.{Answered, Failed, Ca
 abbrev pub closes_at : CallKind → Spot → Bool
 closes_at NextRow spot = awaits_head spot
 closes_at DropResult spot = awaits_head spot
+closes_at TakeSet spot = awaits_head spot
+closes_at SkipTaken spot = awaits_head spot
 closes_at kind spot = true
 
 -- cancelling a call there closes the connection or not

@@ -1,6 +1,6 @@
 -- The parts of a call in the program.
 use Rattle.std.specs.Prelude.{ℕ, List, ◌∷◌}
-use Rattle.my_reading.specs.Course.{Part, All, Head, Item, Command, parts_of_texts}
+use Rattle.my_reading.specs.Course.{Part, All, Head, Item, Set, Rest, Command, parts_of_texts}
 use Rattle.my_judge.specs.declared.part.Part.{Part as CodePart}
 use Rattle.my_judge.specs.declared.part.Part.TheVariants as parts
 
@@ -8,6 +8,8 @@ abbrev pub part_of : CodePart → Part
 part_of parts.All = All
 part_of parts.Head = Head
 part_of parts.Item = Item
+part_of parts.Set = Set
+part_of parts.Rest = Rest
 part_of parts.Command = Command
 
 -- connecting, with these queries that set the connection up

@@ -1,5 +1,5 @@
 -- What the program knows where the reading stands, and what a step of a call does there.
-use Rattle.std.specs.Prelude.{◌≡◌, ℕ, suc, nat_lt, List, [], ◌∷◌, ◌++◌, length, slice_get, Option, Some, None, Bool, true, false, if◌then◌else◌}
+use Rattle.std.specs.Prelude.{◌≡◌, ℕ, suc, nat_lt, List, [], ◌∷◌, ◌++◌, length, slice_get, Option, Some, None, Bool, true, false, ◌&&◌, ◌||◌, if◌then◌else◌}
 use Rattle.my_command.specs.declared.client.ClientPacket.TheVariants as packets
 use Rattle.my_command.specs.Client.Packet.{client_bytes as packet_bytes}
 use Rattle.my_frame.specs.declared.fault.CodecFault.TheVariants.{TooLarge}
@@ -47,6 +47,7 @@ stand_of login p n = record {
   texts = arranging_texts login;
   arranged = n;
   end_left = p.end_left;
+  taken = p.taken;
   unread = p.unread;
   said = client_side (exchanges p);
   sent = p.sent;
@@ -68,6 +69,7 @@ with_bytes sent taken s = record {
   texts = s.texts;
   arranged = s.arranged;
   end_left = s.end_left;
+  taken = s.taken;
   unread = s.unread ++ taken;
   said = s.said;
   sent = s.sent ++ sent;
@@ -82,6 +84,22 @@ with_end left s = record {
   texts = s.texts;
   arranged = s.arranged;
   end_left = left;
+  taken = s.taken;
+  unread = s.unread;
+  said = s.said;
+  sent = s.sent;
+}
+
+-- a stream takes the set
+abbrev pub with_taken : Stand → Stand
+with_taken s = record {
+  context = s.context;
+  number = s.number;
+  facts = s.facts;
+  texts = s.texts;
+  arranged = s.arranged;
+  end_left = s.end_left;
+  taken = true;
   unread = s.unread;
   said = s.said;
   sent = s.sent;
@@ -96,6 +114,7 @@ heard login k payload rest s = record {
   texts = s.texts;
   arranged = s.arranged;
   end_left = false;
+  taken = s.taken && is_rows (context_after s.context k).spot;
   unread = rest;
   said = s.said ++ said login k payload s.number;
   sent = s.sent;
@@ -110,6 +129,7 @@ asked spot command arranged s = record {
   texts = s.texts;
   arranged = arranged;
   end_left = false;
+  taken = false;
   unread = s.unread;
   said = s.said ++ chunks command 0;
   sent = s.sent;
@@ -141,6 +161,7 @@ after_kind parts.Head (kinds.Good status) row new = turn Passes (with_end true n
 after_kind parts.Item (kinds.Good status) row new = turn (Stops (Returns (Answered answers.SetEnd))) new
 after_kind parts.Item (kinds.End status) row new = turn (Stops (Returns (Answered answers.SetEnd))) new
 after_kind parts.Item kinds.Row row new = turn (Stops (Returns (Answered (answers.Row row)))) new
+after_kind parts.Set (kinds.Good status) row new = turn (Stops (Returns (Answered answers.Ready))) (with_taken (with_end true new))
 after_kind part k row new = turn Stays new
 
 -- an ERR ends the call
@@ -192,6 +213,8 @@ commands calls.Connect s = arranges (slice_get s.texts s.arranged) s
 commands (calls.Query text) s = asks spots.Head (packet_bytes (packets.Query text)) s.arranged s
 commands calls.NextRow s = turn Passes s
 commands calls.DropResult s = turn Passes s
+commands calls.TakeSet s = turn Passes s
+commands calls.SkipTaken s = turn Passes s
 commands calls.Ping s = asks spots.Single (packet_bytes packets.Ping) s.arranged s
 commands calls.Quit s = asks spots.Idle (packet_bytes packets.Quit) s.arranged s
 
@@ -208,6 +231,14 @@ begins login call (parts.Item ∷ more) s =
     if s.end_left
     then turn (Stops (Returns (Answered answers.SetEnd))) (with_end false s)
     else (if is_idle s.context.spot then turn (Stops (Returns (Answered answers.NoSet))) s else reads login parts.Item s)
+begins login call (parts.Set ∷ more) s =
+    if s.end_left || is_rows s.context.spot
+    then turn (Stops (Returns (Answered answers.Ready))) (with_taken s)
+    else (if is_idle s.context.spot then turn (Stops (Returns (Answered answers.NoSet))) s else reads login parts.Set s)
+begins login call (parts.Rest ∷ more) s =
+    if s.end_left
+    then turn Stays (with_end false s)
+    else (if is_rows s.context.spot then reads login parts.Rest s else turn Passes s)
 
 -- a step of a call with these parts
 abbrev pub steps : Login → Call → List Part → Stand → Turn

@@ -19,6 +19,10 @@ pub enum Part {
     Head,
     /// It is read to its next row or end.
     Item,
+    /// A stream takes the set that is read, or the next one.
+    Set,
+    /// The rest of the set that is read is passed over, and its end.
+    Rest,
     /// The call's next command is sent.
     Command,
 }
@@ -51,6 +55,8 @@ pub fn parts_of(
         Call::Query(_) => Ok(vec![in alloc; Part::All, Part::Command, Part::Head]?),
         Call::NextRow => Ok(vec![in alloc; Part::Item]?),
         Call::DropResult => Ok(vec![in alloc; Part::All]?),
+        Call::TakeSet => Ok(vec![in alloc; Part::Set]?),
+        Call::SkipTaken => Ok(vec![in alloc; Part::Rest]?),
         Call::Ping => Ok(vec![in alloc; Part::All, Part::Command, Part::All]?),
         Call::Quit => Ok(vec![in alloc; Part::All, Part::Command]?),
     }

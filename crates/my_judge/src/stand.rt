@@ -32,6 +32,8 @@ pub struct Stand {
     pub arranged: usize,
     /// Whether the end of a lone OK is left for a read to return.
     pub end_left: bool,
+    /// Whether a stream took the set that is read, or whose end is left.
+    pub taken: bool,
     /// Bytes that were received and not read.
     pub unread: Queue,
     /// What the client says in the exchanges.
@@ -52,6 +54,7 @@ impl Stand {
             texts: arranging_texts(alloc, login)?,
             arranged: 0,
             end_left: false,
+            taken: false,
             unread: Queue::new(alloc),
             said: Queue::new(alloc),
             sent: Queue::new(alloc),

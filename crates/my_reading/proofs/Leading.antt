@@ -1,5 +1,5 @@
 -- Each step that goes on leaves less to do, so that a call has steps enough.
-use Rattle.std.proofs.Common.{◌≡◌, ℕ, suc, zero, ◌+◌, ◌*◌, ◌<◌, ◌≤◌, List, [], ◌∷◌, length, nat_lt, Option, Some, None, Bool, true, false, cond, refl, ap, ◌∙◌, subst, arith}
+use Rattle.std.proofs.Common.{◌≡◌, ℕ, suc, zero, ◌+◌, ◌*◌, ◌<◌, ◌≤◌, List, [], ◌∷◌, length, nat_lt, Option, Some, None, Bool, true, false, ◌||◌, cond, refl, ap, ◌∙◌, subst, arith}
 use Rattle.my_frame.specs.Front.{Front, Waiting, Broken, Whole}
 use Rattle.my_reply.specs.declared.err.ErrPacket.{ErrPacket}
 use Rattle.my_reply.specs.ErrPacket.{err_at}
@@ -13,7 +13,7 @@ use Rattle.my_grammar.specs.Response.{response}
 use Rattle.my_grammar.specs.Talk.{Talk, context_of, limit_of, turns, number_of}
 use Rattle.my_reading.specs.declared.call.Call.{Call}
 use Rattle.my_reading.specs.Commands.{command_in}
-use Rattle.my_reading.specs.Course.{Part, All, Head, Item, Command, Stop, Step, Goes, Stops, step, step_of, unless_owed, with_front, reads, after_payload, after_kind, after_err, unless_long_response, with_command, is_greeting, is_rows, parts_of, run, halt, enough}
+use Rattle.my_reading.specs.Course.{Part, All, Head, Item, Set, Rest, Command, Stop, Step, Goes, Stops, step, step_of, unless_owed, with_front, reads, after_payload, after_kind, after_err, unless_long_response, with_command, is_greeting, is_rows, parts_of, run, halt, enough}
 use Rattle.my_reading.specs.Leads.{Leads, Here, Then, LeadsToCourse}
 use Rattle.my_reading.specs.Place.{Place, without_end, with_talk, owed, next_exchange, facts_at}
 use Rattle.my_reading.specs.Rows.{row_of}
@@ -51,6 +51,7 @@ module _ (part : Part) (parts : List Part) (p : Place) (t : Talk) (rest : List �
       by_part : (part : Part) (k : Kind) → size_of (after_kind part parts k new row) ≤ left
       by_part All k = omega arith
       by_part Command k = omega arith
+      by_part Rest k = omega arith
       by_part Head (kinds.Good status) = omega arith
       by_part Head (kinds.Greets n) = omega arith
       by_part Head kinds.Failed = omega arith
@@ -69,6 +70,15 @@ module _ (part : Part) (parts : List Part) (p : Place) (t : Talk) (rest : List �
       by_part Item kinds.Row = omega arith
       by_part Item (kinds.End status) = omega arith
       by_part Item kinds.Bad = omega arith
+      by_part Set (kinds.Good status) = omega arith
+      by_part Set (kinds.Greets n) = omega arith
+      by_part Set kinds.Failed = omega arith
+      by_part Set (kinds.Count n) = omega arith
+      by_part Set kinds.Column = omega arith
+      by_part Set kinds.ColumnsDone = omega arith
+      by_part Set kinds.Row = omega arith
+      by_part Set (kinds.End status) = omega arith
+      by_part Set kinds.Bad = omega arith
 
   err_size : (login : Login) (x : Option ErrPacket) → size_of (after_err login p new x) ≤ left
   unfolding size_of
@@ -128,6 +138,12 @@ part_size login call (Head ∷ parts) p =
 part_size login call (Item ∷ parts) p =
     let here = reads_size login Item parts p in
     either p.end_left _ _ _ (λ _. omega arith) (λ _. either (is_over p.talk) _ _ _ (λ _. omega arith) (λ _. omega (arith, here)))
+part_size login call (Set ∷ parts) p =
+    let here = reads_size login Set parts p in
+    either (p.end_left || is_rows (context_of p.talk).spot) _ _ _ (λ _. omega arith) (λ _. either (is_over p.talk) _ _ _ (λ _. omega arith) (λ _. omega (arith, here)))
+part_size login call (Rest ∷ parts) p =
+    let here = reads_size login Rest parts p in
+    either p.end_left _ _ _ (λ e. quiet_size (Rest ∷ parts) p e) (λ _. either (is_rows (context_of p.talk).spot) _ _ _ (λ _. omega (arith, here)) (λ _. omega arith))
 
 some_size : (parts : List Part) (p : Place) → 0 < size parts p
 unfolding size

@@ -1,5 +1,5 @@
 -- Steps that go on stay when more bytes are sent or received.
-use Rattle.std.proofs.Common.{◌≡◌, ℕ, suc, zero, List, [], ◌∷◌, ◌++◌, length, drop, nat_lt, Option, Some, None, Bool, true, false, cond, refl, sym, ap, ◌∙◌}
+use Rattle.std.proofs.Common.{◌≡◌, ℕ, suc, zero, List, [], ◌∷◌, ◌++◌, length, drop, nat_lt, Option, Some, None, Bool, true, false, ◌||◌, cond, refl, ap, ◌∙◌}
 use Rattle.my_frame.specs.Front.{Front, Waiting, Broken, Whole}
 use Rattle.my_frame.specs.FrontLaws.{FrontGrows}
 use Rattle.my_frame.proofs.Growing.{front_grows}
@@ -14,11 +14,11 @@ use Rattle.my_grammar.specs.Response.{response}
 use Rattle.my_grammar.specs.Talk.{Talk, context_of, limit_of, turns, number_of}
 use Rattle.my_reading.specs.declared.call.Call.{Call}
 use Rattle.my_reading.specs.Commands.{command_in}
-use Rattle.my_reading.specs.Course.{Part, All, Head, Item, Command, Step, Goes, Stops, return, step, step_of, unless_owed, with_front, reads, after_payload, after_kind, after_err, unless_long_response, with_command, is_greeting, is_rows}
-use Rattle.my_reading.specs.Leads.{Leads, Here, Then, StepStays, LeadingStays}
-use Rattle.my_reading.specs.Place.{Place, without_end, with_bytes, owed, client_side, exchanges, with_talk, next_exchange, facts_at}
+use Rattle.my_reading.specs.Course.{Part, All, Head, Item, Set, Rest, Command, Step, Goes, Stops, return, step, step_of, unless_owed, with_front, reads, after_payload, after_kind, after_err, unless_long_response, with_command, is_greeting, is_rows}
+use Rattle.my_reading.specs.Leads.{Here, Then, StepStays, LeadingStays}
+use Rattle.my_reading.specs.Place.{Place, with_bytes, owed, client_side, exchanges, with_talk, next_exchange, facts_at}
 use Rattle.my_reading.specs.Rows.{row_of}
-use Rattle.my_reading.specs.Told.{Told, ToldRow, ToldEnd, ToldNone}
+use Rattle.my_reading.specs.Told.{Told, ToldRow}
 
 -- the same step, with more bytes
 lift : List ℕ → List ℕ → Step → Step
@@ -53,6 +53,7 @@ module _ (login : Login) (sent taken : List ℕ) where
   unfolding lift
   kind_more All parts k new row = refl
   kind_more Command parts k new row = refl
+  kind_more Rest parts k new row = refl
   kind_more Head parts (kinds.Good status) new row = refl
   kind_more Head parts (kinds.Greets n) new row = refl
   kind_more Head parts kinds.Failed new row = refl
@@ -71,6 +72,15 @@ module _ (login : Login) (sent taken : List ℕ) where
   kind_more Item parts kinds.Row new row = refl
   kind_more Item parts (kinds.End status) new row = refl
   kind_more Item parts kinds.Bad new row = refl
+  kind_more Set parts (kinds.Good status) new row = refl
+  kind_more Set parts (kinds.Greets n) new row = refl
+  kind_more Set parts kinds.Failed new row = refl
+  kind_more Set parts (kinds.Count n) new row = refl
+  kind_more Set parts kinds.Column new row = refl
+  kind_more Set parts kinds.ColumnsDone new row = refl
+  kind_more Set parts kinds.Row new row = refl
+  kind_more Set parts (kinds.End status) new row = refl
+  kind_more Set parts kinds.Bad new row = refl
 
   module _ (part : Part) (parts : List Part) (p : Place) where
     abbrev row : List ℕ → Told
@@ -136,6 +146,9 @@ module _ (login : Login) (sent taken : List ℕ) where
     either_more true x y x' y' f g e = f e
     either_more false x y x' y' f g e = g e
 
+    no_stop : (r : Place) (t : Told) {x : Step} → return r t ≡ Goes rest q → x ≡ Goes rest (more q)
+    no_stop r t f = cc
+
     part_more : (parts : List Part) → step_of login call parts p ≡ Goes rest q → step_of login call parts (more p) ≡ Goes rest (more q)
     unfolding lift
     part_more [] e = cc
@@ -148,9 +161,12 @@ module _ (login : Login) (sent taken : List ℕ) where
     part_more (Item ∷ parts) e =
         either_more p.end_left _ _ _ _ (λ f. no_stop _ _ f)
         (either_more (is_over p.talk) _ _ _ _ (λ f. no_stop _ _ f) (reads_more Item parts p rest q)) e
-      where
-        no_stop : (r : Place) (t : Told) {x : Step} → return r t ≡ Goes rest q → x ≡ Goes rest (more q)
-        no_stop r t f = cc
+    part_more (Set ∷ parts) e =
+        either_more (p.end_left || is_rows (context_of p.talk).spot) _ _ _ _ (λ f. no_stop _ _ f)
+        (either_more (is_over p.talk) _ _ _ _ (λ f. no_stop _ _ f) (reads_more Set parts p rest q)) e
+    part_more (Rest ∷ parts) e =
+        either_more p.end_left _ _ _ _ (λ f. ap (lift sent taken) f)
+        (either_more (is_rows (context_of p.talk).spot) _ _ _ _ (reads_more Rest parts p rest q) (λ f. ap (lift sent taken) f)) e
 
 pub step_stays : StepStays
 unfolding step

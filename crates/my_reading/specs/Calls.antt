@@ -3,13 +3,15 @@ use Rattle.std.specs.Prelude.{ℕ, List, Bool, true, false}
 use Rattle.my_reading.specs.declared.call.Call.{Call}
 use Rattle.my_reading.specs.declared.call.Call.TheVariants as calls
 use Rattle.my_reading.specs.declared.call.CallKind.{CallKind}
-use Rattle.my_reading.specs.declared.call.CallKind.TheVariants.{Connect, Query, NextRow, DropResult, Ping, Quit}
+use Rattle.my_reading.specs.declared.call.CallKind.TheVariants.{Connect, Query, NextRow, DropResult, TakeSet, SkipTaken, Ping, Quit}
 
 abbrev pub kind_of : Call → CallKind
 kind_of calls.Connect = Connect
 kind_of (calls.Query text) = Query
 kind_of calls.NextRow = NextRow
 kind_of calls.DropResult = DropResult
+kind_of calls.TakeSet = TakeSet
+kind_of calls.SkipTaken = SkipTaken
 kind_of calls.Ping = Ping
 kind_of calls.Quit = Quit
 
@@ -24,6 +26,8 @@ call_of Connect text = calls.Connect
 call_of Query text = calls.Query text
 call_of NextRow text = calls.NextRow
 call_of DropResult text = calls.DropResult
+call_of TakeSet text = calls.TakeSet
+call_of SkipTaken text = calls.SkipTaken
 call_of Ping text = calls.Ping
 call_of Quit text = calls.Quit
 

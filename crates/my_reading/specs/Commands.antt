@@ -8,7 +8,7 @@ use Rattle.my_grammar.specs.declared.spot.Terms.{Terms}
 use Rattle.my_grammar.specs.Sets.{NoSets}
 use Rattle.my_grammar.specs.Talk.{Talk, Start, Asked, Replied, Queried, Silent}
 use Rattle.my_reading.specs.declared.call.Call.{Call}
-use Rattle.my_reading.specs.declared.call.Call.TheVariants.{Connect, Query, NextRow, DropResult, Ping, Quit}
+use Rattle.my_reading.specs.declared.call.Call.TheVariants.{Connect, Query, NextRow, DropResult, TakeSet, SkipTaken, Ping, Quit}
 
 -- the exchange of the command of a call that sends one, between client and server that keep to these terms
 abbrev pub command_of : Terms → Call → Option Talk
@@ -48,6 +48,8 @@ opening login terms Connect n = connecting login terms n
 opening login terms (Query text) n = command_of terms (Query text)
 opening login terms NextRow n = None
 opening login terms DropResult n = None
+opening login terms TakeSet n = None
+opening login terms SkipTaken n = None
 opening login terms Ping n = command_of terms Ping
 opening login terms Quit n = command_of terms Quit
 

@@ -1,6 +1,6 @@
 -- What a call comes to over the bytes so far: the command table with the stops of each call.
 -- MySQL client/server protocol, "Command Phase": the response of a command is read whole before the next command is sent.
-use Rattle.std.specs.Prelude.{ℕ, zero, suc, ◌+◌, ◌*◌, nat_lt, List, [], ◌∷◌, length, Option, Some, None, Bool, true, false, if◌then◌else◌}
+use Rattle.std.specs.Prelude.{ℕ, zero, suc, ◌+◌, ◌*◌, nat_lt, List, [], ◌∷◌, length, Option, Some, None, Bool, true, false, ◌||◌, if◌then◌else◌}
 use Rattle.my_frame.specs.declared.fault.CodecFault.TheVariants.{TooLarge}
 use Rattle.my_frame.specs.Front.{Front, Waiting, Broken, Whole}
 use Rattle.my_reply.specs.declared.err.ErrPacket.{ErrPacket}
@@ -20,16 +20,20 @@ use Rattle.my_reading.specs.declared.error.Error.{Error}
 use Rattle.my_reading.specs.declared.error.Error.TheVariants.{Server}
 use Rattle.my_reading.specs.Commands.{arranging_texts, command_in}
 use Rattle.my_reading.specs.Errors.{codec_error, invalid_data, server_error}
-use Rattle.my_reading.specs.Place.{Place, facts_at, owed, without_end, with_end, with_talk, with_exchange, next_exchange}
+use Rattle.my_reading.specs.Place.{Place, facts_at, owed, without_end, with_end, with_taken, with_talk, with_exchange, next_exchange}
+pub use Rattle.my_reading.specs.Place.{is_rows}
 use Rattle.my_reading.specs.Rows.{row_of}
 use Rattle.my_reading.specs.Told.{Told, ToldReady, ToldRow, ToldEnd, ToldNone, ToldError}
 
--- A part of a call: the rest of the newest exchange is read; it is read to the head of its first set, or to its next row or end; or the
--- call's next command is sent.
+-- A part of a call: the rest of the newest exchange is read; it is read to the head of its first set, or to its next row or end; a stream
+-- takes the set that is read or the next one; the rest of the set that is read is passed over, and its end; or the call's next command is
+-- sent.
 pub data Part : Type 0 where
   All : Part
   Head : Part
   Item : Part
+  Set : Part
+  Rest : Part
   Command : Part
 
 -- each query that sets a connection up is sent, and its response read whole
@@ -43,6 +47,8 @@ parts_of login calls.Connect = All ∷ parts_of_texts (arranging_texts login)
 parts_of login (calls.Query text) = All ∷ Command ∷ Head ∷ []
 parts_of login calls.NextRow = Item ∷ []
 parts_of login calls.DropResult = All ∷ []
+parts_of login calls.TakeSet = Set ∷ []
+parts_of login calls.SkipTaken = Rest ∷ []
 parts_of login calls.Ping = All ∷ Command ∷ All ∷ []
 parts_of login calls.Quit = All ∷ Command ∷ []
 
@@ -63,11 +69,6 @@ return p t = Stops p (Returns t)
 abbrev pub failure : Place → Error → Step
 failure p e = return p (ToldError e)
 
--- the spot after a whole head
-abbrev pub is_rows : Spot → Bool
-is_rows spots.Rows = true
-is_rows s = false
-
 abbrev pub is_greeting : Spot → Bool
 is_greeting spots.Greeting = true
 is_greeting s = false
@@ -82,6 +83,7 @@ after_kind Head parts (kinds.Good status) new row = Goes parts (with_end new)
 after_kind Item parts (kinds.Good status) new row = return new ToldEnd
 after_kind Item parts (kinds.End status) new row = return new ToldEnd
 after_kind Item parts kinds.Row new row = return new row
+after_kind Set parts (kinds.Good status) new row = return (with_taken (with_end new)) ToldReady
 after_kind part parts k new row = Goes (part ∷ parts) new
 
 -- an ERR ends the call
@@ -134,6 +136,14 @@ step_of login call (Item ∷ parts) p =
     if p.end_left
     then return (without_end p) ToldEnd
     else (if is_over p.talk then return p ToldNone else reads login Item parts p)
+step_of login call (Set ∷ parts) p =
+    if p.end_left || is_rows (context_of p.talk).spot
+    then return (with_taken p) ToldReady
+    else (if is_over p.talk then return p ToldNone else reads login Set parts p)
+step_of login call (Rest ∷ parts) p =
+    if p.end_left
+    then Goes (Rest ∷ parts) (without_end p)
+    else (if is_rows (context_of p.talk).spot then reads login Rest parts p else Goes parts p)
 
 -- while bytes are owed nothing else is done
 abbrev pub unless_owed : List ℕ → Place → Step → Step

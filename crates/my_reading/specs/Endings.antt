@@ -1,18 +1,17 @@
 -- How a call may end by the reading: each answer exactly where the call comes to it.
-use Rattle.std.specs.Prelude.{◌≡◌, ◌⊎◌, ℕ, List, [], ◌∷◌, Option, Some, None, Bool, true, false, not, ◌||◌, ◌&&◌}
+use Rattle.std.specs.Prelude.{◌≡◌, ℕ, List, [], ◌∷◌, Option, Some, None, Bool, true, false, not, ◌||◌, ◌&&◌}
 use Rattle.my_grammar.specs.declared.login.Login.{Login}
 use Rattle.my_grammar.specs.declared.spot.Spot.{Spot}
 use Rattle.my_grammar.specs.declared.spot.Spot.TheVariants as spots
 use Rattle.my_grammar.specs.Talk.{context_of}
-use Rattle.my_reading.specs.declared.call.Call.{Call}
 use Rattle.my_reading.specs.declared.call.CallKind.{CallKind}
-use Rattle.my_reading.specs.declared.call.CallKind.TheVariants.{Connect, NextRow, DropResult}
+use Rattle.my_reading.specs.declared.call.CallKind.TheVariants.{NextRow, DropResult, TakeSet, SkipTaken}
 use Rattle.my_reading.specs.declared.error.IoKind.TheVariants.{Link}
 use Rattle.my_reading.specs.Calls.{kind_of, is_connect}
 use Rattle.my_reading.specs.Course.{Stop, Owes, Awaits, Returns}
 use Rattle.my_reading.specs.Errors.{io_error, unexpected_eof}
 use Rattle.my_reading.specs.Place.{Place, exchanges, facts_at, client_side, begins_with}
-use Rattle.my_reading.specs.Reading.{ReadCall, Reading, reading}
+use Rattle.my_reading.specs.Reading.{ReadCall, reading}
 use Rattle.my_reading.specs.Tape.{Tape}
 use Rattle.my_reading.specs.Told.{Told, ToldError, Dropped}
 
@@ -22,10 +21,12 @@ awaits_head spots.Idle = false
 awaits_head spots.Rows = false
 awaits_head s = true
 
--- Cancelling a call closes the session, but for a read or a drop that awaits no head.
+-- Cancelling a call closes the session, but for one that reads or passes over sets and awaits no head.
 abbrev pub closes_cancelled : CallKind → Place → Bool
 closes_cancelled NextRow p = awaits_head (context_of p.talk).spot
 closes_cancelled DropResult p = awaits_head (context_of p.talk).spot
+closes_cancelled TakeSet p = awaits_head (context_of p.talk).spot
+closes_cancelled SkipTaken p = awaits_head (context_of p.talk).spot
 closes_cancelled c p = true
 
 -- the error of a link that failed, and of one that ended, where the call stands

@@ -4,7 +4,7 @@ use Rattle.std.specs.Str.Lossy.{utf8_lossy}
 use Rattle.my_frame.specs.declared.fault.CodecFault.{CodecFault}
 use Rattle.my_reply.specs.declared.err.ErrPacket.{ErrPacket}
 use Rattle.my_reading.specs.declared.error.Error.{Error}
-use Rattle.my_reading.specs.declared.error.Error.TheVariants.{Driver, Io, Server, NoMemory}
+use Rattle.my_reading.specs.declared.error.Error.TheVariants.{Driver, Io, Server}
 use Rattle.my_reading.specs.declared.error.DriverError.TheVariants.{ConnectionClosed}
 use Rattle.my_reading.specs.declared.error.IoKind.{IoKind}
 use Rattle.my_reading.specs.declared.error.IoKind.TheVariants.{UnexpectedEof, InvalidData}

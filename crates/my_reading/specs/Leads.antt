@@ -2,7 +2,7 @@
 use Rattle.std.specs.Prelude.{◌≡◌, ℕ, List}
 use Rattle.my_grammar.specs.declared.login.Login.{Login}
 use Rattle.my_reading.specs.declared.call.Call.{Call}
-use Rattle.my_reading.specs.Course.{Part, Stop, Step, Goes, Stops, step, parts_of, course, halt}
+use Rattle.my_reading.specs.Course.{Part, Stop, Goes, Stops, step, parts_of, course, halt}
 use Rattle.my_reading.specs.Place.{Place, with_bytes}
 
 -- Steps that go on lead from these parts and this place to those.

@@ -1,7 +1,9 @@
 -- Where the reading of a connection stands: its exchanges, each with the call that owns it, and the bytes after them.
-use Rattle.std.specs.Prelude.{ℕ, suc, List, [], ◌∷◌, ◌++◌, ◌==◌, ◌&&◌, drop, length, Option, Bool, true, false, if◌then◌else◌}
+use Rattle.std.specs.Prelude.{ℕ, suc, List, [], ◌∷◌, ◌++◌, ◌==◌, ◌&&◌, ◌||◌, drop, length, Option, Bool, true, false, if◌then◌else◌}
 use Rattle.my_flags.specs.declared.flags.CapabilityFlags.{CapabilityFlags}
 use Rattle.my_grammar.specs.declared.login.Login.{Login}
+use Rattle.my_grammar.specs.declared.spot.Spot.{Spot}
+use Rattle.my_grammar.specs.declared.spot.Spot.TheVariants as spots
 use Rattle.my_grammar.specs.declared.spot.Terms.{Terms}
 use Rattle.my_grammar.specs.Talk.{Talk, Start, turns, client_bytes, context_of, packets_of}
 use Rattle.my_reading.specs.declared.call.Call.{Call}
@@ -16,13 +18,14 @@ pub record Exchange : Type 0 where
   pub call : Call
   pub talk : Talk
 
--- The newest exchange, and the older ones, the newest first. A lone OK has an end, which may be left for a read to return. Of the bytes
--- received these are unread; and these are all bytes that were sent.
+-- The newest exchange, and the older ones, the newest first. A lone OK has an end, which may be left for a read to return. A stream may
+-- have taken the set that is read or whose end is left. Of the bytes received these are unread; and these are all bytes that were sent.
 pub record Place : Type 0 where
   pub call : Call
   pub talk : Talk
   pub older : List Exchange
   pub end_left : Bool
+  pub taken : Bool
   pub unread : List ℕ
   pub sent : List ℕ
 
@@ -30,7 +33,7 @@ abbrev pub exchanges : Place → List Exchange
 exchanges p = record { call = p.call; talk = p.talk } ∷ p.older
 
 abbrev pub first_place : Login → Place
-first_place login = record { call = Connect; talk = Start login; older = []; end_left = false; unread = []; sent = [] }
+first_place login = record { call = Connect; talk = Start login; older = []; end_left = false; taken = false; unread = []; sent = [] }
 
 -- what the server said in exchanges
 abbrev pub facts_of : Login → List Exchange → Facts
@@ -74,24 +77,46 @@ with_bytes sent taken p = record {
   talk = p.talk;
   older = p.older;
   end_left = p.end_left;
+  taken = p.taken;
   unread = p.unread ++ taken;
   sent = p.sent ++ sent;
 }
 
 -- the end that was left is passed over, or is left
 abbrev pub without_end : Place → Place
-without_end p = record { call = p.call; talk = p.talk; older = p.older; end_left = false; unread = p.unread; sent = p.sent }
+without_end p = record { call = p.call; talk = p.talk; older = p.older; end_left = false; taken = p.taken; unread = p.unread; sent = p.sent }
 
 abbrev pub with_end : Place → Place
-with_end p = record { call = p.call; talk = p.talk; older = p.older; end_left = true; unread = p.unread; sent = p.sent }
+with_end p = record { call = p.call; talk = p.talk; older = p.older; end_left = true; taken = p.taken; unread = p.unread; sent = p.sent }
 
--- a payload of the newest exchange is read, and these bytes follow
+-- a stream takes the set
+abbrev pub with_taken : Place → Place
+with_taken p = record { call = p.call; talk = p.talk; older = p.older; end_left = p.end_left; taken = true; unread = p.unread; sent = p.sent }
+
+-- between the columns and the end of a set
+abbrev pub is_rows : Spot → Bool
+is_rows spots.Rows = true
+is_rows s = false
+
+-- a payload of the newest exchange is read, and these bytes follow: a set that was taken is so until its rows end
 abbrev pub with_talk : Place → Talk → List ℕ → Place
-with_talk p t rest = record { call = p.call; talk = t; older = p.older; end_left = false; unread = rest; sent = p.sent }
+with_talk p t rest = record {
+  call = p.call;
+  talk = t;
+  older = p.older;
+  end_left = false;
+  taken = p.taken && is_rows (context_of t).spot;
+  unread = rest;
+  sent = p.sent;
+}
 
 -- an exchange begins
 abbrev pub with_exchange : Place → Call → Talk → Place
-with_exchange p call t = record { call = call; talk = t; older = exchanges p; end_left = false; unread = p.unread; sent = p.sent }
+with_exchange p call t = record { call = call; talk = t; older = exchanges p; end_left = false; taken = false; unread = p.unread; sent = p.sent }
+
+-- whether a stream took the set that is read, or whose end is left
+abbrev pub is_taken : Place → Bool
+is_taken p = p.taken && (p.end_left || is_rows (context_of p.talk).spot)
 
 -- one list of bytes begins with another
 abbrev pub begins_with : List ℕ → List ℕ → Bool

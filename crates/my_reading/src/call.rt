@@ -16,6 +16,10 @@ pub enum Call {
     NextRow,
     /// Reads what is left and passes over it.
     DropResult,
+    /// A stream takes the set that is read, or the next one, or nothing is left.
+    TakeSet,
+    /// Passes over the rest of the set that is read, and its end.
+    SkipTaken,
     Ping,
     Quit,
 }
@@ -27,6 +31,8 @@ pub enum CallKind {
     Query,
     NextRow,
     DropResult,
+    TakeSet,
+    SkipTaken,
     Ping,
     Quit,
 }
@@ -43,6 +49,8 @@ impl Call {
             Call::Query(_) => CallKind::Query,
             Call::NextRow => CallKind::NextRow,
             Call::DropResult => CallKind::DropResult,
+            Call::TakeSet => CallKind::TakeSet,
+            Call::SkipTaken => CallKind::SkipTaken,
             Call::Ping => CallKind::Ping,
             Call::Quit => CallKind::Quit,
         }
@@ -57,6 +65,8 @@ impl Call {
             Call::Query(text) => Ok(Call::Query(text.copy(alloc)?)),
             Call::NextRow => Ok(Call::NextRow),
             Call::DropResult => Ok(Call::DropResult),
+            Call::TakeSet => Ok(Call::TakeSet),
+            Call::SkipTaken => Ok(Call::SkipTaken),
             Call::Ping => Ok(Call::Ping),
             Call::Quit => Ok(Call::Quit),
         }

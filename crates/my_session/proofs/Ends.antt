@@ -61,6 +61,7 @@ reacted_needs : (s n : Seen) (p : List ℕ) (r : Reaction) → needs (reacted s 
 unfolding needs
 reacted_needs s n p (reactions.Goes t) = refl
 reacted_needs s n p (reactions.Readies untold) = refl
+reacted_needs s n p reactions.Takes = refl
 reacted_needs s n p reactions.Gives = gave_needs s n (row_at s.facts.columns p)
 reacted_needs s n p reactions.Ends = refl
 reacted_needs s n p reactions.PassesRow = passed_needs s n (row_at s.facts.columns p)
@@ -123,6 +124,7 @@ planned_rests s plans.Hears e = cc
 planned_rests s (plans.Asks c) e = absurd (no_need _ (asked_needs s c (command_of (next_terms s) (call_of c s.text))) e)
 planned_rests s (plans.Arranges n) e = absurd (no_need _ (arranged_needs s n (connecting s.login (next_terms s) (suc n))) e)
 planned_rests s plans.Readies e = cc
+planned_rests s plans.Takes e = cc
 planned_rests s plans.Quits e = cc
 planned_rests s plans.Passes e = cc
 planned_rests s plans.Dropped e = cc
@@ -214,6 +216,8 @@ failing_tells s fault (tasks.Own c) o = refl
 failing_tells s fault (tasks.Arranging n) o = refl
 failing_tells s fault tasks.Reading o = refl
 failing_tells s fault tasks.Dropping o = refl
+failing_tells s fault tasks.Taking o = refl
+failing_tells s fault tasks.Skipping o = refl
 failing_tells s fault tasks.Leaving o = refl
 failing_tells s fault (tasks.Failing c old) o = refl
 

@@ -25,11 +25,11 @@ use Rattle.my_grammar.specs.Response.{response}
 use Rattle.my_grammar.specs.Talk.{Talk, context_of, limit_of, origin}
 use Rattle.my_reading.specs.declared.call.Call.{Call}
 use Rattle.my_reading.specs.declared.call.CallKind.{CallKind}
-use Rattle.my_reading.specs.declared.call.CallKind.TheVariants.{Connect, Query, NextRow, DropResult, Ping, Quit}
+use Rattle.my_reading.specs.declared.call.CallKind.TheVariants.{Connect, Query, NextRow, DropResult, TakeSet, SkipTaken, Ping, Quit}
 use Rattle.my_session.specs.declared.task.LinkFault.{LinkFault}
 use Rattle.my_session.specs.declared.task.LinkFault.TheVariants as faults
 use Rattle.my_session.specs.declared.task.Task.{Task}
-use Rattle.my_session.specs.declared.task.Task.TheVariants.{Nothing, Begun, Cleaning, Own, Arranging, Reading, Dropping, Leaving, Failing}
+use Rattle.my_session.specs.declared.task.Task.TheVariants.{Nothing, Begun, Cleaning, Own, Arranging, Reading, Dropping, Taking, Skipping, Leaving, Failing}
 use Rattle.my_reading.specs.declared.error.Error.{Error}
 use Rattle.my_reading.specs.declared.error.Error.TheVariants as errors
 use Rattle.my_reading.specs.declared.facts.Facts.{Facts}
@@ -55,10 +55,10 @@ use Rattle.my_session.specs.Machine.{Move, Doing, Goes, Sends, Needs, Tells, Did
 use Rattle.my_reading.specs.Rows.{row_at}
 use Rattle.my_session.specs.Seen.{Seen}
 use Rattle.my_session.specs.Stands.{Stands, Heard, call_with, is_reading}
-use Rattle.my_session.specs.Tables.{plan_of, clean_plan, own_plan, query_plan, read_plan, drop_plan, react, is_breaking}
+use Rattle.my_session.specs.Tables.{plan_of, clean_plan, own_plan, query_plan, read_plan, drop_plan, take_plan, skip_plan, react, is_breaking}
 use Rattle.my_session.proofs.Faults.Payloads.{failed_reads, told_columns, row_reads}
 use Rattle.my_session.proofs.Faults.Places.{place_is}
-use Rattle.my_session.proofs.Faults.Misfits.{Awaits, FitsKind, react_fits, is_heading, heading_spot, cleaning_awaits, arranging_awaits, reading_awaits, dropping_awaits, connect_awaits, ping_awaits, head_awaits, column_awaits, close_awaits}
+use Rattle.my_session.proofs.Faults.Misfits.{Awaits, FitsKind, react_fits, is_heading, heading_spot, cleaning_awaits, arranging_awaits, reading_awaits, dropping_awaits, connect_awaits, ping_awaits, head_awaits, column_awaits, close_awaits, further_awaits, next_column_awaits, next_close_awaits, skipping_awaits}
 use Rattle.my_session.proofs.History.{each_history}
 use Rattle.my_session.proofs.Stands.Spots.{is_known, known, row_spot}
 use Rattle.my_session.proofs.History.Stopping.{talks_found, rest_found, stopped, over_found, failed_found}
@@ -175,6 +175,7 @@ module _ (s : Seen) (h : History) (st : Stands s h) (op : is_open s.task ≡ tru
     reacted_told : (n : Seen) (r : Reaction) (k : Kind) → kind_there s.context p ≡ k → FitsKind r k → is_breaking r ≡ false → Explained (reacted s n p r)
     reacted_told n (reactions.Goes u) k e fit b = tt
     reacted_told n (reactions.Readies untold) k e fit b = tt
+    reacted_told n reactions.Takes k e fit b = tt
     reacted_told n reactions.Gives k e fit b = gave_told n (row_at s.facts.columns p) (e ∙ fit) refl
     reacted_told n reactions.Ends k e fit b = tt
     reacted_told n reactions.PassesRow k e fit b = passed_told n (row_at s.facts.columns p) (e ∙ fit) refl
@@ -247,6 +248,8 @@ module _ (s : Seen) (h : History) (st : Stands s h) (op : is_open s.task ≡ tru
   opens_some Query e none = cc
   opens_some NextRow e none = cc
   opens_some DropResult e none = cc
+  opens_some TakeSet e none = cc
+  opens_some SkipTaken e none = cc
   opens_some Ping e none = cc
   opens_some Quit e none = cc
 
@@ -256,6 +259,8 @@ module _ (s : Seen) (h : History) (st : Stands s h) (op : is_open s.task ≡ tru
   opens_own Query e = refl
   opens_own NextRow e = cc
   opens_own DropResult e = cc
+  opens_own TakeSet e = cc
+  opens_own SkipTaken e = cc
   opens_own Ping e = refl
   opens_own Quit e = refl
 
@@ -282,6 +287,7 @@ module _ (s : Seen) (h : History) (st : Stands s h) (op : is_open s.task ≡ tru
   plan_told (plans.Asks c) own = asked_told c own.0 own.1 _ refl
   plan_told (plans.Arranges n) own = arranged_told n own.0 own.1 _ refl
   plan_told plans.Readies a = tt
+  plan_told plans.Takes a = tt
   plan_told plans.Quits a = tt
   plan_told plans.Passes a = tt
   plan_told plans.Dropped a = tt
@@ -324,6 +330,8 @@ module _ (s : Seen) (h : History) (st : Stands s h) (op : is_open s.task ≡ tru
       query_suits e s.context.spot refl (ap (λ (c : Context). is_heading c.spot) st.wire.context_is ∙ heading_spot talk queried hd.at.2)
   own_suits NextRow e hd = absurd hd.at
   own_suits DropResult e hd = absurd hd.at
+  own_suits TakeSet e hd = absurd hd.at
+  own_suits SkipTaken e hd = absurd hd.at
   own_suits Ping e hd = awaits_as (Own Ping) e (subst (λ (x : Spot). Awaits (Own Ping) x) (sym hd.at.1) ping_awaits)
   own_suits Quit e hd = tt
 
@@ -349,6 +357,28 @@ module _ (s : Seen) (h : History) (st : Stands s h) (op : is_open s.task ≡ tru
   drop_suits e spots.ColumnsEnd at reads = awaits_as Dropping e (dropping_awaits s.context.spot (ap is_idle at) (ap is_greeting at))
   drop_suits e spots.Rows at reads = awaits_as Dropping e (dropping_awaits s.context.spot (ap is_idle at) (ap is_greeting at))
 
+  take_suits : s.task ≡ Taking → s.untold ≡ false → (spot : Spot) → s.context.spot ≡ spot → is_reading spot ≡ true → Suits (take_plan spot)
+  take_suits e told spots.Idle at reads = (ap is_idle at, told)
+  take_suits e told spots.Greeting at reads = cc
+  take_suits e told spots.Authentication at reads = cc
+  take_suits e told spots.Single at reads = cc
+  take_suits e told spots.Head at reads = cc
+  take_suits e told spots.Further at reads = awaits_as Taking e (subst (λ (x : Spot). Awaits Taking x) (sym at) further_awaits)
+  take_suits e told (spots.Columns left) at reads = awaits_as Taking e (subst (λ (x : Spot). Awaits Taking x) (sym at) (next_column_awaits left))
+  take_suits e told spots.ColumnsEnd at reads = awaits_as Taking e (subst (λ (x : Spot). Awaits Taking x) (sym at) next_close_awaits)
+  take_suits e told spots.Rows at reads = tt
+
+  skip_suits : s.task ≡ Skipping → (spot : Spot) → s.context.spot ≡ spot → Suits (skip_plan spot)
+  skip_suits e spots.Idle at = tt
+  skip_suits e spots.Greeting at = tt
+  skip_suits e spots.Authentication at = tt
+  skip_suits e spots.Single at = tt
+  skip_suits e spots.Head at = tt
+  skip_suits e spots.Further at = tt
+  skip_suits e (spots.Columns left) at = tt
+  skip_suits e spots.ColumnsEnd at = tt
+  skip_suits e spots.Rows at = awaits_as Skipping e (subst (λ (x : Spot). Awaits Skipping x) (sym at) skipping_awaits)
+
   suits : (t : Task) → s.task ≡ t → fault_in t ≡ None → HeardAs t → (untold : Bool) → s.untold ≡ untold → Suits (plan_of t s.context.spot untold)
   suits Nothing e sound hd untold told = let no : false ≡ true = sym (ap is_open e) ∙ op in cc
   suits (Begun c) e sound hd untold told = tt
@@ -359,6 +389,10 @@ module _ (s : Seen) (h : History) (st : Stands s h) (op : is_open s.task ≡ tru
   suits Reading e sound hd false told = read_suits e told s.context.spot refl hd.at.1
   suits Dropping e sound hd true told = tt
   suits Dropping e sound hd false told = drop_suits e s.context.spot refl hd.at.1
+  suits Taking e sound hd true told = tt
+  suits Taking e sound hd false told = take_suits e told s.context.spot refl hd.at.1
+  suits Skipping e sound hd true told = tt
+  suits Skipping e sound hd false told = skip_suits e s.context.spot refl
   suits Leaving e sound hd untold told = tt
   suits (Failing c fault) e sound hd untold told = cc
 

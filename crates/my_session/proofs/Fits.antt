@@ -9,10 +9,10 @@ use Rattle.my_session.specs.declared.answer.SessionStep.TheVariants as steps
 use Rattle.my_session.specs.declared.answer.Tick.{Tick}
 use Rattle.my_session.specs.declared.answer.Tick.TheVariants as ticks
 use Rattle.my_reading.specs.declared.call.CallKind.{CallKind}
-use Rattle.my_reading.specs.declared.call.CallKind.TheVariants.{Connect, Query, NextRow, DropResult, Ping, Quit}
+use Rattle.my_reading.specs.declared.call.CallKind.TheVariants.{Connect, Query, NextRow, DropResult, TakeSet, SkipTaken, Ping, Quit}
 use Rattle.my_session.specs.declared.task.LinkFault.{LinkFault}
 use Rattle.my_session.specs.declared.task.Task.{Task}
-use Rattle.my_session.specs.declared.task.Task.TheVariants.{Nothing, Begun, Cleaning, Own, Arranging, Reading, Dropping, Leaving, Failing}
+use Rattle.my_session.specs.declared.task.Task.TheVariants.{Nothing, Begun, Cleaning, Own, Arranging, Reading, Dropping, Taking, Skipping, Leaving, Failing}
 use Rattle.my_reading.specs.declared.error.Error.{Error}
 use Rattle.my_reading.specs.declared.error.Error.TheVariants as errors
 use Rattle.my_reading.specs.Calls.{asks, is_connect}
@@ -139,6 +139,8 @@ own_proper Connect spot connected count newest w = refl
 own_proper Query spot connected count newest w = refl
 own_proper NextRow spot connected count newest w = absurd w
 own_proper DropResult spot connected count newest w = absurd w
+own_proper TakeSet spot connected count newest w = absurd w
+own_proper SkipTaken spot connected count newest w = absurd w
 own_proper Ping spot connected count newest w = refl
 own_proper Quit spot connected count newest w = refl
 
@@ -150,6 +152,8 @@ task_proper (Own c) spot closed connected count newest w = own_proper c spot con
 task_proper (Arranging n) spot closed connected count newest w = refl
 task_proper Reading spot closed connected count newest w = refl
 task_proper Dropping spot closed connected count newest w = refl
+task_proper Taking spot closed connected count newest w = refl
+task_proper Skipping spot closed connected count newest w = refl
 task_proper Leaving spot closed connected count newest w = refl
 task_proper (Failing c fault) spot closed connected count newest w = refl
 
@@ -161,6 +165,8 @@ begun_owes (Own c) e = cc
 begun_owes (Arranging n) e = cc
 begun_owes Reading e = cc
 begun_owes Dropping e = cc
+begun_owes Taking e = cc
+begun_owes Skipping e = cc
 begun_owes Leaving e = cc
 begun_owes (Failing c fault) e = cc
 

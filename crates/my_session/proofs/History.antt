@@ -15,7 +15,7 @@ use Rattle.my_reading.specs.declared.error.ServerError.{ServerError}
 use Rattle.my_reading.specs.declared.call.Call.{Call}
 use Rattle.my_reading.specs.declared.call.Call.TheVariants as calls
 use Rattle.my_session.specs.declared.task.Task.{Task}
-use Rattle.my_session.specs.declared.task.Task.TheVariants.{Nothing, Begun, Cleaning, Own, Arranging, Reading, Dropping, Leaving, Failing}
+use Rattle.my_session.specs.declared.task.Task.TheVariants.{Nothing, Begun, Cleaning, Own, Arranging, Reading, Dropping, Taking, Skipping, Leaving, Failing}
 use Rattle.my_reading.specs.Calls.{kind_of as call_kind, call_of, is_connect}
 use Rattle.my_session.specs.Tasks.{kind_in}
 use Rattle.my_session.specs.Entries.{Entry, AllGiven, IsGiven, calls_in, OwnsFirst, IsTied}
@@ -75,6 +75,8 @@ calls_are (Own c) text spot made call older w = own_open (is_greeting spot) (cal
 calls_are (Arranging n) text spot made call older w = own_open (is_greeting spot) calls.Connect call made (calls_in older) w
 calls_are Reading text spot made call older w = inr w
 calls_are Dropping text spot made call older w = inr w
+calls_are Taking text spot made call older w = inr w
+calls_are Skipping text spot made call older w = inr w
 calls_are Leaving text spot made call older w = inr w
 calls_are (Failing c fault) text spot made call older w =
     elim w as (λ _. AreOf (Some (call_of c text)) made (begun_of spot call older)) [
@@ -91,6 +93,8 @@ rests_owe (Own c) text e = cc
 rests_owe (Arranging n) text e = cc
 rests_owe Reading text e = cc
 rests_owe Dropping text e = cc
+rests_owe Taking text e = cc
+rests_owe Skipping text e = cc
 rests_owe Leaving text e = cc
 rests_owe (Failing c fault) text e = cc
 

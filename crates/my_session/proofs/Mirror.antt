@@ -53,7 +53,7 @@ module _ (s new : Seen) (bytes : AreBytes s.unread) (call : Call) (parts : List 
     rest = parts;
     place = p;
     leads = Here parts p;
-    comes = subst (λ (n : Seen). FailsAt s.login call parts p errors.NoMemory n) (sym d) (record { at = fallen_at s p s o.at.mirrors; closed_is = refl });
+    comes = subst (λ (n : Seen). FailsAt s.login call parts p errors.NoMemory n) (sym d) (record { at = fallen_at s p s o.at.mirrors o.at.taken_is; closed_is = refl });
   }
 
   tick_reads_by : (t : Tick) → Does (next s) s new t → TickReads s new call parts p t

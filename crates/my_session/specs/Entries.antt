@@ -103,6 +103,8 @@ givens (e ∷ es) = onto e.given (givens es)
 abbrev pub needs_own : CallKind → Bool
 needs_own callkinds.NextRow = false
 needs_own callkinds.DropResult = false
+needs_own callkinds.TakeSet = false
+needs_own callkinds.SkipTaken = false
 needs_own callkinds.Quit = false
 needs_own _ = true
 

@@ -3,7 +3,7 @@ use Rattle.std.specs.Prelude.{◌≡◌, ◌⊎◌, ℕ, Option, Some, None, Boo
 use Rattle.my_session.specs.declared.answer.SessionStep.{SessionStep}
 use Rattle.my_session.specs.declared.answer.SessionStep.TheVariants.{Send, Need, Done, Fault}
 use Rattle.my_reading.specs.declared.call.CallKind.{CallKind}
-use Rattle.my_reading.specs.declared.call.CallKind.TheVariants.{NextRow}
+use Rattle.my_reading.specs.declared.call.CallKind.TheVariants.{NextRow, TakeSet}
 use Rattle.my_session.specs.declared.task.Task.{Task}
 use Rattle.my_session.specs.declared.task.Task.TheVariants.{Begun}
 use Rattle.my_session.specs.declared.task.LinkFault.{LinkFault}
@@ -15,7 +15,7 @@ use Rattle.my_reading.specs.declared.error.IoKind.{IoKind}
 use Rattle.my_reading.specs.declared.error.IoKind.TheVariants as kinds
 use Rattle.my_session.specs.Tasks.{kind_in, fault_in}
 use Rattle.my_session.specs.LinkErrors.{link_error}
-use Rattle.my_reading.specs.Told.{Told, ToldReady, ToldError, Dropped, told}
+use Rattle.my_reading.specs.Told.{Told, ToldReady, ToldNone, ToldError, Dropped, told}
 use Rattle.my_session.specs.History.{History}
 use Rattle.my_session.specs.Seen.{Seen}
 use Rattle.my_session.specs.Stands.{Stands}
@@ -26,9 +26,17 @@ abbrev pub reads : CallKind → Bool
 reads NextRow = true
 reads _ = false
 
--- a read returns a row, an end, or that nothing is left; each other call returns that it is done; each may fail
+-- a read, and a stream that is to take a set, may find that nothing is left
+abbrev pub may_lack_sets : CallKind → Bool
+may_lack_sets NextRow = true
+may_lack_sets TakeSet = true
+may_lack_sets _ = false
+
+-- a read returns a row, an end, or that nothing is left; each other call returns that it is done, or that nothing is left for a stream; each
+-- may fail
 abbrev pub may_be : CallKind → Told → Bool
 may_be c ToldReady = not (reads c)
+may_be c ToldNone = may_lack_sets c
 may_be c (ToldError e) = true
 may_be c (Dropped closing) = true
 may_be c _ = reads c

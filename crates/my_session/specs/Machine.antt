@@ -1,5 +1,5 @@
 -- The machine: one move of an open call, as a function.
-use Rattle.std.specs.Prelude.{◌≡◌, ℕ, suc, ◌≤◌, ◌⊎◌, nat_lt, List, [], ◌∷◌, ◌++◌, length, drop, Option, Some, None, Bool, true, false, Result, Ok, Err, if◌then◌else◌}
+use Rattle.std.specs.Prelude.{◌≡◌, ℕ, suc, ◌≤◌, ◌⊎◌, nat_lt, List, [], ◌∷◌, ◌++◌, length, drop, Option, Some, None, Bool, true, false, ◌&&◌, Result, Ok, Err, if◌then◌else◌}
 use Rattle.my_frame.specs.declared.fault.CodecFault.TheVariants.{TooLarge}
 use Rattle.my_reply.specs.declared.err.ErrPacket.{ErrPacket}
 use Rattle.my_frame.specs.declared.read_error.ReadError.{ReadError}
@@ -34,6 +34,7 @@ use Rattle.my_reading.specs.Calls.{call_of}
 use Rattle.my_session.specs.Tasks.{fault_in}
 use Rattle.my_reading.specs.Commands.{command_of, connecting, command_in}
 pub use Rattle.my_reading.specs.Course.{is_greeting}
+use Rattle.my_reading.specs.Place.{is_rows}
 use Rattle.my_reading.specs.Errors.{codec_error, invalid_data, unexpected_eof, server_error}
 use Rattle.my_session.specs.LinkErrors.{link_error}
 use Rattle.my_reading.specs.Facts.{facts_after}
@@ -57,10 +58,14 @@ pub record Move : Type 0 where
 
 -- the call ends, the session is closed, and what was owed is dropped
 abbrev pub fell : Seen → Seen
-fell s = record { context = s.context; task = tasks.Nothing; text = s.text; untold = s.untold; closed = true; ended = s.ended; number = s.number; unread = s.unread; owed = []; facts = s.facts; login = s.login }
+fell s = record { context = s.context; task = tasks.Nothing; text = s.text; untold = s.untold; taken = s.taken; closed = true; ended = s.ended; number = s.number; unread = s.unread; owed = []; facts = s.facts; login = s.login }
 
 abbrev pub with_task : Seen → Task → Bool → Seen
-with_task s t untold = record { context = s.context; task = t; text = s.text; untold = untold; closed = s.closed; ended = s.ended; number = s.number; unread = s.unread; owed = s.owed; facts = s.facts; login = s.login }
+with_task s t untold = record { context = s.context; task = t; text = s.text; untold = untold; taken = s.taken; closed = s.closed; ended = s.ended; number = s.number; unread = s.unread; owed = s.owed; facts = s.facts; login = s.login }
+
+-- a stream takes the set
+abbrev pub with_taken : Seen → Seen
+with_taken s = record { context = s.context; task = s.task; text = s.text; untold = s.untold; taken = true; closed = s.closed; ended = s.ended; number = s.number; unread = s.unread; owed = s.owed; facts = s.facts; login = s.login }
 
 -- a fatal error
 abbrev pub failed_by : Seen → Error → Move
@@ -86,6 +91,7 @@ advanced s k p rest next = record {
   task = s.task;
   text = s.text;
   untold = false;
+  taken = s.taken && is_rows (context_after s.context k).spot;
   closed = s.closed;
   ended = s.ended;
   number = reply_number (reply_to s.login k p) next;
@@ -97,7 +103,7 @@ advanced s k p rest next = record {
 
 -- an exchange begins
 abbrev pub queued : Seen → Task → Talk → Seen
-queued s t talk = record { context = context_of talk; task = t; text = s.text; untold = s.untold; closed = s.closed; ended = s.ended; number = number_of (turns talk); unread = s.unread; owed = s.owed ++ client_bytes (turns talk); facts = s.facts; login = s.login }
+queued s t talk = record { context = context_of talk; task = t; text = s.text; untold = s.untold; taken = false; closed = s.closed; ended = s.ended; number = number_of (turns talk); unread = s.unread; owed = s.owed ++ client_bytes (turns talk); facts = s.facts; login = s.login }
 
 -- a server's error ends the call, and a session that isn't connected
 abbrev pub refused : Seen → Seen → Option ErrPacket → Move
@@ -116,6 +122,7 @@ passed s n (Some row) = record { seen = n; does = Passes (ToldRow row) }
 abbrev pub reacted : Seen → Seen → List ℕ → Reaction → Move
 reacted s n p (reactions.Goes t) = record { seen = with_task n t n.untold; does = Goes }
 reacted s n p (reactions.Readies untold) = record { seen = with_task n tasks.Nothing untold; does = Tells ToldReady }
+reacted s n p reactions.Takes = record { seen = with_taken (with_task n tasks.Nothing true); does = Tells ToldReady }
 reacted s n p reactions.Gives = gave s n (row_at s.facts.columns p)
 reacted s n p reactions.Ends = record { seen = with_task n tasks.Nothing n.untold; does = Tells ToldEnd }
 reacted s n p reactions.PassesRow = passed s n (row_at s.facts.columns p)
@@ -167,6 +174,7 @@ commanded s t spot command =
         task = t;
         text = s.text;
         untold = s.untold;
+        taken = false;
         closed = s.closed;
         ended = s.ended;
         number = number_after_payload command 0;
@@ -202,6 +210,7 @@ planned s plans.Hears = record { seen = with_task s s.task false; does = Goes }
 planned s (plans.Asks c) = asked s c (command_of (next_terms s) (call_of c s.text))
 planned s (plans.Arranges n) = arranged s n (connecting s.login (next_terms s) (suc n))
 planned s plans.Readies = record { seen = with_task s tasks.Nothing s.untold; does = Tells ToldReady }
+planned s plans.Takes = record { seen = with_taken (with_task s tasks.Nothing s.untold); does = Tells ToldReady }
 planned s plans.Quits = record { seen = fell s; does = Tells ToldReady }
 planned s plans.Passes = record { seen = with_task s s.task false; does = Passes ToldEnd }
 planned s plans.Dropped = record { seen = with_task s tasks.Nothing s.untold; does = Tells ToldReady }

@@ -9,13 +9,13 @@ use Rattle.my_grammar.specs.Talk.{turns, number_of, context_of, Fits, login_in}
 use Rattle.my_reading.specs.declared.call.Call.{Call}
 use Rattle.my_reading.specs.declared.call.Call.TheVariants as calls
 use Rattle.my_reading.specs.declared.call.CallKind.{CallKind}
-use Rattle.my_reading.specs.declared.call.CallKind.TheVariants.{Connect, Query, NextRow, DropResult, Ping, Quit}
+use Rattle.my_reading.specs.declared.call.CallKind.TheVariants.{Connect, Query, NextRow, DropResult, TakeSet, SkipTaken, Ping, Quit}
 use Rattle.my_reading.specs.declared.error.Error.{Error}
 use Rattle.my_reading.specs.declared.error.Error.TheVariants as errors
 use Rattle.my_reading.specs.declared.facts.Facts.{Facts}
 use Rattle.my_reading.specs.Calls.{kind_of, call_of, asks}
 use Rattle.my_reading.specs.Commands.{arranging_texts}
-use Rattle.my_reading.specs.Course.{Part, All, Head, Item, Command, Owes, Awaits, Returns, Stops, step, parts_of, parts_of_texts, is_greeting}
+use Rattle.my_reading.specs.Course.{Part, All, Head, Item, Set, Rest, Command, Owes, Awaits, Returns, Stops, step, parts_of, parts_of_texts, is_greeting}
 use Rattle.my_reading.specs.Errors.{unexpected_eof}
 use Rattle.my_reading.specs.Leads.{Leads}
 use Rattle.my_reading.specs.Place.{Place, exchanges, facts_at, client_side, connects_in}
@@ -37,6 +37,8 @@ own_parts login Connect = All ∷ parts_of_texts (arranging_texts login)
 own_parts login Query = Head ∷ []
 own_parts login NextRow = Item ∷ []
 own_parts login DropResult = All ∷ []
+own_parts login TakeSet = Set ∷ []
+own_parts login SkipTaken = Rest ∷ []
 own_parts login Ping = All ∷ []
 own_parts login Quit = []
 
@@ -49,6 +51,8 @@ parts_left login (tasks.Own c) = own_parts login c
 parts_left login (tasks.Arranging n) = All ∷ parts_of_texts (drop n (arranging_texts login))
 parts_left login tasks.Reading = Item ∷ []
 parts_left login tasks.Dropping = All ∷ []
+parts_left login tasks.Taking = Set ∷ []
+parts_left login tasks.Skipping = Rest ∷ []
 parts_left login tasks.Leaving = []
 parts_left login (tasks.Failing c fault) = []
 
@@ -69,6 +73,8 @@ OwnStandsAt Connect spot count = (is_shaking spot ≡ true) × (count ≡ 1)
 OwnStandsAt Query spot count = is_greeting spot ≡ false
 OwnStandsAt NextRow spot count = ⊥
 OwnStandsAt DropResult spot count = ⊥
+OwnStandsAt TakeSet spot count = ⊥
+OwnStandsAt SkipTaken spot count = ⊥
 OwnStandsAt Ping spot count = spot ≡ spots.Single
 OwnStandsAt Quit spot count = is_greeting spot ≡ false
 
@@ -84,6 +90,8 @@ TaskStandsAt (tasks.Own c) spot count = OwnStandsAt c spot count
 TaskStandsAt (tasks.Arranging n) spot count = (is_greeting spot ≡ false) × (count ≡ suc n)
 TaskStandsAt tasks.Reading spot count = is_greeting spot ≡ false
 TaskStandsAt tasks.Dropping spot count = is_greeting spot ≡ false
+TaskStandsAt tasks.Taking spot count = is_greeting spot ≡ false
+TaskStandsAt tasks.Skipping spot count = is_greeting spot ≡ false
 TaskStandsAt tasks.Leaving spot count = Unit {0}
 TaskStandsAt (tasks.Failing c fault) spot count = Unit {0}
 
@@ -105,6 +113,7 @@ pub record Mirrors (context : Context) (number : ℕ) (unread owed : List ℕ) (
 pub record StandsAt (s : Seen) (p : Place) : Type 0 where
   pub mirrors : Mirrors s.context s.number s.unread s.owed s.closed s.facts s.login p
   pub end_is : s.closed ≡ false → fault_in s.task ≡ None → p.end_left ≡ s.untold && not (passes_end s.task)
+  pub taken_is : p.taken ≡ s.taken
   pub own_end : is_own s.task ≡ true → s.untold ≡ false
   pub task_at : TaskStandsAt s.task s.context.spot (connects_in (exchanges p))
   pub settled : owes s.task ≡ false → s.owed ≡ []

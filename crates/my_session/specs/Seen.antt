@@ -6,13 +6,14 @@ use Rattle.my_session.specs.declared.task.Task.{Task}
 use Rattle.my_reading.specs.declared.facts.Facts.{Facts}
 
 -- The context of the next payload; what the open call is at, with the text that it carries; whether the end of a lone OK is still to be
--- returned, whether the session is closed, and whether the link reported its end; the next sequence id, the bytes that weren't read and
+-- returned, whether a stream took the set that is read or has this end, whether the session is closed, and whether the link reported its end; the next sequence id, the bytes that weren't read and
 -- those that weren't sent; what the server sent of itself, and what the client did.
 pub record Seen : Type 0 where
   pub context : Context
   pub task : Task
   pub text : List ℕ
   pub untold : Bool
+  pub taken : Bool
   pub closed : Bool
   pub ended : Bool
   pub number : ℕ

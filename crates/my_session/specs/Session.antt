@@ -4,7 +4,7 @@ use Rattle.my_session.specs.declared.session.Session.TheInside.{Inside}
 use Rattle.my_session.specs.Seen.{Seen}
 
 abbrev pub seen : Inside → Seen
-seen s = record { context = s.context; task = s.task; text = s.text; untold = s.untold; closed = s.closed; ended = s.ended; number = s.number; unread = s.unread; owed = s.owed; facts = s.facts; login = s.login }
+seen s = record { context = s.context; task = s.task; text = s.text; untold = s.untold; taken = s.taken; closed = s.closed; ended = s.ended; number = s.number; unread = s.unread; owed = s.owed; facts = s.facts; login = s.login }
 
 -- what was received are bytes
 abbrev pub HoldsBytes : Inside → Type 0

@@ -10,7 +10,7 @@ use Rattle.my_grammar.specs.Talk.{Talk, turns, number_of, server_bytes, client_b
 use Rattle.my_reading.specs.declared.call.Call.{Call}
 use Rattle.my_reading.specs.declared.call.Call.TheVariants as calls
 use Rattle.my_reading.specs.declared.call.CallKind.{CallKind}
-use Rattle.my_reading.specs.declared.call.CallKind.TheVariants.{Connect, Query, NextRow, DropResult, Ping, Quit}
+use Rattle.my_reading.specs.declared.call.CallKind.TheVariants.{Connect, Query, NextRow, DropResult, TakeSet, SkipTaken, Ping, Quit}
 use Rattle.my_session.specs.declared.task.Task.{Task}
 use Rattle.my_session.specs.declared.task.Task.TheVariants as tasks
 use Rattle.my_reading.specs.declared.facts.Facts.{Facts}
@@ -74,6 +74,8 @@ keeps tasks.Nothing = true
 keeps (tasks.Begun c) = true
 keeps tasks.Reading = true
 keeps tasks.Dropping = true
+keeps tasks.Taking = true
+keeps tasks.Skipping = true
 keeps _ = false
 
 -- tasks of a session that isn't closed
@@ -128,6 +130,8 @@ OwnAt Connect spot connected count newest = (connected ≡ false) × (is_shaking
 OwnAt Query spot connected count newest = (connected ≡ true) × (newest.given ≡ None) × (is_first (sets_of newest.talk) ≡ true)
 OwnAt NextRow spot connected count newest = ⊥
 OwnAt DropResult spot connected count newest = ⊥
+OwnAt TakeSet spot connected count newest = ⊥
+OwnAt SkipTaken spot connected count newest = ⊥
 OwnAt Ping spot connected count newest = (connected ≡ true) × (spot ≡ spots.Single)
 OwnAt Quit spot connected count newest = connected ≡ true
 
@@ -145,6 +149,8 @@ TaskIs (tasks.Own c) spot closed connected count newest = OwnAt c spot connected
 TaskIs (tasks.Arranging n) spot closed connected count newest = (connected ≡ false) × (count ≡ suc n) × (is_greeting spot ≡ false) × (is_idle spot ≡ true → is_answered newest.talk ≡ true)
 TaskIs tasks.Reading spot closed connected count newest = (connected ≡ true) × (is_reading spot ≡ true)
 TaskIs tasks.Dropping spot closed connected count newest = (connected ≡ true) × (is_reading spot ≡ true)
+TaskIs tasks.Taking spot closed connected count newest = (connected ≡ true) × (is_reading spot ≡ true)
+TaskIs tasks.Skipping spot closed connected count newest = (connected ≡ true) × (is_settled spot ≡ true)
 TaskIs tasks.Leaving spot closed connected count newest = closed ≡ true
 TaskIs (tasks.Failing c fault) spot closed connected count newest = Unit {0}
 

@@ -6,10 +6,10 @@ use Rattle.my_grammar.specs.declared.spot.Spot.TheVariants as spots
 use Rattle.my_grammar.specs.declared.spot.Kind.{Kind}
 use Rattle.my_grammar.specs.declared.spot.Kind.TheVariants as kinds
 use Rattle.my_reading.specs.declared.call.CallKind.{CallKind}
-use Rattle.my_reading.specs.declared.call.CallKind.TheVariants.{Connect, Query, NextRow, DropResult, Ping, Quit}
+use Rattle.my_reading.specs.declared.call.CallKind.TheVariants.{Connect, Query, NextRow, DropResult, TakeSet, SkipTaken, Ping, Quit}
 pub use Rattle.my_reading.specs.Endings.{awaits_head}
 use Rattle.my_session.specs.declared.task.Task.{Task}
-use Rattle.my_session.specs.declared.task.Task.TheVariants.{Nothing, Begun, Cleaning, Own, Arranging, Reading, Dropping, Leaving, Failing}
+use Rattle.my_session.specs.declared.task.Task.TheVariants.{Nothing, Begun, Cleaning, Own, Arranging, Reading, Dropping, Taking, Skipping, Leaving, Failing}
 use Rattle.my_session.specs.declared.tables.Plan.{Plan}
 use Rattle.my_session.specs.declared.tables.Plan.TheVariants as plans
 use Rattle.my_session.specs.declared.tables.Reaction.{Reaction}
@@ -21,6 +21,8 @@ first_task Connect = Own Connect
 first_task Query = Cleaning Query
 first_task NextRow = Reading
 first_task DropResult = Dropping
+first_task TakeSet = Taking
+first_task SkipTaken = Skipping
 first_task Ping = Cleaning Ping
 first_task Quit = Cleaning Quit
 
@@ -36,6 +38,17 @@ read_plan s = plans.Reads
 abbrev pub drop_plan : Spot → Plan
 drop_plan spots.Idle = plans.Dropped
 drop_plan s = plans.Reads
+
+-- a stream takes the set whose rows are read, or the next one
+abbrev pub take_plan : Spot → Plan
+take_plan spots.Idle = plans.NoMore
+take_plan spots.Rows = plans.Takes
+take_plan s = plans.Reads
+
+-- rows are passed over, to the end of their set
+abbrev pub skip_plan : Spot → Plan
+skip_plan spots.Rows = plans.Reads
+skip_plan s = plans.Dropped
 
 -- a query is answered once the rows of its first set begin
 abbrev pub query_plan : Spot → Plan
@@ -56,6 +69,8 @@ plan_of (Own c) s untold = own_plan c s
 plan_of (Arranging n) s untold = clean_plan (plans.Arranges n) s untold
 plan_of Reading s untold = if untold then plans.Ends else read_plan s
 plan_of Dropping s untold = if untold then plans.Passes else drop_plan s
+plan_of Taking s untold = if untold then plans.Takes else take_plan s
+plan_of Skipping s untold = if untold then plans.Passes else skip_plan s
 plan_of Leaving s untold = plans.Quits
 plan_of (Failing c fault) s untold = plans.NoMore
 
@@ -119,12 +134,30 @@ react_dropping kinds.Row = reactions.PassesRow
 react_dropping (kinds.End status) = reactions.PassesEnd
 react_dropping kinds.Bad = reactions.Breaks
 
+-- the head of the next set, which a stream takes
+abbrev pub react_taking : Kind → Reaction
+react_taking (kinds.Good status) = reactions.Takes
+react_taking kinds.Failed = reactions.Refuses
+react_taking (kinds.Count n) = reactions.Goes Taking
+react_taking kinds.Column = reactions.Goes Taking
+react_taking kinds.ColumnsDone = reactions.Goes Taking
+react_taking k = reactions.Breaks
+
+-- the rest of a set
+abbrev pub react_skipping : Kind → Reaction
+react_skipping kinds.Failed = reactions.Refuses
+react_skipping kinds.Row = reactions.PassesRow
+react_skipping (kinds.End status) = reactions.PassesEnd
+react_skipping k = reactions.Breaks
+
 abbrev pub react : Task → Kind → Reaction
 react (Cleaning c) k = react_whole (Cleaning c) k
 react (Own c) k = react_own c k
 react (Arranging n) k = react_whole (Arranging n) k
 react Reading k = react_reading k
 react Dropping k = react_dropping k
+react Taking k = react_taking k
+react Skipping k = react_skipping k
 react _ k = reactions.Breaks
 
 abbrev pub is_breaking : Reaction → Bool
@@ -137,7 +170,7 @@ is_connecting (Own Connect) = true
 is_connecting (Arranging n) = true
 is_connecting _ = false
 
--- a call that sends a command, once stepped, closes the session where it is cancelled, and so does a read that awaits a further head, or a call that was made to fail
+-- a call that sends a command, once stepped, closes the session where it is cancelled, and so does one that reads or passes over sets and awaits a further head, or a call that was made to fail
 abbrev pub closes_when_cancelled : Task → Spot → Bool
 closes_when_cancelled Nothing s = false
 closes_when_cancelled (Begun c) s = false
@@ -146,5 +179,7 @@ closes_when_cancelled (Own c) s = true
 closes_when_cancelled (Arranging n) s = true
 closes_when_cancelled Reading s = awaits_head s
 closes_when_cancelled Dropping s = awaits_head s
+closes_when_cancelled Taking s = awaits_head s
+closes_when_cancelled Skipping s = awaits_head s
 closes_when_cancelled Leaving s = false
 closes_when_cancelled (Failing c fault) s = true

@@ -28,6 +28,8 @@ pub struct Session {
     text: Blob,
     // Whether the end of a lone OK is still to be returned.
     untold: bool,
+    // Whether a stream took the set that is read, or whose end that is.
+    taken: bool,
     closed: bool,
     // Whether the link reported its end.
     ended: bool,
@@ -69,6 +71,8 @@ fn failing(task: Task, fault: LinkFault) -> Task
         Task::Arranging(_) => Task::Failing(CallKind::Connect, fault),
         Task::Reading => Task::Failing(CallKind::NextRow, fault),
         Task::Dropping => Task::Failing(CallKind::DropResult, fault),
+        Task::Taking => Task::Failing(CallKind::TakeSet, fault),
+        Task::Skipping => Task::Failing(CallKind::SkipTaken, fault),
         Task::Leaving => Task::Failing(CallKind::Quit, fault),
     }
 }
@@ -81,7 +85,7 @@ impl Session {
     ghost use Rattle.my_session.specs.History.{History, is_closed, beginning, began, answered, took, gone, ending, losing};
     ghost use Rattle.my_session.specs.Machine.{dropped, fell};
     ghost use Rattle.my_session.specs.Stands.{Stands};
-    ghost use Rattle.my_session.specs.Steps.{AtBegun, is_begun_at, is_settled, fresh, begun, with_owed, with_unread, with_end, with_failing, with_loss};
+    ghost use Rattle.my_session.specs.Steps.{AtBegun, is_begun_at, is_settled, fresh, begun, is_taken, with_owed, with_unread, with_end, with_failing, with_loss};
     ghost use Rattle.my_session.specs.Tables.{closes_when_cancelled};
 
     /// A session that awaits the server's greeting.
@@ -95,6 +99,7 @@ impl Session {
             task: Task::Nothing,
             text: Blob::new(alloc),
             untold: false,
+            taken: false,
             closed: false,
             ended: false,
             number: 0,
@@ -110,7 +115,13 @@ impl Session {
     {
         match call {
             Call::Query(text) => self.text = text,
-            Call::Connect | Call::NextRow | Call::DropResult | Call::Ping | Call::Quit => {}
+            Call::Connect
+            | Call::NextRow
+            | Call::DropResult
+            | Call::TakeSet
+            | Call::SkipTaken
+            | Call::Ping
+            | Call::Quit => {}
         }
     }
 
@@ -202,6 +213,13 @@ impl Session {
         !self.unread.is_empty()
     }
 
+    /// Whether a stream took the set that is read, or whose end is still to be returned.
+    pub fn is_taken(&self) -> bool
+        ensures { result ≡ is_taken self.now.seen }
+    {
+        self.taken && (self.untold || self.context.spot == Spot::Rows)
+    }
+
     /// `count` of the bytes owed were sent.
     pub fn sent(&mut self, count: usize)
         requires { count ≤ length self.old.seen.owed }
@@ -284,7 +302,8 @@ impl Session {
     }
 
     /// The open call is cancelled. No byte that was taken is lost. A call that sends commands closes the
-    /// session, unless it was never stepped; a read closes it where the head of a further set is awaited.
+    /// session, unless it was never stepped; one that reads or passes over sets closes it where the head of a further set is
+    /// awaited.
     pub fn cancel(&mut self)
         requires { is_open self.old.seen.task ≡ true }
         ensures seen { self.new.seen ≡ dropped self.old.seen }

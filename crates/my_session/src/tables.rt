@@ -23,11 +23,13 @@ pub enum Plan {
     Arranges(usize),
     /// The call is answered: its command was accepted.
     Readies,
+    /// The call is answered: a stream took the set.
+    Takes,
     /// The session is closed: `Quit` is done.
     Quits,
     /// The end of a lone OK that no read returned is passed over.
     Passes,
-    /// Nothing is left to be passed over: `DropResult` is done.
+    /// Nothing is left to be passed over: the call is done.
     Dropped,
     /// The end of a lone OK that no read returned is the answer.
     Ends,
@@ -42,6 +44,8 @@ pub enum Reaction {
     Goes(Task),
     /// The call is answered; whether the end of a lone OK is left for a read to return.
     Readies(bool),
+    /// The call is answered: a stream took the lone OK, whose end is left for a read to return.
+    Takes,
     /// The row is the call's answer.
     Gives,
     /// The set's end is the call's answer.
@@ -64,6 +68,8 @@ fn first_task(call: CallKind) -> Task
         CallKind::Query | CallKind::Ping | CallKind::Quit => Task::Cleaning(call),
         CallKind::NextRow => Task::Reading,
         CallKind::DropResult => Task::Dropping,
+        CallKind::TakeSet => Task::Taking,
+        CallKind::SkipTaken => Task::Skipping,
     }
 }
 
@@ -92,9 +98,12 @@ fn own_plan(call: CallKind, spot: Spot) -> Plan
     match call {
         CallKind::Query => query_plan(spot),
         CallKind::Quit => Plan::Quits,
-        CallKind::Connect | CallKind::NextRow | CallKind::DropResult | CallKind::Ping => {
-            Plan::Reads
-        }
+        CallKind::Connect
+        | CallKind::NextRow
+        | CallKind::DropResult
+        | CallKind::TakeSet
+        | CallKind::SkipTaken
+        | CallKind::Ping => Plan::Reads,
     }
 }
 
@@ -122,6 +131,30 @@ fn drop_plan(spot: Spot, untold: bool) -> Plan
     }
 }
 
+fn take_plan(spot: Spot, untold: bool) -> Plan
+    ensures { result ≡ plan_of Task.Taking spot untold }
+{
+    if untold {
+        return Plan::Takes;
+    }
+    match spot {
+        Spot::Rows => Plan::Takes,
+        _ => read_plan(spot, false),
+    }
+}
+
+fn skip_plan(spot: Spot, untold: bool) -> Plan
+    ensures { result ≡ plan_of Task.Skipping spot untold }
+{
+    if untold {
+        return Plan::Passes;
+    }
+    match spot {
+        Spot::Rows => Plan::Reads,
+        _ => Plan::Dropped,
+    }
+}
+
 /// What the task does next.
 pub fn plan_for(task: Task, spot: Spot, untold: bool) -> Plan
     ensures { result ≡ plan_of task spot untold }
@@ -134,6 +167,8 @@ pub fn plan_for(task: Task, spot: Spot, untold: bool) -> Plan
         Task::Arranging(sent) => clean_plan(Plan::Arranges(sent), spot, untold),
         Task::Reading => read_plan(spot, untold),
         Task::Dropping => drop_plan(spot, untold),
+        Task::Taking => take_plan(spot, untold),
+        Task::Skipping => skip_plan(spot, untold),
         Task::Leaving => Plan::Quits,
     }
 }
@@ -195,7 +230,11 @@ fn react_own(call: CallKind, kind: Kind) -> Reaction
         CallKind::Connect => react_connect(kind),
         CallKind::Query => react_query(kind),
         CallKind::Ping => react_ping(kind),
-        CallKind::NextRow | CallKind::DropResult | CallKind::Quit => Reaction::Breaks,
+        CallKind::NextRow
+        | CallKind::DropResult
+        | CallKind::TakeSet
+        | CallKind::SkipTaken
+        | CallKind::Quit => Reaction::Breaks,
     }
 }
 
@@ -223,6 +262,28 @@ fn react_dropping(kind: Kind) -> Reaction
     }
 }
 
+fn react_taking(kind: Kind) -> Reaction
+    ensures { result ≡ react Task.Taking kind }
+{
+    match kind {
+        Kind::Good(_) => Reaction::Takes,
+        Kind::Count(_) | Kind::Column | Kind::ColumnsDone => Reaction::Goes(Task::Taking),
+        Kind::Failed => Reaction::Refuses,
+        Kind::Greets(_) | Kind::Row | Kind::End(_) | Kind::Bad => Reaction::Breaks,
+    }
+}
+
+fn react_skipping(kind: Kind) -> Reaction
+    ensures { result ≡ react Task.Skipping kind }
+{
+    match kind {
+        Kind::Row => Reaction::PassesRow,
+        Kind::End(_) => Reaction::PassesEnd,
+        Kind::Failed => Reaction::Refuses,
+        _ => Reaction::Breaks,
+    }
+}
+
 /// What the task makes of a payload of this kind.
 pub fn react_to(task: Task, kind: Kind) -> Reaction
     ensures { result ≡ react task kind }
@@ -233,6 +294,8 @@ pub fn react_to(task: Task, kind: Kind) -> Reaction
         Task::Own(call) => react_own(call, kind),
         Task::Reading => react_reading(kind),
         Task::Dropping => react_dropping(kind),
+        Task::Taking => react_taking(kind),
+        Task::Skipping => react_skipping(kind),
     }
 }
 
@@ -244,6 +307,7 @@ pub fn is_breaking(reaction: Reaction) -> bool
         Reaction::Breaks => true,
         Reaction::Goes(_)
         | Reaction::Readies(_)
+        | Reaction::Takes
         | Reaction::Gives
         | Reaction::Ends
         | Reaction::PassesRow
@@ -278,6 +342,6 @@ pub fn closes_when_cancelled(task: Task, spot: Spot) -> bool
     match task {
         Task::Nothing | Task::Begun(_) | Task::Leaving => false,
         Task::Cleaning(_) | Task::Own(_) | Task::Arranging(_) | Task::Failing(_, _) => true,
-        Task::Reading | Task::Dropping => awaits_head(spot),
+        Task::Reading | Task::Dropping | Task::Taking | Task::Skipping => awaits_head(spot),
     }
 }

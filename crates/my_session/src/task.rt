@@ -29,6 +29,10 @@ pub enum Task {
     Reading,
     /// What is left is passed over.
     Dropping,
+    /// A stream takes the set that is read, or the next one.
+    Taking,
+    /// The rest of the set that is read is passed over.
+    Skipping,
     /// A quit on a closed session.
     Leaving,
     /// The call was made to fail.

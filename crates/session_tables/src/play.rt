@@ -85,6 +85,8 @@ fn call_of(alloc: Global, text: &str) -> Result<Call, NoMemory> {
         "connect" => Ok(Call::Connect),
         "next" => Ok(Call::NextRow),
         "drop" => Ok(Call::DropResult),
+        "take" => Ok(Call::TakeSet),
+        "skip" => Ok(Call::SkipTaken),
         "ping" => Ok(Call::Ping),
         "quit" => Ok(Call::Quit),
         _ => Ok(Call::Query(Blob::from_slice(alloc, text.as_bytes())?)),

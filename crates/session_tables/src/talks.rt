@@ -57,6 +57,48 @@ const TALKS: &[(&[(&str, &str, &str)], Then)] = &[
         ],
         Then::Cancels,
     ),
+    // A stream takes a set, or finds that nothing is left; what it leaves of the set is passed over, and no further set.
+    (
+        &[
+            ("take", "", "none"),
+            ("SELECT 2", TWO, SETS),
+            ("take", "", "ok"),
+            ("next", "", "row 31 32"),
+            ("skip", "", "ok"),
+            ("take", "", "ok"),
+            ("next", "", "row 35 36"),
+            ("next", "", "end"),
+            ("take", "", "none"),
+            ("skip", "", "ok"),
+            ("DO 1", "07000001 00000002000000", DO),
+            ("take", "", "ok"),
+            ("skip", "", "ok"),
+            ("take", "", "none"),
+            ("next", "", "none"),
+        ],
+        Then::Cancels,
+    ),
+    // A lone OK and an error in the place of a further set. Cancelled where a further head is awaited, a stream closes the
+    // session; cancelled among rows, a passing over loses nothing.
+    (
+        &[
+            ("SELECT 1", HEAD, SELECT),
+            ("skip", "02000003 0131", "waits"),
+            (
+                "skip",
+                "07000004 fe00000a000000 07000005 0000000a000000 0a000006 ff2804 23 3432303030 58",
+                "ok",
+            ),
+            ("take", "", "ok"),
+            ("next", "", "end"),
+            ("take", "", "error 1064 42000 X"),
+            ("DO 1", "07000001 0000000a000000", DO),
+            ("skip", "", "ok"),
+            ("take", "", "waits"),
+            ("take", "", "error closed"),
+        ],
+        Then::Cancels,
+    ),
     // An error that wasn't read is returned by the next command, and once; a quit is sent once.
     (
         &[

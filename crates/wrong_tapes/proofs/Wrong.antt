@@ -92,6 +92,11 @@ are_wrong = record {
   invented_fault = λ w. differs _ _ (λ e. absurd (omega arith)) w.calls.1.1.0.ends;
   lost_error = λ w. differs _ _ (λ e. absurd (omega arith)) w.calls.1.1.0.ends;
   open_cancel = λ w. not_cut _ _ (λ e. absurd (omega arith)) (λ e. absurd (omega arith)) (λ e. absurd (omega arith)) (λ e. absurd (omega arith)) w.calls.1.1.0.ends;
+  invented_set = λ w. differs _ _ (λ e. absurd (omega arith)) w.calls.1.0.ends;
+  lost_set = λ w. differs _ _ (λ e. absurd (omega arith)) w.calls.1.1.0.ends;
+  idle_skip = λ w. not_cut _ _ (λ e. absurd (omega arith)) (λ e. absurd (omega arith)) (λ e. absurd (omega arith)) (λ e. absurd (omega arith)) w.calls.1.1.1.0.ends;
+  skipped_row = λ w. differs _ _ (λ e. absurd (omega arith)) w.calls.1.1.1.1.0.ends;
+  skipped_on = λ w. differs _ _ (λ e. absurd (omega arith)) w.calls.1.1.1.1.0.ends;
   half_set_up = λ w. not_cut _ _ (λ e. absurd (omega arith)) (λ e. absurd (omega arith)) (λ e. absurd (omega arith)) (λ e. absurd (omega arith)) w.calls.0.ends;
   unconnected = λ w. false≢true w.first;
 }

@@ -2,7 +2,7 @@
 use Rattle.std.specs.Prelude.{◌≡◌, ℕ, List, [], ◌∷◌, ◌++◌, codes, Option, Some, None, true, false}
 use Rattle.std.specs.Str.Lossy.{utf8_lossy}
 use Rattle.my_grammar.specs.declared.login.Login.{Login}
-use Rattle.my_reading.specs.declared.call.Call.TheVariants.{Connect, Query, NextRow, DropResult, Ping, Quit}
+use Rattle.my_reading.specs.declared.call.Call.TheVariants.{Connect, Query, NextRow, DropResult, TakeSet, SkipTaken, Ping, Quit}
 use Rattle.my_reading.specs.declared.error.Error.TheVariants.{Server}
 use Rattle.my_reading.specs.declared.error.ServerError.{ServerError}
 use Rattle.my_reading.specs.Endings.{IsTape}
@@ -38,6 +38,12 @@ pub record AreRight : Type 0 where
   pub read_open : IsTape root (tape_of (connected ∷ selected ∷ call_with NextRow [] [] (Some (Dropped false)) ∷ call_with NextRow [] (6 ∷ []) None ∷ []))
   -- a drop that is cancelled where a further head is awaited closes
   pub drop_cancelled : IsTape root (tape_of (connected ∷ asked (codes "DO 1") (fine 1 10) ∷ returned DropResult [] [] (Dropped true) ∷ returned NextRow [] [] (ToldError connection_closed) ∷ []))
+  -- a stream takes a set, reads its row, and the rest of the set is passed over; then nothing is left to be taken
+  pub set_taken : IsTape root (tape_of (connected ∷ selected ∷ returned TakeSet [] [] ToldReady ∷ returned NextRow [] (one 3) (ToldRow (row (codes "1")))
+      ∷ returned SkipTaken [] (end 4) ToldReady ∷ returned TakeSet [] [] ToldNone ∷ []))
+  -- a set without columns is taken and passed over, and the next one is read
+  pub lone_taken : IsTape root (tape_of (connected ∷ asked (codes "DO 1") (fine 1 10) ∷ returned TakeSet [] [] ToldReady ∷ returned SkipTaken [] [] ToldReady
+      ∷ returned NextRow [] (fine 2 2) ToldEnd ∷ []))
   -- the settings that the server was asked for, which hold then
   pub set_up : IsTape curious (tape_of (returned Connect (response [] ++ asks (codes "SELECT @@max_allowed_packet,@@wait_timeout")) (greeting ++ fine 2 2 ++ settings) ToldReady ∷ []))
   pub limit : (facts_at curious (reading curious (tape_of (returned Connect (response [] ++ asks (codes "SELECT @@max_allowed_packet,@@wait_timeout")) (greeting ++ fine 2 2 ++ settings) ToldReady ∷ []))).place).settings.limit ≡ 67108864

@@ -1,6 +1,6 @@
 -- Tapes that no client has.
 use Rattle.std.specs.Prelude.{ℕ, List, [], ◌∷◌, ◌++◌, codes, Option, Some, None, true, false}
-use Rattle.my_reading.specs.declared.call.Call.TheVariants.{Connect, Query, NextRow, DropResult, Ping, Quit}
+use Rattle.my_reading.specs.declared.call.Call.TheVariants.{Connect, Query, NextRow, DropResult, TakeSet, SkipTaken, Ping, Quit}
 use Rattle.my_reading.specs.declared.error.Error.TheVariants.{Server}
 use Rattle.my_reading.specs.declared.error.IoKind.TheVariants.{Link}
 use Rattle.my_reading.specs.Endings.{IsTape}
@@ -48,6 +48,18 @@ pub record AreWrong : Type 0 where
   pub lost_error : NoTape (connected ∷ selected ∷ returned NextRow [] (refusal 3) ToldNone ∷ [])
   -- a cancelled drop that awaits a further head and doesn't close
   pub open_cancel : NoTape (connected ∷ asked (codes "DO 1") (fine 1 10) ∷ returned DropResult [] [] (Dropped false) ∷ [])
+  -- a set is taken, though nothing is left
+  pub invented_set : NoTape (connected ∷ returned TakeSet [] [] ToldReady ∷ [])
+  -- nothing left to be taken, where rows are
+  pub lost_set : NoTape (connected ∷ selected ∷ returned TakeSet [] [] ToldNone ∷ [])
+  -- a set is passed over, though its end wasn't read
+  pub idle_skip : NoTape (connected ∷ selected ∷ returned TakeSet [] [] ToldReady ∷ returned SkipTaken [] (one 3) ToldReady ∷ [])
+  -- a row that was passed over is returned again
+  pub skipped_row : NoTape (connected ∷ selected ∷ returned TakeSet [] [] ToldReady ∷ returned SkipTaken [] (one 3 ++ end 4) ToldReady
+      ∷ returned NextRow [] [] (ToldRow (row (codes "1"))) ∷ [])
+  -- the next set is passed over, too
+  pub skipped_on : NoTape (connected ∷ asked (codes "DO 1") (fine 1 10) ∷ returned TakeSet [] [] ToldReady ∷ returned SkipTaken [] (fine 2 2) ToldReady
+      ∷ returned NextRow [] [] ToldNone ∷ [])
   -- a connection that is made before the settings' response
   pub half_set_up : IsTape curious (tape_of (returned Connect (response [] ++ asks (codes "SELECT @@max_allowed_packet,@@wait_timeout")) (greeting ++ fine 2 2) ToldReady ∷ [])) → ⊥
   -- a ping before connecting

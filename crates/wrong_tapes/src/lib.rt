@@ -5,13 +5,14 @@ ghost use Rattle.wrong_tapes.specs.Right.{AreRight};
 ghost use Rattle.wrong_tapes.specs.Wrong.{AreWrong};
 
 /// Each of these tapes is one that a client may have: a query with a row, a lone OK, an earlier error that a query
-/// returns, a drop that is cancelled, settings that the server is asked for, a login with a password.
+/// returns, a drop that is cancelled, sets that streams take, settings that the server is asked for, a login with a password.
 pub fn right_tapes_are_accepted()
     ensures { AreRight }
 {}
 
 /// None of these tapes is one: a row, an end or an error that the bytes don't hold, an answer that comes too early, a
-/// command that wasn't sent or is another call's, bytes on a closed connection.
+/// command that wasn't sent or is another call's, a set that is taken where none is or passed over in part, bytes on a closed
+/// connection.
 pub fn wrong_tapes_are_refuted()
     ensures { AreWrong }
 {}

@@ -45,7 +45,7 @@ use Rattle.my_run.specs.Headline.{AnswerView, answer_view, answers_of, Headline}
 use Rattle.my_steps.specs.Sums.{quiet}
 use Rattle.my_run.specs.Tapes.{TapeView, tape_view, tape_call, open_call, tapes_in}
 use Rattle.wrong_tapes.specs.Bytes.{all_sent, all_taken, calls_from, tape_of}
-use Rattle.wrong_transcripts.specs.Shown.{step_of, outcome_of, taken_in, Shows}
+use Rattle.wrong_transcripts.specs.Shown.{step_of, is_stepped, outcome_of, taken_in, Shows}
 use Rattle.run_laws.specs.Tapes.{HasTape}
 use Rattle.run_laws.proofs.Connecting.{left_of, right_of}
 use Rattle.run_laws.proofs.Tapes.{each_tape_is_read}
@@ -81,7 +81,7 @@ is_last (s ∷ ss) = false
 
 abbrev pub are_plain : List Span → Bool
 are_plain [] = true
-are_plain (s ∷ ss) = not (is_connect (kind_of s.call)) && (is_shown s.ending && ((is_last ss || is_told s.ending) && are_plain ss))
+are_plain (s ∷ ss) = is_stepped (kind_of s.call) && (is_shown s.ending && ((is_last ss || is_told s.ending) && are_plain ss))
 
 ending_back : (e : Option Told) → is_shown e ≡ true → ending_by (outcome_of e) ≡ e
 unfolding ending_by
@@ -235,12 +235,14 @@ module _ (login : Login) (plans : Plans) where
   )
 
   -- one step at connection 0
-  step_went : (call : Call) → not (is_connect (kind_of call)) ≡ true → (k : Kept) (x : Looks) (hs : List Handle) (o : Outcome) (us : List Use) (ms : List Handle) → hs ≡ Joined true k x ∷ [] → k.pending ≡ None → StepGrows login plans hs (step_of call) o us ms
+  step_went : (call : Call) → is_stepped (kind_of call) ≡ true → (k : Kept) (x : Looks) (hs : List Handle) (o : Outcome) (us : List Use) (ms : List Handle) → hs ≡ Joined true k x ∷ [] → k.pending ≡ None → StepGrows login plans hs (step_of call) o us ms
       → (h : Handle) × (ms ≡ h ∷ []) × Went k call o (taken_in us) h
   step_went calls.Connect plain k x hs o us ms is rest g = cc
   step_went (calls.Query text) plain k x hs o us ms is rest g = at_went (calls.Query text) k x hs o us ms is rest g.made g.does g.others
   step_went calls.NextRow plain k x hs o us ms is rest g = at_went calls.NextRow k x hs o us ms is rest g.made g.does g.others
   step_went calls.DropResult plain k x hs o us ms is rest g = at_went calls.DropResult k x hs o us ms is rest g.made g.does g.others
+  step_went calls.TakeSet plain k x hs o us ms is rest g = cc
+  step_went calls.SkipTaken plain k x hs o us ms is rest g = cc
   step_went calls.Ping plain k x hs o us ms is rest g = at_went calls.Ping k x hs o us ms is rest g.made g.does g.others
   step_went calls.Quit plain k x hs o us ms is rest g = at_went calls.Quit k x hs o us ms is rest g.made g.does g.others
 
@@ -250,8 +252,8 @@ module _ (login : Login) (plans : Plans) where
   through [] plain k x hs is rest (a ∷ vs) outs taken ts c = absurd c
   through (s ∷ ss) plain k x hs is rest [] outs taken ts c = absurd c
   through (s ∷ ss) plain k x hs is rest (a ∷ vs) outs taken ts c =
-      let begins = left_of (not (is_connect (kind_of s.call))) _ plain in
-      let others = right_of (not (is_connect (kind_of s.call))) _ plain in
+      let begins = left_of (is_stepped (kind_of s.call)) _ plain in
+      let others = right_of (is_stepped (kind_of s.call)) _ plain in
       let shows = left_of (is_shown s.ending) _ others in
       let later = right_of (is_shown s.ending) _ others in
       let ends = left_of (is_last ss || is_told s.ending) _ later in

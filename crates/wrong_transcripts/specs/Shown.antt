@@ -1,11 +1,13 @@
 -- What a transcript shows of one connection, of which each call was polled once.
-use Rattle.std.specs.Prelude.{ℕ, ◌≡◌, ◌+◌, List, [], ◌∷◌, ◌++◌, length, map, Option, Some, None, Bool, false, not, ◌&&◌}
+use Rattle.std.specs.Prelude.{ℕ, ◌≡◌, ◌+◌, List, [], ◌∷◌, ◌++◌, length, map, Option, Some, None, Bool, true, false, ◌&&◌}
 use Rattle.my_handshake.specs.declared.version.ServerVersion.{ServerVersion}
 use Rattle.my_reply.specs.declared.ok.OkPacket.{OkPacket}
 use Rattle.my_grammar.specs.declared.login.Login.{Login}
 use Rattle.my_reading.specs.declared.call.Call.{Call}
 use Rattle.my_reading.specs.declared.call.Call.TheVariants as calls
-use Rattle.my_reading.specs.Calls.{kind_of, is_connect}
+use Rattle.my_reading.specs.declared.call.CallKind.{CallKind}
+use Rattle.my_reading.specs.declared.call.CallKind.TheVariants as kinds
+use Rattle.my_reading.specs.Calls.{kind_of}
 use Rattle.my_reading.specs.Tape.{Span}
 use Rattle.my_reading.specs.Told.{Told, ToldReady, ToldRow, ToldEnd, ToldNone, ToldError, Dropped}
 use Rattle.my_script.specs.declared.step.Step.{Step}
@@ -19,12 +21,21 @@ use Rattle.my_world.specs.World.{Plans, DialCounts}
 use Rattle.my_run.specs.Headline.{Headline}
 use Rattle.wrong_tapes.specs.Bytes.{all_sent, all_taken, calls_from}
 
--- the step that makes a call on connection 0
+-- the calls that a step makes
+abbrev pub is_stepped : CallKind → Bool
+is_stepped kinds.Connect = false
+is_stepped kinds.TakeSet = false
+is_stepped kinds.SkipTaken = false
+is_stepped c = true
+
+-- the step that makes a call on connection 0; those that no step makes are shown by none
 abbrev pub step_of : Call → Step
 step_of calls.Connect = steps.Conn
 step_of (calls.Query text) = steps.Query 0 text
 step_of calls.NextRow = steps.Next 0
 step_of calls.DropResult = steps.Drop 0
+step_of calls.TakeSet = steps.Conn
+step_of calls.SkipTaken = steps.Conn
 step_of calls.Ping = steps.Ping 0
 step_of calls.Quit = steps.Quit 0
 
@@ -45,8 +56,8 @@ taken_in (u ∷ us) = u.met.taken + taken_in us
 
 -- calls that a step begins
 abbrev pub begun_by_step : List Span → Bool
-begun_by_step [] = not false
-begun_by_step (s ∷ ss) = not (is_connect (kind_of s.call)) && begun_by_step ss
+begun_by_step [] = true
+begun_by_step (s ∷ ss) = is_stepped (kind_of s.call) && begun_by_step ss
 
 -- The transcript's first answer is that the connection was made; each other one is how its call ended. The uses say how many bytes
 -- each call received, and the tape has the bytes of all calls, and where those sent by each begin.

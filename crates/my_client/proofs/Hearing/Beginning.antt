@@ -5,9 +5,9 @@ use Rattle.my_value.specs.RowParts.{RowParts}
 use Rattle.my_reading.specs.declared.call.Call.{Call}
 use Rattle.my_reading.specs.declared.call.Call.TheVariants as calls
 use Rattle.my_reading.specs.declared.call.CallKind.{CallKind}
-use Rattle.my_reading.specs.declared.call.CallKind.TheVariants.{Connect, Query, NextRow, DropResult, Ping, Quit}
+use Rattle.my_reading.specs.declared.call.CallKind.TheVariants.{Connect, Query, NextRow, DropResult, TakeSet, SkipTaken, Ping, Quit}
 use Rattle.my_session.specs.declared.task.Task.{Task}
-use Rattle.my_session.specs.declared.task.Task.TheVariants.{Nothing, Begun, Cleaning, Own, Arranging, Reading, Dropping, Leaving, Failing}
+use Rattle.my_session.specs.declared.task.Task.TheVariants.{Nothing, Begun, Cleaning, Own, Arranging, Reading, Dropping, Taking, Skipping, Leaving, Failing}
 use Rattle.my_grammar.specs.declared.spot.Spot.{Spot}
 use Rattle.my_reading.specs.Calls.{kind_of, call_of, is_quit}
 use Rattle.my_reading.specs.Course.{is_greeting}
@@ -42,6 +42,13 @@ note_keeps DropResult ToldEnd n = refl
 note_keeps DropResult ToldNone n = cc
 note_keeps DropResult (ToldError e) n = cc
 note_keeps DropResult (Dropped closing) n = cc
+note_keeps TakeSet t n = cc
+note_keeps SkipTaken ToldReady n = cc
+note_keeps SkipTaken (ToldRow row) n = refl
+note_keeps SkipTaken ToldEnd n = refl
+note_keeps SkipTaken ToldNone n = cc
+note_keeps SkipTaken (ToldError e) n = cc
+note_keeps SkipTaken (Dropped closing) n = cc
 note_keeps Ping t n = cc
 note_keeps Quit t n = cc
 
@@ -71,6 +78,8 @@ open_call (Own c) text p None o e f = let no : Some (call_of c text) ≡ None = 
 open_call (Arranging n) text p None o e f = let no : Some (call_of Connect text) ≡ None = sym e ∙ f in cc
 open_call Reading text p None o e f = let no : Some (call_of NextRow text) ≡ None = sym e ∙ f in cc
 open_call Dropping text p None o e f = let no : Some (call_of DropResult text) ≡ None = sym e ∙ f in cc
+open_call Taking text p None o e f = let no : Some (call_of TakeSet text) ≡ None = sym e ∙ f in cc
+open_call Skipping text p None o e f = let no : Some (call_of SkipTaken text) ≡ None = sym e ∙ f in cc
 open_call Leaving text p None o e f = let no : Some (call_of Quit text) ≡ None = sym e ∙ f in cc
 open_call (Failing c fault) text p None o e f = let no : Some (call_of c text) ≡ None = sym e ∙ f in cc
 
@@ -86,6 +95,8 @@ no_call (Own c) text p (Some a) o e f = cc
 no_call (Arranging n) text p (Some a) o e f = cc
 no_call Reading text p (Some a) o e f = cc
 no_call Dropping text p (Some a) o e f = cc
+no_call Taking text p (Some a) o e f = cc
+no_call Skipping text p (Some a) o e f = cc
 no_call Leaving text p (Some a) o e f = cc
 no_call (Failing c fault) text p (Some a) o e f = cc
 
@@ -100,6 +111,8 @@ begun_stands Connect spot connected p w first =
 begun_stands Query spot connected p w first = settled_not_greeting spot (settled_reads spot w.1)
 begun_stands NextRow spot connected p w first = settled_not_greeting spot (settled_reads spot w.1)
 begun_stands DropResult spot connected p w first = settled_not_greeting spot (settled_reads spot w.1)
+begun_stands TakeSet spot connected p w first = settled_not_greeting spot (settled_reads spot w.1)
+begun_stands SkipTaken spot connected p w first = settled_not_greeting spot (settled_reads spot w.1)
 begun_stands Ping spot connected p w first = settled_not_greeting spot (settled_reads spot w.1)
 begun_stands Quit spot connected p w first = settled_not_greeting spot (settled_reads spot w.1)
 
@@ -111,6 +124,8 @@ idle_task (Own c) e = cc
 idle_task (Arranging n) e = cc
 idle_task Reading e = cc
 idle_task Dropping e = cc
+idle_task Taking e = cc
+idle_task Skipping e = cc
 idle_task Leaving e = cc
 idle_task (Failing c fault) e = cc
 

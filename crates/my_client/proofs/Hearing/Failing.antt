@@ -5,7 +5,7 @@ use Rattle.my_session.specs.declared.answer.SessionStep.TheVariants as steps
 use Rattle.my_session.specs.declared.task.LinkFault.{LinkFault}
 use Rattle.my_session.specs.declared.task.LinkFault.TheVariants as faults
 use Rattle.my_session.specs.declared.task.Task.{Task}
-use Rattle.my_session.specs.declared.task.Task.TheVariants.{Nothing, Begun, Cleaning, Own, Arranging, Reading, Dropping, Leaving, Failing}
+use Rattle.my_session.specs.declared.task.Task.TheVariants.{Nothing, Begun, Cleaning, Own, Arranging, Reading, Dropping, Taking, Skipping, Leaving, Failing}
 use Rattle.my_session.specs.declared.answer.Tick.TheVariants as ticks
 use Rattle.my_reading.specs.declared.error.IoError.{IoError}
 use Rattle.my_reading.specs.declared.error.IoError.TheVariants as ios
@@ -61,6 +61,8 @@ is_leaving (Own k) closed c o f a = let no : true ≡ false = sym c ∙ a refl i
 is_leaving (Arranging n) closed c o f a = let no : true ≡ false = sym c ∙ a refl in cc
 is_leaving Reading closed c o f a = let no : true ≡ false = sym c ∙ a refl in cc
 is_leaving Dropping closed c o f a = let no : true ≡ false = sym c ∙ a refl in cc
+is_leaving Taking closed c o f a = let no : true ≡ false = sym c ∙ a refl in cc
+is_leaving Skipping closed c o f a = let no : true ≡ false = sym c ∙ a refl in cc
 is_leaving Leaving closed c o f a = refl
 is_leaving (Failing k fault) closed c o f a = cc
 
@@ -118,6 +120,8 @@ told_to_fail (Own c) fault o = refl
 told_to_fail (Arranging n) fault o = refl
 told_to_fail Reading fault o = refl
 told_to_fail Dropping fault o = refl
+told_to_fail Taking fault o = refl
+told_to_fail Skipping fault o = refl
 told_to_fail Leaving fault o = refl
 told_to_fail (Failing c old) fault o = refl
 

@@ -2,7 +2,7 @@
 use Rattle.std.proofs.Common.{◌≡◌, List, [], ◌∷◌, ◌||◌, Bool, true, false, cond, None, refl, sym, ap, ◌∙◌, subst}
 use Rattle.my_grammar.specs.declared.login.Login.{Login}
 use Rattle.my_reading.specs.declared.call.CallKind.{CallKind}
-use Rattle.my_reading.specs.declared.call.CallKind.TheVariants.{Connect, Query, NextRow, DropResult, Ping, Quit}
+use Rattle.my_reading.specs.declared.call.CallKind.TheVariants.{Connect, Query, NextRow, DropResult, TakeSet, SkipTaken, Ping, Quit}
 use Rattle.my_session.specs.declared.task.Task.{Task}
 use Rattle.my_session.specs.declared.task.Task.TheVariants.{Nothing}
 use Rattle.my_reading.specs.Calls.{kind_of, is_connect}
@@ -32,6 +32,13 @@ note_joins DropResult ToldEnd n = refl
 note_joins DropResult ToldNone n = cc
 note_joins DropResult (ToldError e) n = cc
 note_joins DropResult (Dropped closing) n = cc
+note_joins TakeSet t n = cc
+note_joins SkipTaken ToldReady n = cc
+note_joins SkipTaken (ToldRow row) n = refl
+note_joins SkipTaken ToldEnd n = refl
+note_joins SkipTaken ToldNone n = cc
+note_joins SkipTaken (ToldError e) n = cc
+note_joins SkipTaken (Dropped closing) n = cc
 note_joins Ping t n = cc
 note_joins Quit t n = cc
 
@@ -62,6 +69,8 @@ at_begun Connect spot e s = cc
 at_begun Query spot e s = s
 at_begun NextRow spot e s = s
 at_begun DropResult spot e s = s
+at_begun TakeSet spot e s = s
+at_begun SkipTaken spot e s = s
 at_begun Ping spot e s = s
 at_begun Quit spot e s = s
 
@@ -74,5 +83,7 @@ connect_ready Connect answers.NoSet e m = cc
 connect_ready Query answer e m = cc
 connect_ready NextRow answer e m = cc
 connect_ready DropResult answer e m = cc
+connect_ready TakeSet answer e m = cc
+connect_ready SkipTaken answer e m = cc
 connect_ready Ping answer e m = cc
 connect_ready Quit answer e m = cc

@@ -11,7 +11,7 @@ use Rattle.my_reading.specs.declared.answer.Answer.{Answer}
 use Rattle.my_reading.specs.declared.call.Call.{Call}
 use Rattle.my_reading.specs.declared.call.Call.TheVariants as calls
 use Rattle.my_reading.specs.declared.call.CallKind.{CallKind}
-use Rattle.my_reading.specs.declared.call.CallKind.TheVariants.{Connect, Query, NextRow, DropResult, Ping, Quit}
+use Rattle.my_reading.specs.declared.call.CallKind.TheVariants.{Connect, Query, NextRow, DropResult, TakeSet, SkipTaken, Ping, Quit}
 use Rattle.my_reading.specs.declared.error.Error.{Error}
 use Rattle.my_reading.specs.declared.error.Error.TheVariants as errors
 use Rattle.my_reading.specs.Calls.{asks, kind_of, call_of, text_of, is_quit}
@@ -132,7 +132,7 @@ module _ (login : Login) (s t : Seen) (k : Kept) (a : Asked) (log : s.login ≡ 
   done_read answer r v (inr q) =
       let d = quit_done s t q.leaving (q.at.settled (ap owes q.leaving)) answer v.count v.go v.last in
       ends_closed login s t k a (says.Answered answer) q.before q.ended q.nothing_sent q.nothing_taken (d.0 ∙ sym (quit_answer a.call q.quit))
-      (subst (λ (n : Seen). StandsAt n q.before) (sym d.1) (fallen_at s q.before s q.at.mirrors)) (ap (λ (n : Seen). n.closed) d.1)
+      (subst (λ (n : Seen). StandsAt n q.before) (sym d.1) (fallen_at s q.before s q.at.mirrors q.at.taken_is)) (ap (λ (n : Seen). n.closed) d.1)
 
   -- what the call came to then
   pub done_stop : (answer : Answer) → k.pending ≡ Some a → EachStepReads s t (steps.Done answer) → Steps s t (steps.Done answer) → OpenRead login s k a ⊎ QuitRead login s k a → ComesTo login k (told answer)
@@ -173,6 +173,7 @@ sent_at s t call parts p n e o = subst (λ (x : Seen). OpenAt x call parts (with
   at = record {
     mirrors = mirrors_sent s.context s.number s.unread s.owed s.closed s.facts s.login p n o.alive o.at.mirrors;
     end_is = o.at.end_is;
+    taken_is = o.at.taken_is;
     own_end = o.at.own_end;
     task_at = o.at.task_at;
     settled = λ quiet. ap (drop n) (o.at.settled quiet) ∙ drop-nil {A = ℕ} n;
@@ -188,6 +189,7 @@ taken_at s t call parts p bytes e o = subst (λ (x : Seen). OpenAt x call parts 
   at = record {
     mirrors = mirrors_taken s.context s.number s.unread s.owed s.closed s.facts s.login p bytes o.at.mirrors;
     end_is = o.at.end_is;
+    taken_is = o.at.taken_is;
     own_end = o.at.own_end;
     task_at = o.at.task_at;
     settled = o.at.settled;
@@ -200,7 +202,7 @@ taken_at s t call parts p bytes e o = subst (λ (x : Seen). OpenAt x call parts 
 
 ended_at : (s t : Seen) (call : Call) (parts : List Part) (p : Place) → t ≡ with_end s → OpenAt s call parts p → OpenAt t call parts p
 ended_at s t call parts p e o = subst (λ (x : Seen). OpenAt x call parts p) (sym e) (record {
-  at = record { mirrors = o.at.mirrors; end_is = o.at.end_is; own_end = o.at.own_end; task_at = o.at.task_at; settled = o.at.settled };
+  at = record { mirrors = o.at.mirrors; end_is = o.at.end_is; taken_is = o.at.taken_is; own_end = o.at.own_end; task_at = o.at.task_at; settled = o.at.settled };
   alive = o.alive;
   sound = o.sound;
   call_is = o.call_is;
@@ -225,7 +227,7 @@ broke_read login s r t k a e log some op is made v w =
     let f = fails_so r t faults.Link made e v.count v.go v.last some in
     let gone : t ≡ fell (with_failing s faults.Link) = f.1 ∙ ap fell is in
     breaks_open login s t k a e w (f.0 ∙ ap (λ (x : Seen). io_error Link x.facts.place) is) log
-    (subst (λ (x : Seen). StandsAt x w.so_far.place) (sym gone) (fallen_at s w.so_far.place (with_failing s faults.Link) w.so_far.at.at.mirrors)) (ap (λ (x : Seen). x.closed) gone)
+    (subst (λ (x : Seen). StandsAt x w.so_far.place) (sym gone) (fallen_at s w.so_far.place (with_failing s faults.Link) w.so_far.at.at.mirrors w.so_far.at.at.taken_is)) (ap (λ (x : Seen). x.closed) gone)
 
 -- the open call is cancelled
 module _ (s : Seen) (call : Call) (parts : List Part) (p : Place) (o : OpenAt s call parts p) (stepped : is_begun s.task ≡ false) (shut : s.task ≡ tasks.Leaving → s.closed ≡ true) where
@@ -237,6 +239,8 @@ module _ (s : Seen) (call : Call) (parts : List Part) (p : Place) (o : OpenAt s 
       back Query text = refl
       back NextRow text = refl
       back DropResult text = refl
+      back TakeSet text = refl
+      back SkipTaken text = refl
       back Ping text = refl
       back Quit text = refl
 
@@ -248,6 +252,8 @@ module _ (s : Seen) (call : Call) (parts : List Part) (p : Place) (o : OpenAt s 
   closes_asking Query e = refl
   closes_asking NextRow e = cc
   closes_asking DropResult e = cc
+  closes_asking TakeSet e = cc
+  closes_asking SkipTaken e = cc
   closes_asking Ping e = refl
   closes_asking Quit e = refl
 
@@ -256,6 +262,8 @@ module _ (s : Seen) (call : Call) (parts : List Part) (p : Place) (o : OpenAt s 
   closes_own Query w = refl
   closes_own NextRow w = absurd w
   closes_own DropResult w = absurd w
+  closes_own TakeSet w = absurd w
+  closes_own SkipTaken w = absurd w
   closes_own Ping w = refl
   closes_own Quit w = refl
 
@@ -267,6 +275,8 @@ module _ (s : Seen) (call : Call) (parts : List Part) (p : Place) (o : OpenAt s 
   closes_is (tasks.Arranging n) e w = sym (ap (λ k. closes_cancelled k p) (kind_is Connect (ap kind_in e)))
   closes_is tasks.Reading e w = ap awaits_head spot_is ∙ sym (ap (λ k. closes_cancelled k p) (kind_is NextRow (ap kind_in e)))
   closes_is tasks.Dropping e w = ap awaits_head spot_is ∙ sym (ap (λ k. closes_cancelled k p) (kind_is DropResult (ap kind_in e)))
+  closes_is tasks.Taking e w = ap awaits_head spot_is ∙ sym (ap (λ k. closes_cancelled k p) (kind_is TakeSet (ap kind_in e)))
+  closes_is tasks.Skipping e w = ap awaits_head spot_is ∙ sym (ap (λ k. closes_cancelled k p) (kind_is SkipTaken (ap kind_in e)))
   closes_is tasks.Leaving e w = let no : true ≡ false = sym (shut e) ∙ o.alive in cc
   closes_is (tasks.Failing c fault) e w = let no : Some fault ≡ None = sym (ap fault_in e) ∙ o.sound in cc
 
@@ -278,6 +288,8 @@ module _ (s : Seen) (call : Call) (parts : List Part) (p : Place) (o : OpenAt s 
   keeps_end (tasks.Arranging n) e f = cc
   keeps_end tasks.Reading e f = refl
   keeps_end tasks.Dropping e f = refl
+  keeps_end tasks.Taking e f = refl
+  keeps_end tasks.Skipping e f = refl
   keeps_end tasks.Leaving e f = refl
   keeps_end (tasks.Failing c fault) e f = refl
 
@@ -289,15 +301,18 @@ module _ (s : Seen) (call : Call) (parts : List Part) (p : Place) (o : OpenAt s 
   owes_not (tasks.Arranging n) e f = cc
   owes_not tasks.Reading e f = refl
   owes_not tasks.Dropping e f = refl
+  owes_not tasks.Taking e f = refl
+  owes_not tasks.Skipping e f = refl
   owes_not tasks.Leaving e f = refl
   owes_not (tasks.Failing c fault) e f = cc
 
   dropped_at : (b : Bool) → closes_when_cancelled s.task s.context.spot ≡ b → StandsAt (cond b (fell s) (with_task s tasks.Nothing s.untold)) p × ((cond {A = Seen} b (fell s) (with_task s tasks.Nothing s.untold)).closed ≡ b)
-  dropped_at true e = (fallen_at s p s o.at.mirrors, refl)
+  dropped_at true e = (fallen_at s p s o.at.mirrors o.at.taken_is, refl)
   dropped_at false e = (
     record {
       mirrors = o.at.mirrors;
       end_is = λ _ _. o.at.end_is o.alive o.sound ∙ ap (λ b. s.untold && not b) (keeps_end s.task refl e);
+      taken_is = o.at.taken_is;
       own_end = λ no. cc;
       task_at = tt;
       settled = λ _. o.at.settled (owes_not s.task refl e);
@@ -327,6 +342,8 @@ module _ (login : Login) (s t : Seen) (k : Kept) (call : Call) where
   back_whole (calls.Query q) text = refl
   back_whole calls.NextRow text = refl
   back_whole calls.DropResult text = refl
+  back_whole calls.TakeSet text = refl
+  back_whole calls.SkipTaken text = refl
   back_whole calls.Ping text = refl
   back_whole calls.Quit text = refl
 
@@ -335,12 +352,14 @@ module _ (login : Login) (s t : Seen) (k : Kept) (call : Call) where
   parts_back (calls.Query q) l = refl
   parts_back calls.NextRow l = refl
   parts_back calls.DropResult l = refl
+  parts_back calls.TakeSet l = refl
+  parts_back calls.SkipTaken l = refl
   parts_back calls.Ping l = refl
   parts_back calls.Quit l = refl
 
   -- the session with this task
   abbrev asked_with : Bool → Seen
-  asked_with b = record { context = s.context; task = (cond b tasks.Leaving (tasks.Begun (kind_of call))); text = text_of call s.text; untold = s.untold; closed = s.closed; ended = s.ended; number = s.number; unread = s.unread; owed = s.owed; facts = s.facts; login = s.login }
+  asked_with b = record { context = s.context; task = (cond b tasks.Leaving (tasks.Begun (kind_of call))); text = text_of call s.text; untold = s.untold; taken = s.taken; closed = s.closed; ended = s.ended; number = s.number; unread = s.unread; owed = s.owed; facts = s.facts; login = s.login }
 
   module _ (e : t ≡ begun s call) (log : s.login ≡ login) (idle : s.task ≡ tasks.Nothing) (w : RestRead login s k) where
     -- for any rows that are gathered
@@ -356,6 +375,7 @@ module _ (login : Login) (s t : Seen) (k : Kept) (call : Call) where
       at = record {
         mirrors = w.at.mirrors;
         end_is = λ _ _. w.at.end_is c (ap fault_in idle) ∙ ap (λ u. s.untold && not (passes_end u)) idle;
+        taken_is = w.at.taken_is;
         own_end = λ no. cc;
         task_at = at;
         settled = λ _. w.at.settled (ap owes idle);
@@ -377,7 +397,7 @@ module _ (login : Login) (s t : Seen) (k : Kept) (call : Call) where
     }
 
     leaving_at : (b : Bool) → s.closed ≡ true → b ≡ true → StandsAt (asked_with b) w.place
-    leaving_at true c f = record { mirrors = w.at.mirrors; end_is = λ no _. let stop : true ≡ false = sym c ∙ no in cc; own_end = λ no. cc; task_at = tt; settled = λ _. w.at.settled (ap owes idle) }
+    leaving_at true c f = record { mirrors = w.at.mirrors; end_is = λ no _. let stop : true ≡ false = sym c ∙ no in cc; taken_is = w.at.taken_is; own_end = λ no. cc; task_at = tt; settled = λ _. w.at.settled (ap owes idle) }
     leaving_at false c f = cc
 
     pub begin_quit : (rows : Option (List RowParts)) → s.closed ≡ true → kind_of call ≡ Quit → QuitRead login t (asking k call rows) (record { call = call; sent_from = length k.sent; taken_from = length k.taken; rows = rows })
@@ -409,6 +429,7 @@ fresh_read login s e = record {
   at = subst (λ (x : Seen). StandsAt x (first_place login)) (sym e) (record {
     mirrors = record { context_is = refl; number_is = refl; unread_is = refl; facts_are = refl; login_is = refl; fits = record { kinds = tt; within = tt }; unsent = []; all_is = refl; owed_is = λ _. refl; first = λ _. (refl, refl, refl) };
     end_is = λ _ _. refl;
+    taken_is = refl;
     own_end = λ _. refl;
     task_at = tt;
     settled = λ _. refl;

@@ -42,6 +42,7 @@ impl Stand {
         };
         self.arranged = arranged;
         self.end_left = false;
+        self.taken = false;
         Ok(Step::Passes)
     }
 
@@ -65,7 +66,7 @@ impl Stand {
         match call {
             Call::Connect => self.arrange(alloc),
             Call::Query(text) => self.ask(Spot::Head, &query_payload(alloc, text)?, arranged),
-            Call::NextRow | Call::DropResult => Ok(Step::Passes),
+            Call::NextRow | Call::DropResult | Call::TakeSet | Call::SkipTaken => Ok(Step::Passes),
             Call::Ping => {
                 let command = write_client(alloc, &ClientPacket::Ping)?;
                 self.ask(Spot::Single, &command, arranged)

@@ -28,7 +28,9 @@ fn closes_at(kind: CallKind, spot: Spot) -> bool
     ensures { result ≡ closes_at kind spot }
 {
     match kind {
-        CallKind::NextRow | CallKind::DropResult => awaits_head(spot),
+        CallKind::NextRow | CallKind::DropResult | CallKind::TakeSet | CallKind::SkipTaken => {
+            awaits_head(spot)
+        }
         _ => true,
     }
 }

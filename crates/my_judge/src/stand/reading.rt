@@ -6,7 +6,7 @@ ghost use Rattle.my_grammar.specs.Growth.{number_next, said};
 ghost use Rattle.my_grammar.specs.Kinds.{kind_there};
 ghost use Rattle.my_grammar.specs.Response.{response};
 ghost use Rattle.my_reply.specs.ErrPacket.{err_at};
-ghost use Rattle.my_reading.specs.Course.{is_greeting};
+ghost use Rattle.my_reading.specs.Course.{is_greeting, is_rows};
 ghost use Rattle.my_reading.specs.Errors.{server_error};
 ghost use Rattle.my_reading.specs.Rows.{row_of};
 ghost use Rattle.my_judge.specs.Stands.{Comes, failure, heard, reads, read_payload, unfit};
@@ -68,6 +68,16 @@ fn is_greeting(spot: Spot) -> bool
     }
 }
 
+/// Whether rows are read.
+pub(super) fn is_rows(spot: Spot) -> bool
+    ensures { result ≡ is_rows spot }
+{
+    match spot {
+        Spot::Rows => true,
+        _ => false,
+    }
+}
+
 impl Stand {
     // A payload that fits no case.
     fn unfit(&self) -> Step
@@ -123,6 +133,7 @@ impl Stand {
         self.facts.learn(alloc, kind, payload)?;
         self.context = self.context.after(kind);
         self.end_left = false;
+        self.taken = self.taken && is_rows(self.context.spot);
         self.unread.skip(found.span.len);
         Ok(())
     }
@@ -158,6 +169,11 @@ impl Stand {
             (Part::Item, Kind::Good(_)) => answered(Answer::SetEnd),
             (Part::Item, Kind::End(_)) => answered(Answer::SetEnd),
             (Part::Item, Kind::Row) => answered(Answer::Row(row)),
+            (Part::Set, Kind::Good(_)) => {
+                self.end_left = true;
+                self.taken = true;
+                answered(Answer::Ready)
+            }
             _ => Step::Stays,
         }
     }

@@ -2,11 +2,10 @@
 
 ghost use Rattle.std.specs.Prelude.{◌≡◌, ◌∷◌, [], IfOk};
 ghost use Rattle.my_grammar.specs.Cut.{is_idle};
-ghost use Rattle.my_reading.specs.Course.{is_rows};
 ghost use Rattle.my_judge.specs.Stands.{Comes, begins, steps};
 
 use super::Stand;
-use super::reading::answered;
+use super::reading::{answered, is_rows};
 use crate::part::Part;
 use crate::step::{Step, Stop};
 use my_frame::NoMemory;
@@ -19,15 +18,6 @@ fn is_idle(spot: Spot) -> bool
 {
     match spot {
         Spot::Idle => true,
-        _ => false,
-    }
-}
-
-fn is_rows(spot: Spot) -> bool
-    ensures { result ≡ is_rows spot }
-{
-    match spot {
-        Spot::Rows => true,
         _ => false,
     }
 }
@@ -71,6 +61,34 @@ impl Stand {
         self.read(alloc, login, Part::Item)
     }
 
+    // A stream takes the set that is read, or the next one.
+    fn read_set(&mut self, alloc: Global, login: &Login, call: &Call) -> Result<Step, NoMemory>
+        ensures { IfOk result (λ step. Comes (begins login.now call.now (Part.Set ∷ []) self.old) step self.new) }
+    {
+        if self.end_left || is_rows(self.context.spot) {
+            self.taken = true;
+            return Ok(answered(Answer::Ready));
+        }
+        if is_idle(self.context.spot) {
+            return Ok(answered(Answer::NoSet));
+        }
+        self.read(alloc, login, Part::Set)
+    }
+
+    // The rest of the set that is read is passed over, and its end.
+    fn read_rest(&mut self, alloc: Global, login: &Login, call: &Call) -> Result<Step, NoMemory>
+        ensures { IfOk result (λ step. Comes (begins login.now call.now (Part.Rest ∷ []) self.old) step self.new) }
+    {
+        if self.end_left {
+            self.end_left = false;
+            return Ok(Step::Stays);
+        }
+        if is_rows(self.context.spot) {
+            return self.read(alloc, login, Part::Rest);
+        }
+        Ok(Step::Passes)
+    }
+
     /// One step of a call of which these parts are left.
     pub fn step(
         &mut self,
@@ -89,6 +107,8 @@ impl Stand {
             [Part::All, ..] => self.read_all(alloc, login, call),
             [Part::Head, ..] => self.read_head(alloc, login, call),
             [Part::Item, ..] => self.read_item(alloc, login, call),
+            [Part::Set, ..] => self.read_set(alloc, login, call),
+            [Part::Rest, ..] => self.read_rest(alloc, login, call),
             [Part::Command, ..] => self.command(alloc, call),
         }
     }

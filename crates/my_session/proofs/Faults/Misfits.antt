@@ -9,11 +9,11 @@ use Rattle.my_grammar.specs.Contexts.{is_bad}
 use Rattle.my_grammar.specs.Cut.{is_idle}
 use Rattle.my_grammar.specs.Sets.{Sets, NoSets, Lone, Failed, Heading, Headed, Begun as BegunSet, Ended, Broken, spot_in}
 use Rattle.my_grammar.specs.Talk.{Talk, Start, Unwelcome, Greeted, Settled, Asked, Replied, Queried, Silent, context_of}
-use Rattle.my_grammar.proofs.Growth.Known.{is_greeting_kind, is_single_kind, is_head_kind, is_column_kind, is_close_kind}
+use Rattle.my_grammar.proofs.Growth.Known.{is_greeting_kind, is_single_kind, is_head_kind, is_column_kind, is_close_kind, is_row_kind}
 use Rattle.my_reading.specs.declared.call.CallKind.{CallKind}
-use Rattle.my_reading.specs.declared.call.CallKind.TheVariants.{Connect, Query, NextRow, DropResult, Ping, Quit}
+use Rattle.my_reading.specs.declared.call.CallKind.TheVariants.{Connect, Query, NextRow, DropResult, TakeSet, SkipTaken, Ping, Quit}
 use Rattle.my_session.specs.declared.task.Task.{Task}
-use Rattle.my_session.specs.declared.task.Task.TheVariants.{Nothing, Begun, Cleaning, Own, Arranging, Reading, Dropping, Leaving, Failing}
+use Rattle.my_session.specs.declared.task.Task.TheVariants.{Nothing, Begun, Cleaning, Own, Arranging, Reading, Dropping, Taking, Skipping, Leaving, Failing}
 use Rattle.my_session.specs.declared.tables.Reaction.{Reaction}
 use Rattle.my_session.specs.declared.tables.Reaction.TheVariants as reactions
 use Rattle.my_session.specs.Entries.{sets_of}
@@ -68,6 +68,8 @@ own_fits Connect k = connect_fits k
 own_fits Query k = query_fits k
 own_fits NextRow k = tt
 own_fits DropResult k = tt
+own_fits TakeSet k = tt
+own_fits SkipTaken k = tt
 own_fits Ping k = ping_fits k
 own_fits Quit k = tt
 
@@ -106,6 +108,24 @@ react_fits Dropping kinds.ColumnsDone = tt
 react_fits Dropping kinds.Row = refl
 react_fits Dropping (kinds.End status) = tt
 react_fits Dropping kinds.Bad = tt
+react_fits Taking (kinds.Greets n) = tt
+react_fits Taking (kinds.Good status) = tt
+react_fits Taking kinds.Failed = refl
+react_fits Taking (kinds.Count n) = tt
+react_fits Taking kinds.Column = tt
+react_fits Taking kinds.ColumnsDone = tt
+react_fits Taking kinds.Row = tt
+react_fits Taking (kinds.End status) = tt
+react_fits Taking kinds.Bad = tt
+react_fits Skipping (kinds.Greets n) = tt
+react_fits Skipping (kinds.Good status) = tt
+react_fits Skipping kinds.Failed = refl
+react_fits Skipping (kinds.Count n) = tt
+react_fits Skipping kinds.Column = tt
+react_fits Skipping kinds.ColumnsDone = tt
+react_fits Skipping kinds.Row = refl
+react_fits Skipping (kinds.End status) = tt
+react_fits Skipping kinds.Bad = tt
 react_fits Leaving k = tt
 react_fits (Failing c fault) k = tt
 
@@ -230,6 +250,30 @@ close_breaks kinds.Row e b = cc
 close_breaks (kinds.End status) e b = cc
 close_breaks kinds.Bad e b = refl
 
+-- a stream takes what a query does
+taking_breaks : (k : Kind) → is_breaking (react Taking k) ≡ is_breaking (react_query k)
+taking_breaks (kinds.Greets n) = refl
+taking_breaks (kinds.Good status) = refl
+taking_breaks kinds.Failed = refl
+taking_breaks (kinds.Count n) = refl
+taking_breaks kinds.Column = refl
+taking_breaks kinds.ColumnsDone = refl
+taking_breaks kinds.Row = refl
+taking_breaks (kinds.End status) = refl
+taking_breaks kinds.Bad = refl
+
+-- rows, or their end, are passed over
+skipping_breaks : (k : Kind) → is_row_kind k ≡ true → is_breaking (react Skipping k) ≡ true → is_bad k ≡ true
+skipping_breaks (kinds.Greets n) e b = cc
+skipping_breaks (kinds.Good status) e b = cc
+skipping_breaks kinds.Failed e b = cc
+skipping_breaks (kinds.Count n) e b = cc
+skipping_breaks kinds.Column e b = cc
+skipping_breaks kinds.ColumnsDone e b = cc
+skipping_breaks kinds.Row e b = cc
+skipping_breaks (kinds.End status) e b = cc
+skipping_breaks kinds.Bad e b = refl
+
 pub cleaning_awaits : (c : CallKind) (spot : Spot) → is_idle spot ≡ false → is_greeting spot ≡ false → Awaits (Cleaning c) spot
 cleaning_awaits c spot waits past = record { waits = waits; breaks = whole_breaks (Cleaning c) spot past }
 
@@ -292,3 +336,16 @@ column_awaits left = record { waits = refl; breaks = column_breaks }
 
 pub close_awaits : Awaits (Own Query) spots.ColumnsEnd
 close_awaits = record { waits = refl; breaks = close_breaks }
+
+-- the head of a further set is awaited, or a part of it
+pub further_awaits : Awaits Taking spots.Further
+further_awaits = record { waits = refl; breaks = λ k e b. head_breaks k e (sym (taking_breaks k) ∙ b) }
+
+pub next_column_awaits : (left : ℕ) → Awaits Taking (spots.Columns left)
+next_column_awaits left = record { waits = refl; breaks = λ k e b. column_breaks k e (sym (taking_breaks k) ∙ b) }
+
+pub next_close_awaits : Awaits Taking spots.ColumnsEnd
+next_close_awaits = record { waits = refl; breaks = λ k e b. close_breaks k e (sym (taking_breaks k) ∙ b) }
+
+pub skipping_awaits : Awaits Skipping spots.Rows
+skipping_awaits = record { waits = refl; breaks = skipping_breaks }

@@ -2,13 +2,13 @@
 use Rattle.std.proofs.Common.{◌≡◌, ◌||◌, Bool, true, false, Option, Some, None, refl, ◌∙◌}
 use Rattle.my_reading.specs.declared.call.CallKind.{CallKind}
 use Rattle.my_session.specs.declared.task.Task.{Task}
-use Rattle.my_session.specs.declared.task.Task.TheVariants.{Nothing, Begun, Cleaning, Own, Arranging, Reading, Dropping, Leaving, Failing}
+use Rattle.my_session.specs.declared.task.Task.TheVariants.{Nothing, Begun, Cleaning, Own, Arranging, Reading, Dropping, Taking, Skipping, Leaving, Failing}
 use Rattle.my_reading.specs.declared.error.Error.{Error}
 use Rattle.my_reading.specs.Calls.{asks, is_connect}
 use Rattle.my_session.specs.Tasks.{kind_in, fault_in}
 use Rattle.my_session.specs.Fits.{may_be_told, OwnError, is_begun}
 use Rattle.my_reading.specs.Told.{Told, ToldReady, ToldRow, ToldEnd, ToldNone, ToldError, Dropped}
-use Rattle.my_session.specs.Machine.{Doing, Goes, Passes, Sends, Needs, Tells, Move, fell, with_task, failed_by}
+use Rattle.my_session.specs.Machine.{Doing, Goes, Passes, Sends, Needs, Tells, Move, fell, with_task, with_taken, failed_by}
 use Rattle.my_session.specs.Seen.{Seen}
 
 -- only a call that sends a command cleans, and only such a call or the handshake has an exchange of its own
@@ -20,6 +20,8 @@ is_proper (Own c) = asks c || is_connect c
 is_proper (Arranging n) = true
 is_proper Reading = true
 is_proper Dropping = true
+is_proper Taking = true
+is_proper Skipping = true
 is_proper Leaving = true
 is_proper (Failing c fault) = true
 
@@ -52,6 +54,9 @@ on_here s = record { login = refl; ended = refl; alive = λ e. e }
 
 pub on_task : (s n : Seen) (t : Task) (untold : Bool) → IsOn s n → IsOn s (with_task n t untold)
 on_task s n t untold w = record { login = w.login; ended = w.ended; alive = w.alive }
+
+pub on_taken : (s n : Seen) → IsOn s n → IsOn s (with_taken n)
+on_taken s n w = record { login = w.login; ended = w.ended; alive = w.alive }
 
 pub on_fell : (s n : Seen) → IsOn s n → IsOn s (fell n)
 on_fell s n w = record { login = w.login; ended = w.ended; alive = λ e. let no : true ≡ false = e in cc }

@@ -8,9 +8,9 @@ use Rattle.my_grammar.specs.declared.spot.Spot.TheVariants as spots
 use Rattle.my_grammar.specs.Talk.{Talk, Queried, Asked, Silent}
 use Rattle.my_grammar.specs.Sets.{NoSets}
 use Rattle.my_reading.specs.declared.call.CallKind.{CallKind}
-use Rattle.my_reading.specs.declared.call.CallKind.TheVariants.{Connect, Query, NextRow, DropResult, Ping, Quit}
+use Rattle.my_reading.specs.declared.call.CallKind.TheVariants.{Connect, Query, NextRow, DropResult, TakeSet, SkipTaken, Ping, Quit}
 use Rattle.my_session.specs.declared.task.Task.{Task}
-use Rattle.my_session.specs.declared.task.Task.TheVariants.{Nothing, Begun, Cleaning, Own, Arranging, Reading, Dropping, Leaving, Failing}
+use Rattle.my_session.specs.declared.task.Task.TheVariants.{Nothing, Begun, Cleaning, Own, Arranging, Reading, Dropping, Taking, Skipping, Leaving, Failing}
 use Rattle.my_session.specs.declared.tables.Plan.{Plan}
 use Rattle.my_session.specs.declared.tables.Plan.TheVariants as plans
 use Rattle.my_reading.specs.Calls.{asks, call_of}
@@ -18,10 +18,10 @@ use Rattle.my_session.specs.Tasks.{kind_in, fault_in}
 use Rattle.my_reading.specs.Commands.{command_of, command_in}
 use Rattle.my_session.specs.Fits.{may_be_told, is_begun}
 use Rattle.my_reading.specs.Told.{ToldReady, ToldEnd, ToldNone}
-use Rattle.my_session.specs.Machine.{Sends, Move, next_terms, asked, arranged, queued, too_large, planned}
+use Rattle.my_session.specs.Machine.{Sends, Move, next_terms, asked, arranged, queued, too_large, planned, with_task}
 use Rattle.my_session.specs.Seen.{Seen}
-use Rattle.my_session.specs.Tables.{plan_of, clean_plan, own_plan, query_plan, read_plan, drop_plan, first_task}
-use Rattle.my_session.proofs.Fits.Moves.{is_proper, GoesOn, going, on_here, on_task, on_fell, MoveFits, failed_fits}
+use Rattle.my_session.specs.Tables.{plan_of, clean_plan, own_plan, query_plan, read_plan, drop_plan, take_plan, skip_plan, first_task}
+use Rattle.my_session.proofs.Fits.Moves.{is_proper, GoesOn, going, on_here, on_task, on_taken, on_fell, MoveFits, failed_fits}
 use Rattle.my_session.proofs.Fits.Reacts.{reading_fits}
 
 begins_if : (s : Seen) (c : Option CallKind) (u : Task) (talk : Talk) (b : Bool) → is_begun u ≡ false → fault_in u ≡ None → MoveFits c s (cond {A = Move} b (too_large s s.facts.settings.limit (length (command_in talk))) (record { seen = queued s u talk; does = Sends }))
@@ -33,6 +33,8 @@ asked_fits s Connect a = cc
 asked_fits s Query a = begins_if s (Some Query) (Own Query) (Queried (next_terms s) (packet_bytes (packets.Query s.text)) NoSets) _ refl refl
 asked_fits s NextRow a = cc
 asked_fits s DropResult a = cc
+asked_fits s TakeSet a = cc
+asked_fits s SkipTaken a = cc
 asked_fits s Ping a = begins_if s (Some Ping) (Own Ping) (Asked (next_terms s) (packet_bytes packets.Ping)) _ refl refl
 asked_fits s Quit a = begins_if s (Some Quit) (Own Quit) (Silent (next_terms s) (packet_bytes packets.Quit)) _ refl refl
 
@@ -48,6 +50,7 @@ PlanFits t c plans.Hears = is_begun t ≡ false
 PlanFits t c (plans.Asks d) = (asks d ≡ true) × (Some d ≡ c)
 PlanFits t c (plans.Arranges n) = may_be_told c ToldReady ≡ true
 PlanFits t c plans.Readies = may_be_told c ToldReady ≡ true
+PlanFits t c plans.Takes = may_be_told c ToldReady ≡ true
 PlanFits t c plans.Quits = may_be_told c ToldReady ≡ true
 PlanFits t c plans.Passes = is_begun t ≡ false
 PlanFits t c plans.Dropped = may_be_told c ToldReady ≡ true
@@ -61,6 +64,7 @@ planned_fits s plans.Hears a e f = record { fits = going (kind_in s.task) s.task
 planned_fits s (plans.Asks c) a e f = subst (λ (k : Option CallKind). MoveFits k s (asked s c (command_of (next_terms s) (call_of c s.text)))) f.1 (asked_fits s c f.0)
 planned_fits s (plans.Arranges n) a e f = arranged_fits s (kind_in s.task) n _ f
 planned_fits s plans.Readies a e f = record { fits = f; is_on = on_task s s Nothing s.untold (on_here s); own = λ _. tt }
+planned_fits s plans.Takes a e f = record { fits = f; is_on = on_taken s (with_task s Nothing s.untold) (on_task s s Nothing s.untold (on_here s)); own = λ _. tt }
 planned_fits s plans.Quits a e f = record { fits = f; is_on = on_fell s s (on_here s); own = λ _. tt }
 planned_fits s plans.Passes a e f = record { fits = going (kind_in s.task) s.task a refl f e; is_on = on_task s s s.task false (on_here s); own = λ _. tt }
 planned_fits s plans.Dropped a e f = record { fits = f; is_on = on_task s s Nothing s.untold (on_here s); own = λ _. tt }
@@ -72,6 +76,8 @@ first_plan t Connect = going (Some Connect) (Own Connect) refl refl refl refl
 first_plan t Query = going (Some Query) (Cleaning Query) refl refl refl refl
 first_plan t NextRow = going (Some NextRow) Reading refl refl refl refl
 first_plan t DropResult = going (Some DropResult) Dropping refl refl refl refl
+first_plan t TakeSet = going (Some TakeSet) Taking refl refl refl refl
+first_plan t SkipTaken = going (Some SkipTaken) Skipping refl refl refl refl
 first_plan t Ping = going (Some Ping) (Cleaning Ping) refl refl refl refl
 first_plan t Quit = going (Some Quit) (Cleaning Quit) refl refl refl refl
 
@@ -103,6 +109,8 @@ own_plan_fits Connect spot = refl
 own_plan_fits Query spot = query_plan_fits spot
 own_plan_fits NextRow spot = refl
 own_plan_fits DropResult spot = refl
+own_plan_fits TakeSet spot = refl
+own_plan_fits SkipTaken spot = refl
 own_plan_fits Ping spot = refl
 own_plan_fits Quit spot = refl
 
@@ -128,6 +136,28 @@ drop_plan_fits (spots.Columns left) = refl
 drop_plan_fits spots.ColumnsEnd = refl
 drop_plan_fits spots.Rows = refl
 
+take_plan_fits : (spot : Spot) → PlanFits Taking (Some TakeSet) (take_plan spot)
+take_plan_fits spots.Idle = refl
+take_plan_fits spots.Greeting = refl
+take_plan_fits spots.Authentication = refl
+take_plan_fits spots.Single = refl
+take_plan_fits spots.Head = refl
+take_plan_fits spots.Further = refl
+take_plan_fits (spots.Columns left) = refl
+take_plan_fits spots.ColumnsEnd = refl
+take_plan_fits spots.Rows = refl
+
+skip_plan_fits : (spot : Spot) → PlanFits Skipping (Some SkipTaken) (skip_plan spot)
+skip_plan_fits spots.Idle = refl
+skip_plan_fits spots.Greeting = refl
+skip_plan_fits spots.Authentication = refl
+skip_plan_fits spots.Single = refl
+skip_plan_fits spots.Head = refl
+skip_plan_fits spots.Further = refl
+skip_plan_fits (spots.Columns left) = refl
+skip_plan_fits spots.ColumnsEnd = refl
+skip_plan_fits spots.Rows = refl
+
 pub plan_fits : (t : Task) (spot : Spot) (untold : Bool) → is_proper t ≡ true → fault_in t ≡ None → PlanFits t (kind_in t) (plan_of t spot untold)
 plan_fits Nothing spot untold a e = refl
 plan_fits (Begun c) spot untold a e = first_plan (Begun c) c
@@ -138,5 +168,9 @@ plan_fits Reading spot true a e = refl
 plan_fits Reading spot false a e = read_plan_fits spot
 plan_fits Dropping spot true a e = refl
 plan_fits Dropping spot false a e = drop_plan_fits spot
+plan_fits Taking spot true a e = refl
+plan_fits Taking spot false a e = take_plan_fits spot
+plan_fits Skipping spot true a e = refl
+plan_fits Skipping spot false a e = skip_plan_fits spot
 plan_fits Leaving spot untold a e = refl
 plan_fits (Failing c fault) spot untold a e = cc

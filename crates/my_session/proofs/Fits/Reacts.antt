@@ -8,9 +8,9 @@ use Rattle.my_grammar.specs.declared.spot.Kind.{Kind}
 use Rattle.my_grammar.specs.declared.spot.Kind.TheVariants as kinds
 use Rattle.my_grammar.specs.Kinds.{kind_there}
 use Rattle.my_reading.specs.declared.call.CallKind.{CallKind}
-use Rattle.my_reading.specs.declared.call.CallKind.TheVariants.{Connect, Query, NextRow, DropResult, Ping, Quit}
+use Rattle.my_reading.specs.declared.call.CallKind.TheVariants.{Connect, Query, NextRow, DropResult, TakeSet, SkipTaken, Ping, Quit}
 use Rattle.my_session.specs.declared.task.Task.{Task}
-use Rattle.my_session.specs.declared.task.Task.TheVariants.{Nothing, Begun, Cleaning, Own, Arranging, Reading, Dropping, Leaving, Failing}
+use Rattle.my_session.specs.declared.task.Task.TheVariants.{Nothing, Begun, Cleaning, Own, Arranging, Reading, Dropping, Taking, Skipping, Leaving, Failing}
 use Rattle.my_session.specs.declared.tables.Reaction.{Reaction}
 use Rattle.my_session.specs.declared.tables.Reaction.TheVariants as reactions
 use Rattle.my_session.specs.Tasks.{kind_in, fault_in}
@@ -21,12 +21,13 @@ use Rattle.my_session.specs.Machine.{Needs, Move, fell, advanced, with_task, fai
 use Rattle.my_reading.specs.Rows.{row_at}
 use Rattle.my_session.specs.Seen.{Seen}
 use Rattle.my_session.specs.Tables.{react, react_whole, is_breaking, is_connecting}
-use Rattle.my_session.proofs.Fits.Moves.{is_proper, GoesOn, going, IsOn, on_here, on_task, on_fell, MoveFits, any_error, failed_fits}
+use Rattle.my_session.proofs.Fits.Moves.{is_proper, GoesOn, going, IsOn, on_here, on_task, on_taken, on_fell, MoveFits, any_error, failed_fits}
 
 -- what a reaction may be to a payload
 abbrev ReactionFits : Task → Option CallKind → Reaction → Type 0
 ReactionFits t c (reactions.Goes u) = GoesOn c u
 ReactionFits t c (reactions.Readies untold) = may_be_told c ToldReady ≡ true
+ReactionFits t c reactions.Takes = may_be_told c ToldReady ≡ true
 ReactionFits t c reactions.Gives = (row : RowParts) → may_be_told c (ToldRow row) ≡ true
 ReactionFits t c reactions.Ends = may_be_told c ToldEnd ≡ true
 ReactionFits t c reactions.PassesRow = (is_begun t ≡ false) × (fault_in t ≡ None)
@@ -100,11 +101,35 @@ dropping_react kinds.Row = (refl, refl)
 dropping_react (kinds.End status) = (refl, refl)
 dropping_react kinds.Bad = tt
 
+taking_react : (k : Kind) → ReactionFits Taking (Some TakeSet) (react Taking k)
+taking_react (kinds.Greets n) = tt
+taking_react (kinds.Good status) = refl
+taking_react kinds.Failed = tt
+taking_react (kinds.Count n) = going (Some TakeSet) Taking refl refl refl refl
+taking_react kinds.Column = going (Some TakeSet) Taking refl refl refl refl
+taking_react kinds.ColumnsDone = going (Some TakeSet) Taking refl refl refl refl
+taking_react kinds.Row = tt
+taking_react (kinds.End status) = tt
+taking_react kinds.Bad = tt
+
+skipping_react : (k : Kind) → ReactionFits Skipping (Some SkipTaken) (react Skipping k)
+skipping_react (kinds.Greets n) = tt
+skipping_react (kinds.Good status) = tt
+skipping_react kinds.Failed = tt
+skipping_react (kinds.Count n) = tt
+skipping_react kinds.Column = tt
+skipping_react kinds.ColumnsDone = tt
+skipping_react kinds.Row = (refl, refl)
+skipping_react (kinds.End status) = (refl, refl)
+skipping_react kinds.Bad = tt
+
 own_react : (c : CallKind) (k : Kind) → ReactionFits (Own c) (Some c) (react (Own c) k)
 own_react Connect k = connect_react k
 own_react Query k = query_react k
 own_react NextRow k = tt
 own_react DropResult k = tt
+own_react TakeSet k = tt
+own_react SkipTaken k = tt
 own_react Ping k = ping_react k
 own_react Quit k = tt
 
@@ -116,6 +141,8 @@ react_fits (Own c) k a = own_react c k
 react_fits (Arranging n) k a = whole_react (Arranging n) k a refl refl
 react_fits Reading k a = reading_react k
 react_fits Dropping k a = dropping_react k
+react_fits Taking k a = taking_react k
+react_fits Skipping k a = skipping_react k
 react_fits Leaving k a = tt
 react_fits (Failing c fault) k a = tt
 
@@ -144,6 +171,7 @@ refused_fits s n c (Some e) l = record { fits = any_error c _; is_on = on_either
 reacted_fits : (s n : Seen) (p : List ℕ) (r : Reaction) → IsOn s n → n.task ≡ s.task → is_proper s.task ≡ true → ReactionFits s.task (kind_in s.task) r → MoveFits (kind_in s.task) s (reacted s n p r)
 reacted_fits s n p (reactions.Goes t) l e a f = record { fits = f; is_on = on_task s n t n.untold l; own = λ _. tt }
 reacted_fits s n p (reactions.Readies untold) l e a f = record { fits = f; is_on = on_task s n Nothing untold l; own = λ _. tt }
+reacted_fits s n p reactions.Takes l e a f = record { fits = f; is_on = on_taken s (with_task n Nothing true) (on_task s n Nothing true l); own = λ _. tt }
 reacted_fits s n p reactions.Gives l e a f = gave_fits s n (kind_in s.task) (row_at s.facts.columns p) l f
 reacted_fits s n p reactions.Ends l e a f = record { fits = f; is_on = on_task s n Nothing n.untold l; own = λ _. tt }
 reacted_fits s n p reactions.PassesRow l e a f = passed_fits s n (row_at s.facts.columns p) l e a f

@@ -12,7 +12,7 @@ use Rattle.my_grammar.specs.Talk.{Talk, Asked, Queried, Silent, turns, client_by
 use Rattle.my_reading.specs.declared.call.Call.{Call}
 use Rattle.my_reading.specs.declared.call.Call.TheVariants as calls
 use Rattle.my_reading.specs.declared.call.CallKind.{CallKind}
-use Rattle.my_reading.specs.declared.call.CallKind.TheVariants.{Connect, Query, NextRow, DropResult, Ping, Quit}
+use Rattle.my_reading.specs.declared.call.CallKind.TheVariants.{Connect, Query, NextRow, DropResult, TakeSet, SkipTaken, Ping, Quit}
 use Rattle.my_reading.specs.Calls.{kind_of, call_of, asks}
 use Rattle.my_reading.specs.Commands.{opening, connecting, query_of, command_of, command_in, arranging_texts}
 use Rattle.my_reading.specs.Course.{Part, All, Head, Command, Goes, step, failure, return, with_command, reads, parts_of_texts, is_greeting}
@@ -50,7 +50,7 @@ texts_go_on [] (suc n) text e = cc
 texts_go_on (t ∷ texts) zero text e = let same : t ≡ text = cc in ap (λ x. x ∷ texts) same
 texts_go_on (t ∷ texts) (suc n) text e = texts_go_on texts n text e
 
-module _ (s : Seen) (call : Call) (p : Place) (m : Mirrors s.context s.number s.unread s.owed s.closed s.facts s.login p)
+module _ (s : Seen) (call : Call) (p : Place) (m : Mirrors s.context s.number s.unread s.owed s.closed s.facts s.login p) (marked : p.taken ≡ s.taken)
     (alive : s.closed ≡ false) (nothing : s.owed ≡ []) (call_is : call_with (kind_in s.task) s.text ≡ Some call)
     (told : s.untold ≡ false) (none_left : p.end_left ≡ false) (over : is_idle s.context.spot ≡ true) where
   -- the rest of the older exchange was read
@@ -80,7 +80,7 @@ module _ (s : Seen) (call : Call) (p : Place) (m : Mirrors s.context s.number s.
       rest = Command ∷ rest;
       place = p;
       leads = Then (All ∷ Command ∷ rest) p (Command ∷ rest) p (Command ∷ rest) p (passed (Command ∷ rest)) (Here (Command ∷ rest) p);
-      comes = inl (record { place = p; stops = commanded ∙ rw e refl; at = fallen_at s p s m; closed_is = refl });
+      comes = inl (record { place = p; stops = commanded ∙ rw e refl; at = fallen_at s p s m marked; closed_is = refl });
     })
     begun false e =
         let q : Place = with_exchange p call talk in
@@ -94,7 +94,7 @@ module _ (s : Seen) (call : Call) (p : Place) (m : Mirrors s.context s.number s.
           comes = (
             owes_here n.context n.number n.unread n.owed n.closed n.facts n.login q call rest f.0 f.1 alive w (ap (λ bs. bs ++ client_bytes (turns talk)) nothing ∙ f.2),
             record {
-              at = record { mirrors = w; end_is = λ _ _. sym (ap (λ b. b && not (passes_end u)) told); own_end = λ _. told; task_at = stands; settled = λ no. let stop : true ≡ false = sym owe ∙ no in cc };
+              at = record { mirrors = w; end_is = λ _ _. sym (ap (λ b. b && not (passes_end u)) told); taken_is = refl; own_end = λ _. told; task_at = stands; settled = λ no. let stop : true ≡ false = sym owe ∙ no in cc };
               alive = alive;
               sound = sound;
               call_is = ap (λ c. call_with c s.text) same ∙ call_is;
@@ -119,6 +119,8 @@ module _ (s : Seen) (call : Call) (p : Place) (m : Mirrors s.context s.number s.
       (some_bytes (packet_bytes (packets.Query s.text)) 0) refl _ refl
   asks_reads NextRow task sends is = cc
   asks_reads DropResult task sends is = cc
+  asks_reads TakeSet task sends is = cc
+  asks_reads SkipTaken task sends is = cc
   asks_reads Ping task sends is =
       let talk : Talk = Asked (next_terms s) (packet_bytes packets.Ping) in
       begun (tasks.Own Ping) (All ∷ []) talk (opens_own Ping talk is (λ _ _. refl) refl) (ap kind_in (sym task)) refl refl refl refl refl (record { kinds = tt; within = tt }) refl refl refl
@@ -138,7 +140,7 @@ module _ (s : Seen) (call : Call) (p : Place) (m : Mirrors s.context s.number s.
       comes = inl (record {
         place = p;
         stops = done;
-        at = record { mirrors = m; end_is = λ _ _. none_left ∙ sym (ap (λ b. b && true) told); own_end = λ no. cc; task_at = tt; settled = λ _. nothing };
+        at = record { mirrors = m; end_is = λ _ _. none_left ∙ sym (ap (λ b. b && true) told); taken_is = marked; own_end = λ no. cc; task_at = tt; settled = λ _. nothing };
         closed_is = alive ∙ ap (λ c. closes ToldReady (kind_of c)) (sym is);
       });
     })

@@ -1,5 +1,5 @@
 -- A payload that the machine reads is one that the reading reads, and both make the same of it.
-use Rattle.std.proofs.Common.{◌≡◌, ℕ, List, [], ◌∷◌, ◌++◌, length, nat_lt, Bool, true, false, cond, Option, Some, None, inl, refl, sym, ap, ◌∙◌, subst}
+use Rattle.std.proofs.Common.{◌≡◌, ℕ, List, [], ◌∷◌, ◌++◌, ◌&&◌, length, nat_lt, Bool, true, false, cond, Option, Some, None, inl, refl, sym, ap, ◌∙◌, subst}
 use Rattle.my_flags.specs.declared.flags.CapabilityFlags.{CapabilityFlags}
 use Rattle.my_flags.specs.declared.flags.StatusFlags.{StatusFlags}
 use Rattle.my_flags.specs.Sets.{deprecates_eof}
@@ -21,35 +21,36 @@ use Rattle.my_grammar.specs.Kinds.{kind_there}
 use Rattle.my_grammar.specs.Response.{response}
 use Rattle.my_grammar.specs.Talk.{context_of}
 use Rattle.my_reading.specs.declared.call.Call.{Call}
-use Rattle.my_reading.specs.declared.call.CallKind.TheVariants.{Connect, Query, NextRow, Ping}
+use Rattle.my_reading.specs.declared.call.CallKind.TheVariants.{Connect, Query, NextRow, TakeSet, SkipTaken, Ping}
 use Rattle.my_reading.specs.declared.error.Error.TheVariants as errors
 use Rattle.my_reading.specs.declared.facts.Facts.{Facts}
 use Rattle.my_reading.specs.Calls.{kind_of as call_kind, is_connect}
 use Rattle.my_reading.specs.Commands.{arranging_texts}
-use Rattle.my_reading.specs.Course.{Part, All, Head, Item, Goes, step, failure, unfit, return, with_front, reads, after_payload, parts_of_texts, is_rows, is_greeting}
+use Rattle.my_reading.specs.Course.{Part, All, Head, Item, Set, Rest, Goes, step, failure, unfit, return, with_front, reads, after_payload, parts_of_texts, is_rows, is_greeting}
 use Rattle.my_reading.specs.Errors.{codec_error, invalid_data, server_error}
 use Rattle.my_reading.specs.Leads.{Leads, Here, Then}
-use Rattle.my_reading.specs.Place.{Place, exchanges, facts_at, facts_of, connects_in, with_end, with_talk}
+use Rattle.my_reading.specs.Place.{Place, exchanges, facts_at, facts_of, connects_in, with_end, with_taken, with_talk}
 use Rattle.my_reading.specs.Rows.{row_at, row_or}
 use Rattle.my_reading.specs.Told.{Told, ToldReady, ToldRow, ToldEnd, ToldError, closes}
 use Rattle.my_session.specs.declared.task.Task.{Task}
 use Rattle.my_session.specs.declared.task.Task.TheVariants as tasks
-use Rattle.my_session.specs.Machine.{Goes as MachineGoes, Passes, Tells, Move, advanced, fell, failed_by, with_task, refused, gave, passed, reacted, above, unless_above, reply_to, reply_bytes}
+use Rattle.my_session.specs.Machine.{Goes as MachineGoes, Passes, Tells, Move, advanced, fell, failed_by, with_task, with_taken as with_mark, refused, gave, passed, reacted, above, unless_above, reply_to, reply_bytes}
 use Rattle.my_session.specs.Mirror.{Mirrors, StandsAt, OpenAt, MoveReads, TaskStandsAt, own_parts, parts_left}
 use Rattle.my_session.specs.Seen.{Seen}
 use Rattle.my_session.specs.Stands.{owes, call_with, is_shaking}
 use Rattle.my_session.specs.Tables.{react, react_whole, is_breaking, is_connecting}
 use Rattle.my_session.specs.Tasks.{kind_in, fault_in}
 use Rattle.my_session.proofs.Faults.Payloads.{told_columns, row_reads}
-use Rattle.my_session.proofs.Mirror.Fields.{mirrors_fallen, mirrors_read, mirrors_with_end, step_here, front_here, kind_here, place_here}
+use Rattle.my_session.proofs.Mirror.Fields.{mirrors_fallen, mirrors_read, mirrors_with_end, mirrors_with_taken, step_here, front_here, kind_here, place_here}
 use Rattle.my_session.proofs.Stands.Spots.{is_known, known, row_spot, end_spot, not_greeting}
 use Rattle.my_session.proofs.Stands.Wired.{silent, limit_is}
 
 -- a closed session stands where it stood
-pub fallen_at : (s : Seen) (q : Place) (n : Seen) → Mirrors n.context n.number n.unread n.owed n.closed n.facts n.login q → StandsAt (fell n) q
-fallen_at s q n m = record {
+pub fallen_at : (s : Seen) (q : Place) (n : Seen) → Mirrors n.context n.number n.unread n.owed n.closed n.facts n.login q → q.taken ≡ n.taken → StandsAt (fell n) q
+fallen_at s q n m marked = record {
   mirrors = mirrors_fallen n.context n.number n.unread n.owed n.closed n.facts n.login q m;
   end_is = λ no _. cc;
+  taken_is = marked;
   own_end = λ no. cc;
   task_at = tt;
   settled = λ _. refl;
@@ -118,7 +119,7 @@ simple_single kinds.Bad f g = cc
 no_rows : (b : Bool) (x : Spot) → x ≡ spots.Rows → is_rows x ≡ b → b ≡ false → ⊥
 no_rows b x e f g = let h : is_rows x ≡ true = ap is_rows e in let i : true ≡ false = sym h ∙ f ∙ g in cc
 
-module _ (s : Seen) (call : Call) (p : Place) (m : Mirrors s.context s.number s.unread s.owed s.closed s.facts s.login p)
+module _ (s : Seen) (call : Call) (p : Place) (m : Mirrors s.context s.number s.unread s.owed s.closed s.facts s.login p) (marked : p.taken ≡ s.taken)
     (alive : s.closed ≡ false) (nothing : s.owed ≡ []) (call_is : call_with (kind_in s.task) s.text ≡ Some call)
     (payload rest : List ℕ) (next : ℕ) (at : front_at s.number s.context.terms.limit s.unread ≡ Whole payload rest next)
     (whole : IsWhole s.number s.context.terms.limit s.unread payload rest next) where
@@ -139,6 +140,11 @@ module _ (s : Seen) (call : Call) (p : Place) (m : Mirrors s.context s.number s.
       → Mirrors (following k).context (following k).number rest (following k).owed s.closed (following k).facts s.login (new k)
   mirrors_new k e good = mirrors_read s.context s.number s.unread s.owed s.closed s.facts s.login p k payload rest next alive nothing e good whole m
 
+  taken_new : (k : Kind) → kind_there s.context payload ≡ k → is_bad k ≡ false → (new k).taken ≡ (following k).taken
+  taken_new k e good =
+      ap (λ b. b && is_rows (context_of (new k).talk).spot) marked
+      ∙ ap (λ (c : Context). s.taken && is_rows c.spot) (sym (mirrors_new k e good).context_is)
+
   none_owed : (k : Kind) → not_greets k ≡ true → s.owed ++ reply_bytes (reply_to s.login k payload) next ≡ []
   none_owed k quiet = ap (λ bs. bs ++ reply_bytes (reply_to s.login k payload) next) nothing ∙ silent s.login k payload next quiet
 
@@ -155,7 +161,7 @@ module _ (s : Seen) (call : Call) (p : Place) (m : Mirrors s.context s.number s.
       → TaskStandsAt t (spot_by k) (connects_in (exchanges p)) → (owes t ≡ false → not_greets k ≡ true)
       → OpenAt (with_task (following k) t false) call (parts_left s.login t) (new k)
   goes_to t k e good same sound stands quiet = record {
-    at = record { mirrors = mirrors_new k e good; end_is = λ _ _. refl; own_end = λ _. refl; task_at = stands; settled = λ no. none_owed k (quiet no) };
+    at = record { mirrors = mirrors_new k e good; end_is = λ _ _. refl; taken_is = taken_new k e good; own_end = λ _. refl; task_at = stands; settled = λ no. none_owed k (quiet no) };
     alive = alive;
     sound = sound;
     call_is = ap (λ c. call_with c s.text) same ∙ call_is;
@@ -172,7 +178,7 @@ module _ (s : Seen) (call : Call) (p : Place) (m : Mirrors s.context s.number s.
 
   -- the call ends, and the session rests
   rests_at : (k : Kind) → kind_there s.context payload ≡ k → is_bad k ≡ false → not_greets k ≡ true → StandsAt (with_task (following k) tasks.Nothing false) (new k)
-  rests_at k e good quiet = record { mirrors = mirrors_new k e good; end_is = λ _ _. refl; own_end = λ _. refl; task_at = tt; settled = λ _. none_owed k quiet }
+  rests_at k e good quiet = record { mirrors = mirrors_new k e good; end_is = λ _ _. refl; taken_is = taken_new k e good; own_end = λ _. refl; task_at = tt; settled = λ _. none_owed k quiet }
 
   one : (parts more : List Part) (q : Place) → step s.login call parts p ≡ Goes more q → Leads s.login call parts p more q
   one parts more q e = Then parts p more q more q e (Here more q)
@@ -187,7 +193,7 @@ module _ (s : Seen) (call : Call) (p : Place) (m : Mirrors s.context s.number s.
       comes = inl (record {
         place = p;
         stops = e ∙ ap (λ n. failure p (invalid_data n)) (place_here s.context s.number s.unread s.owed s.closed s.facts s.login p m);
-        at = fallen_at s p s m;
+        at = fallen_at s p s m marked;
         closed_is = refl;
       });
     }
@@ -211,7 +217,7 @@ module _ (s : Seen) (call : Call) (p : Place) (m : Mirrors s.context s.number s.
             closing_by : (b : Bool) → is_connecting s.task ≡ b → is_connect (call_kind call) ≡ b → MoveReads s call parts p (refused s (following kinds.Failed) (Some packet))
             closing_by true on c =
                 rw on (returns (ToldError (errors.Server (server_error packet))) (fell (following kinds.Failed)) (new kinds.Failed) (e ∙ rw i refl)
-                (fallen_at s (new kinds.Failed) (following kinds.Failed) (mirrors_new kinds.Failed k refl)) (sym c))
+                (fallen_at s (new kinds.Failed) (following kinds.Failed) (mirrors_new kinds.Failed k refl) (taken_new kinds.Failed k refl)) (sym c))
             closing_by false off c =
                 rw off (returns (ToldError (errors.Server (server_error packet))) (with_task (following kinds.Failed) tasks.Nothing false) (new kinds.Failed) (e ∙ rw i refl)
                 (rests_at kinds.Failed k refl refl) (alive ∙ sym c))
@@ -315,7 +321,7 @@ module _ (s : Seen) (call : Call) (p : Place) (m : Mirrors s.context s.number s.
         by_length : (b : Bool) → nat_lt s.context.terms.limit (length (response s.login payload)) ≡ b
             → step s.login call (own_parts s.login Connect) p ≡ cond (nat_lt s.context.terms.limit (length (response s.login payload))) (failure p (codec_error (TooLarge (length (response s.login payload)) s.context.terms.limit))) (Goes (All ∷ setting_up) (new (kinds.Greets n)))
             → MoveReads s call (own_parts s.login Connect) p (move_at (tasks.Own Connect) (kinds.Greets n))
-        by_length true i f = rw i (returns (own_parts s.login Connect) (ToldError (codec_error (TooLarge (length (response s.login payload)) s.context.terms.limit))) (fell s) p (f ∙ rw i refl) (fallen_at s p s m) refl)
+        by_length true i f = rw i (returns (own_parts s.login Connect) (ToldError (codec_error (TooLarge (length (response s.login payload)) s.context.terms.limit))) (fell s) p (f ∙ rw i refl) (fallen_at s p s m marked) refl)
         by_length false i f = rw i (record {
           rest = own_parts s.login Connect;
           place = new (kinds.Greets n);
@@ -400,7 +406,7 @@ module _ (s : Seen) (call : Call) (p : Place) (m : Mirrors s.context s.number s.
           comes = inl (record {
             place = with_end (new k);
             stops = last;
-            at = record { mirrors = w; end_is = λ _ _. refl; own_end = λ no. cc; task_at = tt; settled = λ _. none_owed k refl };
+            at = record { mirrors = w; end_is = λ _ _. refl; taken_is = taken_new k e refl; own_end = λ no. cc; task_at = tt; settled = λ _. none_owed k refl };
             closed_is = alive ∙ ap (closes ToldReady) (sym query);
           });
         }
@@ -460,6 +466,75 @@ module _ (s : Seen) (call : Call) (p : Place) (m : Mirrors s.context s.number s.
     reading_reads kinds.Row e = gives (row_at s.facts.columns payload) refl e
     reading_reads (kinds.End status) e = ends (kinds.End status) e refl refl (item_is (kinds.End status) e)
     reading_reads kinds.Bad e = unfits (Item ∷ []) (item_is kinds.Bad e)
+
+  -- the head of the next set, which a stream takes
+  module _ (reading : step s.login call (Set ∷ []) p ≡ reads s.login Set [] p) (task : s.task ≡ tasks.Taking) (past : is_greeting s.context.spot ≡ false)
+      (before : is_rows s.context.spot ≡ false) (take : call_kind call ≡ TakeSet) where
+    set_is : (k : Kind) → kind_there s.context payload ≡ k → step s.login call (Set ∷ []) p ≡ after_payload s.login Set [] p (new k) payload k
+    set_is k e = reading ∙ reads_it Set [] k e
+
+    set_goes : (k : Kind) → kind_there s.context payload ≡ k → is_bad k ≡ false → not_greets k ≡ true → step s.login call (Set ∷ []) p ≡ Goes (Set ∷ []) (new k)
+        → MoveReads s call (Set ∷ []) p (record { seen = with_task (following k) tasks.Taking false; does = MachineGoes })
+    set_goes k e good quiet stepped = record {
+      rest = Set ∷ [];
+      place = new k;
+      leads = one (Set ∷ []) (Set ∷ []) (new k) stepped;
+      comes = goes_to tasks.Taking k e good (ap kind_in (sym task)) refl (not_greeting s.context.spot (deprecates_eof s.context.terms.kept) k) (λ _. quiet);
+    }
+
+    takes_lone : (status : StatusFlags) → kind_there s.context payload ≡ kinds.Good status → MoveReads s call (Set ∷ []) p (move_at tasks.Taking (kinds.Good status))
+    takes_lone status e =
+        let k : Kind = kinds.Good status in
+        let n = following k in
+        let w = mirrors_with_end n.context n.number rest n.owed s.closed n.facts s.login (new k) (not_greeting s.context.spot (deprecates_eof s.context.terms.kept) k) (mirrors_new k e refl) in
+        let v = mirrors_with_taken n.context n.number rest n.owed s.closed n.facts s.login (with_end (new k)) w in
+        returns (Set ∷ []) ToldReady (with_mark (with_task n tasks.Nothing true)) (with_taken (with_end (new k))) (set_is k e)
+        (record { mirrors = v; end_is = λ _ _. refl; taken_is = refl; own_end = λ no. cc; task_at = tt; settled = λ _. none_owed k refl })
+        (alive ∙ ap (closes ToldReady) (sym take))
+
+    pub taking_reads : (k : Kind) → kind_there s.context payload ≡ k → MoveReads s call (Set ∷ []) p (move_at tasks.Taking k)
+    taking_reads (kinds.Greets n) e = absurd (no_greeting [] n past e)
+    taking_reads (kinds.Good status) e = takes_lone status e
+    taking_reads kinds.Failed e = errs (Set ∷ []) (err_at (is_greeting s.context.spot) payload) refl e false (ap is_connecting task) (ap is_connect take) (set_is kinds.Failed e)
+    taking_reads (kinds.Count n) e = set_goes (kinds.Count n) e refl refl (set_is (kinds.Count n) e)
+    taking_reads kinds.Column e = set_goes kinds.Column e refl refl (set_is kinds.Column e)
+    taking_reads kinds.ColumnsDone e = set_goes kinds.ColumnsDone e refl refl (set_is kinds.ColumnsDone e)
+    taking_reads kinds.Row e = absurd (no_rows _ s.context.spot (row_spot s.context.spot (knows kinds.Row e)) refl before)
+    taking_reads (kinds.End status) e = absurd (no_rows _ s.context.spot (end_spot s.context.spot status (knows (kinds.End status) e)) refl before)
+    taking_reads kinds.Bad e = unfits (Set ∷ []) (set_is kinds.Bad e)
+
+  -- the rest of a set, which is passed over
+  module _ (reading : step s.login call (Rest ∷ []) p ≡ reads s.login Rest [] p) (task : s.task ≡ tasks.Skipping) (past : is_greeting s.context.spot ≡ false)
+      (rows : s.context.spot ≡ spots.Rows) (skip : call_kind call ≡ SkipTaken) where
+    rest_is : (k : Kind) → kind_there s.context payload ≡ k → step s.login call (Rest ∷ []) p ≡ after_payload s.login Rest [] p (new k) payload k
+    rest_is k e = reading ∙ reads_it Rest [] k e
+
+    passes_rest : (k : Kind) (t : Told) → kind_there s.context payload ≡ k → is_bad k ≡ false → not_greets k ≡ true → step s.login call (Rest ∷ []) p ≡ Goes (Rest ∷ []) (new k)
+        → MoveReads s call (Rest ∷ []) p (record { seen = following k; does = Passes t })
+    passes_rest k t e good quiet stepped = record {
+      rest = Rest ∷ [];
+      place = new k;
+      leads = one (Rest ∷ []) (Rest ∷ []) (new k) stepped;
+      comes = stays tasks.Skipping k task e good refl (not_greeting s.context.spot (deprecates_eof s.context.terms.kept) k) (λ _. quiet);
+    }
+
+    skips_row : (x : Option RowParts) → row_at s.facts.columns payload ≡ x → kind_there s.context payload ≡ kinds.Row → MoveReads s call (Rest ∷ []) p (passed s (following kinds.Row) x)
+    skips_row None is e = let some = row_there e in let no : None ≡ Some some.0 = sym is ∙ some.1 in cc
+    skips_row (Some row) is e = passes_rest kinds.Row (ToldRow row) e refl refl (rest_is kinds.Row e)
+
+    among_rows : (k : Kind) → kind_there s.context payload ≡ k → is_known spots.Rows k ≡ true
+    among_rows k e = subst (λ (x : Spot). is_known x k ≡ true) rows (knows k e)
+
+    pub skipping_reads : (k : Kind) → kind_there s.context payload ≡ k → MoveReads s call (Rest ∷ []) p (move_at tasks.Skipping k)
+    skipping_reads (kinds.Greets n) e = absurd (no_greeting [] n past e)
+    skipping_reads (kinds.Good status) e = let no = among_rows (kinds.Good status) e in cc
+    skipping_reads kinds.Failed e = errs (Rest ∷ []) (err_at (is_greeting s.context.spot) payload) refl e false (ap is_connecting task) (ap is_connect skip) (rest_is kinds.Failed e)
+    skipping_reads (kinds.Count n) e = let no = among_rows (kinds.Count n) e in cc
+    skipping_reads kinds.Column e = let no = among_rows kinds.Column e in cc
+    skipping_reads kinds.ColumnsDone e = let no = among_rows kinds.ColumnsDone e in cc
+    skipping_reads kinds.Row e = skips_row (row_at s.facts.columns payload) refl e
+    skipping_reads (kinds.End status) e = passes_rest (kinds.End status) ToldEnd e refl refl (rest_is (kinds.End status) e)
+    skipping_reads kinds.Bad e = unfits (Rest ∷ []) (rest_is kinds.Bad e)
 
   pub whole_reads_all : (parts : List Part) → step s.login call (All ∷ parts) p ≡ reads s.login All parts p → (t : Task) → All ∷ parts ≡ parts_left s.login t → kind_in t ≡ kind_in s.task → fault_in t ≡ None
       → is_greeting s.context.spot ≡ false → ((k : Kind) → TaskStandsAt t (spot_by k) (connects_in (exchanges p))) → (b : Bool) → is_connecting s.task ≡ b → is_connect (call_kind call) ≡ b

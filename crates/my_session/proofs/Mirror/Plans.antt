@@ -1,5 +1,5 @@
 -- What a task does next is what the reading does.
-use Rattle.std.proofs.Common.{◌≡◌, ℕ, List, [], ◌∷◌, drop, ◌&&◌, not, Bool, true, false, cond, Some, None, inl, inr, refl, sym, ap, ◌∙◌, subst}
+use Rattle.std.proofs.Common.{◌≡◌, ℕ, List, [], ◌∷◌, drop, ◌&&◌, ◌||◌, not, Bool, true, false, cond, Some, None, inl, inr, refl, sym, ap, ◌∙◌, subst}
 use Rattle.my_frame.specs.Front.{Front, Waiting, Broken, Whole, front_at}
 use Rattle.my_frame.specs.FrontLaws.{AreBytes, IsWhole}
 use Rattle.my_frame.proofs.Meanings.{whole_stands}
@@ -9,17 +9,18 @@ use Rattle.my_grammar.specs.declared.spot.Spot.{Spot}
 use Rattle.my_grammar.specs.declared.spot.Spot.TheVariants as spots
 use Rattle.my_grammar.specs.Contexts.{spot_after}
 use Rattle.my_grammar.specs.Cut.{is_over, is_idle}
+use Rattle.my_grammar.specs.Talk.{context_of}
 use Rattle.my_grammar.specs.Kinds.{kind_there}
 use Rattle.my_flags.specs.Sets.{deprecates_eof}
 use Rattle.my_reading.specs.declared.call.Call.{Call}
 use Rattle.my_reading.specs.declared.call.CallKind.{CallKind}
-use Rattle.my_reading.specs.declared.call.CallKind.TheVariants.{Connect, Query, NextRow, DropResult, Ping, Quit}
+use Rattle.my_reading.specs.declared.call.CallKind.TheVariants.{Connect, Query, NextRow, DropResult, TakeSet, SkipTaken, Ping, Quit}
 use Rattle.my_reading.specs.Calls.{kind_of, call_of, asks, is_connect}
 use Rattle.my_reading.specs.Commands.{arranging_texts}
-use Rattle.my_reading.specs.Course.{Part, All, Head, Item, Command, Goes, step, step_of, return, with_front, reads, parts_of, parts_of_texts, is_rows, is_greeting}
+use Rattle.my_reading.specs.Course.{Part, All, Head, Item, Set, Rest, Command, Goes, step, step_of, return, with_front, reads, parts_of, parts_of_texts, is_rows, is_greeting}
 use Rattle.my_reading.specs.Errors.{invalid_data, unexpected_eof}
 use Rattle.my_reading.specs.Leads.{Here, Then}
-use Rattle.my_reading.specs.Place.{Place, exchanges, connects_in, without_end}
+use Rattle.my_reading.specs.Place.{Place, exchanges, connects_in, without_end, with_taken}
 use Rattle.my_reading.specs.Told.{ToldReady, ToldEnd, ToldNone, ToldError, closes}
 use Rattle.my_session.specs.declared.tables.Plan.{Plan}
 use Rattle.my_session.specs.declared.tables.Plan.TheVariants as plans
@@ -29,10 +30,10 @@ use Rattle.my_session.specs.Machine.{Needs, failed_by, with_task, reading, react
 use Rattle.my_session.specs.Mirror.{Mirrors, StandsAt, OpenAt, MoveReads, EachMoveReads, TaskStandsAt, OwnStandsAt, BegunStandsAt, is_own, own_parts, parts_left, passes_end}
 use Rattle.my_session.specs.Seen.{Seen}
 use Rattle.my_session.specs.Stands.{call_with, is_shaking}
-use Rattle.my_session.specs.Tables.{plan_of, clean_plan, read_plan, drop_plan, query_plan, own_plan, first_task, react, react_whole, is_breaking, is_connecting}
+use Rattle.my_session.specs.Tables.{plan_of, clean_plan, read_plan, drop_plan, take_plan, skip_plan, query_plan, own_plan, first_task, react, react_whole, is_breaking, is_connecting}
 use Rattle.my_session.specs.Tasks.{kind_in, fault_in}
-use Rattle.my_session.proofs.Mirror.Fields.{mirrors_without_end, step_here, owes_here, front_here, place_here}
-use Rattle.my_session.proofs.Mirror.Payloads.{fallen_at, connect_reads, ping_reads, query_reads, reading_reads, dropping_reads, whole_reads_all}
+use Rattle.my_session.proofs.Mirror.Fields.{mirrors_without_end, mirrors_with_taken, step_here, owes_here, front_here, place_here}
+use Rattle.my_session.proofs.Mirror.Payloads.{fallen_at, connect_reads, ping_reads, query_reads, reading_reads, dropping_reads, taking_reads, skipping_reads, whole_reads_all}
 use Rattle.my_session.proofs.Mirror.Commands.{asks_reads, arranges_reads, passed}
 use Rattle.my_session.proofs.Stands.Spots.{not_greeting}
 
@@ -50,6 +51,8 @@ kind_of_call Connect text = refl
 kind_of_call Query text = refl
 kind_of_call NextRow text = refl
 kind_of_call DropResult text = refl
+kind_of_call TakeSet text = refl
+kind_of_call SkipTaken text = refl
 kind_of_call Ping text = refl
 kind_of_call Quit text = refl
 
@@ -58,6 +61,8 @@ asks_not Connect e = cc
 asks_not Query e = refl
 asks_not NextRow e = refl
 asks_not DropResult e = refl
+asks_not TakeSet e = refl
+asks_not SkipTaken e = refl
 asks_not Ping e = refl
 asks_not Quit e = refl
 
@@ -76,18 +81,18 @@ module _ (s : Seen) (call : Call) (p : Place) (o : OpenAt s call (parts_left s.l
   end_at t e = o.at.end_is o.alive o.sound ∙ ap (λ u. s.untold && not (passes_end u)) e
 
   -- the session goes on with this task at the same place, or rests there
-  goes_at : (t : Task) (untold : Bool) (q : Place) → (is_own t ≡ true → untold ≡ false) → Mirrors s.context s.number s.unread s.owed s.closed s.facts s.login q → kind_in t ≡ kind_in s.task → fault_in t ≡ None
+  goes_at : (t : Task) (untold : Bool) (q : Place) → (is_own t ≡ true → untold ≡ false) → Mirrors s.context s.number s.unread s.owed s.closed s.facts s.login q → q.taken ≡ s.taken → kind_in t ≡ kind_in s.task → fault_in t ≡ None
       → q.end_left ≡ untold && not (passes_end t) → TaskStandsAt t s.context.spot (connects_in (exchanges q)) → OpenAt (with_task s t untold) call (parts_left s.login t) q
-  goes_at t untold q own w same sound end stands = record {
-    at = record { mirrors = w; end_is = λ _ _. end; own_end = own; task_at = stands; settled = λ _. nothing };
+  goes_at t untold q own w marked same sound end stands = record {
+    at = record { mirrors = w; end_is = λ _ _. end; taken_is = marked; own_end = own; task_at = stands; settled = λ _. nothing };
     alive = o.alive;
     sound = sound;
     call_is = ap (λ c. call_with c s.text) same ∙ o.call_is;
     parts_are = refl;
   }
 
-  rests_at : (untold : Bool) (q : Place) → Mirrors s.context s.number s.unread s.owed s.closed s.facts s.login q → q.end_left ≡ untold && true → StandsAt (with_task s tasks.Nothing untold) q
-  rests_at untold q w end = record { mirrors = w; end_is = λ _ _. end; own_end = λ no. cc; task_at = tt; settled = λ _. nothing }
+  rests_at : (untold : Bool) (q : Place) → Mirrors s.context s.number s.unread s.owed s.closed s.facts s.login q → q.taken ≡ s.taken → q.end_left ≡ untold && true → StandsAt (with_task s tasks.Nothing untold) q
+  rests_at untold q w marked end = record { mirrors = w; end_is = λ _ _. end; taken_is = marked; own_end = λ no. cc; task_at = tt; settled = λ _. nothing }
 
   abbrev quiet : Place
   quiet = without_end p
@@ -132,7 +137,7 @@ module _ (s : Seen) (call : Call) (p : Place) (o : OpenAt s call (parts_left s.l
         stops = at_front Waiting w;
         ended_is = e;
         error_is = ap (λ n. ToldError (unexpected_eof n)) (sym (place_here s.context s.number s.unread s.owed s.closed s.facts s.login p m));
-        at = fallen_at s p s m;
+        at = fallen_at s p s m o.at.taken_is;
         closed_is = refl;
       });
     }
@@ -149,7 +154,7 @@ module _ (s : Seen) (call : Call) (p : Place) (o : OpenAt s call (parts_left s.l
       rest = part ∷ parts;
       place = p;
       leads = Here (part ∷ parts) p;
-      comes = inl (record { place = p; stops = at_front (Broken fault) e; at = fallen_at s p s m; closed_is = refl });
+      comes = inl (record { place = p; stops = at_front (Broken fault) e; at = fallen_at s p s m o.at.taken_is; closed_is = refl });
     }
     by_front (Whole payload rest next) e =
         let whole = whole_stands s.number s.context.terms.limit s.unread payload rest next bytes e in
@@ -168,7 +173,7 @@ module _ (s : Seen) (call : Call) (p : Place) (o : OpenAt s call (parts_left s.l
     place = p;
     leads = Here parts p;
     comes = subst (λ xs. OpenAt (with_task s t s.untold) call xs p) (sym left)
-        (goes_at t s.untold p own m same sound (o.at.end_is o.alive o.sound ∙ ap (λ b. s.untold && not b) kept ∙ ap (λ b. s.untold && not b) (sym keeps)) stands);
+        (goes_at t s.untold p own m o.at.taken_is same sound (o.at.end_is o.alive o.sound ∙ ap (λ b. s.untold && not b) kept ∙ ap (λ b. s.untold && not b) (sym keeps)) stands);
   }
 
   -- before its first command a call passes over an end that is left
@@ -182,7 +187,7 @@ module _ (s : Seen) (call : Call) (p : Place) (o : OpenAt s call (parts_left s.l
         place = quiet;
         leads = Then (All ∷ parts) p (All ∷ parts) quiet (All ∷ parts) quiet
             (here (All ∷ parts) ∙ ap (λ b. cond b (Goes (All ∷ parts) quiet) (cond (is_over p.talk) (Goes parts p) (reads s.login All parts p))) end) (Here (All ∷ parts) quiet);
-        comes = goes_at (tasks.Cleaning c) s.untold quiet (λ no. cc) quiet_mirrors (ap kind_in (sym task)) refl (sym (and_false s.untold)) (sends, past);
+        comes = goes_at (tasks.Cleaning c) s.untold quiet (λ no. cc) quiet_mirrors o.at.taken_is (ap kind_in (sym task)) refl (sym (and_false s.untold)) (sends, past);
       })
   cleans_first c task sends left past false e =
       let parts = Command ∷ own_parts s.login c in
@@ -191,7 +196,7 @@ module _ (s : Seen) (call : Call) (p : Place) (o : OpenAt s call (parts_left s.l
         rest = All ∷ parts;
         place = p;
         leads = Here (All ∷ parts) p;
-        comes = goes_at (tasks.Cleaning c) s.untold p (λ no. cc) m (ap kind_in (sym task)) refl (end ∙ sym (and_false s.untold)) (sends, past);
+        comes = goes_at (tasks.Cleaning c) s.untold p (λ no. cc) m o.at.taken_is (ap kind_in (sym task)) refl (end ∙ sym (and_false s.untold)) (sends, past);
       })
 
   begun_quiet : s.task ≡ tasks.Begun Connect → s.context.spot ≡ spots.Greeting → s.untold ≡ false
@@ -202,11 +207,13 @@ module _ (s : Seen) (call : Call) (p : Place) (o : OpenAt s call (parts_left s.l
     rest = own_parts s.login Connect;
     place = p;
     leads = Here (own_parts s.login Connect) p;
-    comes = goes_at (tasks.Own Connect) s.untold p (λ _. begun_quiet task at.0) m (ap kind_in (sym task)) refl (end_at (tasks.Begun Connect) task) (ap is_shaking at.0, at.1);
+    comes = goes_at (tasks.Own Connect) s.untold p (λ _. begun_quiet task at.0) m o.at.taken_is (ap kind_in (sym task)) refl (end_at (tasks.Begun Connect) task) (ap is_shaking at.0, at.1);
   }
   begun_reads Query task at = cleans_first Query task refl refl at s.untold refl
   begun_reads NextRow task at = starts tasks.Reading (Item ∷ []) refl (ap kind_in (sym task)) refl refl (ap passes_end task) (λ no. cc) at
   begun_reads DropResult task at = starts tasks.Dropping (All ∷ []) refl (ap kind_in (sym task)) refl refl (ap passes_end task) (λ no. cc) at
+  begun_reads TakeSet task at = starts tasks.Taking (Set ∷ []) refl (ap kind_in (sym task)) refl refl (ap passes_end task) (λ no. cc) at
+  begun_reads SkipTaken task at = starts tasks.Skipping (Rest ∷ []) refl (ap kind_in (sym task)) refl refl (ap passes_end task) (λ no. cc) at
   begun_reads Ping task at = cleans_first Ping task refl refl at s.untold refl
   begun_reads Quit task at = cleans_first Quit task refl refl at s.untold refl
 
@@ -224,7 +231,7 @@ module _ (s : Seen) (call : Call) (p : Place) (o : OpenAt s call (parts_left s.l
     cleans_on on = reads_front All parts t task (all_here parts none_left on)
         (λ payload rest next e whole k kind. subst (λ r. MoveReads s call (All ∷ parts) p (cond (is_breaking r) (failed_by s (invalid_data s.facts.place))
         (unless_above s (above s.context.terms.limit (reply_to s.login k payload)) (reacted s (advanced s k payload rest next) payload r)))) (sym (same_react k))
-        (whole_reads_all s call p m o.alive nothing o.call_is payload rest next e whole parts (all_here parts none_left on) t left (ap kind_in (sym task)) sound past stays b connecting connect k kind))
+        (whole_reads_all s call p m o.at.taken_is o.alive nothing o.call_is payload rest next e whole parts (all_here parts none_left on) t left (ap kind_in (sym task)) sound past stays b connecting connect k kind))
         (left ∙ ap (parts_left s.login) (sym task))
 
     cleans_over : (u : Bool) → s.untold ≡ u → is_idle s.context.spot ≡ true → MoveReads s call (All ∷ parts) p (planned s (cond u plans.Hears plan))
@@ -233,7 +240,7 @@ module _ (s : Seen) (call : Call) (p : Place) (o : OpenAt s call (parts_left s.l
       place = p;
       leads = Here (All ∷ parts) p;
       comes = subst (λ xs. OpenAt (with_task s s.task false) call xs p) (sym (left ∙ ap (parts_left s.login) (sym task)))
-          (goes_at s.task false p (λ _. refl) m refl o.sound none_left (subst (λ u. TaskStandsAt u s.context.spot (connects_in (exchanges p))) (sym task) now));
+          (goes_at s.task false p (λ _. refl) m o.at.taken_is refl o.sound none_left (subst (λ u. TaskStandsAt u s.context.spot (connects_in (exchanges p))) (sym task) now));
     }
     cleans_over false e idle = then_ e none_left idle
 
@@ -255,7 +262,7 @@ module _ (s : Seen) (call : Call) (p : Place) (o : OpenAt s call (parts_left s.l
 
     item_on : s.untold ≡ false → is_idle s.context.spot ≡ false → MoveReads s call (Item ∷ []) p (planned s plans.Reads)
     item_on told on = reads_front Item [] tasks.Reading task (item_here (end_here ∙ told) on)
-        (λ payload rest next e whole k kind. reading_reads s call p m o.alive nothing o.call_is payload rest next e whole (item_here (end_here ∙ told) on) task past (kind_here_is NextRow (ap kind_in task)) k kind)
+        (λ payload rest next e whole k kind. reading_reads s call p m o.at.taken_is o.alive nothing o.call_is payload rest next e whole (item_here (end_here ∙ told) on) task past (kind_here_is NextRow (ap kind_in task)) k kind)
         (ap (parts_left s.login) (sym task))
 
     item_by : s.untold ≡ false → (x : Spot) → s.context.spot ≡ x → MoveReads s call (Item ∷ []) p (planned s (read_plan x))
@@ -268,7 +275,7 @@ module _ (s : Seen) (call : Call) (p : Place) (o : OpenAt s call (parts_left s.l
         stops = here (Item ∷ [])
             ∙ ap (λ b. cond b (return quiet ToldEnd) (cond (is_over p.talk) (return p ToldNone) (reads s.login Item [] p))) (end_here ∙ told)
             ∙ ap (λ b. cond b (return p ToldNone) (reads s.login Item [] p)) (ap (λ (c : Context). is_idle c.spot) (sym m.context_is) ∙ ap is_idle e);
-        at = rests_at s.untold p m (end_here ∙ sym (and_true s.untold));
+        at = rests_at s.untold p m o.at.taken_is (end_here ∙ sym (and_true s.untold));
         closed_is = o.alive;
       });
     }
@@ -289,7 +296,7 @@ module _ (s : Seen) (call : Call) (p : Place) (o : OpenAt s call (parts_left s.l
       comes = inl (record {
         place = quiet;
         stops = here (Item ∷ []) ∙ ap (λ b. cond b (return quiet ToldEnd) (cond (is_over p.talk) (return p ToldNone) (reads s.login Item [] p))) (end_here ∙ e);
-        at = rests_at false quiet quiet_mirrors refl;
+        at = rests_at false quiet quiet_mirrors o.at.taken_is refl;
         closed_is = o.alive;
       });
     }
@@ -302,18 +309,18 @@ module _ (s : Seen) (call : Call) (p : Place) (o : OpenAt s call (parts_left s.l
 
     drop_on : s.untold ≡ false → is_idle s.context.spot ≡ false → MoveReads s call (All ∷ []) p (planned s plans.Reads)
     drop_on told on = reads_front All [] tasks.Dropping task (all_here [] (left_here ∙ told) on)
-        (λ payload rest next e whole k kind. dropping_reads s call p m o.alive nothing o.call_is payload rest next e whole (all_here [] (left_here ∙ told) on) task past (ap is_connect (kind_here_is DropResult (ap kind_in task))) k kind)
+        (λ payload rest next e whole k kind. dropping_reads s call p m o.at.taken_is o.alive nothing o.call_is payload rest next e whole (all_here [] (left_here ∙ told) on) task past (ap is_connect (kind_here_is DropResult (ap kind_in task))) k kind)
         (ap (parts_left s.login) (sym task))
 
     drop_by : s.untold ≡ false → (x : Spot) → s.context.spot ≡ x → MoveReads s call (All ∷ []) p (planned s (drop_plan x))
     drop_by told spots.Idle e = record {
       rest = [];
       place = p;
-      leads = Then (All ∷ []) p [] p [] p (passed s call p m o.alive nothing o.call_is told (left_here ∙ told) (ap is_idle e) []) (Here [] p);
+      leads = Then (All ∷ []) p [] p [] p (passed s call p m o.at.taken_is o.alive nothing o.call_is told (left_here ∙ told) (ap is_idle e) []) (Here [] p);
       comes = inl (record {
         place = p;
         stops = here [];
-        at = rests_at s.untold p m (left_here ∙ sym (and_true s.untold));
+        at = rests_at s.untold p m o.at.taken_is (left_here ∙ sym (and_true s.untold));
         closed_is = o.alive ∙ ap (closes ToldReady) (sym (kind_here_is DropResult (ap kind_in task)));
       });
     }
@@ -332,14 +339,130 @@ module _ (s : Seen) (call : Call) (p : Place) (o : OpenAt s call (parts_left s.l
       place = quiet;
       leads = Then (All ∷ []) p (All ∷ []) quiet (All ∷ []) quiet
           (here (All ∷ []) ∙ ap (λ b. cond b (Goes (All ∷ []) quiet) (cond (is_over p.talk) (Goes [] p) (reads s.login All [] p))) (left_here ∙ e)) (Here (All ∷ []) quiet);
-      comes = subst (λ (u : Task). OpenAt (with_task s u false) call (All ∷ []) quiet) (sym task) (goes_at tasks.Dropping false quiet (λ no. cc) quiet_mirrors (ap kind_in (sym task)) refl refl past);
+      comes = subst (λ (u : Task). OpenAt (with_task s u false) call (All ∷ []) quiet) (sym task) (goes_at tasks.Dropping false quiet (λ no. cc) quiet_mirrors o.at.taken_is (ap kind_in (sym task)) refl refl past);
     }
     drops false e = drop_by e s.context.spot refl
+
+  -- a stream that takes a set
+  module _ (task : s.task ≡ tasks.Taking) (past : is_greeting s.context.spot ≡ false) where
+    end_there : p.end_left ≡ s.untold
+    end_there = end_at tasks.Taking task ∙ and_true s.untold
+
+    set_now : (b : Bool) → p.end_left || is_rows (context_of p.talk).spot ≡ b
+        → step s.login call (Set ∷ []) p ≡ cond b (return (with_taken p) ToldReady) (cond (is_over p.talk) (return p ToldNone) (reads s.login Set [] p))
+    set_now b e = here (Set ∷ []) ∙ ap (λ x. cond x (return (with_taken p) ToldReady) (cond (is_over p.talk) (return p ToldNone) (reads s.login Set [] p))) e
+
+    -- whether something is there to be taken
+    set_there : s.untold ≡ false → (b : Bool) → is_rows s.context.spot ≡ b → p.end_left || is_rows (context_of p.talk).spot ≡ b
+    set_there told b rows = ap (λ x. x || is_rows (context_of p.talk).spot) (end_there ∙ told) ∙ ap (λ (c : Context). is_rows c.spot) (sym m.context_is) ∙ rows
+
+    takes_it : p.end_left || is_rows (context_of p.talk).spot ≡ true → MoveReads s call (Set ∷ []) p (planned s plans.Takes)
+    takes_it e = record {
+      rest = Set ∷ [];
+      place = p;
+      leads = Here (Set ∷ []) p;
+      comes = inl (record {
+        place = with_taken p;
+        stops = set_now true e;
+        at = record {
+          mirrors = mirrors_with_taken s.context s.number s.unread s.owed s.closed s.facts s.login p m;
+          end_is = λ _ _. end_there ∙ sym (and_true s.untold);
+          taken_is = refl;
+          own_end = λ no. cc;
+          task_at = tt;
+          settled = λ _. nothing;
+        };
+        closed_is = o.alive ∙ ap (closes ToldReady) (sym (kind_here_is TakeSet (ap kind_in task)));
+      });
+    }
+
+    set_on : s.untold ≡ false → is_rows s.context.spot ≡ false → is_idle s.context.spot ≡ false → MoveReads s call (Set ∷ []) p (planned s plans.Reads)
+    set_on told off on =
+        let it = set_now false (set_there told false off) ∙ ap (λ b. cond b (return p ToldNone) (reads s.login Set [] p)) (ap (λ (c : Context). is_idle c.spot) (sym m.context_is) ∙ on) in
+        reads_front Set [] tasks.Taking task it
+        (λ payload rest next e whole k kind. taking_reads s call p m o.at.taken_is o.alive nothing o.call_is payload rest next e whole it task past off (kind_here_is TakeSet (ap kind_in task)) k kind)
+        (ap (parts_left s.login) (sym task))
+
+    set_by : s.untold ≡ false → (x : Spot) → s.context.spot ≡ x → MoveReads s call (Set ∷ []) p (planned s (take_plan x))
+    set_by told spots.Idle e = record {
+      rest = Set ∷ [];
+      place = p;
+      leads = Here (Set ∷ []) p;
+      comes = inl (record {
+        place = p;
+        stops = set_now false (set_there told false (ap is_rows e)) ∙ ap (λ b. cond b (return p ToldNone) (reads s.login Set [] p)) (ap (λ (c : Context). is_idle c.spot) (sym m.context_is) ∙ ap is_idle e);
+        at = rests_at s.untold p m o.at.taken_is (end_there ∙ sym (and_true s.untold));
+        closed_is = o.alive;
+      });
+    }
+    set_by told spots.Rows e = takes_it (set_there told true (ap is_rows e))
+    set_by told spots.Greeting e = set_on told (ap is_rows e) (ap is_idle e)
+    set_by told spots.Authentication e = set_on told (ap is_rows e) (ap is_idle e)
+    set_by told spots.Single e = set_on told (ap is_rows e) (ap is_idle e)
+    set_by told spots.Head e = set_on told (ap is_rows e) (ap is_idle e)
+    set_by told spots.Further e = set_on told (ap is_rows e) (ap is_idle e)
+    set_by told (spots.Columns n) e = set_on told (ap is_rows e) (ap is_idle e)
+    set_by told spots.ColumnsEnd e = set_on told (ap is_rows e) (ap is_idle e)
+
+    takes : (u : Bool) → s.untold ≡ u → MoveReads s call (Set ∷ []) p (planned s (cond u plans.Takes (take_plan s.context.spot)))
+    takes true e = takes_it (ap (λ x. x || is_rows (context_of p.talk).spot) (end_there ∙ e))
+    takes false e = set_by e s.context.spot refl
+
+  -- a passing over the rest of a set
+  module _ (task : s.task ≡ tasks.Skipping) (past : is_greeting s.context.spot ≡ false) where
+    end_stays : p.end_left ≡ s.untold
+    end_stays = end_at tasks.Skipping task ∙ and_true s.untold
+
+    rest_now : (b : Bool) → p.end_left ≡ b → step s.login call (Rest ∷ []) p ≡ cond b (Goes (Rest ∷ []) quiet) (cond (is_rows (context_of p.talk).spot) (reads s.login Rest [] p) (Goes [] p))
+    rest_now b e = here (Rest ∷ []) ∙ ap (λ x. cond x (Goes (Rest ∷ []) quiet) (cond (is_rows (context_of p.talk).spot) (reads s.login Rest [] p) (Goes [] p))) e
+
+    rest_by : s.untold ≡ false → (b : Bool) → is_rows s.context.spot ≡ b → step s.login call (Rest ∷ []) p ≡ cond b (reads s.login Rest [] p) (Goes [] p)
+    rest_by told b rows = rest_now false (end_stays ∙ told) ∙ ap (λ x. cond x (reads s.login Rest [] p) (Goes [] p)) (ap (λ (c : Context). is_rows c.spot) (sym m.context_is) ∙ rows)
+
+    rest_on : s.untold ≡ false → s.context.spot ≡ spots.Rows → MoveReads s call (Rest ∷ []) p (planned s plans.Reads)
+    rest_on told rows =
+        let it = rest_by told true (ap is_rows rows) in
+        reads_front Rest [] tasks.Skipping task it
+        (λ payload rest next e whole k kind. skipping_reads s call p m o.at.taken_is o.alive nothing o.call_is payload rest next e whole it task past rows (kind_here_is SkipTaken (ap kind_in task)) k kind)
+        (ap (parts_left s.login) (sym task))
+
+    rest_over : s.untold ≡ false → is_rows s.context.spot ≡ false → MoveReads s call (Rest ∷ []) p (planned s plans.Dropped)
+    rest_over told off = record {
+      rest = [];
+      place = p;
+      leads = Then (Rest ∷ []) p [] p [] p (rest_by told false off) (Here [] p);
+      comes = inl (record {
+        place = p;
+        stops = here [];
+        at = rests_at s.untold p m o.at.taken_is (end_stays ∙ sym (and_true s.untold));
+        closed_is = o.alive ∙ ap (closes ToldReady) (sym (kind_here_is SkipTaken (ap kind_in task)));
+      });
+    }
+
+    skip_by : s.untold ≡ false → (x : Spot) → s.context.spot ≡ x → MoveReads s call (Rest ∷ []) p (planned s (skip_plan x))
+    skip_by told spots.Rows e = rest_on told e
+    skip_by told spots.Idle e = rest_over told (ap is_rows e)
+    skip_by told spots.Greeting e = rest_over told (ap is_rows e)
+    skip_by told spots.Authentication e = rest_over told (ap is_rows e)
+    skip_by told spots.Single e = rest_over told (ap is_rows e)
+    skip_by told spots.Head e = rest_over told (ap is_rows e)
+    skip_by told spots.Further e = rest_over told (ap is_rows e)
+    skip_by told (spots.Columns n) e = rest_over told (ap is_rows e)
+    skip_by told spots.ColumnsEnd e = rest_over told (ap is_rows e)
+
+    skips : (u : Bool) → s.untold ≡ u → MoveReads s call (Rest ∷ []) p (planned s (cond u plans.Passes (skip_plan s.context.spot)))
+    skips true e = record {
+      rest = Rest ∷ [];
+      place = quiet;
+      leads = Then (Rest ∷ []) p (Rest ∷ []) quiet (Rest ∷ []) quiet (rest_now true (end_stays ∙ e)) (Here (Rest ∷ []) quiet);
+      comes = subst (λ (u : Task). OpenAt (with_task s u false) call (Rest ∷ []) quiet) (sym task) (goes_at tasks.Skipping false quiet (λ no. cc) quiet_mirrors o.at.taken_is (ap kind_in (sym task)) refl refl past);
+    }
+    skips false e = skip_by e s.context.spot refl
 
   -- the own exchange of a call
   query_on : s.task ≡ tasks.Own Query → is_greeting s.context.spot ≡ false → is_rows s.context.spot ≡ false → MoveReads s call (Head ∷ []) p (planned s plans.Reads)
   query_on task past on = reads_front Head [] (tasks.Own Query) task (head_here on)
-      (λ payload rest next e whole k kind. query_reads s call p m o.alive nothing o.call_is payload rest next e whole (head_here on) task past on (kind_here_is Query (ap kind_in task)) k kind)
+      (λ payload rest next e whole k kind. query_reads s call p m o.at.taken_is o.alive nothing o.call_is payload rest next e whole (head_here on) task past on (kind_here_is Query (ap kind_in task)) k kind)
       (ap (parts_left s.login) (sym task))
 
   query_by : s.task ≡ tasks.Own Query → is_greeting s.context.spot ≡ false → (x : Spot) → s.context.spot ≡ x → MoveReads s call (Head ∷ []) p (planned s (query_plan x))
@@ -350,7 +473,7 @@ module _ (s : Seen) (call : Call) (p : Place) (o : OpenAt s call (parts_left s.l
     comes = inl (record {
       place = p;
       stops = here [];
-      at = rests_at s.untold p m (end_at (tasks.Own Query) task);
+      at = rests_at s.untold p m o.at.taken_is (end_at (tasks.Own Query) task);
       closed_is = o.alive ∙ ap (closes ToldReady) (sym (kind_here_is Query (ap kind_in task)));
     });
   }
@@ -379,21 +502,23 @@ module _ (s : Seen) (call : Call) (p : Place) (o : OpenAt s call (parts_left s.l
   own_reads Connect task at none =
       let on = shaking_on s.context.spot at.0 in
       reads_front All (parts_of_texts (arranging_texts s.login)) (tasks.Own Connect) task (all_here _ none on)
-      (λ payload rest next e whole k kind. connect_reads s call p m o.alive nothing o.call_is payload rest next e whole (all_here _ none on) task at.0 at.1 (ap is_connect (kind_here_is Connect (ap kind_in task))) k kind)
+      (λ payload rest next e whole k kind. connect_reads s call p m o.at.taken_is o.alive nothing o.call_is payload rest next e whole (all_here _ none on) task at.0 at.1 (ap is_connect (kind_here_is Connect (ap kind_in task))) k kind)
       (ap (parts_left s.login) (sym task))
   own_reads Query task at none = query_by task at s.context.spot refl
   own_reads NextRow task at none = absurd at
   own_reads DropResult task at none = absurd at
+  own_reads TakeSet task at none = absurd at
+  own_reads SkipTaken task at none = absurd at
   own_reads Ping task at none =
       let on : is_idle s.context.spot ≡ false = ap is_idle at in
       reads_front All [] (tasks.Own Ping) task (all_here [] none on)
-      (λ payload rest next e whole k kind. ping_reads s call p m o.alive nothing o.call_is payload rest next e whole (all_here [] none on) task at (kind_here_is Ping (ap kind_in task)) k kind)
+      (λ payload rest next e whole k kind. ping_reads s call p m o.at.taken_is o.alive nothing o.call_is payload rest next e whole (all_here [] none on) task at (kind_here_is Ping (ap kind_in task)) k kind)
       (ap (parts_left s.login) (sym task))
   own_reads Quit task at none = record {
     rest = [];
     place = p;
     leads = Here [] p;
-    comes = inl (record { place = p; stops = here []; at = fallen_at s p s m; closed_is = ap (closes ToldReady) (sym (kind_here_is Quit (ap kind_in task))) });
+    comes = inl (record { place = p; stops = here []; at = fallen_at s p s m o.at.taken_is; closed_is = ap (closes ToldReady) (sym (kind_here_is Quit (ap kind_in task))) });
   }
 
   plan_reads : (t : Task) → s.task ≡ t → TaskStandsAt t s.context.spot (connects_in (exchanges p)) → MoveReads s call (parts_left s.login t) p (planned s (plan_of t s.context.spot s.untold))
@@ -403,20 +528,22 @@ module _ (s : Seen) (call : Call) (p : Place) (o : OpenAt s call (parts_left s.l
       cleans (tasks.Cleaning c) task (Command ∷ own_parts s.login c) refl refl refl at.1
       (λ k. (at.0, not_greeting s.context.spot (deprecates_eof s.context.terms.kept) k)) at (λ _. refl) false (ap is_connecting task)
       (ap is_connect (kind_here_is c (ap kind_in task)) ∙ asks_not c at.0) (plans.Asks c)
-      (λ told none idle. asks_reads s call p m o.alive nothing o.call_is told none idle c task at.0 (call_here c (ap kind_in task))) s.context.spot refl
+      (λ told none idle. asks_reads s call p m o.at.taken_is o.alive nothing o.call_is told none idle c task at.0 (call_here c (ap kind_in task))) s.context.spot refl
   plan_reads (tasks.Own c) task at = own_reads c task at (end_at (tasks.Own c) task ∙ and_true s.untold ∙ o.at.own_end (ap is_own task))
   plan_reads (tasks.Arranging n) task at =
       cleans (tasks.Arranging n) task (parts_of_texts (drop n (arranging_texts s.login))) refl refl refl at.0
       (λ k. (not_greeting s.context.spot (deprecates_eof s.context.terms.kept) k, at.1)) at (λ _. refl) true (ap is_connecting task)
       (ap is_connect (kind_here_is Connect (ap kind_in task))) (plans.Arranges n)
-      (λ told none idle. arranges_reads s call p m o.alive nothing o.call_is told none idle n task at.1 (call_here Connect (ap kind_in task))) s.context.spot refl
+      (λ told none idle. arranges_reads s call p m o.at.taken_is o.alive nothing o.call_is told none idle n task at.1 (call_here Connect (ap kind_in task))) s.context.spot refl
   plan_reads tasks.Reading task at = items task at s.untold refl
   plan_reads tasks.Dropping task at = drops task at s.untold refl
+  plan_reads tasks.Taking task at = takes task at s.untold refl
+  plan_reads tasks.Skipping task at = skips task at s.untold refl
   plan_reads tasks.Leaving task at = record {
     rest = [];
     place = p;
     leads = Here [] p;
-    comes = inl (record { place = p; stops = here []; at = fallen_at s p s m; closed_is = ap (closes ToldReady) (sym (kind_here_is Quit (ap kind_in task))) });
+    comes = inl (record { place = p; stops = here []; at = fallen_at s p s m o.at.taken_is; closed_is = ap (closes ToldReady) (sym (kind_here_is Quit (ap kind_in task))) });
   }
   plan_reads (tasks.Failing c fault) task at = let no : Some fault ≡ None = sym (ap fault_in task) ∙ o.sound in cc
 

@@ -10,7 +10,7 @@ use Rattle.my_grammar.specs.Talk.{Talk, Asked, Queried, Silent, turns, context_o
 use Rattle.my_reading.specs.declared.call.Call.{Call}
 use Rattle.my_reading.specs.declared.call.Call.TheVariants as calls
 use Rattle.my_reading.specs.declared.call.CallKind.{CallKind}
-use Rattle.my_reading.specs.declared.call.CallKind.TheVariants.{Connect, Query, NextRow, DropResult, Ping, Quit}
+use Rattle.my_reading.specs.declared.call.CallKind.TheVariants.{Connect, Query, NextRow, DropResult, TakeSet, SkipTaken, Ping, Quit}
 use Rattle.my_session.specs.declared.task.Task.{Task}
 use Rattle.my_session.specs.declared.task.Task.TheVariants.{Nothing, Cleaning, Own, Arranging}
 use Rattle.my_reading.specs.declared.error.Error.{Error}
@@ -80,6 +80,8 @@ module _ (s : Seen) (h : History) (st : Stands s h) (open_still : s.closed ≡ f
   asks_keep Query hd told idle = commands Query (Queried (next_terms s) (packet_bytes (packets.Query s.text)) NoSets) hd told idle refl refl refl (record { kinds = tt; within = tt }) refl refl refl refl refl (hd.at.1, refl, refl)
   asks_keep NextRow hd told idle = let no : asks NextRow ≡ true = hd.at.0 in cc
   asks_keep DropResult hd told idle = let no : asks DropResult ≡ true = hd.at.0 in cc
+  asks_keep TakeSet hd told idle = let no : asks TakeSet ≡ true = hd.at.0 in cc
+  asks_keep SkipTaken hd told idle = let no : asks SkipTaken ≡ true = hd.at.0 in cc
   asks_keep Ping hd told idle = commands Ping (Asked (next_terms s) (packet_bytes packets.Ping)) hd told idle refl refl refl (record { kinds = tt; within = tt }) refl refl refl refl refl (hd.at.1, refl)
   asks_keep Quit hd told idle = commands Quit (Silent (next_terms s) (packet_bytes packets.Quit)) hd told idle refl refl refl (record { kinds = tt; within = tt }) refl refl refl refl refl hd.at.1
 

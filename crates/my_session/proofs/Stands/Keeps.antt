@@ -16,15 +16,15 @@ use Rattle.my_grammar.specs.Growth.{grow, not_greets}
 use Rattle.my_grammar.specs.Kinds.{kind_there}
 use Rattle.my_reading.specs.declared.call.Call.TheVariants as calls
 use Rattle.my_reading.specs.declared.call.CallKind.{CallKind}
-use Rattle.my_reading.specs.declared.call.CallKind.TheVariants.{Connect, Query, NextRow, DropResult, Ping, Quit}
+use Rattle.my_reading.specs.declared.call.CallKind.TheVariants.{Connect, Query, NextRow, DropResult, TakeSet, SkipTaken, Ping, Quit}
 use Rattle.my_session.specs.declared.task.Task.{Task}
-use Rattle.my_session.specs.declared.task.Task.TheVariants.{Nothing, Begun, Cleaning, Own, Arranging, Reading, Dropping, Leaving, Failing}
+use Rattle.my_session.specs.declared.task.Task.TheVariants.{Nothing, Begun, Cleaning, Own, Arranging, Reading, Dropping, Taking, Skipping, Leaving, Failing}
 use Rattle.my_reading.specs.declared.error.Error.TheVariants as errors
 use Rattle.my_reading.specs.Calls.{kind_of, call_of, is_connect}
 use Rattle.my_session.specs.Tasks.{kind_in, is_open}
 use Rattle.my_session.specs.Entries.{calls_in, connecting_in, givens, may_lack, has_connected, IsTied}
 use Rattle.my_reading.specs.Errors.{invalid_data, server_error}
-use Rattle.my_reading.specs.Told.{Told, ToldRow, ToldEnd, ToldError}
+use Rattle.my_reading.specs.Told.{Told, ToldReady, ToldRow, ToldEnd, ToldError}
 use Rattle.my_session.specs.History.{History, Made, answered, noted}
 use Rattle.my_session.specs.Machine.{Move, fell, advanced, with_task, failed_by, refused, gave, passed, reacted, after_doing, is_greeting}
 use Rattle.my_reading.specs.Rows.{row_at}
@@ -32,11 +32,11 @@ use Rattle.my_session.specs.Seen.{Seen}
 use Rattle.my_session.specs.ServerErrors.{error_onto, errors_in}
 use Rattle.my_session.specs.Stands.{Stands, Heard, TaskIs, TieIs, begun_of, is_reading, is_shaking, keeps}
 use Rattle.my_session.specs.Steps.{is_settled}
-use Rattle.my_session.specs.Tables.{react, react_whole, react_connect, react_query, react_ping, react_own, react_reading, react_dropping, is_breaking, is_connecting}
+use Rattle.my_session.specs.Tables.{react, react_whole, react_connect, react_query, react_ping, react_own, react_reading, react_dropping, react_taking, react_skipping, is_breaking, is_connecting}
 use Rattle.my_session.proofs.Stands.Blames.{is_failed, failed_blames}
-use Rattle.my_session.proofs.Stands.Reacts.{fell_stands, goes, refuses, refuses_connect, newest_by, answers, pongs, readies, first_parts, shows, heads, row_gives, end_gives, good_gives, knows, tied_on, tied_now}
-use Rattle.my_session.proofs.Stands.Spots.{row_spot, end_spot, good_spot, not_greeting, settled_more, greets_on, settled_not_greeting, reading_after}
-use Rattle.my_session.proofs.Stands.Ties.{answered_stands, noted_stands, closed_tie, all_begun, none_waits, quiet_more, asks_not}
+use Rattle.my_session.proofs.Stands.Reacts.{fell_stands, goes, refuses, refuses_connect, newest_by, answers, pongs, readies, first_parts, shows, heads, row_gives, end_gives, good_gives, left_lone, knows, tied_on, tied_now}
+use Rattle.my_session.proofs.Stands.Spots.{row_spot, end_spot, good_spot, not_greeting, settled_more, greets_on, settled_not_greeting, settled_reads, reading_after}
+use Rattle.my_session.proofs.Stands.Ties.{answered_stands, noted_stands, taken_stands, closed_tie, all_begun, none_waits, quiet_more, asks_not}
 use Rattle.my_session.proofs.Stands.Views.{is_part}
 
 -- what a move leads to
@@ -52,6 +52,8 @@ is_reader (Own c) = false
 is_reader (Arranging n) = false
 is_reader Reading = true
 is_reader Dropping = true
+is_reader Taking = true
+is_reader Skipping = true
 is_reader Leaving = false
 is_reader (Failing c fault) = false
 
@@ -163,6 +165,8 @@ module _ (s : Seen) (h : History) (st : Stands s h) (open_still : s.closed ≡ f
   own_keeps Query k task hd e b = query_keeps k hd (ap is_connecting task) e b
   own_keeps NextRow k task hd e b = cc
   own_keeps DropResult k task hd e b = cc
+  own_keeps TakeSet k task hd e b = cc
+  own_keeps SkipTaken k task hd e b = cc
   own_keeps Ping k task hd e b = ping_keeps k hd (ap is_connecting task) e b
   own_keeps Quit k task hd e b = cc
 
@@ -243,6 +247,55 @@ module _ (s : Seen) (h : History) (st : Stands s h) (open_still : s.closed ≡ f
         (λ m made. (made, reading_after s.context.spot (deprecates_eof s.context.terms.kept) (kinds.End status) hd.at.1)) (λ m t. t)))
     dropping_keeps kinds.Bad e b = cc
 
+  -- a stream that takes the next set
+  module _ (told : s.untold ≡ false) (task : s.task ≡ Taking) (hd : HeardAs Taking) where
+    take_head : (k : Kind) → kind_there s.context p ≡ k → is_part k ≡ true → is_bad k ≡ false → not_greets k ≡ true → Stands (with_task (after k) Taking false) h
+    take_head k e part good quiet = heads s h st open_still nothing told p rest next whole Taking TakeSet refl refl hd.at.1 hd.at.0 hd hd.tie k e part good quiet refl
+        (hd.at.0, reading_after s.context.spot (deprecates_eof s.context.terms.kept) k hd.at.1)
+        (tied_on s h st open_still nothing told p rest next whole Taking TakeSet refl refl hd.at.1 hd.at.0 hd hd.tie k h.calls (tied_now s h st open_still nothing told p rest next whole Taking TakeSet refl refl hd.at.1 hd.at.0 hd hd.tie))
+
+    taking_keeps : (k : Kind) → kind_there s.context p ≡ k → is_breaking (react_taking k) ≡ false → Keeps (reacted s (after k) p (react_taking k)) h
+    taking_keeps (kinds.Greets n) e b = cc
+    taking_keeps (kinds.Good status) e b = taken_stands (with_task (after (kinds.Good status)) Nothing true) (answered h ToldReady)
+        (answered_stands (with_task (after (kinds.Good status)) Nothing true) h calls.TakeSet ToldReady hd.pending_is
+        (left_lone s h st open_still nothing told p rest next whole Taking TakeSet refl refl hd.at.1 hd.at.0 hd hd.tie status e refl refl refl refl))
+    taking_keeps kinds.Failed e b = refuse Taking TakeSet (err_at (is_greeting s.context.spot) p) refl hd e refl (ap is_connecting task) refl hd.at.0 (tied_after kinds.Failed TakeSet (settled_not_greeting s.context.spot hd.at.1) hd.tie)
+    taking_keeps (kinds.Count n) e b = take_head (kinds.Count n) e refl refl refl
+    taking_keeps kinds.Column e b = take_head kinds.Column e refl refl refl
+    taking_keeps kinds.ColumnsDone e b = take_head kinds.ColumnsDone e refl refl refl
+    taking_keeps kinds.Row e b = cc
+    taking_keeps (kinds.End status) e b = cc
+    taking_keeps kinds.Bad e b = cc
+
+  -- a passing over the rest of a set
+  module _ (told : s.untold ≡ false) (task : s.task ≡ Skipping) (hd : HeardAs Skipping) where
+    skips_on : (k : Kind) (g : History) → Stands (with_task (after k) Skipping false) g → Stands (after k) g
+    skips_on k g w = subst (λ (t : Task). Stands (with_task (after k) t false) g) (sym task) w
+
+    reads_still : is_reading s.context.spot ≡ true
+    reads_still = settled_reads s.context.spot hd.at.1
+
+    skip : (x : Option RowParts) → kind_there s.context p ≡ kinds.Row → row_at s.facts.columns p ≡ x → Keeps (passed s (after kinds.Row) x) h
+    skip None e is = invalid
+    skip (Some row) e is = skips_on kinds.Row (noted h (ToldRow row)) (noted_stands (with_task (after kinds.Row) Skipping false) h calls.SkipTaken (ToldRow row) hd.pending_is
+        (shows s h st open_still nothing told p rest next whole Skipping SkipTaken refl refl reads_still hd.at.0 hd hd.tie Skipping kinds.Row (ToldRow row) e refl refl refl refl refl refl refl hd.at.0
+        (ap (λ gs. gs ∷ givens st.older) (sym (row_gives s h st open_still nothing told p rest next whole Skipping SkipTaken refl refl reads_still hd.at.0 hd hd.tie row e is)))
+        (λ m made. (made, row_rests e)) (λ m t. t)))
+
+    skipping_keeps : (k : Kind) → kind_there s.context p ≡ k → is_breaking (react_skipping k) ≡ false → Keeps (reacted s (after k) p (react_skipping k)) h
+    skipping_keeps (kinds.Greets n) e b = cc
+    skipping_keeps (kinds.Good status) e b = cc
+    skipping_keeps kinds.Failed e b = refuse Skipping SkipTaken (err_at (is_greeting s.context.spot) p) refl hd e refl (ap is_connecting task) refl hd.at.0 (tied_after kinds.Failed SkipTaken (settled_not_greeting s.context.spot reads_still) hd.tie)
+    skipping_keeps (kinds.Count n) e b = cc
+    skipping_keeps kinds.Column e b = cc
+    skipping_keeps kinds.ColumnsDone e b = cc
+    skipping_keeps kinds.Row e b = skip (row_at s.facts.columns p) e refl
+    skipping_keeps (kinds.End status) e b = skips_on (kinds.End status) (noted h ToldEnd) (noted_stands (with_task (after (kinds.End status)) Skipping false) h calls.SkipTaken ToldEnd hd.pending_is
+        (shows s h st open_still nothing told p rest next whole Skipping SkipTaken refl refl reads_still hd.at.0 hd hd.tie Skipping (kinds.End status) ToldEnd e refl refl refl refl refl refl refl hd.at.0
+        (ap (λ gs. gs ∷ givens st.older) (sym (end_gives s h st open_still nothing told p rest next whole Skipping SkipTaken refl refl reads_still hd.at.0 hd hd.tie status e)))
+        (λ m made. (made, end_rests status e)) (λ m t. t)))
+    skipping_keeps kinds.Bad e b = cc
+
   pub react_keeps : (t : Task) → s.task ≡ t → HeardAs t → (is_reader t ≡ true → s.untold ≡ false) → (k : Kind) → kind_there s.context p ≡ k → is_breaking (react t k) ≡ false → Keeps (reacted s (after k) p (react t k)) h
   react_keeps Nothing task hd told k e b = cc
   react_keeps (Begun c) task hd told k e b = cc
@@ -251,5 +304,7 @@ module _ (s : Seen) (h : History) (st : Stands s h) (open_still : s.closed ≡ f
   react_keeps (Arranging n) task hd told k e b = arranging_keeps n k hd (ap is_connecting task) e b
   react_keeps Reading task hd told k e b = reading_keeps (told refl) task hd k e b
   react_keeps Dropping task hd told k e b = dropping_keeps (told refl) task hd k e b
+  react_keeps Taking task hd told k e b = taking_keeps (told refl) task hd k e b
+  react_keeps Skipping task hd told k e b = skipping_keeps (told refl) task hd k e b
   react_keeps Leaving task hd told k e b = cc
   react_keeps (Failing c fault) task hd told k e b = cc

@@ -8,11 +8,11 @@ use Rattle.my_grammar.specs.Talk.{Start}
 use Rattle.my_reading.specs.declared.call.Call.{Call}
 use Rattle.my_reading.specs.declared.call.Call.TheVariants as calls
 use Rattle.my_reading.specs.declared.call.CallKind.{CallKind}
-use Rattle.my_reading.specs.declared.call.CallKind.TheVariants.{Connect, Query, NextRow, DropResult, Ping, Quit}
+use Rattle.my_reading.specs.declared.call.CallKind.TheVariants.{Connect, Query, NextRow, DropResult, TakeSet, SkipTaken, Ping, Quit}
 use Rattle.my_session.specs.declared.task.LinkFault.{LinkFault}
 use Rattle.my_session.specs.declared.task.LinkFault.TheVariants.{NoMemory}
 use Rattle.my_session.specs.declared.task.Task.{Task}
-use Rattle.my_session.specs.declared.task.Task.TheVariants.{Nothing, Begun, Cleaning, Own, Arranging, Reading, Dropping, Leaving, Failing}
+use Rattle.my_session.specs.declared.task.Task.TheVariants.{Nothing, Begun, Cleaning, Own, Arranging, Reading, Dropping, Taking, Skipping, Leaving, Failing}
 use Rattle.my_reading.specs.Calls.{kind_of, text_of, call_of, is_quit}
 use Rattle.my_session.specs.Tasks.{kind_in, is_open}
 use Rattle.my_session.specs.Entries.{Entry, has_connected, connecting_in, calls_in, OwnsFirst, IsTied}
@@ -74,6 +74,8 @@ call_is calls.Connect text = refl
 call_is (calls.Query q) text = refl
 call_is calls.NextRow text = refl
 call_is calls.DropResult text = refl
+call_is calls.TakeSet text = refl
+call_is calls.SkipTaken text = refl
 call_is calls.Ping text = refl
 call_is calls.Quit text = refl
 
@@ -90,6 +92,8 @@ begun_at Connect spot connected e at = first_at spot connected e at
 begun_at Query spot connected e at = later_at spot connected e at
 begun_at NextRow spot connected e at = later_at spot connected e at
 begun_at DropResult spot connected e at = later_at spot connected e at
+begun_at TakeSet spot connected e at = later_at spot connected e at
+begun_at SkipTaken spot connected e at = later_at spot connected e at
 begun_at Ping spot connected e at = later_at spot connected e at
 begun_at Quit spot connected e at = later_at spot connected e at
 
@@ -98,6 +102,8 @@ quits calls.Connect text e = cc
 quits (calls.Query q) text e = cc
 quits calls.NextRow text e = cc
 quits calls.DropResult text e = cc
+quits calls.TakeSet text e = cc
+quits calls.SkipTaken text e = cc
 quits calls.Ping text e = cc
 quits calls.Quit text e = refl
 
@@ -110,7 +116,7 @@ module _ (s : Seen) (h : History) (st : Stands s h) (task : s.task ≡ Nothing) 
   rests = subst (λ (t : Task). TaskIs t s.context.spot s.closed (has_connected h.calls) (connecting_in (st.newest ∷ st.older)) st.newest) task st.heard.at
 
   abbrev begun_as : Call → Bool → Seen
-  begun_as call closed = record { context = s.context; task = cond closed Leaving (Begun (kind_of call)); text = text_of call s.text; untold = s.untold; closed = s.closed; ended = s.ended; number = s.number; unread = s.unread; owed = s.owed; facts = s.facts; login = s.login }
+  begun_as call closed = record { context = s.context; task = cond closed Leaving (Begun (kind_of call)); text = text_of call s.text; untold = s.untold; taken = s.taken; closed = s.closed; ended = s.ended; number = s.number; unread = s.unread; owed = s.owed; facts = s.facts; login = s.login }
 
   by_closed : (call : Call) (closed : Bool) → s.closed ≡ closed → (s.closed ≡ false → AtBegun (kind_of call) s.context.spot) → is_refused closed (kind_of call) ≡ false → Stands (begun_as call closed) (began h call)
   by_closed call true e order free = record {
@@ -196,6 +202,8 @@ fails_as (Own d) c fault e = let same : d ≡ c = cc in ap (λ (x : CallKind). F
 fails_as (Arranging n) c fault e = let same : Connect ≡ c = cc in ap (λ (x : CallKind). Failing x fault) same
 fails_as Reading c fault e = let same : NextRow ≡ c = cc in ap (λ (x : CallKind). Failing x fault) same
 fails_as Dropping c fault e = let same : DropResult ≡ c = cc in ap (λ (x : CallKind). Failing x fault) same
+fails_as Taking c fault e = let same : TakeSet ≡ c = cc in ap (λ (x : CallKind). Failing x fault) same
+fails_as Skipping c fault e = let same : SkipTaken ≡ c = cc in ap (λ (x : CallKind). Failing x fault) same
 fails_as Leaving c fault e = let same : Quit ≡ c = cc in ap (λ (x : CallKind). Failing x fault) same
 fails_as (Failing d old) c fault e = let same : d ≡ c = cc in ap (λ (x : CallKind). Failing x fault) same
 
@@ -207,13 +215,15 @@ fail_tie (Own d) c fault text spot made call older e t = let same : d ≡ c = cc
 fail_tie (Arranging n) c fault text spot made call older e t = let same : Connect ≡ c = cc in inl (subst (λ (x : CallKind). OwnsFirst (call_of x text) (call ∷ calls_in older) (IsTied made)) same t)
 fail_tie Reading c fault text spot made call older e t = inr t
 fail_tie Dropping c fault text spot made call older e t = inr t
+fail_tie Taking c fault text spot made call older e t = inr t
+fail_tie Skipping c fault text spot made call older e t = inr t
 fail_tie Leaving c fault text spot made call older e t = inr t
 fail_tie (Failing d old) c fault text spot made call older e t = let same : d ≡ c = cc in subst (λ (x : CallKind). TieIs (Failing x fault) text spot made call older) same t
 
 pub failing_stands : (s : Seen) (h : History) (fault : LinkFault) → is_open s.task ≡ true → Stands s h → Stands (with_failing s fault) h
 failing_stands s h fault op st =
     let c = kind_there_is s.task op in
-    subst (λ (t : Task). Stands (record { context = s.context; task = t; text = s.text; untold = s.untold; closed = s.closed; ended = s.ended; number = s.number; unread = s.unread; owed = s.owed; facts = s.facts; login = s.login }) h) (sym (fails_as s.task c.0 fault c.1))
+    subst (λ (t : Task). Stands (record { context = s.context; task = t; text = s.text; untold = s.untold; taken = s.taken; closed = s.closed; ended = s.ended; number = s.number; unread = s.unread; owed = s.owed; facts = s.facts; login = s.login }) h) (sym (fails_as s.task c.0 fault c.1))
     (record {
       newest = st.newest;
       older = st.older;
@@ -274,6 +284,8 @@ no_task (Own c) e = cc
 no_task (Arranging n) e = cc
 no_task Reading e = cc
 no_task Dropping e = cc
+no_task Taking e = cc
+no_task Skipping e = cc
 no_task Leaving e = cc
 no_task (Failing c fault) e = cc
 
@@ -304,6 +316,8 @@ begun_rests Connect spot connected at = subst (λ b. cond b (is_settled spot) (i
 begun_rests Query spot connected at = rest_as spot connected at.0 at.1
 begun_rests NextRow spot connected at = rest_as spot connected at.0 at.1
 begun_rests DropResult spot connected at = rest_as spot connected at.0 at.1
+begun_rests TakeSet spot connected at = rest_as spot connected at.0 at.1
+begun_rests SkipTaken spot connected at = rest_as spot connected at.0 at.1
 begun_rests Ping spot connected at = rest_as spot connected at.0 at.1
 begun_rests Quit spot connected at = rest_as spot connected at.0 at.1
 
@@ -315,6 +329,8 @@ task_rests (Own c) spot closed connected count newest off at e = cc
 task_rests (Arranging n) spot closed connected count newest off at e = cc
 task_rests Reading spot closed connected count newest off at e = rest_as spot connected at.0 (settled_by spot at.1 off)
 task_rests Dropping spot closed connected count newest off at e = rest_as spot connected at.0 (settled_by spot at.1 off)
+task_rests Taking spot closed connected count newest off at e = rest_as spot connected at.0 (settled_by spot at.1 off)
+task_rests Skipping spot closed connected count newest off at e = rest_as spot connected at.0 at.1
 task_rests Leaving spot closed connected count newest off at e = let no : true ≡ false = sym at ∙ e in cc
 task_rests (Failing c fault) spot closed connected count newest off at e = cc
 
@@ -326,6 +342,8 @@ task_keeps (Own c) spot closed connected count newest off at e op = cc
 task_keeps (Arranging n) spot closed connected count newest off at e op = cc
 task_keeps Reading spot closed connected count newest off at e op = refl
 task_keeps Dropping spot closed connected count newest off at e op = refl
+task_keeps Taking spot closed connected count newest off at e op = refl
+task_keeps Skipping spot closed connected count newest off at e op = refl
 task_keeps Leaving spot closed connected count newest off at e op = let no : true ≡ false = sym at ∙ e in cc
 task_keeps (Failing c fault) spot closed connected count newest off at e op = cc
 
@@ -337,6 +355,8 @@ task_owes (Own c) spot off = cc
 task_owes (Arranging n) spot off = cc
 task_owes Reading spot off = refl
 task_owes Dropping spot off = refl
+task_owes Taking spot off = refl
+task_owes Skipping spot off = refl
 task_owes Leaving spot off = refl
 task_owes (Failing c fault) spot off = cc
 

@@ -14,11 +14,11 @@ use Rattle.my_grammar.specs.declared.spot.Terms.{Terms}
 use Rattle.my_grammar.specs.Talk.{Talk, Start, Unwelcome, Greeted, Settled, Asked, Replied, Queried, Silent, context_of}
 use Rattle.my_reading.specs.declared.call.Call.TheVariants as calls
 use Rattle.my_reading.specs.declared.call.CallKind.{CallKind}
-use Rattle.my_reading.specs.declared.call.CallKind.TheVariants.{Connect, Query, NextRow, DropResult, Ping, Quit}
+use Rattle.my_reading.specs.declared.call.CallKind.TheVariants.{Connect, Query, NextRow, DropResult, TakeSet, SkipTaken, Ping, Quit}
 use Rattle.my_session.specs.declared.task.LinkFault.{LinkFault}
 use Rattle.my_session.specs.declared.task.LinkFault.TheVariants as faults
 use Rattle.my_session.specs.declared.task.Task.{Task}
-use Rattle.my_session.specs.declared.task.Task.TheVariants.{Nothing, Begun, Cleaning, Own, Arranging, Reading, Dropping, Leaving, Failing}
+use Rattle.my_session.specs.declared.task.Task.TheVariants.{Nothing, Begun, Cleaning, Own, Arranging, Reading, Dropping, Taking, Skipping, Leaving, Failing}
 use Rattle.my_reading.specs.declared.error.Error.{Error}
 use Rattle.my_session.specs.declared.tables.Plan.{Plan}
 use Rattle.my_session.specs.declared.tables.Plan.TheVariants as plans
@@ -35,12 +35,12 @@ use Rattle.my_session.specs.Seen.{Seen}
 use Rattle.my_session.specs.ServerErrors.{errors_told, with_told}
 use Rattle.my_session.specs.Stands.{Stands, Heard, TaskIs, TieIs, call_with, begun_of, is_left, is_shaking, is_lone, keeps, known_part, is_alive, owes}
 use Rattle.my_session.specs.Steps.{is_settled}
-use Rattle.my_session.specs.Tables.{react, is_breaking, plan_of, clean_plan, own_plan, query_plan, read_plan, drop_plan, first_task}
+use Rattle.my_session.specs.Tables.{react, is_breaking, plan_of, clean_plan, own_plan, query_plan, read_plan, drop_plan, take_plan, skip_plan, first_task}
 use Rattle.my_session.proofs.Stands.Asking.{asks_keep, arranges_keep}
 use Rattle.my_session.proofs.Stands.Keeps.{Keeps, is_reader, react_keeps}
 use Rattle.my_session.proofs.Stands.Reacts.{falls, fell_stands}
 use Rattle.my_session.proofs.Stands.Spots.{settled_reads, settled_not_greeting}
-use Rattle.my_session.proofs.Stands.Ties.{answered_stands, noted_stands, own_after, at_greeting, quiet_more, arranged_more, first_count}
+use Rattle.my_session.proofs.Stands.Ties.{answered_stands, noted_stands, taken_stands, own_after, at_greeting, quiet_more, arranged_more, first_count}
 use Rattle.my_session.proofs.Stands.Firsts.{given_first, first_groups}
 use Rattle.my_session.proofs.Stands.Views.{given_all}
 
@@ -144,6 +144,8 @@ module _ (s : Seen) (h : History) (st : Stands s h) (open_still : s.closed ≡ f
   first_keeps Query hd = starts Query (Cleaning Query) hd refl refl (refl, hd.at.0, settled_not_greeting s.context.spot (settled_reads s.context.spot hd.at.1)) hd.tie
   first_keeps NextRow hd = starts NextRow Reading hd refl refl (hd.at.0, settled_reads s.context.spot hd.at.1) hd.tie
   first_keeps DropResult hd = starts DropResult Dropping hd refl refl (hd.at.0, settled_reads s.context.spot hd.at.1) hd.tie
+  first_keeps TakeSet hd = starts TakeSet Taking hd refl refl (hd.at.0, settled_reads s.context.spot hd.at.1) hd.tie
+  first_keeps SkipTaken hd = starts SkipTaken Skipping hd refl refl hd.at hd.tie
   first_keeps Ping hd = starts Ping (Cleaning Ping) hd refl refl (refl, hd.at.0, settled_not_greeting s.context.spot (settled_reads s.context.spot hd.at.1)) hd.tie
   first_keeps Quit hd = starts Quit (Cleaning Quit) hd refl refl (refl, hd.at.0, settled_not_greeting s.context.spot (settled_reads s.context.spot hd.at.1)) hd.tie
 
@@ -226,6 +228,8 @@ module _ (s : Seen) (h : History) (st : Stands s h) (open_still : s.closed ≡ f
   owns bytes Query task hd = queries bytes task hd s.context.spot refl
   owns bytes NextRow task hd = absurd hd.at
   owns bytes DropResult task hd = absurd hd.at
+  owns bytes TakeSet task hd = absurd hd.at
+  owns bytes SkipTaken task hd = absurd hd.at
   owns bytes Ping task hd = reads bytes (not_reader (Own Ping) task refl)
   owns bytes Quit task hd = falls s h ToldReady Quit (ap kind_in task) refl refl refl refl st
 
@@ -306,6 +310,32 @@ module _ (s : Seen) (h : History) (st : Stands s h) (open_still : s.closed ≡ f
   drops_rest bytes task hd told spots.ColumnsEnd at = reads bytes (λ _. told)
   drops_rest bytes task hd told spots.Rows at = reads bytes (λ _. told)
 
+  -- a stream takes what is there
+  takes : HeardAs Taking → is_settled s.context.spot ≡ true → Keeps (planned s plans.Takes) h
+  takes hd settled = taken_stands (with_task s Nothing s.untold) (answered h ToldReady) (quiet Taking TakeSet ToldReady hd refl refl refl refl refl refl refl hd.at.0 settled hd.tie)
+
+  takes_rest : AreBytes s.unread → s.task ≡ Taking → HeardAs Taking → s.untold ≡ false → (spot : Spot) → s.context.spot ≡ spot → Keeps (planned s (take_plan spot)) h
+  takes_rest bytes task hd told spots.Idle at = quiet Taking TakeSet ToldNone hd refl refl refl refl refl refl refl hd.at.0 (ap is_settled at) hd.tie
+  takes_rest bytes task hd told spots.Greeting at = reads bytes (λ _. told)
+  takes_rest bytes task hd told spots.Authentication at = reads bytes (λ _. told)
+  takes_rest bytes task hd told spots.Single at = reads bytes (λ _. told)
+  takes_rest bytes task hd told spots.Head at = reads bytes (λ _. told)
+  takes_rest bytes task hd told spots.Further at = reads bytes (λ _. told)
+  takes_rest bytes task hd told (spots.Columns left) at = reads bytes (λ _. told)
+  takes_rest bytes task hd told spots.ColumnsEnd at = reads bytes (λ _. told)
+  takes_rest bytes task hd told spots.Rows at = takes hd (ap is_settled at)
+
+  skips_rest : AreBytes s.unread → s.task ≡ Skipping → HeardAs Skipping → s.untold ≡ false → (spot : Spot) → s.context.spot ≡ spot → Keeps (planned s (skip_plan spot)) h
+  skips_rest bytes task hd told spots.Idle at = quiet Skipping SkipTaken ToldReady hd refl refl refl refl refl refl refl hd.at.0 hd.at.1 hd.tie
+  skips_rest bytes task hd told spots.Greeting at = quiet Skipping SkipTaken ToldReady hd refl refl refl refl refl refl refl hd.at.0 hd.at.1 hd.tie
+  skips_rest bytes task hd told spots.Authentication at = quiet Skipping SkipTaken ToldReady hd refl refl refl refl refl refl refl hd.at.0 hd.at.1 hd.tie
+  skips_rest bytes task hd told spots.Single at = quiet Skipping SkipTaken ToldReady hd refl refl refl refl refl refl refl hd.at.0 hd.at.1 hd.tie
+  skips_rest bytes task hd told spots.Head at = quiet Skipping SkipTaken ToldReady hd refl refl refl refl refl refl refl hd.at.0 hd.at.1 hd.tie
+  skips_rest bytes task hd told spots.Further at = quiet Skipping SkipTaken ToldReady hd refl refl refl refl refl refl refl hd.at.0 hd.at.1 hd.tie
+  skips_rest bytes task hd told (spots.Columns left) at = quiet Skipping SkipTaken ToldReady hd refl refl refl refl refl refl refl hd.at.0 hd.at.1 hd.tie
+  skips_rest bytes task hd told spots.ColumnsEnd at = quiet Skipping SkipTaken ToldReady hd refl refl refl refl refl refl refl hd.at.0 hd.at.1 hd.tie
+  skips_rest bytes task hd told spots.Rows at = reads bytes (λ _. told)
+
   reading_plan : AreBytes s.unread → s.task ≡ Reading → HeardAs Reading → (untold : Bool) → s.untold ≡ untold → Keeps (planned s (cond untold plans.Ends (read_plan s.context.spot))) h
   reading_plan bytes task hd true e = answered_stands (with_task s Nothing false) h calls.NextRow ToldEnd hd.pending_is
       (end_shown Reading Nothing NextRow hd e refl refl refl refl hd.at.0 hd.tie (rest_at hd.at.0 (lone_rests e st.heard)) (λ m t. t))
@@ -316,6 +346,15 @@ module _ (s : Seen) (h : History) (st : Stands s h) (open_still : s.closed ≡ f
       (noted_stands (with_task s Dropping false) h calls.DropResult ToldEnd hd.pending_is (end_shown Dropping Dropping DropResult hd e refl refl refl refl hd.at.0 hd.tie hd.at (λ m t. t)))
   dropping_plan bytes task hd false e = drops_rest bytes task hd e s.context.spot refl
 
+  taking_plan : AreBytes s.unread → s.task ≡ Taking → HeardAs Taking → (untold : Bool) → s.untold ≡ untold → Keeps (planned s (cond untold plans.Takes (take_plan s.context.spot))) h
+  taking_plan bytes task hd true e = takes hd (lone_rests e st.heard)
+  taking_plan bytes task hd false e = takes_rest bytes task hd e s.context.spot refl
+
+  skipping_plan : AreBytes s.unread → s.task ≡ Skipping → HeardAs Skipping → (untold : Bool) → s.untold ≡ untold → Keeps (planned s (cond untold plans.Passes (skip_plan s.context.spot))) h
+  skipping_plan bytes task hd true e = subst (λ (t : Task). Stands (with_task s t false) (noted h ToldEnd)) (sym task)
+      (noted_stands (with_task s Skipping false) h calls.SkipTaken ToldEnd hd.pending_is (end_shown Skipping Skipping SkipTaken hd e refl refl refl refl hd.at.0 hd.tie hd.at (λ m t. t)))
+  skipping_plan bytes task hd false e = skips_rest bytes task hd e s.context.spot refl
+
   plan_keeps : AreBytes s.unread → fault_in s.task ≡ None → (t : Task) → s.task ≡ t → HeardAs t → Keeps (planned s (plan_of t s.context.spot s.untold)) h
   plan_keeps bytes sound Nothing task hd = let no : false ≡ true = sym (ap is_open task) ∙ op in cc
   plan_keeps bytes sound (Begun c) task hd = first_keeps c hd
@@ -324,6 +363,8 @@ module _ (s : Seen) (h : History) (st : Stands s h) (open_still : s.closed ≡ f
   plan_keeps bytes sound (Arranging n) task hd = cleans bytes (Arranging n) task refl refl (plans.Arranges n) (arranges_keep s h st open_still nothing op n hd) s.context.spot refl s.untold refl
   plan_keeps bytes sound Reading task hd = reading_plan bytes task hd s.untold refl
   plan_keeps bytes sound Dropping task hd = dropping_plan bytes task hd s.untold refl
+  plan_keeps bytes sound Taking task hd = taking_plan bytes task hd s.untold refl
+  plan_keeps bytes sound Skipping task hd = skipping_plan bytes task hd s.untold refl
   plan_keeps bytes sound Leaving task hd = falls s h ToldReady Quit (ap kind_in task) refl refl refl refl st
   plan_keeps bytes sound (Failing c fault) task hd = let no : Some fault ≡ None = sym (ap fault_in task) ∙ sound in cc
 
@@ -346,6 +387,8 @@ module _ (s : Seen) (h : History) (st : Stands s h) (bytes : AreBytes s.unread) 
   alive_or (Arranging n) task sound = inl (st.heard.alive (ap is_alive task))
   alive_or Reading task sound = inl (st.heard.alive (ap is_alive task))
   alive_or Dropping task sound = inl (st.heard.alive (ap is_alive task))
+  alive_or Taking task sound = inl (st.heard.alive (ap is_alive task))
+  alive_or Skipping task sound = inl (st.heard.alive (ap is_alive task))
   alive_or Leaving task sound = inr task
   alive_or (Failing c fault) task sound = cc
 

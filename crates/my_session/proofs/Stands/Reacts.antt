@@ -39,7 +39,7 @@ use Rattle.my_session.proofs.Stands.Blames.{is_failed, calm_blames}
 use Rattle.my_session.proofs.Stands.Spots.{is_known, known, row_spot, end_spot, good_spot, failed_idle, settled_more, reading_after, left_here, not_greeting, settled_not_greeting}
 use Rattle.my_session.proofs.Stands.Ties.{answered_stands, kind_there_is, closed_tie, own_after, quiet_more, all_begun, none_waits, arranged_more, arranged_fell}
 use Rattle.my_session.proofs.Stands.Firsts.{given_first, first_on, is_queried, IsReady, ready_on, query_talk}
-use Rattle.my_session.proofs.Stands.Views.{given_on, given_all, is_part, part_groups, end_groups, good_groups, row_groups}
+use Rattle.my_session.proofs.Stands.Views.{given_on, given_all, is_part, part_groups, end_groups, good_groups, lone_further, known_further, row_groups}
 use Rattle.my_session.proofs.Stands.Wired.{wire_read, wire_fell, talk_grows, silent}
 
 -- a call ends and closes the session
@@ -310,3 +310,22 @@ module _ (s : Seen) (h : History) (st : Stands s h) (open_still : s.closed ≡ f
 
   pub good_gives : (status : StatusFlags) → kind_there s.context p ≡ Good status → groups (sets_of (grow (Good status) st.newest.talk p)) ≡ with_stop (groups (sets_of st.newest.talk))
   good_gives status e = good_groups st.newest.talk p status (talk_spot spots.Further (good_spot s.context.spot status reads (knows s h st open_still nothing p rest next whole (Good status) e)))
+
+  -- a stream takes a lone OK, whose end is left to be returned
+  pub left_lone : (status : StatusFlags) → kind_there s.context p ≡ Good status → closes ToldReady (kind_of (call_of c s.text)) ≡ false → may_lack ToldReady (kind_of (call_of c s.text)) ≡ true → connects ToldReady (kind_of (call_of c s.text)) ≡ false → given_after ToldReady (kind_of (call_of c s.text)) (given h.calls) ≡ given h.calls → Stands (with_task (advanced s (Good status) p rest next) tasks.Nothing true) (record { sent = h.sent; taken = h.taken; calls = record { call = call_of c s.text; what = ToldReady } ∷ h.calls; pending = None; ended = h.ended; lost = h.lost })
+  left_lone status e still lack con gave =
+      let further : s.context.spot ≡ spots.Further = good_spot s.context.spot status reads (knows s h st open_still nothing p rest next whole (Good status) e) in
+      let settled_here : is_settled (spot_by s h st open_still nothing p rest next whole (Good status)) ≡ true = ap (λ (x : Spot). is_settled (spot_after (deprecates_eof s.context.terms.kept) x (Good status))) further ∙ settled_more status in
+      lands s h st open_still nothing p rest next whole (Good status) tasks.Nothing true st.newest.given (record { call = call_of c s.text; what = ToldReady } ∷ h.calls) None e refl (record {
+        pending_is = refl;
+        closed_is = hd.closed_is ∙ ap (λ b. (b || has_closed h.calls) || h.lost) (sym still);
+        alive = λ no. cc;
+        given_is = gave ∙ hd.given_is;
+        errors = hd.errors ∙ ap (λ es. es ++ errors_of st.older) (sym (calm_blames (Good status) st.newest.talk p refl));
+        each = (given_on st.newest.given (Good status) st.newest.talk p hd.each.0, hd.each.1);
+        lone = λ _. lone_further st.newest.talk p status (talk_spot spots.Further further);
+        fresh = λ _ _ _. fresh_now (is_left_now (Good status) e refl) ∙ ap Some (sym (known_further st.newest.talk p status (talk_spot spots.Further further)));
+        at = λ _. subst (λ b. cond (b || has_connected h.calls) (is_settled (spot_by s h st open_still nothing p rest next whole (Good status))) (is_greeting (spot_by s h st open_still nothing p rest next whole (Good status))) ≡ true) (sym con) (subst (λ b. cond b (is_settled (spot_by s h st open_still nothing p rest next whole (Good status))) (is_greeting (spot_by s h st open_still nothing p rest next whole (Good status))) ≡ true) (sym made) settled_here);
+        first = λ waits. no_greeting s h st open_still nothing p rest next whole (Good status) waits;
+        tie = tied_on (Good status) (record { call = call_of c s.text; what = ToldReady } ∷ h.calls) (quiet_more (record { call = call_of c s.text; what = ToldReady }) h.calls (st.newest.call ∷ calls_in st.older) lack tied_now);
+      }) (arranged_on s h st open_still nothing p rest next whole (Good status) st.newest.given (record { call = call_of c s.text; what = ToldReady } ∷ h.calls) e refl (λ _. refl) (arranged_more s.login (record { call = call_of c s.text; what = ToldReady }) h.calls st.newest st.older con st.arranged)) (λ _. refl)

@@ -5,7 +5,7 @@ use Rattle.my_grammar.specs.declared.spot.Spot.{Spot}
 use Rattle.my_reading.specs.declared.call.Call.{Call}
 use Rattle.my_reading.specs.declared.call.Call.TheVariants as calls
 use Rattle.my_reading.specs.declared.call.CallKind.{CallKind}
-use Rattle.my_reading.specs.declared.call.CallKind.TheVariants.{Connect, Query, NextRow, DropResult, Ping, Quit}
+use Rattle.my_reading.specs.declared.call.CallKind.TheVariants.{Connect, Query, NextRow, DropResult, TakeSet, SkipTaken, Ping, Quit}
 use Rattle.my_session.specs.declared.task.Task.{Task}
 use Rattle.my_session.specs.declared.task.Task.TheVariants as tasks
 use Rattle.my_reading.specs.Calls.{kind_of, call_of, is_connect, asks}
@@ -13,7 +13,7 @@ use Rattle.my_session.specs.Tasks.{kind_in, is_open}
 use Rattle.my_session.specs.Entries.{Entry, calls_in, connecting_in, connects, has_connected, OwnsFirst, IsTied, may_lack}
 use Rattle.my_reading.specs.Told.{Told, ToldReady, ToldRow, ToldEnd, ToldNone, ToldError, Dropped, closes}
 use Rattle.my_session.specs.History.{History, Made, answered, noted, with_answer}
-use Rattle.my_session.specs.Machine.{is_greeting}
+use Rattle.my_session.specs.Machine.{is_greeting, with_taken}
 use Rattle.my_session.specs.Seen.{Seen}
 use Rattle.my_session.specs.Stands.{Stands, TieIs, IsArranged, begun_of}
 
@@ -25,6 +25,10 @@ answered_stands s h c t e st = subst (λ (o : Option Call). Stands s (record { s
 pub noted_stands : (s : Seen) (h : History) (c : Call) (t : Told) → h.pending ≡ Some c → Stands s (record { sent = h.sent; taken = h.taken; calls = record { call = c; what = t } ∷ h.calls; pending = Some c; ended = h.ended; lost = h.lost }) → Stands s (noted h t)
 noted_stands s h c t e st = subst (λ (o : Option Call). Stands s (record { sent = h.sent; taken = h.taken; calls = with_answer o t h.calls; pending = o; ended = h.ended; lost = h.lost })) (sym e) st
 
+-- no history tells whether a stream took the set
+pub taken_stands : (s : Seen) (h : History) → Stands s h → Stands (with_taken s) h
+taken_stands s h st = record { newest = st.newest; older = st.older; wire = st.wire; heard = st.heard; arranged = st.arranged; ended_is = st.ended_is; settled = st.settled }
+
 pub kind_there_is : (t : Task) → is_open t ≡ true → (c : CallKind) × (kind_in t ≡ Some c)
 kind_there_is tasks.Nothing e = cc
 kind_there_is (tasks.Begun c) e = (c, refl)
@@ -33,6 +37,8 @@ kind_there_is (tasks.Own c) e = (c, refl)
 kind_there_is (tasks.Arranging n) e = (Connect, refl)
 kind_there_is tasks.Reading e = (NextRow, refl)
 kind_there_is tasks.Dropping e = (DropResult, refl)
+kind_there_is tasks.Taking e = (TakeSet, refl)
+kind_there_is tasks.Skipping e = (SkipTaken, refl)
 kind_there_is tasks.Leaving e = (Quit, refl)
 kind_there_is (tasks.Failing c fault) e = (c, refl)
 
@@ -41,6 +47,8 @@ asks_not Connect text e = cc
 asks_not Query text e = refl
 asks_not NextRow text e = cc
 asks_not DropResult text e = cc
+asks_not TakeSet text e = cc
+asks_not SkipTaken text e = cc
 asks_not Ping text e = refl
 asks_not Quit text e = refl
 
@@ -70,6 +78,8 @@ closed_tie (tasks.Arranging n) c text spot made call older m k e lack t =
     owns_tie (is_greeting spot) made m call (calls_in older) lack (owns_as calls.Connect m.call (call ∷ calls_in older) made (e ∙ ap (λ (x : CallKind). call_of x text) (sym same)) t)
 closed_tie tasks.Reading c text spot made call older m k e lack t = inl (lack, t)
 closed_tie tasks.Dropping c text spot made call older m k e lack t = inl (lack, t)
+closed_tie tasks.Taking c text spot made call older m k e lack t = inl (lack, t)
+closed_tie tasks.Skipping c text spot made call older m k e lack t = inl (lack, t)
 closed_tie tasks.Leaving c text spot made call older m k e lack t = inl (lack, t)
 closed_tie (tasks.Failing d fault) c text spot made call older m k e lack t =
     let same : d ≡ c = cc in
@@ -108,6 +118,8 @@ closes_unmade ToldReady Connect e = cc
 closes_unmade ToldReady Query e = refl
 closes_unmade ToldReady NextRow e = refl
 closes_unmade ToldReady DropResult e = refl
+closes_unmade ToldReady TakeSet e = refl
+closes_unmade ToldReady SkipTaken e = refl
 closes_unmade ToldReady Ping e = refl
 closes_unmade ToldReady Quit e = refl
 closes_unmade (ToldRow row) c e = refl

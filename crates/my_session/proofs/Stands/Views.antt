@@ -22,6 +22,7 @@ use Rattle.my_session.specs.Entries.{sets_of, ends_with_ok, IsGiven}
 use Rattle.my_reading.specs.Facts.{counted, with_column as column_told, facts_by}
 use Rattle.my_session.specs.Groups.{Group, groups, with_item, with_items, with_stop, columns_in_order, column_list, head_columns, IsEarlier}
 use Rattle.my_reading.specs.Rows.{row_at, row_or}
+use Rattle.my_session.specs.Stands.{is_lone, known_part}
 
 same_terms : (k : Kind) (t : Talk) (p : List ℕ) (y : Sets) → IsEarlier (ends_with_ok t) y (sets_of t) → IsEarlier (ends_with_ok (grow k t p)) y (sets_of (grow k t p))
 same_terms (kinds.Greets c) (Start login) p y e = e
@@ -177,6 +178,27 @@ good_groups (Asked terms c) p status e = cc
 good_groups (Replied terms c last kind) p status e = cc
 good_groups (Queried terms c x) p status e = refl
 good_groups (Silent terms c) p status e = cc
+
+-- a lone OK after another set, and what is known before its end is returned
+pub lone_further : (t : Talk) (p : List ℕ) (status : StatusFlags) → (context_of t).spot ≡ spots.Further → is_lone (sets_of (grow (kinds.Good status) t p)) ≡ true
+lone_further (Start login) p status e = cc
+lone_further (Unwelcome login q) p status e = cc
+lone_further (Greeted login q c) p status e = cc
+lone_further (Settled login q c last kind) p status e = cc
+lone_further (Asked terms c) p status e = cc
+lone_further (Replied terms c last kind) p status e = cc
+lone_further (Queried terms c x) p status e = refl
+lone_further (Silent terms c) p status e = cc
+
+pub known_further : (t : Talk) (p : List ℕ) (status : StatusFlags) → (context_of t).spot ≡ spots.Further → groups (known_part true (sets_of (grow (kinds.Good status) t p))) ≡ groups (sets_of t)
+known_further (Start login) p status e = cc
+known_further (Unwelcome login q) p status e = cc
+known_further (Greeted login q c) p status e = cc
+known_further (Settled login q c last kind) p status e = cc
+known_further (Asked terms c) p status e = cc
+known_further (Replied terms c last kind) p status e = cc
+known_further (Queried terms c x) p status e = refl
+known_further (Silent terms c) p status e = cc
 
 -- the columns that are known are those of the head
 pub column_there : (o : Option AnyColumn) → described_kind o ≡ kinds.Column → (c : AnyColumn) × (o ≡ Some c)

@@ -16,10 +16,10 @@ use Rattle.my_grammar.specs.Sets.{NoSets}
 use Rattle.my_grammar.specs.Talk.{Talk, Asked, Queried, Silent, turns, client_bytes}
 use Rattle.my_grammar.proofs.Cutting.Fronts.{takes_whole}
 use Rattle.my_reading.specs.declared.call.CallKind.{CallKind}
-use Rattle.my_reading.specs.declared.call.CallKind.TheVariants.{Connect, Query, NextRow, DropResult, Ping, Quit}
+use Rattle.my_reading.specs.declared.call.CallKind.TheVariants.{Connect, Query, NextRow, DropResult, TakeSet, SkipTaken, Ping, Quit}
 use Rattle.my_session.specs.declared.task.LinkFault.{LinkFault}
 use Rattle.my_session.specs.declared.task.Task.{Task}
-use Rattle.my_session.specs.declared.task.Task.TheVariants.{Nothing, Begun, Cleaning, Own, Arranging, Reading, Dropping, Leaving, Failing}
+use Rattle.my_session.specs.declared.task.Task.TheVariants.{Nothing, Begun, Cleaning, Own, Arranging, Reading, Dropping, Taking, Skipping, Leaving, Failing}
 use Rattle.my_reading.specs.declared.error.Error.{Error}
 use Rattle.my_reading.specs.declared.error.Error.TheVariants as errors
 use Rattle.my_session.specs.declared.tables.Plan.{Plan}
@@ -37,7 +37,7 @@ use Rattle.my_session.specs.Machine.{Move, Doing, Goes, Sends, Needs, Tells, Did
 use Rattle.my_reading.specs.Rows.{row_at}
 use Rattle.my_session.specs.Seen.{Seen}
 use Rattle.my_session.specs.Steps.{rank, left_to_do, TickIs}
-use Rattle.my_session.specs.Tables.{plan_of, react, react_whole, react_connect, react_query, react_ping, react_own, is_breaking, is_connecting, first_task, clean_plan, own_plan, query_plan, read_plan, drop_plan}
+use Rattle.my_session.specs.Tables.{plan_of, react, react_whole, react_connect, react_query, react_ping, react_own, is_breaking, is_connecting, first_task, clean_plan, own_plan, query_plan, read_plan, drop_plan, take_plan, skip_plan}
 
 -- what a move leaves
 abbrev pub MoveIs : Seen → Seen → Doing → Type 0
@@ -90,6 +90,8 @@ own_goes Connect k = connect_goes k
 own_goes Query k = query_goes k
 own_goes NextRow k = tt
 own_goes DropResult k = tt
+own_goes TakeSet k = tt
+own_goes SkipTaken k = tt
 own_goes Ping k = ping_goes k
 own_goes Quit k = tt
 
@@ -128,6 +130,24 @@ react_goes Dropping kinds.ColumnsDone = (refl, omega arith)
 react_goes Dropping kinds.Row = tt
 react_goes Dropping (kinds.End status) = tt
 react_goes Dropping kinds.Bad = tt
+react_goes Taking (kinds.Greets n) = tt
+react_goes Taking (kinds.Good status) = tt
+react_goes Taking kinds.Failed = tt
+react_goes Taking (kinds.Count n) = (refl, omega arith)
+react_goes Taking kinds.Column = (refl, omega arith)
+react_goes Taking kinds.ColumnsDone = (refl, omega arith)
+react_goes Taking kinds.Row = tt
+react_goes Taking (kinds.End status) = tt
+react_goes Taking kinds.Bad = tt
+react_goes Skipping (kinds.Greets n) = tt
+react_goes Skipping (kinds.Good status) = tt
+react_goes Skipping kinds.Failed = tt
+react_goes Skipping (kinds.Count n) = tt
+react_goes Skipping kinds.Column = tt
+react_goes Skipping kinds.ColumnsDone = tt
+react_goes Skipping kinds.Row = tt
+react_goes Skipping (kinds.End status) = tt
+react_goes Skipping kinds.Bad = tt
 react_goes Leaving k = tt
 react_goes (Failing c fault) k = tt
 
@@ -139,6 +159,8 @@ rank_false (Own c) untold = omega arith
 rank_false (Arranging n) untold = omega arith
 rank_false Reading untold = omega arith
 rank_false Dropping untold = omega arith
+rank_false Taking untold = omega arith
+rank_false Skipping untold = omega arith
 rank_false Leaving untold = omega arith
 rank_false (Failing c fault) untold = omega arith
 
@@ -178,6 +200,7 @@ reacted_is s n p (reactions.Goes u) op b g =
     let same : rank u n.untold ≡ rank u false = ap (rank u) b.told in
     (g.0, omega arith)
 reacted_is s n p (reactions.Readies untold) op b g = refl
+reacted_is s n p reactions.Takes op b g = refl
 reacted_is s n p reactions.Gives op b g = gave_is s n (row_at s.facts.columns p)
 reacted_is s n p reactions.Ends op b g = refl
 reacted_is s n p reactions.PassesRow op b g = passed_is s n (row_at s.facts.columns p) op b
@@ -229,6 +252,8 @@ asked_is s Connect text none = refl
 asked_is s Query text none = begins_if s (Own Query) (Queried (next_terms s) (packet_bytes (packets.Query text)) NoSets) _ none refl (some_bytes (packet_bytes (packets.Query text)) 0)
 asked_is s NextRow text none = refl
 asked_is s DropResult text none = refl
+asked_is s TakeSet text none = refl
+asked_is s SkipTaken text none = refl
 asked_is s Ping text none = begins_if s (Own Ping) (Asked (next_terms s) (packet_bytes packets.Ping)) _ none refl (some_bytes (packet_bytes packets.Ping) 0)
 asked_is s Quit text none = begins_if s (Own Quit) (Silent (next_terms s) (packet_bytes packets.Quit)) _ none refl (some_bytes (packet_bytes packets.Quit) 0)
 
@@ -243,6 +268,7 @@ plan_is s plans.Hears op none f = (op, omega arith)
 plan_is s (plans.Asks c) op none f = asked_is s c s.text none
 plan_is s (plans.Arranges n) op none f = arranged_is s n (slice_get (arranging_texts s.login) n) none
 plan_is s plans.Readies op none f = refl
+plan_is s plans.Takes op none f = refl
 plan_is s plans.Quits op none f = refl
 plan_is s plans.Passes op none f = (op, omega arith)
 plan_is s plans.Dropped op none f = refl
@@ -269,11 +295,17 @@ rank_dropping : (untold : Bool) → rank Dropping untold < 3
 rank_dropping true = omega arith
 rank_dropping false = omega arith
 
+rank_skipping : (untold : Bool) → rank Skipping untold < 3
+rank_skipping true = omega arith
+rank_skipping false = omega arith
+
 first_fits : (c : CallKind) (untold : Bool) → FitsTask (Begun c) untold (plans.Starts (first_task c))
 first_fits Connect untold = (refl, omega arith)
 first_fits Query untold = (refl, rank_cleaning Query untold)
 first_fits NextRow untold = (refl, omega arith)
 first_fits DropResult untold = (refl, rank_dropping untold)
+first_fits TakeSet untold = (refl, omega arith)
+first_fits SkipTaken untold = (refl, rank_skipping untold)
 first_fits Ping untold = (refl, rank_cleaning Ping untold)
 first_fits Quit untold = (refl, rank_cleaning Quit untold)
 
@@ -293,6 +325,8 @@ own_fits Connect spot untold = tt
 own_fits Query spot untold = query_fits spot untold
 own_fits NextRow spot untold = tt
 own_fits DropResult spot untold = tt
+own_fits TakeSet spot untold = tt
+own_fits SkipTaken spot untold = tt
 own_fits Ping spot untold = tt
 own_fits Quit spot untold = tt
 
@@ -318,6 +352,28 @@ drop_fits (spots.Columns left) = tt
 drop_fits spots.ColumnsEnd = tt
 drop_fits spots.Rows = tt
 
+take_fits : (spot : Spot) → FitsTask Taking false (take_plan spot)
+take_fits spots.Idle = tt
+take_fits spots.Greeting = tt
+take_fits spots.Authentication = tt
+take_fits spots.Single = tt
+take_fits spots.Head = tt
+take_fits spots.Further = tt
+take_fits (spots.Columns left) = tt
+take_fits spots.ColumnsEnd = tt
+take_fits spots.Rows = tt
+
+skip_fits : (spot : Spot) → FitsTask Skipping false (skip_plan spot)
+skip_fits spots.Idle = tt
+skip_fits spots.Greeting = tt
+skip_fits spots.Authentication = tt
+skip_fits spots.Single = tt
+skip_fits spots.Head = tt
+skip_fits spots.Further = tt
+skip_fits (spots.Columns left) = tt
+skip_fits spots.ColumnsEnd = tt
+skip_fits spots.Rows = tt
+
 plan_fits : (t : Task) (spot : Spot) (untold : Bool) → FitsTask t untold (plan_of t spot untold)
 plan_fits Nothing spot untold = tt
 plan_fits (Begun c) spot untold = first_fits c untold
@@ -328,6 +384,10 @@ plan_fits Reading spot true = tt
 plan_fits Reading spot false = read_fits spot
 plan_fits Dropping spot true = omega arith
 plan_fits Dropping spot false = drop_fits spot
+plan_fits Taking spot true = tt
+plan_fits Taking spot false = take_fits spot
+plan_fits Skipping spot true = omega arith
+plan_fits Skipping spot false = skip_fits spot
 plan_fits Leaving spot untold = tt
 plan_fits (Failing c fault) spot untold = tt
 

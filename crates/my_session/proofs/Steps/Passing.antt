@@ -1,4 +1,4 @@
--- Moves that go on are of one call, and DropResult alone passes over anything.
+-- Moves that go on are of one call, and only calls that pass over sets pass over anything.
 use Rattle.std.proofs.Common.{◌≡◌, ℕ, suc, List, [], ◌∷◌, length, Bool, true, false, cond, Option, Some, None, refl, sym, ap, ◌∙◌, subst}
 use Rattle.my_frame.specs.Front.{Front, Waiting, Broken, Whole}
 use Rattle.my_value.specs.RowParts.{RowParts}
@@ -10,10 +10,10 @@ use Rattle.my_grammar.specs.declared.spot.Kind.TheVariants as kinds
 use Rattle.my_grammar.specs.Kinds.{kind_there}
 use Rattle.my_grammar.specs.Talk.{Talk}
 use Rattle.my_reading.specs.declared.call.CallKind.{CallKind}
-use Rattle.my_reading.specs.declared.call.CallKind.TheVariants.{Connect, Query, NextRow, DropResult, Ping, Quit}
+use Rattle.my_reading.specs.declared.call.CallKind.TheVariants.{Connect, Query, NextRow, DropResult, TakeSet, SkipTaken, Ping, Quit}
 use Rattle.my_session.specs.declared.task.LinkFault.{LinkFault}
 use Rattle.my_session.specs.declared.task.Task.{Task}
-use Rattle.my_session.specs.declared.task.Task.TheVariants.{Nothing, Begun, Cleaning, Own, Arranging, Reading, Dropping, Leaving, Failing}
+use Rattle.my_session.specs.declared.task.Task.TheVariants.{Nothing, Begun, Cleaning, Own, Arranging, Reading, Dropping, Taking, Skipping, Leaving, Failing}
 use Rattle.my_session.specs.declared.tables.Plan.{Plan}
 use Rattle.my_session.specs.declared.tables.Plan.TheVariants as plans
 use Rattle.my_session.specs.declared.tables.Reaction.{Reaction}
@@ -27,16 +27,16 @@ use Rattle.my_reading.specs.Commands.{command_in}
 use Rattle.my_reading.specs.Errors.{invalid_data, unexpected_eof}
 use Rattle.my_session.specs.Machine as machine
 use Rattle.my_session.specs.Machine.{Move, Doing, Goes, Sends, Needs, Tells, Did, Does, FaultIs, advanced, reply_to, above, unless_above, refused, gave, passed, reacted, read_by, reading, asked, arranged, planned, when_owed, next_by, next, doing}
-use Rattle.my_session.specs.Passed.{IsItem}
+use Rattle.my_session.specs.Passed.{IsItem, is_passing}
 use Rattle.my_reading.specs.Rows.{row_at}
 use Rattle.my_session.specs.Seen.{Seen}
 use Rattle.my_session.specs.Steps.{goes_on}
-use Rattle.my_session.specs.Tables.{plan_of, react, react_whole, react_connect, react_query, react_ping, react_own, is_breaking, is_connecting, first_task, clean_plan, own_plan, query_plan, read_plan, drop_plan}
+use Rattle.my_session.specs.Tables.{plan_of, react, react_whole, react_connect, react_query, react_ping, react_own, is_breaking, is_connecting, first_task, clean_plan, own_plan, query_plan, read_plan, drop_plan, take_plan, skip_plan}
 
--- A move that goes on stays with the call, which wasn't made to fail, and passes over a row or an end only for DropResult.
+-- A move that goes on stays with the call, which wasn't made to fail, and passes over a row or an end only for a call that does.
 abbrev pub MovesOn : Option CallKind → Seen → Doing → Type 0
 MovesOn kind new Goes = (kind_in new.task ≡ kind) × (fault_in new.task ≡ None)
-MovesOn kind new (machine.Passes t) = (kind_in new.task ≡ kind) × (fault_in new.task ≡ None) × (kind ≡ Some DropResult) × IsItem t
+MovesOn kind new (machine.Passes t) = (kind_in new.task ≡ kind) × (fault_in new.task ≡ None) × (is_passing kind ≡ true) × IsItem t
 MovesOn kind new Sends = Unit {0}
 MovesOn kind new Needs = Unit {0}
 MovesOn kind new (Tells t) = Unit {0}
@@ -44,8 +44,8 @@ MovesOn kind new (Tells t) = Unit {0}
 -- reactions of one call
 abbrev StaysIn : Option CallKind → Reaction → Type 0
 StaysIn kind (reactions.Goes u) = (kind_in u ≡ kind) × (fault_in u ≡ None)
-StaysIn kind reactions.PassesRow = kind ≡ Some DropResult
-StaysIn kind reactions.PassesEnd = kind ≡ Some DropResult
+StaysIn kind reactions.PassesRow = is_passing kind ≡ true
+StaysIn kind reactions.PassesEnd = is_passing kind ≡ true
 StaysIn kind r = Unit {0}
 
 connect_stays : (k : Kind) → StaysIn (Some Connect) (react_connect k)
@@ -86,6 +86,8 @@ own_stays Connect k = connect_stays k
 own_stays Query k = query_stays k
 own_stays NextRow k = tt
 own_stays DropResult k = tt
+own_stays TakeSet k = tt
+own_stays SkipTaken k = tt
 own_stays Ping k = ping_stays k
 own_stays Quit k = tt
 
@@ -124,13 +126,31 @@ react_stays Dropping kinds.ColumnsDone = (refl, refl)
 react_stays Dropping kinds.Row = refl
 react_stays Dropping (kinds.End status) = refl
 react_stays Dropping kinds.Bad = tt
+react_stays Taking (kinds.Greets n) = tt
+react_stays Taking (kinds.Good status) = tt
+react_stays Taking kinds.Failed = tt
+react_stays Taking (kinds.Count n) = (refl, refl)
+react_stays Taking kinds.Column = (refl, refl)
+react_stays Taking kinds.ColumnsDone = (refl, refl)
+react_stays Taking kinds.Row = tt
+react_stays Taking (kinds.End status) = tt
+react_stays Taking kinds.Bad = tt
+react_stays Skipping (kinds.Greets n) = tt
+react_stays Skipping (kinds.Good status) = tt
+react_stays Skipping kinds.Failed = tt
+react_stays Skipping (kinds.Count n) = tt
+react_stays Skipping kinds.Column = tt
+react_stays Skipping kinds.ColumnsDone = tt
+react_stays Skipping kinds.Row = refl
+react_stays Skipping (kinds.End status) = refl
+react_stays Skipping kinds.Bad = tt
 react_stays Leaving k = tt
 react_stays (Failing c fault) k = tt
 
 -- plans of one call
 abbrev Suits : Option CallKind → Plan → Type 0
 Suits kind (plans.Starts u) = (kind_in u ≡ kind) × (fault_in u ≡ None)
-Suits kind plans.Passes = kind ≡ Some DropResult
+Suits kind plans.Passes = is_passing kind ≡ true
 Suits kind p = Unit {0}
 
 first_suits : (c : CallKind) → (kind_in (first_task c) ≡ Some c) × (fault_in (first_task c) ≡ None)
@@ -138,6 +158,8 @@ first_suits Connect = (refl, refl)
 first_suits Query = (refl, refl)
 first_suits NextRow = (refl, refl)
 first_suits DropResult = (refl, refl)
+first_suits TakeSet = (refl, refl)
+first_suits SkipTaken = (refl, refl)
 first_suits Ping = (refl, refl)
 first_suits Quit = (refl, refl)
 
@@ -169,6 +191,8 @@ own_suits Connect spot = tt
 own_suits Query spot = query_suits spot
 own_suits NextRow spot = tt
 own_suits DropResult spot = tt
+own_suits TakeSet spot = tt
+own_suits SkipTaken spot = tt
 own_suits Ping spot = tt
 own_suits Quit spot = tt
 
@@ -194,6 +218,28 @@ drop_suits (spots.Columns left) = tt
 drop_suits spots.ColumnsEnd = tt
 drop_suits spots.Rows = tt
 
+take_suits : (spot : Spot) → Suits (Some TakeSet) (take_plan spot)
+take_suits spots.Idle = tt
+take_suits spots.Greeting = tt
+take_suits spots.Authentication = tt
+take_suits spots.Single = tt
+take_suits spots.Head = tt
+take_suits spots.Further = tt
+take_suits (spots.Columns left) = tt
+take_suits spots.ColumnsEnd = tt
+take_suits spots.Rows = tt
+
+skip_suits : (spot : Spot) → Suits (Some SkipTaken) (skip_plan spot)
+skip_suits spots.Idle = tt
+skip_suits spots.Greeting = tt
+skip_suits spots.Authentication = tt
+skip_suits spots.Single = tt
+skip_suits spots.Head = tt
+skip_suits spots.Further = tt
+skip_suits (spots.Columns left) = tt
+skip_suits spots.ColumnsEnd = tt
+skip_suits spots.Rows = tt
+
 plan_suits : (t : Task) (spot : Spot) (untold : Bool) → Suits (kind_in t) (plan_of t spot untold)
 plan_suits Nothing spot untold = tt
 plan_suits (Begun c) spot untold = first_suits c
@@ -204,6 +250,10 @@ plan_suits Reading spot true = tt
 plan_suits Reading spot false = read_suits spot
 plan_suits Dropping spot true = refl
 plan_suits Dropping spot false = drop_suits spot
+plan_suits Taking spot true = tt
+plan_suits Taking spot false = take_suits spot
+plan_suits Skipping spot true = refl
+plan_suits Skipping spot false = skip_suits spot
 plan_suits Leaving spot untold = tt
 plan_suits (Failing c fault) spot untold = tt
 
@@ -229,13 +279,14 @@ module _ (s : Seen) (sound : fault_in s.task ≡ None) where
     task_is : n.task ≡ s.task
     login_is : n.login ≡ s.login
 
-  passed_stays : (n : Seen) (row : Option RowParts) → IsPassedOn n → kind_in s.task ≡ Some DropResult → Stays (passed s n row)
+  passed_stays : (n : Seen) (row : Option RowParts) → IsPassedOn n → is_passing (kind_in s.task) ≡ true → Stays (passed s n row)
   passed_stays n None same drops = (tt, refl)
   passed_stays n (Some row) same drops = ((ap kind_in same.task_is, ap fault_in same.task_is ∙ sound, drops, tt), same.login_is)
 
   reacted_stays : (n : Seen) (p : List ℕ) (r : Reaction) → IsPassedOn n → StaysIn (kind_in s.task) r → Stays (reacted s n p r)
   reacted_stays n p (reactions.Goes u) same i = (i, same.login_is)
   reacted_stays n p (reactions.Readies untold) same i = (tt, same.login_is)
+  reacted_stays n p reactions.Takes same i = (tt, same.login_is)
   reacted_stays n p reactions.Gives same i = gave_stays n (row_at s.facts.columns p) same.login_is
   reacted_stays n p reactions.Ends same i = (tt, same.login_is)
   reacted_stays n p reactions.PassesRow same i = passed_stays n (row_at s.facts.columns p) same i
@@ -281,6 +332,7 @@ module _ (s : Seen) (sound : fault_in s.task ≡ None) where
   plan_stays (plans.Asks c) i = asked_stays c _
   plan_stays (plans.Arranges n) i = arranged_stays n _
   plan_stays plans.Readies i = (tt, refl)
+  plan_stays plans.Takes i = (tt, refl)
   plan_stays plans.Quits i = (tt, refl)
   plan_stays plans.Passes i = ((refl, sound, i, tt), refl)
   plan_stays plans.Dropped i = (tt, refl)

@@ -2,6 +2,7 @@
 
 ghost use Rattle.std.specs.Prelude.{◌≡◌, ◌≤◌, ◌++◌, length, drop, IfOk, OnOk, OnErr, Some};
 ghost use Rattle.my_reading.specs.Errors.{server_error};
+ghost use Rattle.my_reading.specs.Place.{is_rows};
 ghost use Rattle.my_session.specs.Machine.{above};
 
 use super::Session;
@@ -36,6 +37,15 @@ fn length_above(limit: u64, reply: &Option<Blob>) -> Option<u64>
             let length = reply.len() as u64;
             if length > limit { Some(length) } else { None }
         }
+    }
+}
+
+fn is_rows(spot: Spot) -> bool
+    ensures { result ≡ is_rows spot }
+{
+    match spot {
+        Spot::Rows => true,
+        _ => false,
     }
 }
 
@@ -100,6 +110,7 @@ impl Session {
         self.number = number;
         self.context = self.context.after(arrival.kind);
         self.untold = false;
+        self.taken = self.taken && is_rows(self.context.spot);
         self.unread.skip(arrival.span.len);
         Ok(())
     }
@@ -122,6 +133,23 @@ impl Session {
                 self.task = task;
                 self.untold = untold;
                 tick
+            }
+            Err(NoMemory) => self.fault(Error::NoMemory),
+        }
+    }
+
+    // The payload is a lone OK, whose end is left, and a stream takes its set.
+    fn land_taken(&mut self, alloc: Global, arrival: &Arrival) -> Tick
+        requires { IsArrival self.old.seen arrival.now }
+        ensures { let s = self.old.seen in
+            Does (reacted s (following s arrival.now) arrival.now.payload Reaction.Takes) s self.new.seen result }
+    {
+        match self.advance(alloc, arrival) {
+            Ok(()) => {
+                self.task = Task::Nothing;
+                self.untold = true;
+                self.taken = true;
+                Tick::Done(Answer::Ready)
             }
             Err(NoMemory) => self.fault(Error::NoMemory),
         }
@@ -247,6 +275,7 @@ impl Session {
                 untold,
                 Tick::Done(Answer::Ready),
             ),
+            Reaction::Takes => self.land_taken(alloc, arrival),
             Reaction::Gives => self.give(alloc, arrival),
             Reaction::Ends => {
                 self.land(

@@ -85,6 +85,7 @@ impl Session {
                     },
                 };
                 self.task = task;
+                self.taken = false;
                 Tick::Sends
             }
             Err(NoMemory) => self.fault(Error::NoMemory),
@@ -124,9 +125,11 @@ impl Session {
             CallKind::Query => self.ask_query(alloc),
             CallKind::Ping => self.command(alloc, own, Spot::Single, &ClientPacket::Ping),
             CallKind::Quit => self.command(alloc, own, Spot::Idle, &ClientPacket::Quit),
-            CallKind::Connect | CallKind::NextRow | CallKind::DropResult => {
-                self.answer(Answer::NoSet)
-            }
+            CallKind::Connect
+            | CallKind::NextRow
+            | CallKind::DropResult
+            | CallKind::TakeSet
+            | CallKind::SkipTaken => self.answer(Answer::NoSet),
         }
     }
 

@@ -24,6 +24,8 @@ fn fault_in(task: Task) -> Option<LinkFault>
         | Task::Arranging(_)
         | Task::Reading
         | Task::Dropping
+        | Task::Taking
+        | Task::Skipping
         | Task::Leaving => None,
     }
 }
@@ -105,6 +107,10 @@ impl Session {
                 self.untold = false;
                 Tick::PassedEnd
             }
+            Plan::Takes => {
+                self.taken = true;
+                self.answer(Answer::Ready)
+            }
             Plan::Quits => {
                 self.fall();
                 Tick::Done(Answer::Ready)
@@ -152,7 +158,7 @@ impl Session {
         self.move_on(alloc)
     }
 
-    /// The next step of the open call. Only `DropResult` passes over rows and ends. Each error, and the answer that
+    /// The next step of the open call. Only `DropResult` and `SkipTaken` pass over rows and ends. Each error, and the answer that
     /// nothing is left, has its cause in the history after what was passed over. A step is steps of the one reading of the
     /// connection, and its stop is theirs (`reads`).
     pub fn step(&mut self, alloc: Global) -> SessionStep

@@ -1,4 +1,4 @@
-use Rattle.std.proofs.Common.{◌≡◌, [], ◌∷◌, refl, sym, ◌∙◌}
+use Rattle.std.proofs.Common.{◌≡◌, [], ◌∷◌, refl, sym, ap, ◌∙◌}
 use Rattle.my_session.specs.declared.answer.SessionStep.{SessionStep}
 use Rattle.my_session.specs.declared.answer.SessionStep.TheVariants as steps
 use Rattle.my_session.specs.declared.answer.Tick.TheVariants as ticks
@@ -6,6 +6,7 @@ use Rattle.my_session.specs.Tasks.{fault_in}
 use Rattle.my_session.specs.Causes.{EndCause, HasCause}
 use Rattle.my_reading.specs.Told.{ToldRow, ToldEnd}
 use Rattle.my_session.specs.History.{History, passing}
+use Rattle.my_session.specs.Passed.{is_passing}
 use Rattle.my_session.specs.Seen.{Seen}
 use Rattle.my_session.proofs.Faults.{answer_cause, fault_because}
 use Rattle.my_session.proofs.Steps.Passing.{did_stay, goes_sound, does_login}
@@ -34,7 +35,7 @@ moves-preserved-in-PassedEnd c =
     let on = did_stay c.moves.self.seen c.tick.new.self.seen ticks.PassedEnd c.in-PassedEnd.ensures.does in
     record {
       at = one_more c.args.self.now.seen c.moves.self.seen c.tick.new.self.seen ticks.PassedEnd refl now.at c.in-PassedEnd.ensures.does;
-      stands = λ h st. let u = now.stands h st in (ToldEnd ∷ u.0, (sym now.kind ∙ on.2, on.3, u.1), c.in-PassedEnd.ensures.stands _ u.2);
+      stands = λ h st. let u = now.stands h st in (ToldEnd ∷ u.0, (ap is_passing (sym now.kind) ∙ on.2, on.3, u.1), c.in-PassedEnd.ensures.stands _ u.2);
       kind = on.0 ∙ now.kind;
       fault = on.1 ∙ sym (goes_sound c.moves.self.seen c.tick.new.self.seen ticks.PassedEnd refl c.in-PassedEnd.ensures.does) ∙ now.fault;
       login = does_login c.moves.self.seen c.tick.new.self.seen ticks.PassedEnd c.in-PassedEnd.ensures.does ∙ now.login;
@@ -50,7 +51,7 @@ moves-preserved c =
     let on = did_stay c.moves.self.seen c.tick.new.self.seen (ticks.PassedRow row) c.in-PassedRow.ensures.does in
     record {
       at = one_more c.args.self.now.seen c.moves.self.seen c.tick.new.self.seen (ticks.PassedRow row) refl now.at c.in-PassedRow.ensures.does;
-      stands = λ h st. let u = now.stands h st in (ToldRow row ∷ u.0, (sym now.kind ∙ on.2, on.3, u.1), c.in-PassedRow.ensures.stands _ u.2);
+      stands = λ h st. let u = now.stands h st in (ToldRow row ∷ u.0, (ap is_passing (sym now.kind) ∙ on.2, on.3, u.1), c.in-PassedRow.ensures.stands _ u.2);
       kind = on.0 ∙ now.kind;
       fault = on.1 ∙ sym (goes_sound c.moves.self.seen c.tick.new.self.seen (ticks.PassedRow row) refl c.in-PassedRow.ensures.does) ∙ now.fault;
       login = does_login c.moves.self.seen c.tick.new.self.seen (ticks.PassedRow row) c.in-PassedRow.ensures.does ∙ now.login;
