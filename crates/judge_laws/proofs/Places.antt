@@ -1,5 +1,5 @@
 -- Reading on leaves what was sent as it is.
-use Rattle.std.proofs.Common.{◌≡◌, ℕ, zero, suc, List, [], ◌∷◌, ◌++◌, Bool, true, false, Option, Some, None, if◌then◌else◌, refl, sym}
+use Rattle.std.proofs.Common.{◌≡◌, ℕ, zero, suc, List, [], ◌∷◌, ◌++◌, Bool, true, false, ◌||◌, Option, Some, None, if◌then◌else◌, refl, sym}
 use Rattle.my_frame.specs.Front.{Front, Waiting, Broken, Whole}
 use Rattle.my_reply.specs.declared.err.ErrPacket.{ErrPacket}
 use Rattle.my_reply.specs.ErrPacket.{err_at}
@@ -12,7 +12,7 @@ use Rattle.my_grammar.specs.Response.{response}
 use Rattle.my_grammar.specs.Talk.{Talk, context_of, limit_of}
 use Rattle.my_reading.specs.declared.call.Call.{Call}
 use Rattle.my_reading.specs.Commands.{command_in}
-use Rattle.my_reading.specs.Course.{Part, All, Head, Item, Command, Step, Goes, Stops, unless_owed, step_of, step, run, enough, parts_of, with_command, with_front, after_payload, after_kind, after_err, is_greeting, is_rows}
+use Rattle.my_reading.specs.Course.{Part, All, Head, Item, Set, Rest, Command, Step, Goes, Stops, unless_owed, step_of, step, run, enough, parts_of, with_command, with_front, after_payload, after_kind, after_err, is_greeting, is_rows}
 use Rattle.my_reading.specs.Place.{Place, facts_at, owed, with_talk, with_bytes, next_exchange}
 use Rattle.my_reading.specs.Reading.{halt_of}
 use Rattle.my_reading.specs.Rows.{row_of}
@@ -43,6 +43,7 @@ module _ (login : Login) (call : Call) where
   kind_keeps Item parts (kinds.Good status) new row = refl
   kind_keeps Item parts (kinds.End status) new row = refl
   kind_keeps Item parts kinds.Row new row = refl
+  kind_keeps Set parts (kinds.Good status) new row = refl
   kind_keeps part parts k new row = refl
 
   err_keeps : (p new : Place) (e : Option ErrPacket) → new.sent ≡ p.sent → Keeps p.sent (after_err login p new e)
@@ -68,6 +69,8 @@ module _ (login : Login) (call : Call) where
   of_keeps (All ∷ parts) p = either_keeps p.sent p.end_left _ _ refl (either_keeps p.sent (is_over p.talk) _ _ refl (front_keeps All parts p (front_of p.talk p.unread)))
   of_keeps (Head ∷ parts) p = either_keeps p.sent (is_rows (context_of p.talk).spot) _ _ refl (front_keeps Head parts p (front_of p.talk p.unread))
   of_keeps (Item ∷ parts) p = either_keeps p.sent p.end_left _ _ refl (either_keeps p.sent (is_over p.talk) _ _ refl (front_keeps Item parts p (front_of p.talk p.unread)))
+  of_keeps (Set ∷ parts) p = either_keeps p.sent (p.end_left || is_rows (context_of p.talk).spot) _ _ refl (either_keeps p.sent (is_over p.talk) _ _ refl (front_keeps Set parts p (front_of p.talk p.unread)))
+  of_keeps (Rest ∷ parts) p = either_keeps p.sent p.end_left _ _ refl (either_keeps p.sent (is_rows (context_of p.talk).spot) _ _ (front_keeps Rest parts p (front_of p.talk p.unread)) refl)
 
   step_keeps : (parts : List Part) (p : Place) → Keeps p.sent (step login call parts p)
   unfolding step

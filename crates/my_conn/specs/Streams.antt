@@ -1,5 +1,5 @@
 -- What the taking of a set by a stream does: the rest of a set that an earlier stream took is passed over first.
-use Rattle.std.specs.Prelude.{◌≡◌, Bool, true, false, Option, Some, None, if◌then◌else◌}
+use Rattle.std.specs.Prelude.{◌≡◌, Bool, true, false, Option, Some, None}
 use Rattle.std.specs.declared.result.Result.{Result}
 use Rattle.std.specs.declared.result.Result.TheVariants.{Ok, Err}
 use Rattle.my_link.specs.Looks.{Looks}
@@ -51,12 +51,14 @@ abbrev pub SkipsFrom : {L : Type 0} → (L → Looks) → Option Call → ConnSe
 SkipsFrom {L} look call old new result = (m : Met) × (after : After) × (mid : ConnSeen L)
     × CallIs look kinds.SkipTaken call old mid m after × SkipEnds look after mid new result
 
--- A poll at this stage. The first one passes over the rest of a set where a stream took it.
+-- the first poll, where an earlier stream took the set that is read, and where none did
+abbrev pub BeginsFrom : {L : Type 0} → Bool → (L → Looks) → ConnSeen L → ConnSeen L → Poll (Result Bool Error) → Type 0
+BeginsFrom true look old new result = SkipsFrom look (Some calls.SkipTaken) old new result
+BeginsFrom false look old new result = TakesFrom look (Some calls.TakeSet) old new result
+
+-- A poll at this stage.
 abbrev pub StreamIs : {L : Type 0} → (L → Looks) → Stage → ConnSeen L → ConnSeen L → Poll (Result Bool Error) → Type 0
-StreamIs look First old new result =
-    if is_taken old.seen
-    then SkipsFrom look (Some calls.SkipTaken) old new result
-    else TakesFrom look (Some calls.TakeSet) old new result
+StreamIs look First old new result = BeginsFrom (is_taken old.seen) look old new result
 StreamIs look Skips old new result = SkipsFrom look None old new result
 StreamIs look Takes old new result = TakesFrom look None old new result
 
@@ -79,6 +81,10 @@ abbrev pub WaitSkips : {L : Type 0} → (L → Looks) → ConnSeen L → ConnSee
 WaitSkips {L} look old new result = (r : Result Answer Error) × (mid : ConnSeen L)
     × DriveIs look kinds.SkipTaken calls.SkipTaken old mid r × WaitSkipEnds look r mid new result
 
+abbrev pub WaitBegins : {L : Type 0} → Bool → (L → Looks) → ConnSeen L → ConnSeen L → Result Bool Error → Type 0
+WaitBegins true look old new result = WaitSkips look old new result
+WaitBegins false look old new result = WaitTakes look old new result
+
 -- The same, by calls that wait.
 abbrev pub StreamWaits : {L : Type 0} → (L → Looks) → ConnSeen L → ConnSeen L → Result Bool Error → Type 0
-StreamWaits look old new result = if is_taken old.seen then WaitSkips look old new result else WaitTakes look old new result
+StreamWaits look old new result = WaitBegins (is_taken old.seen) look old new result

@@ -26,7 +26,12 @@ pub(crate) fn never_holds<L: BlockingLink>(link: &L)
 
 impl<L: BlockingLink> Conn<L> {
     // Begins a call, and polls it until it returns.
-    pub(crate) fn drive(&mut self, alloc: Global, kind: CallKind, call: Call) -> Result<Answer, Error>
+    pub(crate) fn drive(
+        &mut self,
+        alloc: Global,
+        kind: CallKind,
+        call: Call,
+    ) -> Result<Answer, Error>
         requires idle { self.old.pending ≡ None }
         requires kind { kind_of call ≡ kind }
         requires other { is_connect kind ≡ false }

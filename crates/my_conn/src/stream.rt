@@ -2,7 +2,7 @@
 ghost use Rattle.std.specs.Prelude.{◌≡◌, None};
 ghost use Rattle.my_packets.specs.declared.poll.Poll.TheVariants as polls;
 ghost use Rattle.my_conn.specs.Calls.{MayPoll};
-ghost use Rattle.my_conn.specs.Streams.{StreamCancels, StreamIs, StreamWaits, TakesFrom, SkipsFrom, open_at, taken_of};
+ghost use Rattle.my_conn.specs.Streams.{StreamCancels, StreamIs, StreamWaits, TakesFrom, SkipsFrom, WaitSkips, WaitTakes, open_at, taken_of};
 
 use crate::conn::Conn;
 use my_client::After;
@@ -121,6 +121,28 @@ impl StreamCall {
 }
 
 impl<L: BlockingLink> Conn<L> {
+    // Takes the set that is read, or the next one.
+    fn take_set(&mut self, alloc: Global) -> Result<bool, Error>
+        requires { self.old.pending ≡ None }
+        ensures { WaitTakes L.looks self.old self.new result }
+    {
+        match self.drive(alloc, CallKind::TakeSet, Call::TakeSet) {
+            Ok(answer) => return Ok(taken_of(&answer)),
+            Err(error) => return Err(error),
+        }
+    }
+
+    // Passes over the rest of the set that an earlier stream took, and takes the next one.
+    fn skip_to_set(&mut self, alloc: Global) -> Result<bool, Error>
+        requires { self.old.pending ≡ None }
+        ensures { WaitSkips L.looks self.old self.new result }
+    {
+        match self.drive(alloc, CallKind::SkipTaken, Call::SkipTaken) {
+            Ok(_) => return self.take_set(alloc),
+            Err(error) => return Err(error),
+        }
+    }
+
     /// Lets a stream take the set that is read, or the next one, and waits for it. The rest of a set that an earlier stream
     /// took is passed over first. `false`: nothing is left.
     pub fn stream(&mut self, alloc: Global) -> Result<bool, Error>
@@ -128,14 +150,8 @@ impl<L: BlockingLink> Conn<L> {
         ensures { StreamWaits L.looks self.old self.new result }
     {
         if self.is_taken() {
-            match self.drive(alloc, CallKind::SkipTaken, Call::SkipTaken) {
-                Ok(_) => {}
-                Err(error) => return Err(error),
-            }
+            return self.skip_to_set(alloc);
         }
-        match self.drive(alloc, CallKind::TakeSet, Call::TakeSet) {
-            Ok(answer) => return Ok(taken_of(&answer)),
-            Err(error) => return Err(error),
-        }
+        self.take_set(alloc)
     }
 }
