@@ -1,3 +1,4 @@
+mod Adding
 pub mod LoginLaws
 pub mod Sendable
 pub mod Standing

@@ -53,6 +53,11 @@ abbrev pub end_payload : Bool → StatusFlags → List ℕ
 end_payload true status = server_bytes (packets.End (ok_of status))
 end_payload false status = eof_payload status
 
+-- what comes before the rows of a set
+abbrev pub head_payloads : Bool → StatusFlags → List (List ℕ) → List (List ℕ)
+head_payloads deprecates status names =
+    server_bytes (packets.Count (length names)) ∷ map column_payload names ++ close_payloads deprecates status
+
 -- a set that ends with this status
 abbrev pub set_payloads : Bool → StatusFlags → ServerSet → List (List ℕ)
 set_payloads deprecates status set =

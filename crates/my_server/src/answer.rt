@@ -1,8 +1,8 @@
 //! The payloads that a server sends for an answer of its script.
 
-ghost use Rattle.std.specs.Prelude.{◌≡◌, ◌<◌, ◌≤◌, ◌^◌, ◌∷◌, [], ◌++◌, IfOk, OnOk, length, map, IsTrue, true};
+ghost use Rattle.std.specs.Prelude.{◌≡◌, ℕ, List, ◌<◌, ◌≤◌, ◌^◌, ◌∷◌, [], ◌++◌, IfOk, OnOk, length, map, IsTrue, true};
 ghost use Rattle.my_reply.specs.Server.{server_bytes};
-ghost use Rattle.my_server.specs.Answer.{AreFew, CanSend, close_payloads, column_of, column_payload, end_payload, eof_payload, ok_of, reply_payloads, row_payload, set_payloads, set_status, sets_payloads};
+ghost use Rattle.my_server.specs.Answer.{AreFew, CanSend, close_payloads, column_payload, end_payload, eof_payload, head_payloads, ok_of, reply_payloads, row_payload, set_payloads, set_status, sets_payloads};
 
 use crate::script::{ReplyAnswer, ServerSet};
 use my_flags::StatusFlags;
@@ -32,24 +32,6 @@ pub fn ok_of(alloc: Global, status: StatusFlags) -> OkPacket
     }
 }
 
-fn column_of(alloc: Global, name: &Blob) -> Result<Column, NoMemory>
-    ensures { IfOk result (λ column. column ≡ column_of name.now) }
-{
-    let name = name.copy(alloc)?;
-    Ok(Column {
-        schema: Blob::new(alloc),
-        table: Blob::new(alloc),
-        org_table: Blob::new(alloc),
-        name,
-        org_name: Blob::new(alloc),
-        charset: 45,
-        length: 1_024,
-        column_type: 253,
-        flags: 0,
-        decimals: 0,
-    })
-}
-
 fn payload_of(alloc: Global, packet: &ServerPacket) -> Result<Blob, NoMemory>
     ensures { IfOk result (λ payload. payload ≡ server_bytes packet.now) }
 {
@@ -64,10 +46,11 @@ pub fn written(alloc: Global, packet: ServerPacket) -> Result<Blob, NoMemory>
 }
 
 // One payload more.
-fn add(alloc: Global, payloads: &mut Listed<Blob>, packet: ServerPacket) -> Result<(), NoMemory>
-    ensures { OnOk result (payloads.new ≡ payloads.old ++ server_bytes packet ∷ []) }
+fn add(payloads: &mut Listed<Blob>, payload: Result<Blob, NoMemory>) -> Result<(), NoMemory>
+    ensures { (bytes : List ℕ) → IfOk payload (λ p. p ≡ bytes)
+        → OnOk result (payloads.new ≡ payloads.old ++ bytes ∷ []) }
 {
-    payloads.push(written(alloc, packet)?)
+    payloads.push(payload?)
 }
 
 fn eof_payload(alloc: Global, status: StatusFlags) -> Result<Blob, NoMemory>
@@ -91,15 +74,30 @@ fn end_payload(alloc: Global, deprecates: bool, status: StatusFlags) -> Result<B
     }
 }
 
+fn column_payload(alloc: Global, name: &Blob) -> Result<Blob, NoMemory>
+    ensures { IfOk result (λ payload. payload ≡ column_payload name.now) }
+{
+    let name = name.copy(alloc)?;
+    let column = Column {
+        schema: Blob::new(alloc),
+        table: Blob::new(alloc),
+        org_table: Blob::new(alloc),
+        name,
+        org_name: Blob::new(alloc),
+        charset: 45,
+        length: 1_024,
+        column_type: 253,
+        flags: 0,
+        decimals: 0,
+    };
+    written(alloc, ServerPacket::Column(column))
+}
+
 fn add_columns(alloc: Global, payloads: &mut Listed<Blob>, names: &[Blob]) -> Result<(), NoMemory>
     ensures { OnOk result (payloads.new ≡ payloads.old ++ map column_payload names.now) }
 {
     for name in names {
-        add(
-            alloc,
-            payloads,
-            ServerPacket::Column(column_of(alloc, name)?),
-        )?;
+        add(payloads, column_payload(alloc, name))?;
     }
     Ok(())
 }
@@ -113,10 +111,10 @@ fn add_close(
 ) -> Result<(), NoMemory>
     ensures { OnOk result (payloads.new ≡ payloads.old ++ close_payloads deprecates status) }
 {
-    if !deprecates {
-        payloads.push(eof_payload(alloc, status)?)?;
+    if deprecates {
+        return Ok(());
     }
-    Ok(())
+    add(payloads, eof_payload(alloc, status))
 }
 
 fn add_row(
@@ -127,7 +125,7 @@ fn add_row(
     ensures { OnOk result (payloads.new ≡ payloads.old ++ row_payload row.now ∷ []) }
 {
     let row = row.copy(alloc)?;
-    add(alloc, payloads, ServerPacket::TextRow(row))
+    add(payloads, written(alloc, ServerPacket::TextRow(row)))
 }
 
 fn add_rows(
@@ -143,6 +141,22 @@ fn add_rows(
     Ok(())
 }
 
+// The payloads of a set before its rows.
+fn add_head(
+    alloc: Global,
+    payloads: &mut Listed<Blob>,
+    deprecates: bool,
+    status: StatusFlags,
+    names: &[Blob],
+) -> Result<(), NoMemory>
+    requires { length names.now < 2 ^ 16 }
+    ensures { OnOk result (payloads.new ≡ payloads.old ++ head_payloads deprecates status names.now) }
+{
+    add(payloads, written(alloc, ServerPacket::Count(names.len() as u16)))?;
+    add_columns(alloc, payloads, names)?;
+    add_close(alloc, payloads, deprecates, status)
+}
+
 fn add_set(
     alloc: Global,
     payloads: &mut Listed<Blob>,
@@ -153,11 +167,9 @@ fn add_set(
     requires { length set.now.names < 2 ^ 16 }
     ensures { OnOk result (payloads.new ≡ payloads.old ++ set_payloads deprecates status set.now) }
 {
-    add(alloc, payloads, ServerPacket::Count(set.names.len() as u16))?;
-    add_columns(alloc, payloads, set.names.as_slice())?;
-    add_close(alloc, payloads, deprecates, status)?;
+    add_head(alloc, payloads, deprecates, status, set.names.as_slice())?;
     add_rows(alloc, payloads, set.rows.as_slice())?;
-    payloads.push(end_payload(alloc, deprecates, status)?)
+    add(payloads, end_payload(alloc, deprecates, status))
 }
 
 fn set_status(left: usize) -> StatusFlags
@@ -192,8 +204,8 @@ fn add_answer(
     ensures { OnOk result (payloads.new ≡ payloads.old ++ reply_payloads deprecates answer.now) }
 {
     match answer {
-        ReplyAnswer::Fine(ok) => add(alloc, payloads, ServerPacket::Fine(ok.copy(alloc)?)),
-        ReplyAnswer::Refuse(err) => add(alloc, payloads, ServerPacket::Refuse(err.copy(alloc)?)),
+        ReplyAnswer::Fine(ok) => add(payloads, written(alloc, ServerPacket::Fine(ok.copy(alloc)?))),
+        ReplyAnswer::Refuse(err) => add(payloads, written(alloc, ServerPacket::Refuse(err.copy(alloc)?))),
         ReplyAnswer::Sets(sets) => add_sets(alloc, payloads, deprecates, sets.as_slice()),
     }
 }

@@ -1,6 +1,6 @@
 //! The bytes with which a server answers.
 
-ghost use Rattle.std.specs.Prelude.{◌≡◌, ◌++◌, ◌∷◌, [], IfOk, OnOk};
+ghost use Rattle.std.specs.Prelude.{◌≡◌, ℕ, List, ◌++◌, ◌∷◌, [], IfOk, OnOk};
 ghost use Rattle.std.specs.Option.{option_copied};
 ghost use Rattle.my_frame.specs.Chunks.{chunks};
 ghost use Rattle.my_server.specs.Machine.{AreSendable, all_chunks, command_payloads, denial, fine_payload, found_payloads, greeting_payload, refusal_payload, reply_for};
@@ -13,9 +13,10 @@ use bytes::BytesMut;
 use my_frame::{Blob, Listed, NoMemory, append_payload};
 use std::alloc::Global;
 
-fn one(alloc: Global, payload: Blob) -> Result<Listed<Blob>, NoMemory>
-    ensures { IfOk result (λ payloads. payloads ≡ payload ∷ []) }
+fn one(alloc: Global, payload: Result<Blob, NoMemory>) -> Result<Listed<Blob>, NoMemory>
+    ensures { (bytes : List ℕ) → IfOk payload (λ p. p ≡ bytes) → IfOk result (λ payloads. payloads ≡ bytes ∷ []) }
 {
+    let payload = payload?;
     let mut payloads = Listed::new(alloc);
     payloads.push(payload)?;
     Ok(payloads)
@@ -39,7 +40,7 @@ fn found_payloads(
 {
     match reply_for(replies, text) {
         Some(reply) => reply_payloads(alloc, deprecates, &reply.answer),
-        None => one(alloc, no_reply_payload(alloc)?),
+        None => one(alloc, no_reply_payload(alloc)),
     }
 }
 
@@ -55,9 +56,9 @@ fn command_payloads(
 {
     match kind {
         CommandKind::Quit => Ok(Listed::new(alloc)),
-        CommandKind::Ping | CommandKind::ResetConnection => one(alloc, fine_payload(alloc)?),
+        CommandKind::Ping | CommandKind::ResetConnection => one(alloc, fine_payload(alloc)),
         CommandKind::Query => found_payloads(alloc, script.replies.as_slice(), deprecates, text),
-        CommandKind::Other => one(alloc, no_reply_payload(alloc)?),
+        CommandKind::Other => one(alloc, no_reply_payload(alloc)),
     }
 }
 
@@ -89,9 +90,10 @@ pub fn command_answer(
     chunked(alloc, payloads.as_slice(), number)
 }
 
-fn lone(alloc: Global, payload: &Blob, number: u8) -> Result<BytesMut, NoMemory>
-    ensures { IfOk result (λ bytes. bytes.items ≡ chunks payload.now number) }
+fn lone(alloc: Global, payload: Result<Blob, NoMemory>, number: u8) -> Result<BytesMut, NoMemory>
+    ensures { (bytes : List ℕ) → IfOk payload (λ p. p ≡ bytes) → IfOk result (λ b. b.items ≡ chunks bytes number) }
 {
+    let payload = payload?;
     let mut bytes = BytesMut::new(alloc);
     append_payload(&mut bytes, payload.as_slice(), number)?;
     Ok(bytes)
@@ -101,19 +103,19 @@ fn lone(alloc: Global, payload: &Blob, number: u8) -> Result<BytesMut, NoMemory>
 pub fn greeting_answer(alloc: Global, script: &ServerScript) -> Result<BytesMut, NoMemory>
     ensures { IfOk result (λ bytes. bytes.items ≡ chunks (greeting_payload script.now) 0) }
 {
-    lone(alloc, &greeting_payload(alloc, script)?, 0)
+    lone(alloc, greeting_payload(alloc, script), 0)
 }
 
 /// The bytes of an OK.
 pub fn fine_answer(alloc: Global, number: u8) -> Result<BytesMut, NoMemory>
     ensures { IfOk result (λ bytes. bytes.items ≡ chunks fine_payload number) }
 {
-    lone(alloc, &fine_payload(alloc)?, number)
+    lone(alloc, fine_payload(alloc), number)
 }
 
 /// The bytes of the ERR for a login that isn't admitted.
 pub fn denied_answer(alloc: Global, number: u8) -> Result<BytesMut, NoMemory>
     ensures { IfOk result (λ bytes. bytes.items ≡ chunks (refusal_payload denial) number) }
 {
-    lone(alloc, &denied_payload(alloc)?, number)
+    lone(alloc, denied_payload(alloc), number)
 }

@@ -33,7 +33,7 @@ fn is_set(set: &ServerSet) -> bool
 fn are_sets(sets: &[ServerSet]) -> bool
     ensures { result ≡ list_all is_set sets.now }
 {
-    sets.iter().all(|set| is_set(set))
+    sets.iter().all(is_set)
 }
 
 fn is_answer(answer: &ReplyAnswer) -> bool

@@ -35,7 +35,9 @@ fn after_text0(present: bool, bytes: &[u8]) -> Option<&[u8]>
     if !present {
         return Some(bytes);
     }
-    let (_, rest) = take_text0(bytes)?;
+    let Some((_, rest)) = take_text0(bytes) else {
+        return None;
+    };
     Some(rest)
 }
 
@@ -64,9 +66,7 @@ fn after_parts(capabilities: CapabilityFlags, bytes: &[u8]) -> Option<&[u8]>
 fn after_fixed(bytes: &[u8]) -> Option<&[u8]>
     ensures { option_map (λ x. x.now) result ≡ after_fixed bytes.now }
 {
-    let (_max_packet, rest) = take_u32(bytes)?;
-    let (_charset, rest) = take_u8(rest)?;
-    let (_reserved, rest) = take_bytes(rest, 23)?;
+    let (_fixed, rest) = take_bytes(bytes, 28)?;
     Some(rest)
 }
 
