@@ -1,4 +1,5 @@
 mod Adding
+mod Every
 pub mod LoginLaws
 pub mod Sendable
 pub mod Standing

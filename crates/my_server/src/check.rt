@@ -20,7 +20,12 @@ fn is_version(version: &[u8]) -> bool
 fn are_rows(columns: usize, rows: &[Listed<Option<Blob>>]) -> bool
     ensures { result ≡ list_all (λ row. length row == columns) rows.now }
 {
-    rows.iter().all(|row| row.len() == columns)
+    for row in rows {
+        if row.len() != columns {
+            return false;
+        }
+    }
+    true
 }
 
 fn is_set(set: &ServerSet) -> bool
@@ -33,7 +38,12 @@ fn is_set(set: &ServerSet) -> bool
 fn are_sets(sets: &[ServerSet]) -> bool
     ensures { result ≡ list_all is_set sets.now }
 {
-    sets.iter().all(is_set)
+    for set in sets {
+        if !is_set(set) {
+            return false;
+        }
+    }
+    true
 }
 
 fn is_answer(answer: &ReplyAnswer) -> bool
@@ -49,7 +59,12 @@ fn is_answer(answer: &ReplyAnswer) -> bool
 fn are_sent(payloads: &[Blob]) -> bool
     ensures { result ≡ list_all is_sent payloads.now }
 {
-    payloads.iter().all(|payload| payload.len() as u64 <= GREATEST_MAX_ALLOWED_PACKET)
+    for payload in payloads {
+        if payload.len() as u64 > GREATEST_MAX_ALLOWED_PACKET {
+            return false;
+        }
+    }
+    true
 }
 
 #[tactic(auto, unfolding(crate::specs::Faults::is_reply))]

@@ -24,7 +24,9 @@ pub struct ClientLogin<'a> {
 fn take_short(bytes: &[u8]) -> Option<(&[u8], &[u8])>
     ensures { option_map (λ x. (x.0.now, x.1.now)) result ≡ short_at bytes.now }
 {
-    let (len, rest) = take_u8(bytes)?;
+    let Some((len, rest)) = take_u8(bytes) else {
+        return None;
+    };
     take_bytes(rest, usize::from(len))
 }
 
@@ -48,7 +50,9 @@ fn after_text(present: bool, bytes: &[u8]) -> Option<&[u8]>
     if !present {
         return Some(bytes);
     }
-    let (_, rest) = take_text(bytes)?;
+    let Some((_, rest)) = take_text(bytes) else {
+        return None;
+    };
     Some(rest)
 }
 
@@ -75,8 +79,12 @@ fn after_fixed(bytes: &[u8]) -> Option<&[u8]>
 fn named(capabilities: CapabilityFlags, bytes: &[u8]) -> Option<ClientLogin<'_>>
     ensures { option_map parts_of result ≡ named_at capabilities bytes.now }
 {
-    let (user, rest) = take_text0(bytes)?;
-    let (scramble, rest) = take_short(rest)?;
+    let Some((user, rest)) = take_text0(bytes) else {
+        return None;
+    };
+    let Some((scramble, rest)) = take_short(rest) else {
+        return None;
+    };
     let _rest = after_parts(capabilities, rest)?;
     if !capabilities.contains(LOGIN_CAPABILITIES) {
         return None;
@@ -92,7 +100,9 @@ fn named(capabilities: CapabilityFlags, bytes: &[u8]) -> Option<ClientLogin<'_>>
 fn login_of(payload: &[u8]) -> Option<ClientLogin<'_>>
     ensures { option_map parts_of result ≡ login_at payload.now }
 {
-    let (bits, rest) = take_u32(payload)?;
+    let Some((bits, rest)) = take_u32(payload) else {
+        return None;
+    };
     let rest = after_fixed(rest)?;
     named(CapabilityFlags(bits), rest)
 }
