@@ -152,7 +152,10 @@ fn add_head(
     requires { length names.now < 2 ^ 16 }
     ensures { OnOk result (payloads.new ≡ payloads.old ++ head_payloads deprecates status names.now) }
 {
-    add(payloads, written(alloc, ServerPacket::Count(names.len() as u16)))?;
+    add(
+        payloads,
+        written(alloc, ServerPacket::Count(names.len() as u16)),
+    )?;
     add_columns(alloc, payloads, names)?;
     add_close(alloc, payloads, deprecates, status)
 }
@@ -204,8 +207,14 @@ fn add_answer(
     ensures { OnOk result (payloads.new ≡ payloads.old ++ reply_payloads deprecates answer.now) }
 {
     match answer {
-        ReplyAnswer::Fine(ok) => add(payloads, written(alloc, ServerPacket::Fine(ok.copy(alloc)?))),
-        ReplyAnswer::Refuse(err) => add(payloads, written(alloc, ServerPacket::Refuse(err.copy(alloc)?))),
+        ReplyAnswer::Fine(ok) => add(
+            payloads,
+            written(alloc, ServerPacket::Fine(ok.copy(alloc)?)),
+        ),
+        ReplyAnswer::Refuse(err) => add(
+            payloads,
+            written(alloc, ServerPacket::Refuse(err.copy(alloc)?)),
+        ),
         ReplyAnswer::Sets(sets) => add_sets(alloc, payloads, deprecates, sets.as_slice()),
     }
 }

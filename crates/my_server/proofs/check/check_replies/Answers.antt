@@ -1,8 +1,7 @@
-use Rattle.std.proofs.Common.{◌≡◌, ℕ, ◌+◌, ◌<◌, Bool, true, false, List, ◌∷◌, length, get_or, drop, Option, Some, sym, ap, ◌∙◌}
+use Rattle.std.proofs.Common.{◌≡◌, ℕ, ◌+◌, ◌<◌, Bool, true, false, List, ◌∷◌, length, get_or, drop, Some, sym, ap, ◌∙◌}
 use Rattle.std.proofs.lemmas.List.{at_drop_all, at_drop_more}
 use Rattle.std.specs.Prelude.{if◌then◌else◌}
 use Rattle.my_server.specs.declared.script.Reply.{Reply}
-use Rattle.my_server.specs.declared.script.ScriptFault.{ScriptFault}
 use Rattle.my_server.specs.declared.script.ScriptFault.TheVariants.{BadReply}
 use Rattle.my_server.specs.Faults.{is_reply, reply_fault}
 use Rattle.my_server.proofs.check.check_replies.Goals as goal
