@@ -14,9 +14,9 @@ use Rattle.my_pool_parts.specs.declared.request.Standing.{Standing}
 use Rattle.my_pool_parts.specs.declared.request.Standing.TheVariants.{Asks, Waits, Woken, Dials, Checks}
 use Rattle.my_pool_parts.specs.Lists.{without, how_many, found_is}
 use Rattle.my_pool_parts.specs.Connections.{has_number, is_leased, is_idle, is_idle_place, is_connecting_place, is_checking_place, is_cleaning_place, is_resetting_place, is_closing_place, returned, placed, move_to, is_cleaning, next_to_clean, mark_of_place, latest_usable, retire}
-use Rattle.my_pool_parts.specs.Requests.{asking, last_age, may_dial, roused, standing_as, has_age, holds, holds_number, is_free, ended, set_waiting, wake, wake_all, with_last, IsRising}
+use Rattle.my_pool_parts.specs.Requests.{asking, last_age, may_dial, roused, standing_as, has_age, holds, holds_number, is_free, ended, set_waiting, wake, wake_all, waits_up_to, with_last, IsRising}
 use Rattle.my_pool_core.specs.State.{State}
-use Rattle.my_pool_core.specs.Events.{is_at_end, request, dialed, taken, above_min, may_move, freed, moved, resting, kept, is_unheld, may_poll, may_cancel, cancel, cancel_found, cancel_standing, may_settle, ready, failed, may_give_back, give_back, close, check_ttl, may_decide, may_done, may_finish}
+use Rattle.my_pool_core.specs.Events.{poll_request, sought, is_at_end, request, dialed, taken, above_min, may_move, freed, moved, resting, kept, is_unheld, may_poll, may_cancel, cancel, cancel_found, cancel_standing, may_settle, ready, failed, may_give_back, give_back, close, check_ttl, may_decide, may_done, may_finish}
 use Rattle.my_pool_core.specs.Sound.{IsSound, IsKept, is_dialer, is_unnumbered}
 use Rattle.my_pool_core.specs.State.{one_more}
 use Rattle.std.specs.Prelude.{nat_le, nat_lt, ◌==◌}
@@ -395,3 +395,11 @@ next-expected s coming e h =
   where
     below : (m n : ℕ) → nat_le n m ≡ false → m < n
     below m n e = grind (arith, nat_tests)
+
+-- a polled request that nobody older waits before looks for a connection among what retiring left
+pub polled-as : (age now : ℕ) (s u : State) (latest : Option ℕ) → s.closed ≡ false → waits_up_to age s.requests ≡ false → latest ≡ latest_usable now s.connections → u ≡ record s { connections = retire now s.connections } → sought age latest u ≡ poll_request age now s
+polled-as age now s u latest open_ first is same = ap (sought age latest) same ∙ ap (λ o. sought age o (record s { connections = retire now s.connections })) is ∙ sym (rw (open_, first) refl)
+
+-- one that finds a usable connection takes it
+pub taken-as : (age n : ℕ) (s seen u : State) (latest : Option ℕ) → latest ≡ Some n → u ≡ (taken age n s).state → s ≡ seen → u ≡ (sought age latest seen).state
+taken-as age n s seen u latest is same view = same ∙ ap (λ t. (taken age n t).state) view ∙ sym (ap (λ o. (sought age o seen).state) is)

@@ -1,6 +1,9 @@
 -- One more event after a list of events, and a replay of a list.
-use Rattle.std.proofs.Common.{◌≡◌, true, List, [], ◌∷◌, ◌++◌, refl, ap}
+use Rattle.std.proofs.Common.{◌≡◌, ℕ, ◌+◌, ◌<◌, ◌≤◌, true, false, List, [], ◌∷◌, ◌++◌, length, drop, get_or, refl, sym, ap, subst, ◌∙◌, add-one, drop-cons}
+use Rattle.std.proofs.lemmas.Bool.{false≢true}
+use Rattle.std.proofs.lemmas.List.{drop_all}
 use Rattle.my_pool_core.specs.declared.event.PoolEvent.{PoolEvent}
+use Rattle.my_pool_core.specs.declared.event.PoolEvent.TheVariants.{Request}
 use Rattle.my_pool_core.specs.State.{State}
 use Rattle.my_pool_core.specs.Steps.{may, step, answer, AllMay, after, answers}
 
@@ -31,3 +34,24 @@ replay-goes start now all left e r m = record {
   allowed = λ rest. r.allowed (m, rest);
   needed = λ all. (r.needed all).1;
 }
+
+-- the event at an index is the first of those that are left
+from-here : (all : List PoolEvent) (i : ℕ) → i < length all → drop i all ≡ get_or all i Request ∷ drop (i + 1) all
+from-here all i within = drop-cons all i Request within ∙ ap (λ k. get_or all i Request ∷ drop k all) (sym (add-one i))
+
+-- it happens
+pub replay-on : (start now later : State) (all : List PoolEvent) (i : ℕ) → i < length all → IsReplaying start now all (drop i all) → may now (get_or all i Request) ≡ true → later ≡ step now (get_or all i Request) → IsReplaying start later all (drop (i + 1) all)
+replay-on start now later all i within r m is =
+    let here = subst (λ left. IsReplaying start now all left) (from-here all i within) r in
+    subst (λ s. IsReplaying start s all (drop (i + 1) all)) (sym is) (replay-goes start now all (drop (i + 1) all) (get_or all i Request) here m)
+
+-- it may not happen
+pub replay-stops : (start now : State) (all : List PoolEvent) (i : ℕ) → i < length all → IsReplaying start now all (drop i all) → may now (get_or all i Request) ≡ false → AllMay start all → ⊥
+replay-stops start now all i within r m each = false≢true (sym m ∙ (subst (λ left. AllMay now left) (from-here all i within) (r.needed each)).0)
+
+-- none is left
+pub replay-is : (start now : State) (all : List PoolEvent) (i : ℕ) → length all ≤ i → IsReplaying start now all (drop i all) → now ≡ after start all
+replay-is start now all i past r = subst (λ left. after now left ≡ after start all) (drop_all i all past) r.state
+
+pub replay-may : (start now : State) (all : List PoolEvent) (i : ℕ) → length all ≤ i → IsReplaying start now all (drop i all) → AllMay start all
+replay-may start now all i past r = r.allowed (subst (λ left. AllMay now left) (sym (drop_all i all past)) tt)

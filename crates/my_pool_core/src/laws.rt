@@ -4,7 +4,8 @@
 ghost use Rattle.std.specs.Prelude.{◌≡◌, ℕ, ◌≤◌, ◌<◌, true, List, length, All, Bool, false, Some, None, ◌||◌, ◌&&◌, not, ◌⊎◌, ◌+◌, ◌++◌, [], ◌∷◌};
 ghost use Rattle.my_pool_parts.specs.declared.connection.Place.TheVariants.{Idle, Connecting, Checking, Cleaning};
 ghost use Rattle.my_pool_parts.specs.declared.connection.Times.{Times};
-ghost use Rattle.my_pool_parts.specs.Connections.{latest_usable};
+ghost use Rattle.my_pool_parts.specs.Lists.{found_is};
+ghost use Rattle.my_pool_parts.specs.Connections.{latest_usable, is_cleaning_place};
 ghost use Rattle.my_pool_parts.specs.Requests.{last_age, is_waiting};
 ghost use Rattle.my_pool_core.specs.declared.event.Answer.TheVariants.{Poll};
 ghost use Rattle.my_pool_core.specs.declared.event.Facts.{Facts};
@@ -14,7 +15,7 @@ ghost use Rattle.my_pool_core.specs.declared.limits.Limits.{Limits};
 ghost use Rattle.my_pool_core.specs.declared.event.PoolEvent.TheVariants as events;
 ghost use Rattle.my_pool_core.specs.Counted.{room, due, idle};
 ghost use Rattle.my_pool_core.specs.Events.{new_pool, poll_request, takes_place, is_gone, is_at_end, request, request_age, take_returned, decide, done};
-ghost use Rattle.my_pool_core.specs.Moves.{token_after, PlacesMove, home_after, lease_after, verdict_place, is_verdict_on, IsKeeping};
+ghost use Rattle.my_pool_core.specs.Moves.{token_after, PlacesMove, home_after, lease_after, verdict_place, is_ending_place, is_verdict_on, IsKeeping};
 ghost use Rattle.my_pool_core.specs.Owners.{Token, Free, token, number_in, is_home, is_lease, Making, Looking, place_at, is_working, mark_at};
 ghost use Rattle.my_pool_core.specs.Sound.{IsSound, IsCovered};
 ghost use Rattle.my_pool_core.specs.State.{State};
@@ -74,6 +75,17 @@ pub fn tokens_allow()
         → number_in held ≡ Some number → may s (events.Failed age number) ≡ true }
     ensures cancel { (s : State) (age : ℕ) (held : Token) → token age s ≡ Some held
         → may s (events.Cancel age) ≡ true }
+{}
+
+/// Which events may happen by where a connection is: one that is leased may come back or be detached, one that is
+/// being cleaned may be decided on, and its reset, its close or its failed cleaning may end.
+pub fn places_allow()
+    ensures back { (s : State) (number : ℕ) → is_lease number s ≡ true → may s (events.GiveBack number) ≡ true }
+    ensures detach { (s : State) (number : ℕ) → is_lease number s ≡ true → may s (events.Detach number) ≡ true }
+    ensures decide { (s : State) (number : ℕ) (facts : Facts) (now : ℕ)
+        → found_is is_cleaning_place (place_at number s) ≡ true → may s (events.Decide number facts now) ≡ true }
+    ensures done { (s : State) (number : ℕ) (ok : Bool) (facts : Facts) (now : ℕ)
+        → found_is (is_ending_place ok) (place_at number s) ≡ true → may s (events.Done number ok facts now) ≡ true }
 {}
 
 /// Which requests an event wakes, and which wait after it. A woken one stays so until it is polled or given

@@ -25,4 +25,6 @@ mod sound;
 #[cfg(test)]
 mod steps;
 #[cfg(test)]
+mod superfluous;
+#[cfg(test)]
 mod tally;

@@ -5,7 +5,7 @@ use my_pool_core::{Limits, Metrics, PollAnswer, PoolEvent, Verdict};
 use my_pool_parts::Standing;
 
 /// A woken request that is given up wakes the next one.
-const CANCELLED_WAKE: Script = (
+pub const CANCELLED_WAKE: Script = (
     ONE,
     1000,
     &[
@@ -38,7 +38,7 @@ const CANCELLED_WAKE: Script = (
 );
 
 /// A request that is given up while it looks at its connection frees it.
-const CANCELLED_CHECK: Script = (
+pub const CANCELLED_CHECK: Script = (
     ONE,
     1000,
     &[
@@ -60,7 +60,7 @@ const CANCELLED_CHECK: Script = (
 );
 
 /// One request may wait; a woken one counts, and one that waited before may wait again.
-const FULL: Script = (
+pub const FULL: Script = (
     Limits {
         waiting: Some(1),
         ..ONE
@@ -93,7 +93,7 @@ const FULL: Script = (
 );
 
 /// A request that waited, looked at a connection that wasn't good, and waits again passes the limit.
-const FULL_ABOVE: Script = (
+pub const FULL_ABOVE: Script = (
     Limits {
         waiting: Some(1),
         ..ONE
@@ -131,7 +131,7 @@ const FULL_ABOVE: Script = (
 
 /// A request that made a connection ends where that failed; one that looked at a connection asks again. Both free the
 /// place, and so does a lease that is detached.
-const FAILED: Script = (
+pub const FAILED: Script = (
     ONE,
     1000,
     &[
@@ -180,7 +180,7 @@ const FAILED: Script = (
 );
 
 /// No request may wait.
-const NONE_WAITS: Script = (
+pub const NONE_WAITS: Script = (
     Limits {
         waiting: Some(0),
         ..ONE
@@ -202,7 +202,7 @@ const NONE_WAITS: Script = (
 );
 
 /// A closed pool is gone once it was seen to count nothing.
-const CLOSED: Script = (
+pub const CLOSED: Script = (
     ONE,
     1000,
     &[
@@ -217,7 +217,7 @@ const CLOSED: Script = (
 );
 
 /// The last number closes the pool, and the last age stays.
-const LAST_AGE: Script = (
+pub const LAST_AGE: Script = (
     ONE,
     u64::MAX - 1,
     &[
@@ -231,14 +231,3 @@ const LAST_AGE: Script = (
         Line::Live(u64::MAX, false, Standing::Asks),
     ],
 );
-
-pub const REQUESTS: &[Script] = &[
-    CANCELLED_WAKE,
-    CANCELLED_CHECK,
-    FULL,
-    FULL_ABOVE,
-    FAILED,
-    NONE_WAITS,
-    CLOSED,
-    LAST_AGE,
-];

@@ -54,7 +54,7 @@ const DEADLINE_6: Facts = Facts {
 };
 
 /// An expired idle connection isn't leased.
-const EXPIRED: Script = (
+pub const EXPIRED: Script = (
     ONE,
     1000,
     &[
@@ -79,7 +79,7 @@ const EXPIRED: Script = (
 
 /// What is known of a connection decides in this order: its link is closed, it is dirty, its time is over, it is to be
 /// reset. A cleaning that failed frees it.
-const FACTS: Script = (
+pub const FACTS: Script = (
     ONE,
     1000,
     &[
@@ -149,7 +149,7 @@ const FACTS: Script = (
 
 /// An idle connection is used up to its deadline, and returned and marked above it, so that it is closed; one that isn't
 /// above it stays.
-const DEADLINE: Script = (
+pub const DEADLINE: Script = (
     Limits {
         max: 2,
         min: 2,
@@ -191,7 +191,7 @@ const DEADLINE: Script = (
 );
 
 /// While more are idle than the lower bound asks for, those that were idle for too long are returned and marked.
-const INACTIVE: Script = (
+pub const INACTIVE: Script = (
     Limits {
         max: 3,
         min: 1,
@@ -229,5 +229,3 @@ const INACTIVE: Script = (
         Line::Decide(9, CLEAN, 11, Verdict::Close),
     ],
 );
-
-pub const RETURNS: &[Script] = &[EXPIRED, FACTS, DEADLINE, INACTIVE];

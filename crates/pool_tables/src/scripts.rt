@@ -1,13 +1,33 @@
 //! Worked lists of events.
 
-use crate::line::{CLEAN, Line, ONE, Script, first_wrong};
-use crate::requests::REQUESTS;
-use crate::returns::RETURNS;
+use crate::line::{Line, Script, first_wrong};
+use crate::requests::{
+    CANCELLED_CHECK, CANCELLED_WAKE, CLOSED, FAILED, FULL, FULL_ABOVE, LAST_AGE, NONE_WAITS,
+};
+use crate::returns::{DEADLINE, EXPIRED, FACTS, INACTIVE};
+use crate::superfluous::SUPERFLUOUS;
 use my_frame::NoMemory;
 use my_opts_parts::{PoolConstraints, PoolOpts};
-use my_pool_core::{Core, Limits, PollAnswer, Verdict};
+use my_pool_core::{Core, PollAnswer};
 use std::alloc::Global;
 use std::test::Fail;
+
+/// Each script.
+const SCRIPTS: &[Script] = &[
+    CANCELLED_WAKE,
+    CANCELLED_CHECK,
+    FULL,
+    FULL_ABOVE,
+    FAILED,
+    NONE_WAITS,
+    CLOSED,
+    LAST_AGE,
+    EXPIRED,
+    FACTS,
+    DEADLINE,
+    INACTIVE,
+    SUPERFLUOUS,
+];
 
 /// The first line of a script that isn't as it says.
 fn wrong_line(alloc: Global, script: &Script) -> Result<Option<usize>, NoMemory> {
@@ -16,8 +36,8 @@ fn wrong_line(alloc: Global, script: &Script) -> Result<Option<usize>, NoMemory>
 }
 
 /// The first script that isn't as it says, and its first line that isn't.
-fn wrong_script(alloc: Global, scripts: &[Script]) -> Result<Option<(usize, usize)>, NoMemory> {
-    for (index, script) in scripts.iter().enumerate() {
+fn wrong_script(alloc: Global) -> Result<Option<(usize, usize)>, NoMemory> {
+    for (index, script) in SCRIPTS.iter().enumerate() {
         if let Some(line) = wrong_line(alloc, script)? {
             return Ok(Some((index, line)));
         }
@@ -27,85 +47,31 @@ fn wrong_script(alloc: Global, scripts: &[Script]) -> Result<Option<(usize, usiz
 
 #[test]
 fn ample_scripts(rt: HostRuntime) -> Result<(), Fail> {
-    assert_eq!(rt; wrong_script(rt.alloc(), REQUESTS)?, None);
-    assert_eq!(rt; wrong_script(rt.alloc(), RETURNS)?, None);
+    assert_eq!(rt; wrong_script(rt.alloc())?, None);
     Ok(())
 }
 
-/// Ten connections are leased.
-fn ten_are_leased(core: &mut Core) -> Result<bool, NoMemory> {
-    for age in 0..10u64 {
-        let number = 1000 + age;
-        let lines = [
-            Line::Ask(age),
-            Line::Poll(age, 0, PollAnswer::Dial(number)),
-            Line::Ready(age, number),
-        ];
-        if first_wrong(core, &lines)?.is_some() {
-            return Ok(false);
-        }
-    }
-    Ok(true)
-}
-
-/// Ten connections come back, of which five may be idle; the others are closed.
-fn ten_come_back(core: &mut Core) -> Result<bool, NoMemory> {
-    for i in 0..10u64 {
-        let number = 1000 + i;
-        let verdict = if i < 5 { Verdict::Keep } else { Verdict::Close };
-        let end = if i < 5 {
-            Line::Counted(10)
-        } else {
-            Line::Ended(number, true, 0, Verdict::Drop)
-        };
-        let lines = [
-            Line::Give(number),
-            Line::Next(Some(number)),
-            Line::Decide(number, CLEAN, 0, verdict),
-            end,
-            Line::Counted(if i < 5 { 10 } else { 14 - i }),
-        ];
-        if first_wrong(core, &lines)?.is_some() {
-            return Ok(false);
-        }
-    }
-    Ok(true)
-}
-
-/// Whether ten are leased and come back.
-fn five_are_closed(core: &mut Core) -> Result<bool, NoMemory> {
-    Ok(ten_are_leased(core)? && ten_come_back(core)?)
-}
-
-/// The same in a new pool, where five may be idle.
-fn closes_superfluous(alloc: Global) -> Result<bool, NoMemory> {
-    let limits = Limits {
-        max: 10,
-        min: 5,
-        bound: 5,
-        ..ONE
-    };
-    let mut core = Core::with_limits(alloc, limits, 1000);
-    five_are_closed(&mut core)
-}
-
-#[test]
-fn ample_superfluous(rt: HostRuntime) -> Result<(), Fail> {
-    assert!(rt; closes_superfluous(rt.alloc())?);
-    Ok(())
-}
+/// How a pool begins.
+const BEGINNING: &[Line] = &[Line::Ask(0), Line::Poll(0, 0, PollAnswer::Dial(1000))];
 
 /// The first line of a pool by options that isn't as it says.
 fn wrong_beginning(alloc: Global, opts: &PoolOpts) -> Result<Option<usize>, NoMemory> {
     let mut core = Core::new(alloc, opts, 1000)?;
-    let lines = [Line::Ask(0), Line::Poll(0, 0, PollAnswer::Dial(1000))];
-    first_wrong(&mut core, &lines)
+    first_wrong(&mut core, BEGINNING)
+}
+
+/// Whether a pool of one or two connections begins as it should.
+fn begins(alloc: Global) -> Result<bool, NoMemory> {
+    let Some(constraints) = PoolConstraints::new(1, 2) else {
+        return Ok(false);
+    };
+    let opts = PoolOpts::new().with_constraints(constraints);
+    let wrong = wrong_beginning(alloc, &opts)?;
+    Ok(wrong.is_none())
 }
 
 #[test]
 fn ample_new(rt: HostRuntime) -> Result<(), Fail> {
-    let constraints = PoolConstraints::new(1, 2).ok_or("the bounds are in order")?;
-    let opts = PoolOpts::new().with_constraints(constraints);
-    assert_eq!(rt; wrong_beginning(rt.alloc(), &opts)?, None);
+    assert!(rt; begins(rt.alloc())?);
     Ok(())
 }

@@ -102,9 +102,9 @@ fn some_end(lists: &Lists, dice: &mut Dice, now: u64) -> Option<PoolEvent> {
     })
 }
 
-/// Some event that may happen now; None where there is none of the kind that was drawn.
-pub fn some_event(lists: &Lists, dice: &mut Dice, now: u64, closes: bool) -> Option<PoolEvent> {
-    Some(match dice.below(64) {
+/// Some event of a request, by a number below 28; None where there is none of its kind.
+fn some_of_request(lists: &Lists, dice: &mut Dice, now: u64, roll: u64) -> Option<PoolEvent> {
+    Some(match roll {
         0..=3 => PoolEvent::Request,
         4..=13 => {
             let age = some_request(lists, dice, true)?.age;
@@ -119,34 +119,45 @@ pub fn some_event(lists: &Lists, dice: &mut Dice, now: u64, closes: bool) -> Opt
             let (age, conn) = some_holder(lists, dice)?;
             PoolEvent::Ready { age, conn }
         }
-        26..=27 => {
+        _ => {
             let (age, conn) = some_holder(lists, dice)?;
             PoolEvent::Failed { age, conn }
         }
-        28..=34 => {
+    })
+}
+
+/// Some event of a connection that is leased or being cleaned, by a number below 22; None where there is none of its
+/// kind.
+fn some_of_connection(lists: &Lists, dice: &mut Dice, now: u64, roll: u64) -> Option<PoolEvent> {
+    Some(match roll {
+        0..=6 => {
             let conn = some_number(lists, dice, PlaceKind::Leased)?;
             PoolEvent::GiveBack { conn }
         }
-        35..=36 => {
+        7..=8 => {
             let conn = some_number(lists, dice, PlaceKind::Leased)?;
             PoolEvent::Detach { conn }
         }
-        37..=41 => PoolEvent::TakeReturned,
-        42..=49 => {
+        9..=13 => PoolEvent::TakeReturned,
+        _ => {
             let conn = some_number(lists, dice, PlaceKind::Cleaning)?;
             let facts = some_facts(dice, now);
             PoolEvent::Decide { conn, facts, now }
         }
-        50..=58 => return some_end(lists, dice, now),
-        59..=61 => PoolEvent::CheckTtl {
-            now: now.saturating_add(dice.below(10)),
-        },
-        62 => PoolEvent::PollDisconnect,
-        _ => {
-            if !closes {
-                return None;
-            }
-            PoolEvent::Close
-        }
     })
+}
+
+/// Some event that may happen now; None where there is none of the kind that was drawn.
+pub fn some_event(lists: &Lists, dice: &mut Dice, now: u64, closes: bool) -> Option<PoolEvent> {
+    let roll = dice.below(64);
+    match roll {
+        0..=27 => some_of_request(lists, dice, now, roll),
+        28..=49 => some_of_connection(lists, dice, now, roll.saturating_sub(28)),
+        50..=58 => some_end(lists, dice, now),
+        59..=61 => Some(PoolEvent::CheckTtl {
+            now: now.saturating_add(dice.below(10)),
+        }),
+        62 => Some(PoolEvent::PollDisconnect),
+        _ => if closes { Some(PoolEvent::Close) } else { None },
+    }
 }

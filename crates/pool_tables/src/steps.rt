@@ -46,15 +46,20 @@ fn serves(core: &mut Core, conn: u64, age: u64, steps: &mut Counted) -> bool {
     true
 }
 
+/// The connection is made, and leased.
+const LEASE: &[Line] = &[
+    Line::Ask(0),
+    Line::Poll(0, 0, PollAnswer::Dial(1000)),
+    Line::Ready(0, 1000),
+];
+
+/// It comes back, and is to be cleaned.
+const BACK: &[Line] = &[Line::Give(1000), Line::Next(Some(1000))];
+
 /// `waiting` requests wait, and the oldest gets the connection that came back: how many ages are compared from the
 /// last request to `ready`; None where something else happens.
 fn count_steps(core: &mut Core, waiting: u64) -> Result<Option<u64>, NoMemory> {
-    let lease = [
-        Line::Ask(0),
-        Line::Poll(0, 0, PollAnswer::Dial(1000)),
-        Line::Ready(0, 1000),
-    ];
-    if first_wrong(core, &lease)?.is_some() {
+    if first_wrong(core, LEASE)?.is_some() {
         return Ok(None);
     }
     let mut steps = Counted::new();
@@ -64,8 +69,7 @@ fn count_steps(core: &mut Core, waiting: u64) -> Result<Option<u64>, NoMemory> {
             return Ok(None);
         }
     }
-    let back = [Line::Give(1000), Line::Next(Some(1000))];
-    if first_wrong(core, &back)?.is_some() || !serves(core, 1000, 1, &mut steps) {
+    if first_wrong(core, BACK)?.is_some() || !serves(core, 1000, 1, &mut steps) {
         return Ok(None);
     }
     Ok(Some(steps.count()))

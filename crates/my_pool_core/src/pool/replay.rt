@@ -1,6 +1,6 @@
 //! Any event, whichever it is: so a list of events is replayed by a loop.
 
-ghost use Rattle.std.specs.Prelude.{◌≡◌, true, IsOk, OnOk, OnErr, IfOk, IfSome, MatchOption, find};
+ghost use Rattle.std.specs.Prelude.{◌≡◌, true, false, IsOk, OnOk, OnErr, IfOk, IfSome, MatchOption, find};
 ghost use Rattle.my_pool_core.specs.Events.{new_pool, may_finish};
 ghost use Rattle.my_pool_core.specs.Made.{limits_of};
 ghost use Rattle.my_pool_parts.specs.Connections.{has_number};
@@ -103,6 +103,36 @@ impl Core {
         })
     }
 
+    /// Events happen one after the other, up to the first one that may not happen then; returns whether all happened.
+    fn happen(&mut self, events: &[PoolEvent]) -> Result<bool, NoMemory>
+        ensures allowed { IfOk result (λ all. all ≡ true → AllMay self.old events.now) }
+        ensures refused { IfOk result (λ all. all ≡ false → AllMay self.old events.now → ⊥) }
+        ensures state { IfOk result (λ all. all ≡ true → self.new ≡ after self.old events.now) }
+    {
+        for event in events {
+            if !self.may(event) {
+                return Ok(false);
+            }
+            self.apply(*event)?;
+        }
+        Ok(true)
+    }
+
+    /// The pool after these events, or `None` where one of them may not happen when its turn comes.
+    fn replayed(mut self, events: &[PoolEvent]) -> Result<Option<Core>, NoMemory>
+        ensures refused { IfOk result (λ replayed. MatchOption replayed (AllMay self events.now → ⊥) (λ _. AllMay self events.now)) }
+        ensures state { IfOk result (λ replayed. IfSome replayed (λ core. core ≡ after self events.now)) }
+    {
+        let all = self.happen(events);
+        if matches!(all, Ok(true)) {
+            return Ok(Some(self));
+        }
+        match all {
+            Ok(_) => Ok(None),
+            Err(error) => Err(error),
+        }
+    }
+
     /// A new pool after these events, or `None` where one of them may not happen when its turn comes.
     pub fn replay(
         alloc: Global,
@@ -115,13 +145,6 @@ impl Core {
         ensures state { let start = new_pool (limits_of opts.now) first in IfOk result (λ replayed.
             IfSome replayed (λ core. core ≡ after start events.now)) }
     {
-        let mut core = Core::new(alloc, opts, first)?;
-        for event in events {
-            if !core.may(event) {
-                return Ok(None);
-            }
-            core.apply(*event)?;
-        }
-        Ok(Some(core))
+        Core::new(alloc, opts, first)?.replayed(events)
     }
 }

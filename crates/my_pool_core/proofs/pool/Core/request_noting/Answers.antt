@@ -66,3 +66,11 @@ expect-requires-clause-more g c =
     let e : is_at_end s ≡ false = ap is_at_end c.self.view_is ∙ sym c.is_at_end-at_end.ensures ∙ c.if-at_end.false in
     let n = next-expected s c.self.inside.connections.coming e c.self.invariant.expected in
     omega (arith, n.0, c.count_may_dial.ensures, ap (λ x. x.coming) c.reserve.ensures.same)
+
+pub returns-clause-ok : goal.returns-clause-ok
+returns-clause-ok g c =
+    let s : State = the_view c.self.inside in
+    let n : c.len-room.result ≡ length s.requests = c.len-room.ensures.count in
+    let e : is_at_end s ≡ false = ap is_at_end c.self.view_is ∙ sym c.is_at_end-at_end.ensures ∙ c.if-at_end.false in
+    let spare = c.max-self-inside-2.ensures ∙ ap (λ k. max s.spare (k + 1)) n in
+    request-is s _ _ _ (request-next s e) (cc (c.in_ok-add.ensures.ok, spare, ap (λ x. x.list) c.reserve.ensures.same, ap (λ x. x.next) c.reserve.ensures.same, ap (λ x. x.list) c.expect.ensures.same, ap (λ x. x.next) c.expect.ensures.same)) c.self.view_is

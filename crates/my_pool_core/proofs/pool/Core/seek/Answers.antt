@@ -1,6 +1,6 @@
 use Rattle.std.proofs.Common.{◌≡◌, true, false, sym, subst, arith, ap}
 use Rattle.my_pool_core.specs.contracts.pool.Core.{the_view}
-use Rattle.my_pool_core.proofs.Keeping.{kept-taken}
+use Rattle.my_pool_core.proofs.Keeping.{kept-taken, taken-as}
 use Rattle.my_pool_core.specs.Events.{may_poll}
 use Rattle.std.specs.Prelude.{find, IfSome}
 use Rattle.my_pool_parts.specs.Lists.{found_is}
@@ -19,3 +19,7 @@ invariant_of-self g c =
     let open_ = subst (λ s. s.closed ≡ false) (sym c.self.view_is) c.requires.open_ in
     let idle = subst (λ s. found_is is_idle (find (has_number c.in-Some.number) s.connections) ≡ true) (sym c.self.view_is) (subst (λ o. IfSome o (λ n. found_is is_idle (find (has_number n) c.args.self.now.connections) ≡ true)) c.in-Some.is c.requires.idle) in
     kept-taken c.args.age c.in-Some.number (the_view c.self.inside) _ _ _ _ _ c.self.invariant may open_ idle (cc (ap (λ x. x.list) c.move_to.ensures, ap (λ x. x.next) c.move_to.ensures)) (omega (arith, ap (λ x. x.room) c.move_to.ensures)) (ap (λ x. x.coming) c.move_to.ensures)
+
+pub returns-in-Some-clause-state : goal.returns-in-Some-clause-state
+returns-in-Some-clause-state g c =
+    taken-as c.args.age c.in-Some.number (the_view c.self.inside) _ _ _ c.in-Some.is (cc (ap (λ x. x.list) c.move_to.ensures, ap (λ x. x.next) c.move_to.ensures)) c.self.view_is
