@@ -2,7 +2,7 @@ use Rattle.std.proofs.Common.{◌≡◌, ◌<◌, true, false, sym, ap, ◌∙�
 use Rattle.my_pool_core.specs.contracts.pool.Core.{the_view}
 use Rattle.my_pool_core.proofs.Keeping.{dial-room, dial-number, dial-below, raised, kept-dialed}
 use Rattle.my_pool_core.specs.Events.{may_poll, dialed}
-use Rattle.std.proofs.Common.{length, ◌++◌, ◌∷◌, []}
+use Rattle.std.proofs.Common.{length}
 use Rattle.my_pool_core.proofs.pool.Core.dial.Goals as goal
 
 pub add-number-requires-clause-memory : goal.add-number-requires-clause-memory

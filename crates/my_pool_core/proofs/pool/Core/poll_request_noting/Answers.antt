@@ -1,4 +1,4 @@
-use Rattle.std.proofs.Common.{◌≡◌, true, false, sym, subst, arith, ap, refl, ◌∙◌}
+use Rattle.std.proofs.Common.{◌≡◌, true, sym, subst, arith, ap, refl, ◌∙◌}
 use Rattle.my_pool_core.specs.contracts.pool.Core.{the_view}
 use Rattle.my_pool_core.proofs.Keeping.{kept-ended, kept-retired, retired-may, polled-as}
 use Rattle.my_pool_core.specs.Events.{may_poll, poll_request}
