@@ -120,7 +120,8 @@ impl Core {
 
     /// The pool after these events, or `None` where one of them may not happen when its turn comes.
     fn replayed(mut self, events: &[PoolEvent]) -> Result<Option<Core>, NoMemory>
-        ensures refused { IfOk result (λ replayed. MatchOption replayed (AllMay self events.now → ⊥) (λ _. AllMay self events.now)) }
+        ensures allowed { IfOk result (λ replayed.
+            MatchOption replayed (AllMay self events.now → ⊥) (λ _. AllMay self events.now)) }
         ensures state { IfOk result (λ replayed. IfSome replayed (λ core. core ≡ after self events.now)) }
     {
         let all = self.happen(events);
