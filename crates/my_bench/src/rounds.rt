@@ -1,0 +1,161 @@
+//! The rounds over one connection.
+ghost use Rattle.std.specs.Prelude.{◌≡◌, None};
+
+use crate::fault::Fault;
+use crate::words::Mode;
+use my_conn::{Conn, NextAnswer};
+use my_frame::{Blob, NoMemory};
+use my_link::BlockingLink;
+use my_value::{Row, Value, from_row};
+use std::alloc::Global;
+
+// A query whose result has one row of one number.
+const NUMBER: &[u8] = b"SELECT 12345";
+
+// A query of as many rows as the table has.
+const TABLE: &[u8] = b"SELECT id,name,ts,val,price FROM t100k";
+
+// The bytes of a field.
+fn field_length(value: &Value) -> u64 {
+    match value {
+        Value::Bytes(bytes) => bytes.len() as u64,
+        _ => 0,
+    }
+}
+
+// The bytes of a row's fields.
+fn row_length(row: &Row) -> u64 {
+    let mut sum = 0u64;
+    for index in 0..row.len() {
+        if let Some(value) = row.as_ref(index) {
+            sum = sum.saturating_add(field_length(value));
+        }
+    }
+    sum
+}
+
+// The bytes of the fields of these rows.
+fn rows_length(rows: &[Row]) -> u64 {
+    let mut sum = 0u64;
+    for row in rows {
+        sum = sum.saturating_add(row_length(row));
+    }
+    sum
+}
+
+// The number that a row is.
+fn number_of(alloc: Global, answer: NextAnswer) -> Result<u64, Fault> {
+    match answer {
+        NextAnswer::Row(row) => match from_row::<u64>(alloc, row) {
+            Ok(number) => Ok(number),
+            Err(_) => Err(Fault::Result),
+        },
+        NextAnswer::SetEnd | NextAnswer::NoSet => Err(Fault::Result),
+    }
+}
+
+fn ask<L: BlockingLink>(alloc: Global, conn: &mut Conn<L>, query: &[u8]) -> Result<(), Fault>
+    requires { conn.old.pending ≡ None }
+    ensures { conn.new.pending ≡ None }
+{
+    let text = Blob::from_slice(alloc, query)?;
+    Ok(conn.query(alloc, text)?)
+}
+
+// One number, read.
+fn number_round<L: BlockingLink>(alloc: Global, conn: &mut Conn<L>) -> Result<u64, Fault>
+    requires { conn.old.pending ≡ None }
+    ensures { conn.new.pending ≡ None }
+{
+    ask(alloc, conn, NUMBER)?;
+    let number = number_of(alloc, conn.next(alloc)?)?;
+    conn.drop_result(alloc)?;
+    Ok(number)
+}
+
+// Keeps each row of a set.
+fn gather<L: BlockingLink>(
+    alloc: Global,
+    conn: &mut Conn<L>,
+    rows: &mut Vec<Row>,
+) -> Result<(), Fault>
+    requires { conn.old.pending ≡ None }
+    ensures { conn.new.pending ≡ None }
+{
+    'rows: for _ in 0..u64::MAX {
+        match conn.next(alloc)? {
+            NextAnswer::Row(row) => rows.push(row).map_err(|_| NoMemory)?,
+            NextAnswer::SetEnd | NextAnswer::NoSet => return Ok(()),
+        }
+    }
+    Err(Fault::Result)
+}
+
+// The rows of the table, all of which are kept.
+fn kept_round<L: BlockingLink>(alloc: Global, conn: &mut Conn<L>) -> Result<u64, Fault>
+    requires { conn.old.pending ≡ None }
+    ensures { conn.new.pending ≡ None }
+{
+    ask(alloc, conn, TABLE)?;
+    let mut rows = Vec::new(alloc);
+    gather(alloc, conn, &mut rows)?;
+    Ok(rows_length(rows.as_slice()))
+}
+
+// Adds up the rows of a set, none of which is kept.
+fn add_up<L: BlockingLink>(alloc: Global, conn: &mut Conn<L>) -> Result<u64, Fault>
+    requires { conn.old.pending ≡ None }
+    ensures { conn.new.pending ≡ None }
+{
+    let mut sum = 0u64;
+    'rows: for _ in 0..u64::MAX {
+        match conn.next(alloc)? {
+            NextAnswer::Row(row) => sum = sum.saturating_add(row_length(&row)),
+            NextAnswer::SetEnd | NextAnswer::NoSet => return Ok(sum),
+        }
+    }
+    Err(Fault::Result)
+}
+
+// The rows of the table, streamed.
+fn streamed_round<L: BlockingLink>(alloc: Global, conn: &mut Conn<L>) -> Result<u64, Fault>
+    requires { conn.old.pending ≡ None }
+    ensures { conn.new.pending ≡ None }
+{
+    ask(alloc, conn, TABLE)?;
+    if conn.stream(alloc)? {
+        add_up(alloc, conn)
+    } else {
+        Err(Fault::Result)
+    }
+}
+
+// A round in this mode; a connection is a round of its own.
+fn round<L: BlockingLink>(alloc: Global, conn: &mut Conn<L>, mode: Mode) -> Result<u64, Fault>
+    requires { conn.old.pending ≡ None }
+    ensures { conn.new.pending ≡ None }
+{
+    match mode {
+        Mode::Text => number_round(alloc, conn),
+        Mode::Rows => kept_round(alloc, conn),
+        Mode::RowsUse => streamed_round(alloc, conn),
+        Mode::Conn => Ok(0),
+    }
+}
+
+/// The sum of so many rounds.
+pub fn rounds<L: BlockingLink>(
+    alloc: Global,
+    conn: &mut Conn<L>,
+    mode: Mode,
+    count: u64,
+) -> Result<u64, Fault>
+    requires { conn.old.pending ≡ None }
+    ensures { conn.new.pending ≡ None }
+{
+    let mut sum = 0u64;
+    'rounds: for _ in 0..count {
+        sum = sum.saturating_add(round(alloc, conn, mode)?);
+    }
+    Ok(sum)
+}
