@@ -5,7 +5,7 @@ use crate::fault::Fault;
 use crate::words::Plan;
 use my_conn::Conn;
 use my_net::RealLink;
-use my_opts::{Opts, OptsBuilder};
+use my_opts::{Opts, OptsBuilder, UrlFault};
 use my_opts_parts::Target;
 use my_reading::{Error, IoError, IoFault, IoKind};
 use my_world::{DialStep, World};
@@ -21,23 +21,32 @@ pub struct Place {
     target: Target,
 }
 
-// The options without the user: all settings are given, so that none is queried.
-fn builder(alloc: Global, plan: &Plan<'_>) -> Result<OptsBuilder, Fault> {
-    let host = plan.host;
-    let port = plan.port;
-    let url = match format!(in alloc;
-        "mysql://{host}:{port}/bench?prefer_socket=false&max_allowed_packet=67108864&wait_timeout=28800"
+// The URL of a plan, without its user. All settings are given, so that none is queried.
+fn url_of(alloc: Global, plan: &Plan<'_>) -> Result<String, Fault> {
+    match format!(in alloc;
+        "mysql://{}:{}/bench?prefer_socket=false&max_allowed_packet=67108864&wait_timeout=28800",
+        plan.host, plan.port
     ) {
-        Ok(url) => url,
-        Err(_) => return Err(Fault::Call(Error::NoMemory)),
-    };
+        Ok(url) => Ok(url),
+        Err(_) => Err(Fault::Call(Error::NoMemory)),
+    }
+}
+
+// The options that a URL gives.
+fn read_url(alloc: Global, url: &str) -> Result<OptsBuilder, Fault> {
     if url.len() > LONGEST_URL {
         return Err(Fault::Options);
     }
-    match OptsBuilder::from_url(alloc, url.as_str()) {
+    match OptsBuilder::from_url(alloc, url) {
         Ok(builder) => Ok(builder),
-        Err(_) => Err(Fault::Options),
+        Err(UrlFault::NoMemory) => Err(Fault::Call(Error::NoMemory)),
+        Err(UrlFault::Url(_)) => Err(Fault::Options),
     }
+}
+
+fn builder(alloc: Global, plan: &Plan<'_>) -> Result<OptsBuilder, Fault> {
+    let url = url_of(alloc, plan)?;
+    read_url(alloc, url.as_str())
 }
 
 // A copy of a text.
@@ -48,11 +57,18 @@ fn text(alloc: Global, word: &str) -> Result<Option<String>, Fault> {
     }
 }
 
+fn with_login(builder: OptsBuilder, user: Option<String>, pass: Option<String>) -> Opts {
+    Opts::from(builder.user(user).pass(pass))
+}
+
 // The options of a plan.
 fn options(alloc: Global, plan: &Plan<'_>) -> Result<Opts, Fault> {
     let user = text(alloc, plan.user)?;
     let pass = text(alloc, plan.pass)?;
-    Ok(Opts::from(builder(alloc, plan)?.user(user).pass(pass)))
+    match builder(alloc, plan) {
+        Ok(builder) => Ok(with_login(builder, user, pass)),
+        Err(fault) => Err(fault),
+    }
 }
 
 impl Place {
