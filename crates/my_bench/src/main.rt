@@ -6,6 +6,7 @@ ghost use Rattle.std.specs.Prelude.{◌≡◌, None};
 mod fault;
 mod place;
 mod rounds;
+mod sums;
 mod times;
 mod words;
 

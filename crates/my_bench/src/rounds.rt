@@ -2,11 +2,12 @@
 ghost use Rattle.std.specs.Prelude.{◌≡◌, None};
 
 use crate::fault::Fault;
+use crate::sums::{row_length, rows_length};
 use crate::words::Mode;
 use my_conn::{Conn, NextAnswer};
 use my_frame::{Blob, NoMemory};
 use my_link::BlockingLink;
-use my_value::{Row, Value, from_row};
+use my_value::{Row, from_row};
 use std::alloc::Global;
 
 // A query whose result has one row of one number.
@@ -14,34 +15,6 @@ const NUMBER: &[u8] = b"SELECT 12345";
 
 // A query of as many rows as the table has.
 const TABLE: &[u8] = b"SELECT id,name,ts,val,price FROM t100k";
-
-// The bytes of a field.
-fn field_length(value: &Value) -> u64 {
-    match value {
-        Value::Bytes(bytes) => bytes.len() as u64,
-        _ => 0,
-    }
-}
-
-// The bytes of a row's fields.
-fn row_length(row: &Row) -> u64 {
-    let mut sum = 0u64;
-    for index in 0..row.len() {
-        if let Some(value) = row.as_ref(index) {
-            sum = sum.saturating_add(field_length(value));
-        }
-    }
-    sum
-}
-
-// The bytes of the fields of these rows.
-fn rows_length(rows: &[Row]) -> u64 {
-    let mut sum = 0u64;
-    for row in rows {
-        sum = sum.saturating_add(row_length(row));
-    }
-    sum
-}
 
 // The number that a row is.
 fn number_of(alloc: Global, answer: NextAnswer) -> Result<u64, Fault> {
