@@ -8,6 +8,7 @@ use my_conn::{Conn, Connected, Connecting};
 use my_frame::NoMemory;
 use my_link::{BlockingLink, Link, MemLink, ReadyLink};
 use my_opts::Opts;
+use my_reading::Error;
 use std::alloc::Global;
 use std::test::Fail;
 
@@ -58,7 +59,8 @@ gtkt12379 aqss 1111 kkkS lq gk12379 kkkke
 gtktotot aptpt 11111 kkkkn . . -";
 
 // A row has what the link plays, the steps and what each returns, as above; `n` counts the rows of a query. A link that
-// isn't ready has failed.
+// isn't ready has failed. The first step is `a`, which connects with options, `b`, which connects by the URL that has
+// them, or `x`, which connects by a URL with a key that there isn't; `W` is that refusal.
 const WAITING: &str = "\
 gtktOt1234t1234t1234t apivqrrrqdnuv kkkkkrenkk1kc
 w a L
@@ -76,7 +78,13 @@ gtkt12378 aqsrsrrs kkkrkenn
 gtkt12379 aqss kkkS
 gtkt ac kA
 gtkz ac kD
-gtKt ac kD";
+gtKt ac kD
+gtktot bpv kkk
+gtE b S
+gtkt x W";
+
+// The options of each connection.
+const URL: &str = "mysql://root@localhost?max_allowed_packet=4194304&wait_timeout=28800";
 
 // The words of a row.
 #[derive(Clone, Copy)]
@@ -182,8 +190,32 @@ fn is_polled(alloc: Global, opts: Opts, link: MemLink, row: &Row) -> bool {
     }
 }
 
+fn made_by(
+    alloc: Global,
+    url: &str,
+    link: ReadyLink<MemLink>,
+) -> Result<Conn<ReadyLink<MemLink>>, Error> {
+    if url.len() > 1_048_576 {
+        return Err(Error::NoMemory);
+    }
+    Conn::from_url(alloc, url, link)
+}
+
+fn made(
+    alloc: Global,
+    opts: Opts,
+    link: ReadyLink<MemLink>,
+    how: u8,
+) -> Result<Conn<ReadyLink<MemLink>>, Error> {
+    match how {
+        b'a' => Conn::new(alloc, opts, link),
+        b'b' => made_by(alloc, URL, link),
+        _ => made_by(alloc, "mysql://root@localhost?speed=1", link),
+    }
+}
+
 fn is_driven(alloc: Global, opts: Opts, link: MemLink, row: &Row) -> bool {
-    match Conn::new(alloc, opts, ReadyLink::new(link)) {
+    match made(alloc, opts, ReadyLink::new(link), at(row.steps, 0)) {
         Ok(conn) => {
             let mut conn = conn;
             let right = at(row.says, 0) == b'k' && are_driven(alloc, &mut conn, row);
@@ -194,11 +226,10 @@ fn is_driven(alloc: Global, opts: Opts, link: MemLink, row: &Row) -> bool {
 }
 
 fn opts_of(alloc: Global) -> Option<Opts> {
-    let url = "mysql://root@localhost?max_allowed_packet=4194304&wait_timeout=28800";
-    if url.len() > 1_048_576 {
+    if URL.len() > 1_048_576 {
         return None;
     }
-    match Opts::from_url(alloc, url) {
+    match Opts::from_url(alloc, URL) {
         Ok(opts) => Some(opts),
         Err(_) => None,
     }

@@ -4,7 +4,22 @@ use crate::link::is_of;
 use my_client::{Said, Tape};
 use my_conn::{Conn, NextAnswer};
 use my_link::CheckStep;
+use my_opts::UrlError;
 use my_reading::{DriverError, Error, IoError, IoKind};
+
+// The letter of a URL that is refused.
+fn of_refused(error: &UrlError) -> u8 {
+    match error {
+        UrlError::UnknownParameter { param } => {
+            if param.as_str() == "speed" {
+                b'W'
+            } else {
+                b'?'
+            }
+        }
+        _ => b'?',
+    }
+}
 
 /// The letter of an error.
 pub fn of_error(error: &Error) -> u8 {
@@ -16,6 +31,7 @@ pub fn of_error(error: &Error) -> u8 {
             IoKind::UnexpectedEof => b'U',
             IoKind::Dial | IoKind::InvalidData => b'?',
         },
+        Error::Url(error) => of_refused(error),
         Error::Io(IoError::Codec(_)) | Error::Driver(_) | Error::NoMemory => b'?',
     }
 }

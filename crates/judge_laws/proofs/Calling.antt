@@ -15,30 +15,32 @@ use Rattle.my_reading.specs.Tape.{Tape}
 use Rattle.my_session.specs.History.{has_closed}
 use Rattle.my_session.specs.Steps.{is_refused}
 use Rattle.my_script.specs.declared.step.Step.{Step}
+use Rattle.my_script.specs.Streams.{is_skip, target}
 use Rattle.my_script.specs.declared.step.Step.TheVariants as steps
 use Rattle.my_script.specs.declared.transcript.Outcome.{Outcome}
 use Rattle.my_script.specs.declared.transcript.Outcome.TheVariants as outcomes
 use Rattle.my_script.specs.declared.transcript.Use.{Use}
 use Rattle.my_acts.specs.declared.act.Act.TheVariants.{Wrong, Skips, Tells, Polls}
 use Rattle.my_acts.specs.declared.act.Status.TheVariants as status
-use Rattle.my_acts.specs.Acts.{act_of, asked, at_dialing, at_gathering, at_idle, at_open, begun_by, collected, gathering, target}
+use Rattle.my_acts.specs.Acts.{act_of, asked, at_dialing, at_gathering, at_idle, at_open, begun_by, collected, gathering}
 use Rattle.my_client.specs.Kept.{Asked, Kept, asking, asked_by, made_of}
 use Rattle.my_client.specs.Reads.{facts_kept}
-use Rattle.my_steps.specs.Grows.{Begins, BeginsOn, Calls, Collects, CollectsAt, CollectsOn, TellsFields, TellsWith, next_asked}
+use Rattle.my_steps.specs.Grows.{Begins, BeginsOn, Calls, Collects, CollectsAt, CollectsOn, TellsFields, TellsWith, next_asked, shown}
 use Rattle.my_steps.specs.Handle.{Handle, Absent, Dialing, Joined}
 use Rattle.my_run_judge.specs.declared.walk.Spot.{Spot}
-use Rattle.my_run_judge.specs.Lines.{ArePolled, IsBegun, first_of, after_polls, is_pending}
+use Rattle.my_run_judge.specs.Lines.{ArePolled, IsBegun, begun_in, first_of, after_polls, is_pending}
 use Rattle.my_run_judge.specs.Walks.{Walk}
 use Rattle.judge_laws.proofs.Going.{before_begin, shown_call, shown_tape}
 use Rattle.judge_laws.proofs.Tying.{AtWalk, at_begin, place_at_rest}
-use Rattle.judge_laws.proofs.Polling.{before_none, begins_here}
+use Rattle.judge_laws.proofs.Polling.{before_none, begins_here, may_end}
 use Rattle.judge_laws.proofs.Gathering.{Forth, GatherState, GathersSo, HasTape, gathers}
 use Rattle.judge_laws.proofs.Stepping.{LineSo, OnceSo, OpenAs, Spotted, StepSo, absent_so, closed_so, dialing_so, gone_so, here_act, once_so, open_so}
 
 -- what a step that begins a call does, by what the walk takes the connection for
 pub record Asks (n : ℕ) (step : Step) (call : Call) : Type 0 where
   pub named : target step ≡ Some n
-  pub begun : begun_by step ≡ Some call
+  pub begun : (taken : Bool) → begun_by taken step ≡ Some call
+  pub plain : is_skip (kind_of call) ≡ false
   pub dialing : at_dialing n step outcomes.NoSuchHandle 0 ≡ Skips status.Dialing
   pub idle : (closed : Bool) (next : ℕ) (o : Outcome) (uses : ℕ) → at_idle closed next step o uses ≡ asked (is_refused closed (kind_of call)) o uses
   pub opens : (next : ℕ) → at_open n next step outcomes.NoSuchHandle 0 ≡ Skips status.Open
@@ -53,19 +55,22 @@ never_and true = refl
 never_and false = refl
 
 pub asks_query : (n : ℕ) (text : List ℕ) → Asks n (steps.Query n text) (calls.Query text)
-asks_query n text = record { named = refl; begun = refl; dialing = refl; idle = λ closed next o uses. ap (λ b. asked b o uses) (closed_and closed); opens = λ next. refl; gathers = λ first next. refl }
+asks_query n text = record { named = refl; begun = λ taken. refl; plain = refl; dialing = refl; idle = λ closed next o uses. ap (λ b. asked b o uses) (closed_and closed); opens = λ next. refl; gathers = λ first next. refl }
 
 pub asks_next : (n : ℕ) → Asks n (steps.Next n) calls.NextRow
-asks_next n = record { named = refl; begun = refl; dialing = refl; idle = λ closed next o uses. ap (λ b. asked b o uses) (closed_and closed); opens = λ next. refl; gathers = λ first next. refl }
+asks_next n = record { named = refl; begun = λ taken. refl; plain = refl; dialing = refl; idle = λ closed next o uses. ap (λ b. asked b o uses) (closed_and closed); opens = λ next. refl; gathers = λ first next. refl }
+
+pub asks_item : (n : ℕ) → Asks n (steps.Item n) calls.NextRow
+asks_item n = record { named = refl; begun = λ taken. refl; plain = refl; dialing = refl; idle = λ closed next o uses. ap (λ b. asked b o uses) (closed_and closed); opens = λ next. refl; gathers = λ first next. refl }
 
 pub asks_drop : (n : ℕ) → Asks n (steps.Drop n) calls.DropResult
-asks_drop n = record { named = refl; begun = refl; dialing = refl; idle = λ closed next o uses. ap (λ b. asked b o uses) (closed_and closed); opens = λ next. refl; gathers = λ first next. refl }
+asks_drop n = record { named = refl; begun = λ taken. refl; plain = refl; dialing = refl; idle = λ closed next o uses. ap (λ b. asked b o uses) (closed_and closed); opens = λ next. refl; gathers = λ first next. refl }
 
 pub asks_ping : (n : ℕ) → Asks n (steps.Ping n) calls.Ping
-asks_ping n = record { named = refl; begun = refl; dialing = refl; idle = λ closed next o uses. ap (λ b. asked b o uses) (closed_and closed); opens = λ next. refl; gathers = λ first next. refl }
+asks_ping n = record { named = refl; begun = λ taken. refl; plain = refl; dialing = refl; idle = λ closed next o uses. ap (λ b. asked b o uses) (closed_and closed); opens = λ next. refl; gathers = λ first next. refl }
 
 pub asks_quit : (n : ℕ) → Asks n (steps.Quit n) calls.Quit
-asks_quit n = record { named = refl; begun = refl; dialing = refl; idle = λ closed next o uses. ap (λ b. asked b o uses) (never_and closed); opens = λ next. refl; gathers = λ first next. refl }
+asks_quit n = record { named = refl; begun = λ taken. refl; plain = refl; dialing = refl; idle = λ closed next o uses. ap (λ b. asked b o uses) (never_and closed); opens = λ next. refl; gathers = λ first next. refl }
 
 module _ (login : Login) (t : Tape) (all : AreCalls login (reading login t).calls) (n : ℕ) where
   module _ (step : Step) (call : Call) (w : Asks n step call) where
@@ -79,15 +84,15 @@ module _ (login : Login) (t : Tape) (all : AreCalls login (reading login t).call
     begins_so : (b : Bool) (k : Kept) (x : Looks) (made : Handle) (o : Outcome) (us : List Use) → k.pending ≡ None → is_refused (has_closed (made_of k.calls)) (kind_of call) ≡ b → HasTape t made → Begins b login n call k x o us made
         → StepSo login t n (Joined true k x) made step o us
     begins_so true k x made o us none shut has r =
-        closed_so login t all n step w.named call w.begun k x made o us none has r
+        closed_so login t all n step w.named call k x made o us none has r (λ v at. w.begun _)
         (λ v at e is. w.idle v.closed v.spot.next (outcomes.Failed connection_closed) 0 ∙ ap (λ b. asked (is_refused b (kind_of call)) (outcomes.Failed connection_closed) 0) at.closed_is ∙ ap (λ b. asked b (outcomes.Failed connection_closed) 0) shut)
     begins_so false k x made o us none shut has r =
-        let s : OnceSo login t all n step w.named (asking k call None) made o us = once_so login t all n step w.named (asking k call None) (asked_by k call) x made o us refl refl has r in
+        let s : OnceSo login t all n step w.named (asking k call None) made o us = once_so login t all n step w.named (asking k call None) (asked_by k call) x made o us refl refl has r (may_end (shown r.after) call w.plain) in
         record {
           back = (s.back.0, before_begin t k call None s.back.0 none s.back.1);
           forth = λ v tied.
-              s.forth v (at_begin login k call None v none tied.1) (λ z. idle_at k v none tied.1 tied.0 z 1 ∙ ap (λ b. asked b z 1) shut)
-              (subst (λ b. IsBegun b (slice_get (map shown_call t.calls) v.spot.next)) (sym w.begun) (begins_here t (asking k call None) (asked_by k call) v.spot.next tied.1.next_is refl s.back));
+              s.forth v (at_begin login k call None v none tied.1) (idle_at k v none tied.1 tied.0 o 1 ∙ ap (λ b. asked b o 1) shut)
+              (subst (λ b. IsBegun b (slice_get (map shown_call t.calls) v.spot.next)) (sym (w.begun _)) (begins_here t (asking k call None) (asked_by k call) v.spot.next tied.1.next_is refl s.back));
         }
 
     begins_on : (q : Option Asked) (k : Kept) (x : Looks) (made : Handle) (o : Outcome) (us : List Use) → k.pending ≡ q → HasTape t made → BeginsOn q login n call k x o us made → StepSo login t n (Joined true k x) made step o us
@@ -113,7 +118,7 @@ module _ (login : Login) (t : Tape) (all : AreCalls login (reading login t).call
 
   pub gathered_line : (step : Step) (us : List Use) (o : Outcome) (made : Handle) (w : Walk) (first : ℕ) → Forth login t all n us o first made w
       → act_of w.spot.status n w.spot.next w.closed step o (length us) ≡ gathering first o → first_of w.spot.status w.spot.next ≡ first
-      → IsBegun (begun_by step) (slice_get (map shown_call t.calls) w.spot.next) → LineSo login t n made step o us w
+      → IsBegun (begun_in w step) (slice_get (map shown_call t.calls) w.spot.next) → LineSo login t n made step o us w
   gathered_line step us o made w first f acts same begun =
       subst (λ (z : Handle). LineSo login t n z step o us w) (sym f.to.is) (record {
         act = Polls (if is_pending o then status.Gathers first else status.Idle);
@@ -130,7 +135,7 @@ module _ (login : Login) (t : Tape) (all : AreCalls login (reading login t).call
   collects_by : (b : Bool) (k : Kept) (x : Looks) (made : Handle) (o : Outcome) (us : List Use) → k.pending ≡ None → has_closed (made_of k.calls) ≡ b → HasTape t made → Collects b login n k x o us made
       → StepSo login t n (Joined true k x) made (steps.Collect n) o us
   collects_by true k x made o us none shut has r =
-      closed_so login t all n (steps.Collect n) refl calls.NextRow refl k x made o us none has r
+      closed_so login t all n (steps.Collect n) refl calls.NextRow k x made o us none has r (λ v at. refl)
       (λ v at e is. ap (λ b. collected b v.spot.next (outcomes.Failed connection_closed) 0) (at.closed_is ∙ shut))
   collects_by false k x made o [] none shut has r = absurd r
   collects_by false k x made o (u ∷ us) none shut has r =

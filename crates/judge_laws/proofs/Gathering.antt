@@ -6,6 +6,8 @@ use Rattle.my_link.specs.Looks.{Looks}
 use Rattle.my_link.specs.Moves.{NoStop}
 use Rattle.my_reading.specs.declared.answer.Answer.TheVariants as answers
 use Rattle.my_reading.specs.declared.call.Call.TheVariants as calls
+use Rattle.my_reading.specs.Calls.{kind_of}
+use Rattle.my_script.specs.Streams.{is_skip}
 use Rattle.my_reading.specs.declared.error.Error.{Error}
 use Rattle.my_reading.specs.Endings.{AreCalls}
 use Rattle.my_reading.specs.Reading.{reading}
@@ -30,7 +32,7 @@ use Rattle.my_run_judge.specs.Walks.{Walk, ended, with_taken}
 use Rattle.judge_laws.proofs.Going.{before_begin, shown_tape}
 use Rattle.judge_laws.proofs.Tying.{AtWalk, at_begin}
 use Rattle.judge_laws.proofs.Meeting.{ShownBy, met_at_stop}
-use Rattle.judge_laws.proofs.Polling.{HasRest, LastSo, after_so, before_more, begins_here, call_so, ended_so, fits, last_poll, next_so, poll_back}
+use Rattle.judge_laws.proofs.Polling.{HasRest, LastSo, after_so, before_more, begins_here, call_so, ended_so, fits, last_poll, may_end, next_so, poll_back}
 
 -- the tape goes on from what stands there
 abbrev pub HasTape : Tape → Handle → Type 0
@@ -82,7 +84,7 @@ module _ (login : Login) (t : Tape) (all : AreCalls login (reading login t).call
     last_gathers shows state acts told = record {
       back = poll_back login t all a k end x y u p kp polled hask;
       forth = λ w at nr first low r.
-          let s : LastSo login t all a k end x y u p kp polled hask n number w at o first = last_poll login t all a k end x y u p kp polled hask n number w at o first (shows (calls_before (shown_tape t) first w.spot.next) r) in
+          let s : LastSo login t all a k end x y u p kp polled hask n number w at o first = last_poll login t all a k end x y u p kp polled hask n number w at o first (may_end o a.call (ap (λ c. is_skip (kind_of c)) nr)) (shows (calls_before (shown_tape t) first w.spot.next) r) in
           record {
             polls = s.right;
             to = record {

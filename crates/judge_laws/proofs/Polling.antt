@@ -5,10 +5,13 @@ use Rattle.my_grammar.specs.declared.login.Login.{Login}
 use Rattle.my_link.specs.Looks.{Looks}
 use Rattle.my_reading.specs.declared.answer.Answer.TheVariants as answers
 use Rattle.my_reading.specs.Endings.{AreCalls}
+use Rattle.my_reading.specs.declared.call.Call.{Call}
 use Rattle.my_reading.specs.Calls.{kind_of}
 use Rattle.my_reading.specs.Reading.{halt_of, reading}
 use Rattle.my_reading.specs.Tape.{Tape, TapeCall}
+use Rattle.my_script.specs.Streams.{is_skip}
 use Rattle.my_script.specs.declared.transcript.Outcome.{Outcome}
+use Rattle.my_script.specs.declared.transcript.Outcome.TheVariants as outcomes
 use Rattle.my_script.specs.declared.transcript.TapeCall.{TapeCall as ShownCall}
 use Rattle.my_script.specs.declared.transcript.Use.{Use}
 use Rattle.my_client.specs.declared.poll.After.{After}
@@ -17,7 +20,7 @@ use Rattle.my_client.specs.declared.tape.Said.{Said}
 use Rattle.my_client.specs.declared.tape.Said.TheVariants as says
 use Rattle.my_client.specs.Causes.{IsPolled, PollEnds}
 use Rattle.my_client.specs.Kept.{Asked, Kept, ended_by, told_by}
-use Rattle.my_run_judge.specs.Lines.{AreRows, Fits, IsBegun, IsShown, IsShownAt, LastPoll, LastRight, after_last, after_last_poll, calls_before, is_pending}
+use Rattle.my_run_judge.specs.Lines.{AreRows, Fits, IsBegun, IsShown, IsShownAt, LastPoll, LastRight, MayEnd, after_last, after_last_poll, calls_before, is_pending}
 use Rattle.my_run_judge.specs.Meets.{LastMet}
 use Rattle.my_run_judge.specs.Walks.{Walk, IsEnded, ended, with_taken}
 use Rattle.judge_laws.proofs.Going.{Begins, GoesOn, answer_of, own_span, before_end, before_move, call_here, call_of, done_by, shown_call, shown_said, shown_tape}
@@ -34,6 +37,19 @@ begins_here t k a n next some has = by_rest has.0 has.1
     by_rest : (rest : List TapeCall) → GoesOn t k rest → IsBegun (Some a.call) (slice_get (map shown_call t.calls) n)
     by_rest [] g = absurd (subst (λ q. Begins k g.sent_more g.taken_more q []) some g.begins)
     by_rest (c ∷ cs) g = subst (IsBegun (Some a.call)) (sym (call_here t k c cs g n next)) (subst (λ q. Begins k g.sent_more g.taken_more q (c ∷ cs)) some g.begins).0
+
+-- a call that doesn't pass over a set's rest may be a line's last one
+pub may_end : (o : Outcome) (c : Call) → is_skip (kind_of c) ≡ false → MayEnd o c
+may_end outcomes.Done c e = e
+may_end outcomes.Pending c e = tt
+may_end outcomes.SetEnd c e = tt
+may_end outcomes.NoSet c e = tt
+may_end (outcomes.Row row) c e = tt
+may_end (outcomes.Rows rows) c e = tt
+may_end (outcomes.Fields ok) c e = tt
+may_end (outcomes.Connected n id version) c e = tt
+may_end (outcomes.Failed error) c e = tt
+may_end outcomes.NoSuchHandle c e = tt
 
 -- one poll of the open call
 module _ (login : Login) (t : Tape) (all : AreCalls login (reading login t).calls) where
@@ -103,26 +119,26 @@ module _ (login : Login) (t : Tape) (all : AreCalls login (reading login t).call
         after_is = subst (λ b. AtWalk login end (after_last login (shown_tape t) w2 b)) (sym is) (subst (λ (z : Kept). AtWalk login z w2) (sym e) at_f);
       }
 
-      done_so : (o : Outcome) (first : ℕ) → LastMet o u.met → (said : Said) (so : SaidSo false (kind_of a.call) (halt_of login w2.closed (own_span f a (Some (told_by said))) w2.place).place said) → end ≡ ended_by f a said
+      done_so : (o : Outcome) (first : ℕ) → MayEnd o a.call → LastMet o u.met → (said : Said) (so : SaidSo false (kind_of a.call) (halt_of login w2.closed (own_span f a (Some (told_by said))) w2.place).place said) → end ≡ ended_by f a said
           → is_pending o ≡ false → IsShown o (answer_of (Some (told_by said))) (calls_before (shown_tape t) first w.spot.next) → LastSo o first
-      done_so o first m said so e is shows = record {
+      done_so o first may m said so e is shows = record {
         right = (
           fits,
           m,
           subst (λ b. LastRight login (shown_tape t) o first w2 b) (sym is)
-              (subst (λ c. IsShownAt o c (calls_before (shown_tape t) first w.spot.next)) (sym (call_so said so e)) shows, ended_so said so e),
+              (subst (λ c. IsShownAt o c (calls_before (shown_tape t) first w.spot.next)) (sym (call_so said so e)) (shows, may), ended_so said so e),
         );
         after_is = subst (λ b. AtWalk login end (after_last login (shown_tape t) w2 b)) (sym is) (after_so said so e);
       }
 
-      last_of : (o : Outcome) (first : ℕ) (q : After) → PollEnds login a f u.met polled.stop q end → ShownBy o (calls_before (shown_tape t) first w.spot.next) q → LastSo o first
-      last_of o first after.Pending e s = held_so o first (met_so o (calls_before (shown_tape t) first w.spot.next) after.Pending e s) e.0 s
-      last_of o first (after.Answered answer) e s = done_so o first (met_so o (calls_before (shown_tape t) first w.spot.next) (after.Answered answer) e s) (says.Answered answer) tt e.0 s.0
+      last_of : (o : Outcome) (first : ℕ) (q : After) → MayEnd o a.call → PollEnds login a f u.met polled.stop q end → ShownBy o (calls_before (shown_tape t) first w.spot.next) q → LastSo o first
+      last_of o first after.Pending may e s = held_so o first (met_so o (calls_before (shown_tape t) first w.spot.next) after.Pending e s) e.0 s
+      last_of o first (after.Answered answer) may e s = done_so o first may (met_so o (calls_before (shown_tape t) first w.spot.next) (after.Answered answer) e s) (says.Answered answer) tt e.0 s.0
           (subst (λ x. IsShown o x (calls_before (shown_tape t) first w.spot.next)) (shown_said (says.Answered answer)) s.1)
-      last_of o first (after.Failed x) e s = done_so o first (met_so o (calls_before (shown_tape t) first w.spot.next) (after.Failed x) e s) (says.Failed x) tt e.0 s.0 s.1
+      last_of o first (after.Failed x) may e s = done_so o first may (met_so o (calls_before (shown_tape t) first w.spot.next) (after.Failed x) e s) (says.Failed x) tt e.0 s.0 s.1
 
-      pub last_poll : (o : Outcome) (first : ℕ) → ShownBy o (calls_before (shown_tape t) first w.spot.next) p → LastSo o first
-      last_poll o first s = last_of o first p polled.ends s
+      pub last_poll : (o : Outcome) (first : ℕ) → MayEnd o a.call → ShownBy o (calls_before (shown_tape t) first w.spot.next) p → LastSo o first
+      last_poll o first may s = last_of o first p may polled.ends s
 
 -- rows and the calls that returned them
 rows_more : (rows : List RowParts) (cs : List ShownCall) (row : RowParts) (c : ShownCall) → AreRows rows cs → c.answer ≡ Some (Ok (answers.Row row)) → AreRows (rows ++ row ∷ []) (cs ++ c ∷ [])

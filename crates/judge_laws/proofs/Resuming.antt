@@ -20,16 +20,17 @@ use Rattle.my_reading.specs.Tape.{Tape}
 use Rattle.my_reading.specs.Told.{told}
 use Rattle.my_session.specs.Fits.{may_be}
 use Rattle.my_script.specs.declared.step.Step.{Step}
+use Rattle.my_script.specs.Streams.{is_skip}
 use Rattle.my_script.specs.declared.step.Step.TheVariants as steps
 use Rattle.my_script.specs.declared.transcript.Outcome.{Outcome}
 use Rattle.my_script.specs.declared.transcript.Outcome.TheVariants as outcomes
 use Rattle.my_script.specs.declared.transcript.Use.{Use}
 use Rattle.my_acts.specs.declared.act.Act.{Act}
-use Rattle.my_acts.specs.declared.act.Act.TheVariants.{Wrong, Skips, Connects, Polls, Cancels}
+use Rattle.my_acts.specs.declared.act.Act.TheVariants.{Wrong, Skips, Connects, Polls, Takes, Cancels}
 use Rattle.my_acts.specs.declared.act.Act.TheVariants as acts
 use Rattle.my_acts.specs.declared.act.Status.{Status}
 use Rattle.my_acts.specs.declared.act.Status.TheVariants as status
-use Rattle.my_acts.specs.Acts.{act_of, after_cancel, connecting, dialed, gathered, gathering, polled, polled_once}
+use Rattle.my_acts.specs.Acts.{act_of, after_cancel, connecting, dialed, gathered, gathering, polled, polled_once, taking}
 use Rattle.my_client.specs.declared.poll.After.{After}
 use Rattle.my_client.specs.declared.poll.After.TheVariants as after
 use Rattle.my_client.specs.declared.tape.DoneCall.{DoneCall}
@@ -37,7 +38,7 @@ use Rattle.my_client.specs.declared.tape.Said.TheVariants as says
 use Rattle.my_client.specs.Causes.{IsPolled}
 use Rattle.my_client.specs.Kept.{Asked, Kept, nothing_kept, ended_by, first_asked, first_kept, told_by}
 use Rattle.my_client.specs.Reads.{calls_kept, facts_kept, place_kept}
-use Rattle.my_steps.specs.Grows.{Cancels as CancelsAt, CancelsWith, ConnectShows, Connects as ConnectsTo, Dials, Gathers, GoesOn, GoesOnWith, IsCancelled, IsDropped, PolledOnce, PollsOn}
+use Rattle.my_steps.specs.Grows.{Cancels as CancelsAt, CancelsWith, ConnectShows, Connects as ConnectsTo, Dials, Gathers, GoesOn, GoesOnWith, IsCancelled, IsDropped, PollsCall, PolledOnce, PollsOn, shown}
 use Rattle.my_steps.specs.Grows as grows
 use Rattle.my_steps.specs.Handle.{Handle, Absent, Dialing, Joined}
 use Rattle.my_steps.specs.Sums.{held_use, failed_use}
@@ -47,10 +48,11 @@ use Rattle.my_run_judge.specs.Lines.{AreRows, IsToldBy, LastPoll, after_last_pol
 use Rattle.my_run_judge.specs.Walks.{Walk, ended, with_status}
 use Rattle.judge_laws.proofs.Going.{before_end, call_here, call_of, done_by, own_span, shown_tape}
 use Rattle.judge_laws.proofs.Tying.{AtWalk, at_begin, at_end, is_ended, place_at_rest, place_open, same_halt}
-use Rattle.judge_laws.proofs.Polling.{HasRest, LastSo, begins_here, last_poll, poll_back}
+use Rattle.judge_laws.proofs.Polling.{HasRest, LastSo, begins_here, last_poll, may_end, poll_back}
 use Rattle.judge_laws.proofs.Gathering.{GathersSo, HasTape, gathers}
 use Rattle.judge_laws.proofs.Stepping.{LineSo, OnceSo, OpenAs, Spotted, StepSo, Tied, absent_so, gone_so, here_act, idle_so, once_so, same_number}
 use Rattle.judge_laws.proofs.Calling.{gathered_line}
+use Rattle.judge_laws.proofs.Streaming.{SkipsSo, skip_call, skips_so}
 
 -- the open call connects exactly where it is the first one
 none_last : (ds : List DoneCall) (a : Asked) → none_connects (map (λ c. c.call) (calls_kept ds (Some a))) ≡ true → is_connect (kind_of a.call) ≡ false
@@ -110,7 +112,7 @@ module _ (login : Login) (t : Tape) (all : AreCalls login (reading login t).call
     joined_by after.Pending polled s = let h = has_end after.Pending s in record {
       back = poll_back login t all a k end x link used after.Pending kp polled h;
       forth = λ w at nr first. subst (λ (z : Outcome). Joins z used made w first) (sym s.0) (subst (λ (z : Handle). Joins outcomes.Pending used z w first) (sym s.1)
-          (let l : LastSo login t all a k end x link used after.Pending kp polled h n number w at outcomes.Pending first = last_poll login t all a k end x link used after.Pending kp polled h n number w at outcomes.Pending first refl in
+          (let l : LastSo login t all a k end x link used after.Pending kp polled h n number w at outcomes.Pending first = last_poll login t all a k end x link used after.Pending kp polled h n number w at outcomes.Pending first tt refl in
           record {
             right = l.right;
             told = tt;
@@ -131,7 +133,7 @@ module _ (login : Login) (t : Tape) (all : AreCalls login (reading login t).call
           let none : end.pending ≡ None = ap (λ (y : Kept). y.pending) polled.ends.0 in
           let ready : answer ≡ answers.Ready = made_ready answer (subst (λ c. may_be (kind_of c) (told answer) ≡ true) con polled.ends.2) in
           subst (λ (y : Outcome). Joins y used made w first) (sym s.0) (subst (λ (y : Handle). Joins z used y w first) (sym s.1)
-          (let l : LastSo login t all a k end x link used (after.Answered answer) kp polled h n number w at z first = last_poll login t all a k end x link used (after.Answered answer) kp polled h n number w at z first (refl, ap (λ y. Some (Ok y)) ready) in
+          (let l : LastSo login t all a k end x link used (after.Answered answer) kp polled h n number w at z first = last_poll login t all a k end x link used (after.Answered answer) kp polled h n number w at z first tt (refl, ap (λ y. Some (Ok y)) ready) in
           let here : place_kept login end ≡ (after_last_poll login (shown_tape t) z used w).place = place_at_rest login end _ (after_last_poll login (shown_tape t) z used w).place none l.after_is.reads in
           record {
             right = l.right;
@@ -146,7 +148,7 @@ module _ (login : Login) (t : Tape) (all : AreCalls login (reading login t).call
       forth = λ w at nr first.
           let none : end.pending ≡ None = ap (λ (y : Kept). y.pending) polled.ends.0 in
           subst (λ (y : Outcome). Joins y used made w first) (sym s.0) (subst (λ (y : Handle). Joins (outcomes.Failed e) used y w first) (sym s.1)
-          (let l : LastSo login t all a k end x link used (after.Failed e) kp polled h n number w at (outcomes.Failed e) first = last_poll login t all a k end x link used (after.Failed e) kp polled h n number w at (outcomes.Failed e) first (refl, refl) in
+          (let l : LastSo login t all a k end x link used (after.Failed e) kp polled h n number w at (outcomes.Failed e) first = last_poll login t all a k end x link used (after.Failed e) kp polled h n number w at (outcomes.Failed e) first tt (refl, refl) in
           record {
             right = l.right;
             told = tt;
@@ -211,15 +213,32 @@ module _ (login : Login) (t : Tape) (all : AreCalls login (reading login t).call
           not_next calls.SkipTaken e f = cc
           not_next calls.Ping e f = cc
           not_next calls.Quit e f = cc
-  polls_on false k a x made o us kp once con None rs has r =
-      let s : OnceSo login t all n (steps.Poll n) refl k made o us = once_so login t all n (steps.Poll n) refl k a x made o us kp rs has r in
-      record {
-        back = s.back;
-        forth = λ w tied.
-            let e : w.spot.status ≡ status.Open = subst (λ (z : Option (List RowParts)). OpenAs t a z w.spot) rs (subst (λ q. Spotted t true q w.spot) kp tied.0) in
-            let later : (w.spot.next == 0) ≡ false = ap (λ m. m == 0) tied.1.next_is ∙ connects_first_call k a kp once ∙ con in
-            s.forth w tied.1 (λ z. here_act status.Open w.spot.status n w.spot.next w.closed (steps.Poll n) z 1 refl e refl ∙ ap (λ b. if b then connecting n z Polls else polled_once z 1) later) tt;
-      }
+  polls_on false k a x made o us kp once con None rs has r = by_skip (is_skip (kind_of a.call)) refl r
+    where
+      opened : (w : Walk) → Tied login t (Joined true k x) w → w.spot.status ≡ status.Open
+      opened w tied = subst (λ (z : Option (List RowParts)). OpenAs t a z w.spot) rs (subst (λ q. Spotted t true q w.spot) kp tied.0)
+
+      later : (w : Walk) → Tied login t (Joined true k x) w → (w.spot.next == 0) ≡ false
+      later w tied = ap (λ m. m == 0) tied.1.next_is ∙ connects_first_call k a kp once ∙ con
+
+      acts : (w : Walk) → Tied login t (Joined true k x) w → (z : Outcome) (uses : ℕ) → act_of w.spot.status n w.spot.next w.closed (steps.Poll n) z uses ≡ (if uses == 2 then taking z Takes else polled_once z uses)
+      acts w tied z uses =
+          here_act status.Open w.spot.status n w.spot.next w.closed (steps.Poll n) z uses refl (opened w tied) refl
+          ∙ ap (λ b. if b then (if uses == 1 then connecting n z Polls else Wrong) else (if uses == 2 then taking z Takes else polled_once z uses)) (later w tied)
+
+      by_skip : (b : Bool) → is_skip (kind_of a.call) ≡ b → PollsCall b login n a k x o us made → StepSo login t n (Joined true k x) made (steps.Poll n) o us
+      by_skip true e g =
+          let s : SkipsSo login t all n (steps.Poll n) refl k made o us = skips_so login t all n (steps.Poll n) refl k a x made o us kp rs (skip_call a.call e) has g in
+          record {
+            back = s.back;
+            forth = λ w tied. s.forth w tied.1 (acts w tied outcomes.Pending 1) (λ x. acts w tied (outcomes.Failed x) 1) (λ z. acts w tied z 2) tt;
+          }
+      by_skip false e g =
+          let s : OnceSo login t all n (steps.Poll n) refl k made o us = once_so login t all n (steps.Poll n) refl k a x made o us kp rs has g (may_end (shown g.after) a.call e) in
+          record {
+            back = s.back;
+            forth = λ w tied. s.forth w tied.1 (acts w tied o 1) tt;
+          }
   polls_on false k a x made o us kp once con (Some rows) rs has r =
       let s : GathersSo login t all n us a rows k o made = gathers login t all n us a rows k x o made kp rs has r in
       record {

@@ -7,6 +7,7 @@ use Rattle.my_reading.specs.Endings.{AreCalls}
 use Rattle.my_reading.specs.Reading.{reading}
 use Rattle.my_reading.specs.Tape.{Tape}
 use Rattle.my_script.specs.declared.step.Step.{Step}
+use Rattle.my_script.specs.Streams.{target}
 use Rattle.my_script.specs.declared.step.Step.TheVariants as steps
 use Rattle.my_script.specs.declared.transcript.Outcome.{Outcome}
 use Rattle.my_script.specs.declared.transcript.Outcome.TheVariants as outcomes
@@ -15,11 +16,11 @@ use Rattle.my_acts.specs.declared.act.Act.{Act}
 use Rattle.my_acts.specs.declared.act.Act.TheVariants.{Skips}
 use Rattle.my_acts.specs.declared.act.Status.{Status}
 use Rattle.my_acts.specs.declared.act.Status.TheVariants as status
-use Rattle.my_acts.specs.Acts.{act_ahead, act_here, act_of, act_there, dialed, refused, target}
+use Rattle.my_acts.specs.Acts.{act_ahead, act_here, act_of, act_there, act_with, dialed, is_missing, refused}
 use Rattle.my_client.specs.Kept.{Asked, nothing_kept}
 use Rattle.my_world.specs.World.{Plans}
 use Rattle.my_value.specs.RowParts.{RowParts}
-use Rattle.my_steps.specs.Grows.{At, Dials, DialsNext, IsRefused, StepGrows}
+use Rattle.my_steps.specs.Grows.{At, Dials, DialsNext, IsRefused, Misses, StepGrows}
 use Rattle.my_steps.specs.Handle.{Handle, Absent, Dialing, Joined, at_number, put_at}
 use Rattle.run_laws.proofs.Connecting.{AreOnce, at_once}
 use Rattle.my_run_judge.specs.declared.walk.Spot.{Spot}
@@ -28,8 +29,9 @@ use Rattle.my_run_judge.specs.Walks.{Walk}
 use Rattle.judge_laws.proofs.Going.{shown_tape}
 use Rattle.judge_laws.proofs.Tying.{AtWalk}
 use Rattle.judge_laws.proofs.Gathering.{HasTape}
-use Rattle.judge_laws.proofs.Stepping.{LineSo, OpenAs, Spotted, StepSo, Tied, is_there}
-use Rattle.judge_laws.proofs.Calling.{asks_drop, asks_next, asks_ping, asks_query, asks_quit, calls_so, collects_so, tells_so}
+use Rattle.judge_laws.proofs.Stepping.{LineSo, OpenAs, Spotted, StepSo, Tied, is_there, same_number}
+use Rattle.judge_laws.proofs.Calling.{asks_drop, asks_item, asks_next, asks_ping, asks_query, asks_quit, calls_so, collects_so, tells_so}
+use Rattle.judge_laws.proofs.Streaming.{lets_go_so, streams_so}
 use Rattle.judge_laws.proofs.Resuming.{cancels_so, dials_so, goes_on_so}
 
 -- tests on numbers
@@ -106,62 +108,71 @@ skips_there status.Idle n next closed step o uses e f = f
 skips_there status.Open n next closed step o uses e f = f
 skips_there (status.Gathers first) n next closed step o uses e f = f
 
+-- whether a stream is there or none
+either : (f : Bool → Bool) → f true ≡ false → f false ≡ false → (b : Bool) → f b ≡ false
+either f e g true = e
+either f e g false = g
+
+-- a step that isn't one of a stream that isn't there
+other_act : (n : ℕ) (there : Bool) (step : Step) → is_missing n there step ≡ false → (s : Status) (next : ℕ) (closed : Bool) (o : Outcome) (uses : ℕ) → act_with there s n next closed step o uses ≡ act_of s n next closed step o uses
+other_act n there step e s next closed o uses = ap (λ b. if b then refused s o uses else act_of s n next closed step o uses) e
+
 -- a line is right at a number, and the walk stands there after it
-pub record RunsLine (login : Login) (t : Tape) (n : ℕ) (ts : List Handle) (step : Step) (o : Outcome) (us : List Use) (w : Walk) : Type 0 where
+pub record RunsLine (login : Login) (t : Tape) (n : ℕ) (there : Bool) (ts : List Handle) (step : Step) (o : Outcome) (us : List Use) (w : Walk) : Type 0 where
   pub act : Act
-  pub act_is : act_of w.spot.status n w.spot.next w.closed step o (length us) ≡ act
+  pub act_is : act_with there w.spot.status n w.spot.next w.closed step o (length us) ≡ act
   pub right : ActRight login n (shown_tape t) w step o us act
   pub placed : Placed login t n ts (after_act login (shown_tape t) w o us act)
 
-pub record RunsSo (login : Login) (t : Tape) (n : ℕ) (hs ts : List Handle) (step : Step) (o : Outcome) (us : List Use) : Type 0 where
+pub record RunsSo (login : Login) (t : Tape) (n : ℕ) (there : Bool) (hs ts : List Handle) (step : Step) (o : Outcome) (us : List Use) : Type 0 where
   pub back : HasTape t (at_number hs n)
-  pub forth : (w : Walk) → Placed login t n hs w → RunsLine login t n ts step o us w
+  pub forth : (w : Walk) → Placed login t n hs w → RunsLine login t n there ts step o us w
 
 module _ (login : Login) (t : Tape) (all : AreCalls login (reading login t).calls) (n : ℕ) where
   -- a line that skips this number
-  skips_line : (hs ts : List Handle) (step : Step) (o : Outcome) (us : List Use) → n < length hs → n < length ts → at_number ts n ≡ at_number hs n
-      → ((s : Status) (next : ℕ) (closed : Bool) → act_there s n next closed step o (length us) (target step) ≡ Skips s) → HasTape t (at_number ts n) → RunsSo login t n hs ts step o us
-  skips_line hs ts step o us low lower same skips has = record {
+  skips_line : (there : Bool) (hs ts : List Handle) (step : Step) (o : Outcome) (us : List Use) → is_missing n there step ≡ false → n < length hs → n < length ts → at_number ts n ≡ at_number hs n
+      → ((s : Status) (next : ℕ) (closed : Bool) → act_there s n next closed step o (length us) (target step) ≡ Skips s) → HasTape t (at_number ts n) → RunsSo login t n there hs ts step o us
+  skips_line there hs ts step o us plain low lower same skips has = record {
     back = subst (HasTape t) same has;
     forth = λ w placed.
         let tied = placed.there low in
         record {
           act = Skips w.spot.status;
-          act_is = skips_there w.spot.status n w.spot.next w.closed step o (length us) (tied_there login t (at_number hs n) w tied) (skips w.spot.status w.spot.next w.closed);
+          act_is = other_act n there step plain w.spot.status w.spot.next w.closed o (length us) ∙ skips_there w.spot.status n w.spot.next w.closed step o (length us) (tied_there login t (at_number hs n) w tied) (skips w.spot.status w.spot.next w.closed);
           right = tt;
           placed = record { there = λ _. subst (λ (h : Handle). Tied login t h w) (sym same) tied; ahead = λ high. absurd (omega (arith, high, lower)) };
         };
   }
 
   -- a line before this number is dialed
-  ahead_line : (hs ts : List Handle) (step : Step) (o : Outcome) (us : List Use) → length hs ≤ n → length ts ≤ n
-      → act_ahead (n - length hs) n o (length us) (target step) ≡ Skips (status.Ahead (n - length ts)) → RunsSo login t n hs ts step o us
-  ahead_line hs ts step o us high higher skips = record {
+  ahead_line : (there : Bool) (hs ts : List Handle) (step : Step) (o : Outcome) (us : List Use) → is_missing n there step ≡ false → length hs ≤ n → length ts ≤ n
+      → act_ahead (n - length hs) n o (length us) (target step) ≡ Skips (status.Ahead (n - length ts)) → RunsSo login t n there hs ts step o us
+  ahead_line there hs ts step o us plain high higher skips = record {
     back = subst (HasTape t) (sym (past hs n high)) tt;
     forth = λ w placed.
         let ahead = placed.ahead high in
         record {
           act = Skips (status.Ahead (n - length ts));
-          act_is = ap (λ s. act_of s n w.spot.next w.closed step o (length us)) ahead.0 ∙ skips;
+          act_is = other_act n there step plain w.spot.status w.spot.next w.closed o (length us) ∙ ap (λ s. act_of s n w.spot.next w.closed step o (length us)) ahead.0 ∙ skips;
           right = tt;
           placed = record { there = λ low. absurd (omega (arith, low, higher)); ahead = λ _. (refl, ahead.1) };
         };
   }
 
   -- a step that names a number
-  module _ (m : ℕ) (R : Handle → Outcome → List Use → Handle → Type 0) (step : Step) (named : target step ≡ Some m) (absent : (o : Outcome) (us : List Use) (made : Handle) → R Absent o us made → IsRefused Absent o us made) where
+  module _ (there : Bool) (m : ℕ) (R : Handle → Outcome → List Use → Handle → Type 0) (step : Step) (plain : is_missing n there step ≡ false) (named : target step ≡ Some m) (absent : (o : Outcome) (us : List Use) (made : Handle) → R Absent o us made → IsRefused Absent o us made) where
     named_line : (hs ts : List Handle) (o : Outcome) (us : List Use) → ((made : Handle) → HasTape t made → R (at_number hs m) o us made → m ≡ n → StepSo login t n (at_number hs m) made step o us)
-        → At m R hs o us ts → HasTape t (at_number ts n) → RunsSo login t n hs ts step o us
+        → At m R hs o us ts → HasTape t (at_number ts n) → RunsSo login t n there hs ts step o us
     named_line hs ts o us here r has = by_number (less_or n (length hs)) (same_or m n)
       where
         same_length : length ts ≡ length hs
         same_length = ap length r.others ∙ put_length m r.made hs
 
-        elsewhere : n < length hs → ((m == n) ≡ false) → m ≢ n → RunsSo login t n hs ts step o us
-        elsewhere low e f = skips_line hs ts step o us low (subst (λ z. n < z) (sym same_length) low) (ap (λ (xs : List Handle). at_number xs n) r.others ∙ put_there m n r.made hs f)
+        elsewhere : n < length hs → ((m == n) ≡ false) → m ≢ n → RunsSo login t n there hs ts step o us
+        elsewhere low e f = skips_line there hs ts step o us plain low (subst (λ z. n < z) (sym same_length) low) (ap (λ (xs : List Handle). at_number xs n) r.others ∙ put_there m n r.made hs f)
             (λ s next closed. ap (act_there s n next closed step o (length us)) named ∙ ap (λ b. if b then act_here s n next closed step o (length us) else Skips s) e) has
 
-        at_it : n < length hs → m ≡ n → RunsSo login t n hs ts step o us
+        at_it : n < length hs → m ≡ n → RunsSo login t n there hs ts step o us
         at_it low e =
             let low_m : m < length hs = subst (λ z. z < length hs) (sym e) low in
             let made_is : at_number ts n ≡ r.made = ap (at_number ts) (sym e) ∙ ap (λ (xs : List Handle). at_number xs m) r.others ∙ put_here m r.made hs low_m in
@@ -173,14 +184,14 @@ module _ (login : Login) (t : Tape) (all : AreCalls login (reading login t).call
                   let l = s.forth w (subst (λ (h : Handle). Tied login t h w) (sym was) (placed.there low)) in
                   record {
                     act = l.act;
-                    act_is = l.act_is;
+                    act_is = other_act n there step plain w.spot.status w.spot.next w.closed o (length us) ∙ l.act_is;
                     right = l.right;
                     placed = record { there = λ _. subst (λ (h : Handle). Tied login t h (after_act login (shown_tape t) w o us l.act)) (sym made_is) l.tied; ahead = λ high. absurd (omega (arith, high, low, same_length)) };
                   };
             }
 
-        not_yet : length hs ≤ n → RunsSo login t n hs ts step o us
-        not_yet high = ahead_line hs ts step o us high (subst (λ z. z ≤ n) (sym same_length) high) (by_target (less_or m (length hs)) ∙ ap (λ z. Skips (status.Ahead (n - z))) (sym same_length))
+        not_yet : length hs ≤ n → RunsSo login t n there hs ts step o us
+        not_yet high = ahead_line there hs ts step o us plain high (subst (λ z. z ≤ n) (sym same_length) high) (by_target (less_or m (length hs)) ∙ ap (λ z. Skips (status.Ahead (n - z))) (sym same_length))
           where
             back_to : n - (n - length hs) ≡ length hs
             back_to = omega arith
@@ -198,19 +209,22 @@ module _ (login : Login) (t : Tape) (all : AreCalls login (reading login t).call
                 ∙ ap (λ (z : Outcome). refused (status.Ahead (n - length hs)) z (length us)) no.outcome
                 ∙ ap (λ (vs : List Use). refused (status.Ahead (n - length hs)) outcomes.NoSuchHandle (length vs)) no.uses
 
-        by_number : ((nat_lt n (length hs) ≡ true) × (n < length hs)) ⊎ ((nat_lt n (length hs) ≡ false) × (length hs ≤ n)) → (m ≡ n) ⊎ (((m == n) ≡ false) × (m ≢ n)) → RunsSo login t n hs ts step o us
+        by_number : ((nat_lt n (length hs) ≡ true) × (n < length hs)) ⊎ ((nat_lt n (length hs) ≡ false) × (length hs ≤ n)) → (m ≡ n) ⊎ (((m == n) ≡ false) × (m ≢ n)) → RunsSo login t n there hs ts step o us
         by_number (inl low) (inl e) = at_it low.1 e
         by_number (inl low) (inr e) = elsewhere low.1 e.0 e.1
         by_number (inr high) e = not_yet high.1
 
   -- a step that dials
-  conn_line : (plans : Plans) (hs ts : List Handle) (o : Outcome) (us : List Use) → DialsNext login plans hs o us ts → HasTape t (at_number ts n) → RunsSo login t n hs ts steps.Conn o us
-  conn_line plans hs ts o us r has = by_number (less_or n (length hs)) (same_or (length hs) n)
+  conn_line : (there : Bool) (plans : Plans) (hs ts : List Handle) (o : Outcome) (us : List Use) → DialsNext login plans hs o us ts → HasTape t (at_number ts n) → RunsSo login t n there hs ts steps.Conn o us
+  conn_line there plans hs ts o us r has = by_number (less_or n (length hs)) (same_or (length hs) n)
     where
+      plain : is_missing n there steps.Conn ≡ false
+      plain = either (λ b. is_missing n b steps.Conn) refl refl there
+
       grown : length ts ≡ length hs + 1
       grown = ap length r.others ∙ length-append hs (r.made ∷ [])
 
-      at_it : length hs ≡ n → RunsSo login t n hs ts steps.Conn o us
+      at_it : length hs ≡ n → RunsSo login t n there hs ts steps.Conn o us
       at_it e =
           let none : n - length hs ≡ zero = omega arith in
           let made_is : at_number ts n ≡ r.made = ap (at_number ts) (sym e) ∙ ap (λ (xs : List Handle). at_number xs (length hs)) r.others ∙ push_last hs r.made in
@@ -224,16 +238,16 @@ module _ (login : Login) (t : Tape) (all : AreCalls login (reading login t).call
                 (λ z uses. ap (λ s. act_of s n w.spot.next w.closed steps.Conn z uses) (ahead.0 ∙ ap status.Ahead none)) in
                 record {
                   act = l.act;
-                  act_is = l.act_is;
+                  act_is = other_act n there steps.Conn plain w.spot.status w.spot.next w.closed o (length us) ∙ l.act_is;
                   right = l.right;
                   placed = record { there = λ _. subst (λ (h : Handle). Tied login t h (after_act login (shown_tape t) w o us l.act)) (sym made_is) l.tied; ahead = λ up. absurd (omega (arith, up, grown, e)) };
                 };
           }
 
-      by_number : ((nat_lt n (length hs) ≡ true) × (n < length hs)) ⊎ ((nat_lt n (length hs) ≡ false) × (length hs ≤ n)) → (length hs ≡ n) ⊎ (((length hs == n) ≡ false) × (length hs ≢ n)) → RunsSo login t n hs ts steps.Conn o us
+      by_number : ((nat_lt n (length hs) ≡ true) × (n < length hs)) ⊎ ((nat_lt n (length hs) ≡ false) × (length hs ≤ n)) → (length hs ≡ n) ⊎ (((length hs == n) ≡ false) × (length hs ≢ n)) → RunsSo login t n there hs ts steps.Conn o us
       by_number (inl low) e =
           let lower : n < length ts = omega (arith, low.1, grown) in
-          skips_line hs ts steps.Conn o us low.1 lower (ap (λ (xs : List Handle). at_number xs n) r.others ∙ push_before hs r.made n low.1) (λ s next closed. refl) has
+          skips_line there hs ts steps.Conn o us plain low.1 lower (ap (λ (xs : List Handle). at_number xs n) r.others ∙ push_before hs r.made n low.1) (λ s next closed. refl) has
       by_number (inr high) (inl e) = at_it e
       by_number (inr high) (inr e) =
           let other = e.1 in
@@ -241,26 +255,72 @@ module _ (login : Login) (t : Tape) (all : AreCalls login (reading login t).call
           let higher : length ts ≤ n = omega (arith, above, grown) in
           let some : (n - length hs) == 0 ≡ false = grind (arith, nat_tests) in
           let less : (n - length hs) - 1 ≡ n - length ts = omega (arith, grown) in
-          ahead_line hs ts steps.Conn o us high.1 higher (ap (λ b. if b then dialed n o (length us) else Skips (status.Ahead ((n - length hs) - 1))) some ∙ ap (λ z. Skips (status.Ahead z)) less)
+          ahead_line there hs ts steps.Conn o us plain high.1 higher (ap (λ b. if b then dialed n o (length us) else Skips (status.Ahead ((n - length hs) - 1))) some ∙ ap (λ z. Skips (status.Ahead z)) less)
+
+  -- a step of a stream that isn't there
+  found_there : (f : Bool → Bool) (m : ℕ) → f true ≡ false → f false ≡ (m == n) → (there : Bool) → ((let q : Option ℕ = Some m in q) ≡ Some n → true ≡ there) → f there ≡ false
+  found_there f m e g true same = e
+  found_there f m e g false same = by_same_number (same_or m n)
+    where
+      by_same_number : (m ≡ n) ⊎ (((m == n) ≡ false) × (m ≢ n)) → f false ≡ false
+      by_same_number (inl is) = absurd (let no : true ≡ false = same (ap Some is) in cc)
+      by_same_number (inr other) = g ∙ other.0
+
+  put_back : (m : ℕ) (hs : List Handle) → put_at m (at_number hs m) hs ≡ hs
+  put_back m [] = refl
+  put_back zero (h ∷ hs) = refl
+  put_back (suc m) (h ∷ hs) = ap (λ xs. h ∷ xs) (put_back m hs)
+
+  missed_line : (there : Bool) (m : ℕ) (step : Step) → target step ≡ Some m → is_missing n true step ≡ false → ((b : Bool) → is_missing n false step ≡ (m == n)) → (hs ts : List Handle) (o : Outcome) (us : List Use) → (target step ≡ Some n → false ≡ there)
+      → At m Misses hs o us ts → HasTape t (at_number ts n) → RunsSo login t n there hs ts step o us
+  missed_line there m step named first second hs ts o us same r has = by_same_number (same_or m n)
+    where
+      unmoved : ts ≡ hs
+      unmoved = r.others ∙ ap (λ (h : Handle). put_at m h hs) r.does.same ∙ put_back m hs
+
+      by_same_number : (m ≡ n) ⊎ (((m == n) ≡ false) × (m ≢ n)) → RunsSo login t n there hs ts step o us
+      by_same_number (inr other) = named_line there m Misses step (either (λ b. is_missing n b step) first (second true ∙ other.0) there) named (λ z vs made e. e) hs ts o us (λ made h d e. absurd (other.1 e)) r has
+      by_same_number (inl is) = record {
+        back = subst (λ (xs : List Handle). HasTape t (at_number xs n)) unmoved has;
+        forth = λ w placed. record {
+          act = Skips w.spot.status;
+          act_is =
+              let here : is_missing n there step ≡ true = ap (λ b. is_missing n b step) (sym (same (named ∙ ap Some is))) ∙ second true ∙ ap (λ z. z == n) is ∙ same_number n in
+              ap (λ b. if b then refused w.spot.status o (length us) else act_of w.spot.status n w.spot.next w.closed step o (length us)) here
+              ∙ ap (λ (z : Outcome). refused w.spot.status z (length us)) r.does.outcome
+              ∙ ap (λ (vs : List Use). refused w.spot.status outcomes.NoSuchHandle (length vs)) r.does.uses;
+          right = tt;
+          placed = subst (λ (xs : List Handle). Placed login t n xs w) (sym unmoved) placed;
+        };
+      }
 
   -- each step
-  pub line_so : (plans : Plans) (hs ts : List Handle) (step : Step) (o : Outcome) (us : List Use) → AreOnce hs → StepGrows login plans hs step o us ts → HasTape t (at_number ts n) → RunsSo login t n hs ts step o us
-  line_so plans hs ts steps.Conn o us once r has = conn_line plans hs ts o us r has
-  line_so plans hs ts (steps.Query m text) o us once r has = named_line m _ (steps.Query m text) refl (λ z vs made e. e) hs ts o us
+  pub line_so : (there found : Bool) (plans : Plans) (hs ts : List Handle) (step : Step) (o : Outcome) (us : List Use) → (target step ≡ Some n → found ≡ there) → AreOnce hs → StepGrows login plans found hs step o us ts → HasTape t (at_number ts n)
+      → RunsSo login t n there hs ts step o us
+  line_so there found plans hs ts steps.Conn o us same once r has = conn_line there plans hs ts o us r has
+  line_so there found plans hs ts (steps.Query m text) o us same once r has = named_line there m _ (steps.Query m text) (either (λ b. is_missing n b (steps.Query m text)) refl refl there) refl (λ z vs made e. e) hs ts o us
       (λ made h d e. subst (λ z. StepSo login t z (at_number hs m) made (steps.Query m text) o us) e (calls_so login t all m (steps.Query m text) (calls.Query text) (asks_query m text) (at_number hs m) made o us h d)) r has
-  line_so plans hs ts (steps.Next m) o us once r has = named_line m _ (steps.Next m) refl (λ z vs made e. e) hs ts o us
+  line_so there found plans hs ts (steps.Next m) o us same once r has = named_line there m _ (steps.Next m) (either (λ b. is_missing n b (steps.Next m)) refl refl there) refl (λ z vs made e. e) hs ts o us
       (λ made h d e. subst (λ z. StepSo login t z (at_number hs m) made (steps.Next m) o us) e (calls_so login t all m (steps.Next m) calls.NextRow (asks_next m) (at_number hs m) made o us h d)) r has
-  line_so plans hs ts (steps.Collect m) o us once r has = named_line m _ (steps.Collect m) refl (λ z vs made e. e) hs ts o us
+  line_so there found plans hs ts (steps.Collect m) o us same once r has = named_line there m _ (steps.Collect m) (either (λ b. is_missing n b (steps.Collect m)) refl refl there) refl (λ z vs made e. e) hs ts o us
       (λ made h d e. subst (λ z. StepSo login t z (at_number hs m) made (steps.Collect m) o us) e (collects_so login t all m (at_number hs m) made o us h d)) r has
-  line_so plans hs ts (steps.Drop m) o us once r has = named_line m _ (steps.Drop m) refl (λ z vs made e. e) hs ts o us
+  line_so there found plans hs ts (steps.Drop m) o us same once r has = named_line there m _ (steps.Drop m) (either (λ b. is_missing n b (steps.Drop m)) refl refl there) refl (λ z vs made e. e) hs ts o us
       (λ made h d e. subst (λ z. StepSo login t z (at_number hs m) made (steps.Drop m) o us) e (calls_so login t all m (steps.Drop m) calls.DropResult (asks_drop m) (at_number hs m) made o us h d)) r has
-  line_so plans hs ts (steps.Ping m) o us once r has = named_line m _ (steps.Ping m) refl (λ z vs made e. e) hs ts o us
+  line_so there found plans hs ts (steps.Ping m) o us same once r has = named_line there m _ (steps.Ping m) (either (λ b. is_missing n b (steps.Ping m)) refl refl there) refl (λ z vs made e. e) hs ts o us
       (λ made h d e. subst (λ z. StepSo login t z (at_number hs m) made (steps.Ping m) o us) e (calls_so login t all m (steps.Ping m) calls.Ping (asks_ping m) (at_number hs m) made o us h d)) r has
-  line_so plans hs ts (steps.Quit m) o us once r has = named_line m _ (steps.Quit m) refl (λ z vs made e. e) hs ts o us
+  line_so there found plans hs ts (steps.Quit m) o us same once r has = named_line there m _ (steps.Quit m) (either (λ b. is_missing n b (steps.Quit m)) refl refl there) refl (λ z vs made e. e) hs ts o us
       (λ made h d e. subst (λ z. StepSo login t z (at_number hs m) made (steps.Quit m) o us) e (calls_so login t all m (steps.Quit m) calls.Quit (asks_quit m) (at_number hs m) made o us h d)) r has
-  line_so plans hs ts (steps.Fields m) o us once r has = named_line m _ (steps.Fields m) refl (λ z vs made e. e) hs ts o us
+  line_so there found plans hs ts (steps.Stream m) o us same once r has = named_line there m _ (steps.Stream m) (either (λ b. is_missing n b (steps.Stream m)) refl refl there) refl (λ z vs made e. e) hs ts o us
+      (λ made h d e. subst (λ z. StepSo login t z (at_number hs m) made (steps.Stream m) o us) e (streams_so login t all m (at_number hs m) made o us h d)) r has
+  line_so there true plans hs ts (steps.Item m) o us same once r has = named_line there m _ (steps.Item m) (found_there (λ b. is_missing n b (steps.Item m)) m refl refl there same) refl (λ z vs made e. e) hs ts o us
+      (λ made h d e. subst (λ z. StepSo login t z (at_number hs m) made (steps.Item m) o us) e (calls_so login t all m (steps.Item m) calls.NextRow (asks_item m) (at_number hs m) made o us h d)) r has
+  line_so there false plans hs ts (steps.Item m) o us same once r has = missed_line there m (steps.Item m) refl refl (λ b. refl) hs ts o us same r has
+  line_so there true plans hs ts (steps.Unstream m) o us same once r has = named_line there m _ (steps.Unstream m) (found_there (λ b. is_missing n b (steps.Unstream m)) m refl refl there same) refl (λ z vs made e. e) hs ts o us
+      (λ made h d e. subst (λ z. StepSo login t z (at_number hs m) made (steps.Unstream m) o us) e (lets_go_so login t all m (at_number hs m) made o us h d)) r has
+  line_so there false plans hs ts (steps.Unstream m) o us same once r has = missed_line there m (steps.Unstream m) refl refl (λ b. refl) hs ts o us same r has
+  line_so there found plans hs ts (steps.Fields m) o us same once r has = named_line there m _ (steps.Fields m) (either (λ b. is_missing n b (steps.Fields m)) refl refl there) refl (λ z vs made e. e) hs ts o us
       (λ made h d e. subst (λ z. StepSo login t z (at_number hs m) made (steps.Fields m) o us) e (tells_so login t all m (at_number hs m) made o us h d)) r has
-  line_so plans hs ts (steps.Poll m) o us once r has = named_line m _ (steps.Poll m) refl (λ z vs made e. e) hs ts o us
+  line_so there found plans hs ts (steps.Poll m) o us same once r has = named_line there m _ (steps.Poll m) (either (λ b. is_missing n b (steps.Poll m)) refl refl there) refl (λ z vs made e. e) hs ts o us
       (λ made h d e. subst (λ z. StepSo login t z (at_number hs m) made (steps.Poll m) o us) e (goes_on_so login t all m (at_number hs m) made o us (at_once login hs m once) h d)) r has
-  line_so plans hs ts (steps.Cancel m) o us once r has = named_line m _ (steps.Cancel m) refl (λ z vs made e. e) hs ts o us
+  line_so there found plans hs ts (steps.Cancel m) o us same once r has = named_line there m _ (steps.Cancel m) (either (λ b. is_missing n b (steps.Cancel m)) refl refl there) refl (λ z vs made e. e) hs ts o us
       (λ made h d e. subst (λ z. StepSo login t z (at_number hs m) made (steps.Cancel m) o us) e (cancels_so login t all m (at_number hs m) made o us (at_once login hs m once) h d)) r has

@@ -15,6 +15,7 @@ use Rattle.my_reading.specs.Place.{facts_at}
 use Rattle.my_reading.specs.Reading.{reading}
 use Rattle.my_reading.specs.Tape.{Tape}
 use Rattle.my_script.specs.declared.step.Step.{Step}
+use Rattle.my_script.specs.Streams.{target}
 use Rattle.my_script.specs.declared.transcript.Outcome.{Outcome}
 use Rattle.my_script.specs.declared.transcript.Outcome.TheVariants as outcomes
 use Rattle.my_script.specs.declared.transcript.TapeCall.{TapeCall as ShownCall}
@@ -23,7 +24,7 @@ use Rattle.my_acts.specs.declared.act.Act.{Act}
 use Rattle.my_acts.specs.declared.act.Act.TheVariants.{Skips, Polls, Ends}
 use Rattle.my_acts.specs.declared.act.Status.{Status}
 use Rattle.my_acts.specs.declared.act.Status.TheVariants as status
-use Rattle.my_acts.specs.Acts.{act_here, act_of, act_there, at_dialing, at_gathering, at_idle, at_open, begun_by, target, polled}
+use Rattle.my_acts.specs.Acts.{act_here, act_of, act_there, at_dialing, at_gathering, at_idle, at_open, polled}
 use Rattle.my_client.specs.declared.poll.After.{After}
 use Rattle.my_client.specs.declared.poll.After.TheVariants as after
 use Rattle.my_client.specs.declared.tape.Said.TheVariants as says
@@ -32,7 +33,7 @@ use Rattle.my_client.specs.Kept.{Asked, Kept, nothing_kept, asking, asked_by, en
 use Rattle.my_steps.specs.Grows.{shown, IsClosed, IsRefused, PolledOnce}
 use Rattle.my_steps.specs.Handle.{Handle, Absent, Dialing, Joined}
 use Rattle.my_run_judge.specs.declared.walk.Spot.{Spot}
-use Rattle.my_run_judge.specs.Lines.{ActRight, IsBegun, IsShownAt, after_last_poll, IsToldBy, after_act, after_polls, first_of, is_pending}
+use Rattle.my_run_judge.specs.Lines.{ActRight, IsBegun, IsShownAt, MayEnd, after_last_poll, IsToldBy, after_act, after_polls, begun_in, first_of, is_pending}
 use Rattle.my_run_judge.specs.Walks.{Walk, with_status}
 use Rattle.judge_laws.proofs.Going.{GoesOn, before_begin, before_end, call_here, call_of, done_by, shown_call, shown_tape}
 use Rattle.judge_laws.proofs.Tying.{AtWalk, at_begin, at_end, is_ended}
@@ -135,11 +136,12 @@ module _ (login : Login) (t : Tape) (all : AreCalls login (reading login t).call
       by_rows (Some rows) w to (first, low, e, g) at = refused_line (status.Gathers first) (Joined true k x) w refl e (gathers first w.spot.next) (to (with_status (status.Gathers first) w).spot (first, low, refl, g), at)
 
   -- a closed connection refuses a call
-  module _ (call : Call) (begun : begun_by step ≡ Some call) where
+  module _ (call : Call) where
     pub closed_so : (k : Kept) (x : Looks) (made : Handle) (o : Outcome) (us : List Use) → k.pending ≡ None → HasTape t made → IsClosed k x call o us made
+        → ((w : Walk) → AtWalk login k w → begun_in w step ≡ Some call)
         → ((w : Walk) → AtWalk login k w → (e : Outcome) → o ≡ e → at_idle w.closed w.spot.next step (outcomes.Failed connection_closed) 0 ≡ Ends status.Idle)
         → StepSo login t n (Joined true k x) made step o us
-    closed_so k x made o us none has r acts =
+    closed_so k x made o us none has r begun acts =
         let a = asked_by k call in
         let f = asking k call None in
         let said = says.Failed connection_closed in
@@ -157,8 +159,8 @@ module _ (login : Login) (t : Tape) (all : AreCalls login (reading login t).call
                 act = Ends status.Idle;
                 act_is = here_act status.Idle w.spot.status n w.spot.next w.closed step (outcomes.Failed connection_closed) 0 refl e named ∙ acts w tied.1 o refl;
                 right = (
-                  subst (λ b. IsBegun b (slice_get (map shown_call t.calls) w.spot.next)) (sym begun) (subst (IsBegun (Some call)) (sym here) refl),
-                  subst (λ c. IsShownAt (outcomes.Failed connection_closed) c []) (sym here) refl,
+                  subst (λ b. IsBegun b (slice_get (map shown_call t.calls) w.spot.next)) (sym (begun w tied.1)) (subst (IsBegun (Some call)) (sym here) refl),
+                  subst (λ c. IsShownAt (outcomes.Failed connection_closed) c []) (sym here) (refl, tt),
                   is_ended login t all f a said false h.0 w refl h.1 at tt,
                 );
                 tied = (refl, at_end login t all f a said false h.0 w refl h.1 at tt);
@@ -166,7 +168,7 @@ module _ (login : Login) (t : Tape) (all : AreCalls login (reading login t).call
         }
 
   -- the open call is polled once
-  shown_acts : (p : After) → polled (shown p) ≡ Polls (if is_pending (shown p) then status.Open else status.Idle)
+  pub shown_acts : (p : After) → polled (shown p) ≡ Polls (if is_pending (shown p) then status.Open else status.Idle)
   shown_acts after.Pending = refl
   shown_acts (after.Answered answers.Ready) = refl
   shown_acts (after.Answered (answers.Row row)) = refl
@@ -174,7 +176,7 @@ module _ (login : Login) (t : Tape) (all : AreCalls login (reading login t).call
   shown_acts (after.Answered answers.NoSet) = refl
   shown_acts (after.Failed e) = refl
 
-  shown_by : (p : After) (before : List ShownCall) → ShownBy (shown p) before p
+  pub shown_by : (p : After) (before : List ShownCall) → ShownBy (shown p) before p
   shown_by after.Pending before = refl
   shown_by (after.Answered answers.Ready) before = (refl, refl)
   shown_by (after.Answered (answers.Row row)) before = (refl, refl)
@@ -182,7 +184,7 @@ module _ (login : Login) (t : Tape) (all : AreCalls login (reading login t).call
   shown_by (after.Answered answers.NoSet) before = (refl, refl)
   shown_by (after.Failed e) before = (refl, refl)
 
-  shown_told : (p : After) (facts : Facts) → IsToldBy facts (shown p)
+  pub shown_told : (p : After) (facts : Facts) → IsToldBy facts (shown p)
   shown_told after.Pending facts = tt
   shown_told (after.Answered answers.Ready) facts = tt
   shown_told (after.Answered (answers.Row row)) facts = tt
@@ -190,7 +192,7 @@ module _ (login : Login) (t : Tape) (all : AreCalls login (reading login t).call
   shown_told (after.Answered answers.NoSet) facts = tt
   shown_told (after.Failed e) facts = tt
 
-  shown_spot : (a : Asked) (f end : Kept) (u : Met) (stop : LinkStop) (p : After) → a.rows ≡ None → f.pending ≡ Some a → PollEnds login a f u stop p end
+  pub shown_spot : (a : Asked) (f end : Kept) (u : Met) (stop : LinkStop) (p : After) → a.rows ≡ None → f.pending ≡ Some a → PollEnds login a f u stop p end
       → (s : Spot) → Spotted t true end.pending (record { status = (if is_pending (shown p) then status.Open else status.Idle); next = s.next; from = s.from; taken = s.taken })
   shown_spot a f end u stop after.Pending nr fp e s =
       subst (λ q. Spotted t true q (record { status = status.Open; next = s.next; from = s.from; taken = s.taken })) (sym (ap (λ (z : Kept). z.pending) e.0 ∙ fp))
@@ -203,22 +205,22 @@ module _ (login : Login) (t : Tape) (all : AreCalls login (reading login t).call
 
   pub record OnceSo (k : Kept) (made : Handle) (o : Outcome) (us : List Use) : Type 0 where
     pub back : HasRest t k
-    pub forth : (w : Walk) → AtWalk login k w → ((z : Outcome) → act_of w.spot.status n w.spot.next w.closed step z 1 ≡ polled z)
-        → IsBegun (begun_by step) (slice_get (map shown_call t.calls) w.spot.next) → LineSo login t n made step o us w
+    pub forth : (w : Walk) → AtWalk login k w → act_of w.spot.status n w.spot.next w.closed step o 1 ≡ polled o
+        → IsBegun (begun_in w step) (slice_get (map shown_call t.calls) w.spot.next) → LineSo login t n made step o us w
 
-  pub once_so : (k : Kept) (a : Asked) (x : Looks) (made : Handle) (o : Outcome) (us : List Use) → k.pending ≡ Some a → a.rows ≡ None → HasTape t made → PolledOnce login n a k x o us made → OnceSo k made o us
-  once_so k a x made o us kp nr has r =
+  pub once_so : (k : Kept) (a : Asked) (x : Looks) (made : Handle) (o : Outcome) (us : List Use) → k.pending ≡ Some a → a.rows ≡ None → HasTape t made → (r : PolledOnce login n a k x o us made) → MayEnd (shown r.after) a.call → OnceSo k made o us
+  once_so k a x made o us kp nr has r may =
       let h : HasRest t r.end = subst (HasTape t) r.left has in
       record {
         back = poll_back login t all a k r.end x r.link r.used r.after kp r.polled h;
         forth = λ w at acts begun.
             let s : LastSo login t all a k r.end x r.link r.used r.after kp r.polled h n r.number w at (shown r.after) (first_of w.spot.status w.spot.next) =
-            last_poll login t all a k r.end x r.link r.used r.after kp r.polled h n r.number w at (shown r.after) (first_of w.spot.status w.spot.next) (shown_by r.after _) in
+            last_poll login t all a k r.end x r.link r.used r.after kp r.polled h n r.number w at (shown r.after) (first_of w.spot.status w.spot.next) may (shown_by r.after _) in
             subst (λ (z : Handle). LineSo login t n z step o us w) (sym r.left)
             (subst (λ (vs : List Use). LineSo login t n (Joined true r.end r.link) step o vs w) (sym r.uses)
             (subst (λ (z : Outcome). LineSo login t n (Joined true r.end r.link) step z (r.used ∷ []) w) (sym r.outcome) (record {
               act = Polls (if is_pending (shown r.after) then status.Open else status.Idle);
-              act_is = acts (shown r.after) ∙ shown_acts r.after;
+              act_is = subst (λ (z : Outcome). act_of w.spot.status n w.spot.next w.closed step z 1 ≡ polled z) r.outcome acts ∙ shown_acts r.after;
               right = (begun, s.right, shown_told r.after (facts_at login (after_polls login (shown_tape t) (shown r.after) (r.used ∷ []) w).place));
               tied = (shown_spot a r.polled.following r.end r.used.met r.polled.stop r.after nr r.polled.pending r.polled.ends (after_last_poll login (shown_tape t) (shown r.after) r.used w).spot, s.after_is);
             })));

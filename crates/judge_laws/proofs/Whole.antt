@@ -7,16 +7,20 @@ use Rattle.my_reading.specs.Endings.{AreCalls, IsCall}
 use Rattle.my_reading.specs.Reading.{reading}
 use Rattle.my_reading.specs.Tape.{Span, Tape, between}
 use Rattle.my_script.specs.declared.step.Step.{Step}
+use Rattle.my_script.specs.declared.stream.Stream.{Stream}
+use Rattle.my_script.specs.declared.stream.Stream.TheVariants.{Without}
+use Rattle.my_script.specs.Streams.{is_there, stream_by, target}
 use Rattle.my_script.specs.declared.transcript.StepAnswer.{StepAnswer}
 use Rattle.my_acts.specs.declared.act.Status.{Status}
 use Rattle.my_acts.specs.declared.act.Status.TheVariants as status
-use Rattle.my_acts.specs.Acts.{act_of}
+use Rattle.my_acts.specs.declared.act.Act.{Act}
+use Rattle.my_acts.specs.Acts.{act_with}
 use Rattle.my_client.specs.Kept.{Asked, Kept, nothing_kept}
 use Rattle.my_client.specs.Reads.{calls_kept, tape_kept}
 use Rattle.my_judge.specs.Reads.{read_of}
 use Rattle.my_judge.specs.Settled.{settled}
 use Rattle.my_world.specs.World.{Plans}
-use Rattle.my_steps.specs.Grows.{AreGrown, Line, handles_after}
+use Rattle.my_steps.specs.Grows.{AreGrown, Line, handles_after, is_streamed, stream_of}
 use Rattle.my_steps.specs.Handle.{Handle, Absent, Dialing, Joined, at_number}
 use Rattle.my_run.specs.Headline.{AnswerView, answer_view, answers_of, steps_of}
 use Rattle.run_laws.proofs.Connecting.{grown_once}
@@ -30,31 +34,34 @@ use Rattle.judge_laws.proofs.Stepping.{OpenAs, Spotted, Tied}
 use Rattle.judge_laws.proofs.Running.{Placed, RunsLine, RunsSo, line_so}
 
 -- the lines, by what is shown of their answers
-abbrev LineShown : Login → ℕ → TapeSeen → ℕ → Walk → Step → AnswerView → Type 0
-LineShown login n t k w s v = (v.number ≡ k + 1) × ActRight login n t w s v.outcome v.uses (act_of w.spot.status n w.spot.next w.closed s v.outcome (length v.uses))
+abbrev act_shown : ℕ → Stream → Walk → Step → AnswerView → Act
+act_shown n s w step v = act_with (is_there s) w.spot.status n w.spot.next w.closed step v.outcome (length v.uses)
 
-abbrev after_shown : Login → ℕ → TapeSeen → Walk → Step → AnswerView → Walk
-after_shown login n t w s v = after_act login t w v.outcome v.uses (act_of w.spot.status n w.spot.next w.closed s v.outcome (length v.uses))
+abbrev LineShown : Login → ℕ → TapeSeen → ℕ → Stream → Walk → Step → AnswerView → Type 0
+LineShown login n t k s w step v = (v.number ≡ k + 1) × ActRight login n t w step v.outcome v.uses (act_shown n s w step v)
 
-abbrev pub AreShown : Login → ℕ → TapeSeen → ℕ → Walk → List Step → List AnswerView → Type 0
-AreShown login n t k w [] [] = IsOver login t w w.spot.status
-AreShown login n t k w [] (v ∷ vs) = ⊥
-AreShown login n t k w (s ∷ ss) [] = ⊥
-AreShown login n t k w (s ∷ ss) (v ∷ vs) = LineShown login n t k w s v × AreShown login n t (k + 1) (after_shown login n t w s v) ss vs
+abbrev after_shown : Login → ℕ → TapeSeen → Stream → Walk → Step → AnswerView → Walk
+after_shown login n t s w step v = after_act login t w v.outcome v.uses (act_shown n s w step v)
 
-pub shown_lines : (login : Login) (n : ℕ) (t : TapeSeen) (k : ℕ) (w : Walk) (ss : List Step) (bs : List StepAnswer) → AreShown login n t k w ss (map answer_view bs) → AreLines login n t k w ss bs
-shown_lines login n t k w [] [] r = r
-shown_lines login n t k w [] (b ∷ bs) r = r
-shown_lines login n t k w (s ∷ ss) [] r = r
-shown_lines login n t k w (s ∷ ss) (b ∷ bs) r = (r.0, shown_lines login n t (k + 1) _ ss bs r.1)
+abbrev pub AreShown : Login → ℕ → TapeSeen → ℕ → Stream → Walk → List Step → List AnswerView → Type 0
+AreShown login n t k s w [] [] = IsOver login t w w.spot.status
+AreShown login n t k s w [] (v ∷ vs) = ⊥
+AreShown login n t k s w (step ∷ ss) [] = ⊥
+AreShown login n t k s w (step ∷ ss) (v ∷ vs) = LineShown login n t k s w step v × AreShown login n t (k + 1) (stream_by n s step v.outcome) (after_shown login n t s w step v) ss vs
+
+pub shown_lines : (login : Login) (n : ℕ) (t : TapeSeen) (k : ℕ) (s : Stream) (w : Walk) (ss : List Step) (bs : List StepAnswer) → AreShown login n t k s w ss (map answer_view bs) → AreLines login n t k s w ss bs
+shown_lines login n t k s w [] [] r = r
+shown_lines login n t k s w [] (b ∷ bs) r = r
+shown_lines login n t k s w (step ∷ ss) [] r = r
+shown_lines login n t k s w (step ∷ ss) (b ∷ bs) r = (r.0, shown_lines login n t (k + 1) _ _ ss bs r.1)
 
 module _ (login : Login) (plans : Plans) (t : Tape) (all : AreCalls login (reading login t).calls) (n : ℕ) where
   -- after these lines
   pub record RanSo (ls : List Line) : Type 0 where
     pub walk : Walk
     pub placed : Placed login t n (handles_after ls) walk
-    pub reaches : (ss : List Step) (vs : List AnswerView) → AreShown login n (shown_tape t) (length ls) walk ss vs
-        → AreShown login n (shown_tape t) 0 (start login n) (steps_of ls ++ ss) (answers_of ls ++ vs)
+    pub reaches : (ss : List Step) (vs : List AnswerView) → AreShown login n (shown_tape t) (length ls) (stream_of n ls) walk ss vs
+        → AreShown login n (shown_tape t) 0 Without (start login n) (steps_of ls ++ ss) (answers_of ls ++ vs)
 
   pub ran : (ls : List Line) → AreGrown login plans ls → HasTape t (at_number (handles_after ls) n) → RanSo ls
   ran [] grown has = record {
@@ -66,21 +73,23 @@ module _ (login : Login) (plans : Plans) (t : Tape) (all : AreCalls login (readi
     reaches = λ ss vs r. r;
   }
   ran (l ∷ ls) grown has =
-      let s : RunsSo login t n (handles_after ls) l.handles l.step l.outcome l.uses = line_so login t all n plans (handles_after ls) l.handles l.step l.outcome l.uses (grown_once login plans ls grown.1) grown.0.answer has in
+      let there = is_there (stream_of n ls) in
+      let s : RunsSo login t n there (handles_after ls) l.handles l.step l.outcome l.uses =
+      line_so login t all n there (is_streamed (target l.step) ls) plans (handles_after ls) l.handles l.step l.outcome l.uses (ap (λ q. is_streamed q ls)) (grown_once login plans ls grown.1) grown.0.answer has in
       let before : RanSo ls = ran ls grown.1 s.back in
-      let line : RunsLine login t n l.handles l.step l.outcome l.uses before.walk = s.forth before.walk before.placed in
+      let line : RunsLine login t n there l.handles l.step l.outcome l.uses before.walk = s.forth before.walk before.placed in
       let view : AnswerView = record { number = l.number; outcome = l.outcome; uses = l.uses } in
       let count : length (l ∷ ls) ≡ length ls + 1 = omega arith in
       record {
         walk = after_act login (shown_tape t) before.walk l.outcome l.uses line.act;
         placed = line.placed;
         reaches = λ ss vs r.
-            subst (λ xs. AreShown login n (shown_tape t) 0 (start login n) xs ((answers_of ls ++ view ∷ []) ++ vs)) (sym (append_assoc (steps_of ls) (l.step ∷ []) ss))
-            (subst (λ ys. AreShown login n (shown_tape t) 0 (start login n) (steps_of ls ++ l.step ∷ ss) ys) (sym (append_assoc (answers_of ls) (view ∷ []) vs))
+            subst (λ xs. AreShown login n (shown_tape t) 0 Without (start login n) xs ((answers_of ls ++ view ∷ []) ++ vs)) (sym (append_assoc (steps_of ls) (l.step ∷ []) ss))
+            (subst (λ ys. AreShown login n (shown_tape t) 0 Without (start login n) (steps_of ls ++ l.step ∷ ss) ys) (sym (append_assoc (answers_of ls) (view ∷ []) vs))
             (before.reaches (l.step ∷ ss) (view ∷ vs) (
               (grown.0.number, subst (ActRight login n (shown_tape t) before.walk l.step l.outcome l.uses) (sym line.act_is) line.right),
-              subst (λ act. AreShown login n (shown_tape t) (length ls + 1) (after_act login (shown_tape t) before.walk l.outcome l.uses act) ss vs) (sym line.act_is)
-                  (subst (λ m. AreShown login n (shown_tape t) m (after_act login (shown_tape t) before.walk l.outcome l.uses line.act) ss vs) count r),
+              subst (λ act. AreShown login n (shown_tape t) (length ls + 1) (stream_of n (l ∷ ls)) (after_act login (shown_tape t) before.walk l.outcome l.uses act) ss vs) (sym line.act_is)
+                  (subst (λ m. AreShown login n (shown_tape t) m (stream_of n (l ∷ ls)) (after_act login (shown_tape t) before.walk l.outcome l.uses line.act) ss vs) count r),
             )));
       }
 

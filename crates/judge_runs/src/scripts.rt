@@ -35,6 +35,10 @@ const HELD_ROW: &str = "bytes 0 0200\nwait 0\nbytes 0 00030131\n";
 // Two rows, with a hold between them, and their end.
 const HELD_ROWS: &str = "packet 0 3 0131\nwait 0\npacket 0 4 0132\npacket 0 5 fe000002000000\n";
 
+// Two rows with a hold between them and more after them; a set of one row, after another hold.
+const HELD_SETS: &str =
+    "packet 0 3 0131\nwait 0\npacket 0 4 0132\npacket 0 5 fe00000a000000\nwait 0\npacket 0 6 01\npacket 0 7 036465660000000131000c3f0001000000088100000000\npacket 0 8 0133\npacket 0 9 fe000002000000\n";
+
 /// A script: the word of its options, the lines of its links, and its steps.
 #[derive(Clone, Copy)]
 pub struct Script {
@@ -155,5 +159,28 @@ pub fn polled() -> [Script; 3] {
             "conn\nquery 0 X\ncollect 0\npoll 0\nnext 0\n",
         ),
         cancelled,
+    ]
+}
+
+/// Streams: a set is passed over and the next one read; both are held, and the taking is polled or cancelled; a row is
+/// held, polled or cancelled, and other calls let the stream go.
+pub fn streamed() -> [Script; 4] {
+    [
+        plain(
+            [GREETING, TWO_SETS, ""],
+            "conn\nitem 0\nquery 0 X\nstream 0\nitem 0\nunstream 0\nstream 0\nfields 0\nitem 0\nitem 0\nitem 0\nstream 0\n",
+        ),
+        plain(
+            [GREETING, HEAD, HELD_SETS],
+            "conn\nquery 0 X\nstream 0\nstream 0\npoll 0\npoll 0\nitem 0\nnext 0\nunstream 0\n",
+        ),
+        plain(
+            [GREETING, HEAD, HELD_SETS],
+            "conn\nquery 0 X\nstream 0\nitem 0\nitem 0\ncancel 0\nitem 0\nstream 0\ncancel 0\nstream 0\n",
+        ),
+        plain(
+            [GREETING, OK_THEN_ERR, ""],
+            "conn\nquery 0 X\nstream 0\nitem 0\nunstream 1\nstream 0\nquit 0\nstream 0\n",
+        ),
     ]
 }

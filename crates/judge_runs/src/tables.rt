@@ -3,7 +3,7 @@
 use crate::changes::{Change, toggle};
 use crate::plans::{change_plan, refuse_dial};
 use crate::runs::{Run, run_of};
-use crate::scripts::{Script, answered, closing, connecting, held, polled, writing};
+use crate::scripts::{Script, answered, closing, connecting, held, polled, streamed, writing};
 use my_frame::NoMemory;
 use my_reading::{Answer, Error};
 use my_run_judge::Found;
@@ -340,6 +340,58 @@ fn writes_that_close(rt: HostRuntime) -> Result<(), Fail> {
 fn calls_that_are_polled(rt: HostRuntime) -> Result<(), Fail> {
     let found = count_all(&rt, rt.alloc(), &polled())?;
     assert_eq!(rt; found, refuted(298, counted(31, 7)));
+    Ok(())
+}
+
+#[test]
+fn sets_that_are_taken(rt: HostRuntime) -> Result<(), Fail> {
+    let found = count_all(&rt, rt.alloc(), &streamed())?;
+    assert_eq!(rt; found, refuted(575, counted(105, 15)));
+    Ok(())
+}
+
+// A stream's line whose first poll and its call are missing, as if it hadn't passed over the rest of the earlier set.
+fn skip_none(run: &mut Run, line: usize, call: usize) {
+    if let Some(answer) = run.transcript.answers.as_mut_slice().get_mut(line) {
+        if !answer.uses.is_empty() {
+            let _ = answer.uses.remove(0);
+        }
+    }
+    if let Some(tape) = run.transcript.tapes.as_mut_slice().first_mut() {
+        if call < tape.calls.len() {
+            let _ = tape.calls.remove(call);
+        }
+    }
+}
+
+// An item that shows the row of another line, or the second of two streams, which passes over nothing.
+fn is_stream_refuted(alloc: Global) -> Result<bool, Fail> {
+    let [script, _, _, _] = streamed();
+    let Some(mut run) = run_of(alloc, &script)? else {
+        return Ok(false);
+    };
+    let later = put_outcome(&mut run, 8, Outcome::Done);
+    let Some(later) = later else {
+        return Ok(false);
+    };
+    let first = put_outcome(&mut run, 4, later);
+    let shown = run.found_alone(alloc)? == Found::Wrong(4);
+    let Some(first) = first else {
+        return Ok(false);
+    };
+    let later = put_outcome(&mut run, 4, first);
+    let Some(later) = later else {
+        return Ok(false);
+    };
+    let _ = put_outcome(&mut run, 8, later);
+    let right = run.found_alone(alloc)? == Found::Right;
+    skip_none(&mut run, 6, 4);
+    Ok(shown && right && run.found_alone(alloc)? == Found::Wrong(6))
+}
+
+#[test]
+fn streams_that_pass_over_nothing(rt: HostRuntime) -> Result<(), Fail> {
+    assert!(rt; is_stream_refuted(rt.alloc())?);
     Ok(())
 }
 

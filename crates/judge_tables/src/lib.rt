@@ -10,3 +10,5 @@ mod rows;
 mod tables;
 #[cfg(test)]
 mod tapes;
+#[cfg(test)]
+mod wrong;

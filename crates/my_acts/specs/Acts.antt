@@ -1,28 +1,16 @@
 -- What a line may do at a connection, by its step, its outcome and how many uses it has.
-use Rattle.std.specs.Prelude.{◌≡◌, ◌-◌, ◌==◌, ℕ, nat_lt, Option, Some, None, Bool, true, false, if◌then◌else◌}
+use Rattle.std.specs.Prelude.{◌-◌, ◌==◌, ℕ, nat_lt, Option, Some, None, Bool, true, false, if◌then◌else◌}
 use Rattle.my_reading.specs.declared.call.Call.{Call}
 use Rattle.my_reading.specs.declared.call.Call.TheVariants as calls
 use Rattle.my_script.specs.declared.step.Step.{Step}
 use Rattle.my_script.specs.declared.step.Step.TheVariants as steps
+use Rattle.my_script.specs.Streams.{target}
 use Rattle.my_script.specs.declared.transcript.Outcome.{Outcome}
 use Rattle.my_script.specs.declared.transcript.Outcome.TheVariants.{Done, Pending, SetEnd, NoSet, Row, Rows, Fields, Connected, Failed, NoSuchHandle}
 use Rattle.my_acts.specs.declared.act.Act.{Act}
-use Rattle.my_acts.specs.declared.act.Act.TheVariants.{Wrong, Skips, Tells, Holds, Fails, Connects, Polls, Ends, Cancels}
+use Rattle.my_acts.specs.declared.act.Act.TheVariants.{Wrong, Skips, Tells, Holds, Fails, Connects, Polls, Takes, Ends, Cancels}
 use Rattle.my_acts.specs.declared.act.Status.{Status}
 use Rattle.my_acts.specs.declared.act.Status.TheVariants.{Ahead, Absent, Dialing, Idle, Open, Gathers}
-
--- the number that a step names; `conn` names none
-abbrev pub target : Step → Option ℕ
-target steps.Conn = None
-target (steps.Query n text) = Some n
-target (steps.Next n) = Some n
-target (steps.Collect n) = Some n
-target (steps.Drop n) = Some n
-target (steps.Ping n) = Some n
-target (steps.Quit n) = Some n
-target (steps.Fields n) = Some n
-target (steps.Poll n) = Some n
-target (steps.Cancel n) = Some n
 
 -- nothing is found to do at the number: the step is refused, and has no uses
 abbrev pub refused : Status → Outcome → ℕ → Act
@@ -82,6 +70,27 @@ abbrev pub collected : Bool → ℕ → Outcome → ℕ → Act
 collected true first outcome uses = closed_at_once outcome uses
 collected false first outcome uses = gathered first outcome uses
 
+-- a set is taken by a stream
+abbrev pub taking : Outcome → (Status → Act) → Act
+taking Pending act = act Open
+taking Done act = act Idle
+taking NoSet act = act Idle
+taking (Failed e) act = act Idle
+taking outcome act = Wrong
+
+-- one call is polled, or a second one after the one that passes over the rest of an earlier set
+abbrev pub taken : Outcome → ℕ → Act
+taken outcome uses = if uses == 1 then taking outcome Polls else (if uses == 2 then taking outcome Takes else Wrong)
+
+abbrev pub streamed : Bool → Outcome → ℕ → Act
+streamed true outcome uses = closed_at_once outcome uses
+streamed false outcome uses = taken outcome uses
+
+-- a stream is let go
+abbrev pub let_go : Outcome → ℕ → Act
+let_go Done uses = if uses == 0 then Skips Idle else Wrong
+let_go outcome uses = Wrong
+
 -- the last OK is told
 abbrev pub told : Outcome → ℕ → Act
 told (Fields ok) uses = if uses == 0 then Tells else Wrong
@@ -93,6 +102,9 @@ at_idle closed next steps.Conn outcome uses = Wrong
 at_idle closed next (steps.Query n text) outcome uses = asked closed outcome uses
 at_idle closed next (steps.Next n) outcome uses = asked closed outcome uses
 at_idle closed next (steps.Collect n) outcome uses = collected closed next outcome uses
+at_idle closed next (steps.Stream n) outcome uses = streamed closed outcome uses
+at_idle closed next (steps.Item n) outcome uses = asked closed outcome uses
+at_idle closed next (steps.Unstream n) outcome uses = let_go outcome uses
 at_idle closed next (steps.Drop n) outcome uses = asked closed outcome uses
 at_idle closed next (steps.Ping n) outcome uses = asked closed outcome uses
 at_idle closed next (steps.Quit n) outcome uses = polled_once outcome uses
@@ -103,7 +115,8 @@ at_idle closed next (steps.Cancel n) outcome uses = refused Idle outcome uses
 -- an open call goes on: the handshake, which is the first call, or another one
 abbrev pub goes_on : ℕ → ℕ → Outcome → ℕ → Act
 goes_on n next outcome uses =
-    if next == 0 then (if uses == 1 then connecting n outcome Polls else Wrong) else polled_once outcome uses
+    if next == 0 then (if uses == 1 then connecting n outcome Polls else Wrong)
+    else (if uses == 2 then taking outcome Takes else polled_once outcome uses)
 
 -- an open call is cancelled; after the handshake's the connection isn't there any more
 abbrev pub after_cancel : ℕ → Status
@@ -157,15 +170,35 @@ abbrev pub act_of : Status → ℕ → ℕ → Bool → Step → Outcome → ℕ
 act_of (Ahead k) n next closed step outcome uses = act_ahead k n outcome uses (target step)
 act_of status n next closed step outcome uses = act_there status n next closed step outcome uses (target step)
 
--- the call that a step begins
-abbrev pub begun_by : Step → Option Call
-begun_by steps.Conn = Some calls.Connect
-begun_by (steps.Query n text) = Some (calls.Query text)
-begun_by (steps.Next n) = Some calls.NextRow
-begun_by (steps.Collect n) = Some calls.NextRow
-begun_by (steps.Drop n) = Some calls.DropResult
-begun_by (steps.Ping n) = Some calls.Ping
-begun_by (steps.Quit n) = Some calls.Quit
-begun_by (steps.Fields n) = None
-begun_by (steps.Poll n) = None
-begun_by (steps.Cancel n) = None
+-- a step of a stream that isn't there: it names this number
+abbrev pub is_missing : ℕ → Bool → Step → Bool
+is_missing n true step = false
+is_missing n false (steps.Item m) = m == n
+is_missing n false (steps.Unstream m) = m == n
+is_missing n false step = false
+
+-- what a line may do at connection n, where a stream is there or none
+abbrev pub act_with : Bool → Status → ℕ → ℕ → Bool → Step → Outcome → ℕ → Act
+act_with there status n next closed step outcome uses =
+    if is_missing n there step then refused status outcome uses else act_of status n next closed step outcome uses
+
+-- the call that takes a set, or the one that passes over the rest of an earlier one first
+abbrev pub taking_call : Bool → Call
+taking_call true = calls.SkipTaken
+taking_call false = calls.TakeSet
+
+-- the call that a step begins, where a stream took the set that is read, or whose end is left, or none did
+abbrev pub begun_by : Bool → Step → Option Call
+begun_by taken steps.Conn = Some calls.Connect
+begun_by taken (steps.Query n text) = Some (calls.Query text)
+begun_by taken (steps.Next n) = Some calls.NextRow
+begun_by taken (steps.Collect n) = Some calls.NextRow
+begun_by taken (steps.Stream n) = Some (taking_call taken)
+begun_by taken (steps.Item n) = Some calls.NextRow
+begun_by taken (steps.Unstream n) = None
+begun_by taken (steps.Drop n) = Some calls.DropResult
+begun_by taken (steps.Ping n) = Some calls.Ping
+begun_by taken (steps.Quit n) = Some calls.Quit
+begun_by taken (steps.Fields n) = None
+begun_by taken (steps.Poll n) = None
+begun_by taken (steps.Cancel n) = None

@@ -1,35 +1,26 @@
 //! What a line may do at a connection, by its step, its outcome and how many uses it has.
 
-ghost use Rattle.std.specs.Prelude.{◌≡◌, length};
+ghost use Rattle.std.specs.Prelude.{◌≡◌};
+ghost use Rattle.my_script.specs.Streams.{target};
 ghost use Rattle.my_acts.specs.Acts.{
   act_ahead,
   act_here,
   act_of,
   act_there,
-  after_cancel,
-  asked,
+  act_with,
   at_dialing,
   at_gathering,
   at_idle,
   at_open,
-  cancelled,
-  closed_at_once,
-  collected,
-  connecting,
-  dialed,
-  dialed_once,
-  dropped,
-  gathered,
-  gathering,
   goes_on,
-  polled,
-  polled_once,
-  refused,
-  target,
-  told,
+  is_missing,
 };
 
-use my_script::{Outcome, Step};
+use crate::outcome::{
+    asked, cancelled, collected, dialed, dropped, gathered, let_go, polled_once, polls_handshake,
+    refused, skips_and_takes, streamed, told,
+};
+use my_script::{Outcome, Step, target};
 
 /// What the lines so far made of a connection.
 #[derive(Clone, Copy, Debug, PartialEq, Eq)]
@@ -65,163 +56,12 @@ pub enum Act {
     Connects(Status),
     /// Calls are polled.
     Polls(Status),
+    /// The call that passes over a set's rest is polled, and then the one that takes the next set.
+    Takes(Status),
     /// A call ends at once.
     Ends(Status),
     /// The open call is cancelled.
     Cancels(Status),
-}
-
-fn target(step: &Step) -> Option<u64>
-    ensures { result ≡ target step.now }
-{
-    match step {
-        Step::Conn => None,
-        Step::Query(number, _) => Some(*number),
-        Step::Next(number)
-        | Step::Collect(number)
-        | Step::Drop(number)
-        | Step::Ping(number)
-        | Step::Quit(number)
-        | Step::Fields(number)
-        | Step::Poll(number)
-        | Step::Cancel(number) => Some(*number),
-    }
-}
-
-fn refused(status: Status, outcome: &Outcome, uses: usize) -> Act
-    ensures { result ≡ refused status outcome.now uses }
-{
-    match outcome {
-        Outcome::NoSuchHandle if uses == 0 => Act::Skips(status),
-        _ => Act::Wrong,
-    }
-}
-
-fn connects(number: u64, outcome: &Outcome) -> Act
-    ensures { result ≡ connecting number outcome.now Act.Connects }
-{
-    match outcome {
-        Outcome::Pending => Act::Connects(Status::Open),
-        Outcome::Connected(named, _, _) => {
-            if *named == number {
-                Act::Connects(Status::Idle)
-            } else {
-                Act::Wrong
-            }
-        }
-        Outcome::Failed(_) => Act::Connects(Status::Absent),
-        _ => Act::Wrong,
-    }
-}
-
-fn polls_handshake(number: u64, outcome: &Outcome) -> Act
-    ensures { result ≡ connecting number outcome.now Act.Polls }
-{
-    match connects(number, outcome) {
-        Act::Connects(status) => Act::Polls(status),
-        _ => Act::Wrong,
-    }
-}
-
-fn dialed_once(outcome: &Outcome) -> Act
-    ensures { result ≡ dialed_once outcome.now }
-{
-    match outcome {
-        Outcome::Pending => Act::Holds,
-        Outcome::Failed(_) => Act::Fails,
-        _ => Act::Wrong,
-    }
-}
-
-fn dialed(number: u64, outcome: &Outcome, uses: usize) -> Act
-    ensures { result ≡ dialed number outcome.now uses }
-{
-    if uses == 1 {
-        dialed_once(outcome)
-    } else if uses == 2 {
-        connects(number, outcome)
-    } else {
-        Act::Wrong
-    }
-}
-
-fn polled(outcome: &Outcome) -> Act
-    ensures { result ≡ polled outcome.now }
-{
-    match outcome {
-        Outcome::Pending => Act::Polls(Status::Open),
-        Outcome::Done | Outcome::SetEnd | Outcome::NoSet | Outcome::Row(_) | Outcome::Failed(_) =>
-            Act::Polls(Status::Idle),
-        _ => Act::Wrong,
-    }
-}
-
-fn polled_once(outcome: &Outcome, uses: usize) -> Act
-    ensures { result ≡ polled_once outcome.now uses }
-{
-    if uses == 1 {
-        polled(outcome)
-    } else {
-        Act::Wrong
-    }
-}
-
-fn gathering(first: usize, outcome: &Outcome) -> Act
-    ensures { result ≡ gathering first outcome.now }
-{
-    match outcome {
-        Outcome::Pending => Act::Polls(Status::Gathers(first)),
-        Outcome::Done | Outcome::Rows(_) | Outcome::Failed(_) => Act::Polls(Status::Idle),
-        _ => Act::Wrong,
-    }
-}
-
-fn gathered(first: usize, outcome: &Outcome, uses: usize) -> Act
-    ensures { result ≡ gathered first outcome.now uses }
-{
-    if uses == 0 {
-        Act::Wrong
-    } else {
-        gathering(first, outcome)
-    }
-}
-
-fn closed_at_once(outcome: &Outcome, uses: usize) -> Act
-    ensures { result ≡ closed_at_once outcome.now uses }
-{
-    match outcome {
-        Outcome::Failed(_) if uses == 0 => Act::Ends(Status::Idle),
-        _ => Act::Wrong,
-    }
-}
-
-fn asked(closed: bool, outcome: &Outcome, uses: usize) -> Act
-    ensures { result ≡ asked closed outcome.now uses }
-{
-    if closed {
-        closed_at_once(outcome, uses)
-    } else {
-        polled_once(outcome, uses)
-    }
-}
-
-fn collected(closed: bool, first: usize, outcome: &Outcome, uses: usize) -> Act
-    ensures { result ≡ collected closed first outcome.now uses }
-{
-    if closed {
-        closed_at_once(outcome, uses)
-    } else {
-        gathered(first, outcome, uses)
-    }
-}
-
-fn told(outcome: &Outcome, uses: usize) -> Act
-    ensures { result ≡ told outcome.now uses }
-{
-    match outcome {
-        Outcome::Fields(_) if uses == 0 => Act::Tells,
-        _ => Act::Wrong,
-    }
 }
 
 fn at_idle(closed: bool, next: usize, step: &Step, outcome: &Outcome, uses: usize) -> Act
@@ -229,10 +69,12 @@ fn at_idle(closed: bool, next: usize, step: &Step, outcome: &Outcome, uses: usiz
 {
     match step {
         Step::Conn => Act::Wrong,
-        Step::Query(_, _) | Step::Next(_) | Step::Drop(_) | Step::Ping(_) => {
+        Step::Query(_, _) | Step::Next(_) | Step::Item(_) | Step::Drop(_) | Step::Ping(_) => {
             asked(closed, outcome, uses)
         }
         Step::Collect(_) => collected(closed, next, outcome, uses),
+        Step::Stream(_) => streamed(closed, outcome, uses),
+        Step::Unstream(_) => let_go(outcome, uses),
         Step::Quit(_) => polled_once(outcome, uses),
         Step::Fields(_) => told(outcome, uses),
         Step::Poll(_) | Step::Cancel(_) => refused(Status::Idle, outcome, uses),
@@ -243,31 +85,15 @@ fn goes_on(number: u64, next: usize, outcome: &Outcome, uses: usize) -> Act
     ensures { result ≡ goes_on number next outcome.now uses }
 {
     if next > 0 {
+        if uses == 2 {
+            return skips_and_takes(outcome);
+        }
         return polled_once(outcome, uses);
     }
     if uses == 1 {
         polls_handshake(number, outcome)
     } else {
         Act::Wrong
-    }
-}
-
-fn after_cancel(next: usize) -> Status
-    ensures { result ≡ after_cancel next }
-{
-    if next == 0 {
-        Status::Absent
-    } else {
-        Status::Idle
-    }
-}
-
-fn cancelled(next: usize, outcome: &Outcome, uses: usize) -> Act
-    ensures { result ≡ cancelled next outcome.now uses }
-{
-    match outcome {
-        Outcome::Done if uses == 0 => Act::Cancels(after_cancel(next)),
-        _ => Act::Wrong,
     }
 }
 
@@ -288,15 +114,6 @@ fn at_gathering(first: usize, next: usize, step: &Step, outcome: &Outcome, uses:
         Step::Poll(_) => gathered(first, outcome, uses),
         Step::Cancel(_) => cancelled(next, outcome, uses),
         _ => refused(Status::Gathers(first), outcome, uses),
-    }
-}
-
-fn dropped(outcome: &Outcome, uses: usize) -> Act
-    ensures { result ≡ dropped outcome.now uses }
-{
-    match outcome {
-        Outcome::Done if uses == 0 => Act::Skips(Status::Absent),
-        _ => Act::Wrong,
     }
 }
 
@@ -375,8 +192,7 @@ fn act_ahead(ahead: u64, number: u64, outcome: &Outcome, uses: usize, named: Opt
     }
 }
 
-/// What a line does at the connection with this number, of which `next` calls ended, and which is closed or not.
-pub fn act_of(
+fn act_of(
     status: Status,
     number: u64,
     next: usize,
@@ -391,4 +207,37 @@ pub fn act_of(
         Status::Ahead(ahead) => act_ahead(ahead, number, outcome, uses, target(step)),
         _ => act_there(status, number, next, closed, step, outcome, uses),
     }
+}
+
+// Whether the step is one of a stream that isn't there.
+fn is_missing(number: u64, there: bool, step: &Step) -> bool
+    ensures { result ≡ is_missing number there step.now }
+{
+    if there {
+        return false;
+    }
+    match step {
+        Step::Item(named) | Step::Unstream(named) => *named == number,
+        _ => false,
+    }
+}
+
+/// What a line does at the connection with this number, where a stream is there or none, of which `next` calls ended, and
+/// which is closed or not.
+pub fn act_with(
+    there: bool,
+    status: Status,
+    number: u64,
+    next: usize,
+    closed: bool,
+    step: &Step,
+    outcome: &Outcome,
+    uses: usize,
+) -> Act
+    ensures { result ≡ act_with there status number next closed step.now outcome.now uses }
+{
+    if is_missing(number, there, step) {
+        return refused(status, outcome, uses);
+    }
+    act_of(status, number, next, closed, step, outcome, uses)
 }

@@ -2,5 +2,6 @@
 #![tactic(auto)]
 
 mod act;
+mod outcome;
 
-pub use act::{Act, Status, act_of};
+pub use act::{Act, Status, act_with};

@@ -101,6 +101,9 @@ C is a connection; at most 1000 lines connect:
   query C TEXT     sends a query over connection C and reads the head of its result
   next C           reads the next row
   collect C        reads all rows of the set that are left
+  stream C         takes the set for a stream: the one that is read, or the next one
+  item C           reads the next row of the stream
+  unstream C       lets the stream go; the next stream passes over what it left of the set
   drop C           discards what is left of the result
   fields C         prints the fields of the server's last OK packet
   ping C           asks whether the server is there
@@ -121,7 +124,8 @@ C is a connection; at most 1000 lines connect:
 
 A step may also print pending, where the link has nothing yet; ok -, where no OK packet came yet;
 refused NoSuchHandle, where there is no such connection, its call is still pending, or there
-is no call to continue or to cancel; or an error, as
+is no call to continue or to cancel, or no stream. A stream is there from the ok of its stream
+line on, until its end, an error, or a step that begins another call. Or an error, as
 
   error Io Link
   error Io InvalidData 4

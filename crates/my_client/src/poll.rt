@@ -1,5 +1,5 @@
 //! Polls a session's open call over a link until it returns or the link isn't ready.
-ghost use Rattle.std.specs.Prelude.{◌≡◌, ◌≢◌, ◌+◌, ◌<◌, ◌≤◌, true, false, IfOk, OnOk};
+ghost use Rattle.std.specs.Prelude.{◌≡◌, ◌≢◌, ◌+◌, ◌<◌, ◌≤◌, length, true, false, IfOk, OnOk};
 ghost use Rattle.my_session.specs.Tasks.{is_open};
 ghost use Rattle.my_session.specs.Ends.{Fails};
 ghost use Rattle.my_session.specs.Steps.{StepIs, with_end};
@@ -97,6 +97,44 @@ fn send<L: Link, T: Notes>(
     }
 }
 
+// Takes some of what the link has, at most `room` bytes, by a buffer that isn't empty.
+fn receive_into<L: Link, T: Notes>(
+    alloc: Global,
+    session: &mut Session,
+    link: &mut L,
+    notes: &mut T,
+    room: u64,
+    buffer: &mut [u8],
+) -> Result<Turn, NoMemory>
+    requires step { StepIs session.old.seen SessionStep.Need }
+    requires room { 0 < room }
+    requires buffer { 0 < length buffer.old }
+    requires ends { Fails (with_end session.old.seen) }
+    ensures turn { IfOk result (λ turn. EachTurn IsAwaiting T.keeps session.old.seen session.new.seen
+        (L.looks link.old) (L.looks link.new) notes.old notes.new turn) }
+    ensures within { IfOk result (λ turn. took_by turn ≤ room) }
+    ensures full { IfOk result (λ turn. is_full turn ≡ false) }
+    ensures on { IfOk result (λ turn. StaysOn turn session.new.seen) }
+{
+    let most = room.min(buffer.len() as u64) as usize;
+    match link.read(&mut buffer[..most]) {
+        ReadStep::Got(n) => {
+            session.take(&buffer[..n])?;
+            notes.note_taken(&buffer[..n])?;
+            Ok(Turn::Took(n as u64))
+        }
+        ReadStep::NotYet => Ok(Turn::Held),
+        ReadStep::End => {
+            session.end();
+            Ok(Turn::Ended(fail_now(alloc, session)?))
+        }
+        ReadStep::Failed => {
+            session.fail(LinkFault::Link);
+            Ok(Turn::Broke(fail_now(alloc, session)?))
+        }
+    }
+}
+
 // Takes some of what the link has, at most `room` bytes.
 fn receive<L: Link, T: Notes>(
     alloc: Global,
@@ -114,24 +152,10 @@ fn receive<L: Link, T: Notes>(
     ensures full { IfOk result (λ turn. is_full turn ≡ false) }
     ensures on { IfOk result (λ turn. StaysOn turn session.new.seen) }
 {
-    let mut buf = [0u8; 4096];
-    let most = room.min(4096) as usize;
-    match link.read(&mut buf[..most]) {
-        ReadStep::Got(n) => {
-            session.take(&buf[..n])?;
-            notes.note_taken(&buf[..n])?;
-            Ok(Turn::Took(n as u64))
-        }
-        ReadStep::NotYet => Ok(Turn::Held),
-        ReadStep::End => {
-            session.end();
-            Ok(Turn::Ended(fail_now(alloc, session)?))
-        }
-        ReadStep::Failed => {
-            session.fail(LinkFault::Link);
-            Ok(Turn::Broke(fail_now(alloc, session)?))
-        }
-    }
+    let mut buffer = session.lend_buffer(alloc)?;
+    let turn = receive_into(alloc, session, link, notes, room, &mut buffer);
+    session.keep_buffer(buffer);
+    turn
 }
 
 // One turn: what the session asks for is done with the link.

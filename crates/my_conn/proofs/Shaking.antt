@@ -1,5 +1,5 @@
 -- A handshake that waits, from poll to poll.
-use Rattle.std.proofs.Common.{ℕ, ◌≡◌, ◌+◌, [], Option, None, Ok, Err, true, refl, subst}
+use Rattle.std.proofs.Common.{ℕ, ◌≡◌, ◌+◌, [], Option, None, Result, Ok, Err, true, inl, inr, refl, subst}
 use Rattle.my_frame.specs.declared.limits.TheConstants.{MOST_TAKEN}
 use Rattle.my_grammar.specs.declared.login.Login.{Login}
 use Rattle.my_link.specs.Looks.{Looks}
@@ -8,6 +8,9 @@ use Rattle.my_reading.specs.declared.answer.Answer.{Answer}
 use Rattle.my_reading.specs.declared.answer.Answer.TheVariants.{Ready}
 use Rattle.my_reading.specs.declared.call.Call.TheVariants.{Connect}
 use Rattle.my_reading.specs.declared.error.Error.{Error}
+use Rattle.my_reading.specs.declared.error.Error.TheVariants as errors
+use Rattle.my_opts.specs.Opts.{OptsView}
+use Rattle.my_opts_parts.specs.declared.error.UrlError.{UrlError}
 use Rattle.my_session.specs.Seen.{Seen}
 use Rattle.my_session.specs.Tasks.{is_open}
 use Rattle.my_client.specs.declared.poll.After.{After}
@@ -18,7 +21,7 @@ use Rattle.my_client.specs.Rests.{IsAsked}
 use Rattle.my_conn.specs.Calls.{EachCall}
 use Rattle.my_conn.specs.Connects.{ConnectsFor}
 use Rattle.my_conn.specs.Drives.{Goes}
-use Rattle.my_conn.specs.News.{IsShaken, IsUnshaken}
+use Rattle.my_conn.specs.News.{FromUrlIs, IsShaken, IsUnshaken}
 use Rattle.my_conn.proofs.Driving.{all_taken, begun_carries, driven, goes_so}
 use Rattle.my_conn.proofs.Joins.{Shook, connects_open, made, pends, shook, still}
 use Rattle.my_conn.proofs.Using.{unused}
@@ -78,3 +81,8 @@ module _ (login : Login) (w x y : Looks) (s t : Seen) (p q : Option Tape) (m : M
         end = u.end;
         driven = driven login Connect nothing_kept so.following u.end n w x y m (Failed error) first_asked g.sent g.came g.used g.carries g.count so.connects.asked.asked u.polled (Err error) refl;
       }
+
+-- out of memory, whatever the text reads as
+pub no_memory_so : {L : Type 0} (look : L → Looks) (read : Result OptsView UrlError) (x : Looks) → FromUrlIs look read x (Err errors.NoMemory)
+no_memory_so look (Ok opts) x = (x, inl refl)
+no_memory_so look (Err e) x = inr refl

@@ -9,9 +9,12 @@ use Rattle.my_reading.specs.declared.call.Call.TheVariants.{Connect}
 use Rattle.my_reading.specs.declared.error.DriverError.TheVariants.{TooLong}
 use Rattle.my_reading.specs.declared.error.Error.{Error}
 use Rattle.my_reading.specs.declared.error.Error.TheVariants as errors
+use Rattle.my_opts.specs.Opts.{OptsView}
+use Rattle.my_opts_parts.specs.declared.error.UrlError.{UrlError}
 use Rattle.my_session.specs.Seen.{Seen}
 use Rattle.my_client.specs.declared.tape.Tape.{Tape}
 use Rattle.my_client.specs.Kept.{Kept, nothing_kept}
+use Rattle.my_client.specs.Login.{login_of}
 use Rattle.my_conn.specs.Conn.{ConnSeen, StandsFor}
 use Rattle.my_conn.specs.Drives.{Driven, Goes}
 use Rattle.my_conn.specs.declared.drive.TheConstants.{TOO_LONG}
@@ -52,3 +55,9 @@ pub record IsMade {L : Type 0} (look : L → Looks) (login : Login) (x : Looks) 
 abbrev pub NewIs : {L : Type 0} → (L → Looks) → Login → Looks → Result (ConnSeen L) Error → Type 0
 NewIs look login x (Ok c) = IsMade look login x c
 NewIs look login x (Err e) = (y : Looks) × WhyUnmade login x y e
+
+-- Connecting by a text that reads as these options is connecting with them; a text that gives none is refused with its cause, unless
+-- memory ran out.
+abbrev pub FromUrlIs : {L : Type 0} → (L → Looks) → Result OptsView UrlError → Looks → Result (ConnSeen L) Error → Type 0
+FromUrlIs look (Ok opts) x result = NewIs look (login_of opts) x result
+FromUrlIs look (Err e) x result = (result ≡ Err (errors.Url e)) ⊎ (result ≡ Err errors.NoMemory)

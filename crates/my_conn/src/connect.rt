@@ -1,14 +1,17 @@
 //! Connecting over a link that never holds.
-ghost use Rattle.std.specs.Prelude.{◌≡◌, None, IfOk, OnOk, is_some};
+ghost use Rattle.std.specs.Prelude.{◌≡◌, ◌≤◌, None, Ok, Err, IfOk, OnOk, is_some, length};
 ghost use Rattle.my_grammar.specs.declared.login.Login.{Login as LoginOf};
 ghost use Rattle.my_client.specs.Kept.{first_asked, first_kept};
 ghost use Rattle.my_client.specs.Login.{login_of};
 ghost use Rattle.my_conn.specs.Connects.{ConnectsFor};
 ghost use Rattle.my_conn.specs.Drives.{DoneIs};
-ghost use Rattle.my_conn.specs.News.{NewIs, ShakesTo};
+ghost use Rattle.my_conn.specs.News.{FromUrlIs, NewIs, ShakesTo};
 ghost use Rattle.my_conn.specs.Conn.{ConnSeen};
+ghost use Rattle.my_opts.specs.Url.{options_of};
+ghost use Rattle.my_opts_parts.specs.declared.error.UrlError.{UrlError};
 ghost use Rattle.my_reading.specs.declared.call.Call.TheVariants as calls;
 ghost use Rattle.my_reading.specs.declared.call.CallKind.TheVariants as kinds;
+ghost use Rattle.my_reading.specs.declared.error.Error.TheVariants as errors;
 
 use crate::begin::poll_open;
 use crate::conn::Conn;
@@ -16,7 +19,7 @@ use crate::drive::{TOO_LONG, never_holds};
 use my_client::{After, Tape, TapedConn, begin_conn};
 use my_frame::NoMemory;
 use my_link::BlockingLink;
-use my_opts::Opts;
+use my_opts::{Opts, UrlFault};
 use my_reading::{DriverError, Error};
 use my_session::Session;
 use std::alloc::Global;
@@ -73,6 +76,21 @@ impl<L: BlockingLink + Drop> Conn<L> {
         match shake_hands(alloc, &mut session, &mut link, &mut tape) {
             Ok(()) => Ok(Conn::made(opts, session, link, tape)),
             Err(error) => Err(error),
+        }
+    }
+
+    /// Connects over this link with the options that a URL gives, as `new` does. A URL that gives none is refused, and
+    /// the link let go unused. The text has at most 1,048,576 bytes.
+    pub fn from_url(alloc: Global, url: &str, link: L) -> Result<Conn<L>, Error>
+        requires { length url.now ≤ 1048576 }
+        ensures news { FromUrlIs L.looks (options_of url.now) (L.looks link) result }
+        ensures opts { IfOk result (λ c. options_of url.now ≡ Ok c.opts) }
+        ensures refused { (e : UrlError) → result ≡ Err (errors.Url e) → options_of url.now ≡ Err e }
+    {
+        match Opts::from_url(alloc, url) {
+            Ok(opts) => Conn::new(alloc, opts, link),
+            Err(UrlFault::Url(error)) => Err(Error::Url(error)),
+            Err(UrlFault::NoMemory) => Err(Error::NoMemory),
         }
     }
 

@@ -1,17 +1,18 @@
 -- What a URL's pairs gather is what the setters make of a builder.
 use Rattle.std.proofs.Common.{◌≡◌, ℕ, ◌∙◌, ◌||◌, ◌==◌, nat_lt, codes, unwrap_or, Bool, true, false, List, [], ◌∷◌, Option, Some, None, Result, Ok, Err, if◌then◌else◌, refl, sym, ap, subst}
 use Rattle.form_urlencoded.specs.Form.{raw_pairs}
-use Rattle.my_opts.specs.declared.error.UrlError.TheVariants.{FeatureRequired, InvalidPoolConstraints}
-use Rattle.my_opts.specs.declared.query.TruthOption.{TruthOption}
-use Rattle.my_opts.specs.declared.query.TruthOption.TheVariants.{TcpNodelay, PreferSocket, SecureAuth, ClientFoundRows, EnableCleartextPlugin, ResetConnection, RequireSsl, VerifyCa, VerifyIdentity, BuiltInRoots}
-use Rattle.my_opts.specs.declared.query.NumberOption.{NumberOption}
-use Rattle.my_opts.specs.declared.query.NumberOption.TheVariants.{PoolMin, PoolMax, PoolMaxWaiting, InactiveConnectionTtl, TtlCheckInterval, AbsConnTtl, AbsConnTtlJitter, ConnTtl, TcpKeepalive, StmtCacheSize, MaxAllowedPacket, WaitTimeout}
-use Rattle.my_opts.specs.declared.query.Row.{Row}
-use Rattle.my_opts.specs.declared.query.Row.TheVariants.{Truth, Whole32, Whole64, SocketPath, Compression}
+use Rattle.my_opts_parts.specs.declared.error.UrlError.TheVariants.{FeatureRequired, InvalidPoolConstraints}
+use Rattle.my_opts_parts.specs.declared.keys.TruthOption.{TruthOption}
+use Rattle.my_opts_parts.specs.declared.keys.TruthOption.TheVariants.{TcpNodelay, PreferSocket, SecureAuth, ClientFoundRows, EnableCleartextPlugin, ResetConnection, RequireSsl, VerifyCa, VerifyIdentity, BuiltInRoots}
+use Rattle.my_opts_parts.specs.declared.keys.NumberOption.{NumberOption}
+use Rattle.my_opts_parts.specs.declared.keys.NumberOption.TheVariants.{PoolMin, PoolMax, PoolMaxWaiting, InactiveConnectionTtl, TtlCheckInterval, AbsConnTtl, AbsConnTtlJitter, ConnTtl, TcpKeepalive, StmtCacheSize, MaxAllowedPacket, WaitTimeout}
+use Rattle.my_opts_parts.specs.declared.keys.Row.{Row}
+use Rattle.my_opts_parts.specs.declared.keys.Row.TheVariants.{Truth, Whole32, Whole64, SocketPath, Compression}
 use Rattle.my_opts.specs.declared.query.Gathered.{Gathered}
 use Rattle.my_opts.specs.Opts.{OptsView}
 use Rattle.my_opts_parts.specs.Pool.{Bounds}
-use Rattle.my_opts.specs.Query.{table, row_among, text_pair, put_number, put_truth, set_or_refused, after_row, after_pair, after_pairs, and_then}
+use Rattle.my_opts_parts.specs.Keys.{table, row_among}
+use Rattle.my_opts.specs.Query.{text_pair, put_number, put_truth, set_or_refused, after_row, after_pair, after_pairs, and_then}
 use Rattle.my_opts.specs.Url.{begun, gathered, allowed_bounds, finished}
 use Rattle.my_frame.specs.Numeral.{whole_number}
 use Rattle.my_opts.specs.Values.{truth}

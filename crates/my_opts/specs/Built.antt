@@ -3,16 +3,17 @@ use Rattle.std.specs.Prelude.{◌≡◌, ℕ, ◌*◌, Bool, List, [], ◌∷◌
 use Rattle.form_urlencoded.specs.Form.{raw_pairs}
 use Rattle.url.specs.Host.{host_text}
 use Rattle.url.specs.Parts.{Parts, nonempty_host}
-use Rattle.my_opts.specs.declared.query.TruthOption.{TruthOption}
-use Rattle.my_opts.specs.declared.query.TruthOption.TheVariants.{TcpNodelay, PreferSocket, SecureAuth, ClientFoundRows, EnableCleartextPlugin, ResetConnection, RequireSsl, VerifyCa, VerifyIdentity, BuiltInRoots}
-use Rattle.my_opts.specs.declared.query.NumberOption.{NumberOption}
-use Rattle.my_opts.specs.declared.query.NumberOption.TheVariants.{PoolMin, PoolMax, PoolMaxWaiting, InactiveConnectionTtl, TtlCheckInterval, AbsConnTtl, AbsConnTtlJitter, ConnTtl, TcpKeepalive, StmtCacheSize, MaxAllowedPacket, WaitTimeout}
-use Rattle.my_opts.specs.declared.query.Row.{Row}
-use Rattle.my_opts.specs.declared.query.Row.TheVariants.{Truth, Whole32, Whole64, SocketPath, Compression}
+use Rattle.my_opts_parts.specs.declared.keys.TruthOption.{TruthOption}
+use Rattle.my_opts_parts.specs.declared.keys.TruthOption.TheVariants.{TcpNodelay, PreferSocket, SecureAuth, ClientFoundRows, EnableCleartextPlugin, ResetConnection, RequireSsl, VerifyCa, VerifyIdentity, BuiltInRoots}
+use Rattle.my_opts_parts.specs.declared.keys.NumberOption.{NumberOption}
+use Rattle.my_opts_parts.specs.declared.keys.NumberOption.TheVariants.{PoolMin, PoolMax, PoolMaxWaiting, InactiveConnectionTtl, TtlCheckInterval, AbsConnTtl, AbsConnTtlJitter, ConnTtl, TcpKeepalive, StmtCacheSize, MaxAllowedPacket, WaitTimeout}
+use Rattle.my_opts_parts.specs.declared.keys.Row.{Row}
+use Rattle.my_opts_parts.specs.declared.keys.Row.TheVariants.{Truth, Whole32, Whole64, SocketPath, Compression}
 use Rattle.my_opts.specs.Opts.{OptsView, default_opts}
 use Rattle.my_opts_parts.specs.Limits.{packet_limit, waiting_limit}
 use Rattle.my_opts_parts.specs.Pool.{PoolView, Bounds, interval_of}
-use Rattle.my_opts.specs.Query.{table, row_among, text_pair}
+use Rattle.my_opts_parts.specs.Keys.{table, row_among}
+use Rattle.my_opts.specs.Query.{text_pair}
 use Rattle.my_opts.specs.Url.{decoded, unless_empty, first_segment, url_of, options_of}
 use Rattle.my_frame.specs.Numeral.{whole_number}
 use Rattle.my_opts.specs.Values.{truth}

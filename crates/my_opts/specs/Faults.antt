@@ -1,6 +1,6 @@
 -- What a call that reads a URL returns: the result of reading its text, unless memory ran out.
 use Rattle.std.specs.Prelude.{◌≡◌, Result, Ok, Err}
-use Rattle.my_opts.specs.declared.error.UrlError.{UrlError}
+use Rattle.my_opts_parts.specs.declared.error.UrlError.{UrlError}
 use Rattle.my_opts.specs.declared.error.UrlFault.{UrlFault}
 use Rattle.my_opts.specs.declared.error.UrlFault.TheVariants.{Url, NoMemory}
 

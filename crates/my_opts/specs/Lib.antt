@@ -7,6 +7,7 @@ pub mod Query
 pub mod Target
 pub mod Url
 pub mod Values
+pub use Rattle.my_opts_parts.specs.Keys
 pub use Rattle.my_opts_parts.specs.Limits
 pub use Rattle.my_opts_parts.specs.Lists
 pub use Rattle.my_opts_parts.specs.Loopback

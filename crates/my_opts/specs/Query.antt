@@ -1,54 +1,21 @@
 -- The options that a URL's query sets, one pair after the other.
-use Rattle.std.specs.Prelude.{ℕ, ◌*◌, Bool, List, [], ◌∷◌, codes, bytes_eq, Option, Some, None, Result, Ok, Err, if◌then◌else◌}
+use Rattle.std.specs.Prelude.{ℕ, ◌*◌, Bool, List, [], ◌∷◌, codes, Option, Some, None, Result, Ok, Err, if◌then◌else◌}
 use Rattle.std.specs.Str.Lossy.{utf8_lossy}
 use Rattle.form_urlencoded.specs.Form.{decode}
-use Rattle.my_opts.specs.declared.error.UrlError.{UrlError}
-use Rattle.my_opts.specs.declared.error.UrlError.TheVariants.{FeatureRequired, InvalidParamValue, UnknownParameter}
-use Rattle.my_opts.specs.declared.query.TruthOption.{TruthOption}
-use Rattle.my_opts.specs.declared.query.TruthOption.TheVariants.{TcpNodelay, PreferSocket, SecureAuth, ClientFoundRows, EnableCleartextPlugin, ResetConnection, RequireSsl, VerifyCa, VerifyIdentity, BuiltInRoots}
-use Rattle.my_opts.specs.declared.query.NumberOption.{NumberOption}
-use Rattle.my_opts.specs.declared.query.NumberOption.TheVariants.{PoolMin, PoolMax, PoolMaxWaiting, InactiveConnectionTtl, TtlCheckInterval, AbsConnTtl, AbsConnTtlJitter, ConnTtl, TcpKeepalive, StmtCacheSize, MaxAllowedPacket, WaitTimeout}
-use Rattle.my_opts.specs.declared.query.Row.{Row}
-use Rattle.my_opts.specs.declared.query.Row.TheVariants.{Truth, Whole32, Whole64, SocketPath, Compression}
+use Rattle.my_opts_parts.specs.declared.error.UrlError.{UrlError}
+use Rattle.my_opts_parts.specs.declared.error.UrlError.TheVariants.{FeatureRequired, InvalidParamValue, UnknownParameter}
+use Rattle.my_opts_parts.specs.declared.keys.TruthOption.{TruthOption}
+use Rattle.my_opts_parts.specs.declared.keys.TruthOption.TheVariants.{TcpNodelay, PreferSocket, SecureAuth, ClientFoundRows, EnableCleartextPlugin, ResetConnection, RequireSsl, VerifyCa, VerifyIdentity, BuiltInRoots}
+use Rattle.my_opts_parts.specs.declared.keys.NumberOption.{NumberOption}
+use Rattle.my_opts_parts.specs.declared.keys.NumberOption.TheVariants.{PoolMin, PoolMax, PoolMaxWaiting, InactiveConnectionTtl, TtlCheckInterval, AbsConnTtl, AbsConnTtlJitter, ConnTtl, TcpKeepalive, StmtCacheSize, MaxAllowedPacket, WaitTimeout}
+use Rattle.my_opts_parts.specs.declared.keys.Row.{Row}
+use Rattle.my_opts_parts.specs.declared.keys.Row.TheVariants.{Truth, Whole32, Whole64, SocketPath, Compression}
 use Rattle.my_opts.specs.declared.query.Gathered.{Gathered}
+use Rattle.my_opts_parts.specs.Keys.{table, row_among}
 use Rattle.my_opts_parts.specs.Limits.{packet_limit, waiting_limit}
 use Rattle.my_opts_parts.specs.Pool.{interval_of}
 use Rattle.my_frame.specs.Numeral.{whole_number}
 use Rattle.my_opts.specs.Values.{truth, is_compression}
-
--- each name with how its value is parsed and which option it sets
-abbrev pub table : List (List ℕ × Row)
-table =
-    (codes "pool_min", Whole64 PoolMin)
-    ∷ (codes "pool_max", Whole64 PoolMax)
-    ∷ (codes "pool_max_waiting", Whole64 PoolMaxWaiting)
-    ∷ (codes "inactive_connection_ttl", Whole64 InactiveConnectionTtl)
-    ∷ (codes "ttl_check_interval", Whole64 TtlCheckInterval)
-    ∷ (codes "abs_conn_ttl", Whole64 AbsConnTtl)
-    ∷ (codes "abs_conn_ttl_jitter", Whole64 AbsConnTtlJitter)
-    ∷ (codes "conn_ttl", Whole64 ConnTtl)
-    ∷ (codes "tcp_keepalive", Whole32 TcpKeepalive)
-    ∷ (codes "stmt_cache_size", Whole64 StmtCacheSize)
-    ∷ (codes "max_allowed_packet", Whole64 MaxAllowedPacket)
-    ∷ (codes "wait_timeout", Whole64 WaitTimeout)
-    ∷ (codes "tcp_nodelay", Truth TcpNodelay)
-    ∷ (codes "prefer_socket", Truth PreferSocket)
-    ∷ (codes "secure_auth", Truth SecureAuth)
-    ∷ (codes "client_found_rows", Truth ClientFoundRows)
-    ∷ (codes "enable_cleartext_plugin", Truth EnableCleartextPlugin)
-    ∷ (codes "reset_connection", Truth ResetConnection)
-    ∷ (codes "require_ssl", Truth RequireSsl)
-    ∷ (codes "verify_ca", Truth VerifyCa)
-    ∷ (codes "verify_identity", Truth VerifyIdentity)
-    ∷ (codes "built_in_roots", Truth BuiltInRoots)
-    ∷ (codes "socket", SocketPath)
-    ∷ (codes "compression", Compression)
-    ∷ []
-
--- the row of a name among rows
-abbrev pub row_among : List (List ℕ × Row) → List ℕ → Option Row
-row_among [] name = None
-row_among (row ∷ rows) name = if bytes_eq name row.0 then Some row.1 else row_among rows name
 
 -- what a whole number sets, within its limits; a number of seconds is kept in milliseconds
 abbrev pub put_number : NumberOption → ℕ → Gathered → Gathered

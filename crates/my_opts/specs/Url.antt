@@ -9,8 +9,8 @@ use Rattle.url.specs.Input.{is_empty}
 use Rattle.url.specs.Host.{host_text}
 use Rattle.url.specs.Parts.{Parts, has_host, nonempty_host}
 use Rattle.url.specs.Parser.{parse_url}
-use Rattle.my_opts.specs.declared.error.UrlError.{UrlError}
-use Rattle.my_opts.specs.declared.error.UrlError.TheVariants.{FeatureRequired, Invalid, InvalidPoolConstraints, Parse, UnsupportedScheme}
+use Rattle.my_opts_parts.specs.declared.error.UrlError.{UrlError}
+use Rattle.my_opts_parts.specs.declared.error.UrlError.TheVariants.{FeatureRequired, Invalid, InvalidPoolConstraints, Parse, UnsupportedScheme}
 use Rattle.my_opts.specs.declared.query.Gathered.{Gathered}
 use Rattle.my_opts.specs.Opts.{OptsView, default_opts}
 use Rattle.my_opts_parts.specs.Pool.{Bounds, default_pool}

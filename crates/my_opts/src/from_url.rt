@@ -8,11 +8,11 @@ ghost use Rattle.my_opts.specs.Query.{and_then};
 ghost use Rattle.my_opts.specs.Url.{decoded, unless_empty, before_slash, first_segment, url_of, begun, gathered, allowed_bounds, finished, options_of};
 
 use crate::builder::OptsBuilder;
-use crate::error::{UrlError, UrlFault};
+use crate::error::UrlFault;
 use crate::opts::Opts;
 use crate::query::{Gathered, feature_required};
 use my_frame::{NoMemory, Text};
-use my_opts_parts::{PoolConstraints, PoolOpts};
+use my_opts_parts::{PoolConstraints, PoolOpts, UrlError};
 use percent_encoding::percent_decode;
 use std::alloc::Global;
 use url::{ParseError, Url};

@@ -13,11 +13,11 @@ mod values;
 
 pub use builder::OptsBuilder;
 pub use change_user::ChangeUserOpts;
-pub use error::{UrlError, UrlFault};
+pub use error::UrlFault;
 pub use laws::url_gives_what_a_builder_gives;
 pub use my_frame::Listed;
 pub use my_opts_parts::{
     DEFAULT_INACTIVE_CONNECTION_TTL, DEFAULT_POOL_CONSTRAINTS, DEFAULT_TTL_CHECK_INTERVAL,
-    IsolationLevel, Millis, PoolConstraints, PoolOpts, Target, TxOpts,
+    IsolationLevel, Millis, PoolConstraints, PoolOpts, Target, TxOpts, UrlError,
 };
 pub use opts::{DEFAULT_PORT, DEFAULT_STMT_CACHE_SIZE, Opts};

@@ -2,58 +2,17 @@
 
 ghost use Rattle.std.specs.Prelude.{◌≡◌, Some, Ok};
 ghost use Rattle.my_opts.specs.Faults.{ReadsAs, IsFault};
-ghost use Rattle.my_opts.specs.Query.{table, row_among, put_number, put_truth, put_socket, set_or_refused, compression_error, after_row, after_pair};
+ghost use Rattle.my_opts.specs.Query.{put_number, put_truth, put_socket, set_or_refused, compression_error, after_row, after_pair};
 ghost use Rattle.my_frame.specs.Numeral.{whole_number};
 ghost use Rattle.my_opts.specs.Values.{truth};
 
 use crate::builder::OptsBuilder;
-use crate::error::{UrlError, UrlFault};
+use crate::error::UrlFault;
 use crate::values::{is_compression, truth_of, whole32, whole64};
 use my_frame::Text;
-use my_opts_parts::{Millis, PoolConstraints, PoolOpts};
+use my_opts_parts::keys::{NumberOption, Row, TruthOption, row_named};
+use my_opts_parts::{Millis, PoolConstraints, PoolOpts, UrlError};
 use std::alloc::Global;
-
-/// An option whose value is a truth value.
-#[derive(Clone, Copy)]
-pub(crate) enum TruthOption {
-    TcpNodelay,
-    PreferSocket,
-    SecureAuth,
-    ClientFoundRows,
-    EnableCleartextPlugin,
-    ResetConnection,
-    RequireSsl,
-    VerifyCa,
-    VerifyIdentity,
-    BuiltInRoots,
-}
-
-/// An option whose value is a whole number.
-#[derive(Clone, Copy)]
-pub(crate) enum NumberOption {
-    PoolMin,
-    PoolMax,
-    PoolMaxWaiting,
-    InactiveConnectionTtl,
-    TtlCheckInterval,
-    AbsConnTtl,
-    AbsConnTtlJitter,
-    ConnTtl,
-    TcpKeepalive,
-    StmtCacheSize,
-    MaxAllowedPacket,
-    WaitTimeout,
-}
-
-/// How the value of a name is parsed, and which option it sets.
-#[derive(Clone, Copy)]
-pub(crate) enum Row {
-    Truth(TruthOption),
-    Whole32(NumberOption),
-    Whole64(NumberOption),
-    SocketPath,
-    Compression,
-}
 
 /// What the pairs of a query have set so far.
 #[derive(Drop)]
@@ -63,49 +22,6 @@ pub(crate) struct Gathered {
     pub(crate) pool_min: u64,
     pub(crate) pool_max: u64,
     pub(crate) require_ssl: bool,
-}
-
-/// The row of a name.
-fn row_named(name: &str) -> Option<Row>
-    ensures { result ≡ row_among table name.now }
-{
-    Some(match name {
-        "pool_min" => Row::Whole64(NumberOption::PoolMin),
-        "pool_max" => Row::Whole64(NumberOption::PoolMax),
-        "pool_max_waiting" => Row::Whole64(NumberOption::PoolMaxWaiting),
-        "inactive_connection_ttl" => Row::Whole64(NumberOption::InactiveConnectionTtl),
-        "ttl_check_interval" => Row::Whole64(NumberOption::TtlCheckInterval),
-        "abs_conn_ttl" => Row::Whole64(NumberOption::AbsConnTtl),
-        "abs_conn_ttl_jitter" => Row::Whole64(NumberOption::AbsConnTtlJitter),
-        "conn_ttl" => Row::Whole64(NumberOption::ConnTtl),
-        "tcp_keepalive" => Row::Whole32(NumberOption::TcpKeepalive),
-        "stmt_cache_size" => Row::Whole64(NumberOption::StmtCacheSize),
-        "max_allowed_packet" => Row::Whole64(NumberOption::MaxAllowedPacket),
-        "wait_timeout" => Row::Whole64(NumberOption::WaitTimeout),
-        "tcp_nodelay" => Row::Truth(TruthOption::TcpNodelay),
-        "prefer_socket" => Row::Truth(TruthOption::PreferSocket),
-        "secure_auth" => Row::Truth(TruthOption::SecureAuth),
-        "client_found_rows" => Row::Truth(TruthOption::ClientFoundRows),
-        "enable_cleartext_plugin" => Row::Truth(TruthOption::EnableCleartextPlugin),
-        "reset_connection" => Row::Truth(TruthOption::ResetConnection),
-        "require_ssl" => Row::Truth(TruthOption::RequireSsl),
-        "verify_ca" => Row::Truth(TruthOption::VerifyCa),
-        "verify_identity" => Row::Truth(TruthOption::VerifyIdentity),
-        "built_in_roots" => Row::Truth(TruthOption::BuiltInRoots),
-        "socket" => Row::SocketPath,
-        "compression" => Row::Compression,
-        _ => return None,
-    })
-}
-
-/// Why a value of this name was refused, as the end of a sentence.
-pub(crate) fn other_than_wanted(name: &str) -> &'static str {
-    match row_named(name) {
-        Some(Row::Truth(_)) => "neither true nor false",
-        Some(Row::Whole32(_)) => "no number up to 4294967295",
-        Some(Row::Whole64(_)) => "no number up to 18446744073709551615",
-        _ => "none of its values",
-    }
 }
 
 impl Gathered {

@@ -6,7 +6,7 @@ ghost use Rattle.my_pool_core.specs.Events.{times_of};
 use my_pool_parts::Times;
 
 /// What is known of a connection whose cleaning, or whose reset, is to be decided on.
-#[derive(Clone, Copy, Debug, PartialEq, Eq)]
+#[derive(Clone, Copy)]
 pub struct Facts {
     /// Its session or link is closed.
     pub link_closed: bool,
@@ -39,7 +39,7 @@ impl Facts {
 }
 
 /// What a polled request is to do.
-#[derive(Clone, Copy, Debug, PartialEq, Eq)]
+#[derive(Clone, Copy, PartialEq, Eq)]
 pub enum PollAnswer {
     /// It waits.
     Wait,
@@ -54,7 +54,7 @@ pub enum PollAnswer {
 }
 
 /// What is to be done with a connection that came back.
-#[derive(Clone, Copy, Debug, PartialEq, Eq)]
+#[derive(Clone, Copy, PartialEq, Eq)]
 pub enum Verdict {
     /// It is no longer counted.
     Drop,
@@ -69,7 +69,7 @@ pub enum Verdict {
 }
 
 /// An event of a pool.
-#[derive(Clone, Copy, Debug, PartialEq, Eq)]
+#[derive(Clone, Copy)]
 pub enum PoolEvent {
     /// A connection is asked for.
     Request,
@@ -126,7 +126,7 @@ pub enum PoolEvent {
 }
 
 /// What an event returns.
-#[derive(Clone, Copy, Debug, PartialEq, Eq)]
+#[derive(Clone, Copy, PartialEq, Eq)]
 pub enum Answer {
     /// Nothing.
     Done,

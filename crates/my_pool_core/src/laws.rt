@@ -9,7 +9,7 @@ ghost use Rattle.my_pool_parts.specs.Connections.{latest_usable, is_cleaning_pla
 ghost use Rattle.my_pool_parts.specs.Requests.{last_age, is_waiting};
 ghost use Rattle.my_pool_core.specs.declared.event.Answer.TheVariants.{Poll};
 ghost use Rattle.my_pool_core.specs.declared.event.Facts.{Facts};
-ghost use Rattle.my_pool_core.specs.declared.event.PollAnswer.TheVariants.{Take, Dial};
+ghost use Rattle.my_pool_core.specs.declared.event.PollAnswer.TheVariants.{Wait, Take, Dial};
 ghost use Rattle.my_pool_core.specs.declared.event.PoolEvent.{PoolEvent};
 ghost use Rattle.my_pool_core.specs.declared.limits.Limits.{Limits};
 ghost use Rattle.my_pool_core.specs.declared.event.PoolEvent.TheVariants as events;
@@ -89,7 +89,7 @@ pub fn places_allow()
 {}
 
 /// Which requests an event wakes, and which wait after it. A woken one stays so until it is polled or given
-/// up, and one that waits until it is woken, polled or given up.
+/// up, and one that waits until it is woken or given up: where it is polled, it waits again.
 pub fn woken_are()
     ensures woken { (s : State) (event : PoolEvent) (age : ℕ) → IsSound s → may s event ≡ true
         → is_awake age (step s event) ≡ (wakes s event age || (is_awake age s && not (is_turn_of age event))) }
@@ -98,6 +98,8 @@ pub fn woken_are()
         ≡ (begins_to_wait s event age || (waits age s && not (wakes s event age) && not (is_turn_of age event))) }
     ensures only { (s : State) (event : PoolEvent) (age : ℕ) → IsSound s → wakes s event age ≡ true
         → waits age s ≡ true }
+    ensures again { (s : State) (age now : ℕ) → IsSound s → waits age s ≡ true
+        → (poll_request age now s).answer ≡ Wait }
 {}
 
 /// The oldest waiting age waits, and none that waits is below it; where there is none, none waits.

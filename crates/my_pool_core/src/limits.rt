@@ -5,7 +5,7 @@ ghost use Rattle.my_pool_core.specs.State.{one_more};
 ghost use Rattle.my_pool_core.specs.Events.{no_counts, creation_failed, unestablished, dirty_return, outlived, being_reset, superfluous, kept, cleanup_failed};
 
 /// What a pool is made with.
-#[derive(Clone, Copy, Debug, PartialEq, Eq)]
+#[derive(Clone, Copy)]
 pub struct Limits {
     /// How many connections there are at most.
     pub max: u64,
@@ -21,7 +21,7 @@ pub struct Limits {
 }
 
 /// How often each thing happened. A count at the greatest value of its type stays there.
-#[derive(Clone, Copy, Debug, PartialEq, Eq)]
+#[derive(Clone, Copy)]
 pub struct Counts {
     pub create_failed: u64,
     pub discarded_unestablished_connection: u64,

@@ -18,7 +18,7 @@ use std::marker::Model;
 /// A pool on plain numbers: its connections are numbers, and its requests are their ages.
 ///
 /// Each event is a method. Only `request` takes memory.
-#[derive(Debug, Drop)]
+#[derive(Drop)]
 pub struct Core {
     limits: Limits,
     closed: bool,

@@ -1,3 +1,5 @@
+pub mod Slots
+pub mod Sifting
 pub mod Finding
 pub mod Queue
 pub mod Retiring

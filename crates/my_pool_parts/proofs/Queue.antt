@@ -7,7 +7,7 @@ use Rattle.std.specs.Prelude.{replicate, remove}
 use Rattle.std.proofs.lemmas.Bool.{cases_eq, cases_lt}
 use Rattle.std.proofs.lemmas.List.{get_or_append_left, get_or-append-add, get_or_past, length_push, get_or_push, take-set, drop-set-lt}
 use Rattle.std.proofs.lemmas.List.Edits.{length-remove, get_or-remove_below, get_or-remove_above}
-use Rattle.my_wait_heap.specs.Ages.{age_of, how_many}
+use Rattle.my_pool_parts.specs.Ages.{age_of, how_many}
 use Rattle.my_pool_parts.specs.Live.{IsQueue}
 
 -- one where an age is there

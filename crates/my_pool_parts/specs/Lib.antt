@@ -1,3 +1,5 @@
+pub mod Ages
+pub mod Tree
 pub mod Lists
 pub mod Connections
 pub mod Requests

@@ -1,6 +1,6 @@
 -- The live requests beside the heap of those that wait.
 use Rattle.std.specs.Prelude.{◌≡◌, ℕ, ◌+◌, ◌<◌, ◌≤◌, Option, Some, None, List, [], ◌∷◌, ◌++◌, length, map, slice_index, if◌then◌else◌}
-use Rattle.my_wait_heap.specs.Ages.{age_of, how_many as how_many_held}
+use Rattle.my_pool_parts.specs.Ages.{age_of, how_many as how_many_held}
 use Rattle.my_pool_parts.specs.declared.request.Request.{Request}
 use Rattle.my_pool_parts.specs.declared.seat.Seat.{Seat}
 use Rattle.my_pool_parts.specs.Lists.{how_many}

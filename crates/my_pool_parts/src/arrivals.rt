@@ -14,7 +14,7 @@ use std::alloc::Global;
 use std::marker::Model;
 
 /// Counted connections with their places, and the numbers that may still come.
-#[derive(Debug, Drop)]
+#[derive(Drop)]
 pub struct Arrivals {
     places: Places,
     /// The next number.

@@ -4,7 +4,7 @@ ghost use Rattle.std.specs.Prelude.{◌≡◌};
 ghost use Rattle.my_pool_parts.specs.Connections.{is_kind, is_past, is_over, is_usable, is_usable_place, is_outdated, mark_of_place};
 
 /// What an idle connection's life is measured by, in milliseconds.
-#[derive(Clone, Copy, Debug, PartialEq, Eq)]
+#[derive(Clone, Copy, PartialEq, Eq)]
 pub struct Times {
     /// The moment at which it became idle.
     pub since: u64,
@@ -17,7 +17,7 @@ pub struct Times {
 }
 
 /// Where a counted connection is.
-#[derive(Clone, Copy, Debug, PartialEq, Eq)]
+#[derive(Clone, Copy, PartialEq, Eq)]
 pub enum Place {
     /// It is clean, in the pool, and can be leased.
     Idle(Times),
@@ -38,7 +38,7 @@ pub enum Place {
 }
 
 /// The kinds of places.
-#[derive(Clone, Copy, Debug, PartialEq, Eq)]
+#[derive(Clone, Copy, PartialEq, Eq)]
 pub enum PlaceKind {
     Idle,
     Leased,
@@ -51,7 +51,7 @@ pub enum PlaceKind {
 }
 
 /// A counted connection.
-#[derive(Clone, Copy, Debug, PartialEq, Eq)]
+#[derive(Clone, Copy, PartialEq, Eq)]
 pub struct Connection {
     /// Its number, which no other one of the pool ever has.
     pub number: u64,

@@ -18,7 +18,7 @@ use std::marker::Model;
 /// Counted connections with their places. One is found by its number; the idle and the returned ones stand in queues.
 ///
 /// Only `reserve`, `expect` and `list` take memory.
-#[derive(Debug, Drop)]
+#[derive(Drop)]
 pub struct Connections {
     arrivals: Arrivals,
     /// The numbers of the idle ones, the one that is idle longest first.

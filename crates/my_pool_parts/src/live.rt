@@ -5,21 +5,22 @@
 
 ghost use Rattle.std.specs.Prelude.{◌≡◌, ℕ, ◌+◌, ◌*◌, ◌^◌, ◌≤◌, ◌<◌, ◌++◌, [], ◌∷◌, Some, None, true, false, length, find, List, Option, slice_set, vec_capacity, IfOk, OnOk, OnErr, if◌then◌else◌};
 ghost use Rattle.std.specs.List.{list_any};
-ghost use Rattle.my_wait_heap.specs.Ages.{age_of, how_many as how_many_held};
+ghost use Rattle.my_pool_parts.specs.Ages.{age_of, how_many as how_many_held};
 ghost use Rattle.my_pool_parts.specs.Lists.{how_many, found_is, change_first};
 ghost use Rattle.my_pool_parts.specs.Requests.{last_age, asking, is_free, holds, has_age, is_waiting, is_queued, is_dialing, may_dial, set_standing, set_waiting, ended, wake, wake_all, waits_up_to, has_waited, with_last, IsRising, oldest_in, changed};
 ghost use Rattle.my_pool_parts.specs.Live.{IsQueue};
 
+use crate::heap::WaitHeap;
+use crate::ledger::Ledger;
 use crate::request::{LAST, Request, Standing};
 use crate::seat::Seat;
 use my_frame::NoMemory;
-use my_wait_heap::{Ledger, WaitHeap};
 use std::alloc::Global;
 use std::collections::BTreeMap;
 use std::marker::Model;
 
 /// The live requests.
-#[derive(Debug, Drop)]
+#[derive(Drop)]
 pub struct Live {
     /// Each request with its slot, by its age.
     seats: BTreeMap<u64, Seat>,

@@ -12,7 +12,7 @@ use std::alloc::Global;
 use std::marker::Model;
 
 /// The place of each number; a number that may come has none yet.
-#[derive(Debug, Drop)]
+#[derive(Drop)]
 pub(crate) struct Places {
     /// Made with the first number, so that a new one takes no memory.
     map: Option<LruCache<u64, Option<Place>>>,

@@ -7,7 +7,7 @@ ghost use Rattle.my_pool_parts.specs.Requests.{asking, is_free, holds, is_waitin
 pub const LAST: u64 = u64::MAX;
 
 /// What a live request does.
-#[derive(Clone, Copy, Debug, PartialEq, Eq)]
+#[derive(Clone, Copy, PartialEq, Eq)]
 pub enum Standing {
     /// It holds nothing and is to be polled.
     Asks,
@@ -22,7 +22,7 @@ pub enum Standing {
 }
 
 /// A live request.
-#[derive(Clone, Copy, Debug, PartialEq, Eq)]
+#[derive(Clone, Copy, PartialEq, Eq)]
 pub struct Request {
     /// Its age: the smaller, the older.
     pub age: u64,

@@ -3,6 +3,7 @@
 ghost use Rattle.std.specs.Prelude.{◌≡◌, IfOk};
 
 use my_frame::{CodecFault, NoMemory, Text};
+use my_opts_parts::UrlError;
 use std::alloc::Global;
 use thiserror::Error as ThisError;
 
@@ -98,6 +99,9 @@ pub enum Error {
     Io(IoError),
     #[error(transparent)]
     Server(ServerError),
+    /// The URL gives no options. No call of a session comes to it.
+    #[error(transparent)]
+    Url(UrlError),
     #[error("out of memory")]
     NoMemory,
 }
@@ -120,7 +124,7 @@ impl Error {
         ensures { result ≡ is_fatal self.now }
     {
         match self {
-            Error::Driver(_) | Error::Io(_) | Error::NoMemory => true,
+            Error::Driver(_) | Error::Io(_) | Error::Url(_) | Error::NoMemory => true,
             Error::Server(_) => false,
         }
     }
@@ -133,6 +137,7 @@ impl Error {
             Error::Driver(error) => Ok(Error::Driver(*error)),
             Error::Io(error) => Ok(Error::Io(*error)),
             Error::Server(error) => Ok(Error::Server(error.copy(alloc)?)),
+            Error::Url(error) => Ok(Error::Url(error.copy(alloc)?)),
             Error::NoMemory => Ok(Error::NoMemory),
         }
     }

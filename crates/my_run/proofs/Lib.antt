@@ -1,3 +1,4 @@
 pub mod Outputs
+pub mod Streaming
 pub mod Runs
 pub mod WrongRuns

@@ -1,7 +1,7 @@
 -- The run, step by step.
 pub mod Fitting
 pub mod Taping
-use Rattle.std.proofs.Common.{◌≤◌, ℕ, ◌≡◌, ◌+◌, ◌<◌, suc, zero, List, [], ◌∷◌, ◌++◌, length, map, take, Option, refl, sym, ap, ◌∙◌, subst, arith}
+use Rattle.std.proofs.Common.{◌≤◌, ℕ, ◌≡◌, ◌+◌, ◌<◌, suc, zero, List, [], ◌∷◌, ◌++◌, length, map, take, Option, Bool, refl, sym, ap, ◌∙◌, subst, arith}
 use Rattle.std.proofs.lemmas.List.{length-append, map-append}
 use Rattle.my_grammar.specs.declared.login.Login.{Login}
 use Rattle.my_session.proofs.History.{each_history}
@@ -15,7 +15,11 @@ use Rattle.my_script.specs.declared.transcript.StepAnswer.{StepAnswer}
 use Rattle.my_script.specs.declared.transcript.Tape.{Tape}
 use Rattle.my_steps.specs.Dialing.{DialsTo, dial_met, has_dialed}
 use Rattle.my_steps.specs.Did.{Stepped}
-use Rattle.my_steps.specs.Grows.{Line, StepGrows, handles_after}
+use Rattle.my_script.specs.declared.stream.Stream.TheVariants.{Without}
+use Rattle.my_script.specs.Streams.{stream_by, target}
+use Rattle.my_steps.specs.Grows.{Line, StepGrows, handles_after, is_streamed, stream_of}
+use Rattle.my_run.specs.declared.streams.Streams.{Streams}
+use Rattle.my_run.specs.Streams.{stream_in}
 use Rattle.my_steps.specs.Handle.{Handle, Absent, Dialing, Joined, at_number}
 use Rattle.my_run.specs.Headline.{AnswerView, answer_view, steps_of, IsSaid, IsExplained, EachExplained, Headline, SoFar}
 use Rattle.my_world.specs.World.{Plans, SamePlans, SameFrom, DialCounts}
@@ -56,33 +60,47 @@ count_steps : (ls : List Line) → length (steps_of ls) ≡ length ls
 count_steps [] = refl
 count_steps (l ∷ ls) = omega (arith, count_steps ls, length-append (steps_of ls) (l.step ∷ []))
 
-pub none_yet : {L : Type 0} (look : L → Looks) (login : Login) (plans : Plans) (before : DialCounts) (done : List Step) (ss : List (Slot L)) (given : List StepAnswer) → done ≡ [] → ss ≡ [] → given ≡ [] → SoFar look login plans before before done ss given
-none_yet {L} look login plans before done ss given d e f = record {
-  lines = [];
-  steps_are = sym d;
-  answered = ap (map answer_view) f;
-  handles_are = ap (map (handle_of look)) e;
-  stood = subst (AreStood login) (sym e) tt;
-  grown = tt;
-  dialed = refl;
-  explained = tt;
-}
+pub none_yet : {L : Type 0} (look : L → Looks) (login : Login) (plans : Plans) (before : DialCounts) (done : List Step) (ss : List (Slot L)) (given : List StepAnswer) → done ≡ [] → ss ≡ [] → given ≡ [] → (v : SoFar look login plans before before done ss given) × ((n : ℕ) → stream_of n v.lines ≡ Without)
+none_yet {L} look login plans before done ss given d e f = (
+  record {
+    lines = [];
+    steps_are = sym d;
+    answered = ap (map answer_view) f;
+    handles_are = ap (map (handle_of look)) e;
+    stood = subst (AreStood login) (sym e) tt;
+    grown = tt;
+    dialed = refl;
+    explained = tt;
+  },
+  λ n. refl,
+)
 
-pub step_on : {L : Type 0} (look : L → Looks) (login : Login) (plans : Plans) (before now later : DialCounts) (done next : List Step) (ss ts : List (Slot L)) (given bs : List StepAnswer) (step : Step) (a : StepAnswer) → SoFar look login plans before now done ss given → Stepped login ss ts (StepGrows login plans (map (handle_of look) ss) step a.outcome a.uses.items (map (handle_of look) ts)) → DialsTo now later (dial_met (has_dialed step (map (handle_of look) ss)) a.uses.items) → a.number ≡ length done + 1 → bs ≡ given ++ a ∷ [] → next ≡ done ++ step ∷ [] → SoFar look login plans before later next ts bs
-step_on {L} look login plans before now later done next ss ts given bs step a u w dials num e f =
+-- and the streams are those of the lines
+abbrev pub StreamsSoFar : {L : Type 0} → (L → Looks) → Login → Plans → DialCounts → DialCounts → List Step → List (Slot L) → List StepAnswer → Streams → Type 0
+StreamsSoFar look login told before now done slots answers streams = (plans : Plans) → SamePlans told plans
+    → (v : SoFar look login plans before now done slots answers) × ((n : ℕ) → stream_in streams n ≡ stream_of n v.lines)
+
+pub step_on : {L : Type 0} (look : L → Looks) (login : Login) (plans : Plans) (before now later : DialCounts) (done next : List Step) (ss ts : List (Slot L)) (given bs : List StepAnswer) (step : Step) (a : StepAnswer) (there : Bool) → (u : SoFar look login plans before now done ss given) → there ≡ is_streamed (target step) u.lines → Stepped login ss ts (StepGrows login plans there (map (handle_of look) ss) step a.outcome a.uses.items (map (handle_of look) ts)) → DialsTo now later (dial_met (has_dialed step (map (handle_of look) ss)) a.uses.items) → a.number ≡ length done + 1 → bs ≡ given ++ a ∷ [] → next ≡ done ++ step ∷ []
+    → (v : SoFar look login plans before later next ts bs) × ((n : ℕ) → stream_of n v.lines ≡ stream_by n (stream_of n u.lines) step a.outcome)
+step_on {L} look login plans before now later done next ss ts given bs step a there u streamed w dials num e f =
     let lines : List Line = record { step = step; number = a.number; outcome = a.outcome; uses = a.uses.items; handles = map (handle_of look) ts } ∷ u.lines in
-    let grows : StepGrows login plans (handles_after u.lines) step a.outcome a.uses.items (map (handle_of look) ts) = subst (λ (hs : List Handle). StepGrows login plans hs step a.outcome a.uses.items (map (handle_of look) ts)) u.handles_are w.grows in
-    let fits : AllFit plans (map (handle_of look) ts) = step_fits login plans (handles_after u.lines) step a.outcome a.uses.items (map (handle_of look) ts) (all_fit login plans u.lines u.explained) grows in
-    record {
-      lines = lines;
-      steps_are = ap (λ ss. ss ++ step ∷ []) u.steps_are ∙ sym f;
-      answered = ap (map answer_view) e ∙ map-append answer_view given (a ∷ []) ∙ ap (λ (vs : List AnswerView). vs ++ answer_view a ∷ []) u.answered;
-      handles_are = refl;
-      stood = w.stood;
-      grown = (record { number = num ∙ ap (λ n. n + 1) (sym (ap length u.steps_are) ∙ count_steps u.lines); answer = grows }, u.grown);
-      dialed = (now, u.dialed, subst (λ (hs : List Handle). DialsTo now later (dial_met (has_dialed step hs) a.uses.items)) u.handles_are dials);
-      explained = (λ m. all_said look login (plans.reads m) ts m w.stood (fits m), u.explained);
-    }
+    let found : Bool = is_streamed (target step) u.lines in
+    let grows : StepGrows login plans found (handles_after u.lines) step a.outcome a.uses.items (map (handle_of look) ts) =
+    subst (λ (b : Bool). StepGrows login plans b (handles_after u.lines) step a.outcome a.uses.items (map (handle_of look) ts)) streamed
+    (subst (λ (hs : List Handle). StepGrows login plans there hs step a.outcome a.uses.items (map (handle_of look) ts)) u.handles_are w.grows) in
+    let fits : AllFit plans (map (handle_of look) ts) = step_fits login plans found (handles_after u.lines) step a.outcome a.uses.items (map (handle_of look) ts) (all_fit login plans u.lines u.explained) grows in (
+      record {
+        lines = lines;
+        steps_are = ap (λ ss. ss ++ step ∷ []) u.steps_are ∙ sym f;
+        answered = ap (map answer_view) e ∙ map-append answer_view given (a ∷ []) ∙ ap (λ (vs : List AnswerView). vs ++ answer_view a ∷ []) u.answered;
+        handles_are = refl;
+        stood = w.stood;
+        grown = (record { number = num ∙ ap (λ n. n + 1) (sym (ap length u.steps_are) ∙ count_steps u.lines); answer = grows }, u.grown);
+        dialed = (now, u.dialed, subst (λ (hs : List Handle). DialsTo now later (dial_met (has_dialed step hs) a.uses.items)) u.handles_are dials);
+        explained = (λ m. all_said look login (plans.reads m) ts m w.stood (fits m), u.explained);
+      },
+      λ n. refl,
+    )
 
 pub headline : {L : Type 0} (look : L → Looks) (login : Login) (plans : Plans) (before later : DialCounts) (steps : List Step) (ss : List (Slot L)) (given : List StepAnswer) (tapes : List Tape) → SoFar look login plans before later steps ss given → map tape_view tapes ≡ tapes_in 0 (map (handle_of look) ss) → Headline login plans before later steps given tapes
 headline look login plans before later steps ss given tapes u e = record {

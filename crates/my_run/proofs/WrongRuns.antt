@@ -44,7 +44,8 @@ use Rattle.my_world.specs.World.{Plans, WorldSeen, DialCounts, no_dials}
 use Rattle.my_run.specs.declared.tool.Status.{Status}
 use Rattle.my_run.specs.declared.tool.Status.TheVariants as ends
 use Rattle.my_steps.specs.Dialing.{DialsTo, dial_met, has_dialed, AreDialed}
-use Rattle.my_steps.specs.Grows.{Line, handles_after, AreGrown, StepGrows, DialsNext, HasPlan, Dials, Holds, Fails, Links, ConnectShows, Connects, PolledOnce, Begins, BeginsOn, Calls, At, shown}
+use Rattle.my_script.specs.Streams.{target}
+use Rattle.my_steps.specs.Grows.{Line, handles_after, is_streamed, AreGrown, StepGrows, DialsNext, HasPlan, Dials, Holds, Fails, Links, ConnectShows, Connects, PolledOnce, Begins, BeginsOn, Calls, At, shown}
 use Rattle.my_steps.specs.Handle.{Handle, Absent, Dialing, Joined, at_number, put_at}
 use Rattle.my_run.specs.Headline.{AnswerView, answer_view, steps_of, answers_of, Headline, IsExplained, EachExplained}
 use Rattle.my_steps.specs.Sums.{use_of, quiet, failed_use}
@@ -178,7 +179,7 @@ lone login plans before later a tapes w =
     let next : DialsNext login plans [] a.outcome a.uses.items l.handles =
     subst (λ (x : Outcome). DialsNext login plans [] x a.uses.items l.handles) outcome
     (subst (λ (us : List Use). DialsNext login plans [] l.outcome us l.handles) uses
-    (subst (λ (s : Step). StepGrows login plans [] s l.outcome l.uses l.handles) o.2 grown.0.answer)) in
+    (subst (λ (s : Step). StepGrows login plans (is_streamed (target s) []) [] s l.outcome l.uses l.handles) o.2 grown.0.answer)) in
     let dialed = subst (λ (ls : List Line). AreDialed before ls later) o.1 w.dialed in
     let explained = subst (EachExplained login plans) o.1 w.explained in
     record {
@@ -334,8 +335,8 @@ no_hold_in_turn login plans before later greeting ok pong a b t c n id v some_ok
     let second : m.outcome ≡ Pending = sym (ap second_outcome answered) ∙ pending in
     let second_uses : m.uses ≡ use_of 0 (record nothing_met { holds = 1 }) ∷ [] = sym (ap uses_second answered) ∙ uses in
     let grown = subst (AreGrown login plans) o.2 w.grown in
-    let next : DialsNext login plans [] l.outcome l.uses l.handles = subst (λ (s : Step). StepGrows login plans [] s l.outcome l.uses l.handles) o.3 grown.1.0.answer in
-    let there : At 0 (Calls login 0 Ping) l.handles m.outcome m.uses m.handles = subst (λ (s : Step). StepGrows login plans l.handles s m.outcome m.uses m.handles) o.4 grown.0.answer in
+    let next : DialsNext login plans [] l.outcome l.uses l.handles = subst (λ (s : Step). StepGrows login plans (is_streamed (target s) []) [] s l.outcome l.uses l.handles) o.3 grown.1.0.answer in
+    let there : At 0 (Calls login 0 Ping) l.handles m.outcome m.uses m.handles = subst (λ (s : Step). StepGrows login plans (is_streamed (target s) (l ∷ [])) l.handles s m.outcome m.uses m.handles) o.4 grown.0.answer in
     let made = dialed_made login (plans.reads 0) _ (plans.writes 0) 0 id v l.outcome l.uses next.made told first next.dials in
     let handles : l.handles ≡ Joined true made.kept made.link ∷ [] = next.others ∙ ap (λ (h : Handle). h ∷ []) made.is in
     let begun : BeginsOn made.kept.pending login 0 Ping made.kept made.link m.outcome m.uses there.made = subst (λ (hs : List Handle). Calls login 0 Ping (at_number hs 0) m.outcome m.uses there.made) handles there.does in

@@ -4,6 +4,7 @@
 mod input;
 mod output;
 mod run;
+mod streams;
 mod tape;
 mod tool;
 pub mod wrong_runs;

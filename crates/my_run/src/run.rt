@@ -6,6 +6,7 @@ ghost use Rattle.my_run.specs.Headline.{RunSoFar, RunsTo};
 ghost use Rattle.my_steps.specs.Slot.{handle_of};
 ghost use Rattle.my_run.specs.Tapes.{tape_view, tape_of, tape_at, tapes_in};
 
+use crate::streams::Streams;
 use crate::tape::tape_calls;
 use my_client::TapedConn;
 use my_frame::NoMemory;
@@ -29,8 +30,11 @@ fn run_each<N: World>(
     ensures { OnOk result (RunSoFar N.L.looks (login_of opts.now) (N.seen world.old).plans
         (N.seen world.old).dials (N.seen world.new).dials steps.now slots.new.items answers.new.items) }
 {
+    let mut streams = Streams::new(alloc);
     for (i, step) in steps.iter().enumerate() {
-        let did = run_step(alloc, opts, world, slots, step)?;
+        let there = streams.is_there(step);
+        let did = run_step(alloc, opts, world, slots, step, there)?;
+        streams.note(step, &did.outcome)?;
         answers.push(StepAnswer {
             number: i as u64 + 1,
             outcome: did.outcome,

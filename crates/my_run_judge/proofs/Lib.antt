@@ -2,5 +2,6 @@ pub mod Ending
 pub mod Doing
 pub mod Rows
 pub mod EachPoll
+pub mod Passing
 pub mod Whole
 pub mod Numbers

@@ -1,14 +1,15 @@
 -- What the program does to the walk of a connection.
-use Rattle.std.specs.Prelude.{◌≡◌, ℕ, Bool, true}
+use Rattle.std.specs.Prelude.{◌≡◌, ℕ, Bool, true, not, ◌&&◌, slice_get}
 use Rattle.std.specs.Bool.{Decides}
 use Rattle.my_grammar.specs.declared.login.Login.{Login}
-use Rattle.my_reading.specs.Place.{Place, first_place}
+use Rattle.my_reading.specs.Place.{Place, first_place, is_taken}
 use Rattle.my_judge.specs.Reads.{ReadsCall}
 use Rattle.my_judge.specs.Stands.{IsAt}
 use Rattle.my_run_judge.specs.Seen.{TapeSeen}
+use Rattle.my_script.specs.declared.step.Step.{Step}
 use Rattle.my_script.specs.declared.transcript.TapeCall.{TapeCall}
 use Rattle.my_run_judge.specs.declared.walk.Walker.{Walker}
-use Rattle.my_run_judge.specs.Lines.{IsOver}
+use Rattle.my_run_judge.specs.Lines.{IsBegun, IsOver, begun_in}
 use Rattle.my_run_judge.specs.Walks.{Walk, read_at, start}
 
 -- the program's walk, where its reading is at this place
@@ -45,3 +46,13 @@ pub record IsStart (login : Login) (n : ℕ) (c : Walker) : Type 0 where
 -- the program knows whether the tape is used up
 abbrev pub IsOverAt : Login → TapeSeen → Walker → Bool → Type 0
 IsOverAt login t c over = (p : Place) → IsAt login p c.reader.stand → Decides over (IsOver login t (walk_of p c) c.spot.status)
+
+-- wherever the program's reading is, a stream took the set that is read, or whose end is left, or none did
+abbrev pub IsTakenAt : Walker → Bool → Type 0
+IsTakenAt c taken = (login : Login) (p : Place) → IsAt login p c.reader.stand
+    → taken ≡ not c.reader.closed && is_taken p
+
+-- and the program knows whether the call in turn is the one that the step begins
+abbrev pub Begins : TapeSeen → Step → Walker → Bool → Type 0
+Begins t step c right = (login : Login) (p : Place) → IsAt login p c.reader.stand
+    → Decides right (IsBegun (begun_in (walk_of p c) step) (slice_get t.calls c.spot.next))

@@ -1,5 +1,5 @@
 -- What a line shows at a connection, and when it is right.
-use Rattle.std.specs.Prelude.{◌≡◌, ◌+◌, ◌-◌, ◌≤◌, ◌⊎◌, ℕ, List, [], ◌∷◌, length, take, drop, slice_get, Option, Some, None, Result, Ok, Err, Bool, true, false}
+use Rattle.std.specs.Prelude.{◌≡◌, ◌+◌, ◌-◌, ◌≤◌, ◌⊎◌, ℕ, List, [], ◌∷◌, length, take, drop, slice_get, Option, Some, None, Result, Ok, Err, Bool, true, false, not, ◌&&◌}
 use Rattle.my_handshake.specs.Version.{version_of}
 use Rattle.my_value.specs.RowParts.{RowParts}
 use Rattle.my_grammar.specs.declared.login.Login.{Login}
@@ -12,9 +12,12 @@ use Rattle.my_reading.specs.declared.call.Call.TheVariants as calls
 use Rattle.my_reading.specs.declared.error.Error.{Error}
 use Rattle.my_reading.specs.declared.error.IoKind.TheVariants.{Dial}
 use Rattle.my_reading.specs.declared.facts.Facts.{Facts}
+use Rattle.my_reading.specs.Calls.{kind_of}
 use Rattle.my_reading.specs.Errors.{io_error}
-use Rattle.my_reading.specs.Place.{Place, facts_at}
+use Rattle.my_reading.specs.Place.{Place, facts_at, is_taken}
 use Rattle.my_script.specs.declared.step.Step.{Step}
+use Rattle.my_script.specs.declared.stream.Stream.{Stream}
+use Rattle.my_script.specs.Streams.{is_skip, is_there, stream_by}
 use Rattle.my_script.specs.declared.transcript.Outcome.{Outcome}
 use Rattle.my_script.specs.declared.transcript.Outcome.TheVariants.{Done, Pending, SetEnd, NoSet, Row, Rows, Fields, Connected, Failed, NoSuchHandle}
 use Rattle.my_script.specs.declared.transcript.StepAnswer.{StepAnswer}
@@ -23,11 +26,11 @@ use Rattle.my_run_judge.specs.Seen.{TapeSeen}
 use Rattle.my_script.specs.declared.transcript.TapeCall.{TapeCall}
 use Rattle.my_script.specs.declared.transcript.Use.{Use}
 use Rattle.my_acts.specs.declared.act.Act.{Act}
-use Rattle.my_acts.specs.declared.act.Act.TheVariants.{Wrong, Skips, Tells, Holds, Fails, Connects, Polls, Ends, Cancels}
+use Rattle.my_acts.specs.declared.act.Act.TheVariants.{Wrong, Skips, Tells, Holds, Fails, Connects, Polls, Takes, Ends, Cancels}
 use Rattle.my_acts.specs.declared.act.Status.{Status}
 use Rattle.my_acts.specs.declared.act.Status.TheVariants.{Absent, Dialing, Open, Gathers}
 use Rattle.my_run_judge.specs.declared.walk.Spot.{Spot}
-use Rattle.my_acts.specs.Acts.{act_of, begun_by}
+use Rattle.my_acts.specs.Acts.{act_with, begun_by}
 use Rattle.my_run_judge.specs.Walks.{Walk, with_status, with_taken, IsEnded, ended}
 
 -- the call is this one, where the line begins one
@@ -65,9 +68,14 @@ IsShown (Connected n id version) answer before = answer ≡ Some (Ok answers.Rea
 IsShown (Failed e) answer before = answer ≡ Some (Err e)
 IsShown NoSuchHandle answer before = ⊥
 
+-- a call that passed over a set's rest is no line's last one
+abbrev pub MayEnd : Outcome → Call → Type 0
+MayEnd Done call = is_skip (kind_of call) ≡ false
+MayEnd outcome call = Unit {0}
+
 abbrev pub IsShownAt : Outcome → Option TapeCall → List TapeCall → Type 0
 IsShownAt outcome None before = ⊥
-IsShownAt outcome (Some c) before = IsShown outcome c.answer before
+IsShownAt outcome (Some c) before = IsShown outcome c.answer before × MayEnd outcome c.call
 
 -- the calls from a first one to the one in turn
 abbrev pub calls_before : TapeSeen → ℕ → ℕ → List TapeCall
@@ -146,6 +154,32 @@ PollsRight login n t w begun outcome us = IsBegun begun (slice_get t.calls w.spo
     × ArePolled login n t outcome (first_of w.spot.status w.spot.next) us w
     × IsTold login (after_polls login t outcome us w).place outcome
 
+-- a call passed over the rest of a set that a stream took, and the one that takes the next set is begun
+abbrev pub IsSkip : Option TapeCall → Type 0
+IsSkip None = ⊥
+IsSkip (Some c) = (c.call ≡ calls.SkipTaken) × (c.answer ≡ Some (Ok answers.Ready))
+
+abbrev pub SkipRight : Login → TapeSeen → Walk → Type 0
+SkipRight login t w = IsSkip (slice_get t.calls w.spot.next)
+    × IsBegun (Some calls.TakeSet) (slice_get t.calls (w.spot.next + 1)) × IsEnded login t false w
+
+abbrev pub SkipPoll : Login → ℕ → TapeSeen → Use → Walk → Type 0
+SkipPoll login n t u w = Fits n t w.spot u × RowMet u.met × SkipRight login t (with_taken u.met.taken w)
+
+-- both calls are polled, once each
+abbrev pub AreTaken : Login → ℕ → TapeSeen → Outcome → List Use → Walk → Type 0
+AreTaken login n t outcome [] w = ⊥
+AreTaken login n t outcome (u ∷ []) w = LastPoll login n t outcome w.spot.next u w
+AreTaken login n t outcome (u ∷ v ∷ us) w = ⊥
+
+abbrev pub ArePassed : Login → ℕ → TapeSeen → Outcome → List Use → Walk → Type 0
+ArePassed login n t outcome [] w = ⊥
+ArePassed login n t outcome (u ∷ us) w = SkipPoll login n t u w × AreTaken login n t outcome us (after_row_poll login t u w)
+
+abbrev pub TakesRight : Login → ℕ → TapeSeen → Walk → Option Call → Outcome → List Use → Type 0
+TakesRight login n t w begun outcome us =
+    IsBegun begun (slice_get t.calls w.spot.next) × ArePassed login n t outcome us w
+
 -- the use of a dial that gave a link stands before those of the polls
 abbrev pub ConnectsRight : Login → ℕ → TapeSeen → Walk → Outcome → List Use → Type 0
 ConnectsRight login n t w outcome [] = ⊥
@@ -156,9 +190,13 @@ abbrev pub is_unanswered : Option TapeCall → Type 0
 is_unanswered None = ⊥
 is_unanswered (Some c) = c.answer ≡ None
 
+-- the call that a line begins
+abbrev pub begun_in : Walk → Step → Option Call
+begun_in w step = begun_by (not w.closed && is_taken w.place) step
+
 -- a closed connection refuses the call that the line begins, which ends at once
 abbrev pub EndsAtOnce : Login → TapeSeen → Walk → Step → Outcome → Type 0
-EndsAtOnce login t w step outcome = IsBegun (begun_by step) (slice_get t.calls w.spot.next)
+EndsAtOnce login t w step outcome = IsBegun (begun_in w step) (slice_get t.calls w.spot.next)
     × IsShownAt outcome (slice_get t.calls w.spot.next) [] × IsEnded login t false w
 
 -- the call in turn has no answer: it was cancelled, or is open
@@ -183,7 +221,8 @@ ActRight login n t w step outcome us Tells = IsTold login w.place outcome
 ActRight login n t w step outcome us Holds = DialRight n false outcome us
 ActRight login n t w step outcome us Fails = DialRight n true outcome us
 ActRight login n t w step outcome us (Connects status) = ConnectsRight login n t w outcome us
-ActRight login n t w step outcome us (Polls status) = PollsRight login n t w (begun_by step) outcome us
+ActRight login n t w step outcome us (Polls status) = PollsRight login n t w (begun_in w step) outcome us
+ActRight login n t w step outcome us (Takes status) = TakesRight login n t w (begun_in w step) outcome us
 ActRight login n t w step outcome us (Ends status) = EndsAtOnce login t w step outcome
 ActRight login n t w step outcome us (Cancels status) = EndsUnanswered login t true w
 
@@ -196,6 +235,7 @@ after_reads login t w outcome us Holds = w
 after_reads login t w outcome us Fails = w
 after_reads login t w outcome us (Connects status) = after_polls login t outcome (drop 1 us) w
 after_reads login t w outcome us (Polls status) = after_polls login t outcome us w
+after_reads login t w outcome us (Takes status) = after_polls login t outcome us w
 after_reads login t w outcome us (Ends status) = ended login t false w
 after_reads login t w outcome us (Cancels status) = ended login t true w
 
@@ -208,6 +248,7 @@ status_after old Holds = Dialing
 status_after old Fails = Absent
 status_after old (Connects status) = status
 status_after old (Polls status) = status
+status_after old (Takes status) = status
 status_after old (Ends status) = status
 status_after old (Cancels status) = status
 
@@ -215,15 +256,15 @@ abbrev pub after_act : Login → TapeSeen → Walk → Outcome → List Use → 
 after_act login t w outcome us act =
     let v = after_reads login t w outcome us act in with_status (status_after v.spot.status act) v
 
--- what a line does at connection n
-abbrev pub act_in : ℕ → Walk → Step → StepAnswer → Act
-act_in n w step a = act_of w.spot.status n w.spot.next w.closed step a.outcome (length a.uses.items)
+-- what a line does at connection n, where the earlier ones made this of a stream
+abbrev pub act_in : ℕ → Stream → Walk → Step → StepAnswer → Act
+act_in n s w step a = act_with (is_there s) w.spot.status n w.spot.next w.closed step a.outcome (length a.uses.items)
 
-abbrev pub IsLine : Login → ℕ → TapeSeen → Walk → Step → StepAnswer → Type 0
-IsLine login n t w step a = ActRight login n t w step a.outcome a.uses.items (act_in n w step a)
+abbrev pub IsLine : Login → ℕ → TapeSeen → Stream → Walk → Step → StepAnswer → Type 0
+IsLine login n t s w step a = ActRight login n t w step a.outcome a.uses.items (act_in n s w step a)
 
-abbrev pub after_line : Login → ℕ → TapeSeen → Walk → Step → StepAnswer → Walk
-after_line login n t w step a = after_act login t w a.outcome a.uses.items (act_in n w step a)
+abbrev pub after_line : Login → ℕ → TapeSeen → Stream → Walk → Step → StepAnswer → Walk
+after_line login n t s w step a = after_act login t w a.outcome a.uses.items (act_in n s w step a)
 
 -- at the end all calls were read, and all bytes; the last call may be open, where the reading stops for bytes
 abbrev pub IsOver : Login → TapeSeen → Walk → Status → Type 0
@@ -234,22 +275,23 @@ IsOver login t w (Gathers first) = (w.spot.next + 1 ≡ length t.calls) × (w.sp
 IsOver login t w status = (w.spot.next ≡ length t.calls) × (w.spot.taken ≡ length t.taken)
 
 -- the line with this index
-abbrev pub LineRight : Login → ℕ → TapeSeen → ℕ → Walk → Step → StepAnswer → Type 0
-LineRight login n t k w step a = (a.number ≡ k + 1) × IsLine login n t w step a
+abbrev pub LineRight : Login → ℕ → TapeSeen → ℕ → Stream → Walk → Step → StepAnswer → Type 0
+LineRight login n t k s w step a = (a.number ≡ k + 1) × IsLine login n t s w step a
 
 -- The lines from this one on are right: each has its number, from 1, and there is one answer for each step.
-abbrev pub AreLines : Login → ℕ → TapeSeen → ℕ → Walk → List Step → List StepAnswer → Type 0
-AreLines login n t k w [] [] = IsOver login t w w.spot.status
-AreLines login n t k w [] (a ∷ bs) = ⊥
-AreLines login n t k w (s ∷ ss) [] = ⊥
-AreLines login n t k w (s ∷ ss) (a ∷ bs) = LineRight login n t k w s a
-    × AreLines login n t (k + 1) (after_line login n t w s a) ss bs
+abbrev pub AreLines : Login → ℕ → TapeSeen → ℕ → Stream → Walk → List Step → List StepAnswer → Type 0
+AreLines login n t k s w [] [] = IsOver login t w w.spot.status
+AreLines login n t k s w [] (a ∷ bs) = ⊥
+AreLines login n t k s w (step ∷ steps) [] = ⊥
+AreLines login n t k s w (step ∷ steps) (a ∷ bs) = LineRight login n t k s w step a
+    × AreLines login n t (k + 1) (stream_by n s step a.outcome) (after_line login n t s w step a) steps bs
 
 -- The first line that isn't right is this one; the number of lines stands for the end.
-abbrev pub FirstWrong : Login → ℕ → TapeSeen → ℕ → ℕ → Walk → List Step → List StepAnswer → Type 0
-FirstWrong login n t index k w [] [] = (index ≡ k) × (IsOver login t w w.spot.status → ⊥)
-FirstWrong login n t index k w [] (a ∷ bs) = index ≡ k
-FirstWrong login n t index k w (s ∷ ss) [] = index ≡ k
-FirstWrong login n t index k w (s ∷ ss) (a ∷ bs) =
-    ((index ≡ k) × (LineRight login n t k w s a → ⊥))
-    ⊎ (LineRight login n t k w s a × FirstWrong login n t index (k + 1) (after_line login n t w s a) ss bs)
+abbrev pub FirstWrong : Login → ℕ → TapeSeen → ℕ → ℕ → Stream → Walk → List Step → List StepAnswer → Type 0
+FirstWrong login n t index k s w [] [] = (index ≡ k) × (IsOver login t w w.spot.status → ⊥)
+FirstWrong login n t index k s w [] (a ∷ bs) = index ≡ k
+FirstWrong login n t index k s w (step ∷ steps) [] = index ≡ k
+FirstWrong login n t index k s w (step ∷ steps) (a ∷ bs) =
+    ((index ≡ k) × (LineRight login n t k s w step a → ⊥))
+    ⊎ (LineRight login n t k s w step a
+    × FirstWrong login n t index (k + 1) (stream_by n s step a.outcome) (after_line login n t s w step a) steps bs)

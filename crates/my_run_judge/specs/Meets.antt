@@ -57,6 +57,7 @@ abbrev pub ErrorMet : Error → Met → Type 0
 ErrorMet (errors.Driver e) m = ⊥
 ErrorMet (errors.Io e) m = IoMet e m
 ErrorMet (errors.Server e) m = IsInBytes m
+ErrorMet (errors.Url e) m = ⊥
 ErrorMet errors.NoMemory m = ⊥
 
 -- by what the line shows of it

@@ -10,11 +10,11 @@ ghost use Rattle.my_run_judge.specs.Seen.{seen};
 use crate::line::is_dial;
 use crate::polling::is_told_by;
 use crate::walk::{Spot, Walker};
-use my_acts::{Act, Status, act_of};
+use my_acts::{Act, Status, act_with};
 use my_frame::NoMemory;
 use my_grammar::Login;
 use my_judge::first_reader;
-use my_script::{Step, StepAnswer, Tape};
+use my_script::{Step, StepAnswer, Stream, Tape, is_there, stream_by};
 use std::alloc::Global;
 
 /// What is found of a connection in a transcript.
@@ -50,6 +50,7 @@ fn status_after(old: Status, act: Act) -> Status
         Act::Skips(status)
         | Act::Connects(status)
         | Act::Polls(status)
+        | Act::Takes(status)
         | Act::Ends(status)
         | Act::Cancels(status) => status,
     }
@@ -83,6 +84,7 @@ impl Walker {
             Act::Fails => Ok(is_dial(number, true, outcome, uses)),
             Act::Connects(_) => self.connects(alloc, login, number, tape, outcome, uses),
             Act::Polls(_) => self.polls_right(alloc, login, number, tape, step, outcome, uses),
+            Act::Takes(_) => self.takes_right(alloc, login, number, tape, step, outcome, uses),
             Act::Ends(_) => self.ends_at_once(alloc, login, tape, step, outcome),
             Act::Cancels(_) => self.ends_unanswered(alloc, login, tape, true),
         }
@@ -96,13 +98,14 @@ impl Walker {
         number: u64,
         tape: &Tape,
         index: usize,
+        stream: Stream,
         step: &Step,
         answer: &StepAnswer,
     ) -> Result<bool, NoMemory>
         requires somewhere { IsSomewhere login.now self.old }
         requires index { index < 2 ^ 63 }
-        ensures { let there = λ (w : Walk). LineRight login.now number (seen tape.now) index w step.now answer.now in
-            let after = λ (w : Walk). after_line login.now number (seen tape.now) w step.now answer.now in
+        ensures { let there = λ (w : Walk). LineRight login.now number (seen tape.now) index stream w step.now answer.now in
+            let after = λ (w : Walk). after_line login.now number (seen tape.now) stream w step.now answer.now in
             IfOk result (λ right. Does login.now there after self.old right self.new) }
     {
         if answer.number != index as u64 + 1 {
@@ -110,7 +113,8 @@ impl Walker {
         }
         let spot = self.spot;
         let uses = answer.uses.len();
-        let act = act_of(
+        let act = act_with(
+            is_there(stream),
             spot.status,
             number,
             spot.next,
@@ -152,10 +156,11 @@ impl Walker {
         tape: &Tape,
         others: &[StepAnswer],
         index: usize,
+        stream: Stream,
     ) -> Result<Found, NoMemory>
         requires { IsSomewhere login.now self.old }
         ensures { IfOk result (λ found.
-            EndsAs login.now number (seen tape.now) index others.now self.old found) }
+            EndsAs login.now number (seen tape.now) index stream others.now self.old found) }
     {
         if let Some((_answer, _later)) = others.split_first() {
             return Ok(Found::Wrong(index));
@@ -182,18 +187,20 @@ impl Walker {
         let mut left = steps;
         let mut others = answers;
         let mut index = 0;
+        let mut stream = Stream::Without;
         'lines: while let Some((step, later_steps)) = left.split_first() {
             let Some((answer, later_answers)) = others.split_first() else {
                 return Ok(Found::Wrong(index));
             };
-            if !self.line(alloc, login, number, tape, index, step, answer)? {
+            if !self.line(alloc, login, number, tape, index, stream, step, answer)? {
                 return Ok(Found::Wrong(index));
             }
             left = later_steps;
             others = later_answers;
+            stream = stream_by(number, stream, step, &answer.outcome);
             index += 1;
         }
-        let found = self.at_end(alloc, login, number, tape, others, index)?;
+        let found = self.at_end(alloc, login, number, tape, others, index, stream)?;
         Ok(found)
     }
 }

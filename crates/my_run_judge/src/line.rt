@@ -2,9 +2,9 @@
 
 ghost use Rattle.std.specs.Prelude.{◌≡◌, ◌∷◌, [], IfOk, drop, false};
 ghost use Rattle.std.specs.Bool.{Decides};
-ghost use Rattle.my_acts.specs.Acts.{begun_by};
 ghost use Rattle.my_run_judge.specs.Does.{Does, IsSomewhere};
 ghost use Rattle.my_run_judge.specs.Lines.{
+  ArePassed,
   ArePolled,
   ConnectsRight,
   DialRight,
@@ -12,14 +12,16 @@ ghost use Rattle.my_run_judge.specs.Lines.{
   EndsUnanswered,
   IsDialFault,
   PollsRight,
+  TakesRight,
   after_polls,
+  begun_in,
   use_of,
 };
 ghost use Rattle.my_run_judge.specs.Walks.{Walk, ended};
 ghost use Rattle.my_run_judge.specs.Seen.{seen};
 
 use crate::polling::{first_of, is_told_by};
-use crate::shown::{is_begun, is_shown_at, is_unanswered};
+use crate::shown::{is_shown_at, is_unanswered};
 use crate::walk::Walker;
 use my_frame::NoMemory;
 use my_grammar::Login;
@@ -114,12 +116,12 @@ impl Walker {
         uses: &[Use],
     ) -> Result<bool, NoMemory>
         requires { IsSomewhere login.now self.old }
-        ensures { let begun = begun_by step.now in
-            let there = λ (w : Walk). PollsRight login.now number (seen tape.now) w begun outcome.now uses.now in
+        ensures { let there = λ (w : Walk).
+            PollsRight login.now number (seen tape.now) w (begun_in w step.now) outcome.now uses.now in
             let after = after_polls login.now (seen tape.now) outcome.now uses.now in
             IfOk result (λ right. Does login.now there after self.old right self.new) }
     {
-        if !is_begun(step, tape.calls.get(self.spot.next)) {
+        if !self.begins(tape, step) {
             return Ok(false);
         }
         let first = first_of(self.spot.status, self.spot.next);
@@ -127,6 +129,54 @@ impl Walker {
             return Ok(false);
         }
         Ok(is_told_by(&self.reader.stand.facts, outcome))
+    }
+
+    // The call that passes over a set's rest is polled, and then the one that takes the next set.
+    fn takes(
+        &mut self,
+        alloc: Global,
+        login: &Login,
+        number: u64,
+        tape: &Tape,
+        outcome: &Outcome,
+        uses: &[Use],
+    ) -> Result<bool, NoMemory>
+        requires { IsSomewhere login.now self.old }
+        ensures { let there = ArePassed login.now number (seen tape.now) outcome.now uses.now in
+            let after = after_polls login.now (seen tape.now) outcome.now uses.now in
+            IfOk result (λ right. Does login.now there after self.old right self.new) }
+    {
+        let [skip, take] = uses else {
+            return Ok(false);
+        };
+        if !self.poll_skip(alloc, login, number, tape, skip)? {
+            return Ok(false);
+        }
+        let first = self.spot.next;
+        self.poll_last(alloc, login, number, tape, outcome, first, take)
+    }
+
+    /// A set is taken, once the rest of an earlier one is passed over.
+    pub fn takes_right(
+        &mut self,
+        alloc: Global,
+        login: &Login,
+        number: u64,
+        tape: &Tape,
+        step: &Step,
+        outcome: &Outcome,
+        uses: &[Use],
+    ) -> Result<bool, NoMemory>
+        requires { IsSomewhere login.now self.old }
+        ensures { let there = λ (w : Walk).
+            TakesRight login.now number (seen tape.now) w (begun_in w step.now) outcome.now uses.now in
+            let after = after_polls login.now (seen tape.now) outcome.now uses.now in
+            IfOk result (λ right. Does login.now there after self.old right self.new) }
+    {
+        if !self.begins(tape, step) {
+            return Ok(false);
+        }
+        self.takes(alloc, login, number, tape, outcome, uses)
     }
 
     /// The dial gave a link, and the handshake is polled.
@@ -168,7 +218,7 @@ impl Walker {
             IfOk result (λ right. Does login.now there after self.old right self.new) }
     {
         let call = tape.calls.get(self.spot.next);
-        if !is_begun(step, call) || !is_shown_at(outcome, call, &[]) {
+        if !self.begins(tape, step) || !is_shown_at(outcome, call, &[]) {
             return Ok(false);
         }
         self.end_call(alloc, login, tape, false)

@@ -12,6 +12,7 @@ ghost use Rattle.my_run_judge.specs.Lines.{
   LastPoll,
   LastRight,
   RowPoll,
+  SkipPoll,
   after_last_poll,
   after_row_poll,
   calls_before,
@@ -21,7 +22,7 @@ ghost use Rattle.my_run_judge.specs.Walks.{Walk, ended};
 ghost use Rattle.my_run_judge.specs.Seen.{seen};
 
 use crate::meets::{last_met, row_met};
-use crate::shown::{is_next, is_pending, is_shown_at};
+use crate::shown::{is_next, is_pending, is_shown_at, is_skipped, is_taken_by};
 use crate::walk::{Spot, Walker, call_after};
 use my_acts::Status;
 use my_frame::NoMemory;
@@ -174,6 +175,32 @@ impl Walker {
         }
         self.spot.taken += used.met.taken as usize;
         if !is_next_row(call_after(tape, self.spot.next)) {
+            return Ok(false);
+        }
+        self.end_call(alloc, login, tape, false)
+    }
+
+    /// The first of two polls: the rest of a set is passed over, and the call that takes the next one is begun.
+    pub fn poll_skip(
+        &mut self,
+        alloc: Global,
+        login: &Login,
+        number: u64,
+        tape: &Tape,
+        used: &Use,
+    ) -> Result<bool, NoMemory>
+        requires { IsSomewhere login.now self.old }
+        ensures { let there = SkipPoll login.now number (seen tape.now) used.now in
+            let after = after_row_poll login.now (seen tape.now) used.now in
+            IfOk result (λ right. Does login.now there after self.old right self.new) }
+    {
+        if !fits(number, tape, self.spot, used) || !row_met(&used.met) {
+            return Ok(false);
+        }
+        self.spot.taken += used.met.taken as usize;
+        if !is_skipped(tape.calls.get(self.spot.next))
+            || !is_taken_by(call_after(tape, self.spot.next))
+        {
             return Ok(false);
         }
         self.end_call(alloc, login, tape, false)

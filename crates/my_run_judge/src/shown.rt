@@ -3,7 +3,9 @@
 ghost use Rattle.std.specs.Prelude.{◌≡◌, Err, Ok, Some};
 ghost use Rattle.std.specs.Bool.{Decides};
 ghost use Rattle.std.specs.Option.{option_copied};
-ghost use Rattle.my_acts.specs.Acts.{begun_by};
+ghost use Rattle.my_reading.specs.Calls.{kind_of};
+ghost use Rattle.my_script.specs.Streams.{is_skip};
+ghost use Rattle.my_acts.specs.Acts.{begun_by, taking_call};
 ghost use Rattle.my_run_judge.specs.Lines.{
   AreRows,
   IsBegun,
@@ -11,6 +13,8 @@ ghost use Rattle.my_run_judge.specs.Lines.{
   IsGathered,
   IsShown,
   IsShownAt,
+  IsSkip,
+  MayEnd,
   is_pending,
   is_unanswered,
 };
@@ -37,6 +41,40 @@ fn is_connect(call: &Call) -> bool
         Call::Connect => true,
         _ => false,
     }
+}
+
+fn is_take(call: &Call) -> bool
+    ensures { Decides result (call.now ≡ Call.TakeSet) }
+{
+    match call {
+        Call::TakeSet => true,
+        _ => false,
+    }
+}
+
+fn is_skip(call: &Call) -> bool
+    ensures { Decides result (call.now ≡ Call.SkipTaken) }
+{
+    match call {
+        Call::SkipTaken => true,
+        _ => false,
+    }
+}
+
+fn passes_over(call: &Call) -> bool
+    ensures { result ≡ is_skip (kind_of call.now) }
+{
+    match call {
+        Call::SkipTaken => true,
+        _ => false,
+    }
+}
+
+// Whether the call takes a set for a stream, where none took the set that is read, or passes over the rest of that one.
+fn is_taking(taken: bool, call: &Call) -> bool
+    ensures { Decides result (call.now ≡ taking_call taken) }
+{
+    if taken { is_skip(call) } else { is_take(call) }
 }
 
 /// Whether the call asks for the next row.
@@ -77,28 +115,30 @@ fn is_quit(call: &Call) -> bool
 }
 
 // Whether the step begins this call.
-fn begins(step: &Step, call: &Call) -> bool
-    ensures { Decides result (IsCallOf (begun_by step.now) call.now) }
+fn begins(taken: bool, step: &Step, call: &Call) -> bool
+    ensures { Decides result (IsCallOf (begun_by taken step.now) call.now) }
 {
     match step {
         Step::Conn => is_connect(call),
         Step::Query(_, text) => is_query(text, call),
-        Step::Next(_) | Step::Collect(_) => is_next(call),
+        Step::Next(_) | Step::Collect(_) | Step::Item(_) => is_next(call),
+        Step::Stream(_) => is_taking(taken, call),
         Step::Drop(_) => is_drop(call),
         Step::Ping(_) => is_ping(call),
         Step::Quit(_) => is_quit(call),
-        Step::Fields(_) | Step::Poll(_) | Step::Cancel(_) => true,
+        Step::Unstream(_) | Step::Fields(_) | Step::Poll(_) | Step::Cancel(_) => true,
     }
 }
 
-/// Whether the call in turn is the one that the step begins, if it begins one.
-pub fn is_begun(step: &Step, call: Option<&TapeCall>) -> bool
-    ensures { Decides result (IsBegun (begun_by step.now) (option_copied call.entry)) }
+/// Whether the call in turn is the one that the step begins, if it begins one, where a stream took the set that is read
+/// or none did.
+pub fn is_begun(taken: bool, step: &Step, call: Option<&TapeCall>) -> bool
+    ensures { Decides result (IsBegun (begun_by taken step.now) (option_copied call.entry)) }
 {
     match call {
-        Some(call) => begins(step, &call.call),
+        Some(call) => begins(taken, step, &call.call),
         None => match step {
-            Step::Fields(_) | Step::Poll(_) | Step::Cancel(_) => true,
+            Step::Unstream(_) | Step::Fields(_) | Step::Poll(_) | Step::Cancel(_) => true,
             _ => false,
         },
     }
@@ -192,12 +232,42 @@ fn is_shown(outcome: &Outcome, answer: &Option<Result<Answer, Error>>, before: &
     }
 }
 
+// Whether a line with this outcome may end with the call.
+fn may_end(outcome: &Outcome, call: &Call) -> bool
+    ensures { Decides result (MayEnd outcome.now call.now) }
+{
+    match outcome {
+        Outcome::Done => !passes_over(call),
+        _ => true,
+    }
+}
+
+/// Whether the call in turn passed over the rest of a set that a stream took.
+pub fn is_skipped(call: Option<&TapeCall>) -> bool
+    ensures { Decides result (IsSkip (option_copied call.entry)) }
+{
+    match call {
+        Some(call) => is_skip(&call.call) && is_ready(&call.answer),
+        None => false,
+    }
+}
+
+/// Whether the call takes a set.
+pub fn is_taken_by(call: Option<&TapeCall>) -> bool
+    ensures { Decides result (IsBegun (Some Call.TakeSet) (option_copied call.entry)) }
+{
+    match call {
+        Some(call) => is_take(&call.call),
+        None => false,
+    }
+}
+
 /// Whether the line shows how the call in turn ended; these are the calls of its gathering before it.
 pub fn is_shown_at(outcome: &Outcome, call: Option<&TapeCall>, before: &[TapeCall]) -> bool
     ensures { Decides result (IsShownAt outcome.now (option_copied call.entry) before.now) }
 {
     match call {
-        Some(call) => is_shown(outcome, &call.answer, before),
+        Some(call) => is_shown(outcome, &call.answer, before) && may_end(outcome, &call.call),
         None => false,
     }
 }

@@ -4,16 +4,17 @@ ghost use Rattle.std.specs.Prelude.{◌≡◌, ◌+◌, IfOk, slice_get};
 ghost use Rattle.std.specs.Bool.{Decides};
 ghost use Rattle.std.specs.Option.{option_copied, option_map};
 ghost use Rattle.my_judge.specs.Tapes.{told_of};
-ghost use Rattle.my_run_judge.specs.Does.{Does, IsReadCall, IsSomewhere};
+ghost use Rattle.my_run_judge.specs.Does.{Begins, Does, IsReadCall, IsSomewhere, IsTakenAt};
 ghost use Rattle.my_run_judge.specs.Walks.{IsEnded, ended, ending_of, sent_end, told_in};
 ghost use Rattle.my_run_judge.specs.Seen.{seen};
 
+use crate::shown::is_begun;
 use my_acts::Status;
 use my_frame::NoMemory;
-use my_grammar::Login;
+use my_grammar::{Login, Spot as Reading};
 use my_judge::{Ending, Reader, between};
 use my_reading::{Answer, Error};
-use my_script::{Tape, TapeCall};
+use my_script::{Step, Tape, TapeCall};
 use std::alloc::Global;
 
 /// Where the lines so far are at a connection.
@@ -81,6 +82,23 @@ pub fn call_after(tape: &Tape, next: usize) -> Option<&TapeCall>
 }
 
 impl Walker {
+    // Whether a stream took the set that is read, or whose end is left, on an open connection.
+    fn is_taken(&self) -> bool
+        ensures { IsTakenAt self.now result }
+    {
+        let stand = &self.reader.stand;
+        !self.reader.closed
+            && stand.taken
+            && (stand.end_left || stand.context.spot == Reading::Rows)
+    }
+
+    /// Whether the call in turn is the one that the step begins, if it begins one.
+    pub fn begins(&self, tape: &Tape, step: &Step) -> bool
+        ensures { Begins (seen tape.now) step.now self.now result }
+    {
+        is_begun(self.is_taken(), step, tape.calls.get(self.spot.next))
+    }
+
     // Reads the call in turn over its bytes.
     fn read_call(
         &mut self,

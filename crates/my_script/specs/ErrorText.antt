@@ -12,6 +12,8 @@ use Rattle.my_reading.specs.declared.error.IoError.TheVariants as ios
 use Rattle.my_reading.specs.declared.error.ServerError.{ServerError}
 use Rattle.my_reading.specs.declared.error.Error.{Error}
 use Rattle.my_reading.specs.declared.error.Error.TheVariants as errors
+use Rattle.my_opts_parts.specs.declared.error.UrlError.{UrlError}
+use Rattle.my_opts_parts.specs.declared.error.UrlError.TheVariants as urls
 use Rattle.my_script.specs.TextParts.{marked, bytes_text}
 
 abbrev pub driver_text : DriverError → List ℕ
@@ -49,8 +51,25 @@ io_text (ios.Codec fault) = codec_text fault
 unfoldable pub server_text : ServerError → List ℕ
 server_text e = codes "Server " ++ decimal e.code ++ (32 ∷ e.state) ++ (32 ∷ bytes_text e.message)
 
+-- a word and a text; a word and two of them
+abbrev pub one_text : List ℕ → List ℕ → List ℕ
+one_text word text = word ++ (32 ∷ bytes_text text)
+
+abbrev pub both_text : List ℕ → List ℕ → List ℕ → List ℕ
+both_text word first second = word ++ (32 ∷ bytes_text first) ++ (32 ∷ bytes_text second)
+
+abbrev pub url_text : UrlError → List ℕ
+url_text (urls.FeatureRequired feature param) = both_text (codes "Url FeatureRequired") feature param
+url_text urls.Invalid = codes "Url Invalid"
+url_text (urls.InvalidParamValue param value) = both_text (codes "Url InvalidParamValue") param value
+url_text (urls.InvalidPoolConstraints min max) = two_text (codes "Url InvalidPoolConstraints") min max
+url_text urls.Parse = codes "Url Parse"
+url_text (urls.UnknownParameter param) = one_text (codes "Url UnknownParameter") param
+url_text (urls.UnsupportedScheme scheme) = one_text (codes "Url UnsupportedScheme") scheme
+
 abbrev pub error_text : Error → List ℕ
 error_text (errors.Driver e) = driver_text e
 error_text (errors.Io e) = io_text e
 error_text (errors.Server e) = server_text e
+error_text (errors.Url e) = url_text e
 error_text errors.NoMemory = codes "NoMemory"

@@ -2,7 +2,7 @@
 use Rattle.std.specs.Prelude.{ℕ, List, codes, if◌then◌else◌}
 use Rattle.std.specs.Str.{bytes_eq}
 use Rattle.my_script.specs.declared.reading.keyword.Keyword.{Keyword}
-use Rattle.my_script.specs.declared.reading.keyword.Keyword.TheVariants.{Packet, Drip, Bytes, Turn, Wait, Fail, End, Accept, WriteWait, WriteFail, Conn, Query, Next, Collect, Drop, Ping, Quit, Fields, Poll, Cancel, Unknown}
+use Rattle.my_script.specs.declared.reading.keyword.Keyword.TheVariants.{Packet, Drip, Bytes, Turn, Wait, Fail, End, Accept, WriteWait, WriteFail, Conn, Query, Next, Collect, Stream, StreamItem, Unstream, Drop, Ping, Quit, Fields, Poll, Cancel, Unknown}
 
 -- the words of steps
 abbrev pub step_keyword_of : List ℕ → Keyword
@@ -11,6 +11,9 @@ step_keyword_of word =
     else if bytes_eq word (codes "query") then Query
     else if bytes_eq word (codes "next") then Next
     else if bytes_eq word (codes "collect") then Collect
+    else if bytes_eq word (codes "stream") then Stream
+    else if bytes_eq word (codes "item") then StreamItem
+    else if bytes_eq word (codes "unstream") then Unstream
     else if bytes_eq word (codes "drop") then Drop
     else if bytes_eq word (codes "ping") then Ping
     else if bytes_eq word (codes "quit") then Quit

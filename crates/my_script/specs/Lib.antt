@@ -1,4 +1,5 @@
 pub mod Cut
+pub mod Streams
 pub mod Number
 pub mod Keyword
 pub mod Line

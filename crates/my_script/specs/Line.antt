@@ -6,7 +6,7 @@ use Rattle.my_world.specs.declared.line.WorldLine.TheVariants as lines
 use Rattle.my_script.specs.declared.reading.line.Item.{Item}
 use Rattle.my_script.specs.declared.reading.line.Item.TheVariants.{Nothing, Plans, Steps, Wrong}
 use Rattle.my_script.specs.declared.reading.keyword.Keyword.{Keyword}
-use Rattle.my_script.specs.declared.reading.keyword.Keyword.TheVariants.{Packet, Drip, Bytes, Turn, Wait, Fail, End, Accept, WriteWait, WriteFail, Conn, Query, Next, Collect, Drop, Ping, Quit, Fields, Poll, Cancel, Unknown}
+use Rattle.my_script.specs.declared.reading.keyword.Keyword.TheVariants.{Packet, Drip, Bytes, Turn, Wait, Fail, End, Accept, WriteWait, WriteFail, Conn, Query, Next, Collect, Stream, StreamItem, Unstream, Drop, Ping, Quit, Fields, Poll, Cancel, Unknown}
 use Rattle.my_script.specs.declared.reading.line.PacketParts.{PacketParts}
 use Rattle.my_script.specs.declared.reading.line.LinkParts.{LinkParts}
 use Rattle.my_script.specs.declared.reading.line.AcceptParts.{AcceptParts}
@@ -128,6 +128,9 @@ abbrev pub connection_item : Keyword → Option ℕ → Item
 connection_item keyword None = Wrong
 connection_item Next (Some connection) = Steps (steps.Next connection)
 connection_item Collect (Some connection) = Steps (steps.Collect connection)
+connection_item Stream (Some connection) = Steps (steps.Stream connection)
+connection_item StreamItem (Some connection) = Steps (steps.Item connection)
+connection_item Unstream (Some connection) = Steps (steps.Unstream connection)
 connection_item Drop (Some connection) = Steps (steps.Drop connection)
 connection_item Ping (Some connection) = Steps (steps.Ping connection)
 connection_item Quit (Some connection) = Steps (steps.Quit connection)
@@ -156,6 +159,9 @@ item_with WriteWait rest = link_item WriteWait (number_at_most 65535 rest)
 item_with WriteFail rest = link_item WriteFail (number_at_most 65535 rest)
 item_with Next rest = connection_item Next (number_of rest)
 item_with Collect rest = connection_item Collect (number_of rest)
+item_with Stream rest = connection_item Stream (number_of rest)
+item_with StreamItem rest = connection_item StreamItem (number_of rest)
+item_with Unstream rest = connection_item Unstream (number_of rest)
 item_with Drop rest = connection_item Drop (number_of rest)
 item_with Ping rest = connection_item Ping (number_of rest)
 item_with Quit rest = connection_item Quit (number_of rest)

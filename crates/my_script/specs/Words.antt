@@ -5,7 +5,7 @@ use Rattle.my_frame.specs.Numbers.{◌>>=◌}
 use Rattle.my_opts.specs.Limits.{packet_limit, waiting_limit}
 use Rattle.my_opts.specs.Opts.{OptsView, default_opts}
 use Rattle.my_opts.specs.Url.{options_of}
-use Rattle.my_opts.specs.declared.error.UrlError.{UrlError}
+use Rattle.my_opts_parts.specs.declared.error.UrlError.{UrlError}
 use Rattle.my_script.specs.declared.words.Command.{Command}
 use Rattle.my_script.specs.declared.words.Plain.{Plain as PlainParts}
 use Rattle.my_script.specs.declared.words.WordFault.{WordFault}

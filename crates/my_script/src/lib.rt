@@ -4,12 +4,14 @@
 
 mod reading;
 mod step;
+mod stream;
 mod text;
 mod transcript;
 mod words;
 
 pub use reading::script::{BadLine, Read, Script, read_script};
 pub use step::Step;
+pub use stream::{Stream, is_there, stream_after, stream_by, target};
 pub use text::transcript::text_of;
 pub use transcript::{Outcome, StepAnswer, Tape, TapeCall, Transcript, Use};
 pub use words::{Command, WordFault, read_command, read_word};

@@ -13,6 +13,12 @@ pub enum Step {
     Next(u64),
     /// Reads all rows that are left of the set that is read.
     Collect(u64),
+    /// Lets a stream take the set that is read, or the next one.
+    Stream(u64),
+    /// Reads on in this connection's stream.
+    Item(u64),
+    /// Lets this connection's stream go.
+    Unstream(u64),
     /// Passes over all that is left of this connection's result.
     Drop(u64),
     /// Asks whether the server is there.

@@ -4,7 +4,7 @@ use my_flags::CapabilityFlags;
 use my_frame::CodecFault;
 
 /// Why a server's core is closed.
-#[derive(Clone, Copy, Debug, PartialEq, Eq)]
+#[derive(Clone, Copy, PartialEq, Eq)]
 pub enum CloseCause {
     /// The client quit.
     Quit,
@@ -17,7 +17,7 @@ pub enum CloseCause {
 }
 
 /// What a step of a server's core comes to.
-#[derive(Clone, Copy, Debug, PartialEq, Eq)]
+#[derive(Clone, Copy, PartialEq, Eq)]
 pub enum ServerStep {
     /// Bytes are to be sent.
     Send,

@@ -119,6 +119,7 @@ abbrev pub Cause : Login → Option LinkFault → List ℕ → History → Entry
 Cause login made unread h newest older (errors.Driver e) = DriverCause made e
 Cause login made unread h newest older (errors.Io e) = IoErrorCause login made unread h newest older e
 Cause login made unread h newest older (errors.Server e) = IsRefused unread h newest older e
+Cause login made unread h newest older (errors.Url e) = ⊥
 Cause login made unread h newest older errors.NoMemory = Unit {0}
 
 -- The cause, over the exchanges that the history's law speaks of.

@@ -37,6 +37,7 @@ abbrev pub IsOutside : Login → Option LinkFault → List ℕ → History → E
 IsOutside login made unread h newest older (errors.Driver e) = DriverCause made e
 IsOutside login made unread h newest older (errors.Io e) = OutsideIo login made unread h newest older e
 IsOutside login made unread h newest older (errors.Server e) = ⊥
+IsOutside login made unread h newest older (errors.Url e) = ⊥
 IsOutside login made unread h newest older errors.NoMemory = Unit {0}
 
 -- Where what was taken, and what may still come, is whole, an error has a cause outside of it.

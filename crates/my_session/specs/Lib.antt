@@ -3,6 +3,7 @@ pub mod Complete
 pub mod Ends
 pub mod Entries
 pub mod Fits
+pub mod Found
 pub mod Groups
 pub mod History
 pub mod Law

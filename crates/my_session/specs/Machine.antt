@@ -1,5 +1,5 @@
 -- The machine: one move of an open call, as a function.
-use Rattle.std.specs.Prelude.{◌≡◌, ℕ, suc, ◌≤◌, ◌⊎◌, nat_lt, List, [], ◌∷◌, ◌++◌, length, drop, Option, Some, None, Bool, true, false, ◌&&◌, Result, Ok, Err, if◌then◌else◌}
+use Rattle.std.specs.Prelude.{◌≡◌, ℕ, suc, ◌⊎◌, nat_lt, List, [], ◌∷◌, ◌++◌, length, drop, Option, Some, None, Bool, true, false, ◌&&◌, Result, Ok, Err, if◌then◌else◌}
 use Rattle.my_frame.specs.declared.fault.CodecFault.TheVariants.{TooLarge}
 use Rattle.my_reply.specs.declared.err.ErrPacket.{ErrPacket}
 use Rattle.my_frame.specs.declared.read_error.ReadError.{ReadError}
@@ -37,6 +37,7 @@ pub use Rattle.my_reading.specs.Course.{is_greeting}
 use Rattle.my_reading.specs.Place.{is_rows}
 use Rattle.my_reading.specs.Errors.{codec_error, invalid_data, unexpected_eof, server_error}
 use Rattle.my_session.specs.LinkErrors.{link_error}
+use Rattle.my_session.specs.Found.{IsPlaced, payload_in}
 use Rattle.my_reading.specs.Facts.{facts_after}
 use Rattle.my_reading.specs.Told.{Told, ToldReady, ToldRow, ToldEnd, ToldNone, ToldError, told}
 use Rattle.my_session.specs.History.{History, answered, noted}
@@ -255,6 +256,7 @@ abbrev pub FaultIs : Move → Seen → Seen → Error → Type 0
 FaultIs m old new (errors.Driver e) = Did m new (ticks.Fault (errors.Driver e))
 FaultIs m old new (errors.Io e) = Did m new (ticks.Fault (errors.Io e))
 FaultIs m old new (errors.Server e) = Did m new (ticks.Fault (errors.Server e))
+FaultIs m old new (errors.Url e) = ⊥
 FaultIs m old new errors.NoMemory = new ≡ fell old
 
 -- the code did this move, unless memory ran out
@@ -271,14 +273,18 @@ Does m old new (ticks.Fault e) = FaultIs m old new e
 abbrev pub dropped : Seen → Seen
 dropped s = if closes_when_cancelled s.task s.context.spot then fell s else with_task s tasks.Nothing s.untold
 
+-- the payload of an arrival
+abbrev pub brought : Seen → Arrival → List ℕ
+brought s a = payload_in s.unread a.found
+
 -- a payload that was received, with its place, its kind, and what the client sends at once after it
 pub record IsArrival (s : Seen) (a : Arrival) : Type 0 where
-  pub room : a.span.len ≤ length s.unread
-  pub reply_is : a.reply ≡ reply_to s.login a.kind a.payload
+  pub placed : IsPlaced s.unread a.found
+  pub reply_is : a.reply ≡ reply_to s.login a.kind (brought s a)
 
 -- the session after it
 abbrev pub following : Seen → Arrival → Seen
-following s a = advanced s a.kind a.payload (drop a.span.len s.unread) a.span.next
+following s a = advanced s a.kind (brought s a) (drop a.found.span.len s.unread) a.found.span.next
 
 -- it came to this, unless memory ran out
 abbrev pub Lands : Seen → Tick → Seen → Seen → Tick → Type 0

@@ -1,10 +1,11 @@
 //! A session: its state, and the calls by which a caller begins a call, carries its bytes, and ends it early.
 
-ghost use Rattle.std.specs.Prelude.{◌≡◌, ◌≤◌, ◌++◌, ◌↔◌, ◌||◌, ◌==◌, not, length, drop, take as front, true, false, OnOk, OnErr, IfOk, IfErr, IsErr};
+ghost use Rattle.std.specs.Prelude.{◌≡◌, ◌<◌, ◌≤◌, ◌++◌, ◌↔◌, ◌||◌, ◌==◌, not, length, drop, take as front, true, false, OnOk, OnErr, IfOk, IfErr, IsErr};
 ghost use Rattle.std.specs.Option.{option_copied};
 ghost use Rattle.my_reading.specs.Calls.{kind_of};
 ghost use Rattle.my_session.specs.Steps.{is_refused, failing};
 
+mod payload;
 mod receiving;
 mod sending;
 mod stepping;
@@ -17,6 +18,10 @@ use my_reading::{Call, CallKind, DriverError, Error, Facts};
 use my_reply::OkPacket;
 use std::alloc::Global;
 use std::marker::Model;
+use std::mem;
+
+// How many bytes a read of the link may bring.
+const READ_SIZE: usize = 4096;
 
 /// One connection to a server, with no input or output of its own: a caller begins a call, sends what is owed, hands
 /// in what is received, and steps the call until it is answered.
@@ -39,6 +44,8 @@ pub struct Session {
     owed: Queue,
     facts: Facts,
     login: Login,
+    // What the caller's reads of the link read into, between them.
+    buffer: Vec<u8>,
 }
 
 impl Model for Session {
@@ -107,6 +114,7 @@ impl Session {
             owed: Queue::new(alloc),
             facts,
             login,
+            buffer: Vec::new(alloc),
         })
     }
 
@@ -272,6 +280,26 @@ impl Session {
         ensures lost { OnErr result ((h : History) → Stands self.old.seen h → Stands self.new.seen (losing h)) }
     {
         self.append(bytes)
+    }
+
+    /// Lends the buffer that the caller's reads of its link read into, until `keep_buffer`. It has the bytes of earlier reads;
+    /// only the first one is made anew.
+    pub fn lend_buffer(&mut self, alloc: Global) -> Result<Vec<u8>, NoMemory>
+        ensures room { IfOk result (λ buffer. 0 < length buffer.items) }
+        ensures seen { self.new.seen ≡ self.old.seen }
+    {
+        let buffer = mem::replace(&mut self.buffer, Vec::new(alloc));
+        if buffer.is_empty() {
+            return Ok(vec![in alloc; 0u8; READ_SIZE]?);
+        }
+        Ok(buffer)
+    }
+
+    /// Keeps the buffer for the next read.
+    pub fn keep_buffer(&mut self, buffer: Vec<u8>)
+        ensures { self.new.seen ≡ self.old.seen }
+    {
+        self.buffer = buffer;
     }
 
     /// The link reported its end.

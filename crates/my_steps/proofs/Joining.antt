@@ -6,6 +6,7 @@ use Rattle.my_reading.specs.declared.answer.Answer.TheVariants as answers
 use Rattle.my_reading.specs.declared.call.Call.{Call}
 use Rattle.my_reading.specs.declared.call.Call.TheVariants as calls
 use Rattle.my_reading.specs.Calls.{kind_of, is_connect}
+use Rattle.my_script.specs.Streams.{is_skip, target}
 use Rattle.my_session.specs.Entries.{connects, has_connected}
 use Rattle.my_reading.specs.Told.{told, closes}
 use Rattle.my_session.specs.History.{Made, has_closed}
@@ -24,7 +25,7 @@ use Rattle.my_link.specs.Looks.{Looks}
 use Rattle.my_link.specs.Moves.{Stop}
 use Rattle.my_world.specs.World.{Plans}
 use Rattle.my_client.specs.Causes.{IsPolled, PollEnds}
-use Rattle.my_steps.specs.Grows.{IsRefused, OnConnection, PolledOnce, IsClosed, Begins, BeginsOn, Calls, ConnectShows, Connects, Dials, Holds, Fails, Links, Gathers, GathersOn, Collects, CollectsOn, CollectsAt, PollsOn, GoesOnWith, GoesOn, CancelsWith, Cancels, TellsWith, TellsFields, At, StepGrows, Line, AreGrown, handles_after}
+use Rattle.my_steps.specs.Grows.{IsRefused, OnConnection, PolledOnce, IsClosed, Begins, BeginsOn, Calls, ConnectShows, Connects, Dials, Holds, Fails, Links, Gathers, GathersOn, Collects, CollectsOn, CollectsAt, PollsOn, PollsCall, ThenTakes, Skips, Takes, TakesOn, StreamsAt, ItemsAt, LetsGo, LetsGoWith, UnstreamsAt, GoesOnWith, GoesOn, CancelsWith, Cancels, TellsWith, TellsFields, At, StepGrows, Line, AreGrown, handles_after, is_done, is_streamed, skips_first}
 use Rattle.my_client.specs.Kept.{asked_by, Asked, Kept, nothing_kept, told_by, made_of, asking, ended_by, first_asked, first_kept}
 use Rattle.my_steps.specs.Handle.{Handle, Absent, Dialing, Joined, at_number, put_at}
 use Rattle.my_client.specs.Ready.{WereJoined, WasJoined, IsOpen, JoinedBy}
@@ -81,7 +82,7 @@ left_open login a k b end y u st after.Pending e f w g r =
 left_open login a k b end y u st (after.Answered answer) e f w g r = rested_joined end y (ap (λ (k : Kept). k.pending) r.0) (subst WasJoined (sym r.0) (ended_joined b a _ (same_joined k b e w)))
 left_open login a k b end y u st (after.Failed x) e f w g r = rested_joined end y (ap (λ (k : Kept). k.pending) r.0) (subst WasJoined (sym r.0) (ended_joined b a _ (same_joined k b e w)))
 
-once_joined : (login : Login) (n : ℕ) (a : Asked) (k : Kept) (x : Looks) (o : Outcome) (us : List Use) (t : Handle) → WasJoined k → GathersOpen a k → PolledOnce login n a k x o us t → IsJoined t
+pub once_joined : (login : Login) (n : ℕ) (a : Asked) (k : Kept) (x : Looks) (o : Outcome) (us : List Use) (t : Handle) → WasJoined k → GathersOpen a k → PolledOnce login n a k x o us t → IsJoined t
 once_joined login n a k x o us t w g r = subst IsJoined (sym r.left) (left_open login a k r.polled.following r.end r.link r.used.met r.polled.stop r.after r.polled.calls r.polled.pending w g r.polled.ends)
 
 -- a poll of the handshake
@@ -152,7 +153,7 @@ on_joined R o us Dialing t on w r = kept_joined Dialing o us t w r
 on_joined R o us (Joined false k x) t on w r = kept_joined (Joined false k x) o us t w r
 on_joined R o us (Joined true k x) t on w r = on k x w r
 
-calls_joined : (login : Login) (n : ℕ) (call : Call) (o : Outcome) (us : List Use) (h t : Handle) → IsJoined h → Calls login n call h o us t → IsJoined t
+pub calls_joined : (login : Login) (n : ℕ) (call : Call) (o : Outcome) (us : List Use) (h t : Handle) → IsJoined h → Calls login n call h o us t → IsJoined t
 calls_joined login n call o us h t = on_joined (λ k. BeginsOn k.pending login n call k) o us h t (λ k x. begins_on k.pending login n call k x o us t refl)
 
 collects_by : (b : Bool) (login : Login) (n : ℕ) (k : Kept) (x : Looks) (o : Outcome) (us : List Use) (t : Handle) → has_closed (made_of k.calls) ≡ b → WasJoined k → Collects b login n k x o us t → IsJoined t
@@ -166,9 +167,44 @@ collects_on (Some a) login n k x o us t e w r = kept_joined (Joined true k x) o 
 collects_joined : (login : Login) (n : ℕ) (o : Outcome) (us : List Use) (h t : Handle) → IsJoined h → CollectsAt login n h o us t → IsJoined t
 collects_joined login n o us h t = on_joined (λ k. CollectsOn k.pending login n k) o us h t (λ k x. collects_on k.pending login n k x o us t refl)
 
+-- a stream takes a set, after the rest of an earlier one
+then_joined : (b : Bool) (login : Login) (n : ℕ) (first : Outcome) (mid : Handle) (o : Outcome) (us : List Use) (t : Handle) → IsJoined mid → ThenTakes b login n first mid o us t → IsJoined t
+then_joined true login n first mid o us t w r = calls_joined login n calls.TakeSet o us mid t w r
+then_joined false login n first mid o us t w r = subst IsJoined (sym r.2) w
+
+skips_joined : (R : Outcome → List Use → Handle → Type 0) (login : Login) (n : ℕ) (o : Outcome) (us : List Use) (t : Handle) → ((first : Outcome) (used : List Use) (mid : Handle) → R first used mid → IsJoined mid) → Skips R login n o us t → IsJoined t
+skips_joined R login n o us t f r = then_joined (is_done r.first) login n r.first r.mid o r.later t (f r.first r.used r.mid r.skips) r.takes
+
+takes_joined : (b : Bool) (login : Login) (n : ℕ) (o : Outcome) (us : List Use) (h t : Handle) → IsJoined h → Takes b login n h o us t → IsJoined t
+takes_joined true login n o us h t w r = skips_joined (Calls login n calls.SkipTaken h) login n o us t (λ first used mid s. calls_joined login n calls.SkipTaken first used h mid w s) r
+takes_joined false login n o us h t w r = calls_joined login n calls.TakeSet o us h t w r
+
+takes_on : (q : Option Asked) (login : Login) (n : ℕ) (k : Kept) (x : Looks) (o : Outcome) (us : List Use) (t : Handle) → JoinedBy k.pending k → TakesOn q login n k x o us t → IsJoined t
+takes_on None login n k x o us t w r = takes_joined (skips_first login k) login n o us (Joined true k x) t w r
+takes_on (Some a) login n k x o us t w r = kept_joined (Joined true k x) o us t w r
+
+streams_joined : (login : Login) (n : ℕ) (o : Outcome) (us : List Use) (h t : Handle) → IsJoined h → StreamsAt login n h o us t → IsJoined t
+streams_joined login n o us h t = on_joined (λ k. TakesOn k.pending login n k) o us h t (λ k x. takes_on k.pending login n k x o us t)
+
+items_joined : (b : Bool) (login : Login) (n : ℕ) (o : Outcome) (us : List Use) (h t : Handle) → IsJoined h → ItemsAt b login n h o us t → IsJoined t
+items_joined true login n o us h t w r = calls_joined login n calls.NextRow o us h t w r
+items_joined false login n o us h t w r = kept_joined h o us t w r
+
+lets_go_with : (q : Option Asked) (k : Kept) (x : Looks) (o : Outcome) (us : List Use) (t : Handle) → JoinedBy k.pending k → LetsGoWith q k x o us t → IsJoined t
+lets_go_with None k x o us t w r = subst IsJoined (sym r.left) w
+lets_go_with (Some a) k x o us t w r = kept_joined (Joined true k x) o us t w r
+
+unstreams_joined : (b : Bool) (o : Outcome) (us : List Use) (h t : Handle) → IsJoined h → UnstreamsAt b h o us t → IsJoined t
+unstreams_joined true o us h t w r = on_joined (λ k. LetsGoWith k.pending k) o us h t (λ k x. lets_go_with k.pending k x o us t) w r
+unstreams_joined false o us h t w r = kept_joined h o us t w r
+
+polls_call : (b : Bool) (login : Login) (n : ℕ) (a : Asked) (k : Kept) (x : Looks) (o : Outcome) (us : List Use) (t : Handle) → WasJoined k → GathersOpen a k → PollsCall b login n a k x o us t → IsJoined t
+polls_call true login n a k x o us t w g r = skips_joined (PolledOnce login n a k x) login n o us t (λ first used mid s. once_joined login n a k x first used mid w g s) r
+polls_call false login n a k x o us t w g r = once_joined login n a k x o us t w g r
+
 polls_on : (b : Bool) (rows : Option (List RowParts)) (login : Login) (n : ℕ) (a : Asked) (k : Kept) (x : Looks) (o : Outcome) (us : List Use) (t : Handle) → is_connect (kind_of a.call) ≡ b → a.rows ≡ rows → (is_connect (kind_of a.call) ≡ false → WasJoined k) → GathersOpen a k → PollsOn b rows login n a k x o us t → IsJoined t
 polls_on true rows login n a k x o us t e f w g r = connects_joined login n a k x o r.0 t e g r.2
-polls_on false None login n a k x o us t e f w g r = once_joined login n a k x o us t (w e) g r
+polls_on false None login n a k x o us t e f w g r = polls_call (is_skip (kind_of a.call)) login n a k x o us t (w e) g r
 polls_on false (Some rows) login n a k x o us t e f w g r = gathers_joined login n us a k x o t (w e) (g (ap is_some f)) r
 
 goes_on_with : (q : Option Asked) (login : Login) (n : ℕ) (k : Kept) (x : Looks) (o : Outcome) (us : List Use) (t : Handle) → k.pending ≡ q → JoinedBy k.pending k → GoesOnWith q login n k x o us t → IsJoined t
@@ -220,18 +256,21 @@ push_joined (h ∷ hs) t j w = (w.0, push_joined hs t j w.1)
 at_step : (n : ℕ) (R : Handle → Outcome → List Use → Handle → Type 0) (hs ts : List Handle) (o : Outcome) (us : List Use) → ((h t : Handle) → IsJoined h → R h o us t → IsJoined t) → AllJoined hs → At n R hs o us ts → AllJoined ts
 at_step n R hs ts o us f w r = subst AllJoined (sym r.others) (put_joined hs n r.made (f (at_number hs n) r.made (at_joined hs n w) r.does) w)
 
-step_joined : (login : Login) (plans : Plans) (hs : List Handle) (step : Step) (o : Outcome) (us : List Use) (ts : List Handle) → AllJoined hs → StepGrows login plans hs step o us ts → AllJoined ts
-step_joined login plans hs steps.Conn o us ts w r = subst AllJoined (sym r.others) (push_joined hs r.made (dials_joined login _ _ _ o us r.made r.dials) w)
-step_joined login plans hs (steps.Query n text) o us ts w r = at_step n _ hs ts o us (λ h t. calls_joined login n _ o us h t) w r
-step_joined login plans hs (steps.Next n) o us ts w r = at_step n _ hs ts o us (λ h t. calls_joined login n _ o us h t) w r
-step_joined login plans hs (steps.Collect n) o us ts w r = at_step n _ hs ts o us (λ h t. collects_joined login n o us h t) w r
-step_joined login plans hs (steps.Drop n) o us ts w r = at_step n _ hs ts o us (λ h t. calls_joined login n _ o us h t) w r
-step_joined login plans hs (steps.Ping n) o us ts w r = at_step n _ hs ts o us (λ h t. calls_joined login n _ o us h t) w r
-step_joined login plans hs (steps.Quit n) o us ts w r = at_step n _ hs ts o us (λ h t. calls_joined login n _ o us h t) w r
-step_joined login plans hs (steps.Fields n) o us ts w r = at_step n _ hs ts o us (λ h t. tells_joined login o us h t) w r
-step_joined login plans hs (steps.Poll n) o us ts w r = at_step n _ hs ts o us (λ h t. goes_on_joined login n o us h t) w r
-step_joined login plans hs (steps.Cancel n) o us ts w r = at_step n _ hs ts o us (λ h t. cancels_joined login o us h t) w r
+step_joined : (login : Login) (plans : Plans) (there : Bool) (hs : List Handle) (step : Step) (o : Outcome) (us : List Use) (ts : List Handle) → AllJoined hs → StepGrows login plans there hs step o us ts → AllJoined ts
+step_joined login plans there hs steps.Conn o us ts w r = subst AllJoined (sym r.others) (push_joined hs r.made (dials_joined login _ _ _ o us r.made r.dials) w)
+step_joined login plans there hs (steps.Query n text) o us ts w r = at_step n _ hs ts o us (λ h t. calls_joined login n _ o us h t) w r
+step_joined login plans there hs (steps.Next n) o us ts w r = at_step n _ hs ts o us (λ h t. calls_joined login n _ o us h t) w r
+step_joined login plans there hs (steps.Collect n) o us ts w r = at_step n _ hs ts o us (λ h t. collects_joined login n o us h t) w r
+step_joined login plans there hs (steps.Drop n) o us ts w r = at_step n _ hs ts o us (λ h t. calls_joined login n _ o us h t) w r
+step_joined login plans there hs (steps.Ping n) o us ts w r = at_step n _ hs ts o us (λ h t. calls_joined login n _ o us h t) w r
+step_joined login plans there hs (steps.Quit n) o us ts w r = at_step n _ hs ts o us (λ h t. calls_joined login n _ o us h t) w r
+step_joined login plans there hs (steps.Stream n) o us ts w r = at_step n _ hs ts o us (λ h t. streams_joined login n o us h t) w r
+step_joined login plans there hs (steps.Item n) o us ts w r = at_step n _ hs ts o us (λ h t. items_joined there login n o us h t) w r
+step_joined login plans there hs (steps.Unstream n) o us ts w r = at_step n _ hs ts o us (λ h t. unstreams_joined there o us h t) w r
+step_joined login plans there hs (steps.Fields n) o us ts w r = at_step n _ hs ts o us (λ h t. tells_joined login o us h t) w r
+step_joined login plans there hs (steps.Poll n) o us ts w r = at_step n _ hs ts o us (λ h t. goes_on_joined login n o us h t) w r
+step_joined login plans there hs (steps.Cancel n) o us ts w r = at_step n _ hs ts o us (λ h t. cancels_joined login o us h t) w r
 
 pub grown_joined : (login : Login) (plans : Plans) (ls : List Line) → AreGrown login plans ls → AllJoined (handles_after ls)
 grown_joined login plans [] w = tt
-grown_joined login plans (l ∷ ls) w = step_joined login plans (handles_after ls) l.step l.outcome l.uses l.handles (grown_joined login plans ls w.1) w.0.answer
+grown_joined login plans (l ∷ ls) w = step_joined login plans (is_streamed (target l.step) ls) (handles_after ls) l.step l.outcome l.uses l.handles (grown_joined login plans ls w.1) w.0.answer

@@ -6,7 +6,8 @@ pub mod Gathered
 pub mod Numbers
 pub mod Readying
 pub mod Resuming
-use Rattle.std.proofs.Common.{◌≡◌, ◌<◌, ◌⊎◌, inl, inr, ℕ, zero, suc, List, [], ◌∷◌, Option, Some, None, length, get_or, slice_set, map, false, refl, sym, ap, ◌∙◌, subst, arith}
+pub mod Streaming
+use Rattle.std.proofs.Common.{◌≡◌, ◌<◌, ◌⊎◌, inl, inr, Bool, true, ℕ, zero, suc, List, [], ◌∷◌, Option, Some, None, length, get_or, slice_set, map, false, refl, sym, ap, ◌∙◌, subst, arith}
 use Rattle.my_grammar.specs.declared.login.Login.{Login}
 use Rattle.my_reading.specs.declared.call.Call.{Call}
 use Rattle.my_link.specs.Looks.{Looks}
@@ -40,6 +41,9 @@ work_is look login n work known o us s t e w = subst (λ (x : Work). Did look lo
 absent_refuses : (login : Login) (n : ℕ) (work : Work) (o : Outcome) (us : List Use) → IsRefused Absent o us Absent → does_at login n work Absent o us Absent
 absent_refuses login n (works.Begin call) o us r = r
 absent_refuses login n works.Collect o us r = r
+absent_refuses login n works.Take o us r = r
+absent_refuses login n works.LetGo o us r = r
+absent_refuses login n works.Miss o us r = r
 absent_refuses login n works.Fields o us r = r
 absent_refuses login n works.Poll o us r = r
 absent_refuses login n works.Cancel o us r = r
@@ -47,6 +51,9 @@ absent_refuses login n works.Cancel o us r = r
 ended_refuses : (login : Login) (n : ℕ) (work : Work) (k : Kept) (x : Looks) (o : Outcome) (us : List Use) → IsRefused (Joined false k x) o us (Joined false k x) → does_at login n work (Joined false k x) o us (Joined false k x)
 ended_refuses login n (works.Begin call) k x o us r = r
 ended_refuses login n works.Collect k x o us r = r
+ended_refuses login n works.Take k x o us r = r
+ended_refuses login n works.LetGo k x o us r = r
+ended_refuses login n works.Miss k x o us r = r
 ended_refuses login n works.Fields k x o us r = r
 ended_refuses login n works.Poll k x o us r = r
 ended_refuses login n works.Cancel k x o us r = r
@@ -61,10 +68,22 @@ pub ended_did : {L : Type 0} (look : L → Looks) (login : Login) (n : ℕ) (wor
 ended_did look login n work o us s c is e f w = back_did look login (does_at login n work) o us s (Ended c) is w (ended_refuses login n work (kept_of c) (look c.link) o us (refusal (Joined false (kept_of c) (look c.link)) o us e f))
 
 -- a held dial is what a poll and a cancelling name; each other work is refused there
-pub held_did : {L : Type 0} (look : L → Looks) (login : Login) (n : ℕ) (work : Work) (o : Outcome) (us : List Use) → ((call : Call) × (work ≡ works.Begin call)) ⊎ ((work ≡ works.Collect) ⊎ (work ≡ works.Fields)) → o ≡ NoSuchHandle → us ≡ [] → IsStood {L = L} login Held → Did look login (does_at login n work) o us Held Held
-held_did look login n work o us (inl r) e f w = work_is look login n work (works.Begin r.0) o us Held Held r.1 (same_did look login (does_at login n (works.Begin r.0)) o us Held w (refusal Dialing o us e f))
-held_did look login n work o us (inr (inl r)) e f w = work_is look login n work works.Collect o us Held Held r (same_did look login (does_at login n works.Collect) o us Held w (refusal Dialing o us e f))
-held_did look login n work o us (inr (inr r)) e f w = work_is look login n work works.Fields o us Held Held r (same_did look login (does_at login n works.Fields) o us Held w (refusal Dialing o us e f))
+abbrev IsHeldBack : Work → Type 0
+IsHeldBack work = ((call : Call) × (work ≡ works.Begin call)) ⊎ ((work ≡ works.Collect) ⊎ ((work ≡ works.Take) ⊎ ((work ≡ works.LetGo) ⊎ ((work ≡ works.Miss) ⊎ (work ≡ works.Fields)))))
+
+pub held_did : {L : Type 0} (look : L → Looks) (login : Login) (n : ℕ) (work : Work) (o : Outcome) (us : List Use) → IsHeldBack work → o ≡ NoSuchHandle → us ≡ [] → IsStood {L = L} login Held → Did look login (does_at login n work) o us Held Held
+held_did {L} look login n work o us is e f w = by_work is
+  where
+    known : (z : Work) → work ≡ z → does_at login n z Dialing o us Dialing → Did look login (does_at login n work) o us Held Held
+    known z same r = work_is {L = L} look login n work z o us Held Held same (same_did look login (does_at login n z) o us Held w r)
+
+    by_work : IsHeldBack work → Did look login (does_at login n work) o us Held Held
+    by_work (inl r) = known (works.Begin r.0) r.1 (refusal Dialing o us e f)
+    by_work (inr (inl r)) = known works.Collect r (refusal Dialing o us e f)
+    by_work (inr (inr (inl r))) = known works.Take r (refusal Dialing o us e f)
+    by_work (inr (inr (inr (inl r)))) = known works.LetGo r (refusal Dialing o us e f)
+    by_work (inr (inr (inr (inr (inl r))))) = known works.Miss r (refusal Dialing o us e f)
+    by_work (inr (inr (inr (inr (inr r))))) = known works.Fields r (refusal Dialing o us e f)
 
 pub in_held : {L : Type 0} (look : L → Looks) (login : Login) (n : ℕ) (work : Work) (o : Outcome) (us : List Use) (s t : Slot L) → s ≡ Held → Did look login (does_at login n work) o us Held t → Did look login (does_at login n work) o us s t
 in_held {L} look login n work o us s t e w = subst (λ (x : Slot L). Did look login (does_at login n work) o us x t) (sym e) w
@@ -87,23 +106,28 @@ abbrev StepBy : Login → Plans → Option Errand → List Handle → Outcome �
 StepBy login plans None hs o us ts = DialsNext login plans hs o us ts
 StepBy login plans (Some e) hs o us ts = At e.number (does_at login e.number e.work) hs o us ts
 
-step_by : (login : Login) (plans : Plans) (step : Step) (hs : List Handle) (o : Outcome) (us : List Use) (ts : List Handle) → StepBy login plans (errand_of step) hs o us ts → StepGrows login plans hs step o us ts
-step_by login plans steps.Conn hs o us ts w = w
-step_by login plans (steps.Query n text) hs o us ts w = w
-step_by login plans (steps.Next n) hs o us ts w = w
-step_by login plans (steps.Collect n) hs o us ts w = w
-step_by login plans (steps.Drop n) hs o us ts w = w
-step_by login plans (steps.Ping n) hs o us ts w = w
-step_by login plans (steps.Quit n) hs o us ts w = w
-step_by login plans (steps.Fields n) hs o us ts w = w
-step_by login plans (steps.Poll n) hs o us ts w = w
-step_by login plans (steps.Cancel n) hs o us ts w = w
+step_by : (login : Login) (plans : Plans) (there : Bool) (step : Step) (hs : List Handle) (o : Outcome) (us : List Use) (ts : List Handle) → StepBy login plans (errand_of there step) hs o us ts → StepGrows login plans there hs step o us ts
+step_by login plans there steps.Conn hs o us ts w = w
+step_by login plans there (steps.Query n text) hs o us ts w = w
+step_by login plans there (steps.Next n) hs o us ts w = w
+step_by login plans there (steps.Collect n) hs o us ts w = w
+step_by login plans there (steps.Drop n) hs o us ts w = w
+step_by login plans there (steps.Ping n) hs o us ts w = w
+step_by login plans there (steps.Quit n) hs o us ts w = w
+step_by login plans there (steps.Stream n) hs o us ts w = w
+step_by login plans true (steps.Item n) hs o us ts w = w
+step_by login plans false (steps.Item n) hs o us ts w = w
+step_by login plans true (steps.Unstream n) hs o us ts w = w
+step_by login plans false (steps.Unstream n) hs o us ts w = w
+step_by login plans there (steps.Fields n) hs o us ts w = w
+step_by login plans there (steps.Poll n) hs o us ts w = w
+step_by login plans there (steps.Cancel n) hs o us ts w = w
 
-pub step_is : {L : Type 0} (look : L → Looks) (login : Login) (plans : Plans) (step : Step) (e : Option Errand) (r : Option Errand) (o : Outcome) (us : List Use) (ss ts : List (Slot L)) → r ≡ errand_of step → r ≡ e → Stepped login ss ts (StepBy login plans e (map (handle_of look) ss) o us (map (handle_of look) ts)) → Stepped login ss ts (StepGrows login plans (map (handle_of look) ss) step o us (map (handle_of look) ts))
-step_is look login plans step e r o us ss ts is known w = record {
+pub step_is : {L : Type 0} (look : L → Looks) (login : Login) (plans : Plans) (there : Bool) (step : Step) (e : Option Errand) (r : Option Errand) (o : Outcome) (us : List Use) (ss ts : List (Slot L)) → r ≡ errand_of there step → r ≡ e → Stepped login ss ts (StepBy login plans e (map (handle_of look) ss) o us (map (handle_of look) ts)) → Stepped login ss ts (StepGrows login plans there (map (handle_of look) ss) step o us (map (handle_of look) ts))
+step_is look login plans there step e r o us ss ts is known w = record {
   stood = w.stood;
   longer = w.longer;
-  grows = step_by login plans step (map (handle_of look) ss) o us (map (handle_of look) ts) (subst (λ (x : Option Errand). StepBy login plans x (map (handle_of look) ss) o us (map (handle_of look) ts)) (sym known ∙ is) w.grows);
+  grows = step_by login plans there step (map (handle_of look) ss) o us (map (handle_of look) ts) (subst (λ (x : Option Errand). StepBy login plans x (map (handle_of look) ss) o us (map (handle_of look) ts)) (sym known ∙ is) w.grows);
 }
 
 -- an errand begins no handshake
@@ -111,17 +135,22 @@ abbrev MayRun : Option Errand → Type 0
 MayRun None = Unit {0}
 MayRun (Some e) = MayBegin e.work
 
-may_run : (step : Step) → MayRun (errand_of step)
-may_run steps.Conn = tt
-may_run (steps.Query n text) = refl
-may_run (steps.Next n) = refl
-may_run (steps.Collect n) = tt
-may_run (steps.Drop n) = refl
-may_run (steps.Ping n) = refl
-may_run (steps.Quit n) = refl
-may_run (steps.Fields n) = tt
-may_run (steps.Poll n) = tt
-may_run (steps.Cancel n) = tt
+may_run : (there : Bool) (step : Step) → MayRun (errand_of there step)
+may_run there steps.Conn = tt
+may_run there (steps.Query n text) = refl
+may_run there (steps.Next n) = refl
+may_run there (steps.Collect n) = tt
+may_run there (steps.Drop n) = refl
+may_run there (steps.Ping n) = refl
+may_run there (steps.Quit n) = refl
+may_run there (steps.Stream n) = tt
+may_run true (steps.Item n) = refl
+may_run false (steps.Item n) = tt
+may_run true (steps.Unstream n) = tt
+may_run false (steps.Unstream n) = tt
+may_run there (steps.Fields n) = tt
+may_run there (steps.Poll n) = tt
+may_run there (steps.Cancel n) = tt
 
-pub may_begin : (step : Step) (r : Option Errand) (e : Errand) → r ≡ errand_of step → r ≡ Some e → MayBegin e.work
-may_begin step r e is known = subst MayRun (sym is ∙ known) (may_run step)
+pub may_begin : (there : Bool) (step : Step) (r : Option Errand) (e : Errand) → r ≡ errand_of there step → r ≡ Some e → MayBegin e.work
+may_begin there step r e is known = subst MayRun (sym is ∙ known) (may_run there step)

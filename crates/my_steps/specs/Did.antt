@@ -23,7 +23,7 @@ use Rattle.my_steps.specs.declared.work.Errand.{Errand}
 use Rattle.my_steps.specs.declared.work.Work.{Work}
 use Rattle.my_steps.specs.declared.work.Work.TheVariants as works
 use Rattle.my_steps.specs.Dialing.{is_dialing}
-use Rattle.my_steps.specs.Grows.{PolledOnce, Calls, CollectsAt, TellsFields, GoesOn, Cancels}
+use Rattle.my_steps.specs.Grows.{PolledOnce, Calls, CollectsAt, StreamsAt, LetsGo, Misses, TellsFields, GoesOn, Cancels}
 use Rattle.my_steps.specs.Handle.{Handle, Joined}
 use Rattle.my_steps.specs.Keeps.{IsStood, AreStood}
 use Rattle.my_steps.specs.Slot.{handle_of}
@@ -56,22 +56,37 @@ MayBegin _ = Unit {0}
 abbrev pub does_at : Login → ℕ → Work → Handle → Outcome → List Use → Handle → Type 0
 does_at login n (works.Begin call) = Calls login n call
 does_at login n works.Collect = CollectsAt login n
+does_at login n works.Take = StreamsAt login n
+does_at login n works.LetGo = LetsGo
+does_at login n works.Miss = Misses
 does_at login n works.Fields = TellsFields login
 does_at login n works.Poll = GoesOn login n
 does_at login n works.Cancel = Cancels login
 
--- what a step does at the number that it names; none where it names no number
-abbrev pub errand_of : Step → Option Errand
-errand_of steps.Conn = None
-errand_of (steps.Query n text) = Some (record { number = n; work = works.Begin (calls.Query text) })
-errand_of (steps.Next n) = Some (record { number = n; work = works.Begin calls.NextRow })
-errand_of (steps.Drop n) = Some (record { number = n; work = works.Begin calls.DropResult })
-errand_of (steps.Ping n) = Some (record { number = n; work = works.Begin calls.Ping })
-errand_of (steps.Quit n) = Some (record { number = n; work = works.Begin calls.Quit })
-errand_of (steps.Fields n) = Some (record { number = n; work = works.Fields })
-errand_of (steps.Cancel n) = Some (record { number = n; work = works.Cancel })
-errand_of (steps.Collect n) = Some (record { number = n; work = works.Collect })
-errand_of (steps.Poll n) = Some (record { number = n; work = works.Poll })
+-- an item is the next row, and a stream is let go, where one is there
+abbrev pub item_work : Bool → Work
+item_work true = works.Begin calls.NextRow
+item_work false = works.Miss
+
+abbrev pub unstream_work : Bool → Work
+unstream_work true = works.LetGo
+unstream_work false = works.Miss
+
+-- what a step does at the number that it names, where a stream is there or none; none where it names no number
+abbrev pub errand_of : Bool → Step → Option Errand
+errand_of there steps.Conn = None
+errand_of there (steps.Query n text) = Some (record { number = n; work = works.Begin (calls.Query text) })
+errand_of there (steps.Next n) = Some (record { number = n; work = works.Begin calls.NextRow })
+errand_of there (steps.Drop n) = Some (record { number = n; work = works.Begin calls.DropResult })
+errand_of there (steps.Ping n) = Some (record { number = n; work = works.Begin calls.Ping })
+errand_of there (steps.Quit n) = Some (record { number = n; work = works.Begin calls.Quit })
+errand_of there (steps.Fields n) = Some (record { number = n; work = works.Fields })
+errand_of there (steps.Cancel n) = Some (record { number = n; work = works.Cancel })
+errand_of there (steps.Collect n) = Some (record { number = n; work = works.Collect })
+errand_of there (steps.Poll n) = Some (record { number = n; work = works.Poll })
+errand_of there (steps.Stream n) = Some (record { number = n; work = works.Take })
+errand_of there (steps.Item n) = Some (record { number = n; work = item_work there })
+errand_of there (steps.Unstream n) = Some (record { number = n; work = unstream_work there })
 
 -- of each call that may be open on the connection: what a poll of it did
 abbrev pub EachPolled : {L : Type 0} → (L → Looks) → ℕ → TapedConn L → TapedConn L → StepResult → Type 0
@@ -92,6 +107,9 @@ DoesAt look login n work old new r = IsStood login old
 abbrev pub is_poll : Work → Bool
 is_poll (works.Begin call) = false
 is_poll works.Collect = false
+is_poll works.Take = false
+is_poll works.LetGo = false
+is_poll works.Miss = false
 is_poll works.Fields = false
 is_poll works.Poll = true
 is_poll works.Cancel = false

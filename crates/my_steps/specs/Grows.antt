@@ -1,15 +1,16 @@
 -- How a transcript grows by a step.
-use Rattle.std.specs.Prelude.{ℕ, ◌≡◌, ◌+◌, List, [], ◌∷◌, ◌++◌, length, Option, Some, None, Bool, true, false, not, unwrap_or}
+use Rattle.std.specs.Prelude.{ℕ, ◌≡◌, ◌+◌, List, [], ◌∷◌, ◌++◌, length, Option, Some, None, Bool, true, false, not, ◌&&◌, unwrap_or}
 use Rattle.my_handshake.specs.Version.{version_of}
 use Rattle.my_value.specs.RowParts.{RowParts}
 use Rattle.my_grammar.specs.declared.login.Login.{Login}
 use Rattle.my_reading.specs.declared.answer.Answer.{Answer}
 use Rattle.my_reading.specs.declared.answer.Answer.TheVariants as answers
 use Rattle.my_reading.specs.declared.call.Call.{Call}
-use Rattle.my_reading.specs.declared.call.Call.TheVariants.{Query, NextRow, DropResult, Ping, Quit}
+use Rattle.my_reading.specs.declared.call.Call.TheVariants.{Query, NextRow, DropResult, TakeSet, SkipTaken, Ping, Quit}
 use Rattle.my_reading.specs.Calls.{kind_of, is_connect}
 use Rattle.my_reading.specs.Endings.{closes_cancelled}
 use Rattle.my_reading.specs.Errors.{connection_closed, io_error}
+use Rattle.my_reading.specs.Place.{is_taken}
 use Rattle.my_session.specs.History.{has_closed}
 use Rattle.my_session.specs.Steps.{is_refused}
 use Rattle.my_reading.specs.declared.error.IoKind.TheVariants.{Dial}
@@ -17,6 +18,9 @@ use Rattle.my_client.specs.declared.poll.After.{After}
 use Rattle.my_client.specs.declared.poll.After.TheVariants as after
 use Rattle.my_script.specs.declared.step.Step.{Step}
 use Rattle.my_script.specs.declared.step.Step.TheVariants as steps
+use Rattle.my_script.specs.declared.stream.Stream.{Stream}
+use Rattle.my_script.specs.declared.stream.Stream.TheVariants.{Without}
+use Rattle.my_script.specs.Streams.{is_skip, is_there, stream_by, target}
 use Rattle.my_client.specs.declared.tape.Said.TheVariants as says
 use Rattle.my_script.specs.declared.transcript.Outcome.{Outcome}
 use Rattle.my_script.specs.declared.transcript.Outcome.TheVariants.{Done, Pending, SetEnd, NoSet, Row, Rows, Fields, Connected, Failed, NoSuchHandle}
@@ -184,11 +188,78 @@ CollectsOn (Some a) login n k x o us t = IsRefused (Joined true k x) o us t
 abbrev pub CollectsAt : Login → ℕ → Handle → Outcome → List Use → Handle → Type 0
 CollectsAt login n h o us t = OnConnection (λ k. CollectsOn k.pending login n k) h o us t
 
+-- what a step shows of a call that returned
+abbrev pub is_done : Outcome → Bool
+is_done Done = true
+is_done outcome = false
+
+-- once the rest of a set that a stream took is passed over, the next set is taken, as by a step that begins that call
+abbrev pub ThenTakes : Bool → Login → ℕ → Outcome → Handle → Outcome → List Use → Handle → Type 0
+ThenTakes true login n first mid o us t = Calls login n TakeSet mid o us t
+ThenTakes false login n first mid o us t = (o ≡ first) × (us ≡ []) × (t ≡ mid)
+
+pub record Skips (R : Outcome → List Use → Handle → Type 0) (login : Login) (n : ℕ) (o : Outcome) (us : List Use)
+    (t : Handle) : Type 0 where
+  pub first : Outcome
+  pub used : List Use
+  pub mid : Handle
+  pub skips : R first used mid
+  pub later : List Use
+  pub uses : us ≡ used ++ later
+  pub takes : ThenTakes (is_done first) login n first mid o later t
+
+-- where a stream took the set that is read, or whose end is left, unless the connection is closed
+abbrev pub skips_first : Login → Kept → Bool
+skips_first login k = not (has_closed (made_of k.calls)) && is_taken (place_kept login k)
+
+-- A stream takes the set that is read, or the next one. The rest of a set that an earlier stream took is passed over first.
+abbrev pub Takes : Bool → Login → ℕ → Handle → Outcome → List Use → Handle → Type 0
+Takes true login n h o us t = Skips (Calls login n SkipTaken h) login n o us t
+Takes false login n h o us t = Calls login n TakeSet h o us t
+
+abbrev pub TakesOn : Option Asked → Login → ℕ → Kept → Looks → Outcome → List Use → Handle → Type 0
+TakesOn None login n k x o us t = Takes (skips_first login k) login n (Joined true k x) o us t
+TakesOn (Some a) login n k x o us t = IsRefused (Joined true k x) o us t
+
+abbrev pub StreamsAt : Login → ℕ → Handle → Outcome → List Use → Handle → Type 0
+StreamsAt login n h o us t = OnConnection (λ k. TakesOn k.pending login n k) h o us t
+
+-- a step of a stream that isn't there
+abbrev pub Misses : Handle → Outcome → List Use → Handle → Type 0
+Misses h o us t = IsRefused h o us t
+
+-- An item is the next row of the set, where a stream is there.
+abbrev pub ItemsAt : Bool → Login → ℕ → Handle → Outcome → List Use → Handle → Type 0
+ItemsAt true login n = Calls login n NextRow
+ItemsAt false login n = Misses
+
+-- A stream is let go, where one is there: the connection is what it was, so that the next stream passes over the set's rest.
+pub record IsLetGo (k : Kept) (x : Looks) (o : Outcome) (us : List Use) (t : Handle) : Type 0 where
+  pub outcome : o ≡ Done
+  pub uses : us ≡ []
+  pub left : t ≡ Joined true k x
+
+abbrev pub LetsGoWith : Option Asked → Kept → Looks → Outcome → List Use → Handle → Type 0
+LetsGoWith None k x o us t = IsLetGo k x o us t
+LetsGoWith (Some a) k x o us t = IsRefused (Joined true k x) o us t
+
+abbrev pub LetsGo : Handle → Outcome → List Use → Handle → Type 0
+LetsGo h o us t = OnConnection (λ k. LetsGoWith k.pending k) h o us t
+
+abbrev pub UnstreamsAt : Bool → Handle → Outcome → List Use → Handle → Type 0
+UnstreamsAt true = LetsGo
+UnstreamsAt false = Misses
+
+-- a call that gathers no rows is polled; where it passes over a set's rest, the next set is taken then
+abbrev pub PollsCall : Bool → Login → ℕ → Asked → Kept → Looks → Outcome → List Use → Handle → Type 0
+PollsCall true login n a k x o us t = Skips (PolledOnce login n a k x) login n o us t
+PollsCall false login n a k x o us t = PolledOnce login n a k x o us t
+
 -- a step that polls what is open: the handshake, a gathering, or another call
 abbrev pub PollsOn : Bool → Option (List RowParts) → Login → ℕ → Asked → Kept → Looks → Outcome → List Use → Handle
     → Type 0
 PollsOn true rows login n a k x o us t = (used : Use) × (us ≡ used ∷ []) × Connects login n a k x o used t
-PollsOn false None login n a k x o us t = PolledOnce login n a k x o us t
+PollsOn false None login n a k x o us t = PollsCall (is_skip (kind_of a.call)) login n a k x o us t
 PollsOn false (Some rows) login n a k x o us t = Gathers login n us a k x o t
 
 abbrev pub GoesOnWith : Option Asked → Login → ℕ → Kept → Looks → Outcome → List Use → Handle → Type 0
@@ -254,18 +325,22 @@ pub record At (n : ℕ) (R : Handle → Outcome → List Use → Handle → Type
   pub does : R (at_number hs n) o us made
   pub others : ts ≡ put_at n made hs
 
--- by the step, over what the earlier steps and their answers made of the numbers
-abbrev pub StepGrows : Login → Plans → List Handle → Step → Outcome → List Use → List Handle → Type 0
-StepGrows login plans hs steps.Conn o us ts = DialsNext login plans hs o us ts
-StepGrows login plans hs (steps.Query n text) o us ts = At n (Calls login n (Query text)) hs o us ts
-StepGrows login plans hs (steps.Next n) o us ts = At n (Calls login n NextRow) hs o us ts
-StepGrows login plans hs (steps.Collect n) o us ts = At n (CollectsAt login n) hs o us ts
-StepGrows login plans hs (steps.Drop n) o us ts = At n (Calls login n DropResult) hs o us ts
-StepGrows login plans hs (steps.Ping n) o us ts = At n (Calls login n Ping) hs o us ts
-StepGrows login plans hs (steps.Quit n) o us ts = At n (Calls login n Quit) hs o us ts
-StepGrows login plans hs (steps.Fields n) o us ts = At n (TellsFields login) hs o us ts
-StepGrows login plans hs (steps.Poll n) o us ts = At n (GoesOn login n) hs o us ts
-StepGrows login plans hs (steps.Cancel n) o us ts = At n (Cancels login) hs o us ts
+-- by the step, over what the earlier steps and their answers made of the numbers, and whether a stream is there at the one
+-- that the step names
+abbrev pub StepGrows : Login → Plans → Bool → List Handle → Step → Outcome → List Use → List Handle → Type 0
+StepGrows login plans there hs steps.Conn o us ts = DialsNext login plans hs o us ts
+StepGrows login plans there hs (steps.Query n text) o us ts = At n (Calls login n (Query text)) hs o us ts
+StepGrows login plans there hs (steps.Next n) o us ts = At n (Calls login n NextRow) hs o us ts
+StepGrows login plans there hs (steps.Collect n) o us ts = At n (CollectsAt login n) hs o us ts
+StepGrows login plans there hs (steps.Drop n) o us ts = At n (Calls login n DropResult) hs o us ts
+StepGrows login plans there hs (steps.Ping n) o us ts = At n (Calls login n Ping) hs o us ts
+StepGrows login plans there hs (steps.Quit n) o us ts = At n (Calls login n Quit) hs o us ts
+StepGrows login plans there hs (steps.Stream n) o us ts = At n (StreamsAt login n) hs o us ts
+StepGrows login plans there hs (steps.Item n) o us ts = At n (ItemsAt there login n) hs o us ts
+StepGrows login plans there hs (steps.Unstream n) o us ts = At n (UnstreamsAt there) hs o us ts
+StepGrows login plans there hs (steps.Fields n) o us ts = At n (TellsFields login) hs o us ts
+StepGrows login plans there hs (steps.Poll n) o us ts = At n (GoesOn login n) hs o us ts
+StepGrows login plans there hs (steps.Cancel n) o us ts = At n (Cancels login) hs o us ts
 
 -- a step, its answer, and what the numbers stand for then
 pub record Line : Type 0 where
@@ -279,10 +354,20 @@ abbrev pub handles_after : List Line → List Handle
 handles_after [] = []
 handles_after (l ∷ ls) = l.handles
 
+-- what lines make of a stream at connection n, and whether one is there at the number that a step names
+abbrev pub stream_of : ℕ → List Line → Stream
+stream_of n [] = Without
+stream_of n (l ∷ ls) = stream_by n (stream_of n ls) l.step l.outcome
+
+abbrev pub is_streamed : Option ℕ → List Line → Bool
+is_streamed None ls = false
+is_streamed (Some n) ls = is_there (stream_of n ls)
+
 -- the lines stand newest first; each is what its step may come to after the earlier ones
 pub record Grows (login : Login) (plans : Plans) (before : List Line) (l : Line) : Type 0 where
   pub number : l.number ≡ length before + 1
-  pub answer : StepGrows login plans (handles_after before) l.step l.outcome l.uses l.handles
+  pub answer : StepGrows login plans (is_streamed (target l.step) before) (handles_after before) l.step l.outcome
+      l.uses l.handles
 
 abbrev pub AreGrown : Login → Plans → List Line → Type 0
 AreGrown login plans [] = Unit {0}

@@ -8,3 +8,4 @@ pub mod Dialing
 pub mod Did
 pub mod Connecting
 pub mod Gathering
+pub mod Streaming

@@ -10,6 +10,7 @@ mod outcome;
 mod resume;
 mod slot;
 mod step;
+mod stream;
 mod work;
 
 pub use outcome::StepResult;

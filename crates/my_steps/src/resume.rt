@@ -9,13 +9,14 @@ use crate::begin::poll_open;
 use crate::connect::poll_connect;
 use crate::gather::gather;
 use crate::outcome::{Worked, unused};
+use crate::stream::{is_skipping, then_take};
 use my_client::{TapedConn, is_connecting, is_gathering};
 use my_frame::NoMemory;
 use my_link::Link;
 use my_script::Outcome;
 use std::alloc::Global;
 
-/// Polls the open call: the handshake, a gathering, or another call.
+/// Polls the open call: the handshake, a gathering, the passing over of a set's rest, or another call.
 pub(crate) fn resume_there<L: Link>(
     alloc: Global,
     conn: &mut TapedConn<L>,
@@ -38,6 +39,11 @@ pub(crate) fn resume_there<L: Link>(
         let did = gather(alloc, conn, number)?;
         return Ok(Worked { there: true, did });
     }
+    let skipping = is_skipping(conn);
     let did = poll_open(alloc, conn, number)?;
+    if skipping {
+        let did = then_take(alloc, conn, number, did)?;
+        return Ok(Worked { there: true, did });
+    }
     Ok(Worked { there: true, did })
 }

@@ -19,6 +19,7 @@ use crate::gather::collect_call;
 use crate::outcome::{StepResult, Worked, unused};
 use crate::resume::resume_there;
 use crate::slot::{Slot, place};
+use crate::stream::{let_go, take_call};
 use my_client::TapedConn;
 use my_frame::NoMemory;
 use my_link::Link;
@@ -35,6 +36,12 @@ pub(crate) enum Work {
     /// Begins a call other than the handshake.
     Begin(Call),
     Collect,
+    /// Lets a stream take a set.
+    Take,
+    /// Lets a stream go.
+    LetGo,
+    /// Finds no stream there.
+    Miss,
     Fields,
     Poll,
     Cancel,
@@ -67,6 +74,18 @@ fn work_there<L: Link>(
             let did = collect_call(alloc, conn, number)?;
             Ok(Worked { there: true, did })
         }
+        Work::Take => {
+            let did = take_call(alloc, conn, number)?;
+            Ok(Worked { there: true, did })
+        }
+        Work::LetGo => Ok(Worked {
+            there: true,
+            did: let_go(alloc, conn, number),
+        }),
+        Work::Miss => Ok(Worked {
+            there: true,
+            did: unused(alloc, Outcome::NoSuchHandle),
+        }),
         Work::Fields => {
             let did = tell(alloc, conn, number)?;
             Ok(Worked { there: true, did })
@@ -107,7 +126,7 @@ fn work_held<N: World>(
     match work {
         Work::Poll => return dial_at(alloc, opts, world, number),
         Work::Cancel => return Ok((Slot::Gone, unused(alloc, Outcome::Done))),
-        Work::Begin(_) | Work::Collect | Work::Fields => {
+        Work::Begin(_) | Work::Collect | Work::Take | Work::LetGo | Work::Miss | Work::Fields => {
             return Ok((Slot::Held, unused(alloc, Outcome::NoSuchHandle)));
         }
     }

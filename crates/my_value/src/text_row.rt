@@ -37,7 +37,8 @@ fn text_cells(
 ) -> Result<Option<(Vec<Value>, &[u8])>, NoMemory>
     ensures { IfOk result (λ o. option_map (λ x. (x.0.items, x.1.now)) o ≡ text_cells_at count bytes.now) }
 {
-    let mut values = Vec::new(alloc);
+    // Each cell takes a byte at least.
+    let mut values = Vec::with_capacity(alloc, count.min(bytes.len()))?;
     let mut rest = bytes;
     for _ in 0..count {
         match text_cell(rest) {

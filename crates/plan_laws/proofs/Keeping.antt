@@ -61,20 +61,23 @@ module _ (login : Login) (plans : Plans) (lines : List WorldLine) (told : ArePla
   abbrev writes_of : ℕ → List WriteItem
   writes_of n = all_writes_for n lines
 
-  step_ready : (hs ts : List Handle) (step : Step) (o : Outcome) (us : List Use) → StepGrows login plans hs step o us ts → DialReady step us
-  step_ready hs ts steps.Conn o us r =
+  step_ready : (there : Bool) (hs ts : List Handle) (step : Step) (o : Outcome) (us : List Use) → StepGrows login plans there hs step o us ts → DialReady step us
+  step_ready there hs ts steps.Conn o us r =
       let m = length hs in
       let d : DialsTo m (reads_of m) (writes_of m) us r.made = dials_go m login (plans.reads m) (plans.writes m) (reads_of m) (writes_of m) o us r.made (told.reads m) (told.writes m) r.dials in
       subst FirstMetNothing (sym d.uses) refl
-  step_ready hs ts (steps.Query m text) o us r = tt
-  step_ready hs ts (steps.Next m) o us r = tt
-  step_ready hs ts (steps.Collect m) o us r = tt
-  step_ready hs ts (steps.Drop m) o us r = tt
-  step_ready hs ts (steps.Ping m) o us r = tt
-  step_ready hs ts (steps.Quit m) o us r = tt
-  step_ready hs ts (steps.Fields m) o us r = tt
-  step_ready hs ts (steps.Poll m) o us r = tt
-  step_ready hs ts (steps.Cancel m) o us r = tt
+  step_ready there hs ts (steps.Query m text) o us r = tt
+  step_ready there hs ts (steps.Next m) o us r = tt
+  step_ready there hs ts (steps.Collect m) o us r = tt
+  step_ready there hs ts (steps.Drop m) o us r = tt
+  step_ready there hs ts (steps.Ping m) o us r = tt
+  step_ready there hs ts (steps.Quit m) o us r = tt
+  step_ready there hs ts (steps.Stream m) o us r = tt
+  step_ready there hs ts (steps.Item m) o us r = tt
+  step_ready there hs ts (steps.Unstream m) o us r = tt
+  step_ready there hs ts (steps.Fields m) o us r = tt
+  step_ready there hs ts (steps.Poll m) o us r = tt
+  step_ready there hs ts (steps.Cancel m) o us r = tt
 
   dials_so : (ls : List Line) → AreGrown login plans ls → (ss : List Step) (vs : List AnswerView) → DialsShown ss vs → DialsShown (steps_of ls ++ ss) (answers_of ls ++ vs)
   dials_so [] grown ss vs r = r
@@ -82,7 +85,7 @@ module _ (login : Login) (plans : Plans) (lines : List WorldLine) (told : ArePla
       let view : AnswerView = record { number = l.number; outcome = l.outcome; uses = l.uses } in
       subst (λ (xs : List Step). DialsShown xs ((answers_of ls ++ view ∷ []) ++ vs)) (sym (append_assoc (steps_of ls) (l.step ∷ []) ss))
       (subst (λ (ys : List AnswerView). DialsShown (steps_of ls ++ l.step ∷ ss) ys) (sym (append_assoc (answers_of ls) (view ∷ []) vs))
-      (dials_so ls grown.1 (l.step ∷ ss) (view ∷ vs) (step_ready (handles_after ls) l.handles l.step l.outcome l.uses grown.0.answer, r)))
+      (dials_so ls grown.1 (l.step ∷ ss) (view ∷ vs) (step_ready _ (handles_after ls) l.handles l.step l.outcome l.uses grown.0.answer, r)))
 
   module _ (ls : List Line) (grown : AreGrown login plans ls) (explained : EachExplained login plans ls) (answers : List StepAnswer) (answered : map answer_view answers ≡ answers_of ls) where
     -- what a link that took these bytes began with

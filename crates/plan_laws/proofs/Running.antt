@@ -25,7 +25,7 @@ use Rattle.my_plan_judge.specs.Left.{AreKept, IsKept, after_met, after_use, afte
 use Rattle.my_plan_judge.specs.Lines.{LinesKept}
 use Rattle.my_plan_judge.specs.Planned.{before_end}
 use Rattle.plan_laws.proofs.Spending.{left_at, left_is}
-use Rattle.plan_laws.proofs.Stepping.{DialsTo, Goes, WalksTo, calls_go, cancels_go, collects_go, dials_go, goes_on_go, tells_go}
+use Rattle.plan_laws.proofs.Stepping.{DialsTo, Goes, WalksTo, calls_go, cancels_go, collects_go, dials_go, goes_on_go, items_go, streams_go, tells_go, unstreams_go}
 use Rattle.plan_laws.proofs.Walking.{NoneAt, StandsIn, WalkKept, none_kept, walk_kept, walks_elsewhere, walks_longer}
 
 -- the lines, by what is shown of their answers
@@ -187,17 +187,20 @@ module _ (login : Login) (plans : Plans) (reads_of : ℕ → List ReadItem) (wri
             let above : length ts ≤ n = omega (arith, grown, over, other) in
             skips_so us (at_number hs n) (at_number ts n) (past ts n above ∙ sym (past hs n over)) (elsewhere e.1) room
 
-    line_so : (hs ts : List Handle) (step : Step) (o : Outcome) (us : List Use) → NoneDialing hs → StepGrows login plans hs step o us ts → NumberRoom ts → NumberSo us hs ts
-    line_so hs ts steps.Conn o us not r = conn hs o us ts r
-    line_so hs ts (steps.Query m text) o us not r = named m _ hs o us ts (λ h t. calls_go m login (calls.Query text) o us h t) not r
-    line_so hs ts (steps.Next m) o us not r = named m _ hs o us ts (λ h t. calls_go m login calls.NextRow o us h t) not r
-    line_so hs ts (steps.Collect m) o us not r = named m _ hs o us ts (λ h t. collects_go m login o us h t) not r
-    line_so hs ts (steps.Drop m) o us not r = named m _ hs o us ts (λ h t. calls_go m login calls.DropResult o us h t) not r
-    line_so hs ts (steps.Ping m) o us not r = named m _ hs o us ts (λ h t. calls_go m login calls.Ping o us h t) not r
-    line_so hs ts (steps.Quit m) o us not r = named m _ hs o us ts (λ h t. calls_go m login calls.Quit o us h t) not r
-    line_so hs ts (steps.Fields m) o us not r = named m _ hs o us ts (λ h t. tells_go m login o us h t) not r
-    line_so hs ts (steps.Poll m) o us not r = named m _ hs o us ts (λ h t. goes_on_go m login o us h t) not r
-    line_so hs ts (steps.Cancel m) o us not r = named m _ hs o us ts (λ h t. cancels_go m login o us h t) not r
+    line_so : (there : Bool) (hs ts : List Handle) (step : Step) (o : Outcome) (us : List Use) → NoneDialing hs → StepGrows login plans there hs step o us ts → NumberRoom ts → NumberSo us hs ts
+    line_so there hs ts steps.Conn o us not r = conn hs o us ts r
+    line_so there hs ts (steps.Query m text) o us not r = named m _ hs o us ts (λ h t. calls_go m login (calls.Query text) o us h t) not r
+    line_so there hs ts (steps.Next m) o us not r = named m _ hs o us ts (λ h t. calls_go m login calls.NextRow o us h t) not r
+    line_so there hs ts (steps.Collect m) o us not r = named m _ hs o us ts (λ h t. collects_go m login o us h t) not r
+    line_so there hs ts (steps.Drop m) o us not r = named m _ hs o us ts (λ h t. calls_go m login calls.DropResult o us h t) not r
+    line_so there hs ts (steps.Ping m) o us not r = named m _ hs o us ts (λ h t. calls_go m login calls.Ping o us h t) not r
+    line_so there hs ts (steps.Quit m) o us not r = named m _ hs o us ts (λ h t. calls_go m login calls.Quit o us h t) not r
+    line_so there hs ts (steps.Stream m) o us not r = named m _ hs o us ts (λ h t. streams_go m login o us h t) not r
+    line_so there hs ts (steps.Item m) o us not r = named m _ hs o us ts (λ h t. items_go m there login o us h t) not r
+    line_so there hs ts (steps.Unstream m) o us not r = named m _ hs o us ts (λ h t. unstreams_go m there o us h t) not r
+    line_so there hs ts (steps.Fields m) o us not r = named m _ hs o us ts (λ h t. tells_go m login o us h t) not r
+    line_so there hs ts (steps.Poll m) o us not r = named m _ hs o us ts (λ h t. goes_on_go m login o us h t) not r
+    line_so there hs ts (steps.Cancel m) o us not r = named m _ hs o us ts (λ h t. cancels_go m login o us h t) not r
 
     -- after these lines
     pub record RanSo (ls : List Line) : Type 0 where
@@ -208,7 +211,7 @@ module _ (login : Login) (plans : Plans) (reads_of : ℕ → List ReadItem) (wri
     pub ran : (ls : List Line) → AreGrown login plans ls → EachExplained login plans ls → NumberRoom (handles_after ls) → RanSo ls
     ran [] grown w room = record { left = first n (reads_of n) (writes_of n) all; stands = refl; reaches = λ vs r. r }
     ran (l ∷ ls) grown w room =
-        let s : NumberSo l.uses (handles_after ls) l.handles = line_so (handles_after ls) l.handles l.step l.outcome l.uses (explained_none ls w.1) grown.0.answer room in
+        let s : NumberSo l.uses (handles_after ls) l.handles = line_so _ (handles_after ls) l.handles l.step l.outcome l.uses (explained_none ls w.1) grown.0.answer room in
         let before : RanSo ls = ran ls grown.1 w.1 s.back in
         let here = s.kept before.left before.stands in
         let view : AnswerView = record { number = l.number; outcome = l.outcome; uses = l.uses } in

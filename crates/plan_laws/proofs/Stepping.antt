@@ -1,5 +1,6 @@
 -- What a step does to the link at its number.
-use Rattle.std.proofs.Common.{ℕ, ◌≡◌, List, [], ◌∷◌, Option, Some, None, Bool, true, false, refl, sym, ap, ◌∙◌, subst}
+use Rattle.std.proofs.Common.{ℕ, ◌≡◌, List, [], ◌∷◌, ◌++◌, Option, Some, None, Bool, true, false, refl, sym, ap, ◌∙◌, subst}
+use Rattle.std.proofs.lemmas.List.{append-nil}
 use Rattle.my_value.specs.RowParts.{RowParts}
 use Rattle.my_grammar.specs.declared.login.Login.{Login}
 use Rattle.my_link.specs.declared.link.ReadItem.{ReadItem}
@@ -7,16 +8,19 @@ use Rattle.my_link.specs.declared.link.WriteItem.{WriteItem}
 use Rattle.my_link.specs.Looks.{Looks}
 use Rattle.my_reading.specs.declared.answer.Answer.TheVariants as answers
 use Rattle.my_reading.specs.declared.call.Call.{Call}
+use Rattle.my_reading.specs.declared.call.Call.TheVariants.{NextRow, TakeSet, SkipTaken}
+use Rattle.my_reading.specs.Calls.{kind_of}
 use Rattle.my_client.specs.declared.poll.After.{After}
 use Rattle.my_client.specs.declared.poll.After.TheVariants as after
 use Rattle.my_script.specs.declared.transcript.Outcome.{Outcome}
 use Rattle.my_script.specs.declared.transcript.Use.{Use}
+use Rattle.my_script.specs.Streams.{is_skip}
 use Rattle.my_client.specs.Kept.{Asked, Kept, asking, asked_by, first_asked, first_kept}
-use Rattle.my_steps.specs.Grows.{IsRefused, OnConnection, PolledOnce, IsClosed, Begins, BeginsOn, Calls, ConnectShows, Connects, HasPlan, Dials, Holds, Fails, Links, Gathers, GathersOn, Collects, CollectsOn, CollectsAt, PollsOn, GoesOnWith, GoesOn, CancelsWith, Cancels, TellsWith, TellsFields}
+use Rattle.my_steps.specs.Grows.{IsRefused, OnConnection, PolledOnce, IsClosed, Begins, BeginsOn, Calls, ConnectShows, Connects, HasPlan, Dials, Holds, Fails, Links, Gathers, GathersOn, Collects, CollectsOn, CollectsAt, PollsOn, PollsCall, ThenTakes, Skips, Takes, TakesOn, StreamsAt, ItemsAt, LetsGoWith, UnstreamsAt, GoesOnWith, GoesOn, CancelsWith, Cancels, TellsWith, TellsFields, is_done, skips_first}
 use Rattle.my_steps.specs.Handle.{Handle, Absent, Dialing, Joined}
 use Rattle.my_steps.specs.Sums.{quiet}
 use Rattle.plan_laws.proofs.Spending.{Has}
-use Rattle.plan_laws.proofs.Walking.{OnePoll, Walks, polled_once, walks_one}
+use Rattle.plan_laws.proofs.Walking.{OnePoll, Walks, polled_once, walks_both, walks_one}
 
 -- from a link on, these polls lead to what stands there
 pub record WalksTo (n : ℕ) (us : List Use) (x : Looks) (taken : List ℕ) (t : Handle) : Type 0 where
@@ -115,9 +119,51 @@ module _ (n : ℕ) where
   connects : (login : Login) (a : Asked) (k : Kept) (x : Looks) (o : Outcome) (u : Use) (t : Handle) → Connects login n a k x o u t → WalksTo n (u ∷ []) x k.taken t
   connects login a k x o u t r = shown login r.after r.end x r.link k.taken u o t (walks_one n u x k.taken r.link r.end.taken r.number (polled_once login a k x u.met r.after r.end r.link r.polled)) r.shows
 
+  -- a stream takes a set, after the rest of an earlier one
+  then_goes : (b : Bool) (login : Login) (first : Outcome) (k : Kept) (x : Looks) (used : List Use) (mid : Handle) (o : Outcome) (later : List Use) (t : Handle) → WalksTo n used x k.taken mid → ThenTakes b login n first mid o later t → WalksTo n (used ++ later) x k.taken t
+  then_goes true login first k x used mid o later t w r =
+      let more : WalksTo n later w.link w.kept.taken t = joined w.there w.kept w.link (subst (λ (h : Handle). Calls login n TakeSet h o later t) w.is r) in
+      record { there = more.there; kept = more.kept; link = more.link; is = more.is; walks = walks_both n used later x k.taken w.link w.kept.taken more.link more.kept.taken w.walks more.walks }
+    where
+      joined : (there : Bool) (l : Kept) (y : Looks) → Calls login n TakeSet (Joined there l y) o later t → WalksTo n later y l.taken t
+      joined there l y c = calls_go login TakeSet o later (Joined there l y) t c
+  then_goes false login first k x used mid o later t w r =
+      subst (λ (vs : List Use). WalksTo n vs x k.taken t) (sym (ap (λ (vs : List Use). used ++ vs) r.1 ∙ append-nil used)) (subst (λ (h : Handle). WalksTo n used x k.taken h) (sym r.2) w)
+
+  skips_go : (R : Outcome → List Use → Handle → Type 0) (login : Login) (k : Kept) (x : Looks) (o : Outcome) (us : List Use) (t : Handle) → ((first : Outcome) (used : List Use) (mid : Handle) → R first used mid → WalksTo n used x k.taken mid)
+      → Skips R login n o us t → WalksTo n us x k.taken t
+  skips_go R login k x o us t f r = subst (λ (vs : List Use). WalksTo n vs x k.taken t) (sym r.uses) (then_goes (is_done r.first) login r.first k x r.used r.mid o r.later t (f r.first r.used r.mid r.skips) r.takes)
+
+  takes_go : (b : Bool) (login : Login) (k : Kept) (x : Looks) (o : Outcome) (us : List Use) (t : Handle) → Takes b login n (Joined true k x) o us t → WalksTo n us x k.taken t
+  takes_go true login k x o us t r = skips_go (Calls login n SkipTaken (Joined true k x)) login k x o us t (λ first used mid s. calls_go login SkipTaken first used (Joined true k x) mid s) r
+  takes_go false login k x o us t r = calls_go login TakeSet o us (Joined true k x) t r
+
+  takes_on : (q : Option Asked) (login : Login) (k : Kept) (x : Looks) (o : Outcome) (us : List Use) (t : Handle) → TakesOn q login n k x o us t → WalksTo n us x k.taken t
+  takes_on None login k x o us t r = takes_go (skips_first login k) login k x o us t r
+  takes_on (Some a) login k x o us t r = refused (Joined true k x) o us t r
+
+  pub streams_go : (login : Login) (o : Outcome) (us : List Use) (h t : Handle) → StreamsAt login n h o us t → Goes n h us t
+  streams_go login o us h t = on (λ k. TakesOn k.pending login n k) o us h t (λ k x. takes_on k.pending login k x o us t)
+
+  pub items_go : (b : Bool) (login : Login) (o : Outcome) (us : List Use) (h t : Handle) → ItemsAt b login n h o us t → Goes n h us t
+  items_go true login o us h t r = calls_go login NextRow o us h t r
+  items_go false login o us h t r = refused h o us t r
+
+  lets_go_with : (q : Option Asked) (k : Kept) (x : Looks) (o : Outcome) (us : List Use) (t : Handle) → LetsGoWith q k x o us t → WalksTo n us x k.taken t
+  lets_go_with None k x o us t r = rests true k k x us t r.uses refl r.left
+  lets_go_with (Some a) k x o us t r = refused (Joined true k x) o us t r
+
+  pub unstreams_go : (b : Bool) (o : Outcome) (us : List Use) (h t : Handle) → UnstreamsAt b h o us t → Goes n h us t
+  unstreams_go true o us h t r = on (λ k. LetsGoWith k.pending k) o us h t (λ k x. lets_go_with k.pending k x o us t) r
+  unstreams_go false o us h t r = refused h o us t r
+
+  polls_call : (b : Bool) (login : Login) (a : Asked) (k : Kept) (x : Looks) (o : Outcome) (us : List Use) (t : Handle) → PollsCall b login n a k x o us t → WalksTo n us x k.taken t
+  polls_call true login a k x o us t r = skips_go (PolledOnce login n a k x) login k x o us t (λ first used mid s. once login a k x first used mid s) r
+  polls_call false login a k x o us t r = once login a k x o us t r
+
   polls_on : (b : Bool) (rows : Option (List RowParts)) (login : Login) (a : Asked) (k : Kept) (x : Looks) (o : Outcome) (us : List Use) (t : Handle) → PollsOn b rows login n a k x o us t → WalksTo n us x k.taken t
   polls_on true rows login a k x o us t r = subst (λ (vs : List Use). WalksTo n vs x k.taken t) (sym r.1) (connects login a k x o r.0 t r.2)
-  polls_on false None login a k x o us t r = once login a k x o us t r
+  polls_on false None login a k x o us t r = polls_call (is_skip (kind_of a.call)) login a k x o us t r
   polls_on false (Some rows) login a k x o us t r = gathers login us a k x o t r
 
   goes_on_with : (q : Option Asked) (login : Login) (k : Kept) (x : Looks) (o : Outcome) (us : List Use) (t : Handle) → GoesOnWith q login n k x o us t → WalksTo n us x k.taken t

@@ -43,6 +43,11 @@ Walks n (u ∷ us) x taken y end = (u.number ≡ n) × (z : Looks) × (mid : Lis
 pub walks_one : (n : ℕ) (u : Use) (x : Looks) (taken : List ℕ) (y : Looks) (end : List ℕ) → u.number ≡ n → OnePoll u.met x taken y end → Walks n (u ∷ []) x taken y end
 walks_one n u x taken y end e p = (e, y, end, p, (refl, refl))
 
+-- polls, and then others
+pub walks_both : (n : ℕ) (us vs : List Use) (x : Looks) (taken : List ℕ) (y : Looks) (mid : List ℕ) (z : Looks) (end : List ℕ) → Walks n us x taken y mid → Walks n vs y mid z end → Walks n (us ++ vs) x taken z end
+walks_both n [] vs x taken y mid z end w v = subst (λ (a : Looks). Walks n vs a taken z end) w.0 (subst (λ (bs : List ℕ). Walks n vs y bs z end) w.1 v)
+walks_both n (u ∷ us) vs x taken y mid z end w v = (w.0, w.1, w.2, w.3, walks_both n us vs w.1 w.2 y mid z end w.4 v)
+
 -- no byte is lost
 pub walks_longer : (n : ℕ) (us : List Use) (x : Looks) (taken : List ℕ) (y : Looks) (end : List ℕ) → Walks n us x taken y end → length taken ≤ length end
 walks_longer n [] x taken y end w = let e = ap length w.1 in omega (arith, e)

@@ -1,6 +1,7 @@
 //! A heap of ages: worked pushes, removals and pops, many beside a scanned list, and how many ages are compared.
 
-use my_wait_heap::{Counted, Entry, WaitHeap};
+use crate::steps::digits;
+use my_pool_parts::{Counted, Entry, WaitHeap};
 use std::test::Fail;
 
 /// Whether a slot is free and an age is new; then the slot is held by it from now on.
@@ -51,14 +52,6 @@ fn is_worked(heap: &mut WaitHeap, steps: &mut Counted) -> bool {
     heap.pop_least(steps).is_none() && heap.least().is_none()
 }
 
-#[test]
-fn ample_heap(rt: HostRuntime) -> Result<(), Fail> {
-    let mut heap = WaitHeap::new(rt.alloc());
-    heap.reserve(5)?;
-    assert!(rt; is_worked(&mut heap, &mut Counted::new()));
-    Ok(())
-}
-
 const SLOTS: usize = 100;
 
 /// The entry of the least age of a scanned list.
@@ -80,15 +73,7 @@ fn scanned_least(list: &[Option<u64>; SLOTS]) -> Option<Entry> {
 
 /// At most this many ages are compared among this many: a number for each binary digit, and some more.
 fn bound(len: usize, each: u64, more: u64) -> u64 {
-    let mut digits = 0u64;
-    let mut left = len;
-    for _ in 0..64 {
-        if left > 0 {
-            digits = digits.saturating_add(1);
-            left /= 2;
-        }
-    }
-    digits.saturating_mul(each).saturating_add(more)
+    digits(len as u64).saturating_mul(each).saturating_add(more)
 }
 
 /// Whether a pop, a removal or a push does what it does to a list, and compares no more ages than it may.
@@ -136,14 +121,6 @@ fn wrong_turn(heap: &mut WaitHeap) -> Option<u64> {
     None
 }
 
-#[test]
-fn many_beside_a_list(rt: HostRuntime) -> Result<(), Fail> {
-    let mut heap = WaitHeap::new(rt.alloc());
-    heap.reserve(SLOTS)?;
-    assert_eq!(rt; wrong_turn(&mut heap), None);
-    Ok(())
-}
-
 /// How many ages a push into each slot compares, where each age is below all others: one at each level on the way up.
 const UP: &[(usize, u64)] = &[(0, 0), (1, 1), (2, 1), (3, 2), (4, 2), (5, 2), (6, 2)];
 
@@ -180,10 +157,12 @@ fn counts_each(heap: &mut WaitHeap) -> bool {
     true
 }
 
+/// A heap that is empty again after each of the worked lines and counts; then many events happen to it.
 #[test]
-fn counts_each_comparison(rt: HostRuntime) -> Result<(), Fail> {
+fn heap_is_right(rt: HostRuntime) -> Result<(), Fail> {
     let mut heap = WaitHeap::new(rt.alloc());
-    heap.reserve(7)?;
-    assert!(rt; counts_each(&mut heap));
+    heap.reserve(SLOTS)?;
+    assert!(rt; is_worked(&mut heap, &mut Counted::new()) && counts_each(&mut heap));
+    assert_eq!(rt; wrong_turn(&mut heap), None);
     Ok(())
 }

@@ -1,5 +1,5 @@
-//! Tables over my_pool_core: lists of events with what each returns, and many events from a seed; and over my_wait_heap,
-//! beside a scanned list. This crate has tests alone.
+//! Tables over my_pool_core: lists of events with what each returns, and many events from a seed; and over the heap of
+//! my_pool_parts, beside a scanned list. This crate has tests alone.
 #![tactic(auto)]
 
 #[cfg(test)]

@@ -7,6 +7,16 @@ use my_pool_parts::{Place, Standing};
 /// A line.
 #[derive(Clone, Copy)]
 pub enum Line {
+    /// A connection is asked for, made and leased: the age of its request, and its number.
+    Lease(u64, u64),
+    /// A connection is asked for, and the request of this age waits.
+    Wait(u64),
+    /// A connection is asked for, and too many wait: the request's age, how many wait, and how many may.
+    Full(u64, u64, u64),
+    /// A leased connection comes back, and is to be cleaned.
+    Back(u64),
+    /// The same, and it is clean and idle then.
+    Keep(u64),
     /// A connection is asked for, and the request has this age.
     Ask(u64),
     /// A request is polled at a moment.
@@ -62,6 +72,14 @@ pub const ONE: Limits = Limits {
     waiting: None,
 };
 
+/// Two connections at most, which may both be idle.
+pub const TWO: Limits = Limits {
+    max: 2,
+    min: 2,
+    bound: 2,
+    ..ONE
+};
+
 /// Nothing is there, and nothing happened.
 pub const NOTHING: Metrics = Metrics {
     connection_count: 0,
@@ -81,7 +99,7 @@ pub const NOTHING: Metrics = Metrics {
 /// The limits of a pool, the number of its first connection, and its events.
 pub type Script = (Limits, u64, &'static [Line]);
 
-/// The event of a line, and what it returns; None for a line that says what is seen.
+/// The event of a line that has one, and what it returns; None for a line that has several, or says what is seen.
 fn event_of(line: Line) -> Option<(PoolEvent, Answer)> {
     let facts = CLEAN;
     Some(match line {
@@ -146,14 +164,62 @@ fn happens(core: &mut Core, event: PoolEvent, want: Answer) -> Result<bool, NoMe
     Ok(answer == want)
 }
 
+/// Whether a connection is asked for, by a request of this age.
+fn asks(core: &mut Core, age: u64) -> Result<bool, NoMemory> {
+    happens(core, PoolEvent::Request, Answer::Age(age))
+}
+
+/// Whether a request's poll returns this.
+fn polls(core: &mut Core, age: u64, want: PollAnswer) -> Result<bool, NoMemory> {
+    happens(
+        core,
+        PoolEvent::PollRequest { age, now: 0 },
+        Answer::Poll(want),
+    )
+}
+
+/// Whether a connection comes back, and is the next one to be cleaned.
+fn comes_back(core: &mut Core, conn: u64) -> Result<bool, NoMemory> {
+    let want = Answer::Returned(Some(conn));
+    Ok(
+        happens(core, PoolEvent::GiveBack { conn }, Answer::Done)?
+            && happens(core, PoolEvent::TakeReturned, want)?,
+    )
+}
+
+/// Whether the events of a line happen, and return what it says; or a pool is as it says.
+fn is_right(core: &mut Core, line: Line) -> Result<bool, NoMemory> {
+    Ok(match line {
+        Line::Lease(age, conn) => {
+            asks(core, age)?
+                && polls(core, age, PollAnswer::Dial(conn))?
+                && happens(core, PoolEvent::Ready { age, conn }, Answer::Done)?
+        }
+        Line::Wait(age) => asks(core, age)? && polls(core, age, PollAnswer::Wait)?,
+        Line::Full(age, waiting, limit) => {
+            asks(core, age)? && polls(core, age, PollAnswer::Full { waiting, limit })?
+        }
+        Line::Back(conn) => comes_back(core, conn)?,
+        Line::Keep(conn) => {
+            let facts = CLEAN;
+            let keeps = PoolEvent::Decide {
+                conn,
+                facts,
+                now: 0,
+            };
+            comes_back(core, conn)? && happens(core, keeps, Answer::Verdict(Verdict::Keep))?
+        }
+        _ => match event_of(line) {
+            Some((event, want)) => happens(core, event, want)?,
+            None => is_seen(core, line),
+        },
+    })
+}
+
 /// The first line that isn't as it says.
 pub fn first_wrong(core: &mut Core, lines: &[Line]) -> Result<Option<usize>, NoMemory> {
     for (index, line) in lines.iter().enumerate() {
-        let right = match event_of(*line) {
-            Some((event, want)) => happens(core, event, want)?,
-            None => is_seen(core, *line),
-        };
-        if !right {
+        if !is_right(core, *line)? {
             return Ok(Some(index));
         }
     }

@@ -188,6 +188,6 @@ fn wrong_round(alloc: Global, tally: &mut Tally) -> Result<Option<u64>, NoMemory
 fn many_events(rt: HostRuntime) -> Result<(), Fail> {
     let mut tally = Tally::new();
     assert_eq!(rt; wrong_round(rt.alloc(), &mut tally)?, None);
-    assert!(rt; tally.first_below(100).is_none());
+    assert!(rt; tally.has_each(100));
     Ok(())
 }

@@ -1,24 +1,24 @@
 //! Lists of events of requests, each with what it returns.
 
-use crate::line::{CLEAN, Line, NOTHING, ONE, Script};
-use my_pool_core::{Limits, Metrics, PollAnswer, PoolEvent, Verdict};
+use crate::line::{Line, NOTHING, ONE, Script};
+use my_pool_core::{Limits, Metrics, PollAnswer, PoolEvent};
 use my_pool_parts::Standing;
+
+/// One connection at most, and one request may wait.
+const ONE_WAITS: Limits = Limits {
+    waiting: Some(1),
+    ..ONE
+};
 
 /// A woken request that is given up wakes the next one.
 pub const CANCELLED_WAKE: Script = (
     ONE,
     1000,
     &[
-        Line::Ask(0),
-        Line::Poll(0, 0, PollAnswer::Dial(1000)),
-        Line::Ready(0, 1000),
-        Line::Ask(1),
-        Line::Poll(1, 0, PollAnswer::Wait),
-        Line::Ask(2),
-        Line::Poll(2, 0, PollAnswer::Wait),
-        Line::Give(1000),
-        Line::Next(Some(1000)),
-        Line::Decide(1000, CLEAN, 0, Verdict::Keep),
+        Line::Lease(0, 1000),
+        Line::Wait(1),
+        Line::Wait(2),
+        Line::Keep(1000),
         Line::Next(None),
         Line::Live(2, true, Standing::Waits),
         Line::Live(1, true, Standing::Woken),
@@ -42,16 +42,11 @@ pub const CANCELLED_CHECK: Script = (
     ONE,
     1000,
     &[
-        Line::Ask(0),
-        Line::Poll(0, 0, PollAnswer::Dial(1000)),
-        Line::Ready(0, 1000),
-        Line::Give(1000),
-        Line::Next(Some(1000)),
-        Line::Decide(1000, CLEAN, 0, Verdict::Keep),
+        Line::Lease(0, 1000),
+        Line::Keep(1000),
         Line::Ask(1),
         Line::Poll(1, 0, PollAnswer::Take(1000)),
-        Line::Ask(2),
-        Line::Poll(2, 0, PollAnswer::Wait),
+        Line::Wait(2),
         Line::Cancel(1),
         Line::Counted(0),
         Line::Oldest(None),
@@ -61,29 +56,13 @@ pub const CANCELLED_CHECK: Script = (
 
 /// One request may wait; a woken one counts, and one that waited before may wait again.
 pub const FULL: Script = (
-    Limits {
-        waiting: Some(1),
-        ..ONE
-    },
+    ONE_WAITS,
     1000,
     &[
-        Line::Ask(0),
-        Line::Poll(0, 0, PollAnswer::Dial(1000)),
-        Line::Ready(0, 1000),
-        Line::Ask(1),
-        Line::Poll(1, 0, PollAnswer::Wait),
-        Line::Ask(2),
-        Line::Poll(
-            2,
-            0,
-            PollAnswer::Full {
-                waiting: 1,
-                limit: 1,
-            },
-        ),
-        Line::Give(1000),
-        Line::Next(Some(1000)),
-        Line::Decide(1000, CLEAN, 0, Verdict::Keep),
+        Line::Lease(0, 1000),
+        Line::Wait(1),
+        Line::Full(2, 1, 1),
+        Line::Keep(1000),
         Line::Ask(3),
         Line::Poll(3, 0, PollAnswer::Take(1000)),
         Line::Ready(3, 1000),
@@ -94,38 +73,20 @@ pub const FULL: Script = (
 
 /// A request that waited, looked at a connection that wasn't good, and waits again passes the limit.
 pub const FULL_ABOVE: Script = (
-    Limits {
-        waiting: Some(1),
-        ..ONE
-    },
+    ONE_WAITS,
     1000,
     &[
-        Line::Ask(0),
-        Line::Poll(0, 0, PollAnswer::Dial(1000)),
-        Line::Ready(0, 1000),
-        Line::Ask(1),
-        Line::Poll(1, 0, PollAnswer::Wait),
-        Line::Give(1000),
-        Line::Next(Some(1000)),
-        Line::Decide(1000, CLEAN, 0, Verdict::Keep),
+        Line::Lease(0, 1000),
+        Line::Wait(1),
+        Line::Keep(1000),
         Line::Poll(1, 0, PollAnswer::Take(1000)),
-        Line::Ask(2),
-        Line::Poll(2, 0, PollAnswer::Wait),
+        Line::Wait(2),
         Line::Failed(1, 1000),
         Line::Poll(2, 0, PollAnswer::Dial(1001)),
-        Line::Ask(3),
-        Line::Poll(3, 0, PollAnswer::Wait),
+        Line::Wait(3),
         Line::Poll(1, 0, PollAnswer::Wait),
         Line::Oldest(Some(1)),
-        Line::Ask(4),
-        Line::Poll(
-            4,
-            0,
-            PollAnswer::Full {
-                waiting: 2,
-                limit: 1,
-            },
-        ),
+        Line::Full(4, 2, 1),
     ],
 );
 
@@ -138,10 +99,8 @@ pub const FAILED: Script = (
         Line::Ask(0),
         Line::Poll(0, 0, PollAnswer::Dial(1000)),
         Line::NotNow(PoolEvent::Failed { age: 0, conn: 1001 }),
-        Line::Ask(1),
-        Line::Poll(1, 0, PollAnswer::Wait),
-        Line::Ask(2),
-        Line::Poll(2, 0, PollAnswer::Wait),
+        Line::Wait(1),
+        Line::Wait(2),
         Line::Failed(0, 1000),
         Line::NotNow(PoolEvent::Failed { age: 0, conn: 1000 }),
         Line::Over(0),
@@ -150,14 +109,11 @@ pub const FAILED: Script = (
         Line::Live(1, true, Standing::Woken),
         Line::Poll(1, 0, PollAnswer::Dial(1001)),
         Line::Ready(1, 1001),
-        Line::Give(1001),
-        Line::Next(Some(1001)),
-        Line::Decide(1001, CLEAN, 0, Verdict::Keep),
+        Line::Keep(1001),
         Line::Oldest(None),
         Line::Live(2, true, Standing::Woken),
         Line::Poll(2, 0, PollAnswer::Take(1001)),
-        Line::Ask(3),
-        Line::Poll(3, 0, PollAnswer::Wait),
+        Line::Wait(3),
         Line::Failed(2, 1001),
         Line::Live(2, true, Standing::Asks),
         Line::Oldest(None),
@@ -189,15 +145,7 @@ pub const NONE_WAITS: Script = (
     &[
         Line::Ask(0),
         Line::Poll(0, 0, PollAnswer::Dial(1000)),
-        Line::Ask(1),
-        Line::Poll(
-            1,
-            0,
-            PollAnswer::Full {
-                waiting: 0,
-                limit: 0,
-            },
-        ),
+        Line::Full(1, 0, 0),
     ],
 );
 

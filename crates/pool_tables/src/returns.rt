@@ -1,6 +1,6 @@
 //! Lists of events of connections that come back, each with what it returns.
 
-use crate::line::{CLEAN, Line, NOTHING, ONE, Script};
+use crate::line::{CLEAN, Line, NOTHING, ONE, Script, TWO};
 use my_pool_core::{Facts, Limits, Metrics, PollAnswer, PoolEvent, Verdict};
 use my_pool_parts::{Place, Standing, Times};
 
@@ -58,11 +58,8 @@ pub const EXPIRED: Script = (
     ONE,
     1000,
     &[
-        Line::Ask(0),
-        Line::Poll(0, 0, PollAnswer::Dial(1000)),
-        Line::Ready(0, 1000),
-        Line::Give(1000),
-        Line::Next(Some(1000)),
+        Line::Lease(0, 1000),
+        Line::Back(1000),
         Line::Decide(1000, TTL_1000, 0, Verdict::Keep),
         Line::Ask(1),
         Line::Poll(1, 1001, PollAnswer::Wait),
@@ -83,9 +80,7 @@ pub const FACTS: Script = (
     ONE,
     1000,
     &[
-        Line::Ask(0),
-        Line::Poll(0, 0, PollAnswer::Dial(1000)),
-        Line::Ready(0, 1000),
+        Line::Lease(0, 1000),
         Line::Give(1000),
         Line::NotNow(PoolEvent::Decide {
             conn: 1000,
@@ -110,28 +105,18 @@ pub const FACTS: Script = (
         Line::Ask(1),
         Line::Poll(1, 0, PollAnswer::Take(1000)),
         Line::Ready(1, 1000),
-        Line::Give(1000),
-        Line::Next(Some(1000)),
+        Line::Back(1000),
         Line::Decide(1000, EXPIRED_RESET, 0, Verdict::Close),
         Line::Ended(1000, true, 0, Verdict::Drop),
-        Line::Ask(2),
-        Line::Poll(2, 0, PollAnswer::Dial(1001)),
-        Line::Ready(2, 1001),
-        Line::Give(1001),
-        Line::Next(Some(1001)),
+        Line::Lease(2, 1001),
+        Line::Back(1001),
         Line::Decide(1001, CLOSED_DIRTY_EXPIRED_RESET, 0, Verdict::Drop),
-        Line::Ask(3),
-        Line::Poll(3, 0, PollAnswer::Dial(1002)),
-        Line::Ready(3, 1002),
-        Line::Give(1002),
-        Line::Next(Some(1002)),
+        Line::Lease(3, 1002),
+        Line::Back(1002),
         Line::Decide(1002, DIRTY, 0, Verdict::Clean),
         Line::Ended(1002, false, 0, Verdict::Drop),
-        Line::Ask(4),
-        Line::Poll(4, 0, PollAnswer::Dial(1003)),
-        Line::Ready(4, 1003),
-        Line::Give(1003),
-        Line::Next(Some(1003)),
+        Line::Lease(4, 1003),
+        Line::Back(1003),
         Line::Decide(1003, RESET, 0, Verdict::Reset),
         Line::Ended(1003, false, 0, Verdict::Drop),
         Line::Counted(0),
@@ -150,20 +135,11 @@ pub const FACTS: Script = (
 /// An idle connection is used up to its deadline, and returned and marked above it, so that it is closed; one that isn't
 /// above it stays.
 pub const DEADLINE: Script = (
-    Limits {
-        max: 2,
-        min: 2,
-        bound: 2,
-        ..ONE
-    },
+    TWO,
     1000,
     &[
-        Line::Ask(0),
-        Line::Poll(0, 0, PollAnswer::Dial(1000)),
-        Line::Ready(0, 1000),
-        Line::Ask(1),
-        Line::Poll(1, 0, PollAnswer::Dial(1001)),
-        Line::Ready(1, 1001),
+        Line::Lease(0, 1000),
+        Line::Lease(1, 1001),
         Line::Give(1000),
         Line::Give(1001),
         Line::Next(Some(1000)),
@@ -201,15 +177,9 @@ pub const INACTIVE: Script = (
     },
     7,
     &[
-        Line::Ask(0),
-        Line::Poll(0, 0, PollAnswer::Dial(7)),
-        Line::Ready(0, 7),
-        Line::Ask(1),
-        Line::Poll(1, 0, PollAnswer::Dial(8)),
-        Line::Ready(1, 8),
-        Line::Ask(2),
-        Line::Poll(2, 0, PollAnswer::Dial(9)),
-        Line::Ready(2, 9),
+        Line::Lease(0, 7),
+        Line::Lease(1, 8),
+        Line::Lease(2, 9),
         Line::Give(7),
         Line::Give(8),
         Line::Give(9),

@@ -3,12 +3,12 @@
 use crate::line::{CLEAN, Line, ONE, first_wrong};
 use my_frame::NoMemory;
 use my_pool_core::{Core, PollAnswer, PoolEvent, Verdict};
-use my_wait_heap::Counted;
+use my_pool_parts::Counted;
 use std::alloc::Global;
 use std::test::Fail;
 
 /// How many binary digits a number has.
-fn digits(n: u64) -> u64 {
+pub fn digits(n: u64) -> u64 {
     let mut count = 0u64;
     let mut left = n;
     for _ in 0..64 {
@@ -46,20 +46,10 @@ fn serves(core: &mut Core, conn: u64, age: u64, steps: &mut Counted) -> bool {
     true
 }
 
-/// The connection is made, and leased.
-const LEASE: &[Line] = &[
-    Line::Ask(0),
-    Line::Poll(0, 0, PollAnswer::Dial(1000)),
-    Line::Ready(0, 1000),
-];
-
-/// It comes back, and is to be cleaned.
-const BACK: &[Line] = &[Line::Give(1000), Line::Next(Some(1000))];
-
 /// `waiting` requests wait, and the oldest gets the connection that came back: how many ages are compared from the
 /// last request to `ready`; None where something else happens.
 fn count_steps(core: &mut Core, waiting: u64) -> Result<Option<u64>, NoMemory> {
-    if first_wrong(core, LEASE)?.is_some() {
+    if first_wrong(core, &[Line::Lease(0, 1000)])?.is_some() {
         return Ok(None);
     }
     let mut steps = Counted::new();
@@ -69,7 +59,7 @@ fn count_steps(core: &mut Core, waiting: u64) -> Result<Option<u64>, NoMemory> {
             return Ok(None);
         }
     }
-    if first_wrong(core, BACK)?.is_some() || !serves(core, 1000, 1, &mut steps) {
+    if first_wrong(core, &[Line::Back(1000)])?.is_some() || !serves(core, 1000, 1, &mut steps) {
         return Ok(None);
     }
     Ok(Some(steps.count()))

@@ -3,128 +3,126 @@
 use my_pool_core::{Answer, PollAnswer, PoolEvent, Verdict};
 
 /// Each event, with each of its answers.
-const NAMES: [&str; 28] = [
-    "Request",
-    "Request last",
-    "Poll Wait",
-    "Poll Take",
-    "Poll Dial",
-    "Poll Closed",
-    "Poll Full",
-    "Cancel",
-    "Ready",
-    "Failed",
-    "GiveBack",
-    "Detach",
-    "TakeReturned some",
-    "TakeReturned none",
-    "Decide Drop",
-    "Decide Clean",
-    "Decide Close",
-    "Decide Reset",
-    "Decide Keep",
-    "Done Drop",
-    "Done failed",
-    "Done Close",
-    "Done Keep",
-    "CheckTtl none",
-    "CheckTtl some",
-    "Close",
-    "Gone",
-    "Gone not",
-];
+#[derive(Clone, Copy)]
+pub enum Name {
+    Request,
+    RequestLast,
+    PollWait,
+    PollTake,
+    PollDial,
+    PollClosed,
+    PollFull,
+    Cancel,
+    Ready,
+    Failed,
+    GiveBack,
+    Detach,
+    TakeReturnedSome,
+    TakeReturnedNone,
+    DecideDrop,
+    DecideClean,
+    DecideClose,
+    DecideReset,
+    DecideKeep,
+    DoneDrop,
+    DoneFailed,
+    DoneClose,
+    DoneKeep,
+    CheckTtlNone,
+    CheckTtlSome,
+    Close,
+    Gone,
+    GoneNot,
+    None,
+}
+
+/// How many names there are.
+const NAMES: usize = 28;
 
 /// The name of a poll's answer.
-fn polled(answer: PollAnswer) -> &'static str {
+fn polled(answer: PollAnswer) -> Name {
     match answer {
-        PollAnswer::Wait => "Poll Wait",
-        PollAnswer::Take(_) => "Poll Take",
-        PollAnswer::Dial(_) => "Poll Dial",
-        PollAnswer::Closed => "Poll Closed",
-        PollAnswer::Full { .. } => "Poll Full",
+        PollAnswer::Wait => Name::PollWait,
+        PollAnswer::Take(_) => Name::PollTake,
+        PollAnswer::Dial(_) => Name::PollDial,
+        PollAnswer::Closed => Name::PollClosed,
+        PollAnswer::Full { .. } => Name::PollFull,
     }
 }
 
 /// The name of a verdict.
-fn decided(verdict: Verdict) -> &'static str {
+fn decided(verdict: Verdict) -> Name {
     match verdict {
-        Verdict::Drop => "Decide Drop",
-        Verdict::Clean => "Decide Clean",
-        Verdict::Close => "Decide Close",
-        Verdict::Reset => "Decide Reset",
-        Verdict::Keep => "Decide Keep",
+        Verdict::Drop => Name::DecideDrop,
+        Verdict::Clean => Name::DecideClean,
+        Verdict::Close => Name::DecideClose,
+        Verdict::Reset => Name::DecideReset,
+        Verdict::Keep => Name::DecideKeep,
     }
 }
 
 /// The name of the verdict at the end of a reset, a close or a cleaning that failed.
-fn ended(verdict: Verdict, ok: bool) -> &'static str {
+fn ended(verdict: Verdict, ok: bool) -> Name {
     match verdict {
-        Verdict::Close => "Done Close",
-        Verdict::Keep => "Done Keep",
-        _ => if ok { "Done Drop" } else { "Done failed" },
+        Verdict::Close => Name::DoneClose,
+        Verdict::Keep => Name::DoneKeep,
+        _ => if ok { Name::DoneDrop } else { Name::DoneFailed },
     }
 }
 
 /// The name of an event with what it returned.
-pub fn name_of(event: PoolEvent, answer: Answer) -> &'static str {
+pub fn name_of(event: PoolEvent, answer: Answer) -> Name {
     match (event, answer) {
         (_, Answer::Age(age)) => if age == u64::MAX {
-            "Request last"
+            Name::RequestLast
         } else {
-            "Request"
+            Name::Request
         },
         (_, Answer::Poll(poll)) => polled(poll),
         (PoolEvent::Decide { .. }, Answer::Verdict(verdict)) => decided(verdict),
         (PoolEvent::Done { ok, .. }, Answer::Verdict(verdict)) => ended(verdict, ok),
         (_, Answer::Returned(number)) => {
             if number.is_some() {
-                "TakeReturned some"
+                Name::TakeReturnedSome
             } else {
-                "TakeReturned none"
+                Name::TakeReturnedNone
             }
         }
         (_, Answer::Moved(count)) => if count > 0 {
-            "CheckTtl some"
+            Name::CheckTtlSome
         } else {
-            "CheckTtl none"
+            Name::CheckTtlNone
         },
-        (_, Answer::Gone(gone)) => if gone { "Gone" } else { "Gone not" },
-        (PoolEvent::Cancel { .. }, _) => "Cancel",
-        (PoolEvent::Ready { .. }, _) => "Ready",
-        (PoolEvent::Failed { .. }, _) => "Failed",
-        (PoolEvent::GiveBack { .. }, _) => "GiveBack",
-        (PoolEvent::Detach { .. }, _) => "Detach",
-        (PoolEvent::Close, _) => "Close",
-        _ => "none",
+        (_, Answer::Gone(gone)) => if gone { Name::Gone } else { Name::GoneNot },
+        (PoolEvent::Cancel { .. }, _) => Name::Cancel,
+        (PoolEvent::Ready { .. }, _) => Name::Ready,
+        (PoolEvent::Failed { .. }, _) => Name::Failed,
+        (PoolEvent::GiveBack { .. }, _) => Name::GiveBack,
+        (PoolEvent::Detach { .. }, _) => Name::Detach,
+        (PoolEvent::Close, _) => Name::Close,
+        _ => Name::None,
     }
 }
 
 /// Counts by name.
 #[derive(Clone, Copy)]
-pub struct Tally([u64; 28]);
+pub struct Tally([u64; NAMES]);
 
 impl Tally {
     /// Nothing happened yet.
     pub fn new() -> Tally {
-        Tally([0; 28])
+        Tally([0; NAMES])
     }
 
     /// One more of this name.
-    pub fn count(&mut self, name: &str) {
-        for (index, entry) in NAMES.iter().enumerate() {
-            if *entry == name && index < 28 {
-                self.0[index] = self.0[index].saturating_add(1);
-            }
+    pub fn count(&mut self, name: Name) {
+        if let Some(count) = self.0.get_mut(name as usize) {
+            *count = count.saturating_add(1);
         }
     }
 
-    /// The first name of which there were fewer than `least`.
-    pub fn first_below(&self, least: u64) -> Option<&'static str> {
-        for (index, entry) in NAMES.iter().enumerate() {
-            if index < 28 && self.0[index] < least {
-                return Some(*entry);
-            }
-        }
-        None
+    /// Whether there were as many of each name.
+    pub fn has_each(&self, least: u64) -> bool {
+        self.0.iter().all(|count| *count >= least)
     }
 }

@@ -17,6 +17,7 @@ use Rattle.my_script.specs.declared.step.Step.{Step}
 use Rattle.my_script.specs.declared.step.Step.TheVariants as steps
 use Rattle.my_script.specs.declared.transcript.Outcome.{Outcome}
 use Rattle.my_script.specs.declared.transcript.Use.{Use}
+use Rattle.my_script.specs.Streams.{is_skip, target}
 use Rattle.my_client.specs.declared.poll.After.{After}
 use Rattle.my_client.specs.declared.poll.After.TheVariants as after
 use Rattle.my_client.specs.declared.tape.DoneCall.{DoneCall}
@@ -25,7 +26,7 @@ use Rattle.my_client.specs.Causes.{PollEnds, IsPolled}
 use Rattle.my_client.specs.Kept.{Asked, Kept, made_of, asking, asked_by, ended_by, first_asked, first_kept}
 use Rattle.my_client.specs.Reads.{calls_kept}
 use Rattle.my_world.specs.World.{Plans}
-use Rattle.my_steps.specs.Grows.{Line, IsRefused, OnConnection, PolledOnce, IsClosed, Begins, BeginsOn, Calls, ConnectShows, Connects, Dials, Holds, Fails, Links, Gathers, GathersOn, Collects, CollectsOn, CollectsAt, PollsOn, GoesOnWith, GoesOn, CancelsWith, Cancels, TellsWith, TellsFields, At, StepGrows, AreGrown, gathered, next_asked, handles_after}
+use Rattle.my_steps.specs.Grows.{Line, IsRefused, OnConnection, PolledOnce, IsClosed, Begins, BeginsOn, Calls, ConnectShows, Connects, Dials, Holds, Fails, Links, Gathers, GathersOn, Collects, CollectsOn, CollectsAt, PollsOn, PollsCall, ThenTakes, Skips, Takes, TakesOn, StreamsAt, ItemsAt, LetsGoWith, UnstreamsAt, GoesOnWith, GoesOn, CancelsWith, Cancels, TellsWith, TellsFields, At, StepGrows, AreGrown, gathered, next_asked, handles_after, is_done, is_streamed, skips_first}
 use Rattle.my_steps.specs.Handle.{Handle, Absent, Dialing, Joined, at_number, put_at}
 
 -- the calls that a connection kept
@@ -168,9 +169,44 @@ module _ (login : Login) where
   dials_once plan rules n o us t (Fails e f g h) = subst IsOnce (sym g) tt
   dials_once plan rules n o us t (Links u x e new r) = connect_once n first_asked first_kept x o u t refl refl r
 
+  -- a stream takes a set, after the rest of an earlier one
+  then_once : (b : Bool) (n : ℕ) (first : Outcome) (mid : Handle) (o : Outcome) (us : List Use) (t : Handle) → IsOnce mid → ThenTakes b login n first mid o us t → IsOnce t
+  then_once true n first mid o us t w r = calls_once n calls.TakeSet o us mid t refl w r
+  then_once false n first mid o us t w r = subst IsOnce (sym r.2) w
+
+  skips_once : (R : Outcome → List Use → Handle → Type 0) (n : ℕ) (o : Outcome) (us : List Use) (t : Handle) → ((first : Outcome) (used : List Use) (mid : Handle) → R first used mid → IsOnce mid) → Skips R login n o us t → IsOnce t
+  skips_once R n o us t f r = then_once (is_done r.first) n r.first r.mid o r.later t (f r.first r.used r.mid r.skips) r.takes
+
+  takes_once : (b : Bool) (n : ℕ) (o : Outcome) (us : List Use) (h t : Handle) → IsOnce h → Takes b login n h o us t → IsOnce t
+  takes_once true n o us h t w r = skips_once (Calls login n calls.SkipTaken h) n o us t (λ first used mid s. calls_once n calls.SkipTaken first used h mid refl w s) r
+  takes_once false n o us h t w r = calls_once n calls.TakeSet o us h t refl w r
+
+  takes_on : (q : Option Asked) (n : ℕ) (k : Kept) (x : Looks) (o : Outcome) (us : List Use) (t : Handle) → connects_once (kept_calls k) ≡ true → TakesOn q login n k x o us t → IsOnce t
+  takes_on None n k x o us t w r = takes_once (skips_first login k) n o us (Joined true k x) t w r
+  takes_on (Some a) n k x o us t w r = refused_once (Joined true k x) o us t w r
+
+  streams_once : (n : ℕ) (o : Outcome) (us : List Use) (h t : Handle) → IsOnce h → StreamsAt login n h o us t → IsOnce t
+  streams_once n o us h t = on_once (λ k. TakesOn k.pending login n k) o us h t (λ k x. takes_on k.pending n k x o us t)
+
+  items_once : (b : Bool) (n : ℕ) (o : Outcome) (us : List Use) (h t : Handle) → IsOnce h → ItemsAt b login n h o us t → IsOnce t
+  items_once true n o us h t w r = calls_once n calls.NextRow o us h t refl w r
+  items_once false n o us h t w r = refused_once h o us t w r
+
+  lets_go_with : (q : Option Asked) (k : Kept) (x : Looks) (o : Outcome) (us : List Use) (t : Handle) → connects_once (kept_calls k) ≡ true → LetsGoWith q k x o us t → IsOnce t
+  lets_go_with None k x o us t w r = subst IsOnce (sym r.left) w
+  lets_go_with (Some a) k x o us t w r = refused_once (Joined true k x) o us t w r
+
+  unstreams_once : (b : Bool) (o : Outcome) (us : List Use) (h t : Handle) → IsOnce h → UnstreamsAt b h o us t → IsOnce t
+  unstreams_once true o us h t w r = on_once (λ k. LetsGoWith k.pending k) o us h t (λ k x. lets_go_with k.pending k x o us t) w r
+  unstreams_once false o us h t w r = refused_once h o us t w r
+
+  polls_call : (b : Bool) (n : ℕ) (a : Asked) (k : Kept) (x : Looks) (o : Outcome) (us : List Use) (t : Handle) → k.pending ≡ Some a → connects_once (kept_calls k) ≡ true → PollsCall b login n a k x o us t → IsOnce t
+  polls_call true n a k x o us t e w r = skips_once (PolledOnce login n a k x) n o us t (λ first used mid s. once_once n a k x first used mid e w s) r
+  polls_call false n a k x o us t e w r = once_once n a k x o us t e w r
+
   polls_on : (b : Bool) (rows : Option (List RowParts)) (n : ℕ) (a : Asked) (k : Kept) (x : Looks) (o : Outcome) (us : List Use) (t : Handle) → k.pending ≡ Some a → connects_once (kept_calls k) ≡ true → PollsOn b rows login n a k x o us t → IsOnce t
   polls_on true rows n a k x o us t e w r = connect_once n a k x o r.0 t e w r.2
-  polls_on false None n a k x o us t e w r = once_once n a k x o us t e w r
+  polls_on false None n a k x o us t e w r = polls_call (is_skip (kind_of a.call)) n a k x o us t e w r
   polls_on false (Some rows) n a k x o us t e w r = gathers_once n us a k x o t e w r
 
   goes_on_with : (q : Option Asked) (n : ℕ) (k : Kept) (x : Looks) (o : Outcome) (us : List Use) (t : Handle) → k.pending ≡ q → connects_once (kept_calls k) ≡ true → GoesOnWith q login n k x o us t → IsOnce t
@@ -218,18 +254,21 @@ module _ (login : Login) where
   at_step : (n : ℕ) (R : Handle → Outcome → List Use → Handle → Type 0) (hs ts : List Handle) (o : Outcome) (us : List Use) → ((h t : Handle) → IsOnce h → R h o us t → IsOnce t) → AreOnce hs → At n R hs o us ts → AreOnce ts
   at_step n R hs ts o us f w r = subst AreOnce (sym r.others) (put_once hs n r.made (f (at_number hs n) r.made (at_once hs n w) r.does) w)
 
-  step_once : (plans : Plans) (hs : List Handle) (step : Step) (o : Outcome) (us : List Use) (ts : List Handle) → AreOnce hs → StepGrows login plans hs step o us ts → AreOnce ts
-  step_once plans hs steps.Conn o us ts w r = subst AreOnce (sym r.others) (push_once hs r.made (dials_once _ _ _ o us r.made r.dials) w)
-  step_once plans hs (steps.Query n text) o us ts w r = at_step n _ hs ts o us (λ h t. calls_once n (calls.Query text) o us h t refl) w r
-  step_once plans hs (steps.Next n) o us ts w r = at_step n _ hs ts o us (λ h t. calls_once n calls.NextRow o us h t refl) w r
-  step_once plans hs (steps.Collect n) o us ts w r = at_step n _ hs ts o us (λ h t. collects_once n o us h t) w r
-  step_once plans hs (steps.Drop n) o us ts w r = at_step n _ hs ts o us (λ h t. calls_once n calls.DropResult o us h t refl) w r
-  step_once plans hs (steps.Ping n) o us ts w r = at_step n _ hs ts o us (λ h t. calls_once n calls.Ping o us h t refl) w r
-  step_once plans hs (steps.Quit n) o us ts w r = at_step n _ hs ts o us (λ h t. calls_once n calls.Quit o us h t refl) w r
-  step_once plans hs (steps.Fields n) o us ts w r = at_step n _ hs ts o us (λ h t. tells_once o us h t) w r
-  step_once plans hs (steps.Poll n) o us ts w r = at_step n _ hs ts o us (λ h t. goes_on_once n o us h t) w r
-  step_once plans hs (steps.Cancel n) o us ts w r = at_step n _ hs ts o us (λ h t. cancels_once o us h t) w r
+  step_once : (plans : Plans) (there : Bool) (hs : List Handle) (step : Step) (o : Outcome) (us : List Use) (ts : List Handle) → AreOnce hs → StepGrows login plans there hs step o us ts → AreOnce ts
+  step_once plans there hs steps.Conn o us ts w r = subst AreOnce (sym r.others) (push_once hs r.made (dials_once _ _ _ o us r.made r.dials) w)
+  step_once plans there hs (steps.Query n text) o us ts w r = at_step n _ hs ts o us (λ h t. calls_once n (calls.Query text) o us h t refl) w r
+  step_once plans there hs (steps.Next n) o us ts w r = at_step n _ hs ts o us (λ h t. calls_once n calls.NextRow o us h t refl) w r
+  step_once plans there hs (steps.Collect n) o us ts w r = at_step n _ hs ts o us (λ h t. collects_once n o us h t) w r
+  step_once plans there hs (steps.Drop n) o us ts w r = at_step n _ hs ts o us (λ h t. calls_once n calls.DropResult o us h t refl) w r
+  step_once plans there hs (steps.Ping n) o us ts w r = at_step n _ hs ts o us (λ h t. calls_once n calls.Ping o us h t refl) w r
+  step_once plans there hs (steps.Quit n) o us ts w r = at_step n _ hs ts o us (λ h t. calls_once n calls.Quit o us h t refl) w r
+  step_once plans there hs (steps.Stream n) o us ts w r = at_step n _ hs ts o us (λ h t. streams_once n o us h t) w r
+  step_once plans there hs (steps.Item n) o us ts w r = at_step n _ hs ts o us (λ h t. items_once there n o us h t) w r
+  step_once plans there hs (steps.Unstream n) o us ts w r = at_step n _ hs ts o us (λ h t. unstreams_once there o us h t) w r
+  step_once plans there hs (steps.Fields n) o us ts w r = at_step n _ hs ts o us (λ h t. tells_once o us h t) w r
+  step_once plans there hs (steps.Poll n) o us ts w r = at_step n _ hs ts o us (λ h t. goes_on_once n o us h t) w r
+  step_once plans there hs (steps.Cancel n) o us ts w r = at_step n _ hs ts o us (λ h t. cancels_once o us h t) w r
 
   pub grown_once : (plans : Plans) (ls : List Line) → AreGrown login plans ls → AreOnce (handles_after ls)
   grown_once plans [] w = tt
-  grown_once plans (l ∷ ls) w = step_once plans (handles_after ls) l.step l.outcome l.uses l.handles (grown_once plans ls w.1) w.0.answer
+  grown_once plans (l ∷ ls) w = step_once plans (is_streamed (target l.step) ls) (handles_after ls) l.step l.outcome l.uses l.handles (grown_once plans ls w.1) w.0.answer

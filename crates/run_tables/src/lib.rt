@@ -18,4 +18,6 @@ mod scripts;
 #[cfg(test)]
 mod sets;
 #[cfg(test)]
+mod streams;
+#[cfg(test)]
 mod words;

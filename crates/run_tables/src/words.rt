@@ -1,7 +1,7 @@
 //! Words and lines: how runs end, and why.
 
 use crate::play::{Cause, PLAIN, Run, WORD, goes, is_read};
-use crate::{answers, sets};
+use crate::{answers, sets, streams};
 use my_frame::{NoMemory, Source, SourceStep};
 use std::alloc::Global;
 use std::test::Fail;
@@ -248,6 +248,12 @@ fn urls(rt: HostRuntime) -> Result<(), Fail> {
 #[test]
 fn sets_of_rows(rt: HostRuntime) -> Result<(), Fail> {
     assert!(rt; all_go(rt.alloc(), sets::TALKS)?);
+    Ok(())
+}
+
+#[test]
+fn streams_of_rows(rt: HostRuntime) -> Result<(), Fail> {
+    assert!(rt; all_go(rt.alloc(), streams::STREAMS)?);
     Ok(())
 }
 

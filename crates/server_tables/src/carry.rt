@@ -3,12 +3,13 @@
 ghost use Rattle.std.specs.Prelude.{◌≡◌, true, OnOk};
 ghost use Rattle.my_session.specs.Tasks.{is_open};
 
+use crate::want::{Want, is_answer, is_refusal};
 use my_flags::CapabilityFlags;
 use my_frame::limits::GREATEST_MAX_ALLOWED_PACKET;
 use my_frame::{Blob, Copied, Listed, NoMemory};
 use my_grammar::Login;
 use my_handshake::Attributes;
-use my_reading::{Answer, Call, DriverError, Error};
+use my_reading::Call;
 use my_server::{ServerCore, ServerStep};
 use my_session::{Session, SessionStep};
 use std::alloc::Global;
@@ -66,37 +67,41 @@ fn fetch(
     Ok(())
 }
 
-// Steps the open call until it is done.
+// Steps the open call until it is done: whether it ends with this.
 fn carry(
     alloc: Global,
     session: &mut Session,
     server: &mut ServerCore,
     most: usize,
-) -> Result<Answer, Error>
+    want: Want<'_>,
+) -> Result<bool, NoMemory>
     requires { is_open session.old.seen.task ≡ true }
 {
     'steps: for _ in 0..u64::MAX {
         match session.step(alloc) {
             SessionStep::Send => give(session, server, most)?,
             SessionStep::Need => fetch(alloc, session, server, most)?,
-            SessionStep::Done(answer) => return Ok(answer),
-            SessionStep::Fault(error) => return Err(error),
+            SessionStep::Done(answer) => return Ok(is_answer(&answer, want)),
+            SessionStep::Fault(error) => return Ok(is_refusal(&error, want)),
         }
     }
-    Err(Error::NoMemory)
+    Ok(false)
 }
 
-/// Begins a call and steps it until it is done. Bytes are handed over both ways, at most `most` at a time.
-pub fn call(
+/// Whether a call ends with this. Bytes are handed over both ways, at most `most` at a time.
+pub fn ends(
     alloc: Global,
     session: &mut Session,
     server: &mut ServerCore,
     most: usize,
     call: Call,
-) -> Result<Answer, Error> {
+    want: Want<'_>,
+) -> Result<bool, NoMemory> {
     if session.is_open() || !session.may_begin(call.kind()) {
-        return Err(Error::Driver(DriverError::TooLong));
+        return Ok(false);
     }
-    session.begin(call)?;
-    carry(alloc, session, server, most)
+    match session.begin(call) {
+        Ok(()) => carry(alloc, session, server, most, want),
+        Err(_) => Ok(false),
+    }
 }

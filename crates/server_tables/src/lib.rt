@@ -16,3 +16,5 @@ mod plays;
 mod reading;
 #[cfg(test)]
 mod talks;
+#[cfg(test)]
+mod want;

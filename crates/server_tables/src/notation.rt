@@ -88,13 +88,17 @@ fn add_rows(
     Ok(())
 }
 
+fn fill_set(alloc: Global, set: &mut ServerSet, text: &str) -> Result<(), NoMemory> {
+    add_names(alloc, &mut set.names, text.split('/').next().unwrap_or(""))?;
+    add_rows(alloc, &mut set.rows, text)
+}
+
 fn set_of(alloc: Global, text: &str) -> Result<ServerSet, NoMemory> {
     let mut set = ServerSet {
         names: Listed::new(alloc),
         rows: Listed::new(alloc),
     };
-    add_names(alloc, &mut set.names, text.split('/').next().unwrap_or(""))?;
-    add_rows(alloc, &mut set.rows, text)?;
+    fill_set(alloc, &mut set, text)?;
     Ok(set)
 }
 
@@ -142,19 +146,20 @@ pub fn answer_of(alloc: Global, text: &str) -> Result<ReplyAnswer, NoMemory> {
 }
 
 fn reply_of(alloc: Global, text: &str, answer: &str) -> Result<Reply, NoMemory> {
+    let text = Blob::from_slice(alloc, text.as_bytes())?;
     let answer = answer_of(alloc, answer)?;
-    Ok(Reply {
-        text: Blob::from_slice(alloc, text.as_bytes())?,
-        answer,
-    })
+    Ok(Reply { text, answer })
 }
 
-fn replies_of(alloc: Global, replies: &[(&str, &str)]) -> Result<Listed<Reply>, NoMemory> {
-    let mut list = Listed::new(alloc);
+fn add_replies(
+    alloc: Global,
+    list: &mut Listed<Reply>,
+    replies: &[(&str, &str)],
+) -> Result<(), NoMemory> {
     for (text, answer) in replies {
         list.push(reply_of(alloc, text, answer)?)?;
     }
-    Ok(list)
+    Ok(())
 }
 
 fn script_of(
@@ -165,14 +170,16 @@ fn script_of(
 ) -> Result<ServerScript, NoMemory> {
     let version = Blob::from_slice(alloc, version)?;
     let user = Blob::from_slice(alloc, b"root")?;
-    Ok(ServerScript {
+    let mut script = ServerScript {
         version,
         id: 7,
         nonce: *b"abcdefghijklmnopqrst",
         user,
         stored,
-        replies: replies_of(alloc, replies)?,
-    })
+        replies: Listed::new(alloc),
+    };
+    add_replies(alloc, &mut script.replies, replies)?;
+    Ok(script)
 }
 
 /// A server of a script of the id 7, for the user `root`.

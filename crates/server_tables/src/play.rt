@@ -13,7 +13,7 @@ const NAMES: &[(&str, &str)] = &[
         "4a000000 0a 382e302e333600 07000000 6162636465666768 00 8ba2 2d 0200 1f01 15 \
             00000000000000000000 696a6b6c6d6e6f707172737400 6d7973716c5f6e61746976655f70617373776f726400",
     ),
-    // The login of `root` without a password, with EOF packets deprecated and without; and the OK after it.
+    // The login of `root` without a password, with EOF packets deprecated and without.
     (
         "LOGIN",
         "3c000001 81a20f01 00004000 2d 0000000000000000000000000000000000000000000000 \
@@ -24,6 +24,13 @@ const NAMES: &[(&str, &str)] = &[
         "3c000001 81a20f00 00004000 2d 0000000000000000000000000000000000000000000000 \
             726f6f7400 00 6d7973716c5f6e61746976655f70617373776f726400",
     ),
+    // A login with a database, a plugin and an attribute.
+    (
+        "FULL_LOGIN",
+        "44000001 89a21f01 00004000 2d 0000000000000000000000000000000000000000000000 \
+            726f6f7400 00 646200 6d7973716c5f6e61746976655f70617373776f726400 04 0161 0162",
+    ),
+    // What is said to a login.
     ("ADMITTED", "07000002 00000002000000"),
     (
         "DENIED",

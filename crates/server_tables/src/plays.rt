@@ -35,7 +35,7 @@ const FIRST: ServerStep = ServerStep::Closed(CloseCause::Codec(CodecFault::OutOf
 const PLAYS: &[(ServerStep, &str)] = &[
     (
         NEED,
-        "> GREETING; LOGIN > GREETING ADMITTED; OLD_LOGIN > GREETING ADMITTED",
+        "> GREETING; LOGIN > GREETING ADMITTED; OLD_LOGIN > GREETING ADMITTED; FULL_LOGIN > GREETING ADMITTED",
     ),
     // Without a plugin's name, of the user `roo`, and with a scramble. Of the last, no further payload is read.
     (
@@ -133,25 +133,28 @@ fn clients_are_answered(rt: HostRuntime) -> Result<(), Fail> {
 
 // Whether more is needed after each part of a login, and a packet of only that part is none.
 fn are_cuts_refused(alloc: Global, login: &mut [u8], greeting: &[u8]) -> Result<bool, ScriptFault> {
-    for end in 4..login.len() {
-        login[0] = 60;
+    for end in 0..login.len() {
+        let len = login[0];
         let waits = plays_both(alloc, &login[..end], greeting, NEED)?;
-        login[0] = ((end - 4) % 256) as u8;
-        if !waits || !plays_both(alloc, &login[..end], greeting, BAD)? {
+        login[0] = (end.saturating_sub(4) % 256) as u8;
+        if !waits || (end >= 4 && !plays_both(alloc, &login[..end], greeting, BAD)?) {
             return Ok(false);
         }
+        login[0] = len;
     }
-    Ok(login.len() == 64)
+    Ok(login.len() > 60)
 }
 
-fn are_logins_refused(alloc: Global) -> Result<bool, ScriptFault> {
-    let mut login = bytes_of(alloc, "LOGIN")?;
+fn are_logins_refused(alloc: Global, login: &str) -> Result<bool, ScriptFault> {
+    let mut login = bytes_of(alloc, login)?;
     let greeting = bytes_of(alloc, "GREETING")?;
     are_cuts_refused(alloc, login.as_mut_slice(), greeting.as_slice())
 }
 
 #[test]
 fn cut_logins_are_refused(rt: HostRuntime) -> Result<(), Fail> {
-    assert!(rt; are_logins_refused(rt.alloc())?);
+    for login in "LOGIN OLD_LOGIN FULL_LOGIN".split(' ') {
+        assert!(rt; are_logins_refused(rt.alloc(), login)?);
+    }
     Ok(())
 }

@@ -1,8 +1,10 @@
 //! Talks of a session with a scripted server: what the session reads is what the script says.
 
-use crate::carry::login_of;
+use crate::carry::{ends, login_of};
 use crate::notation::{VERSION, server_of};
-use crate::reading::{Want, answers, reads};
+use crate::reading::reads;
+use crate::want::Want;
+use my_frame::NoMemory;
 use my_reading::Call;
 use my_server::{CloseCause, ScriptFault, ServerCore, ServerStep};
 use my_session::Session;
@@ -93,8 +95,40 @@ const TALKS: &[Talk] = &[
     },
 ];
 
-// Whether a session that connects is admitted, reads both answers, pings and quits, or is denied.
+// Whether a session that connects is denied.
+fn is_denied(
+    alloc: Global,
+    session: &mut Session,
+    server: &mut ServerCore,
+    most: usize,
+) -> Result<bool, NoMemory> {
+    let denied = Want::Refused(1_045, "28000", "Access denied");
+    Ok(
+        ends(alloc, session, server, most, Call::Connect, denied)?
+            && server.step(alloc) == ServerStep::Closed(CloseCause::Denied),
+    )
+}
+
+// Whether a session that connects is admitted, reads both answers, pings and quits.
 fn visits(
+    alloc: Global,
+    session: &mut Session,
+    server: &mut ServerCore,
+    most: usize,
+    answer: &str,
+) -> Result<bool, NoMemory> {
+    Ok(
+        ends(alloc, session, server, most, Call::Connect, Want::Ready)?
+            && reads(alloc, session, server, most, "A", "n/2")?
+            && reads(alloc, session, server, most, "B", answer)?
+            && ends(alloc, session, server, most, Call::Ping, Want::Ready)?
+            && ends(alloc, session, server, most, Call::Quit, Want::Ready)?
+            && server.step(alloc) == ServerStep::Closed(CloseCause::Quit),
+    )
+}
+
+// Whether a talk with this answer goes so, to a client that is admitted or is not.
+fn is_right(
     alloc: Global,
     session: &mut Session,
     server: &mut ServerCore,
@@ -102,21 +136,11 @@ fn visits(
     admitted: bool,
     answer: &str,
 ) -> Result<bool, ScriptFault> {
-    if !admitted {
-        let denied = Want::Refused(1_045, "28000", "Access denied");
-        return Ok(
-            answers(alloc, session, server, most, Call::Connect, denied)
-                && server.step(alloc) == ServerStep::Closed(CloseCause::Denied),
-        );
+    if admitted {
+        Ok(visits(alloc, session, server, most, answer)?)
+    } else {
+        Ok(is_denied(alloc, session, server, most)?)
     }
-    Ok(
-        answers(alloc, session, server, most, Call::Connect, Want::Ready)
-            && reads(alloc, session, server, most, "A", "n/2")?
-            && reads(alloc, session, server, most, "B", answer)?
-            && answers(alloc, session, server, most, Call::Ping, Want::Ready)
-            && answers(alloc, session, server, most, Call::Quit, Want::Ready)
-            && server.step(alloc) == ServerStep::Closed(CloseCause::Quit),
-    )
 }
 
 // It alone owns a server.
@@ -129,7 +153,7 @@ fn meets(
 ) -> Result<bool, ScriptFault> {
     let replies = [("A", "n/2"), ("B", answer), ("B", "n/3")];
     let mut server = server_of(alloc, VERSION, talk.stored, &replies)?;
-    visits(alloc, session, &mut server, most, talk.admitted, answer)
+    is_right(alloc, session, &mut server, most, talk.admitted, answer)
 }
 
 // It alone owns a session.

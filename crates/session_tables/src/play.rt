@@ -149,6 +149,7 @@ fn show_error(text: &mut String, error: &Error) -> Result<(), AllocError> {
             error.state.as_str(),
             error.message.as_str()
         ),
+        Error::Url(_) => text.push_str("url"),
         Error::NoMemory => text.push_str("memory"),
     }
 }

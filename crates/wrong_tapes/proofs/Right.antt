@@ -1,5 +1,5 @@
 -- The right tapes, computed.
-use Rattle.std.proofs.Common.{◌≡◌, List, [], ◌∷◌, refl}
+use Rattle.std.proofs.Common.{refl}
 use Rattle.my_frame.specs.Writing.{le_bytes, len_bytes, text_bytes, text0_bytes, short_bytes}
 use Rattle.my_frame.specs.Front.{front_within, front_from}
 use Rattle.my_frame.specs.Chunks.{parts_of, chunks, number_after_payload}

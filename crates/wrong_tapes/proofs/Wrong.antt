@@ -1,5 +1,5 @@
 -- The wrong tapes: each differs from its reading.
-use Rattle.std.proofs.Common.{◌≡◌, ℕ, List, [], ◌∷◌, Option, Some, None, Bool, true, false, refl, ap, arith}
+use Rattle.std.proofs.Common.{◌≡◌, ℕ, List, [], ◌∷◌, Option, Some, None, true, false, ap, arith}
 use Rattle.std.proofs.lemmas.Bool.{false≢true}
 use Rattle.my_value.specs.declared.value.Value.{Value}
 use Rattle.my_value.specs.declared.value.Value.TheVariants.{Bytes}
@@ -10,7 +10,7 @@ use Rattle.my_reading.specs.declared.error.IoError.{IoError}
 use Rattle.my_reading.specs.declared.error.IoError.TheVariants as ios
 use Rattle.my_reading.specs.declared.error.IoKind.{IoKind}
 use Rattle.my_reading.specs.declared.error.IoKind.TheVariants as kinds
-use Rattle.my_reading.specs.Endings.{IsCut, IsOpen, IsCancelled, IsLinkFailure, IsLinkEnd, cancelling, link_failure, link_end}
+use Rattle.my_reading.specs.Endings.{IsCut, IsOpen, IsCancelled, IsLinkFailure, IsLinkEnd, cancelling}
 use Rattle.my_reading.specs.Reading.{ReadCall}
 use Rattle.my_reading.specs.Told.{Told, ToldReady, ToldRow, ToldEnd, ToldNone, ToldError, Dropped}
 use Rattle.wrong_tapes.specs.Wrong.{AreWrong}
@@ -40,7 +40,8 @@ error_mark : Error → ℕ
 error_mark (errors.Driver e) = 16
 error_mark (errors.Io e) = io_mark e
 error_mark (errors.Server e) = 17
-error_mark errors.NoMemory = 18
+error_mark (errors.Url e) = 18
+error_mark errors.NoMemory = 19
 
 byte : Value → ℕ
 byte (Bytes (b ∷ bytes)) = b

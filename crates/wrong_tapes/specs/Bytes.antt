@@ -1,6 +1,5 @@
 -- The bytes of which the tapes are made, and a tape from its calls.
 use Rattle.std.specs.Prelude.{ℕ, ◌+◌, List, [], ◌∷◌, ◌++◌, codes, length, Option, Some, None}
-use Rattle.my_reply.specs.declared.column.Column.{Column}
 use Rattle.my_value.specs.declared.value.Value.TheVariants.{Bytes}
 use Rattle.my_value.specs.RowParts.{RowParts}
 use Rattle.my_grammar.specs.declared.login.Login.{Login}

@@ -1,5 +1,5 @@
 -- Tapes that a client may have.
-use Rattle.std.specs.Prelude.{◌≡◌, ℕ, List, [], ◌∷◌, ◌++◌, codes, Option, Some, None, true, false}
+use Rattle.std.specs.Prelude.{◌≡◌, ℕ, List, [], ◌∷◌, ◌++◌, codes, Some, None, true, false}
 use Rattle.std.specs.Str.Lossy.{utf8_lossy}
 use Rattle.my_grammar.specs.declared.login.Login.{Login}
 use Rattle.my_reading.specs.declared.call.Call.TheVariants.{Connect, Query, NextRow, DropResult, TakeSet, SkipTaken, Ping, Quit}
@@ -9,8 +9,8 @@ use Rattle.my_reading.specs.Endings.{IsTape}
 use Rattle.my_reading.specs.Errors.{connection_closed}
 use Rattle.my_reading.specs.Place.{facts_at}
 use Rattle.my_reading.specs.Reading.{reading}
-use Rattle.my_reading.specs.Told.{Told, ToldReady, ToldRow, ToldEnd, ToldNone, ToldError, Dropped}
-use Rattle.wrong_tapes.specs.Bytes.{root, login_by, connected, selected, asked, asks, returned, call_with, row, one, end, fine, refusal, head, column, packet, response, greeting, tape_of}
+use Rattle.my_reading.specs.Told.{ToldReady, ToldRow, ToldEnd, ToldNone, ToldError, Dropped}
+use Rattle.wrong_tapes.specs.Bytes.{root, login_by, connected, selected, asked, asks, returned, call_with, row, one, end, fine, refusal, column, packet, response, greeting, tape_of}
 
 -- what the server's ERR says
 abbrev pub error : ServerError

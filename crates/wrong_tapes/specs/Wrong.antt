@@ -1,11 +1,11 @@
 -- Tapes that no client has.
-use Rattle.std.specs.Prelude.{ℕ, List, [], ◌∷◌, ◌++◌, codes, Option, Some, None, true, false}
+use Rattle.std.specs.Prelude.{List, [], ◌∷◌, ◌++◌, codes, None, false}
 use Rattle.my_reading.specs.declared.call.Call.TheVariants.{Connect, Query, NextRow, DropResult, TakeSet, SkipTaken, Ping, Quit}
 use Rattle.my_reading.specs.declared.error.Error.TheVariants.{Server}
 use Rattle.my_reading.specs.declared.error.IoKind.TheVariants.{Link}
 use Rattle.my_reading.specs.Endings.{IsTape}
 use Rattle.my_reading.specs.Errors.{io_error, unexpected_eof, invalid_data}
-use Rattle.my_reading.specs.Told.{Told, ToldReady, ToldRow, ToldEnd, ToldNone, ToldError, Dropped}
+use Rattle.my_reading.specs.Told.{ToldReady, ToldRow, ToldEnd, ToldNone, ToldError, Dropped}
 use Rattle.my_reading.specs.Tape.{Span}
 use Rattle.wrong_tapes.specs.Bytes.{root, connected, selected, asked, asks, returned, call_with, row, one, end, fine, refusal, head, packet, response, greeting, tape_of}
 use Rattle.wrong_tapes.specs.Right.{curious, error}

@@ -1,3 +1,4 @@
 pub mod Chain
 pub mod Shown
+pub mod Streams
 pub mod Wrong

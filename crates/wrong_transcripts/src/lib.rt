@@ -1,6 +1,7 @@
 //! Transcripts that no run has: concrete ones, each refuted by the headline.
 #![tactic(auto)]
 
+ghost use Rattle.wrong_transcripts.specs.Streams.{AreNoStreams};
 ghost use Rattle.wrong_transcripts.specs.Wrong.{AreWrong};
 
 /// No run has one of these transcripts: a row, an end or an error that the bytes don't hold, an answer that comes too
@@ -8,4 +9,10 @@ ghost use Rattle.wrong_transcripts.specs.Wrong.{AreWrong};
 /// on a closed connection.
 pub fn no_transcript_is_wrong()
     ensures { AreWrong }
+{}
+
+/// No run has one of these: an item that shows a row of the next set, and a stream that doesn't pass over the rest of the
+/// set that an earlier one took.
+pub fn no_stream_is_wrong()
+    ensures { AreNoStreams }
 {}

@@ -9,8 +9,7 @@ ghost use Rattle.my_pool_core.specs.Events.{is_at_end, request, request_age, may
 use super::Core;
 use crate::event::PollAnswer;
 use my_frame::NoMemory;
-use my_pool_parts::{LAST, Live, Place, Standing};
-use my_wait_heap::{Ledger, Uncounted};
+use my_pool_parts::{LAST, Ledger, Live, Place, Standing, Uncounted};
 
 /// The request of an age ends where it makes a connection, and else asks again.
 fn let_go<C: Ledger>(requests: &mut Live, age: u64, steps: &mut C)

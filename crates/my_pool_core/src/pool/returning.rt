@@ -5,8 +5,7 @@ ghost use Rattle.my_pool_core.specs.Events.{may_move, freed, may_give_back, give
 
 use super::Core;
 use crate::event::{Facts, Verdict};
-use my_pool_parts::{Place, PlaceKind};
-use my_wait_heap::{Ledger, Uncounted};
+use my_pool_parts::{Ledger, Place, PlaceKind, Uncounted};
 
 impl Core {
     /// A leased connection comes back.

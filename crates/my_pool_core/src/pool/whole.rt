@@ -8,7 +8,7 @@ ghost use Rattle.my_pool_core.specs.Seen.{metrics_of};
 
 use super::Core;
 use crate::limits::Metrics;
-use my_wait_heap::{Ledger, Uncounted};
+use my_pool_parts::{Ledger, Uncounted};
 
 impl Core {
     /// Idle connections whose time is over are marked and returned; returns how many.

@@ -3,7 +3,7 @@ use Rattle.std.proofs.Common.{◌≡◌, ℕ, ◌+◌, ◌^◌, ◌<◌, ◌≤�
 use Rattle.std.specs.Prelude.{remove}
 use Rattle.std.proofs.lemmas.Bool.{cases_eq, cases_lt}
 use Rattle.std.proofs.lemmas.List.{length-map, get_or_read, map-set, map-append, take-map, drop-map}
-use Rattle.my_wait_heap.specs.Ages.{age_of, how_many as how_many_held}
+use Rattle.my_pool_parts.specs.Ages.{age_of, how_many as how_many_held}
 use Rattle.my_pool_parts.specs.declared.request.Request.{Request}
 use Rattle.my_pool_parts.specs.Lists.{how_many}
 use Rattle.my_pool_parts.specs.Requests.{asking, is_waiting, is_dialing, is_queued, IsRising}

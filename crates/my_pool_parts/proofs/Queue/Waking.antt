@@ -4,7 +4,7 @@ use Rattle.std.specs.Prelude.{find, option_map, MatchOption, nat_le, ◌||◌, �
 use Rattle.std.specs.List.{list_any}
 use Rattle.std.proofs.lemmas.Bool.{cases_eq, ne_eqb, eq-eqb, leb-false, lt-leb}
 use Rattle.std.proofs.lemmas.List.{map-append}
-use Rattle.my_wait_heap.specs.Ages.{age_of, IsLeast, how_many as how_many_held}
+use Rattle.my_pool_parts.specs.Ages.{age_of, IsLeast, how_many as how_many_held}
 use Rattle.my_pool_parts.specs.declared.request.Request.{Request}
 use Rattle.my_pool_parts.specs.declared.request.Standing.TheVariants.{Woken}
 use Rattle.my_pool_parts.specs.Lists.{how_many, change_first}

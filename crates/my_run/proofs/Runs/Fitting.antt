@@ -11,16 +11,19 @@ use Rattle.my_link.specs.Spent.{Whole, HasGot, ReadsSpent, IsSpent, FaultsSpent}
 use Rattle.my_link.proofs.Spending.{used_spent}
 use Rattle.my_reading.specs.declared.answer.Answer.TheVariants as answers
 use Rattle.my_reading.specs.declared.call.Call.{Call}
+use Rattle.my_reading.specs.declared.call.Call.TheVariants.{NextRow, TakeSet, SkipTaken}
+use Rattle.my_reading.specs.Calls.{kind_of}
 use Rattle.my_client.specs.declared.poll.After.{After}
 use Rattle.my_client.specs.declared.poll.After.TheVariants as after
 use Rattle.my_script.specs.declared.step.Step.{Step}
 use Rattle.my_script.specs.declared.step.Step.TheVariants as steps
 use Rattle.my_script.specs.declared.transcript.Outcome.{Outcome}
 use Rattle.my_script.specs.declared.transcript.Use.{Use}
+use Rattle.my_script.specs.Streams.{is_skip}
 use Rattle.my_client.specs.Causes.{IsPolled, PollEnds}
 use Rattle.my_client.specs.Kept.{Asked, Kept, asking, asked_by}
 use Rattle.my_world.specs.World.{Plans, IsFresh}
-use Rattle.my_steps.specs.Grows.{IsRefused, OnConnection, PolledOnce, IsClosed, Begins, BeginsOn, Calls, ConnectShows, Connects, HasPlan, IsNew, Dials, Holds, Fails, Links, Gathers, GathersOn, Collects, CollectsOn, CollectsAt, PollsOn, GoesOnWith, GoesOn, CancelsWith, Cancels, TellsWith, TellsFields, At, StepGrows}
+use Rattle.my_steps.specs.Grows.{IsRefused, OnConnection, PolledOnce, IsClosed, Begins, BeginsOn, Calls, ConnectShows, Connects, HasPlan, IsNew, Dials, Holds, Fails, Links, Gathers, GathersOn, Collects, CollectsOn, CollectsAt, PollsOn, PollsCall, ThenTakes, Skips, Takes, TakesOn, StreamsAt, ItemsAt, LetsGoWith, UnstreamsAt, GoesOnWith, GoesOn, CancelsWith, Cancels, TellsWith, TellsFields, At, StepGrows, is_done, skips_first}
 use Rattle.my_steps.specs.Handle.{Handle, Absent, Dialing, Joined, at_number, put_at}
 use Rattle.my_run.specs.Headline.{FitsLink}
 
@@ -112,9 +115,44 @@ module _ (plan : Option (List ReadItem)) where
   connects_fits : (login : Login) (n : ℕ) (a : Asked) (k : Kept) (x : Looks) (o : Outcome) (u : Use) (t : Handle) → FitsLink plan x k.sent k.taken → Connects login n a k x o u t → IsFit plan t
   connects_fits login n a k x o u t f r = shown_fits login n r.after r.end r.link o t (polled_fits login a k r.end x r.link u.met r.after r.polled f) r.shows
 
+  -- a stream takes a set, after the rest of an earlier one
+  then_fits : (b : Bool) (login : Login) (n : ℕ) (first : Outcome) (mid : Handle) (o : Outcome) (us : List Use) (t : Handle) → IsFit plan mid → ThenTakes b login n first mid o us t → IsFit plan t
+  then_fits true login n first mid o us t f r = calls_fits login n TakeSet o us mid t f r
+  then_fits false login n first mid o us t f r = subst (IsFit plan) (sym r.2) f
+
+  skips_fits : (R : Outcome → List Use → Handle → Type 0) (login : Login) (n : ℕ) (o : Outcome) (us : List Use) (t : Handle) → ((first : Outcome) (used : List Use) (mid : Handle) → R first used mid → IsFit plan mid) → Skips R login n o us t → IsFit plan t
+  skips_fits R login n o us t f r = then_fits (is_done r.first) login n r.first r.mid o r.later t (f r.first r.used r.mid r.skips) r.takes
+
+  takes_fits : (b : Bool) (login : Login) (n : ℕ) (o : Outcome) (us : List Use) (h t : Handle) → IsFit plan h → Takes b login n h o us t → IsFit plan t
+  takes_fits true login n o us h t f r = skips_fits (Calls login n SkipTaken h) login n o us t (λ first used mid s. calls_fits login n SkipTaken first used h mid f s) r
+  takes_fits false login n o us h t f r = calls_fits login n TakeSet o us h t f r
+
+  takes_on : (q : Option Asked) (login : Login) (n : ℕ) (k : Kept) (x : Looks) (o : Outcome) (us : List Use) (t : Handle) → FitsLink plan x k.sent k.taken → TakesOn q login n k x o us t → IsFit plan t
+  takes_on None login n k x o us t f r = takes_fits (skips_first login k) login n o us (Joined true k x) t f r
+  takes_on (Some a) login n k x o us t f r = kept_fits (Joined true k x) o us t f r
+
+  streams_fits : (login : Login) (n : ℕ) (o : Outcome) (us : List Use) (h t : Handle) → IsFit plan h → StreamsAt login n h o us t → IsFit plan t
+  streams_fits login n o us h t = on_fits (λ k. TakesOn k.pending login n k) o us h t (λ k x. takes_on k.pending login n k x o us t)
+
+  items_fits : (b : Bool) (login : Login) (n : ℕ) (o : Outcome) (us : List Use) (h t : Handle) → IsFit plan h → ItemsAt b login n h o us t → IsFit plan t
+  items_fits true login n o us h t f r = calls_fits login n NextRow o us h t f r
+  items_fits false login n o us h t f r = kept_fits h o us t f r
+
+  lets_go_with : (q : Option Asked) (k : Kept) (x : Looks) (o : Outcome) (us : List Use) (t : Handle) → FitsLink plan x k.sent k.taken → LetsGoWith q k x o us t → IsFit plan t
+  lets_go_with None k x o us t f r = subst (IsFit plan) (sym r.left) f
+  lets_go_with (Some a) k x o us t f r = kept_fits (Joined true k x) o us t f r
+
+  unstreams_fits : (b : Bool) (o : Outcome) (us : List Use) (h t : Handle) → IsFit plan h → UnstreamsAt b h o us t → IsFit plan t
+  unstreams_fits true o us h t f r = on_fits (λ k. LetsGoWith k.pending k) o us h t (λ k x. lets_go_with k.pending k x o us t) f r
+  unstreams_fits false o us h t f r = kept_fits h o us t f r
+
+  polls_call : (b : Bool) (login : Login) (n : ℕ) (a : Asked) (k : Kept) (x : Looks) (o : Outcome) (us : List Use) (t : Handle) → FitsLink plan x k.sent k.taken → PollsCall b login n a k x o us t → IsFit plan t
+  polls_call true login n a k x o us t f r = skips_fits (PolledOnce login n a k x) login n o us t (λ first used mid s. once_fits login n a k x first used mid f s) r
+  polls_call false login n a k x o us t f r = once_fits login n a k x o us t f r
+
   polls_on : (b : Bool) (rows : Option (List RowParts)) (login : Login) (n : ℕ) (a : Asked) (k : Kept) (x : Looks) (o : Outcome) (us : List Use) (t : Handle) → FitsLink plan x k.sent k.taken → PollsOn b rows login n a k x o us t → IsFit plan t
   polls_on true rows login n a k x o us t f r = connects_fits login n a k x o r.0 t f r.2
-  polls_on false None login n a k x o us t f r = once_fits login n a k x o us t f r
+  polls_on false None login n a k x o us t f r = polls_call (is_skip (kind_of a.call)) login n a k x o us t f r
   polls_on false (Some rows) login n a k x o us t f r = gathers_fits login n us a k x o t f r
 
   goes_on_with : (q : Option Asked) (login : Login) (n : ℕ) (k : Kept) (x : Looks) (o : Outcome) (us : List Use) (t : Handle) → FitsLink plan x k.sent k.taken → GoesOnWith q login n k x o us t → IsFit plan t
@@ -185,14 +223,17 @@ AllFit plans hs = (m : ℕ) → IsFit (plans.reads m) (at_number hs m)
 at_fits : (plans : Plans) (n : ℕ) (R : Handle → Outcome → List Use → Handle → Type 0) (hs ts : List Handle) (o : Outcome) (us : List Use) → ((h t : Handle) → IsFit (plans.reads n) h → R h o us t → IsFit (plans.reads n) t) → AllFit plans hs → At n R hs o us ts → AllFit plans ts
 at_fits plans n R hs ts o us f w r = subst (AllFit plans) (sym r.others) (put_all (λ m. IsFit (plans.reads m)) n r.made hs w (f (at_number hs n) r.made (w n) r.does))
 
-pub step_fits : (login : Login) (plans : Plans) (hs : List Handle) (step : Step) (o : Outcome) (us : List Use) (ts : List Handle) → AllFit plans hs → StepGrows login plans hs step o us ts → AllFit plans ts
-step_fits login plans hs steps.Conn o us ts w r = subst (AllFit plans) (sym r.others) (push_all (λ m. IsFit (plans.reads m)) r.made hs w (dials_fits (plans.reads (length hs)) login (plans.writes (length hs)) (length hs) o us r.made r.dials))
-step_fits login plans hs (steps.Query n text) o us ts w r = at_fits plans n _ hs ts o us (λ h t. calls_fits (plans.reads n) login n _ o us h t) w r
-step_fits login plans hs (steps.Next n) o us ts w r = at_fits plans n _ hs ts o us (λ h t. calls_fits (plans.reads n) login n _ o us h t) w r
-step_fits login plans hs (steps.Collect n) o us ts w r = at_fits plans n _ hs ts o us (λ h t. collects_fits (plans.reads n) login n o us h t) w r
-step_fits login plans hs (steps.Drop n) o us ts w r = at_fits plans n _ hs ts o us (λ h t. calls_fits (plans.reads n) login n _ o us h t) w r
-step_fits login plans hs (steps.Ping n) o us ts w r = at_fits plans n _ hs ts o us (λ h t. calls_fits (plans.reads n) login n _ o us h t) w r
-step_fits login plans hs (steps.Quit n) o us ts w r = at_fits plans n _ hs ts o us (λ h t. calls_fits (plans.reads n) login n _ o us h t) w r
-step_fits login plans hs (steps.Fields n) o us ts w r = at_fits plans n _ hs ts o us (λ h t. tells_fits (plans.reads n) login o us h t) w r
-step_fits login plans hs (steps.Poll n) o us ts w r = at_fits plans n _ hs ts o us (λ h t f g. goes_on_fits (plans.reads n) login n o us h t f (again_fits login (plans.reads n) n o us) g) w r
-step_fits login plans hs (steps.Cancel n) o us ts w r = at_fits plans n _ hs ts o us (λ h t. cancels_fits (plans.reads n) login o us h t) w r
+pub step_fits : (login : Login) (plans : Plans) (there : Bool) (hs : List Handle) (step : Step) (o : Outcome) (us : List Use) (ts : List Handle) → AllFit plans hs → StepGrows login plans there hs step o us ts → AllFit plans ts
+step_fits login plans there hs steps.Conn o us ts w r = subst (AllFit plans) (sym r.others) (push_all (λ m. IsFit (plans.reads m)) r.made hs w (dials_fits (plans.reads (length hs)) login (plans.writes (length hs)) (length hs) o us r.made r.dials))
+step_fits login plans there hs (steps.Query n text) o us ts w r = at_fits plans n _ hs ts o us (λ h t. calls_fits (plans.reads n) login n _ o us h t) w r
+step_fits login plans there hs (steps.Next n) o us ts w r = at_fits plans n _ hs ts o us (λ h t. calls_fits (plans.reads n) login n _ o us h t) w r
+step_fits login plans there hs (steps.Collect n) o us ts w r = at_fits plans n _ hs ts o us (λ h t. collects_fits (plans.reads n) login n o us h t) w r
+step_fits login plans there hs (steps.Drop n) o us ts w r = at_fits plans n _ hs ts o us (λ h t. calls_fits (plans.reads n) login n _ o us h t) w r
+step_fits login plans there hs (steps.Ping n) o us ts w r = at_fits plans n _ hs ts o us (λ h t. calls_fits (plans.reads n) login n _ o us h t) w r
+step_fits login plans there hs (steps.Quit n) o us ts w r = at_fits plans n _ hs ts o us (λ h t. calls_fits (plans.reads n) login n _ o us h t) w r
+step_fits login plans there hs (steps.Stream n) o us ts w r = at_fits plans n _ hs ts o us (λ h t. streams_fits (plans.reads n) login n o us h t) w r
+step_fits login plans there hs (steps.Item n) o us ts w r = at_fits plans n _ hs ts o us (λ h t. items_fits (plans.reads n) there login n o us h t) w r
+step_fits login plans there hs (steps.Unstream n) o us ts w r = at_fits plans n _ hs ts o us (λ h t. unstreams_fits (plans.reads n) there o us h t) w r
+step_fits login plans there hs (steps.Fields n) o us ts w r = at_fits plans n _ hs ts o us (λ h t. tells_fits (plans.reads n) login o us h t) w r
+step_fits login plans there hs (steps.Poll n) o us ts w r = at_fits plans n _ hs ts o us (λ h t f g. goes_on_fits (plans.reads n) login n o us h t f (again_fits login (plans.reads n) n o us) g) w r
+step_fits login plans there hs (steps.Cancel n) o us ts w r = at_fits plans n _ hs ts o us (λ h t. cancels_fits (plans.reads n) login o us h t) w r

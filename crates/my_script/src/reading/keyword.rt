@@ -19,6 +19,9 @@ pub enum Keyword {
     Query,
     Next,
     Collect,
+    Stream,
+    StreamItem,
+    Unstream,
     Drop,
     Ping,
     Quit,
@@ -42,6 +45,15 @@ fn step_keyword(word: &[u8]) -> Keyword
     }
     if word == b"collect".as_slice() {
         return Keyword::Collect;
+    }
+    if word == b"stream".as_slice() {
+        return Keyword::Stream;
+    }
+    if word == b"item".as_slice() {
+        return Keyword::StreamItem;
+    }
+    if word == b"unstream".as_slice() {
+        return Keyword::Unstream;
     }
     if word == b"drop".as_slice() {
         return Keyword::Drop;

@@ -213,6 +213,9 @@ fn connection_line(keyword: Keyword, connection: Option<u64>) -> Item
         Some(connection) => match keyword {
             Keyword::Next => Item::Steps(Step::Next(connection)),
             Keyword::Collect => Item::Steps(Step::Collect(connection)),
+            Keyword::Stream => Item::Steps(Step::Stream(connection)),
+            Keyword::StreamItem => Item::Steps(Step::Item(connection)),
+            Keyword::Unstream => Item::Steps(Step::Unstream(connection)),
             Keyword::Drop => Item::Steps(Step::Drop(connection)),
             Keyword::Ping => Item::Steps(Step::Ping(connection)),
             Keyword::Quit => Item::Steps(Step::Quit(connection)),
@@ -250,6 +253,9 @@ fn with_arguments(alloc: Global, keyword: Keyword, rest: &[u8]) -> Result<Item, 
         | Keyword::WriteFail => Ok(link_line(keyword, number_to(LAST_LINK, rest))),
         Keyword::Next
         | Keyword::Collect
+        | Keyword::Stream
+        | Keyword::StreamItem
+        | Keyword::Unstream
         | Keyword::Drop
         | Keyword::Ping
         | Keyword::Quit

@@ -1,9 +1,10 @@
 //! Errors as text.
 ghost use Rattle.std.specs.Prelude.{◌≡◌, ◌++◌, ◌∷◌, [], OnOk};
-ghost use Rattle.my_script.specs.ErrorText.{driver_text, fault_text, two_text, codec_text, io_text, server_text, error_text};
+ghost use Rattle.my_script.specs.ErrorText.{driver_text, fault_text, two_text, codec_text, io_text, server_text, one_text, both_text, url_text, error_text};
 
 use super::parts::{push_bytes, push_decimal, push_marked};
-use my_frame::CodecFault;
+use my_frame::{CodecFault, Text};
+use my_opts::UrlError;
 use my_reading::{DriverError, Error, IoError, IoFault, IoKind, ServerError};
 use std::alloc::{AllocError, Global};
 
@@ -102,6 +103,54 @@ fn push_server(alloc: Global, out: &mut Vec<u8>, error: &ServerError) -> Result<
     push_bytes(alloc, out, error.message.as_str().as_bytes())
 }
 
+// A word and a text.
+fn push_one(alloc: Global, out: &mut Vec<u8>, word: &[u8], text: &Text) -> Result<(), AllocError>
+    ensures { OnOk result (out.new.items ≡ out.old.items ++ one_text word.now text.now) }
+{
+    out.extend_from_slice(word)?;
+    out.push(b' ')?;
+    push_bytes(alloc, out, text.as_str().as_bytes())
+}
+
+// A word and two texts.
+fn push_both(
+    alloc: Global,
+    out: &mut Vec<u8>,
+    word: &[u8],
+    first: &Text,
+    second: &Text,
+) -> Result<(), AllocError>
+    ensures { OnOk result (out.new.items ≡ out.old.items ++ both_text word.now first.now second.now) }
+{
+    push_one(alloc, out, word, first)?;
+    out.push(b' ')?;
+    push_bytes(alloc, out, second.as_str().as_bytes())
+}
+
+fn push_url(alloc: Global, out: &mut Vec<u8>, error: &UrlError) -> Result<(), AllocError>
+    ensures { OnOk result (out.new.items ≡ out.old.items ++ url_text error.now) }
+{
+    match error {
+        UrlError::FeatureRequired { feature, param } => {
+            push_both(alloc, out, b"Url FeatureRequired", feature, param)
+        }
+        UrlError::Invalid => out.extend_from_slice(b"Url Invalid"),
+        UrlError::InvalidParamValue { param, value } => {
+            push_both(alloc, out, b"Url InvalidParamValue", param, value)
+        }
+        UrlError::InvalidPoolConstraints { min, max } => {
+            push_two(alloc, out, b"Url InvalidPoolConstraints", *min, *max)
+        }
+        UrlError::Parse => out.extend_from_slice(b"Url Parse"),
+        UrlError::UnknownParameter { param } => {
+            push_one(alloc, out, b"Url UnknownParameter", param)
+        }
+        UrlError::UnsupportedScheme { scheme } => {
+            push_one(alloc, out, b"Url UnsupportedScheme", scheme)
+        }
+    }
+}
+
 /// An error as text, without the word `error`.
 pub fn push_error(alloc: Global, out: &mut Vec<u8>, error: &Error) -> Result<(), AllocError>
     ensures { OnOk result (out.new.items ≡ out.old.items ++ error_text error.now) }
@@ -110,6 +159,7 @@ pub fn push_error(alloc: Global, out: &mut Vec<u8>, error: &Error) -> Result<(),
         Error::Driver(error) => push_driver(out, *error),
         Error::Io(error) => push_io(alloc, out, *error),
         Error::Server(error) => push_server(alloc, out, error),
+        Error::Url(error) => push_url(alloc, out, error),
         Error::NoMemory => out.extend_from_slice(b"NoMemory"),
     }
 }

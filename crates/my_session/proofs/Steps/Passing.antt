@@ -371,6 +371,7 @@ fault_login : (s new : Seen) (e : Error) → FaultIs (next s) s new e → new.lo
 fault_login s new (errors.Driver e) d = did_login s new (ticks.Fault (errors.Driver e)) d
 fault_login s new (errors.Io e) d = did_login s new (ticks.Fault (errors.Io e)) d
 fault_login s new (errors.Server e) d = did_login s new (ticks.Fault (errors.Server e)) d
+fault_login s new (errors.Url e) d = absurd d
 fault_login s new errors.NoMemory d = ap (λ (n : Seen). n.login) d
 
 pub does_login : (s new : Seen) (t : Tick) → Does (next s) s new t → new.login ≡ s.login

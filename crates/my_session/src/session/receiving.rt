@@ -6,12 +6,11 @@ ghost use Rattle.my_reading.specs.Place.{is_rows};
 ghost use Rattle.my_session.specs.Machine.{above};
 
 use super::Session;
+use super::payload::{FoundPayload, find_payload};
 use crate::answer::Tick;
 use crate::tables::{Reaction, is_breaking, is_connecting, react_to};
 use crate::task::Task;
-use my_frame::{
-    Blob, CodecError, CodecFault, FramedPayload, NoMemory, ReadError, Span, Text, payload_in_front,
-};
+use my_frame::{Blob, CodecError, CodecFault, NoMemory, ReadError, Text};
 use my_grammar::{Kind, Spot, kind_at, login_response};
 use my_reading::{Answer, Error, IoKind, ServerError};
 use my_reply::{ErrPacket, read_err};
@@ -21,8 +20,7 @@ use std::alloc::Global;
 /// A payload with its place in the bytes, its kind, and what the client sends at once after it.
 #[derive(Drop)]
 pub struct Arrival {
-    pub payload: Blob,
-    pub span: Span,
+    pub found: FoundPayload,
     pub kind: Kind,
     pub reply: Option<Blob>,
 }
@@ -65,7 +63,8 @@ impl Session {
     ghost use Rattle.my_frame.specs.Front.{front_at, Waiting};
     ghost use Rattle.my_reply.specs.ErrPacket.{err_at};
     ghost use Rattle.my_grammar.specs.Kinds.{kind_there};
-    ghost use Rattle.my_session.specs.Machine.{Does, IsArrival, Lands, ReadsRow, fell, following, gave, is_greeting, passed, reacted, read_by, read_kind, reading, refused, reply_bytes, reply_number, reply_to, with_task};
+    ghost use Rattle.my_session.specs.Found.{IsPlaced, payload_in};
+    ghost use Rattle.my_session.specs.Machine.{Does, IsArrival, Lands, ReadsRow, brought, fell, following, gave, is_greeting, passed, reacted, read_by, read_kind, reading, refused, reply_bytes, reply_number, reply_to, with_task};
     ghost use Rattle.my_reading.specs.Rows.{row_at};
 
     // What the client sends at once after the payload.
@@ -104,14 +103,14 @@ impl Session {
         ensures ok { OnOk result (self.new.seen ≡ following self.old.seen arrival.now) }
         ensures err { OnErr result (fell self.new.seen ≡ fell self.old.seen) }
     {
-        let number = self.owe(&arrival.reply, arrival.span.next)?;
-        self.facts
-            .learn(alloc, arrival.kind, arrival.payload.as_slice())?;
+        let number = self.owe(&arrival.reply, arrival.found.span.next)?;
+        let payload = arrival.found.in_bytes(self.unread.as_slice());
+        self.facts.learn(alloc, arrival.kind, payload)?;
         self.number = number;
         self.context = self.context.after(arrival.kind);
         self.untold = false;
         self.taken = self.taken && is_rows(self.context.spot);
-        self.unread.skip(arrival.span.len);
+        self.unread.skip(arrival.found.span.len);
         Ok(())
     }
 
@@ -142,7 +141,7 @@ impl Session {
     fn land_taken(&mut self, alloc: Global, arrival: &Arrival) -> Tick
         requires { IsArrival self.old.seen arrival.now }
         ensures { let s = self.old.seen in
-            Does (reacted s (following s arrival.now) arrival.now.payload Reaction.Takes) s self.new.seen result }
+            Does (reacted s (following s arrival.now) (brought s arrival.now) Reaction.Takes) s self.new.seen result }
     {
         match self.advance(alloc, arrival) {
             Ok(()) => {
@@ -156,19 +155,13 @@ impl Session {
     }
 
     // The payload with its kind, and what the client sends after it.
-    fn arrival(&self, alloc: Global, kind: Kind, found: FramedPayload) -> Result<Arrival, NoMemory>
-        requires { found.span.len ≤ length self.now.seen.unread }
+    fn arrival(&self, alloc: Global, kind: Kind, found: FoundPayload) -> Result<Arrival, NoMemory>
+        requires { IsPlaced self.now.seen.unread found }
         ensures arrives { IfOk result (λ a. IsArrival self.now.seen a) }
-        ensures same { IfOk result (λ a. (a.payload ≡ found.payload) × (a.span ≡ found.span) × (a.kind ≡ kind)) }
+        ensures same { IfOk result (λ a. (a.found ≡ found) × (a.kind ≡ kind)) }
     {
-        let FramedPayload { payload, span } = found;
-        let reply = self.reply(alloc, kind, payload.as_slice())?;
-        Ok(Arrival {
-            payload,
-            span,
-            kind,
-            reply,
-        })
+        let reply = self.reply(alloc, kind, found.in_bytes(self.unread.as_slice()))?;
+        Ok(Arrival { found, kind, reply })
     }
 
     // Whether the server's greeting is still awaited.
@@ -205,10 +198,11 @@ impl Session {
     fn refuse(&mut self, alloc: Global, arrival: &Arrival) -> Tick
         requires { IsArrival self.old.seen arrival.now }
         ensures { let s = self.old.seen in
-            let packet = err_at (is_greeting s.context.spot) arrival.now.payload in
+            let packet = err_at (is_greeting s.context.spot) (brought s arrival.now) in
             Does (refused s (following s arrival.now) packet) s self.new.seen result }
     {
-        match read_err(alloc, arrival.payload.as_slice(), self.awaits_greeting()) {
+        let payload = arrival.found.in_bytes(self.unread.as_slice());
+        match read_err(alloc, payload, self.awaits_greeting()) {
             Ok(packet) => self.end_refused(alloc, arrival, packet),
             Err(ReadError::Malformed) => self.io_fault(IoKind::InvalidData),
             Err(ReadError::NoMemory) => self.fault(Error::NoMemory),
@@ -217,19 +211,17 @@ impl Session {
 
     // The row that the payload is.
     fn row(&self, alloc: Global, arrival: &Arrival) -> Result<Row, ReadError>
-        ensures { ReadsRow (row_at self.now.seen.facts.columns arrival.now.payload) result }
+        requires { IsPlaced self.now.seen.unread arrival.now.found }
+        ensures { let s = self.now.seen in ReadsRow (row_at s.facts.columns (brought s arrival.now)) result }
     {
-        read_text_row(
-            alloc,
-            arrival.payload.as_slice(),
-            self.facts.columns.shared(),
-        )
+        let payload = arrival.found.in_bytes(self.unread.as_slice());
+        read_text_row(alloc, payload, self.facts.columns.shared())
     }
 
     fn give(&mut self, alloc: Global, arrival: &Arrival) -> Tick
         requires { IsArrival self.old.seen arrival.now }
         ensures { let s = self.old.seen in
-            let row = row_at s.facts.columns arrival.now.payload in
+            let row = row_at s.facts.columns (brought s arrival.now) in
             Does (gave s (following s arrival.now) row) s self.new.seen result }
     {
         match self.row(alloc, arrival) {
@@ -248,7 +240,7 @@ impl Session {
     fn pass(&mut self, alloc: Global, arrival: &Arrival) -> Tick
         requires { IsArrival self.old.seen arrival.now }
         ensures { let s = self.old.seen in
-            let row = row_at s.facts.columns arrival.now.payload in
+            let row = row_at s.facts.columns (brought s arrival.now) in
             Does (passed s (following s arrival.now) row) s self.new.seen result }
     {
         let task = self.task;
@@ -263,7 +255,7 @@ impl Session {
     fn react(&mut self, alloc: Global, reaction: Reaction, arrival: &Arrival) -> Tick
         requires { IsArrival self.old.seen arrival.now }
         ensures { let s = self.old.seen in
-            Does (reacted s (following s arrival.now) arrival.now.payload reaction) s self.new.seen result }
+            Does (reacted s (following s arrival.now) (brought s arrival.now) reaction) s self.new.seen result }
     {
         let same = self.task;
         match reaction {
@@ -298,7 +290,7 @@ impl Session {
         requires { IsArrival self.old.seen arrival.now }
         ensures { let s = self.old.seen in
             let a = arrival.now in
-            Does (read_by s (following s a) a.payload reaction a.reply) s self.new.seen result }
+            Does (read_by s (following s a) (brought s a) reaction a.reply) s self.new.seen result }
     {
         let limit = self.context.terms.limit;
         match length_above(limit, &arrival.reply) {
@@ -307,14 +299,14 @@ impl Session {
         }
     }
 
-    fn read_payload(&mut self, alloc: Global, found: FramedPayload) -> Tick
-        requires { found.span.len ≤ length self.old.seen.unread }
+    fn read_payload(&mut self, alloc: Global, found: FoundPayload) -> Tick
+        requires { IsPlaced self.old.seen.unread found }
         ensures { let s = self.old.seen in
+            let payload = payload_in s.unread found in
             let rest = drop found.span.len s.unread in
-            let kind = kind_there s.context found.payload in
-            Does (read_kind s found.payload rest found.span.next kind) s self.new.seen result }
+            Does (read_kind s payload rest found.span.next (kind_there s.context payload)) s self.new.seen result }
     {
-        let kind = kind_at(self.context, found.payload.as_slice());
+        let kind = kind_at(self.context, found.in_bytes(self.unread.as_slice()));
         let reaction = react_to(self.task, kind);
         if is_breaking(reaction) {
             return self.io_fault(IoKind::InvalidData);
@@ -341,7 +333,7 @@ impl Session {
             Does (reading s (front_at s.number s.context.terms.limit s.unread)) s self.new.seen result }
     {
         let limit = self.context.terms.limit;
-        match payload_in_front(alloc, self.unread.as_slice(), self.number, limit) {
+        match find_payload(alloc, self.unread.as_slice(), self.number, limit) {
             Ok(None) => self.wait(),
             Ok(Some(found)) => self.read_payload(alloc, found),
             Err(CodecError::Fault(fault)) => self.codec_fault(fault),

@@ -3,6 +3,7 @@ use Rattle.std.proofs.Common.{ℕ, ◌≡◌, List, [], ◌∷◌, Option, Some,
 use Rattle.my_value.specs.RowParts.{RowParts}
 use Rattle.my_grammar.specs.declared.login.Login.{Login}
 use Rattle.my_reading.specs.Calls.{kind_of, is_connect}
+use Rattle.my_script.specs.Streams.{is_skip}
 use Rattle.my_session.specs.Tasks.{is_open}
 use Rattle.my_client.specs.declared.conn.TapedConn.{TapedConn}
 use Rattle.my_steps.specs.declared.slot.Slot.{Slot}
@@ -13,7 +14,7 @@ use Rattle.my_script.specs.declared.transcript.Use.{Use}
 use Rattle.my_steps.specs.Connecting.{Joins, Dialed}
 use Rattle.my_steps.specs.Did.{Did, OpenPolled}
 use Rattle.my_steps.specs.Gathering.{GatherDid}
-use Rattle.my_steps.specs.Grows.{GoesOn, GoesOnWith, PollsOn}
+use Rattle.my_steps.specs.Grows.{GoesOn, GoesOnWith, PollsOn, PollsCall}
 use Rattle.my_steps.specs.Handle.{Joined}
 use Rattle.my_client.specs.Ready.{StandsBy}
 use Rattle.my_client.specs.Kept.{Asked}
@@ -41,15 +42,15 @@ connect_resumed look login n c a slot o us u kind asked e w = record {
   does = subst (λ (p : Option Asked). GoesOnWith p login n (kept_of c) (look c.link) o us (handle_of look slot)) (sym asked) (subst (λ (b : Bool). PollsOn b a.rows login n a (kept_of c) (look c.link) o us (handle_of look slot)) (sym kind) (u, e, w.does));
 }
 
-no_rows : (rows : Option (List RowParts)) → is_some rows ≡ false → rows ≡ None
+pub no_rows : (rows : Option (List RowParts)) → is_some rows ≡ false → rows ≡ None
 no_rows None e = refl
 no_rows (Some rows) e = cc
 
 -- another call is polled
-pub call_resumed : {L : Type 0} (look : L → Looks) (login : Login) (n : ℕ) (c d : TapedConn L) (a : Asked) (o : Outcome) (us : List Use) → is_connect (kind_of a.call) ≡ false → is_some a.rows ≡ false → (kept_of c).pending ≡ Some a → OpenPolled login n a d.session.seen (look c.link) (look d.link) (kept_of c) (kept_of d) o us → Did look login (GoesOn login n) o us (There c) (There d)
-call_resumed look login n c d a o us kind rows asked w = record {
+pub call_resumed : {L : Type 0} (look : L → Looks) (login : Login) (n : ℕ) (c d : TapedConn L) (a : Asked) (o : Outcome) (us : List Use) → is_connect (kind_of a.call) ≡ false → is_some a.rows ≡ false → is_skip (kind_of a.call) ≡ false → (kept_of c).pending ≡ Some a → OpenPolled login n a d.session.seen (look c.link) (look d.link) (kept_of c) (kept_of d) o us → Did look login (GoesOn login n) o us (There c) (There d)
+call_resumed look login n c d a o us kind rows other asked w = record {
   stood = record { rests = w.rests; stepped = w.stepped };
-  does = subst (λ (p : Option Asked). GoesOnWith p login n (kept_of c) (look c.link) o us (Joined true (kept_of d) (look d.link))) (sym asked) (subst (λ (b : Bool). PollsOn b a.rows login n a (kept_of c) (look c.link) o us (Joined true (kept_of d) (look d.link))) (sym kind) (subst (λ (r : Option (List RowParts)). PollsOn false r login n a (kept_of c) (look c.link) o us (Joined true (kept_of d) (look d.link))) (sym (no_rows a.rows rows)) w.once));
+  does = subst (λ (p : Option Asked). GoesOnWith p login n (kept_of c) (look c.link) o us (Joined true (kept_of d) (look d.link))) (sym asked) (subst (λ (b : Bool). PollsOn b a.rows login n a (kept_of c) (look c.link) o us (Joined true (kept_of d) (look d.link))) (sym kind) (subst (λ (r : Option (List RowParts)). PollsOn false r login n a (kept_of c) (look c.link) o us (Joined true (kept_of d) (look d.link))) (sym (no_rows a.rows rows)) (subst (λ (b : Bool). PollsCall b login n a (kept_of c) (look c.link) o us (Joined true (kept_of d) (look d.link))) (sym other) w.once)));
 }
 
 -- a held dial is tried again

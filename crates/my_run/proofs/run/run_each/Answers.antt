@@ -7,6 +7,8 @@ use Rattle.my_world.specs.World.{Plans}
 use Rattle.my_run.specs.Headline.{SoFar}
 use Rattle.my_steps.specs.Ready.{AllJoined}
 use Rattle.my_steps.proofs.Joining.{grown_joined}
+use Rattle.my_script.specs.Streams.{stream_by, target}
+use Rattle.my_run.proofs.Streaming.{streamed_same}
 use Rattle.my_run.proofs.Runs.{none_yet, step_on, count_up, same_through, same_between}
 use Rattle.my_run.proofs.run.run_each.Goals as goal
 
@@ -23,7 +25,9 @@ loop-i-preserved g c =
     record {
       so_far = λ plans same.
           let u = so.so_far plans same in
-          step_on g.N.L.Link.looks (login_of c.args.opts.now) plans (g.N.World.seen c.args.world.now).dials (g.N.World.seen c.loop-i.world).dials (g.N.World.seen c.run_step.new.world).dials (take c.loop-i.i c.args.steps.now) _ c.loop-i.slots.items c.run_step.new.slots.items c.loop-i.answers.items c.push.new.self.items c.index-steps-i.result a u (did.steps plans (same_between told now plans (length c.loop-i.slots.items) same so.others) u.stood) did.counts (count_up c.loop-i.i c.args.steps.now c.loop-i-test.true) grown next;
+          let there = c.is_there-there.ensures ∙ streamed_same c.loop-i.streams u.0.lines (target c.index-steps-i.result) u.1 in
+          let r = step_on g.N.L.Link.looks (login_of c.args.opts.now) plans (g.N.World.seen c.args.world.now).dials (g.N.World.seen c.loop-i.world).dials (g.N.World.seen c.run_step.new.world).dials (take c.loop-i.i c.args.steps.now) _ c.loop-i.slots.items c.run_step.new.slots.items c.loop-i.answers.items c.push.new.self.items c.index-steps-i.result a c.is_there-there.result u.0 there (did.steps plans (same_between told now plans (length c.loop-i.slots.items) same so.others) u.0.stood) did.counts (count_up c.loop-i.i c.args.steps.now c.loop-i-test.true) grown next in
+          (r.0, λ n. c.in_ok-note.ensures n ∙ ap (λ s. stream_by n s c.index-steps-i.result c.in_ok-did.did.outcome) (u.1 n) ∙ sym (r.1 n));
       others = same_through told now (g.N.World.seen c.run_step.new.world).plans (length c.loop-i.slots.items) (length c.run_step.new.slots.items) did.longer so.others did.others;
     }
 
@@ -31,12 +35,13 @@ pub returns : goal.returns
 returns g c =
     let past : length c.args.steps.now ≤ c.loop-i.i = search rules in
     let whole : take c.loop-i.i c.args.steps.now ≡ c.args.steps.now = take_all c.loop-i.i c.args.steps.now past in
-    λ plans same. subst (λ (xs : List Step). SoFar g.N.L.Link.looks (login_of c.args.opts.now) plans (g.N.World.seen c.args.world.now).dials (g.N.World.seen c.loop-i.world).dials xs c.loop-i.slots.items c.loop-i.answers.items) whole (c.loop-i.invariant.so_far plans same)
+    λ plans same. subst (λ (xs : List Step). SoFar g.N.L.Link.looks (login_of c.args.opts.now) plans (g.N.World.seen c.args.world.now).dials (g.N.World.seen c.loop-i.world).dials xs c.loop-i.slots.items c.loop-i.answers.items) whole (c.loop-i.invariant.so_far plans same).0
 
 pub loop-i-init : goal.loop-i-init
-loop-i-init g c = record { so_far = λ plans same. none_yet g.N.L.Link.looks (login_of c.args.opts.now) plans (g.N.World.seen c.args.world.now).dials [] c.args.slots.now.items c.args.answers.now.items refl c.requires.no_slots c.requires.no_answers; others = λ m h. record { reads = refl; writes = refl } }
+loop-i-init g c = record { so_far = λ plans same. let u = none_yet g.N.L.Link.looks (login_of c.args.opts.now) plans (g.N.World.seen c.args.world.now).dials [] c.args.slots.now.items c.args.answers.now.items refl c.requires.no_slots c.requires.no_answers in (u.0, λ n. c.new-streams.ensures n ∙ sym (u.1 n)); others = λ m h. record { reads = refl; writes = refl } }
 
 pub run_step-requires : goal.run_step-requires
 run_step-requires g c =
-    let u = c.loop-i.invariant.so_far (g.N.World.seen c.args.world.now).plans (λ n. record { reads = refl; writes = refl }) in
+    let v = c.loop-i.invariant.so_far (g.N.World.seen c.args.world.now).plans (λ n. record { reads = refl; writes = refl }) in
+    let u = v.0 in
     (login_of c.args.opts.now, u.stood, subst AllJoined (sym u.handles_are) (grown_joined (login_of c.args.opts.now) (g.N.World.seen c.args.world.now).plans u.lines u.grown))

@@ -4,6 +4,7 @@ use Rattle.std.proofs.lemmas.Result.{IfOk-weaker}
 use Rattle.my_session.specs.Tasks.{is_open}
 use Rattle.my_steps.specs.Slot.{placed}
 use Rattle.my_steps.proofs.Working.Resuming.{open_asked, not_resumed, connect_resumed, gathering_resumed, call_resumed}
+use Rattle.my_steps.proofs.Working.Streaming.{polled_ready, skip_resumed}
 use Rattle.my_steps.proofs.resume.resume_there.Goals as goal
 
 pub returns-then-not-is_open : goal.returns-then-not-is_open
@@ -30,14 +31,31 @@ returns-then-is_gathering g c =
     let a = open_asked login c.args.conn.now opened w in
     gathering_resumed g.L.Link.looks login c.args.number c.args.conn.now c.gather.new.conn a.0 c.in_ok-did.did.outcome c.in_ok-did.did.uses.items (sym (c.is_connecting.ensures a.0 a.1.asked) ∙ connecting) (sym (c.is_gathering.ensures a.0 a.1.asked) ∙ gathering) a.1.asked (c.in_ok-did.ensures login a.0 a.1)
 
+pub returns-then-skipping : goal.returns-then-skipping
+returns-then-skipping g c =
+    let opened : is_open c.args.conn.now.session.seen.task ≡ true = search rules in
+    let connecting : c.is_connecting.result ≡ false = search rules in
+    let gathering : c.is_gathering.result ≡ false = search rules in
+    let skipping : c.is_skipping-skipping.result ≡ true = search rules in
+    λ login w.
+    let a = open_asked login c.args.conn.now opened w in
+    skip_resumed g.L.Link.looks c.args.number login c.args.conn.now c.poll_open.new.conn c.then_take.new.conn a.0 c.in_ok-did-2.did c.in_ok-did-3.did (sym (c.is_connecting.ensures a.0 a.1.asked) ∙ connecting) (sym (c.is_gathering.ensures a.0 a.1.asked) ∙ gathering) (sym (c.is_skipping-skipping.ensures a.0 a.1.asked) ∙ skipping) a.1.asked (c.in_ok-did-2.ensures login a.0 a.1) c.in_ok-did-3.ensures
+
 pub returns : goal.returns
 returns g c =
     let opened : is_open c.args.conn.now.session.seen.task ≡ true = search rules in
     let connecting : c.is_connecting.result ≡ false = search rules in
     let gathering : c.is_gathering.result ≡ false = search rules in
+    let skipping : c.is_skipping-skipping.result ≡ false = search rules in
     λ login w.
     let a = open_asked login c.args.conn.now opened w in
-    call_resumed g.L.Link.looks login c.args.number c.args.conn.now c.poll_open.new.conn a.0 c.in_ok-did-2.did.outcome c.in_ok-did-2.did.uses.items (sym (c.is_connecting.ensures a.0 a.1.asked) ∙ connecting) (sym (c.is_gathering.ensures a.0 a.1.asked) ∙ gathering) a.1.asked (c.in_ok-did-2.ensures login a.0 a.1)
+    call_resumed g.L.Link.looks login c.args.number c.args.conn.now c.poll_open.new.conn a.0 c.in_ok-did-2.did.outcome c.in_ok-did-2.did.uses.items (sym (c.is_connecting.ensures a.0 a.1.asked) ∙ connecting) (sym (c.is_gathering.ensures a.0 a.1.asked) ∙ gathering) (sym (c.is_skipping-skipping.ensures a.0 a.1.asked) ∙ skipping) a.1.asked (c.in_ok-did-2.ensures login a.0 a.1)
+
+pub then_take-requires : goal.then_take-requires
+then_take-requires g c =
+    let opened : is_open c.args.conn.now.session.seen.task ≡ true = search rules in
+    let connecting : c.is_connecting.result ≡ false = search rules in
+    polled_ready g.L.Link.looks c.args.number c.args.conn.now c.poll_open.new.conn c.in_ok-did-2.did c.is_connecting.result c.requires opened c.is_connecting.ensures connecting c.in_ok-did-2.ensures
 
 pub gather-requires-clause-asked : goal.gather-requires-clause-asked
 gather-requires-clause-asked g c =

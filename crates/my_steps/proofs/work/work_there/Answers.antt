@@ -2,6 +2,7 @@ use Rattle.std.proofs.lemmas.Result.{IfOk-weaker}
 use Rattle.my_steps.specs.declared.slot.Slot.TheVariants.{There}
 use Rattle.my_steps.specs.declared.work.Work.TheVariants as works
 use Rattle.my_steps.specs.Slot.{placed}
+use Rattle.my_steps.proofs.Working.Streaming.{missed}
 use Rattle.my_steps.proofs.Working.{work_is}
 use Rattle.my_steps.proofs.work.work_there.Goals as goal
 
@@ -10,6 +11,15 @@ returns-in_ok-did-in-Begin g c = λ login w. work_is g.L.Link.looks login c.args
 
 pub returns-in_ok-did-in-Collect : goal.returns-in_ok-did-in-Collect
 returns-in_ok-did-in-Collect g c = λ login w. work_is g.L.Link.looks login c.args.number c.args.work works.Collect c.in_ok-did-in-Collect.did.outcome c.in_ok-did-in-Collect.did.uses.items (There c.args.conn.now) (There c.collect_call.new.conn) c.in-Collect.is (c.in_ok-did-in-Collect.ensures login w)
+
+pub returns-in_ok-did-in-Take : goal.returns-in_ok-did-in-Take
+returns-in_ok-did-in-Take g c = λ login w. work_is g.L.Link.looks login c.args.number c.args.work works.Take c.in_ok-did-in-Take.did.outcome c.in_ok-did-in-Take.did.uses.items (There c.args.conn.now) (There c.take_call.new.conn) c.in-Take.is (c.in_ok-did-in-Take.ensures login w)
+
+pub returns-in-LetGo : goal.returns-in-LetGo
+returns-in-LetGo g c = λ login w. work_is g.L.Link.looks login c.args.number c.args.work works.LetGo c.let_go.result.outcome c.let_go.result.uses.items (There c.args.conn.now) (There c.args.conn.now) c.in-LetGo.is (c.let_go.ensures login w)
+
+pub returns-in-Miss : goal.returns-in-Miss
+returns-in-Miss g c = λ login w. work_is g.L.Link.looks login c.args.number c.args.work works.Miss c.unused.result.outcome c.unused.result.uses.items (There c.args.conn.now) (There c.args.conn.now) c.in-Miss.is (missed g.L.Link.looks login c.args.conn.now c.unused.result.outcome c.unused.result.uses.items c.unused.ensures.outcome c.unused.ensures.uses w)
 
 pub returns-in_ok-did-in-Fields : goal.returns-in_ok-did-in-Fields
 returns-in_ok-did-in-Fields g c = λ login w. work_is g.L.Link.looks login c.args.number c.args.work works.Fields c.in_ok-did-in-Fields.did.outcome c.in_ok-did-in-Fields.did.uses.items (There c.args.conn.now) (There c.args.conn.now) c.in-Fields.is (c.in_ok-did-in-Fields.ensures login w)

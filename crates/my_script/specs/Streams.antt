@@ -1,0 +1,81 @@
+-- What the lines of a run make of a stream at a connection: it is told by the steps and their answers alone.
+use Rattle.std.specs.Prelude.{ℕ, ◌==◌, Option, Some, None, Bool, true, false, if◌then◌else◌}
+use Rattle.my_reading.specs.declared.call.CallKind.{CallKind}
+use Rattle.my_reading.specs.declared.call.CallKind.TheVariants.{SkipTaken}
+use Rattle.my_script.specs.declared.step.Step.{Step}
+use Rattle.my_script.specs.declared.step.Step.TheVariants as steps
+use Rattle.my_script.specs.declared.stream.Stream.{Stream}
+use Rattle.my_script.specs.declared.stream.Stream.TheVariants.{Without, Taking, There, Reading}
+use Rattle.my_script.specs.declared.transcript.Outcome.{Outcome}
+use Rattle.my_script.specs.declared.transcript.Outcome.TheVariants.{Done, Pending, Row, NoSuchHandle}
+
+-- the number that a step names; `conn` names none
+abbrev pub target : Step → Option ℕ
+target steps.Conn = None
+target (steps.Query n text) = Some n
+target (steps.Next n) = Some n
+target (steps.Collect n) = Some n
+target (steps.Stream n) = Some n
+target (steps.Item n) = Some n
+target (steps.Unstream n) = Some n
+target (steps.Drop n) = Some n
+target (steps.Ping n) = Some n
+target (steps.Quit n) = Some n
+target (steps.Fields n) = Some n
+target (steps.Poll n) = Some n
+target (steps.Cancel n) = Some n
+
+-- a set is taken: from then on a stream is there
+abbrev pub after_taking : Outcome → Stream
+after_taking Done = There
+after_taking Pending = Taking
+after_taking outcome = Without
+
+-- its next row is read; its set's end and an error spend it
+abbrev pub after_item : Outcome → Stream
+after_item (Row row) = There
+after_item Pending = Reading
+after_item outcome = Without
+
+-- the open call goes on
+abbrev pub after_poll : Stream → Outcome → Stream
+after_poll Taking outcome = after_taking outcome
+after_poll Reading outcome = after_item outcome
+after_poll stream outcome = Without
+
+-- the open call is cancelled; a row that isn't awaited any more leaves the stream
+abbrev pub after_cancel : Stream → Stream
+after_cancel Reading = There
+after_cancel stream = Without
+
+-- each other step that begins a call lets the stream go first, as `unstream` does
+abbrev pub after_step : Stream → Step → Outcome → Stream
+after_step stream (steps.Stream n) outcome = after_taking outcome
+after_step stream (steps.Item n) outcome = after_item outcome
+after_step stream (steps.Fields n) outcome = stream
+after_step stream (steps.Poll n) outcome = after_poll stream outcome
+after_step stream (steps.Cancel n) outcome = after_cancel stream
+after_step stream step outcome = Without
+
+-- a step that is refused changes nothing
+abbrev pub stream_after : Stream → Step → Outcome → Stream
+stream_after stream step NoSuchHandle = stream
+stream_after stream step outcome = after_step stream step outcome
+
+-- at connection n, where the step names this number
+abbrev pub stream_named : ℕ → Option ℕ → Stream → Step → Outcome → Stream
+stream_named n None stream step outcome = stream
+stream_named n (Some m) stream step outcome = if m == n then stream_after stream step outcome else stream
+
+abbrev pub stream_by : ℕ → Stream → Step → Outcome → Stream
+stream_by n stream step outcome = stream_named n (target step) stream step outcome
+
+-- an item is read, or the stream let go, only where one is there and reads nothing
+abbrev pub is_there : Stream → Bool
+is_there There = true
+is_there stream = false
+
+-- the call that passes over the rest of a set that a stream took
+abbrev pub is_skip : CallKind → Bool
+is_skip SkipTaken = true
+is_skip kind = false

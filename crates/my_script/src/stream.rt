@@ -1,0 +1,128 @@
+//! Streams of connections' sets, as the lines of a run tell them.
+ghost use Rattle.std.specs.Prelude.{◌≡◌};
+ghost use Rattle.my_script.specs.Streams.{after_cancel, after_item, after_poll, after_step, after_taking, is_there, stream_after, stream_by, target};
+
+use crate::{Outcome, Step};
+
+/// What the lines so far made of a stream at a connection.
+#[derive(Clone, Copy, Debug, PartialEq, Eq)]
+pub enum Stream {
+    /// None is there.
+    Without,
+    /// A set is being taken.
+    Taking,
+    /// It is there, and reads nothing.
+    There,
+    /// It is there, and its next row is awaited.
+    Reading,
+}
+
+/// The number that a step names; `conn` names none.
+pub fn target(step: &Step) -> Option<u64>
+    ensures { result ≡ target step.now }
+{
+    match step {
+        Step::Conn => None,
+        Step::Query(number, _) => Some(*number),
+        Step::Next(number)
+        | Step::Collect(number)
+        | Step::Stream(number)
+        | Step::Item(number)
+        | Step::Unstream(number)
+        | Step::Drop(number)
+        | Step::Ping(number)
+        | Step::Quit(number)
+        | Step::Fields(number)
+        | Step::Poll(number)
+        | Step::Cancel(number) => Some(*number),
+    }
+}
+
+fn after_taking(outcome: &Outcome) -> Stream
+    ensures { result ≡ after_taking outcome.now }
+{
+    match outcome {
+        Outcome::Done => Stream::There,
+        Outcome::Pending => Stream::Taking,
+        _ => Stream::Without,
+    }
+}
+
+fn after_item(outcome: &Outcome) -> Stream
+    ensures { result ≡ after_item outcome.now }
+{
+    match outcome {
+        Outcome::Row(_) => Stream::There,
+        Outcome::Pending => Stream::Reading,
+        _ => Stream::Without,
+    }
+}
+
+fn after_poll(stream: Stream, outcome: &Outcome) -> Stream
+    ensures { result ≡ after_poll stream outcome.now }
+{
+    match stream {
+        Stream::Taking => after_taking(outcome),
+        Stream::Reading => after_item(outcome),
+        Stream::Without | Stream::There => Stream::Without,
+    }
+}
+
+fn after_cancel(stream: Stream) -> Stream
+    ensures { result ≡ after_cancel stream }
+{
+    match stream {
+        Stream::Reading => Stream::There,
+        Stream::Without | Stream::Taking | Stream::There => Stream::Without,
+    }
+}
+
+// After a step that isn't refused.
+fn after_step(stream: Stream, step: &Step, outcome: &Outcome) -> Stream
+    ensures { result ≡ after_step stream step.now outcome.now }
+{
+    match step {
+        Step::Stream(_) => after_taking(outcome),
+        Step::Item(_) => after_item(outcome),
+        Step::Fields(_) => stream,
+        Step::Poll(_) => after_poll(stream, outcome),
+        Step::Cancel(_) => after_cancel(stream),
+        _ => Stream::Without,
+    }
+}
+
+/// What a line makes of a stream at the number that its step names.
+pub fn stream_after(stream: Stream, step: &Step, outcome: &Outcome) -> Stream
+    ensures { result ≡ stream_after stream step.now outcome.now }
+{
+    match outcome {
+        Outcome::NoSuchHandle => stream,
+        _ => after_step(stream, step, outcome),
+    }
+}
+
+/// What a line makes of a stream at this number.
+pub fn stream_by(number: u64, stream: Stream, step: &Step, outcome: &Outcome) -> Stream
+    ensures { result ≡ stream_by number stream step.now outcome.now }
+{
+    match target(step) {
+        Some(named) => {
+            if named == number {
+                stream_after(stream, step, outcome)
+            } else {
+                stream
+            }
+        }
+        None => stream,
+    }
+}
+
+/// Whether a stream is there that reads nothing.
+pub fn is_there(stream: Stream) -> bool
+    ensures { result ≡ is_there stream }
+{
+    match stream {
+        Stream::There => true,
+        Stream::Without | Stream::Taking | Stream::Reading => false,
+    }
+}

@@ -1,6 +1,0 @@
-pub mod Links
-pub mod Order
-pub mod Depth
-pub mod Slots
-pub mod Least
-pub mod Held

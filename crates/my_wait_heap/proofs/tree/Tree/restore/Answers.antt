@@ -1,8 +1,0 @@
-use Rattle.std.proofs.Common.{arith}
-use Rattle.my_wait_heap.proofs.Depth.{add-depth}
-use Rattle.my_wait_heap.proofs.tree.Tree.restore.Goals as goal
-
-pub returns-then-is_older-clause-cost : goal.returns-then-is_older-clause-cost
-returns-then-is_older-clause-cost g c = λ d lt.
-    let up = c.sift_up.ensures.cost d (add-depth c.args.i d (omega arith)) in
-    omega (arith, up, c.is_older.ensures.cost)

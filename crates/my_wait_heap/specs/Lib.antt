@@ -1,2 +1,0 @@
-pub mod Ages
-pub mod Tree
