@@ -1,16 +1,16 @@
 //! Conversations of a connection with a server in memory, by calls that are polled by hand and by calls that wait, with
-//! ample memory, and how they are cut or fail; packets over a link that plays a list, and a pool of buffers. The bytes are those of the public pages of
-//! the protocol. This crate has tests alone.
+//! ample memory, and how they are cut or fail. The bytes are those of the public pages of the protocol. This crate has tests
+//! alone.
 #![tactic(auto)]
 
+#[cfg(test)]
+mod aid;
 #[cfg(test)]
 mod drives;
 #[cfg(test)]
 mod library;
 #[cfg(test)]
 mod link;
-#[cfg(test)]
-mod packets;
 #[cfg(test)]
 mod polls;
 #[cfg(test)]

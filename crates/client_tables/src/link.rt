@@ -3,7 +3,7 @@
 use my_frame::{Blob, NoMemory};
 use my_link::MemLink;
 use my_opts::Target;
-use my_world::{DialStep, MemWorld, World, WorldLine};
+use my_world::{DialStep, Dialer, MemWorld, World, WorldLine};
 use std::alloc::Global;
 
 const GREETING: &[u8] =
@@ -41,10 +41,11 @@ pub fn piece(letter: u8) -> &'static [u8] {
         b'9' => b"\x0d\x00\x00\x05\xff\x28\x04#42000Nope",
         b'5' => b"\x02\x00",
         b'6' => b"\x00\x03\x011",
-        // The client's response, a query with its first part, a ping and a quit.
+        // The client's response, a query with its first part, a text that follows a login, a ping and a quit.
         b'l' => LOGIN,
         b'q' => b"\x09\x00\x00\x00\x03SELECT 1",
         b'Q' => b"\x09\x00\x00\x00\x03S",
+        b's' => b"\x0c\x00\x00\x00\x03SET @a = 42",
         b'p' => b"\x01\x00\x00\x00\x0e",
         b'u' => b"\x01\x00\x00\x00\x01",
         _ => b"",
@@ -79,15 +80,32 @@ fn line_of(alloc: Global, letter: u8) -> Result<WorldLine, NoMemory> {
     })
 }
 
+fn prepare(alloc: Global, world: &mut MemWorld, letter: u8) -> Result<(), NoMemory> {
+    let line = line_of(alloc, letter)?;
+    world.prepare(&line)
+}
+
+fn prepare_all(alloc: Global, world: &mut MemWorld, plan: &str) -> Result<(), NoMemory> {
+    for letter in plan.as_bytes() {
+        prepare(alloc, world, *letter)?;
+    }
+    Ok(())
+}
+
+fn dial(world: &mut MemWorld, target: &Target) -> Option<MemLink> {
+    match world.dial(0, target) {
+        DialStep::Link(link) => Some(link),
+        DialStep::NotYet | DialStep::Failed => None,
+    }
+}
+
 /// A link that plays these letters in order; none where the dial fails.
 pub fn link_of(alloc: Global, target: &Target, plan: &str) -> Result<Option<MemLink>, NoMemory> {
     let mut world = MemWorld::new(alloc);
-    for letter in plan.as_bytes() {
-        let line = line_of(alloc, *letter)?;
-        world.prepare(&line)?;
-    }
-    match world.dial(0, target) {
-        DialStep::Link(link) => Ok(Some(link)),
-        DialStep::NotYet | DialStep::Failed => Ok(None),
-    }
+    let link = match prepare_all(alloc, &mut world, plan) {
+        Ok(()) => Ok(dial(&mut world, target)),
+        Err(NoMemory) => Err(NoMemory),
+    };
+    drop(world);
+    link
 }

@@ -1,23 +1,33 @@
 //! Calls that are polled by hand.
 
 ghost use Rattle.std.specs.Prelude.{◌≡◌, None};
-ghost use Rattle.my_conn.specs.Calls.{MayPoll};
+ghost use Rattle.my_line.specs.Calls.{MayPoll};
 
-use crate::told::{of_check, of_done, of_facts, of_read, of_server, of_taken, of_tape};
-use my_conn::{
-    CallState, Conn, Connected, Connecting, DropCall, NextAnswer, NextCall, PingCall, Poll,
-    QueryCall, QuitCall, Returns, StreamCall,
+use crate::aid::Script;
+use crate::told::{
+    of_check, of_done, of_facts, of_life, of_marks, of_moment, of_read, of_rest, of_server,
+    of_short_life, of_taken, of_tape,
 };
+use my_calls::{
+    CallState, DropCall, NextCall, PingCall, Poll, QueryCall, QuitCall, Returns, StreamCall,
+};
+use my_conn::{Conn, Connected, Connecting, NextAnswer};
 use my_frame::Blob;
-use my_link::Link;
+use my_link::{Link, NoAid};
 use my_reading::Error;
 use std::alloc::Global;
 
-/// Polls a handshake while it is pending, at most so many times.
-pub fn shake<L: Link + Drop>(alloc: Global, connecting: Connecting<L>, polls: u64) -> Connected<L> {
+/// Polls the making of a connection while it is pending, at most `polls` times, at the moment 5.
+pub fn made<L: Link + Drop>(
+    alloc: Global,
+    connecting: Connecting<L>,
+    polls: u64,
+    texts: &[u8],
+) -> Connected<L> {
+    let mut aid = Script { letters: texts };
     let mut connecting = connecting;
     'polls: for _ in 0..polls {
-        match connecting.poll(alloc) {
+        match connecting.poll(alloc, &mut aid, 5) {
             Connected::Pending(next) => connecting = next,
             done => return done,
         }
@@ -25,7 +35,7 @@ pub fn shake<L: Link + Drop>(alloc: Global, connecting: Connecting<L>, polls: u6
     Connected::Pending(connecting)
 }
 
-// Polls a call while it is pending, at most so many times, and cancels it then.
+// Polls a call while it is pending, at most `polls` times, at the moment 7, and cancels it then.
 fn play<C: Returns, L: Link>(
     alloc: Global,
     conn: &mut Conn<L>,
@@ -36,7 +46,7 @@ fn play<C: Returns, L: Link>(
 {
     let mut call = call;
     'polls: for _ in 0..polls {
-        match call.poll(alloc, conn) {
+        match call.poll(alloc, conn, &mut NoAid, 7) {
             Poll::Ready(answer) => return Some(answer),
             Poll::Pending => {}
         }
@@ -45,14 +55,14 @@ fn play<C: Returns, L: Link>(
     None
 }
 
-fn done(answer: &Option<Result<(), Error>>) -> u8 {
+fn done(answer: Option<Result<(), Error>>) -> u8 {
     match answer {
         Some(answer) => of_done(answer),
         None => b'.',
     }
 }
 
-fn read(answer: &Option<Result<NextAnswer, Error>>) -> u8 {
+fn read(answer: Option<Result<NextAnswer, Error>>) -> u8 {
     match answer {
         Some(answer) => of_read(answer),
         None => b'.',
@@ -65,8 +75,8 @@ fn take<L: Link>(alloc: Global, conn: &mut Conn<L>, polls: u64) -> u8
 {
     let mut call = StreamCall::new();
     'polls: for _ in 0..polls {
-        match call.poll(alloc, conn) {
-            Poll::Ready(answer) => return of_taken(&answer),
+        match call.poll(alloc, conn, &mut NoAid, 7) {
+            Poll::Ready(answer) => return of_taken(answer),
             Poll::Pending => {}
         }
     }
@@ -79,18 +89,23 @@ fn poll_idle<L: Link>(alloc: Global, conn: &mut Conn<L>, step: u8, polls: u64) -
 {
     match step {
         b'q' => match Blob::from_slice(alloc, b"SELECT 1") {
-            Ok(text) => done(&play(alloc, conn, QueryCall::new(text), polls)),
+            Ok(text) => done(play(alloc, conn, QueryCall::new(text), polls)),
             Err(_) => b'?',
         },
-        b'r' => read(&play(alloc, conn, NextCall::new(), polls)),
+        b'r' => read(play(alloc, conn, NextCall::new(), polls)),
         b's' => take(alloc, conn, polls),
-        b'd' => done(&play(alloc, conn, DropCall::new(), polls)),
-        b'p' => done(&play(alloc, conn, PingCall::new(), polls)),
-        b'u' => done(&play(alloc, conn, QuitCall::new(), polls)),
+        b'd' => done(play(alloc, conn, DropCall::new(), polls)),
+        b'p' => done(play(alloc, conn, PingCall::new(), polls)),
+        b'u' => done(play(alloc, conn, QuitCall::new(), polls)),
         b'c' => of_check(conn.check()),
-        b't' => of_tape(&conn.take_tape()),
+        b't' => of_tape(conn.take_tape()),
         b'i' => of_facts(conn),
         b'v' => of_server(conn),
+        b'y' => of_rest(conn),
+        b'm' => of_moment(conn),
+        b'l' => of_life(conn),
+        b'h' => of_short_life(conn),
+        b'f' => of_marks(conn),
         _ => b'?',
     }
 }

@@ -2,8 +2,8 @@
 
 use crate::drives::{driven, ended};
 use crate::link::link_of;
-use crate::polls::{polled, shake};
-use crate::told::{is_kept, of_error};
+use crate::polls::{made, polled};
+use crate::told::{failed, is_kept, is_none, of_error};
 use my_conn::{Conn, Connected, Connecting};
 use my_frame::NoMemory;
 use my_link::{BlockingLink, Link, MemLink, ReadyLink};
@@ -16,11 +16,15 @@ use std::test::Fail;
 // the bytes sent, those taken, and how each call ended. `-` is no tape: none was asked for, or none is kept at the end.
 // `.` is no bytes.
 //
-// Steps: `a` the handshake, which is the first; `q` a query, `r` a read of the next row, `s` a stream that takes a set,
+// Where a row goes on, its last word has the texts that follow the login: `s` is `SET @a = 42`, `q` is `SELECT 1`, and `x`
+// refuses the connection. Each text and the drop of its result are calls of their own, which come before those of the steps.
+//
+// Steps: `a` the making of the connection, which is the first; `q` a query, `r` a read of the next row, `s` a stream that takes a set,
 // `d` a drop of the result, `p` a ping, `u` a quit, `c` a check; `i` the facts of the last OK, `v` those of the server and
-// the options, `t` the tape is taken.
+// the options, `l` the connection's life, `h` a short one, `t` the tape is taken; `y` whether something is unread, `m` the moment of
+// the last payload, `f` what a pool tells the connection.
 // Returned: `k` done, or a set is taken, `r` a row, `e` the end of a set, `n` that nothing is there, `.` pending; `S` a server's error, `L` a
-// fault of the link, `U` an end that came too early, `C` that the connection is closed; `A` alive, `D` dead; `c` closed.
+// fault of the link, `U` an end that came too early, `C` that the connection is closed; `A` alive, `D` dead; `c` closed; `R` that the caller refused; `y` and `n` for `y`; `5` and `7` for `m`.
 // Ended: `k` answered, `e` failed, `x` cancelled, `X` cancelled with the connection closed by that, `.` not yet.
 const POLLED: &str = "\
 gtktOt1234t1234t apivqrrrqduv 111111111111 kkkkkrenkkkc lpqqu gkO12341234 kkkkkkkkk
@@ -56,11 +60,25 @@ gtkt123w78 aqssrs 111111 kkk.ek lq gk12378 kkkxkk
 gtkt1237w aqssq 11111 kkk.C lq gk1237 kkkkXe
 gtkt1237w8 aqss 1112 kkkk lq gk12378 kkkkk
 gtkt12379 aqss 1111 kkkS lq gk12379 kkkke
-gtktotot aptpt 11111 kkkkn . . -";
+gtktotot aptpt 11111 kkkkn . . -
+gtkto alfqyry 1111111 kkkkyen lq gko kkk
+gtkt1234 amqmyryry 111111111 k5k7yryen lq gk1234 kkkk
+gtkto a 1 k ls gko kkk s
+gtktoto amp 111 k5k lsp gkoo kkkk s
+gtkt1234to a 1 k lqs gk1234o kkkkk qs
+gtktw a 1 . ls gk k. s
+gtktwo a 2 k ls gko kkk s
+gtkt12w34 a 1 . lq gk12 kk. q
+gtkt12w34to a 2 k lqs gk1234o kkkkk qs
+gtkte a 1 S . . - s
+gtktz a 1 U . . - s
+gtktf a 1 L . . - s
+gtk a 1 R . . - x
+gtkto a 1 R . . - sx";
 
 // A row has what the link plays, the steps and what each returns, as above; `n` counts the rows of a query. A link that
 // isn't ready has failed. The first step is `a`, which connects with options, `b`, which connects by the URL that has
-// them, or `x`, which connects by a URL with a key that there isn't; `W` is that refusal.
+// them, `e`, by one whose connections end, or `x`, by a URL with a key that there isn't; `W` is that refusal.
 const WAITING: &str = "\
 gtktOt1234t1234t1234t apivqrrrqdnuv kkkkkrenkk1kc
 w a L
@@ -81,10 +99,20 @@ gtkz ac kD
 gtKt ac kD
 gtktot bpv kkk
 gtE b S
-gtkt x W";
+gtkt x W
+gtkto alqyry kkkyen
+gtktoto amfqm k5kk7
+gtk eh kk";
 
 // The options of each connection.
 const URL: &str = "mysql://root@localhost?max_allowed_packet=4194304&wait_timeout=28800";
+
+// The options of connections that end.
+const SHORT: &str = "mysql://root@localhost?max_allowed_packet=4194304&wait_timeout=28800\
+    &abs_conn_ttl=60&conn_ttl=9&reset_connection=false";
+
+// A URL with a key that there isn't.
+const WRONG: &str = "mysql://root@localhost?speed=1";
 
 // The words of a row.
 #[derive(Clone, Copy)]
@@ -96,6 +124,7 @@ struct Row<'a> {
     sent: &'a str,
     taken: &'a str,
     calls: &'a str,
+    texts: &'a str,
 }
 
 fn word(row: &str, number: usize) -> &str {
@@ -116,6 +145,7 @@ fn polled_row(row: &str) -> Row<'_> {
         sent: word(row, 4),
         taken: word(row, 5),
         calls: word(row, 6),
+        texts: word(row, 7),
     }
 }
 
@@ -128,6 +158,7 @@ fn waiting_row(row: &str) -> Row<'_> {
         sent: "-",
         taken: "-",
         calls: "-",
+        texts: "",
     }
 }
 
@@ -142,7 +173,7 @@ fn count_at(digits: &str, number: usize) -> u64 {
     u64::from(at(digits, number).wrapping_sub(b'0'))
 }
 
-// Whether each step after the handshake returns what it should.
+// Whether each step after the making returns what it should.
 fn are_polled<L: Link>(alloc: Global, conn: &mut Conn<L>, row: &Row) -> bool {
     for (i, step) in row.steps.as_bytes().iter().enumerate() {
         if i > 0 && polled(alloc, conn, *step, count_at(row.polls, i)) != at(row.says, i) {
@@ -158,7 +189,16 @@ fn are_driven<L: BlockingLink>(alloc: Global, conn: &mut Conn<L>, row: &Row) -> 
             return false;
         }
     }
-    conn.take_tape().is_none()
+    true
+}
+
+// Whether the tape that is handed out is this row's.
+fn has_tape<L>(conn: &mut Conn<L>, row: &Row) -> bool {
+    is_kept(conn.take_tape(), row.sent, row.taken, row.calls)
+}
+
+fn has_first_tape<L>(connecting: &mut Connecting<L>, row: &Row) -> bool {
+    is_kept(connecting.take_tape(), row.sent, row.taken, row.calls)
 }
 
 // A tape is handed out once.
@@ -168,98 +208,131 @@ fn is_right<L: Link>(alloc: Global, connected: &mut Connected<L>, row: &Row) -> 
         Connected::Made(conn) => {
             said == b'k'
                 && are_polled(alloc, conn, row)
-                && is_kept(&conn.take_tape(), row.sent, row.taken, row.calls)
-                && conn.take_tape().is_none()
+                && has_tape(conn, row)
+                && is_none(conn.take_tape())
         }
         Connected::Pending(connecting) => {
-            said == b'.'
-                && is_kept(&connecting.take_tape(), row.sent, row.taken, row.calls)
-                && connecting.take_tape().is_none()
+            said == b'.' && has_first_tape(connecting, row) && is_none(connecting.take_tape())
         }
         Connected::Failed(error) => said == of_error(error),
     }
 }
 
-fn is_polled(alloc: Global, opts: Opts, link: MemLink, row: &Row) -> bool {
-    match Connecting::new(alloc, opts, link, row.sent != "-") {
-        Ok(connecting) => {
-            let mut connected = shake(alloc, connecting, count_at(row.polls, 0));
-            is_right(alloc, &mut connected, row)
-        }
-        Err(NoMemory) => false,
+fn opts_of(alloc: Global) -> Result<Opts, NoMemory> {
+    if URL.len() > 1_048_576 {
+        return Err(NoMemory);
+    }
+    match Opts::from_url(alloc, URL) {
+        Ok(opts) => Ok(opts),
+        Err(_) => Err(NoMemory),
     }
 }
 
-fn made_by(
+fn link_for(alloc: Global, opts: &Opts, plan: &str) -> Result<MemLink, NoMemory> {
+    let target = opts.target(alloc)?;
+    let dialed = link_of(alloc, &target, plan);
+    drop(target);
+    match dialed {
+        Ok(Some(link)) => Ok(link),
+        Ok(None) | Err(NoMemory) => Err(NoMemory),
+    }
+}
+
+fn begun(alloc: Global, row: &Row) -> Result<Connecting<MemLink>, NoMemory> {
+    let opts = opts_of(alloc)?;
+    match link_for(alloc, &opts, row.plan) {
+        Ok(link) => Connecting::new(alloc, opts, link, 3, 0, row.sent != "-"),
+        Err(NoMemory) => {
+            drop(opts);
+            Err(NoMemory)
+        }
+    }
+}
+
+fn is_polled(alloc: Global, row: &Row) -> Result<bool, NoMemory> {
+    let connecting = begun(alloc, row)?;
+    let mut connected = made(
+        alloc,
+        connecting,
+        count_at(row.polls, 0),
+        row.texts.as_bytes(),
+    );
+    let right = is_right(alloc, &mut connected, row);
+    drop(connected);
+    Ok(right)
+}
+
+fn new_by_opts(alloc: Global, link: ReadyLink<MemLink>) -> Result<Conn<ReadyLink<MemLink>>, Error> {
+    match opts_of(alloc) {
+        Ok(opts) => Conn::new(alloc, opts, link, 5, 0),
+        Err(NoMemory) => {
+            drop(link);
+            Err(Error::NoMemory)
+        }
+    }
+}
+
+fn new_by_url(
     alloc: Global,
     url: &str,
     link: ReadyLink<MemLink>,
 ) -> Result<Conn<ReadyLink<MemLink>>, Error> {
     if url.len() > 1_048_576 {
+        drop(link);
         return Err(Error::NoMemory);
     }
-    Conn::from_url(alloc, url, link)
+    Conn::from_url(alloc, url, link, 5, 0)
 }
 
-fn made(
+fn new_by(
     alloc: Global,
-    opts: Opts,
     link: ReadyLink<MemLink>,
     how: u8,
 ) -> Result<Conn<ReadyLink<MemLink>>, Error> {
     match how {
-        b'a' => Conn::new(alloc, opts, link),
-        b'b' => made_by(alloc, URL, link),
-        _ => made_by(alloc, "mysql://root@localhost?speed=1", link),
+        b'a' => new_by_opts(alloc, link),
+        b'b' => new_by_url(alloc, URL, link),
+        b'e' => new_by_url(alloc, SHORT, link),
+        _ => new_by_url(alloc, WRONG, link),
     }
 }
 
-fn is_driven(alloc: Global, opts: Opts, link: MemLink, row: &Row) -> bool {
-    match made(alloc, opts, ReadyLink::new(link), at(row.steps, 0)) {
-        Ok(conn) => {
-            let mut conn = conn;
-            let right = at(row.says, 0) == b'k' && are_driven(alloc, &mut conn, row);
-            ended(alloc, conn) == b'k' && right
-        }
-        Err(error) => at(row.says, 0) == of_error(&error),
+fn waiting_link(alloc: Global, plan: &str) -> Result<ReadyLink<MemLink>, NoMemory> {
+    let opts = opts_of(alloc)?;
+    let link = link_for(alloc, &opts, plan);
+    drop(opts);
+    Ok(ReadyLink::new(link?))
+}
+
+// A connection that was made keeps no tape, and quits at its end.
+fn ends_right(alloc: Global, conn: Conn<ReadyLink<MemLink>>, row: &Row) -> bool {
+    let mut conn = conn;
+    let right = at(row.says, 0) == b'k'
+        && are_driven(alloc, &mut conn, row)
+        && is_none(conn.take_tape());
+    ended(alloc, conn) == b'k' && right
+}
+
+fn is_driven(alloc: Global, row: &Row) -> Result<bool, NoMemory> {
+    let link = waiting_link(alloc, row.plan)?;
+    match new_by(alloc, link, at(row.steps, 0)) {
+        Ok(conn) => Ok(ends_right(alloc, conn, row)),
+        Err(error) => Ok(at(row.says, 0) == failed(error)),
     }
 }
 
-fn opts_of(alloc: Global) -> Option<Opts> {
-    if URL.len() > 1_048_576 {
-        return None;
-    }
-    match Opts::from_url(alloc, URL) {
-        Ok(opts) => Some(opts),
-        Err(_) => None,
-    }
+fn polls_right(alloc: Global, row: &Row) -> bool {
+    matches!(is_polled(alloc, row), Ok(true))
 }
 
-fn link_for(alloc: Global, opts: &Opts, plan: &str) -> Result<Option<MemLink>, NoMemory> {
-    let target = opts.target(alloc)?;
-    link_of(alloc, &target, plan)
-}
-
-fn is_so(alloc: Global, row: &Row, waiting: bool) -> bool {
-    match opts_of(alloc) {
-        Some(opts) => match link_for(alloc, &opts, row.plan) {
-            Ok(Some(link)) => {
-                if waiting {
-                    is_driven(alloc, opts, link, row)
-                } else {
-                    is_polled(alloc, opts, link, row)
-                }
-            }
-            Ok(None) | Err(NoMemory) => false,
-        },
-        None => false,
-    }
+fn waits_right(alloc: Global, row: &Row) -> bool {
+    matches!(is_driven(alloc, row), Ok(true))
 }
 
 #[test]
 fn talks_are_polled(rt: HostRuntime) -> Result<(), Fail> {
     for row in POLLED.split('\n') {
-        assert!(rt; is_so(rt.alloc(), &polled_row(row), false), "{row}");
+        assert!(rt; polls_right(rt.alloc(), &polled_row(row)), "{row}");
     }
     Ok(())
 }
@@ -267,7 +340,7 @@ fn talks_are_polled(rt: HostRuntime) -> Result<(), Fail> {
 #[test]
 fn talks_wait(rt: HostRuntime) -> Result<(), Fail> {
     for row in WAITING.split('\n') {
-        assert!(rt; is_so(rt.alloc(), &waiting_row(row), true), "{row}");
+        assert!(rt; waits_right(rt.alloc(), &waiting_row(row)), "{row}");
     }
     Ok(())
 }

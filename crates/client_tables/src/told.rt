@@ -5,7 +5,7 @@ use my_client::{Said, Tape};
 use my_conn::{Conn, NextAnswer};
 use my_link::CheckStep;
 use my_opts::UrlError;
-use my_reading::{DriverError, Error, IoError, IoKind};
+use my_reading::{DriverError, Error, IoError, IoKind, OtherError};
 
 // The letter of a URL that is refused.
 fn of_refused(error: &UrlError) -> u8 {
@@ -21,6 +21,15 @@ fn of_refused(error: &UrlError) -> u8 {
     }
 }
 
+// The letter of a connection that the caller refused.
+fn of_other(error: &OtherError) -> u8 {
+    if error.text.as_str() == "rejected" {
+        b'R'
+    } else {
+        b'?'
+    }
+}
+
 /// The letter of an error.
 pub fn of_error(error: &Error) -> u8 {
     match error {
@@ -32,34 +41,50 @@ pub fn of_error(error: &Error) -> u8 {
             IoKind::Dial | IoKind::InvalidData => b'?',
         },
         Error::Url(error) => of_refused(error),
+        Error::Other(error) => of_other(error),
         Error::Io(IoError::Codec(_)) | Error::Driver(_) | Error::NoMemory => b'?',
     }
 }
 
+/// The letter of an error, which is let go.
+pub fn failed(error: Error) -> u8 {
+    let letter = of_error(&error);
+    drop(error);
+    letter
+}
+
 /// The letter of a call that is done.
-pub fn of_done(answer: &Result<(), Error>) -> u8 {
+pub fn of_done(answer: Result<(), Error>) -> u8 {
     match answer {
         Ok(()) => b'k',
-        Err(error) => of_error(error),
+        Err(error) => failed(error),
     }
 }
 
+fn of_next(answer: NextAnswer) -> u8 {
+    let letter = match &answer {
+        NextAnswer::Row(_) => b'r',
+        NextAnswer::SetEnd => b'e',
+        NextAnswer::NoSet => b'n',
+    };
+    drop(answer);
+    letter
+}
+
 /// The letter of what a read returned.
-pub fn of_read(answer: &Result<NextAnswer, Error>) -> u8 {
+pub fn of_read(answer: Result<NextAnswer, Error>) -> u8 {
     match answer {
-        Ok(NextAnswer::Row(_)) => b'r',
-        Ok(NextAnswer::SetEnd) => b'e',
-        Ok(NextAnswer::NoSet) => b'n',
-        Err(error) => of_error(error),
+        Ok(answer) => of_next(answer),
+        Err(error) => failed(error),
     }
 }
 
 /// The letter of a set that was taken, or that nothing is left.
-pub fn of_taken(answer: &Result<bool, Error>) -> u8 {
+pub fn of_taken(answer: Result<bool, Error>) -> u8 {
     match answer {
         Ok(true) => b'k',
         Ok(false) => b'n',
-        Err(error) => of_error(error),
+        Err(error) => failed(error),
     }
 }
 
@@ -73,12 +98,16 @@ pub fn of_check(step: CheckStep) -> u8 {
     }
 }
 
+/// Whether there is no tape; one is let go.
+pub fn is_none(tape: Option<Tape>) -> bool {
+    let none = tape.is_none();
+    drop(tape);
+    none
+}
+
 /// Whether a tape is kept.
-pub fn of_tape(tape: &Option<Tape>) -> u8 {
-    match tape {
-        Some(_) => b'k',
-        None => b'n',
-    }
+pub fn of_tape(tape: Option<Tape>) -> u8 {
+    if is_none(tape) { b'n' } else { b'k' }
 }
 
 fn yes(right: bool) -> u8 {
@@ -107,6 +136,44 @@ pub fn of_server<L>(conn: &Conn<L>) -> u8 {
     } else {
         yes(right)
     }
+}
+
+/// Whether something of a response is unread.
+pub fn of_rest<L>(conn: &Conn<L>) -> u8 {
+    if conn.is_dirty() { b'y' } else { b'n' }
+}
+
+/// The moment of the last payload, which is below ten.
+pub fn of_moment<L>(conn: &Conn<L>) -> u8 {
+    match conn.last_io() {
+        5 => b'5',
+        7 => b'7',
+        _ => b'?',
+    }
+}
+
+/// Whether the life of a connection is as its first options say: without an end, to be reset, and to rest for the server's
+/// timeout.
+pub fn of_life<L>(conn: &Conn<L>) -> u8 {
+    yes(
+        conn.deadline().is_none()
+            && conn.ttl() == 28_800_000
+            && conn.reset_flag()
+            && !conn.is_pooled(),
+    )
+}
+
+/// Whether it is as the options with ends say.
+pub fn of_short_life<L>(conn: &Conn<L>) -> u8 {
+    yes(conn.deadline() == Some(60_005) && conn.ttl() == 9_000 && !conn.reset_flag())
+}
+
+/// Whether what a pool tells a connection is what it says then.
+pub fn of_marks<L>(conn: &mut Conn<L>) -> u8 {
+    conn.set_pooled(true);
+    conn.reset_connection(false);
+    conn.set_now(7);
+    yes(conn.is_pooled() && !conn.reset_flag() && conn.now() == 7)
 }
 
 fn of_said(said: &Said) -> u8 {
@@ -138,8 +205,7 @@ fn are_calls(tape: &Tape, letters: &[u8]) -> bool {
     tape.calls.len() <= letters.len()
 }
 
-/// Whether a tape has these bytes and calls, or isn't kept.
-pub fn is_kept(tape: &Option<Tape>, sent: &str, taken: &str, calls: &str) -> bool {
+fn is_tape(tape: &Option<Tape>, sent: &str, taken: &str, calls: &str) -> bool {
     match tape {
         Some(tape) => {
             is_of(tape.sent.as_slice(), sent)
@@ -148,4 +214,11 @@ pub fn is_kept(tape: &Option<Tape>, sent: &str, taken: &str, calls: &str) -> boo
         }
         None => calls == "-",
     }
+}
+
+/// Whether a tape has these bytes and calls, or isn't kept. It is let go.
+pub fn is_kept(tape: Option<Tape>, sent: &str, taken: &str, calls: &str) -> bool {
+    let right = is_tape(&tape, sent, taken, calls);
+    drop(tape);
+    right
 }

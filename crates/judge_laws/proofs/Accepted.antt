@@ -3,6 +3,7 @@ use Rattle.std.proofs.Common.{◌≡◌, ◌⊎◌, ◌≤◌, ◌<◌, inl, inr
 use Rattle.std.proofs.lemmas.Bool.Decides.{nat_tests}
 use Rattle.std.proofs.lemmas.List.{append-nil, length-map}
 use Rattle.my_grammar.specs.declared.login.Login.{Login}
+use Rattle.my_link.specs.declared.dialer.DialItem.{DialItem}
 use Rattle.my_link.specs.declared.link.ReadItem.{ReadItem}
 use Rattle.my_reading.specs.Endings.{AreCalls}
 use Rattle.my_reading.specs.Reading.{read_calls, reading}
@@ -27,7 +28,7 @@ use Rattle.my_run.specs.Tapes.{TapeView, tape_of, tape_view, tapes_in}
 use Rattle.run_laws.proofs.Connecting.{AreOnce, connects_once, grown_once, kept_calls}
 use Rattle.my_run_judge.specs.Lines.{AreLines, FirstWrong, IsOver}
 use Rattle.my_run_judge.specs.Seen.{TapeSeen, nothing_seen, seen, seen_at}
-use Rattle.my_run_judge.specs.Transcripts.{AreRight, AreTapes, IsWrongBelow, dialed_by, dialed_in}
+use Rattle.my_run_judge.specs.Transcripts.{AreRight, AreTapes, FoundAt, IsWrongBelow, dialed_by, dialed_in}
 use Rattle.my_run_judge.specs.Walks.{Walk, start}
 use Rattle.judge_laws.specs.Accepts.{EachRunIsRight, EachRefusalRefutes}
 use Rattle.judge_laws.proofs.Going.{shown_call, shown_kept, shown_tape}
@@ -92,13 +93,13 @@ tapes_so : (m most : ℕ) (hs : List Handle) (ts : List Tape) → AreOnce hs →
 tapes_so m most [] [] once sum e = record { numbered = tt; each = λ i low. absurd (omega (arith, low)) }
 tapes_so m most [] (t ∷ ts) once sum e = cc
 tapes_so m most (Absent ∷ hs) ts once sum e = no_tape m most Absent hs ts refl (tapes_so (suc m) most hs ts once.1 (omega (arith, sum)) e)
-tapes_so m most (Dialing ∷ hs) ts once sum e = no_tape m most Dialing hs ts refl (tapes_so (suc m) most hs ts once.1 (omega (arith, sum)) e)
+tapes_so m most (Dialing left ∷ hs) ts once sum e = no_tape m most (Dialing left) hs ts refl (tapes_so (suc m) most hs ts once.1 (omega (arith, sum)) e)
 tapes_so m most (Joined there k x ∷ hs) [] once sum e = cc
 tapes_so m most (Joined there k x ∷ hs) (t ∷ ts) once sum e =
     one_tape m most there k x hs t ts once.0 (omega (arith, sum)) (cc) (tapes_so (suc m) most hs ts once.1 (omega (arith, sum)) (cc))
 
 -- how many were dialed
-step_dials : (login : Login) (plans : Plans) (there : Bool) (hs ts : List Handle) (step : Step) (o : Outcome) (us : List Use) → StepGrows login plans there hs step o us ts → length ts ≡ length hs + dialed_by step
+pub step_dials : (login : Login) (plans : Plans) (there : Bool) (hs ts : List Handle) (step : Step) (o : Outcome) (us : List Use) → StepGrows login plans there hs step o us ts → length ts ≡ length hs + dialed_by step
 step_dials login plans there hs ts steps.Conn o us r = ap length r.others ∙ length-append hs (r.made ∷ [])
 step_dials login plans there hs ts (steps.Query m text) o us r = let e = ap length r.others ∙ put_length m r.made hs in omega arith
 step_dials login plans there hs ts (steps.Next m) o us r = let e = ap length r.others ∙ put_length m r.made hs in omega arith
@@ -112,6 +113,8 @@ step_dials login plans there hs ts (steps.Unstream m) o us r = let e = ap length
 step_dials login plans there hs ts (steps.Fields m) o us r = let e = ap length r.others ∙ put_length m r.made hs in omega arith
 step_dials login plans there hs ts (steps.Poll m) o us r = let e = ap length r.others ∙ put_length m r.made hs in omega arith
 step_dials login plans there hs ts (steps.Cancel m) o us r = let e = ap length r.others ∙ put_length m r.made hs in omega arith
+step_dials login plans there hs ts (steps.Advance by) o us r = let e = ap length r.same in omega arith
+step_dials login plans there hs ts (steps.Random word) o us r = let e = ap length r.same in omega arith
 
 dialed_more : (ss : List Step) (s : Step) → dialed_in (ss ++ s ∷ []) ≡ dialed_in ss + dialed_by s
 dialed_more [] s = omega arith
@@ -126,15 +129,15 @@ dialed_so login plans (l ∷ ls) grown =
     omega arith
 
 -- at each number
-explained_at : (login : Login) (plans : Plans) (lines : List Line) → EachExplained login plans lines → (n : ℕ) → IsExplained login (plans.reads n) (at_number (handles_after lines) n)
+explained_at : (login : Login) (plans : Plans) (lines : List Line) → EachExplained login plans lines → (n : ℕ) → IsExplained login (plans.reads n) (plans.dials n) (at_number (handles_after lines) n)
 explained_at login plans [] w n = tt
 explained_at login plans (l ∷ ls) w n = w.0 n
 
-all_for : (login : Login) (plan : Option (List ReadItem)) (h : Handle) → IsExplained login plan h → AreCalls login (reading login (tape_for h)).calls
+all_for : (login : Login) (plan : Option (List ReadItem)) (items : Option (List DialItem)) (h : Handle) → IsExplained login plan items h → AreCalls login (reading login (tape_for h)).calls
 unfolding reading read_calls
-all_for login plan Absent e = tt
-all_for login plan Dialing e = tt
-all_for login plan (Joined there k x) e = e.0.read
+all_for login plan items Absent e = tt
+all_for login plan items (Dialing left) e = tt
+all_for login plan items (Joined there k x) e = e.0.read
 
 over_placed : (login : Login) (hs : List Handle) (n : ℕ) (w : Walk) → AreCalls login (reading login (tape_for (at_number hs n))).calls → Placed login (tape_for (at_number hs n)) n hs w
     → IsOver login (shown_tape (tape_for (at_number hs n))) w w.spot.status
@@ -172,7 +175,7 @@ each_run_is_right login plans before later steps answers tapes h = record {
     lines_at : (n : ℕ) → AreLines login n (shown_tape (tape_for (at_number (handles_after h.lines) n))) 0 Without (start login n) steps answers
     lines_at n =
         let last = at_number (handles_after h.lines) n in
-        let all = all_for login (plans.reads n) last (explained_at login plans h.lines h.explained n) in
+        let all = all_for login (plans.reads n) (plans.dials n) last (explained_at login plans h.lines h.explained n) in
         let r : RanSo login plans (tape_for last) all n h.lines = ran login plans (tape_for last) all n h.lines h.grown (has_for last) in
         let shown = r.reaches [] [] (over_placed login (handles_after h.lines) n r.walk all r.placed) in
         shown_lines login n (shown_tape (tape_for last)) 0 Without (start login n) steps answers
@@ -190,6 +193,6 @@ wrong_lines login n t index k s w (step ∷ ss) (b ∷ bs) (inr f) r = wrong_lin
 pub each_refusal_refutes : EachRefusalRefutes
 each_refusal_refutes login steps answers tapes line found plans before later h = by_cause found.wrong (each_run_is_right login plans before later steps answers tapes h)
   where
-    by_cause : IsWrongBelow login steps answers tapes line (dialed_in steps + 1) ⊎ ((line ≡ length steps) × (AreTapes 0 (dialed_in steps) tapes → ⊥)) → AreRight login steps answers tapes → ⊥
+    by_cause : IsWrongBelow (FoundAt login steps answers tapes) line (dialed_in steps + 1) ⊎ ((line ≡ length steps) × (AreTapes 0 (dialed_in steps) tapes → ⊥)) → AreRight login steps answers tapes → ⊥
     by_cause (inl w) r = wrong_lines login w.number (seen_at w.number tapes) line 0 Without (start login w.number) steps answers w.is (r.each w.number w.below)
     by_cause (inr w) r = w.1 r.numbered

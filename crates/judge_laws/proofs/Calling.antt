@@ -101,7 +101,7 @@ module _ (login : Login) (t : Tape) (all : AreCalls login (reading login t).call
 
     pub calls_so : (h made : Handle) (o : Outcome) (us : List Use) → HasTape t made → Calls login n call h o us made → StepSo login t n h made step o us
     calls_so Absent made o us has r = absent_so login t all n step w.named made o us has r
-    calls_so Dialing made o us has r = dialing_so login t all n step w.named made o us w.dialing has r
+    calls_so (Dialing left) made o us has r = dialing_so login t all n step w.named left made o us w.dialing has r
     calls_so (Joined false k x) made o us has r = gone_so login t all n step w.named k x made o us has r
     calls_so (Joined true k x) made o us has r = begins_on k.pending k x made o us refl has r
 
@@ -158,7 +158,7 @@ module _ (login : Login) (t : Tape) (all : AreCalls login (reading login t).call
 
   pub collects_so : (h made : Handle) (o : Outcome) (us : List Use) → HasTape t made → CollectsAt login n h o us made → StepSo login t n h made (steps.Collect n) o us
   collects_so Absent made o us has r = absent_so login t all n (steps.Collect n) refl made o us has r
-  collects_so Dialing made o us has r = dialing_so login t all n (steps.Collect n) refl made o us refl has r
+  collects_so (Dialing left) made o us has r = dialing_so login t all n (steps.Collect n) refl left made o us refl has r
   collects_so (Joined false k x) made o us has r = gone_so login t all n (steps.Collect n) refl k x made o us has r
   collects_so (Joined true k x) made o us has r = collects_on k.pending k x made o us refl has r
 
@@ -180,6 +180,6 @@ module _ (login : Login) (t : Tape) (all : AreCalls login (reading login t).call
 
   pub tells_so : (h made : Handle) (o : Outcome) (us : List Use) → HasTape t made → TellsFields login h o us made → StepSo login t n h made (steps.Fields n) o us
   tells_so Absent made o us has r = absent_so login t all n (steps.Fields n) refl made o us has r
-  tells_so Dialing made o us has r = dialing_so login t all n (steps.Fields n) refl made o us refl has r
+  tells_so (Dialing left) made o us has r = dialing_so login t all n (steps.Fields n) refl left made o us refl has r
   tells_so (Joined false k x) made o us has r = gone_so login t all n (steps.Fields n) refl k x made o us has r
   tells_so (Joined true k x) made o us has r = tells_with k.pending k x made o us refl has r

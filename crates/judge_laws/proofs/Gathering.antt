@@ -37,7 +37,7 @@ use Rattle.judge_laws.proofs.Polling.{HasRest, LastSo, after_so, before_more, be
 -- the tape goes on from what stands there
 abbrev pub HasTape : Tape → Handle → Type 0
 HasTape t Absent = Unit {0}
-HasTape t Dialing = Unit {0}
+HasTape t (Dialing left) = Unit {0}
 HasTape t (Joined there k x) = HasRest t k
 
 -- the open call gathered these rows, from a first call on

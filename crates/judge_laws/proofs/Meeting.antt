@@ -111,6 +111,7 @@ module _ (u : Met) (stop : Stop) (taken : List ℕ) (of_call : IsOfCall u) (met 
     error_so (errors.Io e) by = io_so (errors.Io e) e by
     error_so (errors.Server e) by = in_bytes stop refl by.0 ready
     error_so (errors.Url e) by = absurd by
+    error_so (errors.Other e) by = absurd by
     error_so errors.NoMemory by = absurd by
 
   module _ (login : Login) (a : Asked) (f end : Kept) where

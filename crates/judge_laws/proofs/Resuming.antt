@@ -4,6 +4,7 @@ use Rattle.std.proofs.lemmas.Bool.Decides.{nat_tests}
 use Rattle.my_handshake.specs.Version.{version_of}
 use Rattle.my_value.specs.RowParts.{RowParts}
 use Rattle.my_grammar.specs.declared.login.Login.{Login}
+use Rattle.my_link.specs.declared.dialer.DialItem.{DialItem}
 use Rattle.my_link.specs.declared.link.ReadItem.{ReadItem}
 use Rattle.my_link.specs.declared.link.WriteItem.{WriteItem}
 use Rattle.my_link.specs.Looks.{Looks}
@@ -32,6 +33,7 @@ use Rattle.my_acts.specs.declared.act.Status.{Status}
 use Rattle.my_acts.specs.declared.act.Status.TheVariants as status
 use Rattle.my_acts.specs.Acts.{act_of, after_cancel, connecting, dialed, gathered, gathering, polled, polled_once, taking}
 use Rattle.my_client.specs.declared.poll.After.{After}
+use Rattle.my_world.specs.World.{Plans}
 use Rattle.my_client.specs.declared.poll.After.TheVariants as after
 use Rattle.my_client.specs.declared.tape.DoneCall.{DoneCall}
 use Rattle.my_client.specs.declared.tape.Said.TheVariants as says
@@ -162,15 +164,15 @@ module _ (login : Login) (t : Tape) (all : AreCalls login (reading login t).call
   connect_so k a x made o used kp con has r = joined_by k a x made o used r.end r.link kp con has r.number r.after r.polled r.shows
 
   -- a dial, and the handshake over its link
-  pub dials_so : (step : Step) (plan : Option (List ReadItem)) (rules : Option (List WriteItem)) (made : Handle) (o : Outcome) (us : List Use) → HasTape t made → Dials login plan rules n o us made
+  pub dials_so : (step : Step) (plan : Option (List ReadItem)) (rules : Option (List WriteItem)) (items : Option (List DialItem)) (made : Handle) (o : Outcome) (us : List Use) → HasTape t made → Dials login plan rules items n o us made
       → (w : Walk) → AtWalk login nothing_kept w → ((z : Outcome) (uses : ℕ) → act_of w.spot.status n w.spot.next w.closed step z uses ≡ dialed n z uses) → LineSo login t n made step o us w
-  dials_so step plan rules made o us has (grows.Holds e f g p) w at does =
-      subst (λ (z : Handle). LineSo login t n z step o us w) (sym g) (subst (λ (vs : List Use). LineSo login t n Dialing step o vs w) (sym f) (subst (λ (z : Outcome). LineSo login t n Dialing step z (held_use n ∷ []) w) (sym e)
+  dials_so step plan rules items made o us has (grows.Holds left e f g p) w at does =
+      subst (λ (z : Handle). LineSo login t n z step o us w) (sym g) (subst (λ (vs : List Use). LineSo login t n (Dialing left) step o vs w) (sym f) (subst (λ (z : Outcome). LineSo login t n (Dialing left) step z (held_use n ∷ []) w) (sym e)
       (record { act = acts.Holds; act_is = does outcomes.Pending 1; right = refl; tied = (refl, at) })))
-  dials_so step plan rules made o us has (grows.Fails e f g p) w at does =
+  dials_so step plan rules items made o us has (grows.Fails left e f g p) w at does =
       subst (λ (z : Handle). LineSo login t n z step o us w) (sym g) (subst (λ (vs : List Use). LineSo login t n Absent step o vs w) (sym f) (subst (λ (z : Outcome). LineSo login t n Absent step z (failed_use n ∷ []) w) (sym e)
       (record { act = acts.Fails; act_is = does _ 1; right = (refl, refl); tied = (refl, at) })))
-  dials_so step plan rules made o us has (grows.Links used x e new r) w at does =
+  dials_so step plan rules items made o us has (grows.Links used x left e new given r) w at does =
       let s = connect_so first_kept first_asked x made o used refl refl has r in
       let first : AtWalk login first_kept w = at_begin login nothing_kept calls.Connect None w refl at in
       let j = s.forth w first refl (first_of w.spot.status w.spot.next) in
@@ -264,14 +266,14 @@ module _ (login : Login) (t : Tape) (all : AreCalls login (reading login t).call
   goes_on_with None k x made o us e once has r = idle_so login t all n (steps.Poll n) refl k x made o us e (λ closed next. refl) has r
   goes_on_with (Some a) k x made o us e once has r = polls_on (is_connect (kind_of a.call)) k a x made o us e once refl a.rows refl has r
 
-  pub goes_on_so : (h made : Handle) (o : Outcome) (us : List Use) → IsOnce h → HasTape t made → GoesOn login n h o us made → StepSo login t n h made (steps.Poll n) o us
-  goes_on_so Absent made o us once has r = absent_so login t all n (steps.Poll n) refl made o us has r
-  goes_on_so Dialing made o us once has r = record {
+  pub goes_on_so : (plans : Plans) (h made : Handle) (o : Outcome) (us : List Use) → IsOnce h → HasTape t made → GoesOn login plans n h o us made → StepSo login t n h made (steps.Poll n) o us
+  goes_on_so plans Absent made o us once has r = absent_so login t all n (steps.Poll n) refl made o us has r
+  goes_on_so plans (Dialing left) made o us once has r = record {
     back = tt;
-    forth = λ w tied. dials_so (steps.Poll n) None None made o us has r w tied.1 (λ z uses. here_act status.Dialing w.spot.status n w.spot.next w.closed (steps.Poll n) z uses refl tied.0 refl);
+    forth = λ w tied. dials_so (steps.Poll n) (plans.reads n) (plans.writes n) left made o us has r w tied.1 (λ z uses. here_act status.Dialing w.spot.status n w.spot.next w.closed (steps.Poll n) z uses refl tied.0 refl);
   }
-  goes_on_so (Joined false k x) made o us once has r = gone_so login t all n (steps.Poll n) refl k x made o us has r
-  goes_on_so (Joined true k x) made o us once has r = goes_on_with k.pending k x made o us refl once has r
+  goes_on_so plans (Joined false k x) made o us once has r = gone_so login t all n (steps.Poll n) refl k x made o us has r
+  goes_on_so plans (Joined true k x) made o us once has r = goes_on_with k.pending k x made o us refl once has r
 
   -- the open call is cancelled
   spot_cancelled : (b : Bool) (s : Spot) → Spotted t (not b) None (record { status = (if b then status.Absent else status.Idle); next = s.next; from = s.from; taken = s.taken })
@@ -315,8 +317,8 @@ module _ (login : Login) (t : Tape) (all : AreCalls login (reading login t).call
   cancels_with None k x made o us e once has r = idle_so login t all n (steps.Cancel n) refl k x made o us e (λ closed next. refl) has r
   cancels_with (Some a) k x made o us e once has r = cancelled_so k a x made o us e once has r
 
-  dropped_so : (made : Handle) (o : Outcome) (us : List Use) → IsDropped o us made → StepSo login t n Dialing made (steps.Cancel n) o us
-  dropped_so made o us r = record {
+  dropped_so : (left : Option (List DialItem)) (made : Handle) (o : Outcome) (us : List Use) → IsDropped o us made → StepSo login t n (Dialing left) made (steps.Cancel n) o us
+  dropped_so left made o us r = record {
     back = tt;
     forth = λ w tied.
         subst (λ (z : Handle). LineSo login t n z (steps.Cancel n) o us w) (sym r.left)
@@ -331,6 +333,6 @@ module _ (login : Login) (t : Tape) (all : AreCalls login (reading login t).call
 
   pub cancels_so : (h made : Handle) (o : Outcome) (us : List Use) → IsOnce h → HasTape t made → CancelsAt login h o us made → StepSo login t n h made (steps.Cancel n) o us
   cancels_so Absent made o us once has r = absent_so login t all n (steps.Cancel n) refl made o us has r
-  cancels_so Dialing made o us once has r = dropped_so made o us r
+  cancels_so (Dialing left) made o us once has r = dropped_so left made o us r
   cancels_so (Joined false k x) made o us once has r = gone_so login t all n (steps.Cancel n) refl k x made o us has r
   cancels_so (Joined true k x) made o us once has r = cancels_with k.pending k x made o us refl once has r

@@ -16,11 +16,11 @@ use Rattle.my_acts.specs.declared.act.Act.{Act}
 use Rattle.my_acts.specs.declared.act.Act.TheVariants.{Skips}
 use Rattle.my_acts.specs.declared.act.Status.{Status}
 use Rattle.my_acts.specs.declared.act.Status.TheVariants as status
-use Rattle.my_acts.specs.Acts.{act_ahead, act_here, act_of, act_there, act_with, dialed, is_missing, refused}
+use Rattle.my_acts.specs.Acts.{act_ahead, act_here, act_of, act_there, act_with, dialed, is_missing, moved, moves_world, refused}
 use Rattle.my_client.specs.Kept.{Asked, nothing_kept}
 use Rattle.my_world.specs.World.{Plans}
 use Rattle.my_value.specs.RowParts.{RowParts}
-use Rattle.my_steps.specs.Grows.{At, Dials, DialsNext, IsRefused, Misses, StepGrows}
+use Rattle.my_steps.specs.Grows.{At, Dials, DialsNext, IsRefused, Misses, Moves, StepGrows}
 use Rattle.my_steps.specs.Handle.{Handle, Absent, Dialing, Joined, at_number, put_at}
 use Rattle.run_laws.proofs.Connecting.{AreOnce, at_once}
 use Rattle.my_run_judge.specs.declared.walk.Spot.{Spot}
@@ -97,7 +97,7 @@ spotted_there t true (Some a) s e = by_rows a.rows e
 
 tied_there : (login : Login) (t : Tape) (h : Handle) (w : Walk) → Tied login t h w → is_there w.spot.status ≡ true
 tied_there login t Absent w e = ap is_there e.0
-tied_there login t Dialing w e = ap is_there e.0
+tied_there login t (Dialing left) w e = ap is_there e.0
 tied_there login t (Joined there k x) w e = spotted_there t there k.pending w.spot e.0
 
 skips_there : (s : Status) (n next : ℕ) (closed : Bool) (step : Step) (o : Outcome) (uses : ℕ) → is_there s ≡ true → act_there s n next closed step o uses (target step) ≡ Skips s → act_of s n next closed step o uses ≡ Skips s
@@ -114,8 +114,28 @@ either f e g true = e
 either f e g false = g
 
 -- a step that isn't one of a stream that isn't there
-other_act : (n : ℕ) (there : Bool) (step : Step) → is_missing n there step ≡ false → (s : Status) (next : ℕ) (closed : Bool) (o : Outcome) (uses : ℕ) → act_with there s n next closed step o uses ≡ act_of s n next closed step o uses
-other_act n there step e s next closed o uses = ap (λ b. if b then refused s o uses else act_of s n next closed step o uses) e
+other_act : (n : ℕ) (there : Bool) (step : Step) → moves_world step ≡ false → is_missing n there step ≡ false → (s : Status) (next : ℕ) (closed : Bool) (o : Outcome) (uses : ℕ) → act_with there s n next closed step o uses ≡ act_of s n next closed step o uses
+other_act n there step still e s next closed o uses =
+    ap (λ b. if b then moved s o uses else if is_missing n there step then refused s o uses else act_of s n next closed step o uses) still
+    ∙ ap (λ b. if b then refused s o uses else act_of s n next closed step o uses) e
+
+-- a step that names a number moves no world
+names_one : (step : Step) (m : ℕ) → target step ≡ Some m → moves_world step ≡ false
+names_one steps.Conn m e = refl
+names_one (steps.Query n text) m e = refl
+names_one (steps.Next n) m e = refl
+names_one (steps.Collect n) m e = refl
+names_one (steps.Drop n) m e = refl
+names_one (steps.Ping n) m e = refl
+names_one (steps.Quit n) m e = refl
+names_one (steps.Stream n) m e = refl
+names_one (steps.Item n) m e = refl
+names_one (steps.Unstream n) m e = refl
+names_one (steps.Fields n) m e = refl
+names_one (steps.Poll n) m e = refl
+names_one (steps.Cancel n) m e = refl
+names_one (steps.Advance by) m e = cc
+names_one (steps.Random word) m e = cc
 
 -- a line is right at a number, and the walk stands there after it
 pub record RunsLine (login : Login) (t : Tape) (n : ℕ) (there : Bool) (ts : List Handle) (step : Step) (o : Outcome) (us : List Use) (w : Walk) : Type 0 where
@@ -130,30 +150,30 @@ pub record RunsSo (login : Login) (t : Tape) (n : ℕ) (there : Bool) (hs ts : L
 
 module _ (login : Login) (t : Tape) (all : AreCalls login (reading login t).calls) (n : ℕ) where
   -- a line that skips this number
-  skips_line : (there : Bool) (hs ts : List Handle) (step : Step) (o : Outcome) (us : List Use) → is_missing n there step ≡ false → n < length hs → n < length ts → at_number ts n ≡ at_number hs n
+  skips_line : (there : Bool) (hs ts : List Handle) (step : Step) (o : Outcome) (us : List Use) → moves_world step ≡ false → is_missing n there step ≡ false → n < length hs → n < length ts → at_number ts n ≡ at_number hs n
       → ((s : Status) (next : ℕ) (closed : Bool) → act_there s n next closed step o (length us) (target step) ≡ Skips s) → HasTape t (at_number ts n) → RunsSo login t n there hs ts step o us
-  skips_line there hs ts step o us plain low lower same skips has = record {
+  skips_line there hs ts step o us still plain low lower same skips has = record {
     back = subst (HasTape t) same has;
     forth = λ w placed.
         let tied = placed.there low in
         record {
           act = Skips w.spot.status;
-          act_is = other_act n there step plain w.spot.status w.spot.next w.closed o (length us) ∙ skips_there w.spot.status n w.spot.next w.closed step o (length us) (tied_there login t (at_number hs n) w tied) (skips w.spot.status w.spot.next w.closed);
+          act_is = other_act n there step still plain w.spot.status w.spot.next w.closed o (length us) ∙ skips_there w.spot.status n w.spot.next w.closed step o (length us) (tied_there login t (at_number hs n) w tied) (skips w.spot.status w.spot.next w.closed);
           right = tt;
           placed = record { there = λ _. subst (λ (h : Handle). Tied login t h w) (sym same) tied; ahead = λ high. absurd (omega (arith, high, lower)) };
         };
   }
 
   -- a line before this number is dialed
-  ahead_line : (there : Bool) (hs ts : List Handle) (step : Step) (o : Outcome) (us : List Use) → is_missing n there step ≡ false → length hs ≤ n → length ts ≤ n
+  ahead_line : (there : Bool) (hs ts : List Handle) (step : Step) (o : Outcome) (us : List Use) → moves_world step ≡ false → is_missing n there step ≡ false → length hs ≤ n → length ts ≤ n
       → act_ahead (n - length hs) n o (length us) (target step) ≡ Skips (status.Ahead (n - length ts)) → RunsSo login t n there hs ts step o us
-  ahead_line there hs ts step o us plain high higher skips = record {
+  ahead_line there hs ts step o us still plain high higher skips = record {
     back = subst (HasTape t) (sym (past hs n high)) tt;
     forth = λ w placed.
         let ahead = placed.ahead high in
         record {
           act = Skips (status.Ahead (n - length ts));
-          act_is = other_act n there step plain w.spot.status w.spot.next w.closed o (length us) ∙ ap (λ s. act_of s n w.spot.next w.closed step o (length us)) ahead.0 ∙ skips;
+          act_is = other_act n there step still plain w.spot.status w.spot.next w.closed o (length us) ∙ ap (λ s. act_of s n w.spot.next w.closed step o (length us)) ahead.0 ∙ skips;
           right = tt;
           placed = record { there = λ low. absurd (omega (arith, low, higher)); ahead = λ _. (refl, ahead.1) };
         };
@@ -165,11 +185,14 @@ module _ (login : Login) (t : Tape) (all : AreCalls login (reading login t).call
         → At m R hs o us ts → HasTape t (at_number ts n) → RunsSo login t n there hs ts step o us
     named_line hs ts o us here r has = by_number (less_or n (length hs)) (same_or m n)
       where
+        still : moves_world step ≡ false
+        still = names_one step m named
+
         same_length : length ts ≡ length hs
         same_length = ap length r.others ∙ put_length m r.made hs
 
         elsewhere : n < length hs → ((m == n) ≡ false) → m ≢ n → RunsSo login t n there hs ts step o us
-        elsewhere low e f = skips_line there hs ts step o us plain low (subst (λ z. n < z) (sym same_length) low) (ap (λ (xs : List Handle). at_number xs n) r.others ∙ put_there m n r.made hs f)
+        elsewhere low e f = skips_line there hs ts step o us still plain low (subst (λ z. n < z) (sym same_length) low) (ap (λ (xs : List Handle). at_number xs n) r.others ∙ put_there m n r.made hs f)
             (λ s next closed. ap (act_there s n next closed step o (length us)) named ∙ ap (λ b. if b then act_here s n next closed step o (length us) else Skips s) e) has
 
         at_it : n < length hs → m ≡ n → RunsSo login t n there hs ts step o us
@@ -184,14 +207,14 @@ module _ (login : Login) (t : Tape) (all : AreCalls login (reading login t).call
                   let l = s.forth w (subst (λ (h : Handle). Tied login t h w) (sym was) (placed.there low)) in
                   record {
                     act = l.act;
-                    act_is = other_act n there step plain w.spot.status w.spot.next w.closed o (length us) ∙ l.act_is;
+                    act_is = other_act n there step still plain w.spot.status w.spot.next w.closed o (length us) ∙ l.act_is;
                     right = l.right;
                     placed = record { there = λ _. subst (λ (h : Handle). Tied login t h (after_act login (shown_tape t) w o us l.act)) (sym made_is) l.tied; ahead = λ high. absurd (omega (arith, high, low, same_length)) };
                   };
             }
 
         not_yet : length hs ≤ n → RunsSo login t n there hs ts step o us
-        not_yet high = ahead_line there hs ts step o us plain high (subst (λ z. z ≤ n) (sym same_length) high) (by_target (less_or m (length hs)) ∙ ap (λ z. Skips (status.Ahead (n - z))) (sym same_length))
+        not_yet high = ahead_line there hs ts step o us still plain high (subst (λ z. z ≤ n) (sym same_length) high) (by_target (less_or m (length hs)) ∙ ap (λ z. Skips (status.Ahead (n - z))) (sym same_length))
           where
             back_to : n - (n - length hs) ≡ length hs
             back_to = omega arith
@@ -228,17 +251,17 @@ module _ (login : Login) (t : Tape) (all : AreCalls login (reading login t).call
       at_it e =
           let none : n - length hs ≡ zero = omega arith in
           let made_is : at_number ts n ≡ r.made = ap (at_number ts) (sym e) ∙ ap (λ (xs : List Handle). at_number xs (length hs)) r.others ∙ push_last hs r.made in
-          let d = subst (λ z. Dials login (plans.reads (length hs)) (plans.writes (length hs)) z o us r.made) e r.dials in
+          let d = subst (λ z. Dials login (plans.reads (length hs)) (plans.writes (length hs)) (plans.dials (length hs)) z o us r.made) e r.dials in
           let high : length hs ≤ n = omega arith in
           record {
             back = subst (HasTape t) (sym (past hs n high)) tt;
             forth = λ w placed.
                 let ahead = placed.ahead high in
-                let l : LineSo login t n r.made steps.Conn o us w = dials_so login t all n steps.Conn (plans.reads (length hs)) (plans.writes (length hs)) r.made o us (subst (HasTape t) made_is has) d w ahead.1
+                let l : LineSo login t n r.made steps.Conn o us w = dials_so login t all n steps.Conn (plans.reads (length hs)) (plans.writes (length hs)) (plans.dials (length hs)) r.made o us (subst (HasTape t) made_is has) d w ahead.1
                 (λ z uses. ap (λ s. act_of s n w.spot.next w.closed steps.Conn z uses) (ahead.0 ∙ ap status.Ahead none)) in
                 record {
                   act = l.act;
-                  act_is = other_act n there steps.Conn plain w.spot.status w.spot.next w.closed o (length us) ∙ l.act_is;
+                  act_is = other_act n there steps.Conn refl plain w.spot.status w.spot.next w.closed o (length us) ∙ l.act_is;
                   right = l.right;
                   placed = record { there = λ _. subst (λ (h : Handle). Tied login t h (after_act login (shown_tape t) w o us l.act)) (sym made_is) l.tied; ahead = λ up. absurd (omega (arith, up, grown, e)) };
                 };
@@ -247,7 +270,7 @@ module _ (login : Login) (t : Tape) (all : AreCalls login (reading login t).call
       by_number : ((nat_lt n (length hs) ≡ true) × (n < length hs)) ⊎ ((nat_lt n (length hs) ≡ false) × (length hs ≤ n)) → (length hs ≡ n) ⊎ (((length hs == n) ≡ false) × (length hs ≢ n)) → RunsSo login t n there hs ts steps.Conn o us
       by_number (inl low) e =
           let lower : n < length ts = omega (arith, low.1, grown) in
-          skips_line there hs ts steps.Conn o us plain low.1 lower (ap (λ (xs : List Handle). at_number xs n) r.others ∙ push_before hs r.made n low.1) (λ s next closed. refl) has
+          skips_line there hs ts steps.Conn o us refl plain low.1 lower (ap (λ (xs : List Handle). at_number xs n) r.others ∙ push_before hs r.made n low.1) (λ s next closed. refl) has
       by_number (inr high) (inl e) = at_it e
       by_number (inr high) (inr e) =
           let other = e.1 in
@@ -255,7 +278,7 @@ module _ (login : Login) (t : Tape) (all : AreCalls login (reading login t).call
           let higher : length ts ≤ n = omega (arith, above, grown) in
           let some : (n - length hs) == 0 ≡ false = grind (arith, nat_tests) in
           let less : (n - length hs) - 1 ≡ n - length ts = omega (arith, grown) in
-          ahead_line there hs ts steps.Conn o us plain high.1 higher (ap (λ b. if b then dialed n o (length us) else Skips (status.Ahead ((n - length hs) - 1))) some ∙ ap (λ z. Skips (status.Ahead z)) less)
+          ahead_line there hs ts steps.Conn o us refl plain high.1 higher (ap (λ b. if b then dialed n o (length us) else Skips (status.Ahead ((n - length hs) - 1))) some ∙ ap (λ z. Skips (status.Ahead z)) less)
 
   -- a step of a stream that isn't there
   found_there : (f : Bool → Bool) (m : ℕ) → f true ≡ false → f false ≡ (m == n) → (there : Bool) → ((let q : Option ℕ = Some m in q) ≡ Some n → true ≡ there) → f there ≡ false
@@ -286,13 +309,29 @@ module _ (login : Login) (t : Tape) (all : AreCalls login (reading login t).call
           act = Skips w.spot.status;
           act_is =
               let here : is_missing n there step ≡ true = ap (λ b. is_missing n b step) (sym (same (named ∙ ap Some is))) ∙ second true ∙ ap (λ z. z == n) is ∙ same_number n in
-              ap (λ b. if b then refused w.spot.status o (length us) else act_of w.spot.status n w.spot.next w.closed step o (length us)) here
+              ap (λ b. if b then moved w.spot.status o (length us) else if is_missing n there step then refused w.spot.status o (length us) else act_of w.spot.status n w.spot.next w.closed step o (length us)) (names_one step m named)
+              ∙ ap (λ b. if b then refused w.spot.status o (length us) else act_of w.spot.status n w.spot.next w.closed step o (length us)) here
               ∙ ap (λ (z : Outcome). refused w.spot.status z (length us)) r.does.outcome
               ∙ ap (λ (vs : List Use). refused w.spot.status outcomes.NoSuchHandle (length vs)) r.does.uses;
           right = tt;
           placed = subst (λ (xs : List Handle). Placed login t n xs w) (sym unmoved) placed;
         };
       }
+
+  -- a step that moves the world
+  moved_line : (there : Bool) (hs ts : List Handle) (step : Step) (o : Outcome) (us : List Use) → moves_world step ≡ true → Moves hs o us ts → HasTape t (at_number ts n) → RunsSo login t n there hs ts step o us
+  moved_line there hs ts step o us moving r has = record {
+    back = subst (λ (xs : List Handle). HasTape t (at_number xs n)) r.same has;
+    forth = λ w placed. record {
+      act = Skips w.spot.status;
+      act_is =
+          ap (λ b. if b then moved w.spot.status o (length us) else if is_missing n there step then refused w.spot.status o (length us) else act_of w.spot.status n w.spot.next w.closed step o (length us)) moving
+          ∙ ap (λ (z : Outcome). moved w.spot.status z (length us)) r.outcome
+          ∙ ap (λ (vs : List Use). moved w.spot.status outcomes.Done (length vs)) r.uses;
+      right = tt;
+      placed = subst (λ (xs : List Handle). Placed login t n xs w) (sym r.same) placed;
+    };
+  }
 
   -- each step
   pub line_so : (there found : Bool) (plans : Plans) (hs ts : List Handle) (step : Step) (o : Outcome) (us : List Use) → (target step ≡ Some n → found ≡ there) → AreOnce hs → StepGrows login plans found hs step o us ts → HasTape t (at_number ts n)
@@ -321,6 +360,8 @@ module _ (login : Login) (t : Tape) (all : AreCalls login (reading login t).call
   line_so there found plans hs ts (steps.Fields m) o us same once r has = named_line there m _ (steps.Fields m) (either (λ b. is_missing n b (steps.Fields m)) refl refl there) refl (λ z vs made e. e) hs ts o us
       (λ made h d e. subst (λ z. StepSo login t z (at_number hs m) made (steps.Fields m) o us) e (tells_so login t all m (at_number hs m) made o us h d)) r has
   line_so there found plans hs ts (steps.Poll m) o us same once r has = named_line there m _ (steps.Poll m) (either (λ b. is_missing n b (steps.Poll m)) refl refl there) refl (λ z vs made e. e) hs ts o us
-      (λ made h d e. subst (λ z. StepSo login t z (at_number hs m) made (steps.Poll m) o us) e (goes_on_so login t all m (at_number hs m) made o us (at_once login hs m once) h d)) r has
+      (λ made h d e. subst (λ z. StepSo login t z (at_number hs m) made (steps.Poll m) o us) e (goes_on_so login t all m plans (at_number hs m) made o us (at_once login hs m once) h d)) r has
   line_so there found plans hs ts (steps.Cancel m) o us same once r has = named_line there m _ (steps.Cancel m) (either (λ b. is_missing n b (steps.Cancel m)) refl refl there) refl (λ z vs made e. e) hs ts o us
       (λ made h d e. subst (λ z. StepSo login t z (at_number hs m) made (steps.Cancel m) o us) e (cancels_so login t all m (at_number hs m) made o us (at_once login hs m once) h d)) r has
+  line_so there found plans hs ts (steps.Advance by) o us same once r has = moved_line there hs ts (steps.Advance by) o us refl r has
+  line_so there found plans hs ts (steps.Random word) o us same once r has = moved_line there hs ts (steps.Random word) o us refl r has

@@ -3,6 +3,7 @@ use Rattle.std.proofs.Common.{◌≡◌, ◌≤◌, ℕ, ◌==◌, List, [], ◌
 use Rattle.std.proofs.lemmas.Bool.{eq-eqb}
 use Rattle.my_value.specs.RowParts.{RowParts}
 use Rattle.my_grammar.specs.declared.login.Login.{Login}
+use Rattle.my_link.specs.declared.dialer.DialItem.{DialItem}
 use Rattle.my_link.specs.declared.met.Met.{Met}
 use Rattle.my_link.specs.Looks.{Looks}
 use Rattle.my_link.specs.Moves.{Stop as LinkStop}
@@ -53,7 +54,7 @@ Spotted t true (Some a) s = OpenAs t a a.rows s
 
 abbrev pub Tied : Login → Tape → Handle → Walk → Type 0
 Tied login t Absent w = (w.spot.status ≡ status.Absent) × AtWalk login nothing_kept w
-Tied login t Dialing w = (w.spot.status ≡ status.Dialing) × AtWalk login nothing_kept w
+Tied login t (Dialing left) w = (w.spot.status ≡ status.Dialing) × AtWalk login nothing_kept w
 Tied login t (Joined there k x) w = Spotted t there k.pending w.spot × AtWalk login k w
 
 -- the line does what its act says, and is right
@@ -112,8 +113,8 @@ module _ (login : Login) (t : Tape) (all : AreCalls login (reading login t).call
   pub absent_so : (made : Handle) (o : Outcome) (us : List Use) → HasTape t made → IsRefused Absent o us made → StepSo login t n Absent made step o us
   absent_so made o us has r = refused_so Absent made o us has r (λ w tied. refused_line status.Absent Absent w refl tied.0 refl (refl, tied.1))
 
-  pub dialing_so : (made : Handle) (o : Outcome) (us : List Use) → at_dialing n step outcomes.NoSuchHandle 0 ≡ Skips status.Dialing → HasTape t made → IsRefused Dialing o us made → StepSo login t n Dialing made step o us
-  dialing_so made o us acts has r = refused_so Dialing made o us has r (λ w tied. refused_line status.Dialing Dialing w refl tied.0 acts (refl, tied.1))
+  pub dialing_so : (left : Option (List DialItem)) (made : Handle) (o : Outcome) (us : List Use) → at_dialing n step outcomes.NoSuchHandle 0 ≡ Skips status.Dialing → HasTape t made → IsRefused (Dialing left) o us made → StepSo login t n (Dialing left) made step o us
+  dialing_so left made o us acts has r = refused_so (Dialing left) made o us has r (λ w tied. refused_line status.Dialing (Dialing left) w refl tied.0 acts (refl, tied.1))
 
   pub gone_so : (k : Kept) (x : Looks) (made : Handle) (o : Outcome) (us : List Use) → HasTape t made → IsRefused (Joined false k x) o us made → StepSo login t n (Joined false k x) made step o us
   gone_so k x made o us has r = refused_so (Joined false k x) made o us has r (λ w tied. refused_line status.Absent (Joined false k x) w refl tied.0.0 refl ((refl, tied.0.1), tied.1))

@@ -1,6 +1,5 @@
 -- A step that takes a set for a stream, or lets a stream go.
-use Rattle.std.proofs.Common.{◌≡◌, ℕ, ◌+◌, ◌==◌, List, [], ◌∷◌, ◌++◌, length, slice_get, map, Bool, true, false, not, ◌&&◌, ◌||◌, Option, Some, None, Ok, refl, sym, ap, ◌∙◌, subst, if◌then◌else◌}
-use Rattle.std.proofs.lemmas.List.{append-nil}
+use Rattle.std.proofs.Common.{◌≡◌, ℕ, ◌+◌, List, [], ◌∷◌, ◌++◌, length, slice_get, map, Bool, true, false, not, ◌&&◌, ◌||◌, Option, Some, None, refl, sym, ap, ◌∙◌, subst, if◌then◌else◌}
 use Rattle.my_grammar.specs.declared.login.Login.{Login}
 use Rattle.my_link.specs.declared.met.Met.{Met}
 use Rattle.my_link.specs.Looks.{Looks}
@@ -12,14 +11,14 @@ use Rattle.my_reading.specs.declared.call.Call.TheVariants as calls
 use Rattle.my_reading.specs.declared.error.Error.{Error}
 use Rattle.my_reading.specs.Calls.{kind_of}
 use Rattle.my_reading.specs.Endings.{AreCalls}
-use Rattle.my_reading.specs.Place.{Place, facts_at, is_taken}
+use Rattle.my_reading.specs.Place.{Place, is_taken}
 use Rattle.my_reading.specs.Reading.{closed_answer, reading}
 use Rattle.my_reading.specs.Tape.{Tape}
 use Rattle.my_reading.specs.Told.{ToldError, ToldReady, closes, told}
 use Rattle.my_reading.specs.Course.{Returns, Stop}
 use Rattle.my_reading.specs.Errors.{connection_closed}
 use Rattle.my_session.specs.Fits.{may_be}
-use Rattle.my_session.specs.History.{Made, has_closed}
+use Rattle.my_session.specs.History.{has_closed}
 use Rattle.my_session.specs.Steps.{is_refused}
 use Rattle.my_script.specs.declared.step.Step.{Step}
 use Rattle.my_script.specs.declared.step.Step.TheVariants as steps
@@ -27,7 +26,7 @@ use Rattle.my_script.specs.Streams.{is_skip, target}
 use Rattle.my_script.specs.declared.transcript.Outcome.{Outcome}
 use Rattle.my_script.specs.declared.transcript.Outcome.TheVariants as outcomes
 use Rattle.my_script.specs.declared.transcript.Use.{Use}
-use Rattle.my_acts.specs.declared.act.Act.TheVariants.{Wrong, Skips as SkipsLine, Polls, Takes as TakesLine, Ends}
+use Rattle.my_acts.specs.declared.act.Act.TheVariants.{Skips as SkipsLine, Polls, Takes as TakesLine}
 use Rattle.my_acts.specs.declared.act.Status.TheVariants as status
 use Rattle.my_acts.specs.Acts.{act_of, begun_by, polled, streamed, taking}
 use Rattle.my_client.specs.declared.poll.After.{After}
@@ -40,7 +39,6 @@ use Rattle.my_client.proofs.TapeRead.Stopping.{stop_closed}
 use Rattle.my_client.proofs.Hearing.{made_more}
 use Rattle.my_steps.specs.Grows.{Begins, BeginsOn, Calls, LetsGo, LetsGoWith, PolledOnce, Skips, StreamsAt, Takes, TakesOn, ThenTakes, is_done, shown, skips_first}
 use Rattle.my_steps.specs.Handle.{Handle, Absent, Dialing, Joined}
-use Rattle.my_run_judge.specs.declared.walk.Spot.{Spot}
 use Rattle.my_run_judge.specs.Lines.{IsBegun, IsSkip, MayEnd, after_last_poll, begun_in, is_pending}
 use Rattle.my_run_judge.specs.Walks.{Walk, ended, with_status, with_taken}
 use Rattle.judge_laws.proofs.Going.{before_begin, shown_call, shown_tape}
@@ -48,7 +46,7 @@ use Rattle.judge_laws.proofs.Tying.{AtWalk, at_begin, place_at_rest}
 use Rattle.judge_laws.proofs.Meeting.{met_at_stop}
 use Rattle.judge_laws.proofs.Polling.{HasRest, LastSo, after_so, begins_here, call_so, ended_so, fits, last_poll, may_end, next_so, poll_back}
 use Rattle.judge_laws.proofs.Gathering.{HasTape}
-use Rattle.judge_laws.proofs.Stepping.{LineSo, OnceSo, Spotted, StepSo, Tied, absent_so, closed_so, dialing_so, gone_so, here_act, once_so, open_so, shown_by, shown_spot}
+use Rattle.judge_laws.proofs.Stepping.{LineSo, OnceSo, Spotted, StepSo, absent_so, closed_so, dialing_so, gone_so, here_act, once_so, open_so, shown_by, shown_spot}
 
 -- the call that passes over the rest of a set returns that it is done, and doesn't close the connection
 pub skip_call : (call : Call) → is_skip (kind_of call) ≡ true → call ≡ calls.SkipTaken
@@ -337,7 +335,7 @@ module _ (login : Login) (t : Tape) (all : AreCalls login (reading login t).call
 
   pub streams_so : (h made : Handle) (o : Outcome) (us : List Use) → HasTape t made → StreamsAt login n h o us made → StepSo login t n h made step o us
   streams_so Absent made o us has r = absent_so login t all n step refl made o us has r
-  streams_so Dialing made o us has r = dialing_so login t all n step refl made o us refl has r
+  streams_so (Dialing left) made o us has r = dialing_so login t all n step refl left made o us refl has r
   streams_so (Joined false k x) made o us has r = gone_so login t all n step refl k x made o us has r
   streams_so (Joined true k x) made o us has r = takes_on k.pending k x made o us refl has r
 
@@ -360,6 +358,6 @@ module _ (login : Login) (t : Tape) (all : AreCalls login (reading login t).call
 
   pub lets_go_so : (h made : Handle) (o : Outcome) (us : List Use) → HasTape t made → LetsGo h o us made → StepSo login t n h made (steps.Unstream n) o us
   lets_go_so Absent made o us has r = absent_so login t all n (steps.Unstream n) refl made o us has r
-  lets_go_so Dialing made o us has r = dialing_so login t all n (steps.Unstream n) refl made o us refl has r
+  lets_go_so (Dialing left) made o us has r = dialing_so login t all n (steps.Unstream n) refl left made o us refl has r
   lets_go_so (Joined false k x) made o us has r = gone_so login t all n (steps.Unstream n) refl k x made o us has r
   lets_go_so (Joined true k x) made o us has r = lets_go_with k.pending k x made o us refl has r

@@ -99,12 +99,12 @@ nothing_taped = record { sent = []; taken = []; calls = [] }
 
 abbrev pub tape_for : Handle → Tape
 tape_for Absent = nothing_taped
-tape_for Dialing = nothing_taped
+tape_for (Dialing left) = nothing_taped
 tape_for (Joined there k x) = tape_kept k
 
 pub has_for : (h : Handle) → HasTape (tape_for h) h
 has_for Absent = tt
-has_for Dialing = tt
+has_for (Dialing left) = tt
 has_for (Joined there k x) = (rest_kept k.pending, goes_here k)
 
 -- at the end of the lines
@@ -146,7 +146,7 @@ over_by login t w s e r = subst (IsOver login t w) (sym e) r
 
 pub over_so : (login : Login) (h : Handle) (w : Walk) → AreCalls login (reading login (tape_for h)).calls → Tied login (tape_for h) h w → IsOver login (shown_tape (tape_for h)) w w.spot.status
 over_so login Absent w all tied = over_by login (shown_tape nothing_taped) w status.Absent tied.0 (nothing_over login w tied.1)
-over_so login Dialing w all tied = over_by login (shown_tape nothing_taped) w status.Dialing tied.0 (nothing_over login w tied.1)
+over_so login (Dialing left) w all tied = over_by login (shown_tape nothing_taped) w status.Dialing tied.0 (nothing_over login w tied.1)
 over_so login (Joined false k x) w all tied = over_by login (shown_tape (tape_kept k)) w status.Absent tied.0.0 (rest_over login k all w tied.1 tied.0.1)
 over_so login (Joined true k x) w all tied = by_pending k.pending refl tied.0
   where

@@ -1,10 +1,8 @@
-//! The changes that are made of each plan, and of dials.
+//! The changes that are made of each plan.
 
 use crate::runs::Run;
 use crate::tables::Counts;
 use my_frame::NoMemory;
-use my_reading::{Error, IoError, IoFault, IoKind};
-use my_script::{Outcome, StepAnswer};
 use my_world::WorldLine;
 use std::alloc::Global;
 use std::mem;
@@ -58,7 +56,7 @@ fn change_number(
     Ok(())
 }
 
-// Whether the line gives bytes, a fault or an end; the others are holds, and what writes take.
+// Whether the line gives bytes, a fault, or a dial that waits or fails; the others are ends, holds, and what writes take.
 fn is_given(run: &Run, at: usize) -> bool {
     match run.read.plan.get(at) {
         Some(
@@ -66,7 +64,9 @@ fn is_given(run: &Run, at: usize) -> bool {
             | WorldLine::Drip(_, _, _)
             | WorldLine::Bytes(_, _)
             | WorldLine::Fail(_)
-            | WorldLine::WriteFail(_),
+            | WorldLine::WriteFail(_)
+            | WorldLine::DialWait(_)
+            | WorldLine::DialFail(_),
         ) => true,
         _ => false,
     }
@@ -79,8 +79,8 @@ fn is_end(run: &Run, at: usize) -> bool {
     }
 }
 
-/// Changes each line of the plan that gives bytes, a fault or an end: it is taken away, an end of the first link stands
-/// in its place, or a packet has another number.
+/// Changes each line of the plan that gives bytes, a fault, an end, or a dial that waits or fails: it is taken away, an end
+/// of the first link stands in its place, or a packet has another number.
 pub fn change_plan(alloc: Global, run: &mut Run, counts: &mut Counts) -> Result<(), NoMemory> {
     for at in 0..run.read.plan.len() {
         let given = is_given(run, at);
@@ -93,29 +93,4 @@ pub fn change_plan(alloc: Global, run: &mut Run, counts: &mut Counts) -> Result<
         change_number(alloc, run, counts, at)?;
     }
     Ok(())
-}
-
-fn dial_answer(answer: &mut StepAnswer, fault: bool) {
-    let _ = answer.uses.pop();
-    if let Some(used) = answer.uses.last_mut() {
-        used.met.faults = u64::from(fault);
-        used.met.holds = u64::from(!fault);
-    }
-    answer.outcome = if fault {
-        let fault = IoFault {
-            kind: IoKind::Dial,
-            place: 0,
-        };
-        Outcome::Failed(Error::Io(IoError::Io(fault)))
-    } else {
-        Outcome::Pending
-    };
-}
-
-/// The first line shows that its dial failed, or wasn't ready, and there is no tape.
-pub fn refuse_dial(run: &mut Run, fault: bool) {
-    if let Some(answer) = run.transcript.answers.as_mut_slice().first_mut() {
-        dial_answer(answer, fault);
-    }
-    run.transcript.tapes.clear();
 }

@@ -1,13 +1,13 @@
 //! Runs of scripts over a world in memory.
 
 use crate::scripts::Script;
-use my_client::login_for;
 use my_frame::{MemSink, MemSource, NoMemory};
 use my_grammar::Login;
 use my_plan_judge::judge_run;
 use my_run::run_tool;
 use my_run_judge::{Found, judge_transcript};
 use my_script::{Read, Script as ReadLines, Transcript, read_script, read_word};
+use my_session::login_for;
 use my_world::MemWorld;
 use std::alloc::Global;
 
@@ -91,15 +91,17 @@ fn login_of(alloc: Global, word: &str) -> Result<Option<Login>, NoMemory> {
 
 /// The run of a script; none where the word of its options is refused.
 pub fn run_of(alloc: Global, script: &Script) -> Result<Option<Run>, NoMemory> {
-    let text = text_of(alloc, script)?;
-    let transcript = transcript_of(alloc, script.word, text.as_slice())?;
-    let read = lines_of(alloc, text.as_slice())?;
-    let Some(login) = login_of(alloc, script.word)? else {
-        return Ok(None);
-    };
-    Ok(Some(Run {
-        login,
-        read,
-        transcript,
-    }))
+    match login_of(alloc, script.word)? {
+        Some(login) => {
+            let text = text_of(alloc, script)?;
+            let read = lines_of(alloc, text.as_slice())?;
+            let transcript = transcript_of(alloc, script.word, text.as_slice())?;
+            Ok(Some(Run {
+                login,
+                read,
+                transcript,
+            }))
+        }
+        None => Ok(None),
+    }
 }

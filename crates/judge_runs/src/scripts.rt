@@ -55,8 +55,9 @@ fn plain(lines: [&'static str; 3], steps: &'static str) -> Script {
     }
 }
 
-/// A link that fails before any byte, one that fails while the client answers, and one whose greeting is held.
-pub fn connecting() -> [Script; 3] {
+/// A link that fails before any byte, one that fails while the client answers, one whose greeting is held; and a dial that
+/// waits while the world moves, before one that fails.
+pub fn connecting() -> [Script; 4] {
     [
         plain(["fail 0\n", "", ""], "conn\n"),
         plain(
@@ -64,6 +65,10 @@ pub fn connecting() -> [Script; 3] {
             "conn\n",
         ),
         plain(["bytes 0 4a00\nwait 0\n", GREETING, ""], "conn\n"),
+        plain(
+            [GREETING, "dial 0 wait\ndial 1 fail\n", ""],
+            "conn\nadvance 5\nconn\nrandom 7\npoll 0\n",
+        ),
     ]
 }
 

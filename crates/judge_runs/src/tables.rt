@@ -1,7 +1,7 @@
 //! The run of each script is right, and a line of each changed one is wrong, but where the change is allowed.
 
 use crate::changes::{Change, toggle};
-use crate::plans::{change_plan, refuse_dial};
+use crate::plans::change_plan;
 use crate::runs::{Run, run_of};
 use crate::scripts::{Script, answered, closing, connecting, held, polled, streamed, writing};
 use my_frame::NoMemory;
@@ -277,17 +277,21 @@ fn change_all(alloc: Global, run: &mut Run, counts: &mut Counts) -> Result<(), N
     change_ends(alloc, run, counts)
 }
 
+fn count_run(rt: &impl Abort, alloc: Global, run: &mut Run, sums: &mut Sums) -> Result<(), Fail> {
+    assert!(rt; run.found(alloc)? == Found::Right);
+    change_all(alloc, run, &mut sums.transcripts)?;
+    change_plan(alloc, run, &mut sums.plans)?;
+    Ok(())
+}
+
 fn count_all(rt: &impl Abort, alloc: Global, scripts: &[Script]) -> Result<Sums, Fail> {
-    let mut transcripts = counted(0, 0);
-    let mut plans = counted(0, 0);
+    let mut sums = refuted(0, counted(0, 0));
     for script in scripts {
         if let Some(mut run) = run_of(alloc, script)? {
-            assert_eq!(rt; run.found(alloc)?, Found::Right, "at {:?}", script.steps);
-            change_all(alloc, &mut run, &mut transcripts)?;
-            change_plan(alloc, &mut run, &mut plans)?;
+            count_run(rt, alloc, &mut run, &mut sums)?;
         }
     }
-    Ok(Sums { transcripts, plans })
+    Ok(sums)
 }
 
 fn counted(refuted: usize, allowed: usize) -> Counts {
@@ -304,7 +308,7 @@ fn refuted(refuted: usize, plans: Counts) -> Sums {
 #[test]
 fn connections_that_are_not_made(rt: HostRuntime) -> Result<(), Fail> {
     let found = count_all(&rt, rt.alloc(), &connecting())?;
-    assert_eq!(rt; found, refuted(62, counted(8, 10)));
+    assert_eq!(rt; found, refuted(117, counted(18, 10)));
     Ok(())
 }
 
@@ -364,52 +368,35 @@ fn skip_none(run: &mut Run, line: usize, call: usize) {
     }
 }
 
+// Two lines show each other's outcome.
+fn swap_outcomes(run: &mut Run, one: usize, other: usize) {
+    if let Some(first) = put_outcome(run, one, Outcome::Done) {
+        if let Some(second) = put_outcome(run, other, first) {
+            let _ = put_outcome(run, one, second);
+        }
+    }
+}
+
 // An item that shows the row of another line, or the second of two streams, which passes over nothing.
-fn is_stream_refuted(alloc: Global) -> Result<bool, Fail> {
-    let [script, _, _, _] = streamed();
-    let Some(mut run) = run_of(alloc, &script)? else {
-        return Ok(false);
-    };
-    let later = put_outcome(&mut run, 8, Outcome::Done);
-    let Some(later) = later else {
-        return Ok(false);
-    };
-    let first = put_outcome(&mut run, 4, later);
+fn refutes_streams(alloc: Global, run: &mut Run) -> Result<bool, NoMemory> {
+    swap_outcomes(run, 4, 8);
     let shown = run.found_alone(alloc)? == Found::Wrong(4);
-    let Some(first) = first else {
-        return Ok(false);
-    };
-    let later = put_outcome(&mut run, 4, first);
-    let Some(later) = later else {
-        return Ok(false);
-    };
-    let _ = put_outcome(&mut run, 8, later);
+    swap_outcomes(run, 4, 8);
     let right = run.found_alone(alloc)? == Found::Right;
-    skip_none(&mut run, 6, 4);
+    skip_none(run, 6, 4);
     Ok(shown && right && run.found_alone(alloc)? == Found::Wrong(6))
+}
+
+fn is_stream_refuted(alloc: Global) -> Result<bool, NoMemory> {
+    let [script, _, _, _] = streamed();
+    match run_of(alloc, &script)? {
+        Some(mut run) => refutes_streams(alloc, &mut run),
+        None => Ok(false),
+    }
 }
 
 #[test]
 fn streams_that_pass_over_nothing(rt: HostRuntime) -> Result<(), Fail> {
     assert!(rt; is_stream_refuted(rt.alloc())?);
-    Ok(())
-}
-
-// A dial that failed, or wasn't ready, is right by itself, and refuted over a plan.
-fn is_dial_refuted(alloc: Global, fault: bool) -> Result<bool, Fail> {
-    let [script, _, _] = connecting();
-    let Some(mut run) = run_of(alloc, &script)? else {
-        return Ok(false);
-    };
-    refuse_dial(&mut run, fault);
-    let alone = run.found_alone(alloc)?;
-    Ok(alone == Found::Right && run.found(alloc)? == Found::Wrong(0))
-}
-
-#[test]
-fn dials_over_a_plan(rt: HostRuntime) -> Result<(), Fail> {
-    for fault in [true, false] {
-        assert!(rt; is_dial_refuted(rt.alloc(), fault)?);
-    }
     Ok(())
 }

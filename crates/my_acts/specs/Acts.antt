@@ -17,6 +17,17 @@ abbrev pub refused : Status → Outcome → ℕ → Act
 refused status NoSuchHandle uses = if uses == 0 then Skips status else Wrong
 refused status outcome uses = Wrong
 
+-- a step that moves the world, and no connection
+abbrev pub moves_world : Step → Bool
+moves_world (steps.Advance by) = true
+moves_world (steps.Random word) = true
+moves_world step = false
+
+-- it is done, has no uses, and changes nothing at the number
+abbrev pub moved : Status → Outcome → ℕ → Act
+moved status Done uses = if uses == 0 then Skips status else Wrong
+moved status outcome uses = Wrong
+
 -- the handshake is polled
 abbrev pub connecting : ℕ → Outcome → (Status → Act) → Act
 connecting n Pending act = act Open
@@ -111,6 +122,8 @@ at_idle closed next (steps.Quit n) outcome uses = polled_once outcome uses
 at_idle closed next (steps.Fields n) outcome uses = told outcome uses
 at_idle closed next (steps.Poll n) outcome uses = refused Idle outcome uses
 at_idle closed next (steps.Cancel n) outcome uses = refused Idle outcome uses
+at_idle closed next (steps.Advance by) outcome uses = Wrong
+at_idle closed next (steps.Random word) outcome uses = Wrong
 
 -- an open call goes on: the handshake, which is the first call, or another one
 abbrev pub goes_on : ℕ → ℕ → Outcome → ℕ → Act
@@ -180,7 +193,9 @@ is_missing n false step = false
 -- what a line may do at connection n, where a stream is there or none
 abbrev pub act_with : Bool → Status → ℕ → ℕ → Bool → Step → Outcome → ℕ → Act
 act_with there status n next closed step outcome uses =
-    if is_missing n there step then refused status outcome uses else act_of status n next closed step outcome uses
+    if moves_world step then moved status outcome uses
+    else if is_missing n there step then refused status outcome uses
+    else act_of status n next closed step outcome uses
 
 -- the call that takes a set, or the one that passes over the rest of an earlier one first
 abbrev pub taking_call : Bool → Call
@@ -202,3 +217,5 @@ begun_by taken (steps.Quit n) = Some calls.Quit
 begun_by taken (steps.Fields n) = None
 begun_by taken (steps.Poll n) = None
 begun_by taken (steps.Cancel n) = None
+begun_by taken (steps.Advance by) = None
+begun_by taken (steps.Random word) = None

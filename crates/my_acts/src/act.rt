@@ -14,11 +14,12 @@ ghost use Rattle.my_acts.specs.Acts.{
   at_open,
   goes_on,
   is_missing,
+  moves_world,
 };
 
 use crate::outcome::{
-    asked, cancelled, collected, dialed, dropped, gathered, let_go, polled_once, polls_handshake,
-    refused, skips_and_takes, streamed, told,
+    asked, cancelled, collected, dialed, dropped, gathered, let_go, moved, polled_once,
+    polls_handshake, refused, skips_and_takes, streamed, told,
 };
 use my_script::{Outcome, Step, target};
 
@@ -68,7 +69,7 @@ fn at_idle(closed: bool, next: usize, step: &Step, outcome: &Outcome, uses: usiz
     ensures { result ≡ at_idle closed next step.now outcome.now uses }
 {
     match step {
-        Step::Conn => Act::Wrong,
+        Step::Conn | Step::Advance(_) | Step::Random(_) => Act::Wrong,
         Step::Query(_, _) | Step::Next(_) | Step::Item(_) | Step::Drop(_) | Step::Ping(_) => {
             asked(closed, outcome, uses)
         }
@@ -209,6 +210,13 @@ fn act_of(
     }
 }
 
+// Whether the step moves the world, and no connection.
+fn moves_world(step: &Step) -> bool
+    ensures { result ≡ moves_world step.now }
+{
+    matches!(step, Step::Advance(_) | Step::Random(_))
+}
+
 // Whether the step is one of a stream that isn't there.
 fn is_missing(number: u64, there: bool, step: &Step) -> bool
     ensures { result ≡ is_missing number there step.now }
@@ -236,6 +244,9 @@ pub fn act_with(
 ) -> Act
     ensures { result ≡ act_with there status number next closed step.now outcome.now uses }
 {
+    if moves_world(step) {
+        return moved(status, outcome, uses);
+    }
     if is_missing(number, there, step) {
         return refused(status, outcome, uses);
     }

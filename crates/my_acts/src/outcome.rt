@@ -14,6 +14,7 @@ ghost use Rattle.my_acts.specs.Acts.{
   gathered,
   gathering,
   let_go,
+  moved,
   polled,
   polled_once,
   refused,
@@ -31,6 +32,15 @@ pub(crate) fn refused(status: Status, outcome: &Outcome, uses: usize) -> Act
 {
     match outcome {
         Outcome::NoSuchHandle if uses == 0 => Act::Skips(status),
+        _ => Act::Wrong,
+    }
+}
+
+pub(crate) fn moved(status: Status, outcome: &Outcome, uses: usize) -> Act
+    ensures { result ≡ moved status outcome.now uses }
+{
+    match outcome {
+        Outcome::Done if uses == 0 => Act::Skips(status),
         _ => Act::Wrong,
     }
 }

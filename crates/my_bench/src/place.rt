@@ -89,7 +89,7 @@ impl Place {
     {
         let opts = self.opts.copy(alloc)?;
         match world.dial(0, &self.target) {
-            DialStep::Link(link) => Conn::new(alloc, opts, link),
+            DialStep::Link(link) => Conn::new(alloc, opts, link, 0, 0),
             DialStep::NotYet | DialStep::Failed => Err(Error::Io(IoError::Io(IoFault {
                 kind: IoKind::Dial,
                 place: 0,

@@ -87,6 +87,11 @@ What it does with the bytes that the client sends; with none of these lines left
   wwait L          takes nothing of the next write yet, once
   wfail L          the next write fails, once
 
+What its dial does, before it gives the link:
+
+  dial L wait      the next dial has nothing yet, once
+  dial L fail      the next dial fails, once
+
 For example:
 
   packet 0 2 00000002000000
@@ -110,6 +115,8 @@ C is a connection; at most 1000 lines connect:
   quit C           leaves the server
   poll C           continues a call that is pending
   cancel C         cancels a call that is pending
+  advance MS       in script: moves the clock, which begins at 0, by MS milliseconds
+  random N         in script: adds N after the other random words; where none is left they are 0
 
   conn             1 conn 0 id=7 version=8.0.36
   query 0 SELECT 1 2 ok

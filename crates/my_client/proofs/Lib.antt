@@ -1,5 +1,6 @@
 pub mod Hearing
 pub mod TapeRead
+pub mod Living
 pub mod Rounds
 pub mod Turning
 pub mod Driving

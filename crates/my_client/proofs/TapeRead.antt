@@ -166,6 +166,7 @@ faults_open login s t k a e o log some w = by_error e some (subst (λ l. Leads l
     by_error (errors.Io e) some l v = by_place (errors.Io e) l v refl
     by_error (errors.Server e) some l v = by_place (errors.Server e) l v refl
     by_error (errors.Url e) some l v = by_place (errors.Url e) l v refl
+    by_error (errors.Other e) some l v = by_place (errors.Other e) l v refl
     by_error errors.NoMemory some l v = absurd (some refl)
 
 -- the call's link failed

@@ -44,6 +44,7 @@ ErrorBy login k (errors.Driver e) faults ends = ⊥
 ErrorBy login k (errors.Io e) faults ends = IoBy login k (errors.Io e) e faults ends
 ErrorBy login k (errors.Server e) faults ends = (faults ≡ 0) × ComesTo login k (ToldError (errors.Server e))
 ErrorBy login k (errors.Url e) faults ends = ⊥
+ErrorBy login k (errors.Other e) faults ends = ⊥
 ErrorBy login k errors.NoMemory faults ends = ⊥
 
 -- The error has its cause in what the grammar finds in the bytes taken, over a history that is what was kept, of a call that was

@@ -1,5 +1,5 @@
-pub mod Login
 pub mod Kept
+pub mod Lives
 pub mod Room
 pub mod Reads
 pub mod Conn

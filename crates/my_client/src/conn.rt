@@ -6,14 +6,15 @@ ghost use Rattle.my_session.specs.History.{beginning};
 ghost use Rattle.my_session.specs.Machine.{dropped};
 ghost use Rattle.my_session.specs.Stands.{Stands};
 ghost use Rattle.my_session.specs.Steps.{fresh};
+ghost use Rattle.my_session.specs.View.{first_lifetime};
+ghost use Rattle.my_opts_parts.specs.Pool.{deadline_of};
 ghost use Rattle.my_client.specs.Conn.{kept_of};
 ghost use Rattle.my_client.specs.Drives.{CancelStands, EachEnded, closed_by};
 ghost use Rattle.my_client.specs.Kept.{Asked, asking, nothing_kept, first_asked, first_kept};
-ghost use Rattle.my_client.specs.Login.{login_of};
+ghost use Rattle.my_session.specs.Login.{login_of};
 ghost use Rattle.my_client.specs.Rests.{IsAsked};
 ghost use Rattle.my_client.specs.declared.tape.Said.TheVariants as says;
 
-use crate::login::login_for;
 use crate::tape::{Said, Tape};
 use my_frame::NoMemory;
 use my_link::Link;
@@ -33,14 +34,19 @@ pub struct TapedConn<L> {
 }
 
 // A connection over `link` on which no call began.
-fn new_conn<L: Link + Drop>(alloc: Global, opts: &Opts, link: L) -> Result<TapedConn<L>, NoMemory>
-    ensures seen { IfOk result (λ c. c.session.seen ≡ fresh (login_of opts.now)) }
+fn new_conn<L: Link + Drop>(
+    alloc: Global,
+    opts: Opts,
+    link: L,
+    deadline: Option<u128>,
+) -> Result<TapedConn<L>, NoMemory>
+    ensures seen { IfOk result (λ c. c.session.seen ≡ fresh (login_of opts)) }
+    ensures lifetime { IfOk result (λ c. c.session.lifetime ≡ first_lifetime opts (L.socket link) deadline) }
     ensures stands { IfOk result (λ c. Stands c.session.seen beginning) }
     ensures kept { IfOk result (λ c. kept_of c ≡ nothing_kept) }
     ensures link { IfOk result (λ c. c.link ≡ link) }
 {
-    let login = login_for(alloc, opts)?;
-    let session = Session::new(alloc, login)?;
+    let session = Session::new(alloc, opts, link.is_socket(), deadline)?;
     Ok(TapedConn {
         session,
         link,
@@ -48,18 +54,24 @@ fn new_conn<L: Link + Drop>(alloc: Global, opts: &Opts, link: L) -> Result<Taped
     })
 }
 
-/// A connection over `link` whose handshake is begun.
+/// A connection over `link` whose handshake is begun. Where the options say that a connection ends, its deadline is that of one
+/// that is made at `now`, in milliseconds; `random` picks among its moments.
 pub fn begin_conn<L: Link + Drop>(
     alloc: Global,
-    opts: &Opts,
+    opts: Opts,
     link: L,
+    now: u64,
+    random: u64,
 ) -> Result<TapedConn<L>, NoMemory>
-    ensures asked { IfOk result (λ c. IsAsked (login_of opts.now) c.session.seen (kept_of c) first_asked) }
+    ensures asked { IfOk result (λ c. IsAsked (login_of opts) c.session.seen (kept_of c) first_asked) }
+    ensures lifetime { IfOk result (λ c. c.session.lifetime ≡
+        first_lifetime opts (L.socket link) (deadline_of opts.pool_opts now random)) }
     ensures kept { IfOk result (λ c. kept_of c ≡ first_kept) }
     ensures open { IfOk result (λ c. is_open c.session.seen.task ≡ true) }
     ensures link { IfOk result (λ c. c.link ≡ link) }
 {
-    let mut conn = new_conn(alloc, opts, link)?;
+    let deadline = opts.pool_opts().new_deadline(now, random);
+    let mut conn = new_conn(alloc, opts, link, deadline)?;
     ask(&mut conn, Call::Connect, None)?;
     match conn.session.begin(Call::Connect) {
         Ok(()) => Ok(conn),
@@ -91,6 +103,7 @@ pub fn cancel_call<L>(conn: &mut TapedConn<L>)
     requires { is_open conn.old.session.seen.task ≡ true }
     ensures seen { conn.new.session.seen ≡ dropped conn.old.session.seen }
     ensures stands { CancelStands conn.old.session.seen conn.new.session.seen }
+    ensures lifetime { conn.new.session.lifetime ≡ conn.old.session.lifetime }
     ensures link { conn.new.link ≡ conn.old.link }
     ensures kept { EachEnded conn.old conn.new
         (says.Cancelled (closed_by conn.old.session.seen conn.new.session.seen)) }

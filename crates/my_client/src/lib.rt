@@ -3,7 +3,6 @@
 
 mod conn;
 mod driver;
-mod login;
 mod notes;
 mod poll;
 mod tape;
@@ -12,7 +11,10 @@ pub use conn::{
     TapedConn, ask, begin_conn, cancel_call, is_connecting, is_gathering, last_ok, note,
 };
 pub use driver::drive;
-pub use login::login_for;
+pub use my_link::{
+    AfterConnect, AfterStep, Aid, BlockingLink, CheckStep, DialStep, Dialer, GlobalHandler,
+    InfileSource, Link, NoAid, Opening, ReadStep, ReadyLink, WriteStep,
+};
 pub use notes::Notes;
 pub use poll::{After, poll_session};
 pub use tape::{DoneCall, OpenCall, Said, Tape};

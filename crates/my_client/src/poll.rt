@@ -4,6 +4,7 @@ ghost use Rattle.my_session.specs.Tasks.{is_open};
 ghost use Rattle.my_session.specs.Ends.{Fails};
 ghost use Rattle.my_session.specs.Steps.{StepIs, with_end};
 ghost use Rattle.my_session.specs.declared.task.Task.TheVariants.{Nothing};
+ghost use Rattle.my_client.specs.Lives.{Lives, made_in};
 ghost use Rattle.my_client.specs.Poll.{took_by, is_full, met_by, came_to};
 ghost use Rattle.my_client.specs.Rests.{FailLeaves, IsAsked, IsHeld};
 ghost use Rattle.my_client.specs.Turns.{EachPoll, EachTurn, IsAwaiting, StaysOn};
@@ -55,14 +56,16 @@ fn fault(error: Error) -> Result<Error, NoMemory>
 }
 
 // The session was told that the link failed or ended: its next step returns the error.
-fn fail_now(alloc: Global, session: &mut Session) -> Result<Error, NoMemory>
+fn fail_now(alloc: Global, session: &mut Session, now: u64) -> Result<Error, NoMemory>
     requires is_on { is_open session.old.seen.task ≡ true }
     requires fails { Fails session.old.seen }
     ensures task { OnOk result (session.new.seen.task ≡ Nothing) }
     ensures found { IfOk result (λ e. e ≢ Error.NoMemory) }
     ensures rests { IfOk result (λ e. FailLeaves session.old.seen session.new.seen e) }
+    ensures lives { OnOk result (Lives now 0 session.old session.new) }
+    ensures made { made_in session.new ≡ made_in session.old }
 {
-    match session.step(alloc) {
+    match session.step(alloc, now) {
         SessionStep::Fault(error) => fault(error),
         SessionStep::Send | SessionStep::Need | SessionStep::Done(_) => unreachable!(),
     }
@@ -74,6 +77,7 @@ fn send<L: Link, T: Notes>(
     session: &mut Session,
     link: &mut L,
     notes: &mut T,
+    now: u64,
 ) -> Result<Turn, NoMemory>
     requires { StepIs session.old.seen SessionStep.Send }
     ensures turn { IfOk result (λ turn. EachTurn IsHeld T.keeps session.old.seen session.new.seen
@@ -81,6 +85,8 @@ fn send<L: Link, T: Notes>(
     ensures took { IfOk result (λ turn. took_by turn ≡ 0) }
     ensures full { IfOk result (λ turn. is_full turn ≡ false) }
     ensures on { IfOk result (λ turn. StaysOn turn session.new.seen) }
+    ensures lives { IfOk result (λ turn. Lives now (took_by turn) session.old session.new) }
+    ensures made { made_in session.new ≡ made_in session.old }
 {
     match link.write(session.owed()) {
         WriteStep::Took(n) => {
@@ -91,7 +97,7 @@ fn send<L: Link, T: Notes>(
         WriteStep::NotYet => Ok(Turn::Held),
         WriteStep::Failed => {
             session.fail(LinkFault::Link);
-            Ok(Turn::Broke(fail_now(alloc, session)?))
+            Ok(Turn::Broke(fail_now(alloc, session, now)?))
         }
         WriteStep::NoMemory => Err(NoMemory),
     }
@@ -103,6 +109,7 @@ fn receive_into<L: Link, T: Notes>(
     session: &mut Session,
     link: &mut L,
     notes: &mut T,
+    now: u64,
     room: u64,
     buffer: &mut [u8],
 ) -> Result<Turn, NoMemory>
@@ -115,6 +122,8 @@ fn receive_into<L: Link, T: Notes>(
     ensures within { IfOk result (λ turn. took_by turn ≤ room) }
     ensures full { IfOk result (λ turn. is_full turn ≡ false) }
     ensures on { IfOk result (λ turn. StaysOn turn session.new.seen) }
+    ensures lives { IfOk result (λ turn. Lives now (took_by turn) session.old session.new) }
+    ensures made { made_in session.new ≡ made_in session.old }
 {
     let most = room.min(buffer.len() as u64) as usize;
     match link.read(&mut buffer[..most]) {
@@ -126,11 +135,11 @@ fn receive_into<L: Link, T: Notes>(
         ReadStep::NotYet => Ok(Turn::Held),
         ReadStep::End => {
             session.end();
-            Ok(Turn::Ended(fail_now(alloc, session)?))
+            Ok(Turn::Ended(fail_now(alloc, session, now)?))
         }
         ReadStep::Failed => {
             session.fail(LinkFault::Link);
-            Ok(Turn::Broke(fail_now(alloc, session)?))
+            Ok(Turn::Broke(fail_now(alloc, session, now)?))
         }
     }
 }
@@ -141,6 +150,7 @@ fn receive<L: Link, T: Notes>(
     session: &mut Session,
     link: &mut L,
     notes: &mut T,
+    now: u64,
     room: u64,
 ) -> Result<Turn, NoMemory>
     requires step { StepIs session.old.seen SessionStep.Need }
@@ -151,9 +161,11 @@ fn receive<L: Link, T: Notes>(
     ensures within { IfOk result (λ turn. took_by turn ≤ room) }
     ensures full { IfOk result (λ turn. is_full turn ≡ false) }
     ensures on { IfOk result (λ turn. StaysOn turn session.new.seen) }
+    ensures lives { IfOk result (λ turn. Lives now (took_by turn) session.old session.new) }
+    ensures made { made_in session.new ≡ made_in session.old }
 {
     let mut buffer = session.lend_buffer(alloc)?;
-    let turn = receive_into(alloc, session, link, notes, room, &mut buffer);
+    let turn = receive_into(alloc, session, link, notes, now, room, &mut buffer);
     session.keep_buffer(buffer);
     turn
 }
@@ -164,6 +176,7 @@ fn take_turn<L: Link, T: Notes>(
     session: &mut Session,
     link: &mut L,
     notes: &mut T,
+    now: u64,
     room: u64,
 ) -> Result<Turn, NoMemory>
     requires { is_open session.old.seen.task ≡ true }
@@ -172,14 +185,16 @@ fn take_turn<L: Link, T: Notes>(
     ensures within { IfOk result (λ turn. took_by turn ≤ room) }
     ensures full { IfOk result (λ turn. is_full turn ≡ true → room ≡ 0) }
     ensures on { IfOk result (λ turn. StaysOn turn session.new.seen) }
+    ensures lives { IfOk result (λ turn. Lives now (took_by turn) session.old session.new) }
+    ensures made { made_in session.new ≡ made_in session.old }
 {
-    match session.step(alloc) {
-        SessionStep::Send => send(alloc, session, link, notes),
+    match session.step(alloc, now) {
+        SessionStep::Send => send(alloc, session, link, notes, now),
         SessionStep::Need => {
             if room == 0 {
                 return Ok(Turn::Full);
             }
-            receive(alloc, session, link, notes, room)
+            receive(alloc, session, link, notes, now, room)
         }
         SessionStep::Done(answer) => Ok(Turn::Answered(answer)),
         SessionStep::Fault(error) => Ok(Turn::Faulted(fault(error)?)),
@@ -219,21 +234,24 @@ fn after_turn(turn: Turn) -> Option<After>
 
 /// Goes on with the open call until it returns, the link isn't ready, or the poll took all that it may.
 ///
-/// It returns what the poll came to and what it met. A poll that takes more turns than can be counted is out of memory.
+/// It returns what the poll came to and what it met. `now`, in milliseconds, is the moment of the payloads that are read. A poll that takes more turns than can be counted is out of memory.
 pub fn poll_session<L: Link, T: Notes>(
     alloc: Global,
     session: &mut Session,
     link: &mut L,
     notes: &mut T,
+    now: u64,
 ) -> Result<(After, Met), NoMemory>
     requires { is_open session.old.seen.task ≡ true }
     ensures polls { IfOk result (λ p. EachPoll T.keeps session.old.seen session.new.seen
         (L.looks link.old) (L.looks link.new) notes.old notes.new p.1 p.0) }
     ensures within { IfOk result (λ p. p.1.taken ≤ MOST_TAKEN) }
+    ensures lives { IfOk result (λ p. Lives now p.1.taken session.old session.new) }
+    ensures made { made_in session.new ≡ made_in session.old }
 {
     let mut met = Met::nothing();
     'turns: for _ in 0..u64::MAX {
-        let turn = take_turn(alloc, session, link, notes, MOST_TAKEN - met.taken)?;
+        let turn = take_turn(alloc, session, link, notes, now, MOST_TAKEN - met.taken)?;
         met = met_after(&turn, met);
         match after_turn(turn) {
             None => {}

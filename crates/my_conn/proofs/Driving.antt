@@ -1,10 +1,7 @@
 -- How a call that waits goes on from poll to poll.
-use Rattle.std.proofs.Common.{ℕ, ◌≡◌, ◌⊎◌, inl, inr, ◌+◌, ◌≤◌, List, [], ◌++◌, length, true, false, Option, Some, None, is_some, Result, Ok, Err, refl, sym, ap, ◌∙◌, subst, arith}
-use Rattle.std.proofs.lemmas.List.{append_assoc, append-nil, length-append}
-use Rattle.my_frame.specs.declared.limits.TheConstants.{MOST_TAKEN}
+use Rattle.std.proofs.Common.{ℕ, ◌≡◌, ◌⊎◌, inl, inr, ◌+◌, ◌≤◌, [], true, false, Option, Some, None, is_some, Result, Err, refl, sym, ap, ◌∙◌, subst, arith}
 use Rattle.my_grammar.specs.declared.login.Login.{Login}
 use Rattle.my_link.specs.Looks.{Looks}
-use Rattle.my_link.specs.Moves.{IsUsed, NoStop, Stop, ends_at}
 use Rattle.my_link.specs.declared.met.Met.{Met}
 use Rattle.my_reading.specs.Errors.{connection_closed}
 use Rattle.my_reading.specs.declared.answer.Answer.{Answer}
@@ -14,84 +11,31 @@ use Rattle.my_reading.specs.declared.call.CallKind.TheVariants.{Connect, Query, 
 use Rattle.my_reading.specs.declared.error.Error.{Error}
 use Rattle.my_reading.specs.declared.error.DriverError.TheVariants.{TooLong}
 use Rattle.my_reading.specs.declared.error.Error.TheVariants as errors
+use Rattle.my_session.specs.View.{Lifetime, View, first_lifetime}
 use Rattle.my_client.specs.declared.poll.After.{After}
 use Rattle.my_client.specs.declared.poll.After.TheVariants.{Pending, Answered, Failed}
-use Rattle.my_client.specs.Causes.{ErrorBy, IsPolled, PollEnds}
-use Rattle.my_client.specs.Kept.{Asked, Kept, asked_by, asking}
-use Rattle.my_conn.specs.Calls.{AfterFits, CallIs, Does, PendsBy, Refuses, lost_answer, pending_after}
-use Rattle.my_conn.specs.Conn.{ConnSeen, StandsFor}
-use Rattle.my_conn.specs.Drives.{Carries, DriveEnds, DriveIs, DriveRefused, Driven, Goes, ResultFits, lost_result}
-use Rattle.my_conn.specs.declared.drive.TheConstants.{TOO_LONG}
-use Rattle.my_conn.proofs.Standing.{bool_cases, moves_count, not_both}
-use Rattle.my_conn.proofs.Using.{joined, pends_full, unused}
-
--- what a call came to, as a result
-abbrev pub Results : After → Result Answer Error → Type 0
-Results Pending r = ⊥
-Results (Answered answer) r = r ≡ Ok answer
-Results (Failed e) r = r ≡ Err e
-
-same_some : (b a : Asked) → Some b ≡ Some a → b ≡ a
-same_some b a e = cc
-
--- a poll of the call goes on with it
-module _ (login : Login) (call : Call) (k b end : Kept) (n : ℕ) (w x y : Looks) (m : Met) (after : After) (a : Asked) (sent came : List ℕ) (used : IsUsed w x sent came NoStop) (c : Carries k b call sent came) (count : length came ≡ n) (at : b.pending ≡ Some a) (d : IsPolled login a b x m after end y) where
-  same_asked : a ≡ asked_by k call
-  same_asked = same_some a (asked_by k call) (sym at ∙ c.pending)
-
-  carried : Carries k d.following call (sent ++ d.sent) (came ++ d.taken)
-  carried = record {
-    sent_is = d.sent_is ∙ ap (λ bs. bs ++ d.sent) c.sent_is ∙ append_assoc k.sent sent d.sent;
-    taken_is = d.taken_is ∙ ap (λ bs. bs ++ d.taken) c.taken_is ∙ append_assoc k.taken came d.taken;
-    calls = d.calls ∙ c.calls;
-    pending = d.pending ∙ ap Some same_asked;
-  }
-
-  ends_so : PollEnds login (asked_by k call) d.following m d.stop after end
-  ends_so = subst (λ (v : Asked). PollEnds login v d.following m d.stop after end) same_asked d.ends
-
-  pub driven : (r : Result Answer Error) → Results after r → Driven login call w y k r end
-  driven r e = record {
-    sent = sent ++ d.sent;
-    came = came ++ d.taken;
-    stop = d.stop;
-    used = joined w x y sent d.sent came d.taken d.stop used d.used;
-    following = d.following;
-    carries = carried;
-    ends = by_after after e ends_so;
-  }
-    where
-      by_after : (p : After) → Results p r → PollEnds login (asked_by k call) d.following m d.stop p end → DriveEnds login (asked_by k call) d.following d.stop r end
-      by_after Pending e v = absurd e
-      by_after (Answered answer) e v = subst (λ (r : Result Answer Error). DriveEnds login (asked_by k call) d.following d.stop r end) (sym e) v
-      by_after (Failed x) e v = subst (λ (r : Result Answer Error). DriveEnds login (asked_by k call) d.following d.stop r end) (sym e) (
-        v.0,
-        v.1,
-        subst (λ (i : ℕ). ErrorBy login d.following x i (ends_at d.stop)) d.met.faults (subst (λ (i : ℕ). ErrorBy login d.following x m.faults i) d.met.ends v.2),
-        v.3,
-      )
-
-  pub goes_so : after ≡ Pending → x.counts.holds ≡ 0 → y.counts.holds ≡ 0 → Goes call w y k end (n + m.taken)
-  goes_so e none still =
-      let v : PollEnds login (asked_by k call) d.following m d.stop Pending end = subst (λ (p : After). PollEnds login (asked_by k call) d.following m d.stop p end) e ends_so in
-      let full : d.stop ≡ NoStop = pends_full login d.following m x d.used.moved y (moves_count d.used.moves x d.used.moved d.used.leads) none still d.stop v.1 d.used.stops in
-      record {
-        sent = sent ++ d.sent;
-        came = came ++ d.taken;
-        used = subst (λ (st : Stop). IsUsed w y (sent ++ d.sent) (came ++ d.taken) st) full (joined w x y sent d.sent came d.taken d.stop used d.used);
-        carries = subst (λ (f : Kept). Carries k f call (sent ++ d.sent) (came ++ d.taken)) (sym v.0) carried;
-        count = omega (arith, length-append came d.taken, count, d.met.taken);
-      }
-
--- a call that begins carried nothing yet
-pub begun_carries : (k : Kept) (call : Call) → Carries k (asking k call None) call [] []
-begun_carries k call = record { sent_is = sym (append-nil k.sent); taken_is = sym (append-nil k.taken); calls = refl; pending = refl }
+use Rattle.my_client.specs.Kept.{Kept, asking}
+use Rattle.my_client.specs.Lives.{Lives, made_in}
+use Rattle.my_client.proofs.Living.{lives_on}
+use Rattle.my_line.specs.Calls.{AfterFits, Does, Refuses, pending_after}
+use Rattle.my_line.specs.Stands.{StandsFor}
+use Rattle.my_line.specs.Waits.{DriveRefused, Driven, Goes}
+use Rattle.my_line.specs.declared.handshake.TheConstants.{TOO_LONG}
+use Rattle.my_line.proofs.Standing.{bool_cases, not_both}
+use Rattle.my_line.proofs.Using.{unused}
+use Rattle.my_line.proofs.Waiting.{Results, begun_carries, driven, goes_so}
+use Rattle.my_conn.specs.Calls.{CallIs, lost_answer}
+use Rattle.my_conn.specs.Conn.{ConnSeen, session_of}
+use Rattle.my_conn.specs.Drives.{DriveIs, ResultFits, lost_result}
 
 -- so far: the call is to begin, or is open
 abbrev pub DriveSoFar : {L : Type 0} → (L → Looks) → Call → Option Call → ConnSeen L → ConnSeen L → ℕ → Type 0
 DriveSoFar look call (Some c) old cur n = (c ≡ call) × (cur ≡ old) × (n ≡ 0)
-DriveSoFar look call None old cur n = (old.lost ≡ false) × (cur.lost ≡ false) × (is_some cur.tape ≡ is_some old.tape) × (cur.opts ≡ old.opts) × ((login : Login) (k : Kept) → StandsFor login old.seen old.tape old.pending k
+DriveSoFar look call None old cur n = (old.lost ≡ false) × (cur.lost ≡ false) × (is_some cur.tape ≡ is_some old.tape) × (cur.fixed ≡ old.fixed) × Lives old.fixed.now n (session_of old) (session_of cur) × ((login : Login) (k : Kept) → StandsFor login old.seen old.tape old.pending k
     → (f : Kept) × StandsFor login cur.seen cur.tape cur.pending f × Goes call (look old.link) (look cur.link) k f n)
+
+made_lives : (now n : ℕ) (a b : View) → Lives now n a b → made_in b ≡ made_in a
+made_lives now n a b w = ap (λ (l : Lifetime). first_lifetime l.opts l.is_socket l.deadline) w.lifetime
 
 no_pending : (c : CallKind) → Pending ≡ lost_answer c → ⊥
 no_pending Connect e = cc
@@ -108,25 +52,25 @@ pending_fails e w = cc
 
 -- the poll of a call, from what was kept when it began
 record Polled (login : Login) (call : Call) (w x y : Looks) (k end : Kept) (n : ℕ) (after : After) : Type 0 where
-  pub results : (r : Result Answer Error) → Results after r → Driven login call w y k r end ⊎ DriveRefused call w y k r end
+  pub results : (r : Result Answer Error) → Results after r → Driven login call w y k n r end ⊎ DriveRefused call w y k n r end
   pub goes : after ≡ Pending → x.counts.holds ≡ 0 → y.counts.holds ≡ 0 → Goes call w y k end n
 
-refused_so : (call : Call) (x y : Looks) (k end : Kept) (after : After) (given : Option Call) → given ≡ Some call → Refuses given x y k end after → (r : Result Answer Error) → Results after r → DriveRefused call x y k r end
-refused_so call x y k end after given g d r e =
+refused_so : (call : Call) (x y : Looks) (k end : Kept) (m : Met) (after : After) (given : Option Call) → given ≡ Some call → Refuses given x y k end m after → (r : Result Answer Error) → Results after r → DriveRefused call x y k m.taken r end
+refused_so call x y k end m after given g d r e =
     let same : d.given ≡ call = same_call d.given call (sym d.call_is ∙ g) in
     let so : r ≡ Err connection_closed = subst (λ (p : After). Results p r) d.after_is e in
-    subst (λ (c : Call). DriveRefused c x y k r end) same (record { closed = d.closed; other = d.other; result_is = so; end_is = d.end_is; link_is = d.link_is })
+    subst (λ (c : Call). DriveRefused c x y k m.taken r end) same (record { closed = d.closed; other = d.other; result_is = so; end_is = d.end_is; link_is = d.link_is; none = d.none })
   where
     same_call : (b c : Call) → Some b ≡ Some c → b ≡ c
     same_call b c e = cc
 
 begun_polled : (login : Login) (call : Call) (x y : Looks) (k end : Kept) (m : Met) (after : After) → Does login (Some call) x y k end m after → Polled login call x x y k end m.taken after
 begun_polled login call x y k end m after (inl d) = record {
-  results = λ r e. inl (driven login call k (asking k call None) end 0 x x y m after d.asked [] [] (unused x) (begun_carries k call) refl d.pending d.polled r e);
+  results = λ r e. inl (subst (λ (i : ℕ). Driven login call x y k i r end) (omega arith) (driven login call k (asking k call None) end 0 x x y m after d.asked [] [] (unused x) (begun_carries k call) refl d.pending d.polled r e));
   goes = λ e none still. subst (λ (i : ℕ). Goes call x y k end i) (omega arith) (goes_so login call k (asking k call None) end 0 x x y m after d.asked [] [] (unused x) (begun_carries k call) refl d.pending d.polled e none still);
 }
 begun_polled login call x y k end m after (inr d) = record {
-  results = λ r e. inr (refused_so call x y k end after (Some call) refl d r e);
+  results = λ r e. inr (refused_so call x y k end m after (Some call) refl d r e);
   goes = λ e none still. absurd (pending_fails connection_closed (sym e ∙ d.after_is));
 }
 
@@ -141,24 +85,24 @@ open_polled login call w x y k f end n m after c (inr d) = absurd (no_call d.giv
     no_call c e = cc
 
 module _ {L : Type 0} (look : L → Looks) (kind : CallKind) (call : Call) (old new : ConnSeen L) (m : Met) (after : After) where
-  each_polled : (next : Option Call) (cur : ConnSeen L) (n : ℕ) → DriveSoFar look call next old cur n → CallIs look kind next cur new m after → old.lost ≡ false → new.lost ≡ false → (login : Login) (k : Kept) → StandsFor login old.seen old.tape old.pending k → (end : Kept) × StandsFor login new.seen new.tape new.pending end × Polled login call (look old.link) (look cur.link) (look new.link) k end (n + m.taken) after
+  each_polled : (next : Option Call) (cur : ConnSeen L) (n : ℕ) → DriveSoFar look call next old cur n → CallIs look old.fixed.now kind next cur new m after → old.lost ≡ false → new.lost ≡ false → (login : Login) (k : Kept) → StandsFor login old.seen old.tape old.pending k → (end : Kept) × StandsFor login new.seen new.tape new.pending end × Polled login call (look old.link) (look cur.link) (look new.link) k end (n + m.taken) after
   each_polled (Some c) cur n so is e f login k w =
-      let here : CallIs look kind (Some call) old new m after = subst (λ (o : ConnSeen L). CallIs look kind (Some call) o new m after) so.1 (subst (λ (c : Call). CallIs look kind (Some c) cur new m after) so.0 is) in
+      let here : CallIs look old.fixed.now kind (Some call) old new m after = subst (λ (o : ConnSeen L). CallIs look old.fixed.now kind (Some call) o new m after) so.1 (subst (λ (c : Call). CallIs look old.fixed.now kind (Some c) cur new m after) so.0 is) in
       let u = here.each e f login k w in
       let p : Polled login call (look old.link) (look old.link) (look new.link) k u.0 m.taken after = begun_polled login call (look old.link) (look new.link) k u.0 m after u.2 in
       (u.0, u.1, subst (λ (o : ConnSeen L). Polled login call (look old.link) (look o.link) (look new.link) k u.0 (n + m.taken) after) (sym so.1) (subst (λ (i : ℕ). Polled login call (look old.link) (look old.link) (look new.link) k u.0 i after) (omega (arith, so.2)) p))
   each_polled None cur n so is e f login k w =
-      let v = so.4 login k w in
+      let v = so.5 login k w in
       let u = is.each so.1 f login v.0 v.1 in
       (u.0, u.1, open_polled login call (look old.link) (look cur.link) (look new.link) k v.0 u.0 n m after v.2 u.2)
 
-  keeps_on : (next : Option Call) (cur : ConnSeen L) (n : ℕ) → DriveSoFar look call next old cur n → CallIs look kind next cur new m after → new.lost ≡ false → is_some new.tape ≡ is_some old.tape
+  keeps_on : (next : Option Call) (cur : ConnSeen L) (n : ℕ) → DriveSoFar look call next old cur n → CallIs look old.fixed.now kind next cur new m after → new.lost ≡ false → is_some new.tape ≡ is_some old.tape
   keeps_on (Some c) cur n so is e = is.keeps e ∙ ap (λ (o : ConnSeen L). is_some o.tape) so.1
   keeps_on None cur n so is e = is.keeps e ∙ so.2
 
-  same_opts : (next : Option Call) (cur : ConnSeen L) (n : ℕ) → DriveSoFar look call next old cur n → CallIs look kind next cur new m after → new.opts ≡ old.opts
-  same_opts (Some c) cur n so is = is.opts ∙ ap (λ (o : ConnSeen L). o.opts) so.1
-  same_opts None cur n so is = is.opts ∙ so.3
+  same_fixed : (next : Option Call) (cur : ConnSeen L) (n : ℕ) → DriveSoFar look call next old cur n → CallIs look old.fixed.now kind next cur new m after → new.fixed ≡ old.fixed
+  same_fixed (Some c) cur n so is = is.fixed ∙ ap (λ (o : ConnSeen L). o.fixed) so.1
+  same_fixed None cur n so is = is.fixed ∙ so.3
 
   -- what a lost connection, or one that loses, comes to
   was_sound : (next : Option Call) (cur : ConnSeen L) (n : ℕ) → DriveSoFar look call next old cur n → cur.lost ≡ old.lost
@@ -169,7 +113,17 @@ module _ {L : Type 0} (look : L → Looks) (kind : CallKind) (call : Call) (old 
   was_same (Some c) cur n so e = so.1
   was_same None cur n so e = absurd (not_both old.lost so.0 e)
 
-  pub goes_on : (next : Option Call) (cur : ConnSeen L) (n : ℕ) → DriveSoFar look call next old cur n → CallIs look kind next cur new m after → after ≡ Pending → (look cur.link).counts.holds ≡ 0 → (look new.link).counts.holds ≡ 0 → DriveSoFar look call None old new (n + m.taken)
+  lives_so : (next : Option Call) (cur : ConnSeen L) (n : ℕ) → DriveSoFar look call next old cur n → CallIs look old.fixed.now kind next cur new m after → old.lost ≡ false → new.lost ≡ false → Lives old.fixed.now (n + m.taken) (session_of old) (session_of new)
+  lives_so (Some c) cur n so is e f =
+      let w : Lives old.fixed.now m.taken (session_of cur) (session_of new) = is.lives (was_sound (Some c) cur n so ∙ e) f in
+      subst (λ (i : ℕ). Lives old.fixed.now i (session_of old) (session_of new)) (omega (arith, so.2)) (subst (λ (o : ConnSeen L). Lives old.fixed.now m.taken (session_of o) (session_of new)) so.1 w)
+  lives_so None cur n so is e f = lives_on old.fixed.now n m.taken (session_of old) (session_of cur) (session_of new) so.4 (is.lives so.1 f)
+
+  made_so : (next : Option Call) (cur : ConnSeen L) (n : ℕ) → DriveSoFar look call next old cur n → CallIs look old.fixed.now kind next cur new m after → made_in (session_of new) ≡ made_in (session_of old)
+  made_so (Some c) cur n so is = is.made ∙ ap (λ (o : ConnSeen L). made_in (session_of o)) so.1
+  made_so None cur n so is = is.made ∙ made_lives old.fixed.now n (session_of old) (session_of cur) so.4
+
+  pub goes_on : (next : Option Call) (cur : ConnSeen L) (n : ℕ) → DriveSoFar look call next old cur n → CallIs look old.fixed.now kind next cur new m after → after ≡ Pending → (look cur.link).counts.holds ≡ 0 → (look new.link).counts.holds ≡ 0 → DriveSoFar look call None old new (n + m.taken)
   goes_on next cur n so is e none still =
       let same = was_sound next cur n so in
       let old_sound : old.lost ≡ false = elim (bool_cases old.lost) [
@@ -183,7 +137,8 @@ module _ {L : Type 0} (look : L → Looks) (kind : CallKind) (call : Call) (old 
         old_sound,
         new_sound,
         keeps_on next cur n so is new_sound,
-        same_opts next cur n so is,
+        same_fixed next cur n so is,
+        lives_so next cur n so is old_sound new_sound,
         λ login k w.
             let u = each_polled next cur n so is old_sound new_sound login k w in
             (u.0, u.1, u.2.goes e none still),
@@ -210,18 +165,21 @@ module _ {L : Type 0} (look : L → Looks) (kind : CallKind) (call : Call) (old 
       by_after (Answered answer) e = refl
       by_after (Failed x) e = refl
 
-  pub drive_is : (next : Option Call) (cur : ConnSeen L) (n : ℕ) → DriveSoFar look call next old cur n → CallIs look kind next cur new m after → (r : Result Answer Error) → Results after r → DriveIs look kind call old new r
+  pub drive_is : (next : Option Call) (cur : ConnSeen L) (n : ℕ) → DriveSoFar look call next old cur n → CallIs look old.fixed.now kind next cur new m after → (r : Result Answer Error) → Results after r → DriveIs look kind call old new r
   drive_is next cur n so is r e =
       let same = was_sound next cur n so in
       let none : new.pending ≡ None = is.pending ∙ none_after r e in
       record {
+        count = n + m.taken;
+        lives = lives_so next cur n so is;
+        made = made_so next cur n so is;
         each = λ f g login k w.
             let u = each_polled next cur n so is f g login k w in
             (u.0, subst (λ (o : Option CallKind). StandsFor login new.seen new.tape o u.0) none u.1, u.2.results r e);
         loses = λ f g. inl (subst (λ (p : After). Results p r) (is.loses (same ∙ f) g).0 e);
         lost = λ f. ((is.lost (same ∙ f)).0 ∙ was_same next cur n so f, result_lost r (is.lost (same ∙ f)).1 e);
         keeps = keeps_on next cur n so is;
-        opts = same_opts next cur n so is;
+        fixed = same_fixed next cur n so is;
         pending = none;
         fits = by_after after is.fits e;
       }
@@ -232,30 +190,25 @@ module _ {L : Type 0} (look : L → Looks) (kind : CallKind) (call : Call) (old 
       by_after (Failed x) w e = subst (ResultFits kind) (sym e) tt
 
 -- it took too long
-pub drive_long : {L : Type 0} (look : L → Looks) (kind : CallKind) (call : Call) (old cur new : ConnSeen L) (next : Option Call) (n : ℕ) (r : Result Answer Error) → DriveSoFar look call next old cur n → TOO_LONG ≤ n → new.lost ≡ true → new.pending ≡ None → new.link ≡ cur.link → new.opts ≡ cur.opts → r ≡ Err (errors.Driver TooLong) → DriveIs look kind call old new r
-drive_long look kind call old cur new (Some c) n r so long lost none link opts e = absurd (no_bytes (omega (arith, so.2, long)))
+pub drive_long : {L : Type 0} (look : L → Looks) (kind : CallKind) (call : Call) (old cur new : ConnSeen L) (next : Option Call) (n : ℕ) (r : Result Answer Error) → DriveSoFar look call next old cur n → TOO_LONG ≤ n → new.lost ≡ true → new.pending ≡ None → new.link ≡ cur.link → new.fixed ≡ cur.fixed → new.lifetime ≡ cur.lifetime → r ≡ Err (errors.Driver TooLong) → DriveIs look kind call old new r
+drive_long look kind call old cur new (Some c) n r so long lost none link fixed life e = absurd (no_bytes (omega (arith, so.2, long)))
   where
     no_bytes : 1 ≤ 0 → ⊥
     no_bytes h = omega (arith, h)
-drive_long {L} look kind call old cur new None n r so long lost none link opts e = record {
+drive_long {L} look kind call old cur new None n r so long lost none link fixed life e = record {
+  count = n;
+  lives = λ f g. absurd (not_both new.lost g lost);
+  made = ap (λ (l : Lifetime). first_lifetime l.opts l.is_socket l.deadline) life ∙ made_lives old.fixed.now n (session_of old) (session_of cur) so.4;
   each = λ f g. absurd (not_both new.lost g lost);
   loses = λ f g. inr (
     e,
     λ login k w.
-        let u = so.4 login k w in
+        let u = so.5 login k w in
         (n, u.0, subst (λ (l : L). Goes call (look old.link) (look l) k u.0 n) (sym link) u.2, long),
   );
   lost = λ f. absurd (not_both old.lost so.0 f);
   keeps = λ g. absurd (not_both new.lost g lost);
-  opts = opts ∙ so.3;
+  fixed = fixed ∙ so.3;
   pending = none;
   fits = subst (ResultFits kind) (sym e) tt;
 }
-
--- a poll over a link that never holds stays pending only where it took all that it may
-pub all_taken : (x y : Looks) (m : Met) (after : After) → PendsBy after x y m → after ≡ Pending → x.counts.holds ≡ 0 → y.counts.holds ≡ 0 → m.taken ≡ MOST_TAKEN
-all_taken x y m after w e f g = by_pending (subst (λ (p : After). PendsBy p x y m) e w)
-  where
-    by_pending : PendsBy Pending x y m → m.taken ≡ MOST_TAKEN
-    by_pending (inl rose) = omega (arith, rose.1, f, g)
-    by_pending (inr full) = full

@@ -13,8 +13,4 @@ ChecksBy look (b ∷ bytes) x y step = (step ≡ Dead) × (y ≡ x)
 
 pub record CheckedIs {L : Type 0} (look : L → Looks) (old new : ConnSeen L) (step : CheckStep) : Type 0 where
   pub checks : ChecksBy look old.seen.unread old.link new.link step
-  pub opts : new.opts ≡ old.opts
-  pub seen : new.seen ≡ old.seen
-  pub tape : new.tape ≡ old.tape
-  pub pending : new.pending ≡ old.pending
-  pub lost : new.lost ≡ old.lost
+  pub rest : new ≡ record old { link = new.link }

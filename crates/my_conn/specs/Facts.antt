@@ -1,5 +1,5 @@
 -- What a connection's getters return of the last OK and of the server's version.
-use Rattle.std.specs.Prelude.{ℕ, ◌==◌, List, [], Option, Some, None, if◌then◌else◌}
+use Rattle.std.specs.Prelude.{ℕ, ◌==◌, ◌*◌, List, [], Option, Some, None, if◌then◌else◌}
 use Rattle.my_reply.specs.declared.ok.OkPacket.{OkPacket}
 
 abbrev pub affected_by : Option OkPacket → ℕ
@@ -21,3 +21,8 @@ warnings_by (Some ok) = ok.warnings
 abbrev pub info_by : Option OkPacket → List ℕ
 info_by None = []
 info_by (Some ok) = ok.info
+
+-- how long it may rest: by the options, or by the server's timeout, which is in seconds
+abbrev pub ttl_by : Option ℕ → ℕ → ℕ
+ttl_by None seconds = 1000 * seconds
+ttl_by (Some ttl) seconds = ttl

@@ -4,7 +4,7 @@ pub mod Cancels
 pub mod Checks
 pub mod Connects
 pub mod Connected
-pub mod States
+pub mod Answers
 pub mod Drives
 pub mod Facts
 pub mod News

@@ -1,63 +1,50 @@
 -- What a call that connects and waits comes to.
-use Rattle.std.specs.Prelude.{ℕ, ◌≡◌, ◌≤◌, ◌⊎◌, Option, None, false}
+use Rattle.std.specs.Prelude.{ℕ, ◌≡◌, ◌⊎◌, [], Bool, None, false}
 use Rattle.std.specs.declared.result.Result.{Result}
 use Rattle.std.specs.declared.result.Result.TheVariants.{Ok, Err}
-use Rattle.my_grammar.specs.declared.login.Login.{Login}
 use Rattle.my_link.specs.Looks.{Looks}
-use Rattle.my_reading.specs.declared.answer.Answer.TheVariants.{Ready}
-use Rattle.my_reading.specs.declared.call.Call.TheVariants.{Connect}
-use Rattle.my_reading.specs.declared.error.DriverError.TheVariants.{TooLong}
 use Rattle.my_reading.specs.declared.error.Error.{Error}
 use Rattle.my_reading.specs.declared.error.Error.TheVariants as errors
 use Rattle.my_opts.specs.Opts.{OptsView}
+use Rattle.my_opts_parts.specs.Pool.{deadline_of}
 use Rattle.my_opts_parts.specs.declared.error.UrlError.{UrlError}
-use Rattle.my_session.specs.Seen.{Seen}
-use Rattle.my_client.specs.declared.tape.Tape.{Tape}
-use Rattle.my_client.specs.Kept.{Kept, nothing_kept}
-use Rattle.my_client.specs.Login.{login_of}
-use Rattle.my_conn.specs.Conn.{ConnSeen, StandsFor}
-use Rattle.my_conn.specs.Drives.{Driven, Goes}
-use Rattle.my_conn.specs.declared.drive.TheConstants.{TOO_LONG}
+use Rattle.my_session.specs.Login.{login_of}
+use Rattle.my_session.specs.View.{View, first_lifetime}
+use Rattle.my_line.specs.Waits.{IsShaken, WhyUnmade}
+use Rattle.my_conn.specs.Conn.{ConnSeen, session_of}
+use Rattle.my_conn.specs.declared.conn.Fixed.{Fixed}
 
--- the handshake, and nothing else, was done over the link
-pub record IsShaken (login : Login) (x y : Looks) (s : Seen) (t : Option Tape) : Type 0 where
-  pub end : Kept
-  pub stands : StandsFor login s t None end
-  pub driven : Driven login Connect x y nothing_kept (Ok Ready) end
+-- what a connection is before its first call: no pool handed it out, and whether it is to be reset is as the options say
+abbrev pub first_fixed : OptsView → ℕ → Fixed
+first_fixed opts now = record { now = now; pooled = false; reset = opts.pool_opts.reset_connection }
 
--- at least 2^40 bytes were taken in the handshake without an answer
-pub record IsTooLongFor (x y : Looks) : Type 0 where
-  pub count : ℕ
-  pub following : Kept
-  pub goes : Goes Connect x y nothing_kept following count
-  pub long : TOO_LONG ≤ count
+-- what is handed in for a connection: how its link looks, whether that is a local socket, the moment, and a random number
+pub record Given : Type 0 where
+  pub looks : Looks
+  pub is_socket : Bool
+  pub now : ℕ
+  pub random : ℕ
 
--- the handshake failed, with its cause
-pub record IsUnshaken (login : Login) (x y : Looks) (e : Error) : Type 0 where
-  pub end : Kept
-  pub driven : Driven login Connect x y nothing_kept (Err e) end
+-- a session that was made for it, and received nothing
+pub record IsFirst (opts : OptsView) (g : Given) (v : View) : Type 0 where
+  pub unread : v.seen.unread ≡ []
+  pub lifetime : v.lifetime ≡ first_lifetime opts g.is_socket (deadline_of opts.pool_opts g.now g.random)
 
--- Why no connection was made. Out of memory, nothing is said of the link.
-abbrev pub WhyUnmade : Login → Looks → Looks → Error → Type 0
-WhyUnmade login x y e = (e ≡ errors.NoMemory) ⊎ (((e ≡ errors.Driver TooLong) × IsTooLongFor x y) ⊎ IsUnshaken login x y e)
-
--- what shaking hands comes to
-abbrev pub ShakesTo : Login → Looks → Looks → Seen → Option Tape → Result (Unit {0}) Error → Type 0
-ShakesTo login x y s t (Ok done) = IsShaken login x y s t
-ShakesTo login x y s t (Err e) = WhyUnmade login x y e
-
-pub record IsMade {L : Type 0} (look : L → Looks) (login : Login) (x : Looks) (c : ConnSeen L) : Type 0 where
+pub record IsNew {L : Type 0} (look : L → Looks) (opts : OptsView) (g : Given) (c : ConnSeen L) : Type 0 where
   pub lost : c.lost ≡ false
   pub pending : c.pending ≡ None
   pub tape : c.tape ≡ None
-  pub shaken : IsShaken login x (look c.link) c.seen c.tape
+  pub fixed : c.fixed ≡ first_fixed opts g.now
+  pub first : View
+  pub is_first : IsFirst opts g first
+  pub shaken : IsShaken (login_of opts) g.now g.looks (look c.link) first (session_of c) c.tape
 
-abbrev pub NewIs : {L : Type 0} → (L → Looks) → Login → Looks → Result (ConnSeen L) Error → Type 0
-NewIs look login x (Ok c) = IsMade look login x c
-NewIs look login x (Err e) = (y : Looks) × WhyUnmade login x y e
+abbrev pub NewIs : {L : Type 0} → (L → Looks) → OptsView → Given → Result (ConnSeen L) Error → Type 0
+NewIs look opts g (Ok c) = IsNew look opts g c
+NewIs look opts g (Err e) = (y : Looks) × WhyUnmade (login_of opts) g.looks y e
 
 -- Connecting by a text that reads as these options is connecting with them; a text that gives none is refused with its cause, unless
 -- memory ran out.
-abbrev pub FromUrlIs : {L : Type 0} → (L → Looks) → Result OptsView UrlError → Looks → Result (ConnSeen L) Error → Type 0
-FromUrlIs look (Ok opts) x result = NewIs look (login_of opts) x result
-FromUrlIs look (Err e) x result = (result ≡ Err (errors.Url e)) ⊎ (result ≡ Err errors.NoMemory)
+abbrev pub FromUrlIs : {L : Type 0} → (L → Looks) → Result OptsView UrlError → Given → Result (ConnSeen L) Error → Type 0
+FromUrlIs look (Ok opts) g result = NewIs look opts g result
+FromUrlIs look (Err e) g result = (result ≡ Err (errors.Url e)) ⊎ (result ≡ Err errors.NoMemory)

@@ -2,11 +2,14 @@
 ghost use Rattle.std.specs.Prelude.{◌≡◌, ◌||◌, Some, None, true, false};
 ghost use Rattle.std.specs.Option.{option_copied};
 ghost use Rattle.my_session.specs.Steps.{is_taken};
-ghost use Rattle.my_conn.specs.Calls.{lost_answer, pending_after};
+ghost use Rattle.my_session.specs.Rest.{has_rest};
+ghost use Rattle.my_line.specs.Calls.{pending_after};
+ghost use Rattle.my_conn.specs.Calls.{lost_answer};
+ghost use Rattle.my_conn.specs.News.{first_fixed};
 
-use crate::begin::{cancel_open, poll_once};
 use my_client::{After, Tape};
 use my_frame::NoMemory;
+use my_line::{cancel_open, poll_once};
 use my_link::{CheckStep, Link, Met};
 use my_opts::Opts;
 use my_reading::{Answer, Call, CallKind, DriverError, Error};
@@ -15,18 +18,42 @@ use my_session::Session;
 use std::alloc::Global;
 use std::marker::Model;
 
+/// What no call changes.
+#[derive(Clone, Copy)]
+pub(crate) struct Fixed {
+    /// The moment of calls that wait, in milliseconds.
+    pub(crate) now: u64,
+    /// Whether a pool has handed the connection out.
+    pub(crate) pooled: bool,
+    /// Whether it is to be reset once a pool has it back.
+    pub(crate) reset: bool,
+}
+
+impl Fixed {
+    // Before the first call.
+    pub(crate) fn first(opts: &Opts, now: u64) -> Fixed
+        ensures { result ≡ first_fixed opts.now now }
+    {
+        Fixed {
+            now,
+            pooled: false,
+            reset: opts.pool_opts().reset_connection(),
+        }
+    }
+}
+
 /// A connection to a server: a session on its link.
 ///
 /// Out of memory, it is lost: it is closed then, and keeps no tape.
 #[derive(Drop)]
 pub struct Conn<L> {
-    opts: Opts,
     session: Session,
     link: L,
     tape: Option<Tape>,
     // The kind of the open call.
     pending: Option<CallKind>,
     lost: bool,
+    fixed: Fixed,
 }
 
 impl<L> Model for Conn<L> {
@@ -35,12 +62,13 @@ impl<L> Model for Conn<L> {
     ghost Value = { ConnSeen L };
 
     ghost view = { λ c. record {
-      opts = c.opts;
       seen = c.session.seen;
+      lifetime = c.session.lifetime;
       link = c.link;
       tape = c.tape;
       pending = c.pending;
       lost = c.lost;
+      fixed = c.fixed;
     } };
 
     ghost invariant = { λ c. Standing c.lost c.session.seen c.tape c.pending };
@@ -75,31 +103,62 @@ fn pending_after(kind: CallKind, after: &After) -> Option<CallKind>
 impl<L> Conn<L> {
     ghost use Rattle.my_conn.specs.Conn.{Standing};
 
-    // A connection whose handshake was answered.
-    pub(crate) fn made(opts: Opts, session: Session, link: L, tape: Option<Tape>) -> Conn<L>
+    // A connection whose making is done.
+    pub(crate) fn made(session: Session, link: L, tape: Option<Tape>, fixed: Fixed) -> Conn<L>
         requires { Standing false session.seen tape None }
-        ensures opts { result.opts ≡ opts }
-        ensures seen { result.seen ≡ session.seen }
-        ensures link { result.link ≡ link }
-        ensures tape { result.tape ≡ tape }
-        ensures pending { result.pending ≡ None }
-        ensures lost { result.lost ≡ false }
+        ensures { result ≡ record {
+          seen = session.seen;
+          lifetime = session.lifetime;
+          link = link;
+          tape = tape;
+          pending = None;
+          lost = false;
+          fixed = fixed;
+        } }
     {
         Conn {
-            opts,
             session,
             link,
             tape,
             pending: None,
             lost: false,
+            fixed,
         }
     }
 
     /// The options that it was made with.
     pub fn opts(&self) -> &Opts
-        ensures { result.now ≡ self.now.opts }
+        ensures { result.now ≡ self.now.lifetime.opts }
     {
-        &self.opts
+        self.session.opts()
+    }
+
+    /// The moment at which its life ends, in milliseconds, where it has one.
+    pub fn deadline(&self) -> Option<u128>
+        ensures { result ≡ self.now.lifetime.deadline }
+    {
+        self.session.deadline()
+    }
+
+    /// The moment at which the last whole payload was read, in milliseconds.
+    pub fn last_io(&self) -> u64
+        ensures { result ≡ self.now.lifetime.last_io }
+    {
+        self.session.last_io()
+    }
+
+    // The server's timeout, in seconds.
+    pub(crate) fn timeout(&self) -> u64
+        ensures { result ≡ self.now.seen.facts.settings.wait_timeout }
+    {
+        self.session.wait_timeout()
+    }
+
+    /// Whether the rest of a response is unread: rows, a further set, or the end of a lone OK.
+    pub fn is_dirty(&self) -> bool
+        ensures { result ≡ has_rest self.now.seen }
+    {
+        self.session.has_rest()
     }
 
     /// The kind of the call that is open.
@@ -147,31 +206,71 @@ impl<L> Conn<L> {
     /// Hands out the tape, where one is kept. None is kept from here on.
     pub fn take_tape(&mut self) -> Option<Tape>
         ensures tape { result ≡ self.old.tape }
-        ensures none { self.new.tape ≡ None }
-        ensures opts { self.new.opts ≡ self.old.opts }
-        ensures seen { self.new.seen ≡ self.old.seen }
-        ensures link { self.new.link ≡ self.old.link }
-        ensures pending { self.new.pending ≡ self.old.pending }
-        ensures lost { self.new.lost ≡ self.old.lost }
+        ensures rest { self.new ≡ record self.old { tape = None } }
     {
         self.tape.take()
+    }
+
+    /// The moment of calls that wait, in milliseconds: the last one that it was told.
+    pub fn now(&self) -> u64
+        ensures { result ≡ self.now.fixed.now }
+    {
+        self.fixed.now
+    }
+
+    /// Tells the moment of calls that wait, in milliseconds.
+    pub fn set_now(&mut self, now: u64)
+        ensures { self.new ≡ record self.old { fixed = record self.old.fixed { now = now } } }
+    {
+        self.fixed.now = now;
+    }
+
+    /// Whether a pool has handed it out.
+    pub fn is_pooled(&self) -> bool
+        ensures { result ≡ self.now.fixed.pooled }
+    {
+        self.fixed.pooled
+    }
+
+    /// Tells whether a pool has handed it out.
+    pub fn set_pooled(&mut self, on: bool)
+        ensures { self.new ≡ record self.old { fixed = record self.old.fixed { pooled = on } } }
+    {
+        self.fixed.pooled = on;
+    }
+
+    /// Whether it is to be reset once a pool has it back: what was told last, and before that what the options say.
+    pub fn reset_flag(&self) -> bool
+        ensures { result ≡ self.now.fixed.reset }
+    {
+        self.fixed.reset
+    }
+
+    /// Tells whether it is to be reset once a pool has it back.
+    pub fn reset_connection(&mut self, on: bool)
+        ensures { self.new ≡ record self.old { fixed = record self.old.fixed { reset = on } } }
+    {
+        self.fixed.reset = on;
     }
 }
 
 impl<L: Link> Conn<L> {
-    ghost use Rattle.my_conn.specs.Calls.{CallIs, MayPoll};
+    ghost use Rattle.my_line.specs.Calls.{MayPoll};
+    ghost use Rattle.my_conn.specs.Calls.{CallIs};
     ghost use Rattle.my_conn.specs.Cancels.{CancelIs};
     ghost use Rattle.my_conn.specs.Checks.{CheckedIs};
 
-    /// Polls a call of this kind once: `call` begins, or where there is none, the open one goes on.
-    pub(crate) fn poll_call(
+    /// Polls a call of this kind once, at the moment `now`, in milliseconds: `call` begins, or where there is none, the open one
+    /// goes on.
+    pub fn poll_call(
         &mut self,
         alloc: Global,
         kind: CallKind,
         call: Option<Call>,
+        now: u64,
     ) -> (After, Met)
         requires { MayPoll kind call self.old.pending }
-        ensures { CallIs L.looks kind call self.old self.new result.1 result.0 }
+        ensures { CallIs L.looks now kind call self.old self.new result.1 result.0 }
     {
         if self.lost {
             return (lost_answer(kind), Met::nothing());
@@ -182,6 +281,7 @@ impl<L: Link> Conn<L> {
             &mut self.link,
             &mut self.tape,
             call,
+            now,
         ) {
             Ok((after, met)) => {
                 self.pending = pending_after(kind, &after);
@@ -197,8 +297,8 @@ impl<L: Link> Conn<L> {
         }
     }
 
-    /// Cancels the open call, which is of this kind.
-    pub(crate) fn cancel_call(&mut self, kind: CallKind)
+    /// Cancels the open call, which is of this kind. It takes no memory.
+    pub fn cancel_call(&mut self, kind: CallKind)
         requires { self.old.pending ≡ Some kind }
         ensures { CancelIs self.old self.new }
     {
@@ -231,12 +331,7 @@ impl<L> Conn<L> {
 
     // The open call is given up: the connection is closed, and what it keeps isn't what it did any more.
     pub(crate) fn give_up(&mut self)
-        ensures lost { self.new.lost ≡ true }
-        ensures tape { self.new.tape ≡ None }
-        ensures pending { self.new.pending ≡ None }
-        ensures opts { self.new.opts ≡ self.old.opts }
-        ensures link { self.new.link ≡ self.old.link }
-        ensures seen { self.new.seen ≡ self.old.seen }
+        ensures { self.new ≡ record self.old { lost = true; tape = None; pending = None } }
     {
         self.lost = true;
         self.tape = None;

@@ -1,15 +1,20 @@
 //! A connection that is being made.
 ghost use Rattle.std.specs.Prelude.{◌≡◌, None, IfOk, is_some};
+ghost use Rattle.my_opts_parts.specs.Pool.{deadline_of};
+ghost use Rattle.my_session.specs.Login.{login_of};
+ghost use Rattle.my_session.specs.View.{first_lifetime};
 ghost use Rattle.my_client.specs.Kept.{first_asked, first_kept};
-ghost use Rattle.my_client.specs.Login.{login_of};
+ghost use Rattle.my_line.specs.Makes.{ConnectsFor};
+ghost use Rattle.my_line.specs.declared.texts.Making.TheVariants.{Shakes};
 ghost use Rattle.my_conn.specs.Connected.{ConnectIs};
-ghost use Rattle.my_conn.specs.Connects.{ConnectsFor};
+ghost use Rattle.my_conn.specs.Connects.{kept_by};
+ghost use Rattle.my_conn.specs.News.{first_fixed};
 
-use crate::begin::poll_open;
-use crate::conn::Conn;
-use my_client::{After, Tape, TapedConn, begin_conn};
+use crate::conn::{Conn, Fixed};
+use my_client::{Tape, TapedConn, begin_conn};
 use my_frame::NoMemory;
-use my_link::Link;
+use my_line::{Making, make};
+use my_link::{Aid, Link};
 use my_opts::Opts;
 use my_reading::Error;
 use my_session::Session;
@@ -19,20 +24,30 @@ use std::marker::Model;
 /// A connection that is being made. It owns its link.
 #[derive(Drop)]
 pub struct Connecting<L> {
-    opts: Opts,
     session: Session,
     link: L,
     tape: Option<Tape>,
+    // Which call is open.
+    at: Making,
+    fixed: Fixed,
 }
 
 impl<L> Model for Connecting<L> {
-    ghost use Rattle.my_conn.specs.Connects.{ConnectSeen, Connects};
+    ghost use Rattle.my_line.specs.Makes.{IsMaking};
+    ghost use Rattle.my_conn.specs.Connects.{ConnectSeen};
 
     ghost Value = { ConnectSeen L };
 
-    ghost view = { λ c. record { opts = c.opts; seen = c.session.seen; link = c.link; tape = c.tape } };
+    ghost view = { λ c. record {
+      seen = c.session.seen;
+      lifetime = c.session.lifetime;
+      link = c.link;
+      tape = c.tape;
+      at = c.at;
+      fixed = c.fixed;
+    } };
 
-    ghost invariant = { λ c. Connects c.session.seen c.tape };
+    ghost invariant = { λ c. IsMaking c.at c.session.seen c.tape };
 }
 
 /// What a poll of a connection that is being made comes to.
@@ -44,14 +59,22 @@ pub enum Connected<L> {
     Failed(Error),
 }
 
+// A tape that is kept, or let go.
+fn kept(tape: Tape, keep: bool) -> Option<Tape>
+    ensures { result ≡ kept_by keep tape }
+{
+    if keep {
+        return Some(tape);
+    }
+    drop(tape);
+    None
+}
+
 impl<L> Connecting<L> {
     /// Hands out the tape, where one is kept. None is kept from here on.
     pub fn take_tape(&mut self) -> Option<Tape>
         ensures tape { result ≡ self.old.tape }
-        ensures none { self.new.tape ≡ None }
-        ensures opts { self.new.opts ≡ self.old.opts }
-        ensures seen { self.new.seen ≡ self.old.seen }
-        ensures link { self.new.link ≡ self.old.link }
+        ensures rest { self.new ≡ record self.old { tape = None } }
     {
         self.tape.take()
     }
@@ -59,53 +82,71 @@ impl<L> Connecting<L> {
 
 impl<L: Link + Drop> Connecting<L> {
     /// The handshake begins. Where `keep_tape` is set, the connection keeps all bytes and calls.
+    ///
+    /// `now` is the moment, in milliseconds. Where the options say that a connection ends, `random` picks among the moments of
+    /// its end.
     pub fn new(
         alloc: Global,
         opts: Opts,
         link: L,
+        now: u64,
+        random: u64,
         keep_tape: bool,
     ) -> Result<Connecting<L>, NoMemory>
         ensures begins { IfOk result (λ c. ConnectsFor (login_of opts) c.seen c.tape first_kept first_asked) }
+        ensures lifetime { IfOk result (λ c. c.lifetime ≡
+            first_lifetime opts (L.socket link) (deadline_of opts.pool_opts now random)) }
         ensures tape { IfOk result (λ c. is_some c.tape ≡ keep_tape) }
         ensures link { IfOk result (λ c. c.link ≡ link) }
-        ensures opts { IfOk result (λ c. c.opts ≡ opts) }
+        ensures at { IfOk result (λ c. c.at ≡ Shakes) }
+        ensures fixed { IfOk result (λ c. c.fixed ≡ first_fixed opts now) }
     {
+        let fixed = Fixed::first(&opts, now);
+        let begun = begin_conn(alloc, opts, link, now, random)?;
         let TapedConn {
             session,
             link,
             tape,
-        } = begin_conn(alloc, &opts, link)?;
-        let tape = if keep_tape { Some(tape) } else { None };
+        } = begun;
         Ok(Connecting {
-            opts,
             session,
             link,
-            tape,
+            tape: kept(tape, keep_tape),
+            at: Making::Shakes,
+            fixed,
         })
     }
 
-    /// Goes on with the handshake. Where it isn't made yet, the connection that is being made is returned.
-    pub fn poll(self, alloc: Global) -> Connected<L>
-        ensures { ConnectIs L.looks self result }
+    /// Goes on with the making of the connection: the handshake, and then each text that the aid tells, with its result read
+    /// whole before the next. Where it isn't made yet, the connection that is being made is returned.
+    ///
+    /// `now` is the moment, in milliseconds. The aid is asked what follows, and for nothing else.
+    pub fn poll<A: Aid>(self, alloc: Global, aid: &mut A, now: u64) -> Connected<L>
+        ensures connects { ConnectIs L.looks (A.texts aid.old) now self result }
+        ensures texts { A.texts aid.new ≡ A.texts aid.old }
     {
         let Connecting {
-            opts,
             mut session,
             mut link,
             mut tape,
+            at,
+            fixed,
         } = self;
-        match poll_open(alloc, &mut session, &mut link, &mut tape) {
-            Err(NoMemory) => Connected::Failed(Error::NoMemory),
-            Ok((after, _met)) => match after {
-                After::Pending => Connected::Pending(Connecting {
-                    opts,
-                    session,
-                    link,
-                    tape,
-                }),
-                After::Answered(_) => Connected::Made(Conn::made(opts, session, link, tape)),
-                After::Failed(error) => Connected::Failed(error),
-            },
+        match make(alloc, &mut session, &mut link, &mut tape, at, aid, now) {
+            Ok(Some(at)) => Connected::Pending(Connecting {
+                session,
+                link,
+                tape,
+                at,
+                fixed,
+            }),
+            Ok(None) => Connected::Made(Conn::made(session, link, tape, fixed)),
+            Err(error) => {
+                drop(session);
+                drop(link);
+                drop(tape);
+                Connected::Failed(error)
+            }
         }
     }
 }

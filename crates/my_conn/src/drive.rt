@@ -3,25 +3,38 @@ ghost use Rattle.std.specs.Prelude.{◌≡◌, None, false};
 ghost use Rattle.my_reading.specs.Calls.{is_connect, kind_of};
 ghost use Rattle.my_reading.specs.declared.call.Call.TheVariants as calls;
 ghost use Rattle.my_reading.specs.declared.call.CallKind.TheVariants as kinds;
-ghost use Rattle.my_conn.specs.Drives.{DoneIs, DriveIs, NextIs, WaitIs};
+ghost use Rattle.my_conn.specs.Answers.{next_of};
+ghost use Rattle.my_conn.specs.Drives.{DoneIs, DriveIs, NextIs};
 
-use crate::calls::{DropResult, NextAnswer, NextRow, Ping, Query, Quit};
 use crate::conn::Conn;
-use crate::states::Returns;
 use my_client::After;
 use my_frame::Blob;
+use my_line::{TOO_LONG, never_holds};
 use my_link::BlockingLink;
 use my_reading::{Answer, Call, CallKind, DriverError, Error};
+use my_value::Row;
 use std::alloc::Global;
 
-/// A call that took this many bytes without an answer is given up.
-pub const TOO_LONG: u64 = 1099511627776;
+/// What a read of the next row returns.
+#[derive(Drop)]
+pub enum NextAnswer {
+    Row(Row),
+    /// The set that is read ended.
+    SetEnd,
+    /// Nothing is left to be read.
+    NoSet,
+}
 
-/// The link was always ready.
-pub(crate) fn never_holds<L: BlockingLink>(link: &L)
-    ensures { (L.looks link.now).counts.holds ≡ 0 }
+/// What a read was answered. It is never answered that it is done.
+pub fn next_answer(given: Answer) -> NextAnswer
+    ensures { result ≡ next_of given }
 {
-    let _ = link;
+    match given {
+        Answer::Row(row) => NextAnswer::Row(row),
+        Answer::SetEnd => NextAnswer::SetEnd,
+        Answer::NoSet => NextAnswer::NoSet,
+        Answer::Ready => NextAnswer::NoSet,
+    }
 }
 
 impl<L: BlockingLink> Conn<L> {
@@ -37,6 +50,7 @@ impl<L: BlockingLink> Conn<L> {
         requires other { is_connect kind ≡ false }
         ensures { DriveIs L.looks kind call self.old self.new result }
     {
+        let now = self.now();
         let mut next = Some(call);
         let mut spent = 0u64;
         'polls: loop {
@@ -45,7 +59,7 @@ impl<L: BlockingLink> Conn<L> {
                 return Err(Error::Driver(DriverError::TooLong));
             }
             never_holds(self.link());
-            let (after, met) = self.poll_call(alloc, kind, next.take());
+            let (after, met) = self.poll_call(alloc, kind, next.take(), now);
             never_holds(self.link());
             spent += met.taken;
             match after {
@@ -55,18 +69,16 @@ impl<L: BlockingLink> Conn<L> {
             }
         }
     }
-}
 
-impl<L: BlockingLink> Conn<L> {
-    // Makes a call of this kind, and waits for what it is to the caller.
-    fn wait<C: Returns>(&mut self, alloc: Global, call: Call) -> Result<C::Answer, Error>
+    // Makes a call of this kind, and waits until it is done.
+    fn wait(&mut self, alloc: Global, kind: CallKind, call: Call) -> Result<(), Error>
         requires idle { self.old.pending ≡ None }
-        requires kind { kind_of call ≡ C.KIND }
-        requires other { is_connect C.KIND ≡ false }
-        ensures { WaitIs L.looks C.answer C.KIND call self.old self.new result }
+        requires kind { kind_of call ≡ kind }
+        requires other { is_connect kind ≡ false }
+        ensures { DoneIs L.looks kind call self.old self.new result }
     {
-        match self.drive(alloc, C::KIND, call) {
-            Ok(answer) => return Ok(C::answer(answer)),
+        match self.drive(alloc, kind, call) {
+            Ok(_) => return Ok(()),
             Err(error) => return Err(error),
         }
     }
@@ -76,7 +88,7 @@ impl<L: BlockingLink> Conn<L> {
         requires { self.old.pending ≡ None }
         ensures { DoneIs L.looks kinds.Query (calls.Query text) self.old self.new result }
     {
-        self.wait::<Query>(alloc, Call::Query(text))
+        self.wait(alloc, CallKind::Query, Call::Query(text))
     }
 
     /// Waits for the next row.
@@ -84,7 +96,10 @@ impl<L: BlockingLink> Conn<L> {
         requires { self.old.pending ≡ None }
         ensures { NextIs L.looks self.old self.new result }
     {
-        self.wait::<NextRow>(alloc, Call::NextRow)
+        match self.drive(alloc, CallKind::NextRow, Call::NextRow) {
+            Ok(answer) => return Ok(next_answer(answer)),
+            Err(error) => return Err(error),
+        }
     }
 
     /// Passes over all that is left of a result.
@@ -92,7 +107,7 @@ impl<L: BlockingLink> Conn<L> {
         requires { self.old.pending ≡ None }
         ensures { DoneIs L.looks kinds.DropResult calls.DropResult self.old self.new result }
     {
-        self.wait::<DropResult>(alloc, Call::DropResult)
+        self.wait(alloc, CallKind::DropResult, Call::DropResult)
     }
 
     /// Asks whether the server is there.
@@ -100,7 +115,7 @@ impl<L: BlockingLink> Conn<L> {
         requires { self.old.pending ≡ None }
         ensures { DoneIs L.looks kinds.Ping calls.Ping self.old self.new result }
     {
-        self.wait::<Ping>(alloc, Call::Ping)
+        self.wait(alloc, CallKind::Ping, Call::Ping)
     }
 
     /// Ends the connection.
@@ -108,6 +123,6 @@ impl<L: BlockingLink> Conn<L> {
         requires { self.old.pending ≡ None }
         ensures { DoneIs L.looks kinds.Quit calls.Quit self.old self.new result }
     {
-        self.wait::<Quit>(alloc, Call::Quit)
+        self.wait(alloc, CallKind::Quit, Call::Quit)
     }
 }

@@ -1,10 +1,11 @@
-//! What a connection knows of its server and of the last OK.
+//! What a connection knows of its server and of the last OK, and how long it may rest.
 ghost use Rattle.std.specs.Prelude.{◌≡◌};
 ghost use Rattle.my_handshake.specs.Version.{version_of};
-ghost use Rattle.my_conn.specs.Facts.{affected_by, id_of, info_by, insert_by, warnings_by};
+ghost use Rattle.my_conn.specs.Facts.{affected_by, id_of, info_by, insert_by, ttl_by, warnings_by};
 
 use crate::conn::Conn;
 use my_handshake::server_version;
+use my_opts_parts::Millis;
 
 // An id of 0 is none.
 fn id_of(id: u64) -> Option<u64>
@@ -13,7 +14,24 @@ fn id_of(id: u64) -> Option<u64>
     if id == 0 { None } else { Some(id) }
 }
 
+// How long a connection may rest, in milliseconds, by the options, or by the server's timeout in seconds.
+fn ttl_by(ttl: Option<Millis>, seconds: u64) -> u128
+    ensures { result ≡ ttl_by ttl seconds }
+{
+    match ttl {
+        None => 1000 * u128::from(seconds),
+        Some(ttl) => ttl.as_millis(),
+    }
+}
+
 impl<L> Conn<L> {
+    /// How long it may rest, in milliseconds; 0 is without an end.
+    pub fn ttl(&self) -> u128
+        ensures { result ≡ ttl_by self.now.lifetime.opts.conn_ttl self.now.seen.facts.settings.wait_timeout }
+    {
+        ttl_by(self.opts().conn_ttl(), self.timeout())
+    }
+
     /// The number of rows that the last statement changed, by the last OK; 0 without one.
     pub fn affected_rows(&self) -> u64
         ensures { result ≡ affected_by self.now.seen.facts.ok }

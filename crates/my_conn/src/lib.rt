@@ -1,23 +1,15 @@
-//! A connection for callers: calls that are polled by hand, and calls that wait.
+//! A connection for callers: how it is made, what it knows, and calls that wait.
 #![tactic(auto)]
 
-mod begin;
-mod calls;
 mod conn;
 mod connect;
 mod connecting;
 mod drive;
 mod facts;
-mod states;
 mod stream;
 
-pub use calls::{
-    DropCall, DropResult, NextAnswer, NextCall, NextRow, Ping, PingCall, Query, QueryCall, Quit,
-    QuitCall,
-};
 pub use conn::Conn;
 pub use connecting::{Connected, Connecting};
-pub use drive::TOO_LONG;
-pub use my_packets::Poll;
-pub use states::{CallState, Returns};
-pub use stream::StreamCall;
+pub use drive::{NextAnswer, next_answer};
+pub use my_line::TOO_LONG;
+pub use stream::taken_answer;

@@ -61,7 +61,7 @@ fn closes_by(error: &Error, kind: CallKind) -> bool
 {
     match error {
         Error::Driver(DriverError::ConnectionClosed) => false,
-        Error::Driver(_) | Error::Io(_) | Error::Url(_) | Error::NoMemory => true,
+        Error::Driver(_) | Error::Io(_) | Error::Url(_) | Error::Other(_) | Error::NoMemory => true,
         Error::Server(_) => is_connect(kind),
     }
 }

@@ -9,3 +9,5 @@ pub mod Planned
 pub mod MemLink
 pub mod Spent
 pub mod Met
+pub mod Aid
+pub mod Dials

@@ -1,13 +1,18 @@
-//! Links to servers: what a session reads from and writes to, and a link in memory.
+//! Links to servers: what a session reads from and writes to, and a link in memory; what dials links, and what lends a
+//! connection files and texts.
 #![tactic(auto)]
 
+mod aid;
 mod blocking;
+mod dialer;
 pub mod laws;
 mod link;
 mod memory;
 mod met;
 
+pub use aid::{AfterConnect, AfterStep, Aid, GlobalHandler, InfileSource, NoAid, Opening};
 pub use blocking::{BlockingLink, ReadyLink, read_blocking};
+pub use dialer::{DialItem, DialStep, Dialer};
 pub use link::{CheckStep, Link, ReadItem, ReadStep, WriteItem, WriteStep};
 pub use memory::MemLink;
 pub use memory::planned::{Addition, Planned};

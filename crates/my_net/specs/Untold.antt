@@ -4,4 +4,4 @@ use Rattle.my_world.specs.World.{Plans}
 
 -- of no link a plan is told
 abbrev pub nothing_told : Plans
-nothing_told = record { reads = λ n. None; writes = λ n. None }
+nothing_told = record { reads = λ n. None; writes = λ n. None; dials = λ n. None }

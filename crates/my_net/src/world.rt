@@ -4,9 +4,11 @@ ghost use Rattle.my_net.specs.Untold.{nothing_told};
 
 use crate::link::{RealLink, StreamLink};
 use crate::stream::RealStream;
-use my_frame::NoMemory;
+use my_frame::{NoMemory, SourceStep};
+use my_link::{AfterConnect, AfterStep, Aid, DialStep, Dialer, GlobalHandler, Opening};
 use my_opts_parts::Target;
-use my_world::{DialStep, World, WorldLine};
+use my_world::{World, WorldLine};
+use std::alloc::Global;
 use std::io;
 use std::net::{IpAddr, Net, SocketAddr, TcpStream};
 use std::os::unix::net::UnixStream;
@@ -76,23 +78,17 @@ fn random_word<R: RandomSource>(rt: &R) -> io::Result<u64> {
     Ok(u64::from_le_bytes(bytes))
 }
 
-impl<R: Net<Stream = TcpStream> + Clock + RandomSource> World for TcpWorld<R> {
+impl<R: Net<Stream = TcpStream>> Dialer for TcpWorld<R> {
+    ghost use Rattle.my_link.specs.Dials.{no_chance};
+
     type L = RealLink;
 
     ghost seen = { λ w. record {
       takes = w.plans;
       plans = nothing_told;
       dials = record { faults = w.faults; holds = 0 };
+      chance = no_chance;
     } };
-
-    fn plans(&self) -> bool {
-        self.plans
-    }
-
-    // What a link does isn't planned here.
-    fn prepare(&mut self, _line: &WorldLine) -> Result<(), NoMemory> {
-        Ok(())
-    }
 
     fn dial(&mut self, _number: u64, target: &Target) -> DialStep<RealLink> {
         match open(&self.rt, target) {
@@ -102,6 +98,45 @@ impl<R: Net<Stream = TcpStream> + Clock + RandomSource> World for TcpWorld<R> {
                 DialStep::Failed
             }
         }
+    }
+}
+
+// No file is lent.
+impl<R> GlobalHandler for TcpWorld<R> {
+    ghost use Rattle.std.specs.Prelude.{[], Some};
+
+    ghost file = { λ w. record { left = Some []; faults = 0 } };
+
+    fn open_file(&mut self, _name: &[u8]) -> Opening {
+        Opening::Absent
+    }
+
+    fn read(&mut self, _buf: &mut [u8]) -> SourceStep {
+        SourceStep::End
+    }
+}
+
+// No text follows a login.
+impl<R> AfterConnect for TcpWorld<R> {
+    ghost use Rattle.my_link.specs.Aid.{no_texts};
+
+    ghost texts = { λ w. no_texts };
+
+    fn next(&mut self, _alloc: Global, _n: u64) -> Result<AfterStep, NoMemory> {
+        Ok(AfterStep::Done)
+    }
+}
+
+impl<R> Aid for TcpWorld<R> {}
+
+impl<R: Net<Stream = TcpStream> + Clock + RandomSource> World for TcpWorld<R> {
+    fn plans(&self) -> bool {
+        self.plans
+    }
+
+    // What a link does isn't planned here.
+    fn prepare(&mut self, _line: &WorldLine) -> Result<(), NoMemory> {
+        Ok(())
     }
 
     // The last moment, where the clock can't be read.

@@ -68,3 +68,4 @@ failed {U} x y z s t u (errors.Io (ios.Codec f)) so some (same, never) = absurd 
 failed {U} x y z s t u (errors.Driver e) so some (same, never) = absurd never
 failed {U} x y z s t u (errors.Server e) so some (same, never) = absurd never
 failed {U} x y z s t u (errors.Url e) so some (same, never) = absurd never
+failed {U} x y z s t u (errors.Other e) so some (same, never) = absurd never

@@ -84,6 +84,7 @@ ErrorEnds errors.NoMemory stop c bytes = stop ≡ NoStop
 ErrorEnds (errors.Driver e) stop c bytes = ⊥
 ErrorEnds (errors.Server e) stop c bytes = ⊥
 ErrorEnds (errors.Url e) stop c bytes = ⊥
+ErrorEnds (errors.Other e) stop c bytes = ⊥
 
 -- what a poll came to, where `bytes` were there with those that came: a payload, which is taken from them; nothing yet, where
 -- the link wasn't ready or the poll took all that it may; or an error. But for the payload all bytes stay.

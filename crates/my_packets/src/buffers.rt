@@ -93,7 +93,8 @@ impl BufferPool {
         size_cap: usize,
         init_cap: usize,
     ) -> Result<BufferPool, NoMemory>
-        ensures { IfOk result (λ p. p ≡ record { kept = 0; pool_cap = pool_cap; size_cap = size_cap; init_cap = init_cap }) }
+        ensures { IfOk result (λ p.
+            p ≡ record { kept = 0; pool_cap = pool_cap; size_cap = size_cap; init_cap = init_cap }) }
     {
         Ok(BufferPool {
             alloc,

@@ -4,14 +4,13 @@ use Rattle.std.proofs.lemmas.Bool.Decides.{nat_tests}
 use Rattle.my_grammar.specs.declared.login.Login.{Login}
 use Rattle.my_run_judge.specs.declared.judging.Found.{Found}
 use Rattle.my_run_judge.specs.declared.judging.Found.TheVariants.{Right, Wrong}
-use Rattle.my_run_judge.specs.Transcripts.{IsFoundIn, IsNotBefore, earlier}
-use Rattle.my_run_judge.proofs.Numbers.{earlier_first, earlier_second, not_before_itself}
+use Rattle.my_run_judge.specs.Transcripts.{IsFoundBelow, IsFoundIn, IsNotBefore, dialed_in, earlier}
+use Rattle.my_run_judge.proofs.Numbers.{earlier_first, earlier_second, not_before_itself, right_alone}
 use Rattle.my_script.specs.declared.step.Step.{Step}
 use Rattle.my_script.specs.declared.transcript.StepAnswer.{StepAnswer}
 use Rattle.my_script.specs.declared.transcript.Tape.{Tape}
 use Rattle.my_world.specs.declared.line.WorldLine.{WorldLine}
-use Rattle.my_plan_judge.specs.Lines.{DialsFound}
-use Rattle.my_plan_judge.specs.Runs.{EachKept, EachNotBefore, LinkNotBefore, LinksFound, OneUnkept, PlansFound, RunFound, SomewhereUnkept, TapeFound}
+use Rattle.my_plan_judge.specs.Runs.{DialsAt, EachKept, EachNotBefore, LinkNotBefore, LinksFound, OneUnkept, PlansFound, RunFound, SomewhereUnkept, TapeFound}
 
 -- neither is before what isn't after the earlier one
 before_both : (x one other : Found) → IsNotBefore x (earlier one other) → IsNotBefore x one × IsNotBefore x other
@@ -92,35 +91,34 @@ module _ (lines : List WorldLine) (answers : List StepAnswer) where
 
 -- the dials and the links
 pub plans_found : (lines : List WorldLine) (steps : List Step) (answers : List StepAnswer) (tapes : List Tape) (dials links new : Found) → new ≡ earlier dials links
-    → DialsFound 0 steps answers dials → LinksFound lines answers tapes links → PlansFound lines steps answers tapes new
+    → IsFoundBelow (DialsAt lines steps answers) (dialed_in steps) dials → LinksFound lines answers tapes links → PlansFound lines steps answers tapes new
 plans_found lines steps answers tapes dials links new e d l = subst (PlansFound lines steps answers tapes) (sym e) (by_found dials links d l)
   where
-    by_found : (dials links : Found) → DialsFound 0 steps answers dials → LinksFound lines answers tapes links → PlansFound lines steps answers tapes (earlier dials links)
-    by_found Right Right d l = record { dials = d; links = each_kept lines answers tapes l.least }
+    by_found : (dials links : Found) → IsFoundBelow (DialsAt lines steps answers) (dialed_in steps) dials → LinksFound lines answers tapes links → PlansFound lines steps answers tapes (earlier dials links)
+    by_found Right Right d l = record { dials = λ n low. right_alone (DialsAt lines steps answers) n (d.least n low); links = each_kept lines answers tapes l.least }
     by_found Right (Wrong line) d l = record {
       wrong = inr l.somewhere;
-      dials = record { found = Right; is = d; not_before = tt };
+      dials = λ n low. record { found = Right; is = right_alone (DialsAt lines steps answers) n (d.least n low); not_before = tt };
       links = l.least;
     }
     by_found (Wrong line) Right d l = record {
-      wrong = inl d;
-      dials = record { found = Wrong line; is = d; not_before = not_before_itself (Wrong line) };
+      wrong = inl d.somewhere;
+      dials = d.least;
       links = each_before lines answers Right (Wrong line) tapes tt l.least;
     }
     by_found (Wrong line) (Wrong second) d l = by_test (nat_lt second line) refl
       where
-        first : IsNotBefore (earlier (Wrong line) (Wrong second)) (Wrong line)
-        first = earlier_first (Wrong line) (Wrong second) (Wrong line) (not_before_itself (Wrong line))
-
         by_test : (b : Bool) → nat_lt second line ≡ b → PlansFound lines steps answers tapes (if b then Wrong second else Wrong line)
         by_test true f = record {
           wrong = inr l.somewhere;
-          dials = record { found = Wrong line; is = d; not_before = subst (λ (b : Bool). IsNotBefore (if b then Wrong second else Wrong line) (Wrong line)) f first };
+          dials = λ n low.
+              let here = d.least n low in
+              record { found = here.found; is = here.is; not_before = subst (λ (b : Bool). IsNotBefore (if b then Wrong second else Wrong line) here.found) f (earlier_first (Wrong line) (Wrong second) here.found here.not_before) };
           links = l.least;
         }
         by_test false f = record {
-          wrong = inl d;
-          dials = record { found = Wrong line; is = d; not_before = not_before_itself (Wrong line) };
+          wrong = inl d.somewhere;
+          dials = d.least;
           links = each_before lines answers (Wrong second) (Wrong line) tapes (subst (λ (b : Bool). IsNotBefore (if b then Wrong second else Wrong line) (Wrong second)) f (earlier_second (Wrong line) (Wrong second))) l.least;
         }
 

@@ -1,4 +1,5 @@
 pub mod Planning
 pub mod Keeping
 pub mod Following
+pub mod Dialing
 pub mod Finding

@@ -1,4 +1,5 @@
 pub mod Planned
 pub mod Left
 pub mod Lines
+pub mod Dials
 pub mod Runs

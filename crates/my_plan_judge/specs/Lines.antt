@@ -1,12 +1,8 @@
--- When the lines of a transcript keep to a plan.
+-- When the lines of a transcript keep to the plan of a link.
 use Rattle.std.specs.Prelude.{ℕ, ◌≡◌, ◌⊎◌, ◌+◌, List, [], ◌∷◌}
-use Rattle.my_link.specs.Met.{nothing_met}
 use Rattle.my_run_judge.specs.declared.judging.Found.{Found}
 use Rattle.my_run_judge.specs.declared.judging.Found.TheVariants.{Right, Wrong}
-use Rattle.my_script.specs.declared.step.Step.{Step}
-use Rattle.my_script.specs.declared.step.Step.TheVariants.{Conn}
 use Rattle.my_script.specs.declared.transcript.StepAnswer.{StepAnswer}
-use Rattle.my_script.specs.declared.transcript.Use.{Use}
 use Rattle.my_plan_judge.specs.declared.left.Left.{Left}
 use Rattle.my_plan_judge.specs.Left.{AreKept, after_uses}
 
@@ -24,28 +20,3 @@ FirstUnkept n line k left (a ∷ bs) = ((line ≡ k) × (AreKept n left a.uses.i
 abbrev pub LinkFound : ℕ → ℕ → Left → List StepAnswer → Found → Type 0
 LinkFound n k left answers Right = LinesKept n left answers
 LinkFound n k left answers (Wrong line) = FirstUnkept n line k left answers
-
--- The dial's use stands first: where plans are told, a dial gives a link at once.
-abbrev pub FirstMetNothing : List Use → Type 0
-FirstMetNothing [] = ⊥
-FirstMetNothing (u ∷ us) = u.met ≡ nothing_met
-
-abbrev pub DialReady : Step → List Use → Type 0
-DialReady Conn us = FirstMetNothing us
-DialReady step us = Unit {0}
-
--- all dials, of the steps that were answered
-abbrev pub DialsReady : List Step → List StepAnswer → Type 0
-DialsReady [] bs = Unit {0}
-DialsReady (s ∷ ss) [] = Unit {0}
-DialsReady (s ∷ ss) (a ∷ bs) = DialReady s a.uses.items × DialsReady ss bs
-
-abbrev pub FirstUnready : ℕ → ℕ → List Step → List StepAnswer → Type 0
-FirstUnready line k [] bs = ⊥
-FirstUnready line k (s ∷ ss) [] = ⊥
-FirstUnready line k (s ∷ ss) (a ∷ bs) = ((line ≡ k) × (DialReady s a.uses.items → ⊥))
-    ⊎ (DialReady s a.uses.items × FirstUnready line (k + 1) ss bs)
-
-abbrev pub DialsFound : ℕ → List Step → List StepAnswer → Found → Type 0
-DialsFound k steps answers Right = DialsReady steps answers
-DialsFound k steps answers (Wrong line) = FirstUnready line k steps answers

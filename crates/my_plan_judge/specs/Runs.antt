@@ -1,16 +1,23 @@
 -- What is found of a transcript and the lines of its plan.
-use Rattle.std.specs.Prelude.{ℕ, ◌≡◌, ◌⊎◌, List, [], ◌∷◌}
+use Rattle.std.specs.Prelude.{ℕ, ◌≡◌, ◌<◌, ◌⊎◌, List, [], ◌∷◌}
 use Rattle.my_grammar.specs.declared.login.Login.{Login}
 use Rattle.my_run_judge.specs.declared.judging.Found.{Found}
 use Rattle.my_run_judge.specs.declared.judging.Found.TheVariants.{Right, Wrong}
-use Rattle.my_run_judge.specs.Transcripts.{AreRight, IsFoundIn, IsNotBefore, earlier}
+use Rattle.my_run_judge.specs.Transcripts.{AreRight, IsFoundIn, IsLeastAt, IsNotBefore, IsWrongBelow, dialed_in, earlier}
 use Rattle.my_script.specs.declared.step.Step.{Step}
 use Rattle.my_script.specs.declared.transcript.StepAnswer.{StepAnswer}
 use Rattle.my_script.specs.declared.transcript.Tape.{Tape}
 use Rattle.my_world.specs.declared.line.WorldLine.{WorldLine}
 use Rattle.my_plan_judge.specs.Left.{first_left}
-use Rattle.my_plan_judge.specs.Lines.{DialsFound, DialsReady, FirstUnready, LinkFound}
+use Rattle.my_world.specs.Plan.{all_dials_for}
+use Rattle.my_plan_judge.specs.Dials.{DialsFound}
+use Rattle.my_plan_judge.specs.declared.dials.DialSpot.TheVariants.{Ahead}
+use Rattle.my_plan_judge.specs.Lines.{LinkFound}
 use Rattle.my_plan_judge.specs.Planned.{planned}
+
+-- what is found of the dials of number n
+abbrev pub DialsAt : List WorldLine → List Step → List StepAnswer → ℕ → Found → Type 0
+DialsAt lines steps answers n found = DialsFound n 0 (Ahead n) (all_dials_for n lines) steps answers found
 
 -- what is found at the link of a tape
 abbrev pub TapeFound : List WorldLine → List StepAnswer → Tape → Found → Type 0
@@ -21,18 +28,14 @@ abbrev pub EachKept : List WorldLine → List StepAnswer → List Tape → Type 
 EachKept lines answers [] = Unit {0}
 EachKept lines answers (t ∷ ts) = TapeFound lines answers t Right × EachKept lines answers ts
 
--- The lines keep to the plan: each dial gives a link at once, and at each link no more is met than is planned.
+-- The lines keep to the plan: the dials of each number wait, fail and give the link as it says, and at each link no more is
+-- met than is planned.
 pub record ArePlanned (lines : List WorldLine) (steps : List Step) (answers : List StepAnswer) (tapes : List Tape)
     : Type 0 where
-  pub dials : DialsReady steps answers
+  pub dials : (n : ℕ) → n < dialed_in steps → DialsAt lines steps answers n Right
   pub links : EachKept lines answers tapes
 
--- what is found of the dials isn't before this, nor is what is found at each link
-pub record DialsNotBefore (steps : List Step) (answers : List StepAnswer) (least : Found) : Type 0 where
-  pub found : Found
-  pub is : DialsFound 0 steps answers found
-  pub not_before : IsNotBefore least found
-
+-- what is found at the link of a tape isn't before this
 pub record LinkNotBefore (lines : List WorldLine) (answers : List StepAnswer) (least : Found) (t : Tape) : Type 0 where
   pub found : Found
   pub is : TapeFound lines answers t found
@@ -62,8 +65,8 @@ pub record LinksFound (lines : List WorldLine) (answers : List StepAnswer) (tape
 -- The first line that doesn't keep to the plan: a dial's, or one at a link, and none is before it.
 pub record IsFirstUnplanned (lines : List WorldLine) (steps : List Step) (answers : List StepAnswer) (tapes : List Tape)
     (line : ℕ) : Type 0 where
-  pub wrong : FirstUnready line 0 steps answers ⊎ OneUnkept lines answers line tapes
-  pub dials : DialsNotBefore steps answers (Wrong line)
+  pub wrong : IsWrongBelow (DialsAt lines steps answers) line (dialed_in steps) ⊎ OneUnkept lines answers line tapes
+  pub dials : (n : ℕ) → n < dialed_in steps → IsLeastAt (DialsAt lines steps answers) (Wrong line) n
   pub links : EachNotBefore lines answers (Wrong line) tapes
 
 abbrev pub PlansFound : List WorldLine → List Step → List StepAnswer → List Tape → Found → Type 0

@@ -1,6 +1,7 @@
 //! Whether what a transcript's links met is planned: the plain program of what the theorem on runs says of its plans.
 #![tactic(auto)]
 
+mod dials;
 mod left;
 mod lines;
 mod plan;

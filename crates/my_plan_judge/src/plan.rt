@@ -28,8 +28,8 @@ impl Model for LinkPlan {
     ghost view = { λ p. record { bytes = p.bytes.items; faults = p.faults; ends = p.ends } };
 }
 
-// The number of the link that a line is of.
-fn link_number(line: &WorldLine) -> u64
+/// The number of the link that a line is of, and 0 where it is of none.
+pub fn link_number(line: &WorldLine) -> u64
     ensures { result ≡ link_of line.now }
 {
     match line {
@@ -42,7 +42,10 @@ fn link_number(line: &WorldLine) -> u64
         | WorldLine::Drip(link, _, _)
         | WorldLine::Accept(link, _)
         | WorldLine::WriteWait(link)
-        | WorldLine::WriteFail(link) => *link,
+        | WorldLine::WriteFail(link)
+        | WorldLine::DialWait(link)
+        | WorldLine::DialFail(link) => *link,
+        WorldLine::Advance(_) | WorldLine::Random(_) => 0,
     }
 }
 

@@ -1,17 +1,53 @@
 //! Whole runs.
 
 ghost use Rattle.std.specs.Prelude.{◌≡◌, IfOk};
-ghost use Rattle.my_plan_judge.specs.Runs.{LinksFound, PlansFound, RunFound, TapeFound};
+ghost use Rattle.my_run_judge.specs.Transcripts.{IsFoundBelow, dialed_in};
+ghost use Rattle.my_plan_judge.specs.Runs.{DialsAt, LinksFound, PlansFound, RunFound, TapeFound};
 
+use crate::dials::{dial_items, judge_dials};
 use crate::left::Left;
-use crate::lines::{judge_dials, judge_link};
+use crate::lines::judge_link;
 use crate::plan::plan_of;
 use my_frame::NoMemory;
 use my_grammar::Login;
-use my_run_judge::{Found, earlier, judge_transcript};
+use my_run_judge::{Found, dialed_in, earlier, judge_transcript};
 use my_script::{Step, StepAnswer, Tape};
 use my_world::WorldLine;
 use std::alloc::Global;
+
+fn judge_number(
+    alloc: Global,
+    lines: &[WorldLine],
+    steps: &[Step],
+    answers: &[StepAnswer],
+    number: u64,
+) -> Result<Found, NoMemory>
+    ensures { IfOk result (λ found. DialsAt lines.now steps.now answers.now number found) }
+{
+    let items = dial_items(alloc, number, lines)?;
+    Ok(judge_dials(number, items.as_slice(), steps, answers))
+}
+
+// What is found of the dials of all numbers.
+fn judge_numbers(
+    alloc: Global,
+    lines: &[WorldLine],
+    steps: &[Step],
+    answers: &[StepAnswer],
+) -> Result<Found, NoMemory>
+    ensures { let at = DialsAt lines.now steps.now answers.now in
+        IfOk result (λ found. IsFoundBelow at (dialed_in steps.now) found) }
+{
+    let most = dialed_in(steps);
+    let mut least = Found::Right;
+    let mut number = 0;
+    'numbers: while number < most {
+        let found = judge_number(alloc, lines, steps, answers, number)?;
+        least = earlier(least, found);
+        number += 1;
+    }
+    Ok(least)
+}
 
 fn judge_tape(
     alloc: Global,
@@ -44,10 +80,11 @@ fn judge_links(
     Ok(least)
 }
 
-/// Whether the lines of a transcript keep to a plan, or which is the first that doesn't, with its index from 0: each dial
-/// gives a link at once, and at the link of each tape there are no more faults than are planned, no byte but the plan's, and
-/// no end before the plan's. The number of lines stands for the end, where a tape has another byte that no line took. It
-/// takes the time of all lines, of the plan and of the transcript, once for each tape.
+/// Whether the lines of a transcript keep to a plan, or which is the first that doesn't, with its index from 0: the dials of
+/// each number wait, fail and give the link as is planned, and at the link of each tape there are no more faults than are
+/// planned, no byte but the plan's, and no end before the plan's. The number of lines stands for the end, where a tape has
+/// another byte that no line took. It takes the time of all lines, of the plan and of the transcript, once for each `conn`
+/// and once for each tape.
 pub fn judge_plans(
     alloc: Global,
     lines: &[WorldLine],
@@ -57,8 +94,9 @@ pub fn judge_plans(
 ) -> Result<Found, NoMemory>
     ensures exact { IfOk result (λ found. PlansFound lines.now steps.now answers.now tapes.now found) }
 {
+    let dials = judge_numbers(alloc, lines, steps, answers)?;
     let links = judge_links(alloc, lines, answers, tapes)?;
-    Ok(earlier(judge_dials(steps, answers), links))
+    Ok(earlier(dials, links))
 }
 
 /// Whether a transcript of these steps is right (`judge_transcript`) and keeps to the plan of its world (`judge_plans`), or

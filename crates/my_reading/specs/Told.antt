@@ -7,7 +7,7 @@ use Rattle.my_reading.specs.declared.call.CallKind.{CallKind}
 use Rattle.my_reading.specs.declared.error.DriverError.{DriverError}
 use Rattle.my_reading.specs.declared.error.DriverError.TheVariants as drivers
 use Rattle.my_reading.specs.declared.error.Error.{Error}
-use Rattle.my_reading.specs.declared.error.Error.TheVariants.{Driver, Io, Server, Url, NoMemory}
+use Rattle.my_reading.specs.declared.error.Error.TheVariants.{Driver, Io, Server, Url, Other, NoMemory}
 use Rattle.my_reading.specs.Calls.{is_connect, is_quit}
 
 -- What a call returned: an answer, an error, or nothing since it was cancelled, which closed the session or not.
@@ -36,6 +36,7 @@ closes_by (Driver e) c = closes_driver e
 closes_by (Io e) c = true
 closes_by (Server e) c = is_connect c
 closes_by (Url e) c = true
+closes_by (Other e) c = true
 closes_by NoMemory c = true
 
 abbrev pub closes : Told → CallKind → Bool

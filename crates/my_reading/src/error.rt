@@ -90,6 +90,24 @@ impl ServerError {
     }
 }
 
+/// A refusal in a caller's own words.
+#[derive(Debug, Drop, PartialEq, Eq, ThisError)]
+#[error("{}", text.as_str())]
+pub struct OtherError {
+    pub text: Text,
+}
+
+impl OtherError {
+    /// A second value of the same error.
+    pub fn copy(&self, alloc: Global) -> Result<OtherError, NoMemory>
+        ensures { IfOk result (λ copy. copy ≡ self.now) }
+    {
+        Ok(OtherError {
+            text: self.text.copy(alloc)?,
+        })
+    }
+}
+
 /// Why a call has no answer.
 #[derive(Debug, Drop, PartialEq, Eq, ThisError)]
 pub enum Error {
@@ -102,6 +120,9 @@ pub enum Error {
     /// The URL gives no options. No call of a session comes to it.
     #[error(transparent)]
     Url(UrlError),
+    /// The caller refused the connection while it was made. No call of a session comes to it.
+    #[error(transparent)]
+    Other(OtherError),
     #[error("out of memory")]
     NoMemory,
 }
@@ -124,7 +145,8 @@ impl Error {
         ensures { result ≡ is_fatal self.now }
     {
         match self {
-            Error::Driver(_) | Error::Io(_) | Error::Url(_) | Error::NoMemory => true,
+            Error::Driver(_) | Error::Io(_) | Error::Url(_) | Error::Other(_) | Error::NoMemory =>
+                true,
             Error::Server(_) => false,
         }
     }
@@ -138,6 +160,7 @@ impl Error {
             Error::Io(error) => Ok(Error::Io(*error)),
             Error::Server(error) => Ok(Error::Server(error.copy(alloc)?)),
             Error::Url(error) => Ok(Error::Url(error.copy(alloc)?)),
+            Error::Other(error) => Ok(Error::Other(error.copy(alloc)?)),
             Error::NoMemory => Ok(Error::NoMemory),
         }
     }

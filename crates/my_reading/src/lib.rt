@@ -12,7 +12,7 @@ mod settings;
 pub use answer::Answer;
 pub use call::{Call, CallKind};
 pub use columns::SetColumns;
-pub use error::{DriverError, Error, IoError, IoFault, IoKind, ServerError};
+pub use error::{DriverError, Error, IoError, IoFault, IoKind, OtherError, ServerError};
 pub use facts::Facts;
 pub use law::{steps_lead_to_course, steps_stay};
 pub use settings::{Settings, Stage};

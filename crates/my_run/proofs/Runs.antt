@@ -1,7 +1,7 @@
 -- The run, step by step.
 pub mod Fitting
 pub mod Taping
-use Rattle.std.proofs.Common.{◌≤◌, ℕ, ◌≡◌, ◌+◌, ◌<◌, suc, zero, List, [], ◌∷◌, ◌++◌, length, map, take, Option, Bool, refl, sym, ap, ◌∙◌, subst, arith}
+use Rattle.std.proofs.Common.{◌≤◌, ℕ, ◌≡◌, ◌+◌, ◌<◌, ◌&&◌, suc, zero, List, [], ◌∷◌, ◌++◌, length, map, take, get_or, Option, Bool, true, false, refl, sym, ap, ◌∙◌, subst, arith}
 use Rattle.std.proofs.lemmas.List.{length-append, map-append}
 use Rattle.my_grammar.specs.declared.login.Login.{Login}
 use Rattle.my_session.proofs.History.{each_history}
@@ -11,9 +11,12 @@ use Rattle.my_client.specs.declared.conn.TapedConn.{TapedConn}
 use Rattle.my_steps.specs.declared.slot.Slot.{Slot}
 use Rattle.my_steps.specs.declared.slot.Slot.TheVariants.{Gone, Held, There, Ended}
 use Rattle.my_script.specs.declared.step.Step.{Step}
+use Rattle.my_script.specs.declared.step.Step.TheVariants as steps
+use Rattle.my_script.specs.Script.{may_stand}
+use Rattle.std.specs.List.{list_all}
 use Rattle.my_script.specs.declared.transcript.StepAnswer.{StepAnswer}
 use Rattle.my_script.specs.declared.transcript.Tape.{Tape}
-use Rattle.my_steps.specs.Dialing.{DialsTo, dial_met, has_dialed}
+use Rattle.my_steps.specs.Dialing.{Course, course_of, DialsTo, chance_by, dial_met, has_dialed}
 use Rattle.my_steps.specs.Did.{Stepped}
 use Rattle.my_script.specs.declared.stream.Stream.TheVariants.{Without}
 use Rattle.my_script.specs.Streams.{stream_by, target}
@@ -22,13 +25,16 @@ use Rattle.my_run.specs.declared.streams.Streams.{Streams}
 use Rattle.my_run.specs.Streams.{stream_in}
 use Rattle.my_steps.specs.Handle.{Handle, Absent, Dialing, Joined, at_number}
 use Rattle.my_run.specs.Headline.{AnswerView, answer_view, steps_of, IsSaid, IsExplained, EachExplained, Headline, SoFar}
-use Rattle.my_world.specs.World.{Plans, SamePlans, SameFrom, DialCounts}
+use Rattle.my_link.specs.declared.dialer.DialItem.{DialItem}
+use Rattle.my_world.specs.World.{Plans, SamePlans, WorldSeen}
 use Rattle.my_client.specs.Ready.{StandsBy}
-use Rattle.my_steps.specs.Keeps.{IsStood, AreStood}
+use Rattle.my_steps.specs.Keeps.{IsStood, AreStood, AreAwaited}
+use Rattle.my_steps.specs.Ready.{IsJoined, AllJoined}
+use Rattle.my_steps.proofs.Working.Awaiting.{at_sym}
 use Rattle.my_link.specs.Looks.{Looks}
 use Rattle.my_client.specs.Conn.{kept_of}
-use Rattle.my_steps.specs.Slot.{handle_of}
-use Rattle.my_run.specs.Tapes.{tape_view, tapes_in}
+use Rattle.my_steps.specs.Slot.{handle_with, handle_of, handles_from, handles_in}
+use Rattle.my_run.specs.Tapes.{tape_view, tape_at, tapes_in}
 use Rattle.my_client.proofs.TapeRead.{is_read}
 use Rattle.my_run.proofs.Runs.Fitting.{IsFit, AllFit, step_fits}
 
@@ -36,100 +42,139 @@ said : {L : Type 0} (login : Login) (c : TapedConn L) → StandsBy login c → I
 said login c w = record { history = w.rests.heard.history; kept = w.rests.heard.kept; law = subst (λ l. IsLawful l w.rests.heard.history) w.rests.heard.login_is (each_history c.session.seen w.rests.heard.history w.rests.heard.stands).law; read = is_read login c.session.seen (kept_of c) (kept_of c).pending refl w.rests.read w.stepped.stops }
 
 -- what stands at each number is explained
-said_at : {L : Type 0} (look : L → Looks) (login : Login) (plan : Option (List ReadItem)) (s : Slot L) → IsStood login s → IsFit plan (handle_of look s) → IsExplained login plan (handle_of look s)
-said_at look login plan Gone w f = tt
-said_at look login plan Held w f = f
-said_at look login plan (There c) w f = (said login c w, f)
-said_at look login plan (Ended c) w f = (said login c w, f)
+said_at : {L : Type 0} (look : L → Looks) (login : Login) (plan : Option (List ReadItem)) (items left : Option (List DialItem)) (s : Slot L) → IsStood login s → IsFit plan items (handle_with look left s) → IsExplained login plan items (handle_with look left s)
+said_at look login plan items left Gone w f = tt
+said_at look login plan items left Held w f = f
+said_at look login plan items left (There c) w f = (said login c w, f)
+said_at look login plan items left (Ended c) w f = (said login c w, f)
 
-all_said : {L : Type 0} (look : L → Looks) (login : Login) (plan : Option (List ReadItem)) (ss : List (Slot L)) (m : ℕ) → AreStood login ss → IsFit plan (at_number (map (handle_of look) ss) m) → IsExplained login plan (at_number (map (handle_of look) ss) m)
-all_said look login plan [] m w f = tt
-all_said look login plan (s ∷ ss) zero w f = said_at look login plan s w.0 f
-all_said look login plan (s ∷ ss) (suc m) w f = all_said look login plan ss m w.1 f
+all_said : {L : Type 0} (look : L → Looks) (login : Login) (plan : Option (List ReadItem)) (items : Option (List DialItem)) (left : ℕ → Option (List DialItem)) (k : ℕ) (ss : List (Slot L)) (m : ℕ) → AreStood login ss → IsFit plan items (at_number (handles_from look left k ss) m) → IsExplained login plan items (at_number (handles_from look left k ss) m)
+all_said look login plan items left k [] m w f = tt
+all_said look login plan items left k (s ∷ ss) zero w f = said_at look login plan items (left k) s w.0 f
+all_said look login plan items left k (s ∷ ss) (suc m) w f = all_said look login plan items left (suc k) ss m w.1 f
 
-is_fit : (login : Login) (plan : Option (List ReadItem)) (h : Handle) → IsExplained login plan h → IsFit plan h
-is_fit login plan Absent w = tt
-is_fit login plan Dialing w = w
-is_fit login plan (Joined there k x) w = w.1
+is_fit : (login : Login) (plan : Option (List ReadItem)) (items : Option (List DialItem)) (h : Handle) → IsExplained login plan items h → IsFit plan items h
+is_fit login plan items Absent w = tt
+is_fit login plan items (Dialing left) w = w
+is_fit login plan items (Joined there k x) w = w.1
 
 all_fit : (login : Login) (plans : Plans) (lines : List Line) → EachExplained login plans lines → AllFit plans (handles_after lines)
 all_fit login plans [] w m = tt
-all_fit login plans (l ∷ ls) w m = is_fit login (plans.reads m) (at_number l.handles m) (w.0 m)
+all_fit login plans (l ∷ ls) w m = is_fit login (plans.reads m) (plans.dials m) (at_number l.handles m) (w.0 m)
 
 count_steps : (ls : List Line) → length (steps_of ls) ≡ length ls
 count_steps [] = refl
 count_steps (l ∷ ls) = omega (arith, count_steps ls, length-append (steps_of ls) (l.step ∷ []))
 
-pub none_yet : {L : Type 0} (look : L → Looks) (login : Login) (plans : Plans) (before : DialCounts) (done : List Step) (ss : List (Slot L)) (given : List StepAnswer) → done ≡ [] → ss ≡ [] → given ≡ [] → (v : SoFar look login plans before before done ss given) × ((n : ℕ) → stream_of n v.lines ≡ Without)
-none_yet {L} look login plans before done ss given d e f = (
+pub none_yet : {L : Type 0} (look : L → Looks) (login : Login) (plans : Plans) (world : WorldSeen) (done : List Step) (ss : List (Slot L)) (given : List StepAnswer) → SamePlans world.plans plans → done ≡ [] → ss ≡ [] → given ≡ [] → (v : SoFar look login plans (course_of world) world done ss given) × ((n : ℕ) → stream_of n v.lines ≡ Without)
+none_yet {L} look login plans world done ss given same d e f = (
   record {
     lines = [];
     steps_are = sym d;
     answered = ap (map answer_view) f;
-    handles_are = ap (map (handle_of look)) e;
+    handles_are = ap (handles_in look world.plans) e;
     stood = subst (AreStood login) (sym e) tt;
+    awaited = subst (AreAwaited plans world.plans 0) (sym e) (λ m le. at_sym world.plans plans m (same m));
     grown = tt;
     dialed = refl;
+    moved = refl;
     explained = tt;
   },
   λ n. refl,
 )
 
 -- and the streams are those of the lines
-abbrev pub StreamsSoFar : {L : Type 0} → (L → Looks) → Login → Plans → DialCounts → DialCounts → List Step → List (Slot L) → List StepAnswer → Streams → Type 0
+abbrev pub StreamsSoFar : {L : Type 0} → (L → Looks) → Login → Plans → Course → WorldSeen → List Step → List (Slot L) → List StepAnswer → Streams → Type 0
 StreamsSoFar look login told before now done slots answers streams = (plans : Plans) → SamePlans told plans
     → (v : SoFar look login plans before now done slots answers) × ((n : ℕ) → stream_in streams n ≡ stream_of n v.lines)
 
-pub step_on : {L : Type 0} (look : L → Looks) (login : Login) (plans : Plans) (before now later : DialCounts) (done next : List Step) (ss ts : List (Slot L)) (given bs : List StepAnswer) (step : Step) (a : StepAnswer) (there : Bool) → (u : SoFar look login plans before now done ss given) → there ≡ is_streamed (target step) u.lines → Stepped login ss ts (StepGrows login plans there (map (handle_of look) ss) step a.outcome a.uses.items (map (handle_of look) ts)) → DialsTo now later (dial_met (has_dialed step (map (handle_of look) ss)) a.uses.items) → a.number ≡ length done + 1 → bs ≡ given ++ a ∷ [] → next ≡ done ++ step ∷ []
+pub step_on : {L : Type 0} (look : L → Looks) (login : Login) (plans : Plans) (before : Course) (now later : WorldSeen) (done next : List Step) (ss ts : List (Slot L)) (given bs : List StepAnswer) (step : Step) (a : StepAnswer) (there : Bool) → (u : SoFar look login plans before now done ss given) → there ≡ is_streamed (target step) u.lines → Stepped login ss ts (AreAwaited plans later.plans 0 ts × StepGrows login plans there (handles_in look now.plans ss) step a.outcome a.uses.items (handles_in look later.plans ts)) → DialsTo now.dials later.dials (dial_met (has_dialed step (handles_in look now.plans ss)) a.uses.items) → later.chance ≡ chance_by (has_dialed step (handles_in look now.plans ss)) step now.chance → a.number ≡ length done + 1 → bs ≡ given ++ a ∷ [] → next ≡ done ++ step ∷ []
     → (v : SoFar look login plans before later next ts bs) × ((n : ℕ) → stream_of n v.lines ≡ stream_by n (stream_of n u.lines) step a.outcome)
-step_on {L} look login plans before now later done next ss ts given bs step a there u streamed w dials num e f =
-    let lines : List Line = record { step = step; number = a.number; outcome = a.outcome; uses = a.uses.items; handles = map (handle_of look) ts } ∷ u.lines in
+step_on {L} look login plans before now later done next ss ts given bs step a there u streamed w dials moves num e f =
+    let made : List Handle = handles_in look later.plans ts in
+    let lines : List Line = record { step = step; number = a.number; outcome = a.outcome; uses = a.uses.items; handles = made } ∷ u.lines in
     let found : Bool = is_streamed (target step) u.lines in
-    let grows : StepGrows login plans found (handles_after u.lines) step a.outcome a.uses.items (map (handle_of look) ts) =
-    subst (λ (b : Bool). StepGrows login plans b (handles_after u.lines) step a.outcome a.uses.items (map (handle_of look) ts)) streamed
-    (subst (λ (hs : List Handle). StepGrows login plans there hs step a.outcome a.uses.items (map (handle_of look) ts)) u.handles_are w.grows) in
-    let fits : AllFit plans (map (handle_of look) ts) = step_fits login plans found (handles_after u.lines) step a.outcome a.uses.items (map (handle_of look) ts) (all_fit login plans u.lines u.explained) grows in (
+    let grows : StepGrows login plans found (handles_after u.lines) step a.outcome a.uses.items made =
+    subst (λ (b : Bool). StepGrows login plans b (handles_after u.lines) step a.outcome a.uses.items made) streamed
+    (subst (λ (hs : List Handle). StepGrows login plans there hs step a.outcome a.uses.items made) u.handles_are w.grows.1) in
+    let fits : AllFit plans made = step_fits login plans found (handles_after u.lines) step a.outcome a.uses.items made (all_fit login plans u.lines u.explained) grows in (
       record {
         lines = lines;
         steps_are = ap (λ ss. ss ++ step ∷ []) u.steps_are ∙ sym f;
         answered = ap (map answer_view) e ∙ map-append answer_view given (a ∷ []) ∙ ap (λ (vs : List AnswerView). vs ++ answer_view a ∷ []) u.answered;
         handles_are = refl;
         stood = w.stood;
+        awaited = w.grows.0;
         grown = (record { number = num ∙ ap (λ n. n + 1) (sym (ap length u.steps_are) ∙ count_steps u.lines); answer = grows }, u.grown);
-        dialed = (now, u.dialed, subst (λ (hs : List Handle). DialsTo now later (dial_met (has_dialed step hs) a.uses.items)) u.handles_are dials);
-        explained = (λ m. all_said look login (plans.reads m) ts m w.stood (fits m), u.explained);
+        dialed = (now.dials, u.dialed, subst (λ (hs : List Handle). DialsTo now.dials later.dials (dial_met (has_dialed step hs) a.uses.items)) u.handles_are dials);
+        moved = moves ∙ ap (λ (hs : List Handle). chance_by (has_dialed step hs) step now.chance) u.handles_are ∙ ap (chance_by (has_dialed step (handles_after u.lines)) step) u.moved;
+        explained = (λ m. all_said look login (plans.reads m) (plans.dials m) later.plans.dials 0 ts m w.stood (fits m), u.explained);
       },
       λ n. refl,
     )
 
-pub headline : {L : Type 0} (look : L → Looks) (login : Login) (plans : Plans) (before later : DialCounts) (steps : List Step) (ss : List (Slot L)) (given : List StepAnswer) (tapes : List Tape) → SoFar look login plans before later steps ss given → map tape_view tapes ≡ tapes_in 0 (map (handle_of look) ss) → Headline login plans before later steps given tapes
-headline look login plans before later steps ss given tapes u e = record {
+-- a slot's tape doesn't tell what is left for dials
+tape_same : {L : Type 0} (look : L → Looks) (n : ℕ) (left : Option (List DialItem)) (s : Slot L) → tape_at n (handle_of look s) ≡ tape_at n (handle_with look left s)
+tape_same look n left Gone = refl
+tape_same look n left Held = refl
+tape_same look n left (There c) = refl
+tape_same look n left (Ended c) = refl
+
+tapes_same : {L : Type 0} (look : L → Looks) (left : ℕ → Option (List DialItem)) (k : ℕ) (ss : List (Slot L)) → tapes_in k (map (handle_of look) ss) ≡ tapes_in k (handles_from look left k ss)
+tapes_same look left k [] = refl
+tapes_same look left k (s ∷ ss) = ap (λ ts. ts ++ tapes_in (suc k) (map (handle_of look) ss)) (tape_same look k (left k) s) ∙ ap (λ ts. tape_at k (handle_with look (left k) s) ++ ts) (tapes_same look left (suc k) ss)
+
+pub headline : {L : Type 0} (look : L → Looks) (login : Login) (plans : Plans) (before : Course) (world : WorldSeen) (steps : List Step) (ss : List (Slot L)) (given : List StepAnswer) (tapes : List Tape) → SoFar look login plans before world steps ss given → map tape_view tapes ≡ tapes_in 0 (map (handle_of look) ss) → Headline login plans before (course_of world) steps given tapes
+headline look login plans before world steps ss given tapes u e = record {
   lines = u.lines;
   steps_are = u.steps_are;
   answered = u.answered;
   grown = u.grown;
   dialed = u.dialed;
+  moved = u.moved;
   explained = u.explained;
-  tapes_are = e ∙ ap (tapes_in 0) u.handles_are;
+  tapes_are = e ∙ tapes_same look world.plans.dials 0 ss ∙ ap (tapes_in 0) u.handles_are;
 }
+
+-- where calls may begin
+joined_same : {L : Type 0} (look : L → Looks) (left : Option (List DialItem)) (s : Slot L) → IsJoined (handle_with look left s) → IsJoined (handle_of look s)
+joined_same look left Gone w = tt
+joined_same look left Held w = tt
+joined_same look left (There c) w = w
+joined_same look left (Ended c) w = w
+
+pub all_joined : {L : Type 0} (look : L → Looks) (left : ℕ → Option (List DialItem)) (k : ℕ) (ss : List (Slot L)) → AllJoined (handles_from look left k ss) → AllJoined (map (handle_of look) ss)
+all_joined look left k [] w = tt
+all_joined look left k (s ∷ ss) w = (joined_same look (left k) s w.0, all_joined look left (suc k) ss w.1)
+
+-- each step may stand there
+first_true : (b c : Bool) → b && c ≡ true → b ≡ true
+first_true true c e = refl
+first_true false c e = cc
+
+last_true : (b c : Bool) → b && c ≡ true → c ≡ true
+last_true true c e = e
+last_true false c e = cc
+
+both_true : (b c : Bool) → b ≡ true → c ≡ true → b && c ≡ true
+both_true true c e f = f
+both_true false c e f = cc
+
+pub stands_at : (p : Step → Bool) (steps : List Step) (i : ℕ) (d : Step) → list_all p steps ≡ true → i < length steps → p (get_or steps i d) ≡ true
+stands_at p [] i d e h = absurd (omega (arith, h))
+stands_at p (s ∷ ss) zero d e h = first_true (p s) (list_all p ss) e
+stands_at p (s ∷ ss) (suc i) d e h = stands_at p ss i d (last_true (p s) (list_all p ss) e) (omega (arith, h))
+
+may_more : (plans takes : Bool) (step : Step) → (plans ≡ true → takes ≡ true) → may_stand plans step ≡ true → may_stand takes step ≡ true
+may_more plans takes (steps.Advance by) f e = f e
+may_more plans takes (steps.Random word) f e = f e
+may_more plans takes _ f e = refl
+
+pub stands_more : (plans takes : Bool) (steps : List Step) → (plans ≡ true → takes ≡ true) → list_all (may_stand plans) steps ≡ true → list_all (may_stand takes) steps ≡ true
+stands_more plans takes [] f e = refl
+stands_more plans takes (s ∷ ss) f e = both_true (may_stand takes s) (list_all (may_stand takes) ss) (may_more plans takes s f (first_true (may_stand plans s) (list_all (may_stand plans) ss) e)) (stands_more plans takes ss f (last_true (may_stand plans s) (list_all (may_stand plans) ss) e))
 
 pub count_up : {X : Type 0} (i : ℕ) (xs : List X) → i < length xs → i + 1 ≡ length (take i xs) + 1
 count_up zero xs h = refl
 count_up (suc i) [] h = absurd (omega (arith, h))
 count_up (suc i) (x ∷ xs) h = let r : i + 1 ≡ length (take i xs) + 1 = count_up i xs (omega (arith, h)) in omega (arith, r)
-
--- plans that are the told ones, of which these are the same as now
-pub same_between : (told now plans : Plans) (k : ℕ) → SamePlans told plans → SameFrom k told now → SameFrom k now plans
-same_between told now plans k same others m h = record {
-  reads = (same m).reads ∙ sym (others m h).reads;
-  writes = (same m).writes ∙ sym (others m h).writes;
-}
-
--- from a later number on, over two changes
-pub same_through : (told now next : Plans) (k l : ℕ) → k ≤ l → SameFrom k told now → SameFrom l now next → SameFrom l told next
-same_through told now next k l longer p q m h =
-    let before : k ≤ m = omega (arith, longer, h) in
-    record {
-      reads = (q m h).reads ∙ (p m before).reads;
-      writes = (q m h).writes ∙ (p m before).writes;
-    }

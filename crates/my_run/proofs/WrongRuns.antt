@@ -1,5 +1,5 @@
 -- How wrong runs are refuted.
-use Rattle.std.proofs.Common.{ℕ, ◌≡◌, ◌<◌, ◌⊎◌, inl, inr, zero, suc, List, [], ◌∷◌, ◌++◌, length, map, Option, Some, None, Bool, true, false, refl, sym, ap, ◌∙◌, subst, arith}
+use Rattle.std.proofs.Common.{ℕ, ◌≡◌, ◌<◌, ◌⊎◌, inl, inr, zero, suc, List, [], ◌∷◌, ◌++◌, length, map, Option, Some, None, option_map, unwrap_or, Bool, true, false, refl, sym, ap, ◌∙◌, subst, arith}
 use Rattle.std.proofs.lemmas.List.{append-nil, length-append}
 use Rattle.my_grammar.specs.declared.login.Login.{Login}
 use Rattle.my_frame.specs.Outside.{Rose}
@@ -40,18 +40,21 @@ use Rattle.my_reading.specs.Told.{ToldReady}
 use Rattle.my_client.proofs.TapeRead.Stopping.{stop_closed}
 use Rattle.my_client.specs.Causes.{IsPolled, PollEnds}
 use Rattle.my_client.specs.Kept.{Asked, Kept, made_of, asking, asked_by, first_asked, first_kept}
-use Rattle.my_world.specs.World.{Plans, WorldSeen, DialCounts, no_dials}
+use Rattle.my_link.specs.declared.dialer.DialItem.{DialItem}
+use Rattle.my_link.specs.declared.dialer.DialItem.TheVariants.{Wait, Fail}
+use Rattle.my_world.specs.Plan.{moment_after}
+use Rattle.my_world.specs.World.{Plans, WorldSeen, DialCounts, Chance, FailedBy, no_dials}
 use Rattle.my_run.specs.declared.tool.Status.{Status}
 use Rattle.my_run.specs.declared.tool.Status.TheVariants as ends
-use Rattle.my_steps.specs.Dialing.{DialsTo, dial_met, has_dialed, AreDialed}
+use Rattle.my_steps.specs.Dialing.{Course, DialsTo, chance_by, dial_met, has_dialed, moved_by, AreDialed}
 use Rattle.my_script.specs.Streams.{target}
 use Rattle.my_steps.specs.Grows.{Line, handles_after, is_streamed, AreGrown, StepGrows, DialsNext, HasPlan, Dials, Holds, Fails, Links, ConnectShows, Connects, PolledOnce, Begins, BeginsOn, Calls, At, shown}
 use Rattle.my_steps.specs.Handle.{Handle, Absent, Dialing, Joined, at_number, put_at}
 use Rattle.my_run.specs.Headline.{AnswerView, answer_view, steps_of, answers_of, Headline, IsExplained, EachExplained}
-use Rattle.my_steps.specs.Sums.{use_of, quiet, failed_use}
+use Rattle.my_steps.specs.Sums.{use_of, quiet, held_use, failed_use}
 use Rattle.my_run.specs.Tapes.{TapeView, tape_view, tape_call, open_call, tapes_in, tape_of, tape_at}
 use Rattle.my_run.specs.Tool.{ToolEnds}
-use Rattle.my_run.specs.WrongRuns.{NoPlannedDialFault, NoHeldDialFault, DialFault, NoEarlyEnd, NoHoldAfterTurn, NoHoldInTurn, NoZeroSent, NoOtherTaken, NoFaultAtRest, HasRead, NoBrokenInput}
+use Rattle.my_run.specs.WrongRuns.{NoPlannedDialFault, NoWaitAsFault, NoHeldDialFault, MayFail, DialFault, NoStillMoment, one_hold, one_fault, NoEarlyEnd, NoHoldAfterTurn, NoHoldInTurn, NoZeroSent, NoOtherTaken, NoFaultAtRest, HasRead, NoBrokenInput}
 
 -- what was told
 told_some : {I : Type 0} (x y : Option (List I)) (is : List I) (R : List I → List I → Type 0) → x ≡ Some is → Told x y R → (js : List I) × (y ≡ Some js) × R is js
@@ -161,14 +164,14 @@ one_line (l ∷ []) s e = let same : l.step ∷ [] ≡ s ∷ [] = e in (l, refl,
 one_line (l ∷ (m ∷ ms)) s e = absurd (omega (arith, ap length e, length-append (steps_of ms ++ m.step ∷ []) (l.step ∷ []), length-append (steps_of ms) (m.step ∷ [])))
 
 -- what a run of one `conn` was
-record IsLone (login : Login) (plans : Plans) (before later : DialCounts) (a : StepAnswer) (tapes : List TapeView) : Type 0 where
+record IsLone (login : Login) (plans : Plans) (before later : Course) (a : StepAnswer) (tapes : List TapeView) : Type 0 where
   made : Handle
-  dials : Dials login (plans.reads 0) (plans.writes 0) 0 a.outcome a.uses.items made
-  counts : DialsTo before later (dial_met true a.uses.items)
-  explained : IsExplained login (plans.reads 0) made
+  dials : Dials login (plans.reads 0) (plans.writes 0) (plans.dials 0) 0 a.outcome a.uses.items made
+  counts : DialsTo before.dials later.dials (dial_met true a.uses.items)
+  explained : IsExplained login (plans.reads 0) (plans.dials 0) made
   shown : tapes ≡ tape_at 0 made ++ []
 
-lone : (login : Login) (plans : Plans) (before later : DialCounts) (a : StepAnswer) (tapes : List Tape) → Headline login plans before later (steps.Conn ∷ []) (a ∷ []) tapes → IsLone login plans before later a (map tape_view tapes)
+lone : (login : Login) (plans : Plans) (before later : Course) (a : StepAnswer) (tapes : List Tape) → Headline login plans before later (steps.Conn ∷ []) (a ∷ []) tapes → IsLone login plans before later a (map tape_view tapes)
 lone login plans before later a tapes w =
     let o = one_line w.lines steps.Conn w.steps_are in
     let l : Line = o.0 in
@@ -180,15 +183,15 @@ lone login plans before later a tapes w =
     subst (λ (x : Outcome). DialsNext login plans [] x a.uses.items l.handles) outcome
     (subst (λ (us : List Use). DialsNext login plans [] l.outcome us l.handles) uses
     (subst (λ (s : Step). StepGrows login plans (is_streamed (target s) []) [] s l.outcome l.uses l.handles) o.2 grown.0.answer)) in
-    let dialed = subst (λ (ls : List Line). AreDialed before ls later) o.1 w.dialed in
+    let dialed = subst (λ (ls : List Line). AreDialed before.dials ls later.dials) o.1 w.dialed in
     let explained = subst (EachExplained login plans) o.1 w.explained in
     record {
       made = next.made;
       dials = next.dials;
-      counts = subst (λ (c : DialCounts). DialsTo c later (dial_met true a.uses.items)) dialed.1
-          (subst (λ (us : List Use). DialsTo dialed.0 later (dial_met true us)) uses
-          (subst (λ (s : Step). DialsTo dialed.0 later (dial_met (has_dialed s []) l.uses)) o.2 dialed.2));
-      explained = subst (λ (hs : List Handle). IsExplained login (plans.reads 0) (at_number hs 0)) next.others (explained.0 0);
+      counts = subst (λ (c : DialCounts). DialsTo c later.dials (dial_met true a.uses.items)) dialed.1
+          (subst (λ (us : List Use). DialsTo dialed.0 later.dials (dial_met true us)) uses
+          (subst (λ (s : Step). DialsTo dialed.0 later.dials (dial_met (has_dialed s []) l.uses)) o.2 dialed.2));
+      explained = subst (λ (hs : List Handle). IsExplained login (plans.reads 0) (plans.dials 0) (at_number hs 0)) next.others (explained.0 0);
       shown = w.tapes_are ∙ ap (λ (ls : List Line). tapes_in 0 (handles_after ls)) o.1 ∙ ap (tapes_in 0) next.others;
     }
   where
@@ -201,37 +204,71 @@ lone login plans before later a tapes w =
     uses_in (v ∷ vs) = v.uses
 
 -- a dial that failed
-dial_untold : (login : Login) (plan : Option (List ReadItem)) (rules : Option (List WriteItem)) (o : Outcome) (us : List Use) (t : Handle) → Dials login plan rules 0 o us t → o ≡ Failed (io_error Dial 0) → us ≡ failed_use 0 ∷ [] → plan ≡ None
-dial_untold login plan rules o us t (Holds e f g h) oe ue = let no : Pending ≡ Failed (io_error Dial 0) = sym e ∙ oe in cc
-dial_untold login plan rules o us t (Fails e f g h) oe ue = h
-dial_untold login plan rules o us t (Links used x is new conn) oe ue = let no : quiet 0 ∷ used ∷ [] ≡ failed_use 0 ∷ [] = sym is ∙ ue in cc
+failed_by : (login : Login) (plan : Option (List ReadItem)) (rules : Option (List WriteItem)) (items : Option (List DialItem)) (o : Outcome) (us : List Use) (t : Handle) → Dials login plan rules items 0 o us t → o ≡ Failed (io_error Dial 0) → us ≡ failed_use 0 ∷ [] → (left : Option (List DialItem)) × FailedBy items left
+failed_by login plan rules items o us t (Holds left e f g held) oe ue = let no : Pending ≡ Failed (io_error Dial 0) = sym e ∙ oe in cc
+failed_by login plan rules items o us t (Fails left e f g failed) oe ue = (left, failed)
+failed_by login plan rules items o us t (Links used x left is new given conn) oe ue = let no : quiet 0 ∷ used ∷ [] ≡ failed_use 0 ∷ [] = sym is ∙ ue in cc
+
+fails_first : (items left : Option (List DialItem)) (is : List DialItem) → items ≡ Some is → FailedBy items left → (js : List DialItem) × (is ≡ Fail ∷ js)
+fails_first None left is e failed = let no : None ≡ Some is = e in cc
+fails_first (Some xs) None is e failed = absurd failed
+fails_first (Some xs) (Some js) is e failed = let same : xs ≡ is = cc in (js, sym same ∙ failed)
 
 pub no_planned_dial_fault : NoPlannedDialFault
-no_planned_dial_fault login plans plan before later a told is w =
+no_planned_dial_fault login plans before later a told is w =
     let r = lone login plans before later a [] w in
-    let no : Some plan ≡ None = sym told ∙ dial_untold login (plans.reads 0) (plans.writes 0) a.outcome a.uses.items r.made r.dials is.outcome is.uses in
+    let f = failed_by login (plans.reads 0) (plans.writes 0) (plans.dials 0) a.outcome a.uses.items r.made r.dials is.outcome is.uses in
+    let first = fails_first (plans.dials 0) f.0 [] told f.1 in
+    let no : [] ≡ Fail ∷ first.0 = first.1 in
+    cc
+
+pub no_wait_as_fault : NoWaitAsFault
+no_wait_as_fault login plans before later more a told is w =
+    let r = lone login plans before later a [] w in
+    let f = failed_by login (plans.reads 0) (plans.writes 0) (plans.dials 0) a.outcome a.uses.items r.made r.dials is.outcome is.uses in
+    let first = fails_first (plans.dials 0) f.0 (Wait ∷ more) told f.1 in
+    let no : Wait ∷ more ≡ Fail ∷ first.0 = first.1 in
     cc
 
 pub no_held_dial_fault : NoHeldDialFault
-no_held_dial_fault login plans a is w =
-    let r = lone login plans no_dials (record { faults = 0; holds = 1 }) a [] w in
-    let rose : Rose 0 0 = (subst (λ (us : List Use). DialsTo no_dials (record { faults = 0; holds = 1 }) (dial_met true us)) is.uses r.counts).faults in
+no_held_dial_fault login plans first last a is w =
+    let r = lone login plans (record { dials = no_dials; chance = first }) (record { dials = one_hold; chance = last }) a [] w in
+    let rose : Rose 0 0 = (subst (λ (us : List Use). DialsTo no_dials one_hold (dial_met true us)) is.uses r.counts).faults in
     omega (arith, rose.1)
 
+-- what is left of the items after a planned fault
+fault_left : (items : Option (List DialItem)) → MayFail items → (left : Option (List DialItem)) × FailedBy items left
+fault_left None may = (None, refl)
+fault_left (Some items) may = (Some [], may)
+
 pub dial_fault : DialFault
-dial_fault login plans a untold is = record {
-  lines = record { step = steps.Conn; number = 1; outcome = a.outcome; uses = a.uses.items; handles = Absent ∷ [] } ∷ [];
-  steps_are = refl;
-  answered = ap (λ (n : ℕ). record { number = n; outcome = a.outcome; uses = a.uses.items } ∷ []) is.number;
-  grown = (record { number = refl; answer = record { made = Absent; dials = Fails is.outcome is.uses refl untold; others = refl } }, tt);
-  dialed = (no_dials, refl, subst (λ (us : List Use). DialsTo no_dials (record { faults = 1; holds = 0 }) (dial_met true us)) (sym is.uses) (record { faults = (omega arith, omega arith); holds = refl }));
-  explained = (nothing, tt);
-  tapes_are = refl;
-}
+dial_fault login plans chance a may is =
+    let f = fault_left (plans.dials 0) may in
+    record {
+      lines = record { step = steps.Conn; number = 1; outcome = a.outcome; uses = a.uses.items; handles = Absent ∷ [] } ∷ [];
+      steps_are = refl;
+      answered = ap (λ (n : ℕ). record { number = n; outcome = a.outcome; uses = a.uses.items } ∷ []) is.number;
+      grown = (record { number = refl; answer = record { made = Absent; dials = Fails f.0 is.outcome is.uses refl f.1; others = refl } }, tt);
+      dialed = (no_dials, refl, subst (λ (us : List Use). DialsTo no_dials one_fault (dial_met true us)) (sym is.uses) (record { faults = (omega arith, omega arith); holds = refl }));
+      moved = refl;
+      explained = (nothing, tt);
+      tapes_are = refl;
+    }
   where
-    nothing : (n : ℕ) → IsExplained login (plans.reads n) (at_number (Absent ∷ []) n)
+    nothing : (n : ℕ) → IsExplained login (plans.reads n) (plans.dials n) (at_number (Absent ∷ []) n)
     nothing zero = tt
     nothing (suc n) = tt
+
+-- a moment that stands still
+pub no_still_moment : NoStillMoment
+no_still_moment login plans before later a first last w =
+    let o = one_line w.lines (steps.Advance 5) w.steps_are in
+    let l : Line = o.0 in
+    let moved : later.chance ≡ chance_by (has_dialed (steps.Advance 5) []) (steps.Advance 5) before.chance = w.moved ∙ ap (moved_by before.chance) o.1 ∙ ap (λ (s : Step). chance_by (has_dialed s []) s before.chance) o.2 in
+    let now : later.chance.moment ≡ Some 5 = ap (λ (c : Chance). c.moment) moved ∙ ap (option_map (moment_after 5)) first in
+    let no : Some 0 ≡ Some 5 = sym last ∙ now in
+    let same : 0 ≡ 5 = ap (λ o. unwrap_or o 0) no in
+    omega (arith, same)
 
 -- a transcript of two lines
 two_lines : (lines : List Line) (s t : Step) → steps_of lines ≡ s ∷ t ∷ [] → (l : Line) × (m : Line) × (lines ≡ m ∷ l ∷ []) × (l.step ≡ s) × (m.step ≡ t)
@@ -260,11 +297,11 @@ made_by login plan rules n id v x o used t shown planned w = by_after w.after
     }
     by_after (after.Failed x) s e = let no : Failed x ≡ Connected n id v = sym s.0 ∙ shown in cc
 
-dialed_made : (login : Login) (plan : Option (List ReadItem)) (is : List ReadItem) (rules : Option (List WriteItem)) (n id : ℕ) (v : ServerVersion) (o : Outcome) (us : List Use) (t : Handle) → plan ≡ Some is → o ≡ Connected n id v → Dials login plan rules 0 o us t → IsMade login rules t
-dialed_made login None is rules n id v o us t told shown d = cc
-dialed_made login (Some plan) is rules n id v o us t told shown (Holds e f g h) = cc
-dialed_made login (Some plan) is rules n id v o us t told shown (Fails e f g h) = cc
-dialed_made login (Some plan) is rules n id v o us t told shown (Links used x same new conn) = made_by login plan rules n id v x o used t shown new.planned conn conn.shows conn.polled.ends
+dialed_made : (login : Login) (plan : Option (List ReadItem)) (is : List ReadItem) (rules : Option (List WriteItem)) (items : Option (List DialItem)) (n id : ℕ) (v : ServerVersion) (o : Outcome) (us : List Use) (t : Handle) → plan ≡ Some is → o ≡ Connected n id v → Dials login plan rules items 0 o us t → IsMade login rules t
+dialed_made login None is rules items n id v o us t told shown d = cc
+dialed_made login (Some plan) is rules items n id v o us t told shown (Holds left e f g held) = let no : Pending ≡ Connected n id v = sym e ∙ shown in cc
+dialed_made login (Some plan) is rules items n id v o us t told shown (Fails left e f g failed) = let no : Failed (io_error Dial 0) ≡ Connected n id v = sym e ∙ shown in cc
+dialed_made login (Some plan) is rules items n id v o us t told shown (Links used x left same new given conn) = made_by login plan rules n id v x o used t shown new.planned conn conn.shows conn.polled.ends
 
 -- `ping` on what it made
 pinged : (q : Option Asked) (login : Login) (k : Kept) (y : Looks) (o : Outcome) (us : List Use) (t : Handle) → o ≡ Pending → BeginsOn q login 0 Ping k y o us t → PolledOnce login 0 (asked_by k Ping) (asking k Ping None) y o us t
@@ -337,12 +374,12 @@ no_hold_in_turn login plans before later greeting ok pong a b t c n id v some_ok
     let grown = subst (AreGrown login plans) o.2 w.grown in
     let next : DialsNext login plans [] l.outcome l.uses l.handles = subst (λ (s : Step). StepGrows login plans (is_streamed (target s) []) [] s l.outcome l.uses l.handles) o.3 grown.1.0.answer in
     let there : At 0 (Calls login 0 Ping) l.handles m.outcome m.uses m.handles = subst (λ (s : Step). StepGrows login plans (is_streamed (target s) (l ∷ [])) l.handles s m.outcome m.uses m.handles) o.4 grown.0.answer in
-    let made = dialed_made login (plans.reads 0) _ (plans.writes 0) 0 id v l.outcome l.uses next.made told first next.dials in
+    let made = dialed_made login (plans.reads 0) _ (plans.writes 0) (plans.dials 0) 0 id v l.outcome l.uses next.made told first next.dials in
     let handles : l.handles ≡ Joined true made.kept made.link ∷ [] = next.others ∙ ap (λ (h : Handle). h ∷ []) made.is in
     let begun : BeginsOn made.kept.pending login 0 Ping made.kept made.link m.outcome m.uses there.made = subst (λ (hs : List Handle). Calls login 0 Ping (at_number hs 0) m.outcome m.uses there.made) handles there.does in
     let r = pinged made.kept.pending login made.kept made.link m.outcome m.uses there.made second begun in
     let explained = subst (EachExplained login plans) o.2 w.explained in
-    let fits : IsExplained login (plans.reads 0) (Joined true made.kept made.link) = subst (λ (hs : List Handle). IsExplained login (plans.reads 0) (at_number hs 0)) handles (explained.1.0 0) in
+    let fits : IsExplained login (plans.reads 0) (plans.dials 0) (Joined true made.kept made.link) = subst (λ (hs : List Handle). IsExplained login (plans.reads 0) (plans.dials 0) (at_number hs 0)) handles (explained.1.0 0) in
     let after_is : r.after ≡ after.Pending = pending_after r.after (sym second ∙ r.outcome) in
     let polled : IsPolled login (asked_by made.kept Ping) (asking made.kept Ping None) made.link r.used.met after.Pending r.end r.link = subst (λ (p : After). IsPolled login (asked_by made.kept Ping) (asking made.kept Ping None) made.link r.used.met p r.end r.link) after_is r.polled in
     let met_is : r.used.met ≡ record nothing_met { holds = 1 } = ap first_met (sym r.uses ∙ second_uses) in
@@ -412,10 +449,10 @@ connect_end login x o used t bytes more h is w =
     let none : received_by p.used.moves ≡ [] = p.used.received_is ∙ nil_of p.taken (sym (ap (λ (m : Met). m.taken) met_is) ∙ p.met.taken) in
     early_end p.stop p.used.moved w.link bytes more (stays_first p.used.moves x p.used.moved bytes more h p.used.leads none) p.used.stops (sym (ap (λ (m : Met). m.ends) met_is) ∙ p.met.ends)
 
-dial_end : (login : Login) (plan : Option (List ReadItem)) (rules : Option (List WriteItem)) (o : Outcome) (us : List Use) (t : Handle) (bytes : List ℕ) (more : List ReadItem) → plan ≡ Some (Bytes bytes ∷ more) → us ≡ quiet 0 ∷ use_of 0 (record nothing_met { ends = 1 }) ∷ [] → Dials login plan rules 0 o us t → ⊥
-dial_end login plan rules o us t bytes more told ue (Holds e f g h) = let no : None ≡ Some (Bytes bytes ∷ more) = sym h ∙ told in cc
-dial_end login plan rules o us t bytes more told ue (Fails e f g h) = let no : None ≡ Some (Bytes bytes ∷ more) = sym h ∙ told in cc
-dial_end login plan rules o us t bytes more told ue (Links used x is new conn) =
+dial_end : (login : Login) (plan : Option (List ReadItem)) (rules : Option (List WriteItem)) (items : Option (List DialItem)) (o : Outcome) (us : List Use) (t : Handle) (bytes : List ℕ) (more : List ReadItem) → plan ≡ Some (Bytes bytes ∷ more) → us ≡ quiet 0 ∷ use_of 0 (record nothing_met { ends = 1 }) ∷ [] → Dials login plan rules items 0 o us t → ⊥
+dial_end login plan rules items o us t bytes more told ue (Holds left e f g held) = let no : held_use 0 ∷ [] ≡ quiet 0 ∷ use_of 0 (record nothing_met { ends = 1 }) ∷ [] = sym f ∙ ue in cc
+dial_end login plan rules items o us t bytes more told ue (Fails left e f g failed) = let no : failed_use 0 ∷ [] ≡ quiet 0 ∷ use_of 0 (record nothing_met { ends = 1 }) ∷ [] = sym f ∙ ue in cc
+dial_end login plan rules items o us t bytes more told ue (Links used x left is new given conn) =
     let both : quiet 0 ∷ used ∷ [] ≡ quiet 0 ∷ use_of 0 (record nothing_met { ends = 1 }) ∷ [] = sym is ∙ ue in
     connect_end login x o used t bytes more (has_plan plan rules x (Bytes bytes ∷ more) told new.planned) (ap second both) conn
   where
@@ -426,7 +463,7 @@ dial_end login plan rules o us t bytes more told ue (Links used x is new conn) =
 pub no_early_end : NoEarlyEnd
 no_early_end login plans before later greeting more a t some told shown uses w =
     let r = lone login plans before later a (t ∷ []) w in
-    dial_end login (plans.reads 0) (plans.writes 0) a.outcome a.uses.items r.made greeting more told uses r.dials
+    dial_end login (plans.reads 0) (plans.writes 0) (plans.dials 0) a.outcome a.uses.items r.made greeting more told uses r.dials
 
 -- bytes that the plan doesn't have
 other_first : (plan left : Option (List ReadItem)) (more : List ReadItem) (taken : List ℕ) → plan ≡ Some (Bytes (2 ∷ []) ∷ more) → taken ≡ 1 ∷ [] → ReadsSpent plan left taken → ⊥
@@ -438,10 +475,10 @@ other_first (Some plan) (Some left) more taken e f s =
     let bytes : 2 ∷ spelled more ≡ 1 ∷ spelled left = sym (ap spelled is) ∙ s.bytes ∙ ap (λ bs. bs ++ spelled left) f in
     omega (arith, ap first_of bytes)
 
-taken_there : (login : Login) (plan : Option (List ReadItem)) (more : List ReadItem) (h : Handle) (v : TapeView) → plan ≡ Some (Bytes (2 ∷ []) ∷ more) → v.taken ≡ 1 ∷ [] → v ∷ [] ≡ tape_at 0 h ++ [] → IsExplained login plan h → ⊥
-taken_there login plan more Absent v e f t w = let no : v ∷ [] ≡ [] = t in cc
-taken_there login plan more Dialing v e f t w = let no : v ∷ [] ≡ [] = t in cc
-taken_there login plan more (Joined there k x) v e f t w = other_first plan x.items more k.taken e (sym (ap taken_in t) ∙ f) w.1.reads
+taken_there : (login : Login) (plan : Option (List ReadItem)) (items : Option (List DialItem)) (more : List ReadItem) (h : Handle) (v : TapeView) → plan ≡ Some (Bytes (2 ∷ []) ∷ more) → v.taken ≡ 1 ∷ [] → v ∷ [] ≡ tape_at 0 h ++ [] → IsExplained login plan items h → ⊥
+taken_there login plan items more Absent v e f t w = let no : v ∷ [] ≡ [] = t in cc
+taken_there login plan items more (Dialing left) v e f t w = let no : v ∷ [] ≡ [] = t in cc
+taken_there login plan items more (Joined there k x) v e f t w = other_first plan x.items more k.taken e (sym (ap taken_in t) ∙ f) w.1.reads
   where
     taken_in : List TapeView → List ℕ
     taken_in [] = []
@@ -450,7 +487,7 @@ taken_there login plan more (Joined there k x) v e f t w = other_first plan x.it
 pub no_other_taken : NoOtherTaken
 no_other_taken login plans before later more a t told number taken w =
     let r = lone login plans before later a (t ∷ []) w in
-    taken_there login (plans.reads 0) more r.made (tape_view t) told taken r.shown r.explained
+    taken_there login (plans.reads 0) (plans.dials 0) more r.made (tape_view t) told taken r.shown r.explained
 
 -- a quit on a closed session
 pub no_fault_at_rest : NoFaultAtRest

@@ -1,9 +1,12 @@
 -- The theorem on a run.
-use Rattle.std.specs.Prelude.{ℕ, ◌≡◌, List, [], ◌∷◌, ◌++◌, map, Option, None}
+use Rattle.std.specs.Prelude.{ℕ, ◌≡◌, zero, suc, List, [], ◌∷◌, ◌++◌, map, Option}
 use Rattle.my_grammar.specs.declared.login.Login.{Login}
 use Rattle.my_session.specs.History.{History}
 use Rattle.my_session.specs.Law.{IsLawful}
 use Rattle.my_link.specs.declared.link.ReadItem.{ReadItem}
+use Rattle.my_link.specs.declared.dialer.DialItem.{DialItem}
+use Rattle.my_link.specs.declared.dialer.DialItem.TheVariants.{Wait}
+use Rattle.my_link.specs.Link.{Told}
 use Rattle.my_link.specs.Looks.{Looks}
 use Rattle.my_link.specs.Spent.{HasGot, ReadsSpent}
 use Rattle.my_steps.specs.declared.slot.Slot.{Slot}
@@ -12,14 +15,14 @@ use Rattle.my_script.specs.declared.transcript.Outcome.{Outcome}
 use Rattle.my_script.specs.declared.transcript.StepAnswer.{StepAnswer}
 use Rattle.my_script.specs.declared.transcript.Tape.{Tape}
 use Rattle.my_script.specs.declared.transcript.Use.{Use}
-use Rattle.my_steps.specs.Dialing.{AreDialed}
+use Rattle.my_steps.specs.Dialing.{AreDialed, Course, moved_by}
 use Rattle.my_steps.specs.Grows.{Line, AreGrown, handles_after}
 use Rattle.my_steps.specs.Handle.{Handle, Absent, Dialing, Joined, at_number}
 use Rattle.my_client.specs.Reads.{IsRead}
 use Rattle.my_client.specs.Kept.{Kept, IsOf}
-use Rattle.my_world.specs.World.{Plans, SamePlans, DialCounts}
-use Rattle.my_steps.specs.Keeps.{AreStood}
-use Rattle.my_steps.specs.Slot.{handle_of}
+use Rattle.my_world.specs.World.{Plans, SamePlans, WorldSeen}
+use Rattle.my_steps.specs.Keeps.{AreStood, AreAwaited}
+use Rattle.my_steps.specs.Slot.{handles_in}
 use Rattle.my_run.specs.Tapes.{tape_view, tapes_in}
 
 -- an answer, without where it lies in memory
@@ -56,20 +59,30 @@ pub record FitsLink (plan : Option (List ReadItem)) (x : Looks) (sent taken : Li
   pub got : HasGot x.got sent
   pub reads : ReadsSpent plan x.items taken
 
--- a connection at a number, over the plan of its link
-abbrev pub IsExplained : Login → Option (List ReadItem) → Handle → Type 0
-IsExplained login plan Absent = Unit {0}
-IsExplained login plan Dialing = plan ≡ None
-IsExplained login plan (Joined there k x) = IsSaid login k × FitsLink plan x k.sent k.taken
+-- this number of dials that wait
+abbrev pub waits : ℕ → List DialItem
+waits zero = []
+waits (suc k) = Wait ∷ waits k
+
+-- of the planned items for dials, those before the ones that are left waited, and one did at least
+abbrev pub HasWaited : List DialItem → List DialItem → Type 0
+HasWaited items left = (k : ℕ) × (items ≡ waits (suc k) ++ left)
+
+-- a connection at a number, over the plan of its link and the items for its dials
+abbrev pub IsExplained : Login → Option (List ReadItem) → Option (List DialItem) → Handle → Type 0
+IsExplained login plan items Absent = Unit {0}
+IsExplained login plan items (Dialing left) = Told items left HasWaited
+IsExplained login plan items (Joined there k x) = IsSaid login k × FitsLink plan x k.sent k.taken
 
 -- so it holds at each number after each line
 abbrev pub EachExplained : Login → Plans → List Line → Type 0
 EachExplained login plans [] = Unit {0}
-EachExplained login plans (l ∷ ls) = ((n : ℕ) → IsExplained login (plans.reads n) (at_number l.handles n))
+EachExplained login plans (l ∷ ls) = ((n : ℕ) → IsExplained login (plans.reads n) (plans.dials n) (at_number l.handles n))
     × EachExplained login plans ls
 
--- What the steps came to, over a world with these plans, whose dials had these counts before them and after them.
-pub record Headline (login : Login) (plans : Plans) (before later : DialCounts) (steps : List Step)
+-- What the steps came to, over a world with these plans, whose dials had these counts before them and after them, as the moment
+-- and the random words were.
+pub record Headline (login : Login) (plans : Plans) (before later : Course) (steps : List Step)
     (answers : List StepAnswer) (tapes : List Tape) : Type 0 where
   -- the transcript's lines, the newest first: one answer for each step
   pub lines : List Line
@@ -79,30 +92,35 @@ pub record Headline (login : Login) (plans : Plans) (before later : DialCounts) 
   -- line to line
   pub grown : AreGrown login plans lines
   -- a dial is said to have failed, or not to be ready, exactly where the world counted it
-  pub dialed : AreDialed before lines later
+  pub dialed : AreDialed before.dials lines later.dials
+  -- the moment and the random words are those that the steps made of the ones before
+  pub moved : later.chance ≡ moved_by before.chance lines
   -- after each line each connection's calls, bytes and rows are explained, and fit its link
   pub explained : EachExplained login plans lines
   -- the tapes are what the connections kept
   pub tapes_are : map tape_view tapes ≡ tapes_in 0 (handles_after lines)
 
--- so far in a run
-pub record SoFar {L : Type 0} (look : L → Looks) (login : Login) (plans : Plans) (before now : DialCounts)
+-- so far in a run, in a world that is `now`
+pub record SoFar {L : Type 0} (look : L → Looks) (login : Login) (plans : Plans) (before : Course) (now : WorldSeen)
     (done : List Step) (slots : List (Slot L)) (answers : List StepAnswer) : Type 0 where
   pub lines : List Line
   pub steps_are : steps_of lines ≡ done
   pub answered : map answer_view answers ≡ answers_of lines
-  pub handles_are : map (handle_of look) slots ≡ handles_after lines
+  pub handles_are : handles_in look now.plans slots ≡ handles_after lines
   pub stood : AreStood login slots
+  -- of each link that is still to be dialed the world's plan is the one that was told
+  pub awaited : AreAwaited plans now.plans 0 slots
   pub grown : AreGrown login plans lines
-  pub dialed : AreDialed before lines now
+  pub dialed : AreDialed before.dials lines now.dials
+  pub moved : now.chance ≡ moved_by before.chance lines
   pub explained : EachExplained login plans lines
 
 -- so it is for all plans that are those which the world told
-abbrev pub RunSoFar : {L : Type 0} → (L → Looks) → Login → Plans → DialCounts → DialCounts → List Step → List (Slot L)
+abbrev pub RunSoFar : {L : Type 0} → (L → Looks) → Login → Plans → Course → WorldSeen → List Step → List (Slot L)
     → List StepAnswer → Type 0
 RunSoFar look login told before now done slots answers = (plans : Plans) → SamePlans told plans
     → SoFar look login plans before now done slots answers
 
-abbrev pub RunsTo : Login → Plans → DialCounts → DialCounts → List Step → List StepAnswer → List Tape → Type 0
+abbrev pub RunsTo : Login → Plans → Course → Course → List Step → List StepAnswer → List Tape → Type 0
 RunsTo login told before later steps answers tapes = (plans : Plans) → SamePlans told plans
     → Headline login plans before later steps answers tapes

@@ -41,7 +41,7 @@ tape_of n k =
 -- a number whose dial didn't give a link has no tape
 abbrev pub tape_at : ℕ → Handle → List TapeView
 tape_at n Absent = []
-tape_at n Dialing = []
+tape_at n (Dialing left) = []
 tape_at n (Joined there k x) = tape_of n k ∷ []
 
 -- the tapes of these numbers, from this one on

@@ -3,7 +3,7 @@ use Rattle.std.specs.Prelude.{◌≡◌, ◌&&◌, not, ℕ, List, [], Some, Non
 use Rattle.my_frame.specs.declared.limits.TheConstants.{MOST_INPUT}
 use Rattle.my_grammar.specs.declared.login.Login.{Login}
 use Rattle.my_opts.specs.Opts.{OptsView}
-use Rattle.my_world.specs.Plan.{planned_lines, written_lines}
+use Rattle.my_world.specs.Plan.{planned_lines, written_lines, dialed_lines, chance_after}
 use Rattle.my_script.specs.declared.step.Step.{Step}
 use Rattle.my_world.specs.declared.line.WorldLine.{WorldLine}
 use Rattle.my_script.specs.declared.transcript.Transcript.{Transcript}
@@ -17,8 +17,9 @@ use Rattle.my_run.specs.Output.{WroteAll, WrotePart}
 use Rattle.my_run.specs.Headline.{Headline}
 use Rattle.my_frame.specs.Sources.{SourceSeen}
 use Rattle.my_frame.specs.Sinks.{SinkSeen}
-use Rattle.my_world.specs.World.{Plans, WorldSeen, DialCounts}
-use Rattle.my_client.specs.Login.{login_of}
+use Rattle.my_world.specs.World.{Plans, WorldSeen}
+use Rattle.my_steps.specs.Dialing.{Course, course_of}
+use Rattle.my_session.specs.Login.{login_of}
 use Rattle.my_script.specs.Script.{Script, Good, Bad, script_of}
 use Rattle.my_script.specs.Text.{text_of}
 use Rattle.my_script.specs.Words.{CommandWords, command_of, word_opts}
@@ -37,21 +38,29 @@ abbrev pub plans_with : WorldSeen → List WorldLine → Plans
 plans_with world lines = record {
   reads = λ n. if world.takes then planned_lines n lines (world.plans.reads n) else world.plans.reads n;
   writes = λ n. if world.takes then written_lines n lines (world.plans.writes n) else world.plans.writes n;
+  dials = λ n. if world.takes then dialed_lines n lines (world.plans.dials n) else world.plans.dials n;
+}
+
+-- and what else a run changes
+abbrev pub course_with : WorldSeen → List WorldLine → Course
+course_with world lines = record {
+  dials = world.dials;
+  chance = if world.takes then chance_after lines world.chance else world.chance;
 }
 
 -- all steps were run, and their whole text went out
-pub record IsDone (login : Login) (plans : Plans) (before later : DialCounts) (steps : List Step) (w v : SinkSeen)
+pub record IsDone (login : Login) (plans : Plans) (before later : Course) (steps : List Step) (w v : SinkSeen)
     (t : Transcript) : Type 0 where
   pub run : Headline login plans before later steps t.answers.items t.tapes.items
   pub written : WroteAll w (text_of t.answers.items t.tapes.items) v
 
 -- all steps were run, and a beginning of their text went out before the sink failed
-pub record IsCut (login : Login) (plans : Plans) (before later : DialCounts) (steps : List Step) (w v : SinkSeen)
+pub record IsCut (login : Login) (plans : Plans) (before later : Course) (steps : List Step) (w v : SinkSeen)
     (t : Transcript) : Type 0 where
   pub run : Headline login plans before later steps t.answers.items t.tapes.items
   pub written : WrotePart w (text_of t.answers.items t.tapes.items) v
 
-abbrev pub ScriptEnds : Login → Plans → DialCounts → DialCounts → List Step → SinkSeen → SinkSeen → Transcript → Status
+abbrev pub ScriptEnds : Login → Plans → Course → Course → List Step → SinkSeen → SinkSeen → Transcript → Status
     → Type 0
 ScriptEnds login plans before later steps w v t Done = IsDone login plans before later steps w v t
 ScriptEnds login plans before later steps w v t SinkFailed = IsCut login plans before later steps w v t
@@ -64,7 +73,7 @@ pub record IsGood (login : Login) (world later : WorldSeen) (script : Script) (w
   pub lines : List WorldLine
   pub steps : List Step
   pub good : script ≡ Good lines steps
-  pub ends : ScriptEnds login (plans_with world lines) world.dials later.dials steps w v t status
+  pub ends : ScriptEnds login (plans_with world lines) (course_with world lines) (course_of later) steps w v t status
 
 -- this line doesn't read, and none before it; nothing was written
 pub record IsBadLine (script : Script) (w v : SinkSeen) (t : Transcript) (line : BadLine) : Type 0 where
@@ -128,7 +137,7 @@ planning plans world = record world { takes = plans }
 abbrev pub world_for : Bool → WorldSeen → WorldSeen
 world_for live world = planning (not live && world.takes) world
 
--- the words are a command; the lines of a world don't read in `live`
+-- the words are a command; the lines of a world and the steps that move it don't read in `live`
 pub record IsCommand (words : List (List ℕ)) (world later : WorldSeen) (s r : SourceSeen) (w v : SinkSeen)
     (t : Transcript) (status : Status) : Type 0 where
   pub command : CommandWords

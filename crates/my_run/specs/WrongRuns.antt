@@ -1,5 +1,5 @@
 -- Runs that no user would call right, each refuted; and beside them runs that are accepted.
-use Rattle.std.specs.Prelude.{ℕ, ◌≡◌, ◌<◌, List, [], ◌∷◌, ◌++◌, length, Some, None, true}
+use Rattle.std.specs.Prelude.{ℕ, ◌≡◌, ◌<◌, List, [], ◌∷◌, ◌++◌, length, Option, Some, None, true}
 use Rattle.my_grammar.specs.declared.login.Login.{Login}
 use Rattle.my_frame.specs.Sources.{SourceSeen}
 use Rattle.my_frame.specs.Sinks.{SinkSeen}
@@ -22,7 +22,10 @@ use Rattle.my_client.specs.declared.poll.After.{After}
 use Rattle.my_client.specs.declared.poll.After.TheVariants as after
 use Rattle.my_client.specs.Causes.{IsPolled}
 use Rattle.my_client.specs.Kept.{Asked, Kept, made_of, asking, asked_by}
-use Rattle.my_world.specs.World.{Plans, WorldSeen, DialCounts, no_dials}
+use Rattle.my_link.specs.declared.dialer.DialItem.{DialItem}
+use Rattle.my_link.specs.declared.dialer.DialItem.TheVariants.{Wait, Fail}
+use Rattle.my_world.specs.World.{Plans, WorldSeen, DialCounts, Chance, no_dials, drawn}
+use Rattle.my_steps.specs.Dialing.{Course}
 use Rattle.my_run.specs.declared.tool.Report.{Report}
 use Rattle.my_run.specs.declared.tool.Status.{Status}
 use Rattle.my_run.specs.declared.tool.Status.TheVariants.{Done, Unread, SinkFailed}
@@ -36,24 +39,48 @@ pub record IsFailedDial (a : StepAnswer) : Type 0 where
   pub outcome : a.outcome ≡ Failed (io_error Dial 0)
   pub uses : a.uses.items ≡ failed_use 0 ∷ []
 
--- over a world that told the link's plan
+-- over a world that planned no wait and no fault of the dial
 abbrev pub NoPlannedDialFault : Type 0
-NoPlannedDialFault = (login : Login) (plans : Plans) (plan : List ReadItem) (before later : DialCounts) (a : StepAnswer)
-    → plans.reads 0 ≡ Some plan → IsFailedDial a → Headline login plans before later (steps.Conn ∷ []) (a ∷ []) [] → ⊥
+NoPlannedDialFault = (login : Login) (plans : Plans) (before later : Course) (a : StepAnswer) → plans.dials 0 ≡ Some []
+    → IsFailedDial a → Headline login plans before later (steps.Conn ∷ []) (a ∷ []) [] → ⊥
+
+-- over a world that planned that the dial waits first
+abbrev pub NoWaitAsFault : Type 0
+NoWaitAsFault = (login : Login) (plans : Plans) (before later : Course) (more : List DialItem) (a : StepAnswer)
+    → plans.dials 0 ≡ Some (Wait ∷ more) → IsFailedDial a
+    → Headline login plans before later (steps.Conn ∷ []) (a ∷ []) [] → ⊥
+
+-- the counts of one dial that wasn't ready, and of one that failed
+abbrev pub one_hold : DialCounts
+one_hold = record { faults = 0; holds = 1 }
+
+abbrev pub one_fault : DialCounts
+one_fault = record { faults = 1; holds = 0 }
 
 -- over a world whose dialer counted a dial that wasn't ready, and none that failed
 abbrev pub NoHeldDialFault : Type 0
-NoHeldDialFault = (login : Login) (plans : Plans) (a : StepAnswer) → IsFailedDial a
-    → Headline login plans no_dials (record { faults = 0; holds = 1 }) (steps.Conn ∷ []) (a ∷ []) [] → ⊥
+NoHeldDialFault = (login : Login) (plans : Plans) (first last : Chance) (a : StepAnswer) → IsFailedDial a
+    → Headline login plans (record { dials = no_dials; chance = first }) (record { dials = one_hold; chance = last })
+    (steps.Conn ∷ []) (a ∷ []) [] → ⊥
 
--- it is right over a world that told no plan and counted the fault
+-- it is right over a world that told no items for dials, or planned the fault, and counted it
+abbrev pub MayFail : Option (List DialItem) → Type 0
+MayFail None = Unit {0}
+MayFail (Some items) = items ≡ Fail ∷ []
+
 abbrev pub DialFault : Type 0
-DialFault = (login : Login) (plans : Plans) (a : StepAnswer) → plans.reads 0 ≡ None → IsFailedDial a
-    → Headline login plans no_dials (record { faults = 1; holds = 0 }) (steps.Conn ∷ []) (a ∷ []) []
+DialFault = (login : Login) (plans : Plans) (chance : Chance) (a : StepAnswer) → MayFail (plans.dials 0) → IsFailedDial a
+    → Headline login plans (record { dials = no_dials; chance = chance })
+    (record { dials = one_fault; chance = drawn chance }) (steps.Conn ∷ []) (a ∷ []) []
+
+-- `advance 5`, and the moment of the world stands still
+abbrev pub NoStillMoment : Type 0
+NoStillMoment = (login : Login) (plans : Plans) (before later : Course) (a : StepAnswer) → before.chance.moment ≡ Some 0
+    → later.chance.moment ≡ Some 0 → Headline login plans before later (steps.Advance 5 ∷ []) (a ∷ []) [] → ⊥
 
 -- the plan has a greeting and then the end, and `conn` prints an end that came too early though no byte was taken
 abbrev pub NoEarlyEnd : Type 0
-NoEarlyEnd = (login : Login) (plans : Plans) (before later : DialCounts) (greeting : List ℕ) (more : List ReadItem)
+NoEarlyEnd = (login : Login) (plans : Plans) (before later : Course) (greeting : List ℕ) (more : List ReadItem)
     (a : StepAnswer) (t : Tape) → 0 < length greeting → plans.reads 0 ≡ Some (Bytes greeting ∷ more)
     → a.outcome ≡ Failed (unexpected_eof 0)
     → a.uses.items ≡ quiet 0 ∷ use_of 0 (record nothing_met { ends = 1 }) ∷ []
@@ -69,7 +96,7 @@ NoHoldAfterTurn = (login : Login) (a : Asked) (k end : Kept) (x y : Looks) (byte
 -- The plan has a greeting, a turn, the rest of the login, a turn and the reply to a ping. `conn` connects; then `ping` sends a
 -- byte, takes none, and prints `pending` because the link wasn't ready, though the turn was met and the reply can be read.
 abbrev pub NoHoldInTurn : Type 0
-NoHoldInTurn = (login : Login) (plans : Plans) (before later : DialCounts) (greeting ok pong : List ℕ) (a b : StepAnswer)
+NoHoldInTurn = (login : Login) (plans : Plans) (before later : Course) (greeting ok pong : List ℕ) (a b : StepAnswer)
     (t : Tape) (c : TapeCall) (n id : ℕ) (version : ServerVersion) → 0 < length ok → 0 < length pong
     → plans.reads 0 ≡ Some (Bytes greeting ∷ Turn ∷ Bytes ok ∷ Turn ∷ Bytes pong ∷ []) → plans.writes 0 ≡ Some []
     → a.outcome ≡ Connected 0 id version
@@ -86,7 +113,7 @@ NoZeroSent = (login : Login) (a : Asked) (k end : Kept) (x y : Looks) (u : Met) 
 
 -- the tape says that a byte was taken, and the link's plan has another in its place
 abbrev pub NoOtherTaken : Type 0
-NoOtherTaken = (login : Login) (plans : Plans) (before later : DialCounts) (more : List ReadItem) (a : StepAnswer) (t : Tape)
+NoOtherTaken = (login : Login) (plans : Plans) (before later : Course) (more : List ReadItem) (a : StepAnswer) (t : Tape)
     → plans.reads 0 ≡ Some (Bytes (2 ∷ []) ∷ more) → t.number ≡ 0 → t.taken.items ≡ 1 ∷ []
     → Headline login plans before later (steps.Conn ∷ []) (a ∷ []) (t ∷ []) → ⊥
 

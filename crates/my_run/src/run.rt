@@ -1,7 +1,10 @@
 //! Runs steps in order.
-ghost use Rattle.std.specs.Prelude.{◌≡◌, ◌++◌, [], map, IfOk, OnOk};
+ghost use Rattle.std.specs.Prelude.{◌≡◌, ◌++◌, [], map, true, IfOk, OnOk};
+ghost use Rattle.std.specs.List.{list_all};
+ghost use Rattle.my_script.specs.Script.{may_stand};
+ghost use Rattle.my_steps.specs.Dialing.{course_of};
 ghost use Rattle.my_client.specs.Conn.{kept_of};
-ghost use Rattle.my_client.specs.Login.{login_of};
+ghost use Rattle.my_session.specs.Login.{login_of};
 ghost use Rattle.my_run.specs.Headline.{RunSoFar, RunsTo};
 ghost use Rattle.my_steps.specs.Slot.{handle_of};
 ghost use Rattle.my_run.specs.Tapes.{tape_view, tape_of, tape_at, tapes_in};
@@ -27,8 +30,9 @@ fn run_each<N: World>(
 ) -> Result<(), NoMemory>
     requires no_slots { slots.old.items ≡ [] }
     requires no_answers { answers.old.items ≡ [] }
+    requires stand { list_all (may_stand (N.seen world.old).takes) steps.now ≡ true }
     ensures { OnOk result (RunSoFar N.L.looks (login_of opts.now) (N.seen world.old).plans
-        (N.seen world.old).dials (N.seen world.new).dials steps.now slots.new.items answers.new.items) }
+        (course_of (N.seen world.old)) (N.seen world.new) steps.now slots.new.items answers.new.items) }
 {
     let mut streams = Streams::new(alloc);
     for (i, step) in steps.iter().enumerate() {
@@ -100,9 +104,9 @@ pub(crate) fn run_steps<N: World>(
     world: &mut N,
     steps: &[Step],
 ) -> Result<Transcript, NoMemory>
-    ensures { IfOk result (λ t.
-        RunsTo (login_of opts.now) (N.seen world.old).plans (N.seen world.old).dials (N.seen world.new).dials
-        steps.now t.answers.items t.tapes.items) }
+    requires { list_all (may_stand (N.seen world.old).takes) steps.now ≡ true }
+    ensures { IfOk result (λ t. RunsTo (login_of opts.now) (N.seen world.old).plans
+        (course_of (N.seen world.old)) (course_of (N.seen world.new)) steps.now t.answers.items t.tapes.items) }
 {
     let mut slots = Vec::new(alloc);
     let mut answers = Vec::new(alloc);

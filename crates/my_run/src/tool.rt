@@ -1,12 +1,15 @@
 //! The top call.
 ghost use Rattle.std.specs.Prelude.{◌≡◌, OnOk, IfOk, true, map, string_bytes};
-ghost use Rattle.my_world.specs.Plan.{plans_after};
+ghost use Rattle.std.specs.List.{list_all};
+ghost use Rattle.my_script.specs.Script.{may_stand};
+ghost use Rattle.my_steps.specs.Dialing.{course_of};
+ghost use Rattle.my_world.specs.Plan.{plans_after, chance_after};
 ghost use Rattle.my_world.specs.World.{SamePlans};
 ghost use Rattle.my_run.specs.Headline.{Headline};
-ghost use Rattle.my_client.specs.Login.{login_of};
+ghost use Rattle.my_session.specs.Login.{login_of};
 ghost use Rattle.my_script.specs.Script.{script_of};
 ghost use Rattle.my_script.specs.Text.{text_of};
-ghost use Rattle.my_run.specs.Tool.{IsEmpty, plans_with, code_of, ScriptEnds, TextEnds, InputEnds, WordEnds, planning, world_for, IsReport};
+ghost use Rattle.my_run.specs.Tool.{IsEmpty, plans_with, course_with, code_of, ScriptEnds, TextEnds, InputEnds, WordEnds, planning, world_for, IsReport};
 
 use crate::input::{Came, read_all};
 use crate::output::write_all;
@@ -81,6 +84,8 @@ fn blank(alloc: Global, status: Status) -> Report
 fn prepare_each<N: World>(world: &mut N, plan: &[WorldLine]) -> Result<(), NoMemory>
     requires { (N.seen world.old).takes ≡ true }
     ensures plans { OnOk result (SamePlans (plans_after plan.now (N.seen world.old).plans) (N.seen world.new).plans) }
+    ensures chance { OnOk result ((N.seen world.new).chance ≡ chance_after plan.now (N.seen world.old).chance) }
+    ensures takes { (N.seen world.new).takes ≡ (N.seen world.old).takes }
     ensures dials { (N.seen world.new).dials ≡ (N.seen world.old).dials }
 {
     for line in plan {
@@ -94,7 +99,9 @@ fn prepare_all<N: World>(world: &mut N, plans: bool, plan: &[WorldLine]) -> Resu
     requires { plans ≡ true → (N.seen world.old).takes ≡ true }
     ensures plans { OnOk result
         (SamePlans (N.seen world.new).plans (plans_with (planning plans (N.seen world.old)) plan.now)) }
-    ensures dials { (N.seen world.new).dials ≡ (N.seen world.old).dials }
+    ensures course { OnOk result
+        (course_of (N.seen world.new) ≡ course_with (planning plans (N.seen world.old)) plan.now) }
+    ensures takes { (N.seen world.new).takes ≡ (N.seen world.old).takes }
 {
     if plans {
         prepare_each(world, plan)?;
@@ -110,10 +117,12 @@ fn run_script<N: World>(
     plans: bool,
     world: &mut N,
 ) -> Result<(Transcript, Vec<u8>), NoMemory>
-    requires { plans ≡ true → (N.seen world.old).takes ≡ true }
+    requires takes { plans ≡ true → (N.seen world.old).takes ≡ true }
+    requires stand { list_all (may_stand plans) script.now.steps.items ≡ true }
     ensures run { IfOk result (λ r. Headline (login_of opts.now)
         (plans_with (planning plans (N.seen world.old)) script.now.plan.items)
-        (N.seen world.old).dials (N.seen world.new).dials script.now.steps.items r.0.answers.items r.0.tapes.items) }
+        (course_with (planning plans (N.seen world.old)) script.now.plan.items) (course_of (N.seen world.new))
+        script.now.steps.items r.0.answers.items r.0.tapes.items) }
     ensures text { IfOk result (λ r. r.1.items ≡ text_of r.0.answers.items r.0.tapes.items) }
 {
     prepare_all(world, plans, &script.plan)?;
@@ -130,9 +139,11 @@ fn run_good<W: Sink, N: World>(
     out: &mut W,
     world: &mut N,
 ) -> Report
-    requires { plans ≡ true → (N.seen world.old).takes ≡ true }
+    requires takes { plans ≡ true → (N.seen world.old).takes ≡ true }
+    requires stand { list_all (may_stand plans) script.now.steps.items ≡ true }
     ensures { ScriptEnds (login_of opts.now) (plans_with (planning plans (N.seen world.old)) script.now.plan.items)
-        (N.seen world.old).dials (N.seen world.new).dials script.now.steps.items
+        (course_with (planning plans (N.seen world.old)) script.now.plan.items) (course_of (N.seen world.new))
+        script.now.steps.items
         (W.seen out.old) (W.seen out.new) result.transcript result.status }
 {
     match run_script(alloc, opts, script, plans, world) {
@@ -212,7 +223,7 @@ fn run_command<S: Source, W: Sink, N: World>(
 }
 
 /// Runs a command: reads the words and the source, runs the steps over the world, and writes their text to the sink.
-/// In `live` the lines of a world don't read, nor do they over a world that takes no plan.
+/// In `live` the lines of a world and the steps that move it don't read, nor do they over a world that takes no plan.
 ///
 /// The status is the first of these that comes: no command, a word that is refused, a source that fails or has more
 /// than 67,108,864 bytes, a line that doesn't read, a sink that fails; out of memory may come at any place.

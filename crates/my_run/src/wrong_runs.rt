@@ -1,9 +1,14 @@
 //! Runs that no user would call right, each of which the headline refutes, and beside them runs that it accepts.
-ghost use Rattle.my_run.specs.WrongRuns.{NoPlannedDialFault, NoHeldDialFault, DialFault, NoEarlyEnd, NoHoldAfterTurn, NoHoldInTurn, NoZeroSent, NoOtherTaken, NoFaultAtRest, NoBrokenInput};
+ghost use Rattle.my_run.specs.WrongRuns.{NoPlannedDialFault, NoWaitAsFault, NoHeldDialFault, DialFault, NoStillMoment, NoEarlyEnd, NoHoldAfterTurn, NoHoldInTurn, NoZeroSent, NoOtherTaken, NoFaultAtRest, NoBrokenInput};
 
-/// Over a world that told the link's plan, no dial is said to have failed.
+/// Over a world that planned no wait and no fault of the dial, none is said to have failed.
 pub fn no_planned_dial_fault()
     ensures { NoPlannedDialFault }
+{}
+
+/// A dial that is planned to wait isn't said to have failed.
+pub fn no_wait_as_fault()
+    ensures { NoWaitAsFault }
 {}
 
 /// A dial that wasn't ready isn't said to have failed.
@@ -14,6 +19,11 @@ pub fn no_held_dial_fault()
 /// A dial that failed, as the world counted it, is accepted.
 pub fn dial_fault()
     ensures { DialFault }
+{}
+
+/// A step that moves the moment doesn't leave it.
+pub fn no_still_moment()
+    ensures { NoStillMoment }
 {}
 
 /// The link's end isn't returned before the bytes that the plan has in front of it.

@@ -27,6 +27,8 @@ dialed_one (steps.Unstream n) = omega arith
 dialed_one (steps.Fields n) = omega arith
 dialed_one (steps.Poll n) = omega arith
 dialed_one (steps.Cancel n) = omega arith
+dialed_one (steps.Advance by) = omega arith
+dialed_one (steps.Random word) = omega arith
 
 pub record DialedSo (all : List Step) (dialed : ℕ) (left : List Step) : Type 0 where
   pub sum : dialed + dialed_in left ≡ dialed_in all
@@ -99,50 +101,51 @@ earlier_second (Wrong line) (Wrong second) = by_test (nat_lt second line) refl
     by_test true e = omega arith
     by_test false e = grind (arith, nat_tests)
 
-module _ (login : Login) (steps : List Step) (answers : List StepAnswer) (tapes : List Tape) where
-  pub below_none : IsFoundBelow login steps answers tapes 0 Right
+-- what is found at each number, one after the other
+module _ (At : ℕ → Found → Type 0) where
+  pub below_none : IsFoundBelow At 0 Right
   below_none = record { least = λ n low. absurd (omega (arith, low)); somewhere = tt }
 
-  wrong_wider : (line n : ℕ) → IsWrongBelow login steps answers tapes line n → IsWrongBelow login steps answers tapes line (n + 1)
+  wrong_wider : (line n : ℕ) → IsWrongBelow At line n → IsWrongBelow At line (n + 1)
   wrong_wider line n w = record { number = w.number; below = let b = w.below in omega arith; is = w.is }
 
-  earlier_somewhere : (n : ℕ) (one other : Found) → IsOfANumber login steps answers tapes n one → FoundAt login steps answers tapes n other → IsOfANumber login steps answers tapes (n + 1) (earlier one other)
+  earlier_somewhere : (n : ℕ) (one other : Found) → IsOfANumber At n one → At n other → IsOfANumber At (n + 1) (earlier one other)
   earlier_somewhere n Right Right s f = tt
   earlier_somewhere n Right (Wrong line) s f = record { number = n; below = omega arith; is = f }
   earlier_somewhere n (Wrong line) Right s f = wrong_wider line n s
   earlier_somewhere n (Wrong line) (Wrong second) s f = by_test (nat_lt second line)
     where
-      by_test : (b : Bool) → IsOfANumber login steps answers tapes (n + 1) (if b then Wrong second else Wrong line)
+      by_test : (b : Bool) → IsOfANumber At (n + 1) (if b then Wrong second else Wrong line)
       by_test true = record { number = n; below = omega arith; is = f }
       by_test false = wrong_wider line n s
 
-  pub below_more : (n : ℕ) (least found new : Found) → new ≡ earlier least found → IsFoundBelow login steps answers tapes n least → FoundAt login steps answers tapes n found → IsFoundBelow login steps answers tapes (n + 1) new
-  below_more n least found new e b f = subst (IsFoundBelow login steps answers tapes (n + 1)) (sym e) (record {
+  pub below_more : (n : ℕ) (least found new : Found) → new ≡ earlier least found → IsFoundBelow At n least → At n found → IsFoundBelow At (n + 1) new
+  below_more n least found new e b f = subst (IsFoundBelow At (n + 1)) (sym e) (record {
     least = λ m low. by_number m (nat_lt m n) refl low;
     somewhere = earlier_somewhere n least found b.somewhere f;
   })
     where
-      by_number : (m : ℕ) (c : Bool) → nat_lt m n ≡ c → m < n + 1 → IsLeastAt login steps answers tapes (earlier least found) m
+      by_number : (m : ℕ) (c : Bool) → nat_lt m n ≡ c → m < n + 1 → IsLeastAt At (earlier least found) m
       by_number m true c low =
           let under : m < n = grind (arith, nat_tests) in
-          let before : IsLeastAt login steps answers tapes least m = b.least m under in
+          let before : IsLeastAt At least m = b.least m under in
           record { found = before.found; is = before.is; not_before = earlier_first least found before.found before.not_before }
       by_number m false c low =
           let same : n ≡ m = grind (arith, nat_tests) in
-          record { found = found; is = subst (λ z. FoundAt login steps answers tapes z found) same f; not_before = earlier_second least found }
+          record { found = found; is = subst (λ z. At z found) same f; not_before = earlier_second least found }
 
-  right_alone : (n : ℕ) → IsLeastAt login steps answers tapes Right n → FoundAt login steps answers tapes n Right
+  pub right_alone : (n : ℕ) → IsLeastAt At Right n → At n Right
   right_alone n l = by_found l.found l.is l.not_before
     where
-      by_found : (x : Found) → FoundAt login steps answers tapes n x → IsNotBefore Right x → FoundAt login steps answers tapes n Right
+      by_found : (x : Found) → At n x → IsNotBefore Right x → At n Right
       by_found Right f r = f
       by_found (Wrong line) f r = absurd r
 
-  pub found_in : (found : Found) (numbered : Bool) → IsFoundBelow login steps answers tapes (dialed_in steps + 1) found → Decides numbered (AreTapes 0 (dialed_in steps) tapes)
-      → IsFoundIn login steps answers tapes (with_tapes found numbered (length steps))
-  found_in Right true b d = record { numbered = d.0 refl; each = λ n low. right_alone n (b.least n low) }
-  found_in Right false b d = record {
-    wrong = inr (refl, not_right _ d);
-    least = λ n low. record { found = Right; is = right_alone n (b.least n low); not_before = tt };
-  }
-  found_in (Wrong line) numbered b d = record { wrong = inl b.somewhere; least = b.least }
+pub found_in : (login : Login) (steps : List Step) (answers : List StepAnswer) (tapes : List Tape) (found : Found) (numbered : Bool) → IsFoundBelow (FoundAt login steps answers tapes) (dialed_in steps + 1) found → Decides numbered (AreTapes 0 (dialed_in steps) tapes)
+    → IsFoundIn login steps answers tapes (with_tapes found numbered (length steps))
+found_in login steps answers tapes Right true b d = record { numbered = d.0 refl; each = λ n low. right_alone (FoundAt login steps answers tapes) n (b.least n low) }
+found_in login steps answers tapes Right false b d = record {
+  wrong = inr (refl, not_right _ d);
+  least = λ n low. record { found = Right; is = right_alone (FoundAt login steps answers tapes) n (b.least n low); not_before = tt };
+}
+found_in login steps answers tapes (Wrong line) numbered b d = record { wrong = inl b.somewhere; least = b.least }

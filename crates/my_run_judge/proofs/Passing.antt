@@ -6,7 +6,7 @@ use Rattle.my_script.specs.declared.transcript.Use.{Use}
 use Rattle.my_run_judge.specs.Seen.{TapeSeen}
 use Rattle.my_run_judge.specs.declared.walk.Walker.{Walker}
 use Rattle.my_run_judge.specs.Does.{Does, Done, walk_of}
-use Rattle.my_run_judge.specs.Lines.{ArePassed, AreTaken, LastPoll, SkipPoll, after_last_poll, after_polls, after_row_poll}
+use Rattle.my_run_judge.specs.Lines.{ArePassed, LastPoll, SkipPoll, after_last_poll, after_polls, after_row_poll}
 use Rattle.my_run_judge.specs.Walks.{Walk}
 use Rattle.my_run_judge.proofs.Doing.{done_as, not_right, wrong}
 

@@ -58,6 +58,7 @@ ErrorMet (errors.Driver e) m = ⊥
 ErrorMet (errors.Io e) m = IoMet e m
 ErrorMet (errors.Server e) m = IsInBytes m
 ErrorMet (errors.Url e) m = ⊥
+ErrorMet (errors.Other e) m = ⊥
 ErrorMet errors.NoMemory m = ⊥
 
 -- by what the line shows of it

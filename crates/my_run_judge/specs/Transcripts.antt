@@ -48,29 +48,26 @@ IsNotBefore least Right = Unit {0}
 IsNotBefore Right (Wrong line) = ⊥
 IsNotBefore (Wrong least) (Wrong line) = least ≤ line
 
--- what is found at a number, which isn't before this
-pub record IsLeastAt (login : Login) (steps : List Step) (answers : List StepAnswer) (tapes : List Tape) (least : Found)
-    (n : ℕ) : Type 0 where
+-- Of what is found at each number: what is found at this one isn't before the least;
+pub record IsLeastAt (At : ℕ → Found → Type 0) (least : Found) (n : ℕ) : Type 0 where
   pub found : Found
-  pub is : FoundAt login steps answers tapes n found
+  pub is : At n found
   pub not_before : IsNotBefore least found
 
--- at one of the numbers below this one the line is the first wrong one
-pub record IsWrongBelow (login : Login) (steps : List Step) (answers : List StepAnswer) (tapes : List Tape) (line most : ℕ)
-    : Type 0 where
+-- and at one of the numbers below this one the line is the first wrong one.
+pub record IsWrongBelow (At : ℕ → Found → Type 0) (line most : ℕ) : Type 0 where
   pub number : ℕ
   pub below : number < most
-  pub is : FoundAt login steps answers tapes number (Wrong line)
+  pub is : At number (Wrong line)
 
-abbrev pub IsOfANumber : Login → List Step → List StepAnswer → List Tape → ℕ → Found → Type 0
-IsOfANumber login steps answers tapes most Right = Unit {0}
-IsOfANumber login steps answers tapes most (Wrong line) = IsWrongBelow login steps answers tapes line most
+abbrev pub IsOfANumber : (ℕ → Found → Type 0) → ℕ → Found → Type 0
+IsOfANumber At most Right = Unit {0}
+IsOfANumber At most (Wrong line) = IsWrongBelow At line most
 
 -- what is found of all numbers below this one: at none of them anything before it, and itself at one of them
-pub record IsFoundBelow (login : Login) (steps : List Step) (answers : List StepAnswer) (tapes : List Tape) (most : ℕ)
-    (found : Found) : Type 0 where
-  pub least : (n : ℕ) → n < most → IsLeastAt login steps answers tapes found n
-  pub somewhere : IsOfANumber login steps answers tapes most found
+pub record IsFoundBelow (At : ℕ → Found → Type 0) (most : ℕ) (found : Found) : Type 0 where
+  pub least : (n : ℕ) → n < most → IsLeastAt At found n
+  pub somewhere : IsOfANumber At most found
 
 abbrev pub earlier : Found → Found → Found
 earlier Right other = other
@@ -87,9 +84,9 @@ with_tapes (Wrong line) numbered end = Wrong line
 -- those of connections, for which the number of lines stands.
 pub record IsFirstWrong (login : Login) (steps : List Step) (answers : List StepAnswer) (tapes : List Tape) (line : ℕ)
     : Type 0 where
-  pub wrong : IsWrongBelow login steps answers tapes line (dialed_in steps + 1)
+  pub wrong : IsWrongBelow (FoundAt login steps answers tapes) line (dialed_in steps + 1)
       ⊎ ((line ≡ length steps) × (AreTapes 0 (dialed_in steps) tapes → ⊥))
-  pub least : (n : ℕ) → n < dialed_in steps + 1 → IsLeastAt login steps answers tapes (Wrong line) n
+  pub least : (n : ℕ) → n < dialed_in steps + 1 → IsLeastAt (FoundAt login steps answers tapes) (Wrong line) n
 
 -- The transcript is right; or this is its first wrong line.
 abbrev pub IsFoundIn : Login → List Step → List StepAnswer → List Tape → Found → Type 0

@@ -10,4 +10,4 @@ mod transcript;
 mod walk;
 
 pub use judging::{Found, judge_connection};
-pub use transcript::{earlier, judge_transcript};
+pub use transcript::{dialed_in, earlier, judge_transcript};

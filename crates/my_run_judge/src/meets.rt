@@ -75,7 +75,7 @@ fn error_met(error: &Error, met: &Met) -> bool
     match error {
         Error::Io(error) => io_met(error, met),
         Error::Server(_) => is_in_bytes(met),
-        Error::Driver(_) | Error::Url(_) | Error::NoMemory => false,
+        Error::Driver(_) | Error::Url(_) | Error::Other(_) | Error::NoMemory => false,
     }
 }
 

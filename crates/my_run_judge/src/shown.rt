@@ -126,7 +126,12 @@ fn begins(taken: bool, step: &Step, call: &Call) -> bool
         Step::Drop(_) => is_drop(call),
         Step::Ping(_) => is_ping(call),
         Step::Quit(_) => is_quit(call),
-        Step::Unstream(_) | Step::Fields(_) | Step::Poll(_) | Step::Cancel(_) => true,
+        Step::Unstream(_)
+        | Step::Fields(_)
+        | Step::Poll(_)
+        | Step::Cancel(_)
+        | Step::Advance(_)
+        | Step::Random(_) => true,
     }
 }
 
@@ -137,10 +142,15 @@ pub fn is_begun(taken: bool, step: &Step, call: Option<&TapeCall>) -> bool
 {
     match call {
         Some(call) => begins(taken, step, &call.call),
-        None => match step {
-            Step::Unstream(_) | Step::Fields(_) | Step::Poll(_) | Step::Cancel(_) => true,
-            _ => false,
-        },
+        None => matches!(
+            step,
+            Step::Unstream(_)
+                | Step::Fields(_)
+                | Step::Poll(_)
+                | Step::Cancel(_)
+                | Step::Advance(_)
+                | Step::Random(_)
+        ),
     }
 }
 

@@ -31,8 +31,8 @@ fn dialed_by(step: &Step) -> u64
     }
 }
 
-// How many connections the steps dial.
-fn dialed_in(steps: &[Step]) -> u64
+/// How many connections the steps dial.
+pub fn dialed_in(steps: &[Step]) -> u64
     ensures count { result ≡ dialed_in steps.now }
     ensures within { result < 2 ^ 63 }
 {
@@ -128,7 +128,8 @@ fn judge_numbers(
     tapes: &[Tape],
 ) -> Result<Found, NoMemory>
     requires { most < 2 ^ 63 }
-    ensures { IfOk result (λ found. IsFoundBelow login.now steps.now answers.now tapes.now (most + 1) found) }
+    ensures { let at = FoundAt login.now steps.now answers.now tapes.now in
+        IfOk result (λ found. IsFoundBelow at (most + 1) found) }
 {
     let mut least = Found::Right;
     let mut number = 0;

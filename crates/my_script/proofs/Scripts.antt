@@ -1,5 +1,6 @@
 -- How a script's lines go on.
 pub mod Cuts
+pub mod Standing
 use Rattle.std.proofs.Common.{◌≡◌, ◌+◌, ◌≤◌, ◌<◌, ℕ, suc, List, length, take, Option, Some, None, Bool, sym, ap, ◌∙◌, Bor, option_map, IfSome, arith}
 use Rattle.my_script.specs.declared.step.Step.{Step}
 use Rattle.my_world.specs.declared.line.WorldLine.{WorldLine}

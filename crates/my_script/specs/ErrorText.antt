@@ -72,4 +72,5 @@ error_text (errors.Driver e) = driver_text e
 error_text (errors.Io e) = io_text e
 error_text (errors.Server e) = server_text e
 error_text (errors.Url e) = url_text e
+error_text (errors.Other e) = one_text (codes "Other") e.text
 error_text errors.NoMemory = codes "NoMemory"

@@ -2,7 +2,14 @@
 use Rattle.std.specs.Prelude.{ℕ, List, codes, if◌then◌else◌}
 use Rattle.std.specs.Str.{bytes_eq}
 use Rattle.my_script.specs.declared.reading.keyword.Keyword.{Keyword}
-use Rattle.my_script.specs.declared.reading.keyword.Keyword.TheVariants.{Packet, Drip, Bytes, Turn, Wait, Fail, End, Accept, WriteWait, WriteFail, Conn, Query, Next, Collect, Stream, StreamItem, Unstream, Drop, Ping, Quit, Fields, Poll, Cancel, Unknown}
+use Rattle.my_script.specs.declared.reading.keyword.Keyword.TheVariants.{Packet, Drip, Bytes, Turn, Wait, Fail, End, Accept, WriteWait, WriteFail, Dial, Conn, Query, Next, Collect, Stream, StreamItem, Unstream, Drop, Ping, Quit, Fields, Poll, Cancel, Advance, Random, Unknown}
+
+-- the words of steps that move the world
+abbrev pub moving_keyword_of : List ℕ → Keyword
+moving_keyword_of word =
+    if bytes_eq word (codes "advance") then Advance
+    else if bytes_eq word (codes "random") then Random
+    else Unknown
 
 -- the words of steps
 abbrev pub step_keyword_of : List ℕ → Keyword
@@ -20,7 +27,7 @@ step_keyword_of word =
     else if bytes_eq word (codes "fields") then Fields
     else if bytes_eq word (codes "poll") then Poll
     else if bytes_eq word (codes "cancel") then Cancel
-    else Unknown
+    else moving_keyword_of word
 
 -- the words of a world's lines, and those of steps
 abbrev pub keyword_of : List ℕ → Keyword
@@ -35,4 +42,5 @@ keyword_of word =
     else if bytes_eq word (codes "accept") then Accept
     else if bytes_eq word (codes "wwait") then WriteWait
     else if bytes_eq word (codes "wfail") then WriteFail
+    else if bytes_eq word (codes "dial") then Dial
     else step_keyword_of word

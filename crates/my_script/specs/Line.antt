@@ -1,12 +1,13 @@
 -- What a line of a script says: its first word, then its arguments, one space apart.
-use Rattle.std.specs.Prelude.{ℕ, ◌==◌, nat_le, List, [], ◌∷◌, length, Option, Some, None, if◌then◌else◌}
+use Rattle.std.specs.Prelude.{ℕ, ◌==◌, nat_le, List, [], ◌∷◌, length, codes, Option, Some, None, if◌then◌else◌}
+use Rattle.std.specs.Str.{bytes_eq}
 use Rattle.my_frame.specs.Numbers.{◌>>=◌}
 use Rattle.my_script.specs.declared.step.Step.TheVariants as steps
 use Rattle.my_world.specs.declared.line.WorldLine.TheVariants as lines
 use Rattle.my_script.specs.declared.reading.line.Item.{Item}
 use Rattle.my_script.specs.declared.reading.line.Item.TheVariants.{Nothing, Plans, Steps, Wrong}
 use Rattle.my_script.specs.declared.reading.keyword.Keyword.{Keyword}
-use Rattle.my_script.specs.declared.reading.keyword.Keyword.TheVariants.{Packet, Drip, Bytes, Turn, Wait, Fail, End, Accept, WriteWait, WriteFail, Conn, Query, Next, Collect, Stream, StreamItem, Unstream, Drop, Ping, Quit, Fields, Poll, Cancel, Unknown}
+use Rattle.my_script.specs.declared.reading.keyword.Keyword.TheVariants.{Packet, Drip, Bytes, Turn, Wait, Fail, End, Accept, WriteWait, WriteFail, Dial, Conn, Query, Next, Collect, Stream, StreamItem, Unstream, Drop, Ping, Quit, Fields, Poll, Cancel, Advance, Random, Unknown}
 use Rattle.my_script.specs.declared.reading.line.PacketParts.{PacketParts}
 use Rattle.my_script.specs.declared.reading.line.LinkParts.{LinkParts}
 use Rattle.my_script.specs.declared.reading.line.AcceptParts.{AcceptParts}
@@ -32,19 +33,19 @@ packet_parts rest = do
 abbrev pub packet_view : PacketParts → PacketWords
 packet_view p = record { link = p.link; number = p.number; digits = p.digits.now }
 
--- a link's number and digits
+-- a link's number and what is said of it
 pub record LinkWords : Type 0 where
   pub link : ℕ
-  pub digits : List ℕ
+  pub rest : List ℕ
 
 unfoldable pub link_parts : List ℕ → Option LinkWords
 link_parts rest = do
   link ← number_at_most 65535 (first_of 32 rest)
-  digits ← rest_of 32 rest
-  Some (record { link = link; digits = digits })
+  more ← rest_of 32 rest
+  Some (record { link = link; rest = more })
 
 abbrev pub link_view : LinkParts → LinkWords
-link_view p = record { link = p.link; digits = p.digits.now }
+link_view p = record { link = p.link; rest = p.rest.now }
 
 -- a link's number and how many bytes
 pub record AcceptWords : Type 0 where
@@ -92,6 +93,13 @@ bytes_with link None = Wrong
 bytes_with link (Some []) = Wrong
 bytes_with link (Some (b ∷ bytes)) = Plans (lines.Bytes link (b ∷ bytes))
 
+-- the dial waits or fails
+abbrev pub dial_with : ℕ → List ℕ → Item
+dial_with link word =
+    if bytes_eq word (codes "wait") then Plans (lines.DialWait link)
+    else if bytes_eq word (codes "fail") then Plans (lines.DialFail link)
+    else Wrong
+
 -- `packet L N HEX`, `drip L N HEX`
 abbrev pub packet_item : Keyword → Option PacketWords → Item
 packet_item keyword None = Wrong
@@ -100,7 +108,12 @@ packet_item keyword (Some p) = packet_with keyword p.link p.number (bytes_of p.d
 -- `bytes L HEX`
 abbrev pub bytes_item : Option LinkWords → Item
 bytes_item None = Wrong
-bytes_item (Some p) = bytes_with p.link (bytes_of p.digits)
+bytes_item (Some p) = bytes_with p.link (bytes_of p.rest)
+
+-- `dial L wait`, `dial L fail`
+abbrev pub dial_item : Option LinkWords → Item
+dial_item None = Wrong
+dial_item (Some p) = dial_with p.link p.rest
 
 -- `accept L N`
 abbrev pub accept_item : Option AcceptWords → Item
@@ -139,6 +152,13 @@ connection_item Poll (Some connection) = Steps (steps.Poll connection)
 connection_item Cancel (Some connection) = Steps (steps.Cancel connection)
 connection_item _ (Some connection) = Wrong
 
+-- `advance MS`, `random N`
+abbrev pub moving_item : Keyword → Option ℕ → Item
+moving_item keyword None = Wrong
+moving_item Advance (Some by) = Steps (steps.Advance by)
+moving_item Random (Some word) = Steps (steps.Random word)
+moving_item _ (Some n) = Wrong
+
 -- `conn`
 abbrev pub bare_item : Keyword → Item
 bare_item Conn = Steps steps.Conn
@@ -150,6 +170,7 @@ item_with Packet rest = packet_item Packet (packet_parts rest)
 item_with Drip rest = packet_item Drip (packet_parts rest)
 item_with Bytes rest = bytes_item (link_parts rest)
 item_with Accept rest = accept_item (accept_parts rest)
+item_with Dial rest = dial_item (link_parts rest)
 item_with Query rest = query_item (query_parts rest)
 item_with Turn rest = link_item Turn (number_at_most 65535 rest)
 item_with Wait rest = link_item Wait (number_at_most 65535 rest)
@@ -168,6 +189,8 @@ item_with Quit rest = connection_item Quit (number_of rest)
 item_with Fields rest = connection_item Fields (number_of rest)
 item_with Poll rest = connection_item Poll (number_of rest)
 item_with Cancel rest = connection_item Cancel (number_of rest)
+item_with Advance rest = moving_item Advance (number_of rest)
+item_with Random rest = moving_item Random (number_of rest)
 item_with Conn rest = Wrong
 item_with Unknown rest = Wrong
 

@@ -1,8 +1,8 @@
 -- What all lines of a script say: the lines of its world, then its steps; or the first line that doesn't read.
-use Rattle.std.specs.Prelude.{ℕ, ◌+◌, ◌==◌, ◌&&◌, nat_lt, not, take, List, [], ◌∷◌, ◌++◌, Option, Some, None, Bool, true, false, if◌then◌else◌}
-use Rattle.std.specs.List.{slice_split}
+use Rattle.std.specs.Prelude.{ℕ, ◌≡◌, ◌+◌, ◌==◌, ◌&&◌, nat_lt, not, take, List, [], ◌∷◌, ◌++◌, Option, Some, None, Bool, true, false, if◌then◌else◌}
+use Rattle.std.specs.List.{slice_split, list_all}
 use Rattle.my_script.specs.declared.step.Step.{Step}
-use Rattle.my_script.specs.declared.step.Step.TheVariants.{Conn}
+use Rattle.my_script.specs.declared.step.Step.TheVariants.{Conn, Advance, Random}
 use Rattle.my_world.specs.declared.line.WorldLine.{WorldLine}
 use Rattle.my_script.specs.declared.reading.line.Item.{Item}
 use Rattle.my_script.specs.declared.reading.line.Item.TheVariants.{Nothing, Plans, Steps, Wrong}
@@ -16,16 +16,23 @@ pub data Script : Type 0 where
   Good : (plan : List WorldLine) (steps : List Step) → Script
   Bad : (n : ℕ) (text : List ℕ) → Script
 
+-- a step that moves the world is there only where the world plans
+abbrev pub admitted_moving : Bool → Sofar → Option Sofar
+admitted_moving true s = Some (record { stepped = true; conns = s.conns })
+admitted_moving false s = None
+
 -- at most 1,000 lines connect
-abbrev pub admitted_step : Sofar → Step → Option Sofar
-admitted_step s Conn = if nat_lt s.conns 1000 then Some (record { stepped = true; conns = s.conns + 1 }) else None
-admitted_step s _ = Some (record { stepped = true; conns = s.conns })
+abbrev pub admitted_step : Bool → Sofar → Step → Option Sofar
+admitted_step plans s Conn = if nat_lt s.conns 1000 then Some (record { stepped = true; conns = s.conns + 1 }) else None
+admitted_step plans s (Advance by) = admitted_moving plans s
+admitted_step plans s (Random word) = admitted_moving plans s
+admitted_step plans s _ = Some (record { stepped = true; conns = s.conns })
 
 -- the lines up to this one, where it may be there: a world's line comes before the first step, over a world that plans
 abbrev pub admitted : Bool → Sofar → Item → Option Sofar
 admitted plans s Nothing = Some s
 admitted plans s (Plans l) = if plans && not s.stepped then Some s else None
-admitted plans s (Steps step) = admitted_step s step
+admitted plans s (Steps step) = admitted_step plans s step
 admitted plans s Wrong = None
 
 -- these stand before what follows says
@@ -52,6 +59,16 @@ script_from plans s n (l ∷ ls) = on_line (admitted plans s (line_of l)) n l (l
 -- all bytes as lines, which end with a line feed; a last line without one reads too
 abbrev pub script_of : Bool → List ℕ → Script
 script_of plans bytes = script_from plans (record { stepped = false; conns = 0 }) 1 (slice_split (λ b. b == 10) bytes)
+
+-- a step that moves the world stands only over a world that plans
+abbrev pub may_stand : Bool → Step → Bool
+may_stand plans (Advance by) = plans
+may_stand plans (Random word) = plans
+may_stand plans _ = true
+
+abbrev pub StandsIn : Bool → Script → Type 0
+StandsIn plans (Good plan steps) = list_all (may_stand plans) steps ≡ true
+StandsIn plans (Bad n text) = Unit {0}
 
 abbrev pub read_as : Read → Script
 read_as (reads.Good s) = Good s.plan.items s.steps.items

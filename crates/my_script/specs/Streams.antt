@@ -9,7 +9,7 @@ use Rattle.my_script.specs.declared.stream.Stream.TheVariants.{Without, Taking, 
 use Rattle.my_script.specs.declared.transcript.Outcome.{Outcome}
 use Rattle.my_script.specs.declared.transcript.Outcome.TheVariants.{Done, Pending, Row, NoSuchHandle}
 
--- the number that a step names; `conn` names none
+-- the number of the connection that a step names; `conn` names none, nor do the steps of the world
 abbrev pub target : Step → Option ℕ
 target steps.Conn = None
 target (steps.Query n text) = Some n
@@ -24,6 +24,8 @@ target (steps.Quit n) = Some n
 target (steps.Fields n) = Some n
 target (steps.Poll n) = Some n
 target (steps.Cancel n) = Some n
+target (steps.Advance by) = None
+target (steps.Random word) = None
 
 -- a set is taken: from then on a stream is there
 abbrev pub after_taking : Outcome → Stream

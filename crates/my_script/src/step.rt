@@ -2,7 +2,7 @@
 
 use my_frame::Blob;
 
-/// A step of a script. Each but the first names a connection by its number.
+/// A step of a script. Each but the first and the last two names a connection by its number.
 #[derive(Drop)]
 pub enum Step {
     /// Dials and connects the next connection.
@@ -31,4 +31,8 @@ pub enum Step {
     Poll(u64),
     /// Drops this connection's open call.
     Cancel(u64),
+    /// Moves the world's moment by this many milliseconds.
+    Advance(u64),
+    /// Adds this word after the world's random words.
+    Random(u64),
 }

@@ -17,12 +17,12 @@ pub enum Stream {
     Reading,
 }
 
-/// The number that a step names; `conn` names none.
+/// The number of the connection that a step names; `conn` names none, nor do the steps of the world.
 pub fn target(step: &Step) -> Option<u64>
     ensures { result ≡ target step.now }
 {
     match step {
-        Step::Conn => None,
+        Step::Conn | Step::Advance(_) | Step::Random(_) => None,
         Step::Query(number, _) => Some(*number),
         Step::Next(number)
         | Step::Collect(number)

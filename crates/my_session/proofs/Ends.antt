@@ -178,6 +178,7 @@ at_once s t place (errors.Driver e) m d = inl (did_eof s place (errors.Driver e)
 at_once s t place (errors.Io e) m d = inl (did_eof s place (errors.Io e) m d.does)
 at_once s t place (errors.Server e) m d = inl (did_eof s place (errors.Server e) m d.does)
 at_once s t place (errors.Url e) m d = absurd d
+at_once s t place (errors.Other e) m d = absurd d
 at_once s t place errors.NoMemory m d = inr refl
 
 stopped : (n : ℕ) (s : Seen) (place : ℕ) → next s ≡ failed_by s (unexpected_eof place) → AllGo (suc n) s → ⊥

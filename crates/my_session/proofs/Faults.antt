@@ -429,6 +429,7 @@ module _ (s : Seen) (h : History) (st : Stands s h) (op : is_open s.task ≡ tru
   fault_because (errors.Io e) new d = did_because (errors.Io e) new d
   fault_because (errors.Server e) new d = did_because (errors.Server e) new d
   fault_because (errors.Url e) new d = absurd d
+  fault_because (errors.Other e) new d = absurd d
   fault_because errors.NoMemory new d = record { law = (each_history s h st).law; cause = tt }
 
   pub answer_cause : (a : Answer) (new : Seen) → Did (next s) new (ticks.Done a) → AnswerCause s h a

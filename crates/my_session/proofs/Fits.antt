@@ -89,6 +89,7 @@ fault_on here new (errors.Driver e) w d = did_on here new (ticks.Fault (errors.D
 fault_on here new (errors.Io e) w d = did_on here new (ticks.Fault (errors.Io e)) w d
 fault_on here new (errors.Server e) w d = did_on here new (ticks.Fault (errors.Server e)) w d
 fault_on here new (errors.Url e) w d = absurd d
+fault_on here new (errors.Other e) w d = absurd d
 fault_on here new errors.NoMemory w d = subst (IsOn here) (sym d) (on_fell here here (on_here here))
 
 error_in : Doing → Error
@@ -119,6 +120,7 @@ fault_error here new (errors.Driver e) d own = did_error here (errors.Driver e) 
 fault_error here new (errors.Io e) d own = did_error here (errors.Io e) (fault_in here.task) refl d.does own
 fault_error here new (errors.Server e) d own = did_error here (errors.Server e) (fault_in here.task) refl d.does own
 fault_error here new (errors.Url e) d own = absurd d
+fault_error here new (errors.Other e) d own = absurd d
 fault_error here new errors.NoMemory d own = no_memory_fits (fault_in here.task) here.ended
 
 fits_on : (old here new : Seen) (step : SessionStep) → IsSame old here → IsOn here new → AnswerFits (kind_in old.task) step → ErrorFits (fault_in old.task) old.ended step → WasStepped new.task step → StepFits old new step

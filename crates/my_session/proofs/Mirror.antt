@@ -50,6 +50,7 @@ module _ (s new : Seen) (bytes : AreBytes s.unread) (call : Call) (parts : List 
   fault_reads (errors.Io e) d = reads_as (ticks.Fault (errors.Io e)) (did_comes (ticks.Fault (errors.Io e)) d)
   fault_reads (errors.Server e) d = reads_as (ticks.Fault (errors.Server e)) (did_comes (ticks.Fault (errors.Server e)) d)
   fault_reads (errors.Url e) d = absurd d
+  fault_reads (errors.Other e) d = absurd d
   fault_reads errors.NoMemory d = record {
     rest = parts;
     place = p;

@@ -38,6 +38,7 @@ module _ (s new : Seen) (h : History) (bytes : AreBytes s.unread) (op : is_open 
   fault_stands (errors.Io e) d = did_stands (ticks.Fault (errors.Io e)) d
   fault_stands (errors.Server e) d = did_stands (ticks.Fault (errors.Server e)) d
   fault_stands (errors.Url e) d = absurd d
+  fault_stands (errors.Other e) d = absurd d
   fault_stands errors.NoMemory d = subst (λ (n : Seen). Stands n (answered h (ToldError errors.NoMemory))) (sym d) (fell_stands s h errors.NoMemory (λ c. refl) op st)
 
   pub tick_stands : (t : Tick) → Does (next s) s new t → Stands new (after_tick h t)

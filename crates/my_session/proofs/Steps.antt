@@ -1,4 +1,5 @@
 -- A move more of a step.
+pub mod Fewer
 pub mod Fronts
 pub mod Going
 pub mod Passing

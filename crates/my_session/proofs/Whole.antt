@@ -92,6 +92,7 @@ module _ (login : Login) (made : Option LinkFault) (unread : List ℕ) (h : Hist
   is_outside (errors.Io e) c = io_outside e c
   is_outside (errors.Server e) c = refused_never e c
   is_outside (errors.Url e) c = c
+  is_outside (errors.Other e) c = c
   is_outside errors.NoMemory c = tt
 
 pub each_whole_call : EachWholeCall

@@ -29,17 +29,18 @@ use Rattle.my_reading.specs.declared.answer.Answer.{Answer}
 use Rattle.my_reading.specs.declared.answer.Answer.TheVariants as answers
 use Rattle.my_session.specs.declared.answer.SessionStep.{SessionStep}
 use Rattle.my_session.specs.declared.answer.SessionStep.TheVariants as steps
-use Rattle.my_session.specs.Tasks.{fault_in, is_open}
+use Rattle.my_session.specs.Tasks.{fault_in, is_open, kind_in}
 use Rattle.my_reading.specs.Commands.{opening, command_in}
 use Rattle.my_session.specs.Entries.{Entry, terms_by, connecting_in}
 use Rattle.my_reading.specs.Errors.{server_error}
-use Rattle.my_reading.specs.Told.{ToldError}
-use Rattle.my_session.specs.History.{History}
+use Rattle.my_reading.specs.Told.{Told, ToldError}
+use Rattle.my_session.specs.History.{History, passing}
 use Rattle.my_session.specs.Law.{IsLawful, Says, in_order, talks, origins}
 use Rattle.my_session.specs.Machine.{Tells, is_greeting, next}
 use Rattle.my_session.specs.Seen.{Seen}
 use Rattle.my_session.specs.Stands.{Stands}
-use Rattle.my_session.specs.Steps.{moved}
+use Rattle.my_session.specs.Passed.{ArePassed}
+use Rattle.my_session.specs.Steps.{after_step, moved}
 
 -- what the grammar finds in the bytes taken
 abbrev pub found : List Entry → List ℕ → Cut
@@ -120,6 +121,7 @@ Cause login made unread h newest older (errors.Driver e) = DriverCause made e
 Cause login made unread h newest older (errors.Io e) = IoErrorCause login made unread h newest older e
 Cause login made unread h newest older (errors.Server e) = IsRefused unread h newest older e
 Cause login made unread h newest older (errors.Url e) = ⊥
+Cause login made unread h newest older (errors.Other e) = ⊥
 Cause login made unread h newest older errors.NoMemory = Unit {0}
 
 -- The cause, over the exchanges that the history's law speaks of.
@@ -158,3 +160,9 @@ pub record HasCause (old : Seen) (h : History) (step : SessionStep) : Type 0 whe
   pub login : here.login ≡ old.login
   pub fault : fault_in here.task ≡ fault_in old.task
   pub cause : EndCause here h step
+
+-- of each history: what a step passed over, and the cause of what it came to
+abbrev pub EachStepStands : Seen → Seen → SessionStep → Type 0
+EachStepStands old new result = (h : History) → Stands old h
+    → (passed : List Told) × ArePassed (kind_in old.task) passed × Stands new (after_step (passing h passed) result)
+    × HasCause old (passing h passed) result

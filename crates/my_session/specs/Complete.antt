@@ -38,6 +38,7 @@ IsOutside login made unread h newest older (errors.Driver e) = DriverCause made 
 IsOutside login made unread h newest older (errors.Io e) = OutsideIo login made unread h newest older e
 IsOutside login made unread h newest older (errors.Server e) = ⊥
 IsOutside login made unread h newest older (errors.Url e) = ⊥
+IsOutside login made unread h newest older (errors.Other e) = ⊥
 IsOutside login made unread h newest older errors.NoMemory = Unit {0}
 
 -- Where what was taken, and what may still come, is whole, an error has a cause outside of it.

@@ -77,6 +77,7 @@ OwnError ended (errors.Driver e) = ⊥
 OwnError ended (errors.Io e) = OwnIo ended e
 OwnError ended (errors.Server e) = Unit {0}
 OwnError ended (errors.Url e) = ⊥
+OwnError ended (errors.Other e) = ⊥
 OwnError ended errors.NoMemory = Unit {0}
 
 -- what a call that was made to fail returns, unless memory ran out

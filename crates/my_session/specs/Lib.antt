@@ -8,10 +8,12 @@ pub mod Groups
 pub mod History
 pub mod Law
 pub mod LinkErrors
+pub mod Login
 pub mod Machine
 pub mod Mirror
 pub mod Passed
 pub mod Prefix
+pub mod Rest
 pub mod Seen
 pub mod ServerErrors
 pub mod Session

@@ -257,6 +257,7 @@ FaultIs m old new (errors.Driver e) = Did m new (ticks.Fault (errors.Driver e))
 FaultIs m old new (errors.Io e) = Did m new (ticks.Fault (errors.Io e))
 FaultIs m old new (errors.Server e) = Did m new (ticks.Fault (errors.Server e))
 FaultIs m old new (errors.Url e) = ⊥
+FaultIs m old new (errors.Other e) = ⊥
 FaultIs m old new errors.NoMemory = new ≡ fell old
 
 -- the code did this move, unless memory ran out

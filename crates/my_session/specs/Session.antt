@@ -2,9 +2,13 @@
 use Rattle.my_frame.specs.FrontLaws.{AreBytes}
 use Rattle.my_session.specs.declared.session.Session.TheInside.{Inside}
 use Rattle.my_session.specs.Seen.{Seen}
+use Rattle.my_session.specs.View.{Lifetime}
 
 abbrev pub seen : Inside → Seen
 seen s = record { context = s.context; task = s.task; text = s.text; untold = s.untold; taken = s.taken; closed = s.closed; ended = s.ended; number = s.number; unread = s.unread; owed = s.owed; facts = s.facts; login = s.login }
+
+abbrev pub lifetime : Inside → Lifetime
+lifetime s = record { opts = s.opts; is_socket = s.is_socket; deadline = s.deadline; last_io = s.last_io }
 
 -- what was received are bytes
 abbrev pub HoldsBytes : Inside → Type 0

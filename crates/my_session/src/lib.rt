@@ -3,6 +3,7 @@
 
 mod answer;
 mod law;
+mod login;
 mod session;
 mod tables;
 mod task;
@@ -12,6 +13,7 @@ pub use law::{
     each_answer_fits, each_end, each_fault, each_history, each_move_reads, each_setting,
     each_whole_call,
 };
+pub use login::login_for;
 pub use session::Session;
 pub use tables::{Plan, Reaction};
 pub use task::{LinkFault, Task};

@@ -1,21 +1,22 @@
 //! A session: its state, and the calls by which a caller begins a call, carries its bytes, and ends it early.
 
 ghost use Rattle.std.specs.Prelude.{◌≡◌, ◌<◌, ◌≤◌, ◌++◌, ◌↔◌, ◌||◌, ◌==◌, not, length, drop, take as front, true, false, OnOk, OnErr, IfOk, IfErr, IsErr};
-ghost use Rattle.std.specs.Option.{option_copied};
 ghost use Rattle.my_reading.specs.Calls.{kind_of};
 ghost use Rattle.my_session.specs.Steps.{is_refused, failing};
 
+mod facts;
 mod payload;
 mod receiving;
 mod sending;
 mod stepping;
 
+use crate::login::login_for;
 use crate::tables::closes_when_cancelled;
 use crate::task::{LinkFault, Task};
 use my_frame::{Blob, NoMemory};
 use my_grammar::{Context, Login, Queue, Spot};
+use my_opts::Opts;
 use my_reading::{Call, CallKind, DriverError, Error, Facts};
-use my_reply::OkPacket;
 use std::alloc::Global;
 use std::marker::Model;
 use std::mem;
@@ -44,6 +45,12 @@ pub struct Session {
     owed: Queue,
     facts: Facts,
     login: Login,
+    opts: Opts,
+    is_socket: bool,
+    // The moment at which the connection ends, where it has one.
+    deadline: Option<u128>,
+    // The moment of the last whole payload.
+    last_io: u64,
     // What the caller's reads of the link read into, between them.
     buffer: Vec<u8>,
 }
@@ -53,9 +60,9 @@ impl Model for Session {
 
     ghost Value = { View };
 
-    ghost use Rattle.my_session.specs.Session.{HoldsBytes, seen};
+    ghost use Rattle.my_session.specs.Session.{HoldsBytes, lifetime, seen};
 
-    ghost view = { λ s. record { seen = seen s } };
+    ghost view = { λ s. record { seen = seen s; lifetime = lifetime s } };
 
     ghost invariant = { HoldsBytes };
 }
@@ -94,12 +101,22 @@ impl Session {
     ghost use Rattle.my_session.specs.Stands.{Stands};
     ghost use Rattle.my_session.specs.Steps.{AtBegun, is_begun_at, is_settled, fresh, begun, is_taken, with_owed, with_unread, with_end, with_failing, with_loss};
     ghost use Rattle.my_session.specs.Tables.{closes_when_cancelled};
+    ghost use Rattle.my_session.specs.Login.{login_of};
+    ghost use Rattle.my_session.specs.View.{first_lifetime};
 
-    /// A session that awaits the server's greeting.
-    pub fn new(alloc: Global, login: Login) -> Result<Session, NoMemory>
-        ensures seen { IfOk result (λ s. s.seen ≡ fresh login) }
+    /// A session that awaits the server's greeting, over a link that is a local socket or isn't. A connection ends at its
+    /// deadline, in milliseconds, where it has one; the session itself goes on.
+    pub fn new(
+        alloc: Global,
+        opts: Opts,
+        is_socket: bool,
+        deadline: Option<u128>,
+    ) -> Result<Session, NoMemory>
+        ensures seen { IfOk result (λ s. s.seen ≡ fresh (login_of opts)) }
         ensures stands { IfOk result (λ s. Stands s.seen beginning) }
+        ensures lifetime { IfOk result (λ s. s.lifetime ≡ first_lifetime opts is_socket deadline) }
     {
+        let login = login_for(alloc, &opts)?;
         let facts = Facts::new(alloc, &login)?;
         Ok(Session {
             context: Context::start(&login),
@@ -114,12 +131,17 @@ impl Session {
             owed: Queue::new(alloc),
             facts,
             login,
+            opts,
+            is_socket,
+            deadline,
+            last_io: 0,
             buffer: Vec::new(alloc),
         })
     }
 
     fn keep_text(&mut self, call: Call)
-        ensures { self.new.seen ≡ record self.old.seen { text = text_of call self.old.seen.text } }
+        ensures does { self.new.seen ≡ record self.old.seen { text = text_of call self.old.seen.text } }
+        ensures lifetime { self.new.lifetime ≡ self.old.lifetime }
     {
         match call {
             Call::Query(text) => self.text = text,
@@ -139,6 +161,7 @@ impl Session {
         ensures why { IfErr result (λ e. e ≡ connection_closed) }
         ensures closed { IsErr result ↔ (is_refused self.old.seen.closed (kind_of call) ≡ true) }
         ensures free { OnOk result (is_refused self.old.seen.closed (kind_of call) ≡ false) }
+        ensures lifetime { self.new.lifetime ≡ self.old.lifetime }
     {
         if is_refused(self.closed, &call) {
             return Err(Error::Driver(DriverError::ConnectionClosed));
@@ -165,6 +188,7 @@ impl Session {
         ensures stands { OnOk result ((h : History) → Stands self.old.seen h → Stands self.new.seen (began h call)) }
         ensures refused { OnErr result ((h : History) → Stands self.old.seen h
             → Stands self.new.seen (answered (began h call) (ToldError connection_closed))) }
+        ensures lifetime { self.new.lifetime ≡ self.old.lifetime }
     {
         self.start(call)
     }
@@ -234,13 +258,15 @@ impl Session {
         ensures seen { self.new.seen ≡ with_owed self.old.seen (drop count self.old.seen.owed) }
         ensures stands { (h : History) → Stands self.old.seen h
             → Stands self.new.seen (gone h (front count self.old.seen.owed)) }
+        ensures lifetime { self.new.lifetime ≡ self.old.lifetime }
     {
         self.owed.skip(count);
     }
 
     // The call ends, and the session is closed.
     fn fall(&mut self)
-        ensures { self.new.seen ≡ fell self.old.seen }
+        ensures does { self.new.seen ≡ fell self.old.seen }
+        ensures lifetime { self.new.lifetime ≡ self.old.lifetime }
     {
         self.task = Task::Nothing;
         self.closed = true;
@@ -249,7 +275,8 @@ impl Session {
 
     // Bytes were received for which there is no memory.
     fn lose(&mut self)
-        ensures { self.new.seen ≡ with_loss self.old.seen }
+        ensures does { self.new.seen ≡ with_loss self.old.seen }
+        ensures lifetime { self.new.lifetime ≡ self.old.lifetime }
     {
         if self.is_open() {
             self.task = failing(self.task, LinkFault::NoMemory);
@@ -261,6 +288,7 @@ impl Session {
     fn append(&mut self, bytes: &[u8]) -> Result<(), NoMemory>
         ensures ok { OnOk result (self.new.seen ≡ with_unread self.old.seen (self.old.seen.unread ++ bytes.now)) }
         ensures err { OnErr result (self.new.seen ≡ with_loss self.old.seen) }
+        ensures lifetime { self.new.lifetime ≡ self.old.lifetime }
     {
         match self.unread.push(bytes) {
             Ok(()) => Ok(()),
@@ -278,6 +306,7 @@ impl Session {
         ensures stands { OnOk result ((h : History) → Stands self.old.seen h
             → Stands self.new.seen (took h bytes.now)) }
         ensures lost { OnErr result ((h : History) → Stands self.old.seen h → Stands self.new.seen (losing h)) }
+        ensures lifetime { self.new.lifetime ≡ self.old.lifetime }
     {
         self.append(bytes)
     }
@@ -287,6 +316,7 @@ impl Session {
     pub fn lend_buffer(&mut self, alloc: Global) -> Result<Vec<u8>, NoMemory>
         ensures room { IfOk result (λ buffer. 0 < length buffer.items) }
         ensures seen { self.new.seen ≡ self.old.seen }
+        ensures lifetime { self.new.lifetime ≡ self.old.lifetime }
     {
         let buffer = mem::replace(&mut self.buffer, Vec::new(alloc));
         if buffer.is_empty() {
@@ -297,7 +327,8 @@ impl Session {
 
     /// Keeps the buffer for the next read.
     pub fn keep_buffer(&mut self, buffer: Vec<u8>)
-        ensures { self.new.seen ≡ self.old.seen }
+        ensures does { self.new.seen ≡ self.old.seen }
+        ensures lifetime { self.new.lifetime ≡ self.old.lifetime }
     {
         self.buffer = buffer;
     }
@@ -306,6 +337,7 @@ impl Session {
     pub fn end(&mut self)
         ensures seen { self.new.seen ≡ with_end self.old.seen }
         ensures stands { (h : History) → Stands self.old.seen h → Stands self.new.seen (ending h) }
+        ensures lifetime { self.new.lifetime ≡ self.old.lifetime }
     {
         self.ended = true;
     }
@@ -315,12 +347,14 @@ impl Session {
         requires { is_open self.old.seen.task ≡ true }
         ensures seen { self.new.seen ≡ with_failing self.old.seen fault }
         ensures stands { (h : History) → Stands self.old.seen h → Stands self.new.seen h }
+        ensures lifetime { self.new.lifetime ≡ self.old.lifetime }
     {
         self.task = failing(self.task, fault);
     }
 
     fn drop_call(&mut self)
-        ensures { self.new.seen ≡ dropped self.old.seen }
+        ensures does { self.new.seen ≡ dropped self.old.seen }
+        ensures lifetime { self.new.lifetime ≡ self.old.lifetime }
     {
         if closes_when_cancelled(self.task, self.context.spot) {
             self.fall();
@@ -337,42 +371,8 @@ impl Session {
         ensures seen { self.new.seen ≡ dropped self.old.seen }
         ensures stands { let s = self.old.seen in (h : History) → Stands s h
             → Stands self.new.seen (answered h (Dropped (closes_when_cancelled s.task s.context.spot))) }
+        ensures lifetime { self.new.lifetime ≡ self.old.lifetime }
     {
         self.drop_call();
-    }
-
-    /// The number of the connection, as the server reported it.
-    pub fn connection_id(&self) -> u32
-        ensures { result ≡ self.now.seen.facts.connection }
-    {
-        self.facts.connection
-    }
-
-    /// The server's version, as it reported it.
-    pub fn version(&self) -> &[u8]
-        ensures { result.now ≡ self.now.seen.facts.version }
-    {
-        self.facts.version.as_slice()
-    }
-
-    /// The longest payload of a command and its answer, in bytes.
-    pub fn limit(&self) -> u64
-        ensures { result ≡ self.now.seen.facts.settings.limit }
-    {
-        self.facts.settings.limit
-    }
-
-    /// After this many seconds without a command the server ends the connection.
-    pub fn wait_timeout(&self) -> u64
-        ensures { result ≡ self.now.seen.facts.settings.wait_timeout }
-    {
-        self.facts.settings.wait_timeout
-    }
-
-    /// The last OK, or the OK that ended a set; none after an ERR.
-    pub fn last_ok(&self) -> Option<&OkPacket>
-        ensures { option_copied result ≡ self.now.seen.facts.ok }
-    {
-        self.facts.ok.as_ref()
     }
 }

@@ -20,12 +20,13 @@ use Rattle.my_script.specs.declared.transcript.Outcome.{Outcome}
 use Rattle.my_script.specs.declared.transcript.Use.{Use}
 use Rattle.my_link.specs.declared.link.ReadItem.{ReadItem}
 use Rattle.my_link.specs.declared.link.WriteItem.{WriteItem}
+use Rattle.my_link.specs.declared.dialer.DialItem.{DialItem}
 use Rattle.my_link.specs.declared.met.Met.{Met}
 use Rattle.my_link.specs.Looks.{Looks}
 use Rattle.my_link.specs.Moves.{Stop}
 use Rattle.my_world.specs.World.{Plans}
 use Rattle.my_client.specs.Causes.{IsPolled, PollEnds}
-use Rattle.my_steps.specs.Grows.{IsRefused, OnConnection, PolledOnce, IsClosed, Begins, BeginsOn, Calls, ConnectShows, Connects, Dials, Holds, Fails, Links, Gathers, GathersOn, Collects, CollectsOn, CollectsAt, PollsOn, PollsCall, ThenTakes, Skips, Takes, TakesOn, StreamsAt, ItemsAt, LetsGo, LetsGoWith, UnstreamsAt, GoesOnWith, GoesOn, CancelsWith, Cancels, TellsWith, TellsFields, At, StepGrows, Line, AreGrown, handles_after, is_done, is_streamed, skips_first}
+use Rattle.my_steps.specs.Grows.{IsRefused, OnConnection, PolledOnce, IsClosed, Begins, BeginsOn, Calls, ConnectShows, Connects, Dials, Holds, Fails, Links, Gathers, GathersOn, Collects, CollectsOn, CollectsAt, PollsOn, PollsCall, ThenTakes, Skips, Takes, TakesOn, StreamsAt, ItemsAt, LetsGoWith, UnstreamsAt, GoesOnWith, GoesOn, CancelsWith, Cancels, TellsWith, TellsFields, At, StepGrows, Line, AreGrown, handles_after, is_done, is_streamed, skips_first}
 use Rattle.my_client.specs.Kept.{asked_by, Asked, Kept, nothing_kept, told_by, made_of, asking, ended_by, first_asked, first_kept}
 use Rattle.my_steps.specs.Handle.{Handle, Absent, Dialing, Joined, at_number, put_at}
 use Rattle.my_client.specs.Ready.{WereJoined, WasJoined, IsOpen, JoinedBy}
@@ -105,10 +106,10 @@ connects_joined login n a k x o u t c g r = shown_joined login n a k r.polled.fo
 none_gathers : (k : Kept) (call : Call) (m : Kept) → GathersOpen (asked_by k call) m
 none_gathers k call m e = cc
 
-dials_joined : (login : Login) (plan : Option (List ReadItem)) (rules : Option (List WriteItem)) (n : ℕ) (o : Outcome) (us : List Use) (t : Handle) → Dials login plan rules n o us t → IsJoined t
-dials_joined login plan rules n o us t (Holds e f g h) = subst IsJoined (sym g) tt
-dials_joined login plan rules n o us t (Fails e f g h) = subst IsJoined (sym g) tt
-dials_joined login plan rules n o us t (Links u x e new r) = connects_joined login n first_asked first_kept x o u t refl (none_gathers nothing_kept calls.Connect first_kept) r
+dials_joined : (login : Login) (plan : Option (List ReadItem)) (rules : Option (List WriteItem)) (items : Option (List DialItem)) (n : ℕ) (o : Outcome) (us : List Use) (t : Handle) → Dials login plan rules items n o us t → IsJoined t
+dials_joined login plan rules items n o us t (Holds left e f g h) = subst IsJoined (sym g) tt
+dials_joined login plan rules items n o us t (Fails left e f g h) = subst IsJoined (sym g) tt
+dials_joined login plan rules items n o us t (Links u x left e new given r) = connects_joined login n first_asked first_kept x o u t refl (none_gathers nothing_kept calls.Connect first_kept) r
 
 -- after a row the session isn't closed
 pub row_open : (login : Login) (a : Asked) (k b end : Kept) (u : Met) (st : Stop) (p : After) (row : RowParts) → p ≡ after.Answered (answers.Row row) → b.calls ≡ k.calls → IsOpen k → PollEnds login a b u st p end → IsOpen end
@@ -149,7 +150,7 @@ begins_on (Some a) login n call k x o us t e w r = kept_joined (Joined true k x)
 -- a step that needs a connection keeps what holds of numbers, where it does so on a connection
 on_joined : (R : Kept → Looks → Outcome → List Use → Handle → Type 0) (o : Outcome) (us : List Use) (h t : Handle) → ((k : Kept) (x : Looks) → JoinedBy k.pending k → R k x o us t → IsJoined t) → IsJoined h → OnConnection R h o us t → IsJoined t
 on_joined R o us Absent t on w r = kept_joined Absent o us t w r
-on_joined R o us Dialing t on w r = kept_joined Dialing o us t w r
+on_joined R o us (Dialing left) t on w r = kept_joined (Dialing left) o us t w r
 on_joined R o us (Joined false k x) t on w r = kept_joined (Joined false k x) o us t w r
 on_joined R o us (Joined true k x) t on w r = on k x w r
 
@@ -211,11 +212,11 @@ goes_on_with : (q : Option Asked) (login : Login) (n : ℕ) (k : Kept) (x : Look
 goes_on_with None login n k x o us t e w r = kept_joined (Joined true k x) o us t w r
 goes_on_with (Some a) login n k x o us t e w r = let j : JoinedBy (Some a) k = subst (λ (q : Option Asked). JoinedBy q k) e w in polls_on (is_connect (kind_of a.call)) a.rows login n a k x o us t refl refl j.0 j.1 r
 
-goes_on_joined : (login : Login) (n : ℕ) (o : Outcome) (us : List Use) (h t : Handle) → IsJoined h → GoesOn login n h o us t → IsJoined t
-goes_on_joined login n o us Absent t w r = kept_joined Absent o us t w r
-goes_on_joined login n o us Dialing t w r = dials_joined login None None n o us t r
-goes_on_joined login n o us (Joined false k x) t w r = kept_joined (Joined false k x) o us t w r
-goes_on_joined login n o us (Joined true k x) t w r = goes_on_with k.pending login n k x o us t refl w r
+goes_on_joined : (login : Login) (plans : Plans) (n : ℕ) (o : Outcome) (us : List Use) (h t : Handle) → IsJoined h → GoesOn login plans n h o us t → IsJoined t
+goes_on_joined login plans n o us Absent t w r = kept_joined Absent o us t w r
+goes_on_joined login plans n o us (Dialing left) t w r = dials_joined login (plans.reads n) (plans.writes n) left n o us t r
+goes_on_joined login plans n o us (Joined false k x) t w r = kept_joined (Joined false k x) o us t w r
+goes_on_joined login plans n o us (Joined true k x) t w r = goes_on_with k.pending login n k x o us t refl w r
 
 left_joined : (b : Bool) (k : Kept) (x : Looks) → k.pending ≡ None → (b ≡ false → WasJoined k) → IsJoined (Joined (not b) k x)
 left_joined true k x e w = tt
@@ -227,7 +228,7 @@ cancels_with (Some a) login k x o us t e w r = subst IsJoined (sym r.left) (left
 
 cancels_joined : (login : Login) (o : Outcome) (us : List Use) (h t : Handle) → IsJoined h → Cancels login h o us t → IsJoined t
 cancels_joined login o us Absent t w r = kept_joined Absent o us t w r
-cancels_joined login o us Dialing t w r = subst IsJoined (sym r.left) tt
+cancels_joined login o us (Dialing left) t w r = subst IsJoined (sym r.left) tt
 cancels_joined login o us (Joined false k x) t w r = kept_joined (Joined false k x) o us t w r
 cancels_joined login o us (Joined true k x) t w r = cancels_with k.pending login k x o us t refl w r
 
@@ -257,7 +258,7 @@ at_step : (n : ℕ) (R : Handle → Outcome → List Use → Handle → Type 0) 
 at_step n R hs ts o us f w r = subst AllJoined (sym r.others) (put_joined hs n r.made (f (at_number hs n) r.made (at_joined hs n w) r.does) w)
 
 step_joined : (login : Login) (plans : Plans) (there : Bool) (hs : List Handle) (step : Step) (o : Outcome) (us : List Use) (ts : List Handle) → AllJoined hs → StepGrows login plans there hs step o us ts → AllJoined ts
-step_joined login plans there hs steps.Conn o us ts w r = subst AllJoined (sym r.others) (push_joined hs r.made (dials_joined login _ _ _ o us r.made r.dials) w)
+step_joined login plans there hs steps.Conn o us ts w r = subst AllJoined (sym r.others) (push_joined hs r.made (dials_joined login _ _ _ _ o us r.made r.dials) w)
 step_joined login plans there hs (steps.Query n text) o us ts w r = at_step n _ hs ts o us (λ h t. calls_joined login n _ o us h t) w r
 step_joined login plans there hs (steps.Next n) o us ts w r = at_step n _ hs ts o us (λ h t. calls_joined login n _ o us h t) w r
 step_joined login plans there hs (steps.Collect n) o us ts w r = at_step n _ hs ts o us (λ h t. collects_joined login n o us h t) w r
@@ -268,8 +269,10 @@ step_joined login plans there hs (steps.Stream n) o us ts w r = at_step n _ hs t
 step_joined login plans there hs (steps.Item n) o us ts w r = at_step n _ hs ts o us (λ h t. items_joined there login n o us h t) w r
 step_joined login plans there hs (steps.Unstream n) o us ts w r = at_step n _ hs ts o us (λ h t. unstreams_joined there o us h t) w r
 step_joined login plans there hs (steps.Fields n) o us ts w r = at_step n _ hs ts o us (λ h t. tells_joined login o us h t) w r
-step_joined login plans there hs (steps.Poll n) o us ts w r = at_step n _ hs ts o us (λ h t. goes_on_joined login n o us h t) w r
+step_joined login plans there hs (steps.Poll n) o us ts w r = at_step n _ hs ts o us (λ h t. goes_on_joined login plans n o us h t) w r
 step_joined login plans there hs (steps.Cancel n) o us ts w r = at_step n _ hs ts o us (λ h t. cancels_joined login o us h t) w r
+step_joined login plans there hs (steps.Advance by) o us ts w r = subst AllJoined (sym r.same) w
+step_joined login plans there hs (steps.Random word) o us ts w r = subst AllJoined (sym r.same) w
 
 pub grown_joined : (login : Login) (plans : Plans) (ls : List Line) → AreGrown login plans ls → AllJoined (handles_after ls)
 grown_joined login plans [] w = tt

@@ -1,5 +1,5 @@
 -- What dialing a connection and polling its handshake does.
-use Rattle.std.specs.Prelude.{ℕ, ◌≡◌, [], ◌∷◌, ◌++◌, None, List}
+use Rattle.std.specs.Prelude.{ℕ, ◌≡◌, [], ◌∷◌, ◌++◌, List}
 use Rattle.my_handshake.specs.Version.{version_of}
 use Rattle.my_grammar.specs.declared.login.Login.{Login}
 use Rattle.my_client.specs.declared.poll.After.{After}
@@ -11,11 +11,11 @@ use Rattle.my_script.specs.declared.transcript.Outcome.{Outcome}
 use Rattle.my_script.specs.declared.transcript.Outcome.TheVariants.{Pending, Connected, Failed}
 use Rattle.my_script.specs.declared.transcript.Use.{Use}
 use Rattle.my_steps.specs.Grows.{Connects, Dials}
-use Rattle.my_world.specs.World.{Plans, SameAt}
-use Rattle.my_steps.specs.Keeps.{IsStood}
+use Rattle.my_world.specs.World.{Plans, SameLink}
+use Rattle.my_steps.specs.Keeps.{IsStood, IsAwaited}
 use Rattle.my_client.specs.Kept.{Asked, Kept, first_asked, first_kept}
 use Rattle.my_link.specs.Looks.{Looks}
-use Rattle.my_steps.specs.Slot.{handle_of}
+use Rattle.my_steps.specs.Slot.{HasLink, handle_with, handle_of}
 use Rattle.my_steps.specs.Sums.{quiet}
 use Rattle.my_steps.specs.declared.outcome.StepResult.{StepResult}
 use Rattle.my_client.specs.Conn.{kept_of}
@@ -32,17 +32,18 @@ Settles c n (after.Failed e) slot o = (slot ≡ Ended c) × (o ≡ Failed e)
 pub record Joins {L : Type 0} (look : L → Looks) (login : Login) (n : ℕ) (a : Asked) (k : Kept) (x : Looks)
     (slot : Slot L) (o : Outcome) (used : Use) : Type 0 where
   pub stood : IsStood login slot
+  pub linked : HasLink slot
   pub number : used.number ≡ n
   pub does : Connects login n a k x o used (handle_of look slot)
 
--- A dial of number n in a world that told these plans, and what is there after it. Where the link's plan is what was told,
--- it is the link's; a dial that is tried again says nothing of the plan.
-pub record Dialed {L : Type 0} (look : L → Looks) (login : Login) (n : ℕ) (told : Plans) (slot : Slot L)
+-- A dial of number n in a world with the plans `before`, and `later` after it, and what is there then. Where the link's plan is
+-- the one that was told, it is the link's.
+pub record Dialed {L : Type 0} (look : L → Looks) (login : Login) (n : ℕ) (before later : Plans) (slot : Slot L)
     (o : Outcome) (us : List Use) : Type 0 where
   pub stood : IsStood login slot
-  pub does : (plans : Plans) → SameAt told plans n
-      → Dials login (plans.reads n) (plans.writes n) n o us (handle_of look slot)
-  pub again : Dials login None None n o us (handle_of look slot)
+  pub awaited : IsAwaited before later n slot
+  pub does : (plans : Plans) → SameLink plans before n
+      → Dials login (plans.reads n) (plans.writes n) (before.dials n) n o us (handle_with look (later.dials n) slot)
 
 -- of each call that may be open on the connection: the poll of a handshake, after these uses
 abbrev pub EachJoins : {L : Type 0} → (L → Looks) → ℕ → List Use → TapedConn L → Slot L → StepResult → Type 0

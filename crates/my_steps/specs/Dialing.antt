@@ -1,4 +1,4 @@
--- How the counts of a world's dials rise by what steps met.
+-- How the counts of a world's dials rise by what steps met, and how steps move its moment and its random words.
 use Rattle.std.specs.Prelude.{ℕ, ◌≡◌, zero, suc, List, [], ◌∷◌, Bool, true, false}
 use Rattle.my_frame.specs.Outside.{Rose}
 use Rattle.my_link.specs.Met.{nothing_met}
@@ -6,7 +6,9 @@ use Rattle.my_link.specs.declared.met.Met.{Met}
 use Rattle.my_script.specs.declared.step.Step.{Step}
 use Rattle.my_script.specs.declared.step.Step.TheVariants as steps
 use Rattle.my_script.specs.declared.transcript.Use.{Use}
-use Rattle.my_world.specs.World.{DialCounts}
+use Rattle.my_world.specs.World.{DialCounts, Chance, WorldSeen, drawn}
+use Rattle.my_world.specs.declared.line.WorldLine.TheVariants as lines
+use Rattle.my_world.specs.Plan.{chance_on}
 use Rattle.my_steps.specs.Grows.{Line, handles_after}
 use Rattle.my_steps.specs.Handle.{Handle, Absent, Dialing, Joined, at_number}
 
@@ -22,7 +24,7 @@ pub record DialsTo (c d : DialCounts) (m : Met) : Type 0 where
 
 abbrev pub is_dialing : Handle → Bool
 is_dialing Absent = false
-is_dialing Dialing = true
+is_dialing (Dialing left) = true
 is_dialing (Joined there k x) = false
 
 -- whether a step dials: the first time for a new number, or again where the dial wasn't ready
@@ -35,6 +37,30 @@ has_dialed _ hs = false
 abbrev pub dial_met : Bool → List Use → Met
 dial_met true (u ∷ us) = u.met
 dial_met _ us = nothing_met
+
+-- a dial draws a random word
+abbrev pub chance_dialed : Bool → Chance → Chance
+chance_dialed true chance = drawn chance
+chance_dialed false chance = chance
+
+-- what a step makes of the moment and of the random words, where it dials or doesn't
+abbrev pub chance_by : Bool → Step → Chance → Chance
+chance_by dials (steps.Advance by) chance = chance_on (lines.Advance by) chance
+chance_by dials (steps.Random word) chance = chance_on (lines.Random word) chance
+chance_by dials _ chance = chance_dialed dials chance
+
+-- what lines, which stand newest first, make of those before them
+abbrev pub moved_by : Chance → List Line → Chance
+moved_by first [] = first
+moved_by first (l ∷ ls) = chance_by (has_dialed l.step (handles_after ls)) l.step (moved_by first ls)
+
+-- what of a world a run changes beside its plan
+pub record Course : Type 0 where
+  pub dials : DialCounts
+  pub chance : Chance
+
+abbrev pub course_of : WorldSeen → Course
+course_of world = record { dials = world.dials; chance = world.chance }
 
 -- line by line, from the counts before the run to those after it
 abbrev pub AreDialed : DialCounts → List Line → DialCounts → Type 0

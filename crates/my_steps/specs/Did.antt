@@ -1,11 +1,13 @@
 -- What a step did to what stands at one number, and to all numbers.
-use Rattle.std.specs.Prelude.{◌≡◌, ◌≤◌, ℕ, List, Option, Some, None, length, map, Bool, true, false, ◌&&◌}
+use Rattle.std.specs.Prelude.{◌≡◌, ◌≤◌, ℕ, List, None, length, Bool, true, false, ◌&&◌}
 use Rattle.my_grammar.specs.declared.login.Login.{Login}
 use Rattle.my_link.specs.Looks.{Looks}
 use Rattle.my_reading.specs.Calls.{is_connect, kind_of}
 use Rattle.my_reading.specs.declared.call.Call.TheVariants as calls
 use Rattle.my_session.specs.Seen.{Seen}
-use Rattle.my_world.specs.World.{Plans, SameFrom}
+use Rattle.my_world.specs.declared.line.WorldLine.{WorldLine}
+use Rattle.my_world.specs.declared.line.WorldLine.TheVariants as lines
+use Rattle.my_world.specs.World.{Plans}
 use Rattle.my_script.specs.declared.step.Step.{Step}
 use Rattle.my_script.specs.declared.step.Step.TheVariants as steps
 use Rattle.my_script.specs.declared.transcript.Outcome.{Outcome}
@@ -19,14 +21,15 @@ use Rattle.my_client.specs.Rests.{Rests, IsAsked}
 use Rattle.my_steps.specs.declared.outcome.StepResult.{StepResult}
 use Rattle.my_steps.specs.declared.slot.Slot.{Slot}
 use Rattle.my_steps.specs.declared.slot.Slot.TheVariants.{There}
-use Rattle.my_steps.specs.declared.work.Errand.{Errand}
+use Rattle.my_steps.specs.declared.step.Order.{Order}
+use Rattle.my_steps.specs.declared.step.Order.TheVariants as orders
 use Rattle.my_steps.specs.declared.work.Work.{Work}
 use Rattle.my_steps.specs.declared.work.Work.TheVariants as works
 use Rattle.my_steps.specs.Dialing.{is_dialing}
 use Rattle.my_steps.specs.Grows.{PolledOnce, Calls, CollectsAt, StreamsAt, LetsGo, Misses, TellsFields, GoesOn, Cancels}
 use Rattle.my_steps.specs.Handle.{Handle, Joined}
-use Rattle.my_steps.specs.Keeps.{IsStood, AreStood}
-use Rattle.my_steps.specs.Slot.{handle_of}
+use Rattle.my_steps.specs.Keeps.{IsStood, AreStood, IsAwaited, AreAwaited}
+use Rattle.my_steps.specs.Slot.{handle_with, handle_of, handles_in}
 
 -- a poll of the open call, as a step of one call shows it
 pub record OpenPolled (login : Login) (n : ℕ) (a : Asked) (t : Seen) (x y : Looks) (k end : Kept) (o : Outcome)
@@ -52,16 +55,20 @@ abbrev pub MayBegin : Work → Type 0
 MayBegin (works.Begin call) = is_connect (kind_of call) ≡ false
 MayBegin _ = Unit {0}
 
--- what a step's work at number n shows, and what it leaves there
-abbrev pub does_at : Login → ℕ → Work → Handle → Outcome → List Use → Handle → Type 0
-does_at login n (works.Begin call) = Calls login n call
-does_at login n works.Collect = CollectsAt login n
-does_at login n works.Take = StreamsAt login n
-does_at login n works.LetGo = LetsGo
-does_at login n works.Miss = Misses
-does_at login n works.Fields = TellsFields login
-does_at login n works.Poll = GoesOn login n
-does_at login n works.Cancel = Cancels login
+-- what a step's work at number n shows, and what it leaves there, in a world that told these plans
+abbrev pub does_at : Login → Plans → ℕ → Work → Handle → Outcome → List Use → Handle → Type 0
+does_at login plans n (works.Begin call) = Calls login n call
+does_at login plans n works.Collect = CollectsAt login n
+does_at login plans n works.Take = StreamsAt login n
+does_at login plans n works.LetGo = LetsGo
+does_at login plans n works.Miss = Misses
+does_at login plans n works.Fields = TellsFields login
+does_at login plans n works.Poll = GoesOn login plans n
+does_at login plans n works.Cancel = Cancels login
+
+-- no plan is known; on a connection none is needed
+abbrev pub untold : Plans
+untold = record { reads = λ n. None; writes = λ n. None; dials = λ n. None }
 
 -- an item is the next row, and a stream is let go, where one is there
 abbrev pub item_work : Bool → Work
@@ -72,21 +79,33 @@ abbrev pub unstream_work : Bool → Work
 unstream_work true = works.LetGo
 unstream_work false = works.Miss
 
--- what a step does at the number that it names, where a stream is there or none; none where it names no number
-abbrev pub errand_of : Bool → Step → Option Errand
-errand_of there steps.Conn = None
-errand_of there (steps.Query n text) = Some (record { number = n; work = works.Begin (calls.Query text) })
-errand_of there (steps.Next n) = Some (record { number = n; work = works.Begin calls.NextRow })
-errand_of there (steps.Drop n) = Some (record { number = n; work = works.Begin calls.DropResult })
-errand_of there (steps.Ping n) = Some (record { number = n; work = works.Begin calls.Ping })
-errand_of there (steps.Quit n) = Some (record { number = n; work = works.Begin calls.Quit })
-errand_of there (steps.Fields n) = Some (record { number = n; work = works.Fields })
-errand_of there (steps.Cancel n) = Some (record { number = n; work = works.Cancel })
-errand_of there (steps.Collect n) = Some (record { number = n; work = works.Collect })
-errand_of there (steps.Poll n) = Some (record { number = n; work = works.Poll })
-errand_of there (steps.Stream n) = Some (record { number = n; work = works.Take })
-errand_of there (steps.Item n) = Some (record { number = n; work = item_work there })
-errand_of there (steps.Unstream n) = Some (record { number = n; work = unstream_work there })
+-- an errand at number n
+abbrev pub at_place : ℕ → Work → Order
+at_place n work = orders.Visit (record { number = n; work = work })
+
+-- what a step does: it dials, does something at the number that it names, where a stream is there or none, or moves the world
+abbrev pub order_of : Bool → Step → Order
+order_of there steps.Conn = orders.Dial
+order_of there (steps.Query n text) = at_place n (works.Begin (calls.Query text))
+order_of there (steps.Next n) = at_place n (works.Begin calls.NextRow)
+order_of there (steps.Drop n) = at_place n (works.Begin calls.DropResult)
+order_of there (steps.Ping n) = at_place n (works.Begin calls.Ping)
+order_of there (steps.Quit n) = at_place n (works.Begin calls.Quit)
+order_of there (steps.Fields n) = at_place n works.Fields
+order_of there (steps.Cancel n) = at_place n works.Cancel
+order_of there (steps.Collect n) = at_place n works.Collect
+order_of there (steps.Poll n) = at_place n works.Poll
+order_of there (steps.Stream n) = at_place n works.Take
+order_of there (steps.Item n) = at_place n (item_work there)
+order_of there (steps.Unstream n) = at_place n (unstream_work there)
+order_of there (steps.Advance by) = orders.Move (lines.Advance by)
+order_of there (steps.Random word) = orders.Move (lines.Random word)
+
+-- lines that give no link anything
+abbrev pub IsMoving : WorldLine → Type 0
+IsMoving (lines.Advance by) = Unit {0}
+IsMoving (lines.Random word) = Unit {0}
+IsMoving line = ⊥
 
 -- of each call that may be open on the connection: what a poll of it did
 abbrev pub EachPolled : {L : Type 0} → (L → Looks) → ℕ → TapedConn L → TapedConn L → StepResult → Type 0
@@ -96,12 +115,20 @@ EachPolled look n c d r = (login : Login) (a : Asked) → IsAsked login c.sessio
 -- of each login for which the connection stands: what a step's work did to it
 abbrev pub EachDid : {L : Type 0} → (L → Looks) → ℕ → Work → TapedConn L → Slot L → StepResult → Type 0
 EachDid look n work c slot r = (login : Login) → StandsBy login c
-    → Did look login (does_at login n work) r.outcome r.uses.items (There c) slot
+    → Did look login (does_at login untold n work) r.outcome r.uses.items (There c) slot
 
--- what it did to what stands at a number
-abbrev pub DoesAt : {L : Type 0} → (L → Looks) → Login → ℕ → Work → Slot L → Slot L → StepResult → Type 0
-DoesAt look login n work old new r = IsStood login old
-    → Did look login (does_at login n work) r.outcome r.uses.items old new
+-- at number n, in a world with the plans `before`, and `later` after the step: what stands there is kept, the link of a dial that
+-- isn't ready stays as it is planned, and the transcript's fact holds
+pub record DidAt {L : Type 0} (look : L → Looks) (login : Login) (plans before later : Plans) (n : ℕ)
+    (R : Handle → Outcome → List Use → Handle → Type 0) (o : Outcome) (us : List Use) (old new : Slot L) : Type 0 where
+  pub stood : IsStood login new
+  pub awaited : IsAwaited plans later n new
+  pub does : R (handle_with look (before.dials n) old) o us (handle_with look (later.dials n) new)
+
+-- what it did to what stands at a number, in a world that told these plans of its link
+abbrev pub DoesAt : {L : Type 0} → (L → Looks) → Login → Plans → Plans → ℕ → Work → Slot L → Slot L → StepResult → Type 0
+DoesAt look login before later n work old new r = (plans : Plans) → IsAwaited plans before n old → IsStood login old
+    → DidAt look login plans before later n (does_at login plans n work) r.outcome r.uses.items old new
 
 -- a held dial is tried again by a poll
 abbrev pub is_poll : Work → Bool
@@ -117,9 +144,11 @@ is_poll works.Cancel = false
 abbrev pub redials : Handle → Work → Bool
 redials h work = is_dialing h && is_poll work
 
--- what a step did to all numbers, in a world that told these plans of the numbers which no step took yet
-abbrev pub StepsOn : {L : Type 0} → (L → Looks) → Login → Plans → List (Slot L) → List (Slot L)
+-- what a step did to all numbers, in a world with the plans `before`, and `later` after the step, that told these plans of the
+-- links which are still to be dialed
+abbrev pub StepsOn : {L : Type 0} → (L → Looks) → Login → Plans → Plans → List (Slot L) → List (Slot L)
     → (Plans → List Handle → Outcome → List Use → List Handle → Type 0) → StepResult → Type 0
-StepsOn look login told old new R r = (plans : Plans) → SameFrom (length old) told plans → AreStood login old
+StepsOn look login before later old new R r = (plans : Plans) → AreAwaited plans before 0 old → AreStood login old
     → Stepped login old new
-    (R plans (map (handle_of look) old) r.outcome r.uses.items (map (handle_of look) new))
+    (AreAwaited plans later 0 new
+    × R plans (handles_in look before old) r.outcome r.uses.items (handles_in look later new))

@@ -34,7 +34,8 @@ use Rattle.my_link.specs.declared.link.ReadItem.{ReadItem}
 use Rattle.my_link.specs.declared.link.WriteItem.{WriteItem}
 use Rattle.my_link.specs.Looks.{Looks}
 use Rattle.my_link.specs.Outside.{no_counts}
-use Rattle.my_world.specs.World.{Plans, IsFresh}
+use Rattle.my_link.specs.declared.dialer.DialItem.{DialItem}
+use Rattle.my_world.specs.World.{Plans, HeldBy, FailedBy, GivenBy, IsFresh}
 
 -- the step names a number at which it finds nothing to do: it is refused, and changes nothing
 pub record IsRefused (h : Handle) (o : Outcome) (us : List Use) (t : Handle) : Type 0 where
@@ -46,7 +47,7 @@ pub record IsRefused (h : Handle) (o : Outcome) (us : List Use) (t : Handle) : T
 abbrev pub OnConnection : (Kept → Looks → Outcome → List Use → Handle → Type 0) → Handle → Outcome → List Use
     → Handle → Type 0
 OnConnection R Absent o us t = IsRefused Absent o us t
-OnConnection R Dialing o us t = IsRefused Dialing o us t
+OnConnection R (Dialing left) o us t = IsRefused (Dialing left) o us t
 OnConnection R (Joined false k x) o us t = IsRefused (Joined false k x) o us t
 OnConnection R (Joined true k x) o us t = R k x o us t
 
@@ -125,15 +126,16 @@ pub record IsNew (plan : Option (List ReadItem)) (rules : Option (List WriteItem
   pub got : IsFresh x.got
   pub counts : x.counts ≡ no_counts
 
--- The dial wasn't ready; it failed; or it gave a link, over which the handshake was polled. Where the link's plan is told,
--- its dial was ready and didn't fail.
-pub data Dials (login : Login) (plan : Option (List ReadItem)) (rules : Option (List WriteItem)) (n : ℕ) (o : Outcome)
-    (us : List Use) (t : Handle) : Type 0 where
-  Holds : o ≡ Pending → us ≡ held_use n ∷ [] → t ≡ Dialing → plan ≡ None → Dials login plan rules n o us t
-  Fails : o ≡ Failed (io_error Dial 0) → us ≡ failed_use n ∷ [] → t ≡ Absent → plan ≡ None
-      → Dials login plan rules n o us t
-  Links : (used : Use) (x : Looks) → us ≡ quiet n ∷ used ∷ [] → IsNew plan rules x
-      → Connects login n first_asked first_kept x o used t → Dials login plan rules n o us t
+-- The dial wasn't ready; it failed; or it gave a link, over which the handshake was polled. Where the items for its dials are
+-- told, the first of them says which, and the others are left.
+pub data Dials (login : Login) (plan : Option (List ReadItem)) (rules : Option (List WriteItem))
+    (items : Option (List DialItem)) (n : ℕ) (o : Outcome) (us : List Use) (t : Handle) : Type 0 where
+  Holds : (left : Option (List DialItem)) → o ≡ Pending → us ≡ held_use n ∷ [] → t ≡ Dialing left → HeldBy items left
+      → Dials login plan rules items n o us t
+  Fails : (left : Option (List DialItem)) → o ≡ Failed (io_error Dial 0) → us ≡ failed_use n ∷ [] → t ≡ Absent
+      → FailedBy items left → Dials login plan rules items n o us t
+  Links : (used : Use) (x : Looks) (left : Option (List DialItem)) → us ≡ quiet n ∷ used ∷ [] → IsNew plan rules x
+      → GivenBy items left → Connects login n first_asked first_kept x o used t → Dials login plan rules items n o us t
 
 -- the rows of a set, as a step shows them
 abbrev pub rows_shown : Outcome → Option (List RowParts)
@@ -266,12 +268,12 @@ abbrev pub GoesOnWith : Option Asked → Login → ℕ → Kept → Looks → Ou
 GoesOnWith None login n k x o us t = IsRefused (Joined true k x) o us t
 GoesOnWith (Some a) login n k x o us t = PollsOn (is_connect (kind_of a.call)) a.rows login n a k x o us t
 
--- a dial that wasn't ready is tried again; the plan of its link isn't told
-abbrev pub GoesOn : Login → ℕ → Handle → Outcome → List Use → Handle → Type 0
-GoesOn login n Absent o us t = IsRefused Absent o us t
-GoesOn login n Dialing o us t = Dials login None None n o us t
-GoesOn login n (Joined false k x) o us t = IsRefused (Joined false k x) o us t
-GoesOn login n (Joined true k x) o us t = GoesOnWith k.pending login n k x o us t
+-- a dial that wasn't ready is tried again, over the plan of its link and the items that are left for its dials
+abbrev pub GoesOn : Login → Plans → ℕ → Handle → Outcome → List Use → Handle → Type 0
+GoesOn login plans n Absent o us t = IsRefused Absent o us t
+GoesOn login plans n (Dialing left) o us t = Dials login (plans.reads n) (plans.writes n) left n o us t
+GoesOn login plans n (Joined false k x) o us t = IsRefused (Joined false k x) o us t
+GoesOn login plans n (Joined true k x) o us t = GoesOnWith k.pending login n k x o us t
 
 -- The open call was cancelled, which closed the connection by the kind of the call and where its reading stands. A connection
 -- whose handshake was cancelled isn't there any more.
@@ -294,7 +296,7 @@ CancelsWith (Some a) login k x o us t = IsCancelled login a k x o us t
 
 abbrev pub Cancels : Login → Handle → Outcome → List Use → Handle → Type 0
 Cancels login Absent o us t = IsRefused Absent o us t
-Cancels login Dialing o us t = IsDropped o us t
+Cancels login (Dialing left) o us t = IsDropped o us t
 Cancels login (Joined false k x) o us t = IsRefused (Joined false k x) o us t
 Cancels login (Joined true k x) o us t = CancelsWith k.pending login k x o us t
 
@@ -315,7 +317,7 @@ TellsFields login h o us t = OnConnection (λ k. TellsWith k.pending login k) h 
 pub record DialsNext (login : Login) (plans : Plans) (hs : List Handle) (o : Outcome) (us : List Use)
     (ts : List Handle) : Type 0 where
   pub made : Handle
-  pub dials : Dials login (plans.reads (length hs)) (plans.writes (length hs)) (length hs) o us made
+  pub dials : Dials login (plans.reads (length hs)) (plans.writes (length hs)) (plans.dials (length hs)) (length hs) o us made
   pub others : ts ≡ hs ++ made ∷ []
 
 -- a step at a number changes nothing at the others
@@ -324,6 +326,12 @@ pub record At (n : ℕ) (R : Handle → Outcome → List Use → Handle → Type
   pub made : Handle
   pub does : R (at_number hs n) o us made
   pub others : ts ≡ put_at n made hs
+
+-- a step that moves the world uses no connection
+pub record Moves (hs : List Handle) (o : Outcome) (us : List Use) (ts : List Handle) : Type 0 where
+  pub outcome : o ≡ Done
+  pub uses : us ≡ []
+  pub same : ts ≡ hs
 
 -- by the step, over what the earlier steps and their answers made of the numbers, and whether a stream is there at the one
 -- that the step names
@@ -339,8 +347,10 @@ StepGrows login plans there hs (steps.Stream n) o us ts = At n (StreamsAt login 
 StepGrows login plans there hs (steps.Item n) o us ts = At n (ItemsAt there login n) hs o us ts
 StepGrows login plans there hs (steps.Unstream n) o us ts = At n (UnstreamsAt there) hs o us ts
 StepGrows login plans there hs (steps.Fields n) o us ts = At n (TellsFields login) hs o us ts
-StepGrows login plans there hs (steps.Poll n) o us ts = At n (GoesOn login n) hs o us ts
+StepGrows login plans there hs (steps.Poll n) o us ts = At n (GoesOn login plans n) hs o us ts
 StepGrows login plans there hs (steps.Cancel n) o us ts = At n (Cancels login) hs o us ts
+StepGrows login plans there hs (steps.Advance by) o us ts = Moves hs o us ts
+StepGrows login plans there hs (steps.Random word) o us ts = Moves hs o us ts
 
 -- a step, its answer, and what the numbers stand for then
 pub record Line : Type 0 where

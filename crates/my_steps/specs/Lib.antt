@@ -6,6 +6,7 @@ pub mod Ready
 pub mod Grows
 pub mod Dialing
 pub mod Did
+pub mod Orders
 pub mod Connecting
 pub mod Gathering
 pub mod Streaming

@@ -11,7 +11,7 @@ use Rattle.my_link.specs.Looks.{Looks}
 -- the same for a number and for all numbers
 abbrev pub IsJoined : Handle → Type 0
 IsJoined Absent = Unit {0}
-IsJoined Dialing = Unit {0}
+IsJoined (Dialing left) = Unit {0}
 IsJoined (Joined false k x) = Unit {0}
 IsJoined (Joined true k x) = JoinedBy k.pending k
 

@@ -17,16 +17,17 @@ use my_reading::{Call, Error};
 use my_script::{Outcome, Use};
 use std::alloc::Global;
 
-/// Polls the open call.
+/// Polls the open call, at this moment.
 pub(crate) fn poll_open<L: Link>(
     alloc: Global,
     conn: &mut TapedConn<L>,
     number: u64,
+    now: u64,
 ) -> Result<StepResult, NoMemory>
     requires { is_open conn.old.session.seen.task ≡ true }
     ensures { IfOk result (λ d. EachPolled L.looks number conn.old conn.new d) }
 {
-    let (after, met, _rows) = drive(alloc, conn)?;
+    let (after, met, _rows) = drive(alloc, conn, now)?;
     used_once(alloc, shown(after), Use { number, met })
 }
 
@@ -52,6 +53,7 @@ pub(crate) fn begin_call<L: Link>(
     alloc: Global,
     conn: &mut TapedConn<L>,
     number: u64,
+    now: u64,
     call: Call,
 ) -> Result<StepResult, NoMemory>
     requires ready { ConnReady conn.old }
@@ -64,7 +66,7 @@ pub(crate) fn begin_call<L: Link>(
     let copy = call.copy(alloc)?;
     ask(conn, copy, None)?;
     match conn.session.begin(call) {
-        Ok(()) => poll_open(alloc, conn, number),
+        Ok(()) => poll_open(alloc, conn, number, now),
         Err(error) => refused_call(alloc, conn, error),
     }
 }

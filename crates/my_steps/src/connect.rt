@@ -1,8 +1,8 @@
 //! Dials a connection, and connects it.
 ghost use Rattle.std.specs.Prelude.{◌≡◌, ◌∷◌, [], suc, length, true, IfOk, OnOk};
 ghost use Rattle.my_reading.specs.Errors.{io_error};
-ghost use Rattle.my_client.specs.Login.{login_of};
-ghost use Rattle.my_world.specs.World.{SameBut};
+ghost use Rattle.my_session.specs.Login.{login_of};
+ghost use Rattle.my_world.specs.World.{SameBut, drawn};
 ghost use Rattle.my_session.specs.Tasks.{is_open};
 ghost use Rattle.my_steps.specs.Connecting.{Settles, EachJoins, JoinsFirst, Dialed};
 ghost use Rattle.my_steps.specs.Slot.{placed};
@@ -47,17 +47,18 @@ fn settle<L>(conn: &TapedConn<L>, number: u64, after: After) -> (bool, Outcome)
     }
 }
 
-/// Polls the handshake, after these uses.
+/// Polls the handshake at this moment, after these uses.
 pub(crate) fn poll_connect<L: Link>(
     alloc: Global,
     conn: &mut TapedConn<L>,
     number: u64,
+    now: u64,
     mut uses: Vec<Use>,
 ) -> Result<Worked, NoMemory>
     requires { is_open conn.old.session.seen.task ≡ true }
     ensures { IfOk result (λ w. EachJoins L.looks number uses.items conn.old (placed w.there conn.new) w.did) }
 {
-    let (after, met, _rows) = drive(alloc, conn)?;
+    let (after, met, _rows) = drive(alloc, conn, now)?;
     uses.push(Use { number, met })?;
     let (there, outcome) = settle(conn, number, after);
     Ok(Worked {
@@ -67,7 +68,12 @@ pub(crate) fn poll_connect<L: Link>(
 }
 
 // Polls the first call, after the dial that gave the link.
-fn join<L: Link>(alloc: Global, conn: &mut TapedConn<L>, number: u64) -> Result<Worked, NoMemory>
+fn join<L: Link>(
+    alloc: Global,
+    conn: &mut TapedConn<L>,
+    number: u64,
+    now: u64,
+) -> Result<Worked, NoMemory>
     requires { is_open conn.old.session.seen.task ≡ true }
     ensures { IfOk result (λ w. EachJoins L.looks number (quiet number ∷ []) conn.old (placed w.there conn.new) w.did) }
 {
@@ -76,7 +82,14 @@ fn join<L: Link>(alloc: Global, conn: &mut TapedConn<L>, number: u64) -> Result<
         number,
         met: Met::nothing(),
     })?;
-    poll_connect(alloc, conn, number, uses)
+    poll_connect(alloc, conn, number, now, uses)
+}
+
+// What a connection is given of chance: the moment of its dial, in milliseconds, and a random word.
+#[derive(Clone, Copy)]
+struct Given {
+    now: u64,
+    random: u64,
 }
 
 // Makes the connection's first call and polls it.
@@ -85,11 +98,12 @@ fn first_call<L: Link + Drop>(
     opts: &Opts,
     link: L,
     number: u64,
+    given: Given,
 ) -> Result<(Slot<L>, StepResult), NoMemory>
     ensures { IfOk result (λ r. JoinsFirst L.looks (login_of opts.now) number (L.looks link) r.0 r.1) }
 {
-    let mut conn = begin_conn(alloc, opts, link)?;
-    let worked = join(alloc, &mut conn, number)?;
+    let mut conn = begin_conn(alloc, opts.copy(alloc)?, link, given.now, given.random)?;
+    let worked = join(alloc, &mut conn, number, given.now)?;
     Ok((place(conn, worked.there), worked.did))
 }
 
@@ -100,15 +114,18 @@ fn dial_to<N: World>(
     target: &Target,
     world: &mut N,
     number: u64,
+    given: Given,
 ) -> Result<(Slot<N::L>, StepResult), NoMemory>
     ensures others { SameBut number (N.seen world.old).plans (N.seen world.new).plans }
+    ensures takes { (N.seen world.new).takes ≡ (N.seen world.old).takes }
+    ensures chance { (N.seen world.new).chance ≡ (N.seen world.old).chance }
     ensures counts { IfOk result (λ r.
         DialsTo (N.seen world.old).dials (N.seen world.new).dials (dial_met true r.1.uses.items)) }
-    ensures dialed { IfOk result (λ r.
-        Dialed N.L.looks (login_of opts.now) number (N.seen world.old).plans r.0 r.1.outcome r.1.uses.items) }
+    ensures dialed { IfOk result (λ r. Dialed N.L.looks (login_of opts.now) number
+        (N.seen world.old).plans (N.seen world.new).plans r.0 r.1.outcome r.1.uses.items) }
 {
     match world.dial(number, target) {
-        DialStep::Link(link) => first_call(alloc, opts, link, number),
+        DialStep::Link(link) => first_call(alloc, opts, link, number, given),
         DialStep::NotYet => {
             let met = Met {
                 holds: 1,
@@ -128,21 +145,25 @@ fn dial_to<N: World>(
     }
 }
 
-/// Dials the link of this number where the options say, and connects over it.
+/// Dials the link of this number where the options say, at this moment, and connects over it.
 pub(crate) fn dial_at<N: World>(
     alloc: Global,
     opts: &Opts,
     world: &mut N,
     number: u64,
+    now: u64,
 ) -> Result<(Slot<N::L>, StepResult), NoMemory>
     ensures others { SameBut number (N.seen world.old).plans (N.seen world.new).plans }
+    ensures takes { (N.seen world.new).takes ≡ (N.seen world.old).takes }
+    ensures chance { OnOk result ((N.seen world.new).chance ≡ drawn (N.seen world.old).chance) }
     ensures counts { IfOk result (λ r.
         DialsTo (N.seen world.old).dials (N.seen world.new).dials (dial_met true r.1.uses.items)) }
-    ensures dialed { IfOk result (λ r.
-        Dialed N.L.looks (login_of opts.now) number (N.seen world.old).plans r.0 r.1.outcome r.1.uses.items) }
+    ensures dialed { IfOk result (λ r. Dialed N.L.looks (login_of opts.now) number
+        (N.seen world.old).plans (N.seen world.new).plans r.0 r.1.outcome r.1.uses.items) }
 {
     let target = opts.target(alloc)?;
-    dial_to(alloc, opts, &target, world, number)
+    let random = world.random();
+    dial_to(alloc, opts, &target, world, number, Given { now, random })
 }
 
 /// Dials the link of the next number, and connects over it.
@@ -151,17 +172,20 @@ pub(crate) fn connect<N: World>(
     opts: &Opts,
     world: &mut N,
     slots: &mut Vec<Slot<N::L>>,
+    now: u64,
 ) -> Result<StepResult, NoMemory>
-    ensures others { SameBut (length slots.old.items) (N.seen world.old).plans (N.seen world.new).plans }
+    ensures takes { (N.seen world.new).takes ≡ (N.seen world.old).takes }
+    ensures chance { OnOk result ((N.seen world.new).chance ≡ drawn (N.seen world.old).chance) }
     ensures count { OnOk result (length slots.new.items ≡ suc (length slots.old.items)) }
     ensures counts { IfOk result (λ d.
         DialsTo (N.seen world.old).dials (N.seen world.new).dials (dial_met true d.uses.items)) }
     ensures steps { IfOk result (λ d.
-        StepsOn N.L.looks (login_of opts.now) (N.seen world.old).plans slots.old.items slots.new.items
+        StepsOn N.L.looks (login_of opts.now) (N.seen world.old).plans (N.seen world.new).plans
+        slots.old.items slots.new.items
         (DialsNext (login_of opts.now)) d) }
 {
     let number = slots.len() as u64;
-    let (slot, did) = dial_at(alloc, opts, world, number)?;
+    let (slot, did) = dial_at(alloc, opts, world, number, now)?;
     slots.push(slot)?;
     Ok(did)
 }

@@ -110,6 +110,7 @@ pub(crate) fn gather<L: Link>(
     alloc: Global,
     conn: &mut TapedConn<L>,
     number: u64,
+    now: u64,
 ) -> Result<StepResult, NoMemory>
     requires is_on { is_open conn.old.session.seen.task ≡ true }
     requires asked { AskedReady conn.old }
@@ -117,7 +118,7 @@ pub(crate) fn gather<L: Link>(
 {
     let mut uses = Vec::new(alloc);
     'rows: loop {
-        let (after, met, rows) = drive(alloc, conn)?;
+        let (after, met, rows) = drive(alloc, conn, now)?;
         uses.push(Use { number, met })?;
         // What each poll met is kept, and fits into memory.
         prove!(uses.len() <= usize::MAX);
@@ -133,6 +134,7 @@ pub(crate) fn collect_call<L: Link>(
     alloc: Global,
     conn: &mut TapedConn<L>,
     number: u64,
+    now: u64,
 ) -> Result<StepResult, NoMemory>
     requires { ConnReady conn.old }
     ensures { IfOk result (λ d. EachDid L.looks number CollectWork conn.old (ThereAt conn.new) d) }
@@ -142,7 +144,7 @@ pub(crate) fn collect_call<L: Link>(
     }
     ask(conn, Call::NextRow, Some(Vec::new(alloc)))?;
     match conn.session.begin(Call::NextRow) {
-        Ok(()) => gather(alloc, conn, number),
+        Ok(()) => gather(alloc, conn, number, now),
         Err(error) => refused_call(alloc, conn, error),
     }
 }

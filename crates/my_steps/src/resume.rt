@@ -21,6 +21,7 @@ pub(crate) fn resume_there<L: Link>(
     alloc: Global,
     conn: &mut TapedConn<L>,
     number: u64,
+    now: u64,
 ) -> Result<Worked, NoMemory>
     requires { ConnReady conn.old }
     ensures { IfOk result (λ w. EachDid L.looks number PollWork conn.old (placed w.there conn.new) w.did) }
@@ -33,16 +34,16 @@ pub(crate) fn resume_there<L: Link>(
     }
     if is_connecting(conn) {
         let uses = Vec::new(alloc);
-        return poll_connect(alloc, conn, number, uses);
+        return poll_connect(alloc, conn, number, now, uses);
     }
     if is_gathering(conn) {
-        let did = gather(alloc, conn, number)?;
+        let did = gather(alloc, conn, number, now)?;
         return Ok(Worked { there: true, did });
     }
     let skipping = is_skipping(conn);
-    let did = poll_open(alloc, conn, number)?;
+    let did = poll_open(alloc, conn, number, now)?;
     if skipping {
-        let did = then_take(alloc, conn, number, did)?;
+        let did = then_take(alloc, conn, number, now, did)?;
         return Ok(Worked { there: true, did });
     }
     Ok(Worked { there: true, did })

@@ -1,22 +1,25 @@
 //! One step, by what it is.
-ghost use Rattle.std.specs.Prelude.{◌≡◌, ◌≤◌, length, map, IfOk, OnOk};
-ghost use Rattle.my_client.specs.Login.{login_of};
-ghost use Rattle.my_world.specs.World.{SameFrom};
-ghost use Rattle.my_steps.specs.Dialing.{DialsTo, dial_met, has_dialed};
-ghost use Rattle.my_steps.specs.Did.{StepsOn, errand_of, item_work, unstream_work};
+ghost use Rattle.std.specs.Prelude.{◌≡◌, ◌≤◌, [], length, true, IfOk, OnOk};
+ghost use Rattle.my_session.specs.Login.{login_of};
+ghost use Rattle.my_script.specs.Script.{may_stand};
+ghost use Rattle.my_world.specs.World.{SamePlans};
+ghost use Rattle.my_world.specs.Plan.{chance_on};
+ghost use Rattle.my_steps.specs.Dialing.{DialsTo, chance_by, dial_met, has_dialed};
+ghost use Rattle.my_steps.specs.Did.{IsMoving, StepsOn, at_place, item_work, order_of, unstream_work};
+ghost use Rattle.my_steps.specs.Orders.{Carries, MayCarry, chance_of, dials_by};
 ghost use Rattle.my_steps.specs.Grows.{StepGrows};
 ghost use Rattle.my_steps.specs.Ready.{AreReady};
-ghost use Rattle.my_steps.specs.Slot.{handle_of};
+ghost use Rattle.my_steps.specs.Slot.{handles_in};
 
 use crate::connect::connect;
-use crate::outcome::StepResult;
+use crate::outcome::{StepResult, unused};
 use crate::slot::Slot;
 use crate::work::{Errand, Work, work_at};
 use my_frame::NoMemory;
 use my_opts::Opts;
 use my_reading::Call;
-use my_script::Step;
-use my_world::World;
+use my_script::{Outcome, Step};
+use my_world::{World, WorldLine};
 use std::alloc::Global;
 
 // An item is the next row, where a stream is there.
@@ -36,29 +39,97 @@ fn unstream(there: bool) -> Work
     if there { Work::LetGo } else { Work::Miss }
 }
 
-// What a step does at the number that it names; none where it names no number.
-fn errand(alloc: Global, step: &Step, there: bool) -> Result<Option<Errand>, NoMemory>
-    ensures { IfOk result (λ e. e ≡ errand_of there step.now) }
-{
-    let (number, work) = match step {
-        Step::Conn => return Ok(None),
-        Step::Query(number, text) => (*number, Work::Begin(Call::Query(text.copy(alloc)?))),
-        Step::Next(number) => (*number, Work::Begin(Call::NextRow)),
-        Step::Drop(number) => (*number, Work::Begin(Call::DropResult)),
-        Step::Ping(number) => (*number, Work::Begin(Call::Ping)),
-        Step::Quit(number) => (*number, Work::Begin(Call::Quit)),
-        Step::Fields(number) => (*number, Work::Fields),
-        Step::Cancel(number) => (*number, Work::Cancel),
-        Step::Collect(number) => (*number, Work::Collect),
-        Step::Poll(number) => (*number, Work::Poll),
-        Step::Stream(number) => (*number, Work::Take),
-        Step::Item(number) => (*number, item(there)),
-        Step::Unstream(number) => (*number, unstream(there)),
-    };
-    Ok(Some(Errand { number, work }))
+// What a step does.
+#[derive(Drop)]
+enum Order {
+    Dial,
+    /// This line of the world.
+    Move(WorldLine),
+    Visit(Errand),
 }
 
-/// Does a step at the number that it names, where a stream is there or none; a `conn` takes the next number.
+fn visit(number: u64, work: Work) -> Order
+    ensures { result ≡ at_place number work }
+{
+    Order::Visit(Errand { number, work })
+}
+
+fn order_for(alloc: Global, step: &Step, there: bool) -> Result<Order, NoMemory>
+    ensures { IfOk result (λ order. order ≡ order_of there step.now) }
+{
+    match step {
+        Step::Conn => Ok(Order::Dial),
+        Step::Query(number, text) => {
+            let text = text.copy(alloc)?;
+            Ok(visit(*number, Work::Begin(Call::Query(text))))
+        }
+        Step::Next(number) => Ok(visit(*number, Work::Begin(Call::NextRow))),
+        Step::Drop(number) => Ok(visit(*number, Work::Begin(Call::DropResult))),
+        Step::Ping(number) => Ok(visit(*number, Work::Begin(Call::Ping))),
+        Step::Quit(number) => Ok(visit(*number, Work::Begin(Call::Quit))),
+        Step::Fields(number) => Ok(visit(*number, Work::Fields)),
+        Step::Cancel(number) => Ok(visit(*number, Work::Cancel)),
+        Step::Collect(number) => Ok(visit(*number, Work::Collect)),
+        Step::Poll(number) => Ok(visit(*number, Work::Poll)),
+        Step::Stream(number) => Ok(visit(*number, Work::Take)),
+        Step::Item(number) => Ok(visit(*number, item(there))),
+        Step::Unstream(number) => Ok(visit(*number, unstream(there))),
+        Step::Advance(by) => Ok(Order::Move(WorldLine::Advance(*by))),
+        Step::Random(word) => Ok(Order::Move(WorldLine::Random(*word))),
+    }
+}
+
+// Hands the world a line that gives no link anything.
+fn move_world<N: World>(
+    alloc: Global,
+    world: &mut N,
+    line: &WorldLine,
+) -> Result<StepResult, NoMemory>
+    requires takes { (N.seen world.old).takes ≡ true }
+    requires moves { IsMoving line.now }
+    ensures outcome { IfOk result (λ d. d.outcome ≡ Outcome.Done) }
+    ensures uses { IfOk result (λ d. d.uses.items ≡ []) }
+    ensures plans { OnOk result (SamePlans (N.seen world.old).plans (N.seen world.new).plans) }
+    ensures chance { OnOk result ((N.seen world.new).chance ≡ chance_on line.now (N.seen world.old).chance) }
+    ensures takes { (N.seen world.new).takes ≡ (N.seen world.old).takes }
+    ensures dials { (N.seen world.new).dials ≡ (N.seen world.old).dials }
+{
+    world.prepare(line)?;
+    Ok(unused(alloc, Outcome::Done))
+}
+
+// Carries out an order at this moment.
+fn carry_out<N: World>(
+    alloc: Global,
+    opts: &Opts,
+    world: &mut N,
+    slots: &mut Vec<Slot<N::L>>,
+    order: Order,
+    now: u64,
+) -> Result<StepResult, NoMemory>
+    requires ready { AreReady N.L.looks slots.old.items }
+    requires may { MayCarry (N.seen world.old).takes order }
+    ensures longer { OnOk result (length slots.old.items ≤ length slots.new.items) }
+    ensures takes { (N.seen world.new).takes ≡ (N.seen world.old).takes }
+    ensures chance { OnOk result ((N.seen world.new).chance ≡
+        chance_of order (handles_in N.L.looks (N.seen world.old).plans slots.old.items) (N.seen world.old).chance) }
+    ensures counts { IfOk result (λ d. DialsTo (N.seen world.old).dials (N.seen world.new).dials
+        (dial_met (dials_by order (handles_in N.L.looks (N.seen world.old).plans slots.old.items)) d.uses.items)) }
+    ensures steps { IfOk result (λ d.
+        StepsOn N.L.looks (login_of opts.now) (N.seen world.old).plans (N.seen world.new).plans
+        slots.old.items slots.new.items (λ plans. Carries (login_of opts.now) plans order) d) }
+{
+    match order {
+        Order::Dial => connect(alloc, opts, world, slots, now),
+        Order::Move(line) => move_world(alloc, world, &line),
+        Order::Visit(Errand { number, work }) => {
+            work_at(alloc, opts, world, slots, number, now, work)
+        }
+    }
+}
+
+/// Does a step at the number that it names, where a stream is there or none; a `conn` takes the next number, and a step that
+/// moves the world needs one that takes a plan. All polls of a step are at one moment.
 ///
 /// What the step comes to is what `StepGrows` lets it come to after the earlier ones, for any plans that the world told.
 pub fn run_step<N: World>(
@@ -69,17 +140,21 @@ pub fn run_step<N: World>(
     step: &Step,
     there: bool,
 ) -> Result<StepResult, NoMemory>
-    requires { AreReady N.L.looks slots.old.items }
+    requires ready { AreReady N.L.looks slots.old.items }
+    requires stands { may_stand (N.seen world.old).takes step.now ≡ true }
     ensures longer { OnOk result (length slots.old.items ≤ length slots.new.items) }
-    ensures others { OnOk result (SameFrom (length slots.new.items) (N.seen world.old).plans (N.seen world.new).plans) }
+    ensures takes { (N.seen world.new).takes ≡ (N.seen world.old).takes }
+    ensures chance { OnOk result ((N.seen world.new).chance ≡
+        chance_by (has_dialed step.now (handles_in N.L.looks (N.seen world.old).plans slots.old.items))
+        step.now (N.seen world.old).chance) }
     ensures counts { IfOk result (λ d. DialsTo (N.seen world.old).dials (N.seen world.new).dials
-        (dial_met (has_dialed step.now (map (handle_of N.L.looks) slots.old.items)) d.uses.items)) }
+        (dial_met (has_dialed step.now (handles_in N.L.looks (N.seen world.old).plans slots.old.items)) d.uses.items)) }
     ensures steps { IfOk result (λ d.
-        StepsOn N.L.looks (login_of opts.now) (N.seen world.old).plans slots.old.items slots.new.items
+        StepsOn N.L.looks (login_of opts.now) (N.seen world.old).plans (N.seen world.new).plans
+        slots.old.items slots.new.items
         (λ plans hs o us ts. StepGrows (login_of opts.now) plans there hs step.now o us ts) d) }
 {
-    match errand(alloc, step, there)? {
-        None => connect(alloc, opts, world, slots),
-        Some(Errand { number, work }) => work_at(alloc, opts, world, slots, number, work),
-    }
+    let order = order_for(alloc, step, there)?;
+    let now = world.now();
+    carry_out(alloc, opts, world, slots, order, now)
 }

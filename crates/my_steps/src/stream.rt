@@ -68,6 +68,7 @@ pub(crate) fn then_take<L: Link>(
     alloc: Global,
     conn: &mut TapedConn<L>,
     number: u64,
+    now: u64,
     skipped: StepResult,
 ) -> Result<StepResult, NoMemory>
     requires { ConnReady conn.old }
@@ -76,7 +77,7 @@ pub(crate) fn then_take<L: Link>(
     if !is_done(&skipped.outcome) {
         return Ok(skipped);
     }
-    let took = begin_call(alloc, conn, number, Call::TakeSet)?;
+    let took = begin_call(alloc, conn, number, now, Call::TakeSet)?;
     joined(skipped, took)
 }
 
@@ -93,6 +94,7 @@ pub(crate) fn take_call<L: Link>(
     alloc: Global,
     conn: &mut TapedConn<L>,
     number: u64,
+    now: u64,
 ) -> Result<StepResult, NoMemory>
     requires { ConnReady conn.old }
     ensures { IfOk result (λ d. EachDid L.looks number TakeWork conn.old (ThereAt conn.new) d) }
@@ -101,10 +103,10 @@ pub(crate) fn take_call<L: Link>(
         return Ok(unused(alloc, Outcome::NoSuchHandle));
     }
     if has_taken(conn) {
-        let skipped = begin_call(alloc, conn, number, Call::SkipTaken)?;
-        return then_take(alloc, conn, number, skipped);
+        let skipped = begin_call(alloc, conn, number, now, Call::SkipTaken)?;
+        return then_take(alloc, conn, number, now, skipped);
     }
-    begin_call(alloc, conn, number, Call::TakeSet)
+    begin_call(alloc, conn, number, now, Call::TakeSet)
 }
 
 /// Lets a stream go, which changes nothing, unless a call is open.

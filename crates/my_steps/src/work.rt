@@ -1,12 +1,12 @@
 //! What a step does at a connection's number.
-ghost use Rattle.std.specs.Prelude.{◌≡◌, length, map, IfOk, OnOk};
-ghost use Rattle.my_client.specs.Login.{login_of};
+ghost use Rattle.std.specs.Prelude.{◌≡◌, length, IfOk, OnOk};
+ghost use Rattle.my_session.specs.Login.{login_of};
 ghost use Rattle.my_client.specs.Ready.{ConnReady};
-ghost use Rattle.my_world.specs.World.{SameBut, SameFrom};
-ghost use Rattle.my_steps.specs.Dialing.{DialsTo, dial_met};
+ghost use Rattle.my_world.specs.World.{SameBut};
+ghost use Rattle.my_steps.specs.Dialing.{DialsTo, chance_dialed, dial_met};
 ghost use Rattle.my_steps.specs.Did.{MayBegin, does_at, EachDid, DoesAt, StepsOn, is_poll, redials};
 ghost use Rattle.my_steps.specs.Handle.{at_number};
-ghost use Rattle.my_steps.specs.Slot.{handle_of, placed};
+ghost use Rattle.my_steps.specs.Slot.{HasLink, handle_of, handles_in, placed};
 ghost use Rattle.my_steps.specs.Grows.{At};
 ghost use Rattle.my_steps.specs.Ready.{SlotReady, AreReady};
 ghost use Rattle.my_steps.specs.declared.slot.Slot.TheVariants.{Held as HeldAt};
@@ -59,6 +59,7 @@ fn work_there<L: Link>(
     alloc: Global,
     conn: &mut TapedConn<L>,
     number: u64,
+    now: u64,
     work: Work,
 ) -> Result<Worked, NoMemory>
     requires ready { ConnReady conn.old }
@@ -67,15 +68,15 @@ fn work_there<L: Link>(
 {
     match work {
         Work::Begin(call) => {
-            let did = begin_call(alloc, conn, number, call)?;
+            let did = begin_call(alloc, conn, number, now, call)?;
             Ok(Worked { there: true, did })
         }
         Work::Collect => {
-            let did = collect_call(alloc, conn, number)?;
+            let did = collect_call(alloc, conn, number, now)?;
             Ok(Worked { there: true, did })
         }
         Work::Take => {
-            let did = take_call(alloc, conn, number)?;
+            let did = take_call(alloc, conn, number, now)?;
             Ok(Worked { there: true, did })
         }
         Work::LetGo => Ok(Worked {
@@ -90,7 +91,7 @@ fn work_there<L: Link>(
             let did = tell(alloc, conn, number)?;
             Ok(Worked { there: true, did })
         }
-        Work::Poll => resume_there(alloc, conn, number),
+        Work::Poll => resume_there(alloc, conn, number, now),
         Work::Cancel => Ok(cancel_there(alloc, conn, number)),
     }
 }
@@ -100,13 +101,15 @@ fn work_conn<L: Link + Drop>(
     alloc: Global,
     mut conn: TapedConn<L>,
     number: u64,
+    now: u64,
     work: Work,
 ) -> Result<(Slot<L>, StepResult), NoMemory>
     requires ready { ConnReady conn }
     requires kind { MayBegin work }
-    ensures { IfOk result (λ r. EachDid L.looks number work conn r.0 r.1) }
+    ensures did { IfOk result (λ r. EachDid L.looks number work conn r.0 r.1) }
+    ensures linked { IfOk result (λ r. HasLink r.0) }
 {
-    let worked = work_there(alloc, &mut conn, number, work)?;
+    let worked = work_there(alloc, &mut conn, number, now, work)?;
     Ok((place(conn, worked.there), worked.did))
 }
 
@@ -116,15 +119,19 @@ fn work_held<N: World>(
     opts: &Opts,
     world: &mut N,
     number: u64,
+    now: u64,
     work: Work,
 ) -> Result<(Slot<N::L>, StepResult), NoMemory>
     ensures others { SameBut number (N.seen world.old).plans (N.seen world.new).plans }
+    ensures takes { (N.seen world.new).takes ≡ (N.seen world.old).takes }
+    ensures chance { OnOk result ((N.seen world.new).chance ≡ chance_dialed (is_poll work) (N.seen world.old).chance) }
     ensures counts { IfOk result (λ r. DialsTo (N.seen world.old).dials (N.seen world.new).dials
         (dial_met (is_poll work) r.1.uses.items)) }
-    ensures did { IfOk result (λ r. DoesAt N.L.looks (login_of opts.now) number work HeldAt r.0 r.1) }
+    ensures did { IfOk result (λ r. DoesAt N.L.looks (login_of opts.now)
+        (N.seen world.old).plans (N.seen world.new).plans number work HeldAt r.0 r.1) }
 {
     match work {
-        Work::Poll => return dial_at(alloc, opts, world, number),
+        Work::Poll => return dial_at(alloc, opts, world, number, now),
         Work::Cancel => return Ok((Slot::Gone, unused(alloc, Outcome::Done))),
         Work::Begin(_) | Work::Collect | Work::Take | Work::LetGo | Work::Miss | Work::Fields => {
             return Ok((Slot::Held, unused(alloc, Outcome::NoSuchHandle)));
@@ -138,18 +145,23 @@ fn work_on<N: World>(
     world: &mut N,
     slot: Slot<N::L>,
     number: u64,
+    now: u64,
     work: Work,
 ) -> Result<(Slot<N::L>, StepResult), NoMemory>
     requires ready { SlotReady N.L.looks slot }
     requires kind { MayBegin work }
     ensures others { SameBut number (N.seen world.old).plans (N.seen world.new).plans }
+    ensures takes { (N.seen world.new).takes ≡ (N.seen world.old).takes }
+    ensures chance { OnOk result ((N.seen world.new).chance ≡
+        chance_dialed (redials (handle_of N.L.looks slot) work) (N.seen world.old).chance) }
     ensures counts { IfOk result (λ r. DialsTo (N.seen world.old).dials (N.seen world.new).dials
         (dial_met (redials (handle_of N.L.looks slot) work) r.1.uses.items)) }
-    ensures did { IfOk result (λ r. DoesAt N.L.looks (login_of opts.now) number work slot r.0 r.1) }
+    ensures did { IfOk result (λ r. DoesAt N.L.looks (login_of opts.now)
+        (N.seen world.old).plans (N.seen world.new).plans number work slot r.0 r.1) }
 {
     match slot {
-        Slot::There(conn) => work_conn(alloc, conn, number, work),
-        Slot::Held => work_held(alloc, opts, world, number, work),
+        Slot::There(conn) => work_conn(alloc, conn, number, now, work),
+        Slot::Held => work_held(alloc, opts, world, number, now, work),
         Slot::Gone => return Ok((Slot::Gone, unused(alloc, Outcome::NoSuchHandle))),
         Slot::Ended(conn) => {
             return Ok((Slot::Ended(conn), unused(alloc, Outcome::NoSuchHandle)));
@@ -164,23 +176,28 @@ pub(crate) fn work_at<N: World>(
     world: &mut N,
     slots: &mut Vec<Slot<N::L>>,
     number: u64,
+    now: u64,
     work: Work,
 ) -> Result<StepResult, NoMemory>
     requires ready { AreReady N.L.looks slots.old.items }
     requires kind { MayBegin work }
     ensures count { OnOk result (length slots.new.items ≡ length slots.old.items) }
-    ensures others { SameFrom (length slots.old.items) (N.seen world.old).plans (N.seen world.new).plans }
+    ensures takes { (N.seen world.new).takes ≡ (N.seen world.old).takes }
+    ensures chance { OnOk result ((N.seen world.new).chance ≡ chance_dialed
+        (redials (at_number (handles_in N.L.looks (N.seen world.old).plans slots.old.items) number) work)
+        (N.seen world.old).chance) }
     ensures counts { IfOk result (λ d. DialsTo (N.seen world.old).dials (N.seen world.new).dials
-        (dial_met (redials (at_number (map (handle_of N.L.looks) slots.old.items) number) work) d.uses.items)) }
+        (dial_met (redials (at_number (handles_in N.L.looks (N.seen world.old).plans slots.old.items) number) work)
+        d.uses.items)) }
     ensures steps { IfOk result (λ d.
-        StepsOn N.L.looks (login_of opts.now) (N.seen world.old).plans slots.old.items slots.new.items
-        (λ plans. At number (does_at (login_of opts.now) number work)) d) }
+        StepsOn N.L.looks (login_of opts.now) (N.seen world.old).plans (N.seen world.new).plans
+        slots.old.items slots.new.items (λ plans. At number (does_at (login_of opts.now) plans number work)) d) }
 {
     if number >= slots.len() as u64 {
         return Ok(unused(alloc, Outcome::NoSuchHandle));
     }
     let slot = mem::replace(&mut slots[number as usize], Slot::Gone);
-    let (slot, did) = work_on(alloc, opts, world, slot, number, work)?;
+    let (slot, did) = work_on(alloc, opts, world, slot, number, now, work)?;
     slots[number as usize] = slot;
     Ok(did)
 }

@@ -6,10 +6,14 @@ use Rattle.std.proofs.lemmas.Bool.Decides.{nat_tests}
 use Rattle.my_link.specs.declared.link.ReadItem.{ReadItem}
 use Rattle.my_link.specs.Memory.{is_filled}
 use Rattle.my_link.specs.Items.{LinkItems, no_items, grown}
-use Rattle.my_world.specs.Plan.{dripped}
+use Rattle.my_link.specs.declared.dialer.DialItem.{DialItem}
+use Rattle.my_world.specs.declared.line.WorldLine.{WorldLine}
+use Rattle.my_world.specs.declared.memory.dials.PlannedDial.{PlannedDial}
+use Rattle.my_world.specs.MemDials.{dials_at}
+use Rattle.my_world.specs.Plan.{dripped, link_of, given_by, dials_of, dials_for, plans_on}
 use Rattle.my_link.specs.Planned.{PlannedItems, items_at, place_at}
 use Rattle.my_world.specs.MemWorld.{plans_of}
-use Rattle.my_world.specs.World.{SameAt}
+use Rattle.my_world.specs.World.{SameAt, SamePlans}
 
 -- nothing stands for a link without a place
 pub at_end : (n : ℕ) (ps : List PlannedItems) → length ps ≤ place_at n ps → items_at n ps ≡ no_items
@@ -152,9 +156,46 @@ others n place ps p q e h f g m differs =
     let apart : (n == m) ≡ false = grind (arith, nat_tests) in
     ap (λ k. items_at m (slice_set ps k q)) e ∙ set_at n m ps q h' numbered ∙ ap (λ t. if t then q.items else items_at m ps) apart
 
+-- what a line gave the links and their dials is its plan
+pub planned : (line : WorldLine) (ls ms : List PlannedItems) (ds es : List PlannedDial) → ((n : ℕ) → items_at n ms ≡ grown (items_at n ls) (if link_of line == n then given_by line else no_items)) → ((n : ℕ) → dials_at n es ≡ dials_at n ds ++ dials_for n line) → SamePlans (plans_on line (plans_of ls ds)) (plans_of ms es)
+planned line ls ms ds es items dials n = record {
+  reads = ap Some (more_reads (link_of line == n) (items_at n ms) (items_at n ls) (given_by line) (items n));
+  writes = ap Some (more_writes (link_of line == n) (items_at n ms) (items_at n ls) (given_by line) (items n));
+  dials = ap Some (dials n);
+}
+
+-- a line gave no link anything, or no dial
+pub none_given : (line : WorldLine) → given_by line ≡ no_items → (n : ℕ) (a : LinkItems) → a ≡ grown a (if link_of line == n then given_by line else no_items)
+none_given line e n a = by_test (link_of line == n)
+  where
+    by_test : (t : Bool) → a ≡ grown a (if t then given_by line else no_items)
+    by_test true = sym (grown_none a) ∙ ap (grown a) (sym e)
+    by_test false = sym (grown_none a)
+
+pub none_dialed : (line : WorldLine) → dials_of line ≡ [] → (n : ℕ) (ds : List DialItem) → ds ≡ ds ++ dials_for n line
+none_dialed line e n ds = by_test (link_of line == n)
+  where
+    by_test : (t : Bool) → ds ≡ ds ++ (if t then dials_of line else [])
+    by_test true = sym (append-nil ds) ∙ ap (λ is. ds ++ is) (sym e)
+    by_test false = sym (append-nil ds)
+
+-- one item more for the dials of its number
+pub dialed : (line : WorldLine) (d : PlannedDial) (ds : List PlannedDial) → link_of line ≡ d.number → dials_of line ≡ d.item ∷ [] → (n : ℕ) → dials_at n (ds ++ d ∷ []) ≡ dials_at n ds ++ dials_for n line
+dialed line d [] e f n = by_test (link_of line == n) refl
+  where
+    by_test : (t : Bool) → (link_of line == n) ≡ t → dials_at n (d ∷ []) ≡ (if t then dials_of line else [])
+    by_test true g = let is : (d.number == n) ≡ true = ap (λ k. k == n) (sym e) ∙ g in rw (is, f) refl
+    by_test false g = let is : (d.number == n) ≡ false = ap (λ k. k == n) (sym e) ∙ g in rw is refl
+dialed line d (p ∷ ds) e f n = by_test (p.number == n) (dialed line d ds e f n)
+  where
+    by_test : (t : Bool) → dials_at n (ds ++ d ∷ []) ≡ dials_at n ds ++ dials_for n line → (if t then p.item ∷ dials_at n (ds ++ d ∷ []) else dials_at n (ds ++ d ∷ [])) ≡ (if t then p.item ∷ dials_at n ds else dials_at n ds) ++ dials_for n line
+    by_test true more = ap (λ is. p.item ∷ is) more
+    by_test false more = more
+
 -- the same items are the same plan
-pub same_at : (ps qs : List PlannedItems) (n : ℕ) → items_at n qs ≡ items_at n ps → SameAt (plans_of ps) (plans_of qs) n
-same_at ps qs n e = record {
+pub same_at : (ps qs : List PlannedItems) (ds es : List PlannedDial) (n : ℕ) → items_at n qs ≡ items_at n ps → dials_at n es ≡ dials_at n ds → SameAt (plans_of ps ds) (plans_of qs es) n
+same_at ps qs ds es n e f = record {
   reads = ap (λ (a : LinkItems). Some a.reads) e;
   writes = ap (λ (a : LinkItems). Some a.writes) e;
+  dials = ap Some f;
 }

@@ -1,3 +1,5 @@
 pub mod World
 pub mod Plan
+pub mod MemDials
+pub mod MemParts
 pub mod MemWorld

@@ -1,73 +1,22 @@
--- What clauses see of a world, and what a dial returns.
-use Rattle.std.specs.Prelude.{ℕ, ◌≡◌, ◌≢◌, ◌≤◌, List, [], Option, Some, None, Bool}
-use Rattle.my_frame.specs.Outside.{Rose}
-use Rattle.my_link.specs.declared.link.ReadItem.{ReadItem}
-use Rattle.my_link.specs.declared.link.WriteItem.{WriteItem}
-use Rattle.my_world.specs.declared.world.DialStep.{DialStep}
-use Rattle.my_world.specs.declared.world.DialStep.TheVariants.{Link, NotYet, Failed}
+-- What clauses see of a world.
+use Rattle.std.specs.Prelude.{ℕ, ◌≡◌, List, [], ◌∷◌, drop, Option, Some, None, option_map}
+pub use Rattle.my_link.specs.Dials.{Plans, DialCounts, no_dials, Chance, no_chance, WorldSeen, SameAt, SamePlans, SameBut, SameFrom, SameLink, IfLink, IfNoLink, HeldBy, FailedBy, GivenBy, PlaysDial, DialFailed, DialHeld, CountsDial, IsFresh}
 
--- for the link of each number, where the world tells it: what can be read, and what becomes of writes
-pub record Plans : Type 0 where
-  pub reads : ℕ → Option (List ReadItem)
-  pub writes : ℕ → Option (List WriteItem)
+-- the moment, where it is known
+abbrev pub IsMoment : Option ℕ → ℕ → Type 0
+IsMoment None now = Unit {0}
+IsMoment (Some moment) now = now ≡ moment
 
--- how often a dial failed, and how often it wasn't ready
-pub record DialCounts : Type 0 where
-  pub faults : ℕ
-  pub holds : ℕ
+-- the first of the words that are left, and 0 where none is
+abbrev pub first_word : List ℕ → ℕ
+first_word [] = 0
+first_word (word ∷ words) = word
 
-abbrev pub no_dials : DialCounts
-no_dials = record { faults = 0; holds = 0 }
+-- the next random word, where it is known
+abbrev pub IsDrawn : Option (List ℕ) → ℕ → Type 0
+IsDrawn None word = Unit {0}
+IsDrawn (Some words) word = word ≡ first_word words
 
--- whether a world takes a plan, the plan, and the counts of its dials
-pub record WorldSeen : Type 0 where
-  pub takes : Bool
-  pub plans : Plans
-  pub dials : DialCounts
-
--- both plans have the same items for link n
-pub record SameAt (old new : Plans) (n : ℕ) : Type 0 where
-  pub reads : new.reads n ≡ old.reads n
-  pub writes : new.writes n ≡ old.writes n
-
-abbrev pub SamePlans : Plans → Plans → Type 0
-SamePlans old new = (n : ℕ) → SameAt old new n
-
--- for each link but that of this number
-abbrev pub SameBut : ℕ → Plans → Plans → Type 0
-SameBut number old new = (n : ℕ) → n ≢ number → SameAt old new n
-
--- for each link from this number on
-abbrev pub SameFrom : ℕ → Plans → Plans → Type 0
-SameFrom number old new = (n : ℕ) → number ≤ n → SameAt old new n
-
-abbrev pub IfLink : {L : Type 0} → DialStep L → (L → Type 0) → Type 0
-IfLink (Link l) P = P l
-IfLink NotYet P = Unit {0}
-IfLink Failed P = Unit {0}
-
--- no dial fails or isn't ready where `P` doesn't hold
-abbrev pub OnNoLink : {L : Type 0} → DialStep L → Type 0 → Type 0
-OnNoLink (Link l) P = Unit {0}
-OnNoLink NotYet P = P
-OnNoLink Failed P = P
-
--- the faults rose, and nothing else
-pub record DialFailed (c d : DialCounts) : Type 0 where
-  pub faults : Rose c.faults d.faults
-  pub holds : d.holds ≡ c.holds
-
--- the holds rose, and nothing else
-pub record DialHeld (c d : DialCounts) : Type 0 where
-  pub faults : d.faults ≡ c.faults
-  pub holds : Rose c.holds d.holds
-
-abbrev pub CountsDial : {L : Type 0} → DialCounts → DialCounts → DialStep L → Type 0
-CountsDial c d (Link l) = d ≡ c
-CountsDial c d NotYet = DialHeld c d
-CountsDial c d Failed = DialFailed c d
-
--- nothing was sent yet, where that is told
-abbrev pub IsFresh : Option (List ℕ) → Type 0
-IsFresh None = Unit {0}
-IsFresh (Some bytes) = bytes ≡ []
+-- a word was drawn
+abbrev pub drawn : Chance → Chance
+drawn chance = record { moment = chance.moment; randoms = option_map (drop 1) chance.randoms }

@@ -7,4 +7,5 @@ mod world;
 
 pub use line::WorldLine;
 pub use memory::MemWorld;
-pub use world::{DialStep, World};
+pub use my_link::{DialItem, DialStep, Dialer};
+pub use world::World;

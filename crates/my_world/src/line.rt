@@ -2,7 +2,8 @@
 
 use my_frame::Blob;
 
-/// A line of a world's plan. Its first field is the number of its link, which is that of the link's connection.
+/// A line of a world's plan. Its first field is the number of its link, which is that of the link's connection; the last two
+/// are of no link.
 #[derive(Drop)]
 pub enum WorldLine {
     /// A packet can be read: a header with this number, then the payload.
@@ -26,4 +27,12 @@ pub enum WorldLine {
     WriteWait(u64),
     /// The next write fails, once.
     WriteFail(u64),
+    /// The next dial isn't ready, once.
+    DialWait(u64),
+    /// The next dial fails, once.
+    DialFail(u64),
+    /// The moment grows by this many milliseconds, and stops at the last one.
+    Advance(u64),
+    /// This word comes after the other random words.
+    Random(u64),
 }

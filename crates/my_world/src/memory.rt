@@ -1,24 +1,39 @@
 //! A world in memory, which plays its plan.
-ghost use Rattle.std.specs.Prelude.{ℕ, ◌≡◌, ◌∷◌, [], true, length, IfOk, OnOk, OnErr, ◌==◌, ◌<◌, if◌then◌else◌};
+ghost use Rattle.std.specs.Prelude.{ℕ, ◌≡◌, ◌≢◌, ◌∷◌, [], true, length, IfOk, OnOk, OnErr, ◌==◌, ◌<◌, if◌then◌else◌};
+ghost use Rattle.my_link.specs.MemLink.{unread, unwritten, counted, sent_to};
+ghost use Rattle.my_link.specs.Outside.{no_counts};
 ghost use Rattle.my_link.specs.Link.{accept_back};
 ghost use Rattle.my_link.specs.Memory.{is_filled};
 ghost use Rattle.my_link.specs.Items.{no_items};
 ghost use Rattle.my_world.specs.Plan.{given_by, packet_of, dripped, bytes_item, link_of};
+ghost use Rattle.my_world.specs.MemParts.{PartIs};
 ghost use Rattle.my_link.specs.Planned.{added, is_lawful, items_at, items_with, place_at};
 
+pub(crate) mod dials;
+
 use crate::line::WorldLine;
-use crate::world::{DialStep, World};
-use my_frame::{Blob, NoMemory};
-use my_link::{Addition, MemLink, Planned, ReadItem, WriteItem, Writes};
+use crate::memory::dials::{PlannedDial, take_dial};
+use crate::world::World;
+use my_frame::{Blob, NoMemory, SourceStep};
+use my_link::{
+    Addition, AfterConnect, AfterStep, Aid, DialItem, DialStep, Dialer, GlobalHandler, MemLink,
+    Opening, Planned, ReadItem, WriteItem, Writes,
+};
 use my_opts_parts::Target;
 use std::alloc::{AllocError, Global};
+use std::collections::VecDeque;
 
-/// A world in memory. Each link has the items of the lines with its number, in order, for reads and for writes apart.
-/// No dial fails.
+/// A world in memory. Each link has the items of the lines with its number, in order, for reads, for writes and for dials
+/// apart. Its moment begins at 0. No file is there, and no text follows a login.
 #[derive(Drop)]
 pub struct MemWorld {
     alloc: Global,
     links: Vec<Planned>,
+    dials: Vec<PlannedDial>,
+    faults: u64,
+    holds: u64,
+    moment: u64,
+    randoms: VecDeque<u64>,
 }
 
 fn packet_bytes(alloc: Global, number: u8, payload: &[u8]) -> Result<Vec<u8>, AllocError>
@@ -47,7 +62,10 @@ fn link_number(line: &WorldLine) -> u64
         | WorldLine::Drip(link, _, _)
         | WorldLine::Accept(link, _)
         | WorldLine::WriteWait(link)
-        | WorldLine::WriteFail(link) => *link,
+        | WorldLine::WriteFail(link)
+        | WorldLine::DialWait(link)
+        | WorldLine::DialFail(link) => *link,
+        WorldLine::Advance(_) | WorldLine::Random(_) => 0,
     }
 }
 
@@ -116,6 +134,10 @@ fn addition(alloc: Global, line: &WorldLine) -> Result<Addition, NoMemory>
         WorldLine::Accept(_, count) => Ok(accept(*count)),
         WorldLine::WriteWait(_) => Ok(Addition::Write(WriteItem::Wait)),
         WorldLine::WriteFail(_) => Ok(Addition::Write(WriteItem::Fail)),
+        WorldLine::DialWait(_)
+        | WorldLine::DialFail(_)
+        | WorldLine::Advance(_)
+        | WorldLine::Random(_) => Ok(Addition::Nothing),
     }
 }
 
@@ -134,11 +156,21 @@ fn place_of(links: &[Planned], number: u64) -> usize
 impl MemWorld {
     /// A world whose plan has no lines.
     pub fn new(alloc: Global) -> MemWorld
-        ensures { (n : ℕ) → items_at n result.links.items ≡ no_items }
+        ensures items { (n : ℕ) → items_at n result.links.items ≡ no_items }
+        ensures dials { result.dials.items ≡ [] }
+        ensures faults { result.faults ≡ 0 }
+        ensures holds { result.holds ≡ 0 }
+        ensures moment { result.moment ≡ 0 }
+        ensures randoms { result.randoms.items ≡ [] }
     {
         MemWorld {
             alloc,
             links: Vec::new(alloc),
+            dials: Vec::new(alloc),
+            faults: 0,
+            holds: 0,
+            moment: 0,
+            randoms: VecDeque::new(alloc),
         }
     }
 }
@@ -171,48 +203,131 @@ fn add(
     Ok(())
 }
 
-impl World for MemWorld {
+// The link of this number, with all of its items.
+fn take_link(alloc: Global, links: &mut Vec<Planned>, number: u64) -> MemLink
+    ensures reads { unread result ≡ (items_at number links.old.items).reads }
+    ensures writes { unwritten result ≡ (items_at number links.old.items).writes }
+    ensures counts { counted result ≡ no_counts }
+    ensures got { sent_to result ≡ [] }
+    ensures others { (n : ℕ) → n ≢ number → items_at n links.new.items ≡ items_at n links.old.items }
+{
+    let place = place_of(links, number);
+    if place >= links.len() {
+        return MemLink::new(alloc, Vec::new(alloc), Writes::new(alloc));
+    }
+    let (reads, writes) = links[place].take(alloc);
+    MemLink::new(alloc, reads, writes)
+}
+
+// What a line is a plan of.
+enum Part {
+    Links,
+    Dial(PlannedDial),
+    Advance(u64),
+    Random(u64),
+}
+
+fn part_of(line: &WorldLine) -> Part
+    ensures { PartIs line.now result }
+{
+    match line {
+        WorldLine::DialWait(number) => Part::Dial(PlannedDial {
+            number: *number,
+            item: DialItem::Wait,
+        }),
+        WorldLine::DialFail(number) => Part::Dial(PlannedDial {
+            number: *number,
+            item: DialItem::Fail,
+        }),
+        WorldLine::Advance(by) => Part::Advance(*by),
+        WorldLine::Random(word) => Part::Random(*word),
+        WorldLine::Packet(_, _, _)
+        | WorldLine::Bytes(_, _)
+        | WorldLine::Turn(_)
+        | WorldLine::Wait(_)
+        | WorldLine::Fail(_)
+        | WorldLine::End(_)
+        | WorldLine::Drip(_, _, _)
+        | WorldLine::Accept(_, _)
+        | WorldLine::WriteWait(_)
+        | WorldLine::WriteFail(_) => Part::Links,
+    }
+}
+
+impl Dialer for MemWorld {
     ghost use Rattle.my_world.specs.MemWorld.{world_of};
 
     type L = MemLink;
 
-    ghost seen = { λ w. world_of w.links.items };
+    ghost seen = { λ w. world_of w.links.items w.dials.items (record { faults = w.faults; holds = w.holds })
+        w.moment w.randoms.items };
 
+    // Every target is at the links in memory.
+    fn dial(&mut self, number: u64, _target: &Target) -> DialStep<MemLink> {
+        match take_dial(&mut self.dials, number) {
+            Some(DialItem::Wait) => {
+                self.holds = self.holds.saturating_add(1);
+                DialStep::NotYet
+            }
+            Some(DialItem::Fail) => {
+                self.faults = self.faults.saturating_add(1);
+                DialStep::Failed
+            }
+            None => DialStep::Link(take_link(self.alloc, &mut self.links, number)),
+        }
+    }
+}
+
+impl GlobalHandler for MemWorld {
+    ghost use Rattle.std.specs.Prelude.{Some};
+
+    ghost file = { λ w. record { left = Some []; faults = 0 } };
+
+    fn open_file(&mut self, _name: &[u8]) -> Opening {
+        Opening::Absent
+    }
+
+    fn read(&mut self, _buf: &mut [u8]) -> SourceStep {
+        SourceStep::End
+    }
+}
+
+impl AfterConnect for MemWorld {
+    ghost use Rattle.my_link.specs.Aid.{no_texts};
+
+    ghost texts = { λ w. no_texts };
+
+    fn next(&mut self, _alloc: Global, _n: u64) -> Result<AfterStep, NoMemory> {
+        Ok(AfterStep::Done)
+    }
+}
+
+impl Aid for MemWorld {}
+
+impl World for MemWorld {
     fn plans(&self) -> bool {
         true
     }
 
     fn prepare(&mut self, line: &WorldLine) -> Result<(), NoMemory> {
-        let addition = addition(self.alloc, line)?;
-        add(self.alloc, &mut self.links, link_number(line), addition)?;
+        match part_of(line) {
+            Part::Links => {
+                let addition = addition(self.alloc, line)?;
+                add(self.alloc, &mut self.links, link_number(line), addition)?;
+            }
+            Part::Dial(planned) => self.dials.push(planned)?,
+            Part::Advance(by) => self.moment = self.moment.saturating_add(by),
+            Part::Random(word) => self.randoms.push_back(word)?,
+        }
         Ok(())
     }
 
-    // Every target is at the links in memory.
-    fn dial(&mut self, number: u64, _target: &Target) -> DialStep<MemLink> {
-        let place = place_of(&self.links, number);
-        if place >= self.links.len() {
-            let empty = MemLink::new(self.alloc, Vec::new(self.alloc), Writes::new(self.alloc));
-            return DialStep::Link(empty);
-        }
-        let (reads, writes) = self.links[place].take(self.alloc);
-        let link = MemLink::new(self.alloc, reads, writes);
-        DialStep::Link(link)
+    fn now(&mut self) -> u64 {
+        self.moment
     }
 
-    // The clock stays at 0.
-    fn now(&mut self) -> u64
-        ensures value { result ≡ 0 }
-        ensures same { self.new ≡ self.old }
-    {
-        0
-    }
-
-    // Each random word is 0.
-    fn random(&mut self) -> u64
-        ensures value { result ≡ 0 }
-        ensures same { self.new ≡ self.old }
-    {
-        0
+    // 0, where no random word is left.
+    fn random(&mut self) -> u64 {
+        self.randoms.pop_front().unwrap_or(0)
     }
 }

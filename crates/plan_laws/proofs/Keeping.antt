@@ -1,39 +1,40 @@
 -- The transcript of each run keeps to the plan.
 use Rattle.std.proofs.Common.{◌≡◌, ◌⊎◌, inl, inr, ℕ, zero, suc, ◌+◌, ◌-◌, ◌==◌, List, [], ◌∷◌, ◌++◌, length, map, Bool, true, Some, refl, sym, ap, ◌∙◌, subst, arith, if◌then◌else◌}
 use Rattle.std.proofs.lemmas.Bool.Decides.{nat_tests}
-use Rattle.std.proofs.lemmas.List.{append_assoc, append-nil}
+use Rattle.std.proofs.lemmas.List.{append-nil}
 use Rattle.my_grammar.specs.declared.login.Login.{Login}
+use Rattle.my_link.specs.declared.dialer.DialItem.{DialItem}
 use Rattle.my_link.specs.declared.link.ReadItem.{ReadItem}
 use Rattle.my_link.specs.declared.link.WriteItem.{WriteItem}
 use Rattle.my_link.specs.Looks.{Looks}
 use Rattle.my_link.specs.Spent.{spelled}
 use Rattle.my_client.specs.Kept.{Kept}
 use Rattle.my_script.specs.declared.step.Step.{Step}
-use Rattle.my_script.specs.declared.step.Step.TheVariants as steps
-use Rattle.my_script.specs.declared.transcript.Outcome.{Outcome}
 use Rattle.my_script.specs.declared.transcript.StepAnswer.{StepAnswer}
 use Rattle.my_script.specs.declared.transcript.Tape.{Tape}
-use Rattle.my_script.specs.declared.transcript.Use.{Use}
 use Rattle.my_world.specs.declared.line.WorldLine.{WorldLine}
-use Rattle.my_world.specs.Plan.{all_for, all_writes_for}
+use Rattle.my_world.specs.Plan.{all_for, all_writes_for, all_dials_for}
 use Rattle.my_world.specs.World.{Plans}
-use Rattle.my_steps.specs.Grows.{AreGrown, Line, StepGrows, handles_after}
+use Rattle.my_steps.specs.Grows.{AreGrown, Line, handles_after}
 use Rattle.my_steps.specs.Handle.{Handle, Absent, Dialing, Joined, at_number}
-use Rattle.my_run.specs.Headline.{AnswerView, EachExplained, answer_view, answers_of, steps_of}
+use Rattle.my_run.specs.Headline.{AnswerView, answer_view, answers_of}
 use Rattle.my_run.specs.Tapes.{TapeView, tape_of, tape_view, tapes_in}
 use Rattle.my_run_judge.specs.declared.judging.Found.{Found}
 use Rattle.my_run_judge.specs.declared.judging.Found.TheVariants.{Right, Wrong}
-use Rattle.my_run_judge.specs.Transcripts.{IsFoundIn, earlier}
+use Rattle.my_run_judge.specs.Transcripts.{IsFoundIn, IsWrongBelow, dialed_in, earlier}
 use Rattle.judge_laws.proofs.Accepted as judged
 use Rattle.my_plan_judge.specs.declared.left.Left.{Left}
 use Rattle.my_plan_judge.specs.Left.{alike, first_left}
-use Rattle.my_plan_judge.specs.Lines.{DialReady, DialsReady, FirstMetNothing, FirstUnkept, FirstUnready, LinesKept}
+use Rattle.my_plan_judge.specs.declared.dials.DialSpot.{DialSpot}
+use Rattle.my_plan_judge.specs.declared.dials.DialSpot.TheVariants.{Ahead}
+use Rattle.my_plan_judge.specs.Dials.{DialsKept, FirstUndialed, after_step, left_by}
+use Rattle.my_plan_judge.specs.Lines.{FirstUnkept, LinesKept}
 use Rattle.my_plan_judge.specs.Planned.{before_end, planned}
-use Rattle.my_plan_judge.specs.Runs.{ArePlanned, EachKept, IsFirstUnplanned, OneUnkept, PlansFound, TapeFound}
+use Rattle.my_plan_judge.specs.Runs.{ArePlanned, DialsAt, EachKept, IsFirstUnplanned, OneUnkept, PlansFound, TapeFound}
 use Rattle.plan_laws.specs.Planned.{ArePlansOf, EachPlannedRunIsRight, EachRefusalRefutes, MemoryTells}
+use Rattle.plan_laws.proofs.Dialing.{each_dialed}
 use Rattle.plan_laws.proofs.Running.{AreShown, HasRoom, NumberRoom, RanSo, Stands, first, ran, shown_lines}
 use Rattle.plan_laws.proofs.Spending.{left_at}
-use Rattle.plan_laws.proofs.Stepping.{DialsTo, dials_go}
 use Rattle.plan_laws.proofs.Walking.{StandsIn}
 
 -- the bytes that were taken are the first of the plan's
@@ -43,17 +44,6 @@ alike_front (x ∷ xs) ys =
     let same : (x == x) ≡ true = grind (arith, nat_tests) in
     ap (λ b. if b then suc (alike xs (xs ++ ys)) else 0) same ∙ ap suc (alike_front xs ys)
 
--- the dials, by what is shown of the answers
-abbrev DialsShown : List Step → List AnswerView → Type 0
-DialsShown [] vs = Unit {0}
-DialsShown (s ∷ ss) [] = Unit {0}
-DialsShown (s ∷ ss) (v ∷ vs) = DialReady s v.uses × DialsShown ss vs
-
-shown_dials : (ss : List Step) (bs : List StepAnswer) → DialsShown ss (map answer_view bs) → DialsReady ss bs
-shown_dials [] bs r = tt
-shown_dials (s ∷ ss) [] r = tt
-shown_dials (s ∷ ss) (b ∷ bs) r = (r.0, shown_dials ss bs r.1)
-
 module _ (login : Login) (plans : Plans) (lines : List WorldLine) (told : ArePlansOf lines plans) where
   abbrev reads_of : ℕ → List ReadItem
   reads_of n = all_for n lines
@@ -61,33 +51,7 @@ module _ (login : Login) (plans : Plans) (lines : List WorldLine) (told : ArePla
   abbrev writes_of : ℕ → List WriteItem
   writes_of n = all_writes_for n lines
 
-  step_ready : (there : Bool) (hs ts : List Handle) (step : Step) (o : Outcome) (us : List Use) → StepGrows login plans there hs step o us ts → DialReady step us
-  step_ready there hs ts steps.Conn o us r =
-      let m = length hs in
-      let d : DialsTo m (reads_of m) (writes_of m) us r.made = dials_go m login (plans.reads m) (plans.writes m) (reads_of m) (writes_of m) o us r.made (told.reads m) (told.writes m) r.dials in
-      subst FirstMetNothing (sym d.uses) refl
-  step_ready there hs ts (steps.Query m text) o us r = tt
-  step_ready there hs ts (steps.Next m) o us r = tt
-  step_ready there hs ts (steps.Collect m) o us r = tt
-  step_ready there hs ts (steps.Drop m) o us r = tt
-  step_ready there hs ts (steps.Ping m) o us r = tt
-  step_ready there hs ts (steps.Quit m) o us r = tt
-  step_ready there hs ts (steps.Stream m) o us r = tt
-  step_ready there hs ts (steps.Item m) o us r = tt
-  step_ready there hs ts (steps.Unstream m) o us r = tt
-  step_ready there hs ts (steps.Fields m) o us r = tt
-  step_ready there hs ts (steps.Poll m) o us r = tt
-  step_ready there hs ts (steps.Cancel m) o us r = tt
-
-  dials_so : (ls : List Line) → AreGrown login plans ls → (ss : List Step) (vs : List AnswerView) → DialsShown ss vs → DialsShown (steps_of ls ++ ss) (answers_of ls ++ vs)
-  dials_so [] grown ss vs r = r
-  dials_so (l ∷ ls) grown ss vs r =
-      let view : AnswerView = record { number = l.number; outcome = l.outcome; uses = l.uses } in
-      subst (λ (xs : List Step). DialsShown xs ((answers_of ls ++ view ∷ []) ++ vs)) (sym (append_assoc (steps_of ls) (l.step ∷ []) ss))
-      (subst (λ (ys : List AnswerView). DialsShown (steps_of ls ++ l.step ∷ ss) ys) (sym (append_assoc (answers_of ls) (view ∷ []) vs))
-      (dials_so ls grown.1 (l.step ∷ ss) (view ∷ vs) (step_ready _ (handles_after ls) l.handles l.step l.outcome l.uses grown.0.answer, r)))
-
-  module _ (ls : List Line) (grown : AreGrown login plans ls) (explained : EachExplained login plans ls) (answers : List StepAnswer) (answered : map answer_view answers ≡ answers_of ls) where
+  module _ (ls : List Line) (grown : AreGrown login plans ls) (answers : List StepAnswer) (answered : map answer_view answers ≡ answers_of ls) where
     -- what a link that took these bytes began with
     first_is : (n : ℕ) (x : Looks) (taken : List ℕ) (left : Left) → StandsIn (spelled (before_end (reads_of n))) (length taken) x taken left → first_left (planned n lines) taken ≡ left_at (length taken) 0 (reads_of n) (writes_of n)
     first_is n x taken left s = both (alike taken (spelled (before_end (reads_of n)))) (ap (alike taken) s.bytes ∙ alike_front taken (spelled (before_end s.reads)))
@@ -102,10 +66,10 @@ module _ (login : Login) (plans : Plans) (lines : List WorldLine) (told : ArePla
     link_kept n there k x e = subst (λ (l : Left). LinesKept n l answers) (sym (first_is n x k.taken r.left stands)) (shown_lines n _ answers shown)
       where
         room : NumberRoom login plans reads_of writes_of told.reads told.writes n (length k.taken) (handles_after ls)
-        room = subst (HasRoom n (reads_of n) (writes_of n) (length k.taken)) (sym e) (omega arith)
+        room low = subst (HasRoom n (reads_of n) (writes_of n) (length k.taken)) (sym e) (omega arith)
 
         r : RanSo login plans reads_of writes_of told.reads told.writes n (length k.taken) ls
-        r = ran login plans reads_of writes_of told.reads told.writes n (length k.taken) ls grown explained room
+        r = ran login plans reads_of writes_of told.reads told.writes n (length k.taken) ls grown room
 
         stands : StandsIn (spelled (before_end (reads_of n))) (length k.taken) x k.taken r.left
         stands = subst (λ (h : Handle). Stands n (reads_of n) (writes_of n) (length k.taken) h r.left) e r.stands
@@ -115,12 +79,12 @@ module _ (login : Login) (plans : Plans) (lines : List WorldLine) (told : ArePla
 
     abbrev KeptAt : ℕ → Handle → Type 0
     KeptAt n Absent = Unit {0}
-    KeptAt n Dialing = Unit {0}
+    KeptAt n (Dialing left) = Unit {0}
     KeptAt n (Joined there k x) = LinesKept n (first_left (planned n lines) k.taken) answers
 
     kept_at : (n : ℕ) (h : Handle) → at_number (handles_after ls) n ≡ h → KeptAt n h
     kept_at n Absent e = tt
-    kept_at n Dialing e = tt
+    kept_at n (Dialing left) e = tt
     kept_at n (Joined there k x) e = link_kept n there k x e
 
     tape_found : (n : ℕ) (k : Kept) (t : Tape) → tape_view t ≡ tape_of n k → LinesKept n (first_left (planned n lines) k.taken) answers → TapeFound lines answers t Right
@@ -140,7 +104,7 @@ module _ (login : Login) (plans : Plans) (lines : List WorldLine) (told : ArePla
     tapes_kept m [] [] e all = tt
     tapes_kept m [] (t ∷ ts) e all = cc
     tapes_kept m (Absent ∷ hs) ts e all = tapes_kept (suc m) hs ts e (later m Absent hs all)
-    tapes_kept m (Dialing ∷ hs) ts e all = tapes_kept (suc m) hs ts e (later m Dialing hs all)
+    tapes_kept m (Dialing left ∷ hs) ts e all = tapes_kept (suc m) hs ts e (later m (Dialing left) hs all)
     tapes_kept m (Joined there k x ∷ hs) [] e all = cc
     tapes_kept m (Joined there k x ∷ hs) (t ∷ ts) e all = (tape_found m k t (cc) (now m (Joined there k x) hs all), tapes_kept (suc m) hs ts (cc) (later m (Joined there k x) hs all))
 
@@ -148,12 +112,10 @@ pub each_planned_run_is_right : EachPlannedRunIsRight
 each_planned_run_is_right login plans before later steps answers tapes lines told h = record {
   right = judged.each_run_is_right login plans before later steps answers tapes h;
   planned = record {
-    dials = shown_dials steps answers
-        (subst (λ (vs : List AnswerView). DialsShown steps vs) (append-nil (answers_of h.lines) ∙ sym h.answered)
-        (subst (λ (ss : List Step). DialsShown ss (answers_of h.lines ++ [])) (append-nil (steps_of h.lines) ∙ h.steps_are) (dials_so login plans lines told h.lines h.grown [] [] tt)));
-    links = tapes_kept login plans lines told h.lines h.grown h.explained answers h.answered 0 (handles_after h.lines) tapes h.tapes_are
-        (λ i. let same : i ≡ 0 + i = omega arith in subst (λ n. KeptAt login plans lines told h.lines h.grown h.explained answers h.answered n (at_number (handles_after h.lines) i)) same
-        (kept_at login plans lines told h.lines h.grown h.explained answers h.answered i (at_number (handles_after h.lines) i) refl));
+    dials = λ n low. each_dialed login plans lines told n h.lines h.grown steps answers h.steps_are h.answered;
+    links = tapes_kept login plans lines told h.lines h.grown answers h.answered 0 (handles_after h.lines) tapes h.tapes_are
+        (λ i. let same : i ≡ 0 + i = omega arith in subst (λ n. KeptAt login plans lines told h.lines h.grown answers h.answered n (at_number (handles_after h.lines) i)) same
+        (kept_at login plans lines told h.lines h.grown answers h.answered i (at_number (handles_after h.lines) i) refl));
   };
 }
 
@@ -163,11 +125,11 @@ unkept n line k left [] f r = f.1 r
 unkept n line k left (b ∷ bs) (inl f) r = f.1 r.0
 unkept n line k left (b ∷ bs) (inr f) r = unkept n line (k + 1) _ bs f.1 r.1
 
-unready : (line k : ℕ) (ss : List Step) (bs : List StepAnswer) → FirstUnready line k ss bs → DialsReady ss bs → ⊥
-unready line k [] bs f r = f
-unready line k (s ∷ ss) [] f r = f
-unready line k (s ∷ ss) (b ∷ bs) (inl f) r = f.1 r.0
-unready line k (s ∷ ss) (b ∷ bs) (inr f) r = unready line (k + 1) ss bs f.1 r.1
+undialed : (n line k : ℕ) (spot : DialSpot) (items : List DialItem) (ss : List Step) (bs : List StepAnswer) → FirstUndialed n line k spot items ss bs → DialsKept n spot items ss bs → ⊥
+undialed n line k spot items [] bs f r = f
+undialed n line k spot items (s ∷ ss) [] f r = f
+undialed n line k spot items (s ∷ ss) (b ∷ bs) (inl f) r = f.1 r.0
+undialed n line k spot items (s ∷ ss) (b ∷ bs) (inr f) r = undialed n line (k + 1) (after_step n spot items s) (left_by n spot items s) ss bs f.1 r.1
 
 one_unkept : (lines : List WorldLine) (answers : List StepAnswer) (line : ℕ) (ts : List Tape) → OneUnkept lines answers line ts → EachKept lines answers ts → ⊥
 one_unkept lines answers line [] f r = f
@@ -177,8 +139,8 @@ one_unkept lines answers line (t ∷ ts) (inr f) r = one_unkept lines answers li
 unplanned : (lines : List WorldLine) (steps : List Step) (answers : List StepAnswer) (tapes : List Tape) (line : ℕ) → IsFirstUnplanned lines steps answers tapes line → ArePlanned lines steps answers tapes → ⊥
 unplanned lines steps answers tapes line f r = by_cause f.wrong
   where
-    by_cause : FirstUnready line 0 steps answers ⊎ OneUnkept lines answers line tapes → ⊥
-    by_cause (inl w) = unready line 0 steps answers w r.dials
+    by_cause : IsWrongBelow (DialsAt lines steps answers) line (dialed_in steps) ⊎ OneUnkept lines answers line tapes → ⊥
+    by_cause (inl w) = undialed w.number line 0 (Ahead w.number) (all_dials_for w.number lines) steps answers w.is (r.dials w.number w.below)
     by_cause (inr w) = one_unkept lines answers line tapes w r.links
 
 pub each_refusal_refutes : EachRefusalRefutes
@@ -190,7 +152,8 @@ each_refusal_refutes login lines steps answers tapes line f plans before later t
     by_found (Wrong one) plan t p e = judged.each_refusal_refutes login steps answers tapes one t plans before later h
 
 pub memory_tells : MemoryTells
-memory_tells links lines none = record {
+memory_tells links dials counts moment randoms lines none free = record {
   reads = λ n. ap (λ is. Some (is.reads ++ all_for n lines)) (none n);
   writes = λ n. ap (λ is. Some (is.writes ++ all_writes_for n lines)) (none n);
+  dials = λ n. ap (λ is. Some (is ++ all_dials_for n lines)) (free n);
 }

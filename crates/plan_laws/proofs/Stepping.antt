@@ -3,6 +3,7 @@ use Rattle.std.proofs.Common.{ℕ, ◌≡◌, List, [], ◌∷◌, ◌++◌, Opt
 use Rattle.std.proofs.lemmas.List.{append-nil}
 use Rattle.my_value.specs.RowParts.{RowParts}
 use Rattle.my_grammar.specs.declared.login.Login.{Login}
+use Rattle.my_link.specs.declared.dialer.DialItem.{DialItem}
 use Rattle.my_link.specs.declared.link.ReadItem.{ReadItem}
 use Rattle.my_link.specs.declared.link.WriteItem.{WriteItem}
 use Rattle.my_link.specs.Looks.{Looks}
@@ -15,10 +16,12 @@ use Rattle.my_client.specs.declared.poll.After.TheVariants as after
 use Rattle.my_script.specs.declared.transcript.Outcome.{Outcome}
 use Rattle.my_script.specs.declared.transcript.Use.{Use}
 use Rattle.my_script.specs.Streams.{is_skip}
+use Rattle.my_world.specs.World.{Plans}
 use Rattle.my_client.specs.Kept.{Asked, Kept, asking, asked_by, first_asked, first_kept}
-use Rattle.my_steps.specs.Grows.{IsRefused, OnConnection, PolledOnce, IsClosed, Begins, BeginsOn, Calls, ConnectShows, Connects, HasPlan, Dials, Holds, Fails, Links, Gathers, GathersOn, Collects, CollectsOn, CollectsAt, PollsOn, PollsCall, ThenTakes, Skips, Takes, TakesOn, StreamsAt, ItemsAt, LetsGoWith, UnstreamsAt, GoesOnWith, GoesOn, CancelsWith, Cancels, TellsWith, TellsFields, is_done, skips_first}
+use Rattle.my_steps.specs.Grows.{IsRefused, OnConnection, PolledOnce, IsClosed, Begins, BeginsOn, Calls, ConnectShows, Connects, HasPlan, Gathers, GathersOn, Collects, CollectsOn, CollectsAt, PollsOn, PollsCall, ThenTakes, Skips, Takes, TakesOn, StreamsAt, ItemsAt, LetsGoWith, UnstreamsAt, GoesOnWith, GoesOn, CancelsWith, Cancels, TellsWith, TellsFields, is_done, skips_first}
+use Rattle.my_steps.specs.Grows as grows
 use Rattle.my_steps.specs.Handle.{Handle, Absent, Dialing, Joined}
-use Rattle.my_steps.specs.Sums.{quiet}
+use Rattle.my_steps.specs.Sums.{failed_use, held_use, quiet}
 use Rattle.plan_laws.proofs.Spending.{Has}
 use Rattle.plan_laws.proofs.Walking.{OnePoll, Walks, polled_once, walks_both, walks_one}
 
@@ -30,13 +33,32 @@ pub record WalksTo (n : ℕ) (us : List Use) (x : Looks) (taken : List ℕ) (t :
   pub is : t ≡ Joined there kept link
   pub walks : Walks n us x taken link kept.taken
 
--- at a number that has a link; elsewhere nothing is done
-abbrev pub Goes : ℕ → Handle → List Use → Handle → Type 0
-Goes n Absent us t = (us ≡ []) × (t ≡ Absent)
-Goes n Dialing us t = Unit {0}
-Goes n (Joined there k x) us t = WalksTo n us x k.taken t
+-- a dial of a link whose plan is known: it is held, it fails, or it gives the link
+pub record LinksTo (n : ℕ) (is : List ReadItem) (ws : List WriteItem) (us : List Use) (t : Handle) : Type 0 where
+  pub used : Use
+  pub link : Looks
+  pub uses : us ≡ quiet n ∷ used ∷ []
+  pub has : Has link is ws
+  pub walks : WalksTo n (used ∷ []) link [] t
 
-module _ (n : ℕ) where
+pub data DialsTo (n : ℕ) (is : List ReadItem) (ws : List WriteItem) (us : List Use) (t : Handle) : Type 0 where
+  IsHeld : (left : Option (List DialItem)) → us ≡ held_use n ∷ [] → t ≡ Dialing left → DialsTo n is ws us t
+  HasFailed : us ≡ failed_use n ∷ [] → t ≡ Absent → DialsTo n is ws us t
+  HasLinked : LinksTo n is ws us t → DialsTo n is ws us t
+
+-- at a number whose dial is held: it stays so, it is dropped, or it is dialed again
+pub data HeldTo (n : ℕ) (is : List ReadItem) (ws : List WriteItem) (us : List Use) (t : Handle) : Type 0 where
+  Stays : (left : Option (List DialItem)) → us ≡ [] → t ≡ Dialing left → HeldTo n is ws us t
+  IsLeft : us ≡ [] → t ≡ Absent → HeldTo n is ws us t
+  Dials : DialsTo n is ws us t → HeldTo n is ws us t
+
+-- by what stands at the number; without a link and a dial nothing is done
+abbrev pub Goes : ℕ → List ReadItem → List WriteItem → Handle → List Use → Handle → Type 0
+Goes n is ws Absent us t = (us ≡ []) × (t ≡ Absent)
+Goes n is ws (Dialing left) us t = HeldTo n is ws us t
+Goes n is ws (Joined there k x) us t = WalksTo n us x k.taken t
+
+module _ (n : ℕ) (is : List ReadItem) (ws : List WriteItem) where
   rests : (there : Bool) (k : Kept) (l : Kept) (x : Looks) (us : List Use) (t : Handle) → us ≡ [] → l.taken ≡ k.taken → t ≡ Joined there l x → WalksTo n us x k.taken t
   rests there k l x us t e f g = record {
     there = there;
@@ -49,9 +71,9 @@ module _ (n : ℕ) where
   one : (there : Bool) (l : Kept) (x y : Looks) (taken : List ℕ) (u : Use) (us : List Use) (t : Handle) → us ≡ u ∷ [] → Walks n (u ∷ []) x taken y l.taken → t ≡ Joined there l y → WalksTo n us x taken t
   one there l x y taken u us t e w g = record { there = there; kept = l; link = y; is = g; walks = subst (λ (vs : List Use). Walks n vs x taken y l.taken) (sym e) w }
 
-  refused : (h : Handle) (o : Outcome) (us : List Use) (t : Handle) → IsRefused h o us t → Goes n h us t
+  refused : (h : Handle) (o : Outcome) (us : List Use) (t : Handle) → IsRefused h o us t → Goes n is ws h us t
   refused Absent o us t r = (r.uses, r.same)
-  refused Dialing o us t r = tt
+  refused (Dialing left) o us t r = Stays left r.uses r.same
   refused (Joined there k x) o us t r = rests there k k x us t r.uses refl r.same
 
   once : (login : Login) (a : Asked) (k : Kept) (x : Looks) (o : Outcome) (us : List Use) (t : Handle) → PolledOnce login n a k x o us t → WalksTo n us x k.taken t
@@ -68,13 +90,13 @@ module _ (n : ℕ) where
   begins_on None login call k x o us t r = begins _ login call k x o us t r
   begins_on (Some a) login call k x o us t r = refused (Joined true k x) o us t r
 
-  on : (R : Kept → Looks → Outcome → List Use → Handle → Type 0) (o : Outcome) (us : List Use) (h t : Handle) → ((k : Kept) (x : Looks) → R k x o us t → WalksTo n us x k.taken t) → OnConnection R h o us t → Goes n h us t
+  on : (R : Kept → Looks → Outcome → List Use → Handle → Type 0) (o : Outcome) (us : List Use) (h t : Handle) → ((k : Kept) (x : Looks) → R k x o us t → WalksTo n us x k.taken t) → OnConnection R h o us t → Goes n is ws h us t
   on R o us Absent t go r = refused Absent o us t r
-  on R o us Dialing t go r = tt
+  on R o us (Dialing left) t go r = refused (Dialing left) o us t r
   on R o us (Joined false k x) t go r = refused (Joined false k x) o us t r
   on R o us (Joined true k x) t go r = go k x r
 
-  pub calls_go : (login : Login) (call : Call) (o : Outcome) (us : List Use) (h t : Handle) → Calls login n call h o us t → Goes n h us t
+  pub calls_go : (login : Login) (call : Call) (o : Outcome) (us : List Use) (h t : Handle) → Calls login n call h o us t → Goes n is ws h us t
   calls_go login call o us h t = on (λ k. BeginsOn k.pending login n call k) o us h t (λ k x. begins_on k.pending login call k x o us t)
 
   -- rows that are gathered
@@ -107,7 +129,7 @@ module _ (n : ℕ) where
   collects_on None login k x o us t r = collects_by _ login k x o us t r
   collects_on (Some a) login k x o us t r = refused (Joined true k x) o us t r
 
-  pub collects_go : (login : Login) (o : Outcome) (us : List Use) (h t : Handle) → CollectsAt login n h o us t → Goes n h us t
+  pub collects_go : (login : Login) (o : Outcome) (us : List Use) (h t : Handle) → CollectsAt login n h o us t → Goes n is ws h us t
   collects_go login o us h t = on (λ k. CollectsOn k.pending login n k) o us h t (λ k x. collects_on k.pending login k x o us t)
 
   -- the handshake
@@ -142,10 +164,10 @@ module _ (n : ℕ) where
   takes_on None login k x o us t r = takes_go (skips_first login k) login k x o us t r
   takes_on (Some a) login k x o us t r = refused (Joined true k x) o us t r
 
-  pub streams_go : (login : Login) (o : Outcome) (us : List Use) (h t : Handle) → StreamsAt login n h o us t → Goes n h us t
+  pub streams_go : (login : Login) (o : Outcome) (us : List Use) (h t : Handle) → StreamsAt login n h o us t → Goes n is ws h us t
   streams_go login o us h t = on (λ k. TakesOn k.pending login n k) o us h t (λ k x. takes_on k.pending login k x o us t)
 
-  pub items_go : (b : Bool) (login : Login) (o : Outcome) (us : List Use) (h t : Handle) → ItemsAt b login n h o us t → Goes n h us t
+  pub items_go : (b : Bool) (login : Login) (o : Outcome) (us : List Use) (h t : Handle) → ItemsAt b login n h o us t → Goes n is ws h us t
   items_go true login o us h t r = calls_go login NextRow o us h t r
   items_go false login o us h t r = refused h o us t r
 
@@ -153,7 +175,7 @@ module _ (n : ℕ) where
   lets_go_with None k x o us t r = rests true k k x us t r.uses refl r.left
   lets_go_with (Some a) k x o us t r = refused (Joined true k x) o us t r
 
-  pub unstreams_go : (b : Bool) (o : Outcome) (us : List Use) (h t : Handle) → UnstreamsAt b h o us t → Goes n h us t
+  pub unstreams_go : (b : Bool) (o : Outcome) (us : List Use) (h t : Handle) → UnstreamsAt b h o us t → Goes n is ws h us t
   unstreams_go true o us h t r = on (λ k. LetsGoWith k.pending k) o us h t (λ k x. lets_go_with k.pending k x o us t) r
   unstreams_go false o us h t r = refused h o us t r
 
@@ -170,19 +192,33 @@ module _ (n : ℕ) where
   goes_on_with None login k x o us t r = refused (Joined true k x) o us t r
   goes_on_with (Some a) login k x o us t r = polls_on _ a.rows login a k x o us t r
 
-  pub goes_on_go : (login : Login) (o : Outcome) (us : List Use) (h t : Handle) → GoesOn login n h o us t → Goes n h us t
-  goes_on_go login o us Absent t r = refused Absent o us t r
-  goes_on_go login o us Dialing t r = tt
-  goes_on_go login o us (Joined false k x) t r = refused (Joined false k x) o us t r
-  goes_on_go login o us (Joined true k x) t r = goes_on_with k.pending login k x o us t r
+  pub dials_go : (login : Login) (plan : Option (List ReadItem)) (rules : Option (List WriteItem)) (items : Option (List DialItem)) (o : Outcome) (us : List Use) (t : Handle) → plan ≡ Some is → rules ≡ Some ws
+      → grows.Dials login plan rules items n o us t → DialsTo n is ws us t
+  dials_go login plan rules items o us t e f (grows.Holds left a b c d) = IsHeld left b c
+  dials_go login plan rules items o us t e f (grows.Fails left a b c d) = HasFailed b c
+  dials_go login plan rules items o us t e f (grows.Links used x left a new given r) =
+      let told : HasPlan (Some is) rules x = subst (λ (p : Option (List ReadItem)). HasPlan p rules x) e new.planned in
+      HasLinked (record {
+        used = used;
+        link = x;
+        uses = a;
+        has = record { items = told.0; writes = told.1 ∙ f };
+        walks = connects login first_asked first_kept x o used t r;
+      })
+
+  pub goes_on_go : (login : Login) (plans : Plans) → plans.reads n ≡ Some is → plans.writes n ≡ Some ws → (o : Outcome) (us : List Use) (h t : Handle) → GoesOn login plans n h o us t → Goes n is ws h us t
+  goes_on_go login plans e f o us Absent t r = refused Absent o us t r
+  goes_on_go login plans e f o us (Dialing left) t r = Dials (dials_go login (plans.reads n) (plans.writes n) left o us t e f r)
+  goes_on_go login plans e f o us (Joined false k x) t r = refused (Joined false k x) o us t r
+  goes_on_go login plans e f o us (Joined true k x) t r = goes_on_with k.pending login k x o us t r
 
   cancels_with : (q : Option Asked) (login : Login) (k : Kept) (x : Looks) (o : Outcome) (us : List Use) (t : Handle) → CancelsWith q login k x o us t → WalksTo n us x k.taken t
   cancels_with None login k x o us t r = refused (Joined true k x) o us t r
   cancels_with (Some a) login k x o us t r = rests _ k _ x us t r.uses refl r.left
 
-  pub cancels_go : (login : Login) (o : Outcome) (us : List Use) (h t : Handle) → Cancels login h o us t → Goes n h us t
+  pub cancels_go : (login : Login) (o : Outcome) (us : List Use) (h t : Handle) → Cancels login h o us t → Goes n is ws h us t
   cancels_go login o us Absent t r = refused Absent o us t r
-  cancels_go login o us Dialing t r = tt
+  cancels_go login o us (Dialing left) t r = IsLeft r.uses r.left
   cancels_go login o us (Joined false k x) t r = refused (Joined false k x) o us t r
   cancels_go login o us (Joined true k x) t r = cancels_with k.pending login k x o us t r
 
@@ -190,26 +226,5 @@ module _ (n : ℕ) where
   tells_with None login k x o us t r = rests true k k x us t r.uses refl r.left
   tells_with (Some a) login k x o us t r = refused (Joined true k x) o us t r
 
-  pub tells_go : (login : Login) (o : Outcome) (us : List Use) (h t : Handle) → TellsFields login h o us t → Goes n h us t
+  pub tells_go : (login : Login) (o : Outcome) (us : List Use) (h t : Handle) → TellsFields login h o us t → Goes n is ws h us t
   tells_go login o us h t = on (λ k. TellsWith k.pending login k) o us h t (λ k x. tells_with k.pending login k x o us t)
-
-  -- a dial of a link whose plan is told
-  pub record DialsTo (is : List ReadItem) (ws : List WriteItem) (us : List Use) (t : Handle) : Type 0 where
-    pub used : Use
-    pub link : Looks
-    pub uses : us ≡ quiet n ∷ used ∷ []
-    pub has : Has link is ws
-    pub walks : WalksTo n (used ∷ []) link [] t
-
-  pub dials_go : (login : Login) (plan : Option (List ReadItem)) (rules : Option (List WriteItem)) (is : List ReadItem) (ws : List WriteItem) (o : Outcome) (us : List Use) (t : Handle) → plan ≡ Some is → rules ≡ Some ws
-      → Dials login plan rules n o us t → DialsTo is ws us t
-  dials_go login plan rules is ws o us t e f (Holds a b c d) = absurd (let k : None ≡ Some is = sym d ∙ e in cc)
-  dials_go login plan rules is ws o us t e f (Fails a b c d) = absurd (let k : None ≡ Some is = sym d ∙ e in cc)
-  dials_go login plan rules is ws o us t e f (Links used x a new r) =
-      let told : HasPlan (Some is) rules x = subst (λ (p : Option (List ReadItem)). HasPlan p rules x) e new.planned in record {
-        used = used;
-        link = x;
-        uses = a;
-        has = record { items = told.0; writes = told.1 ∙ f };
-        walks = connects login first_asked first_kept x o used t r;
-      }

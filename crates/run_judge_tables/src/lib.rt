@@ -1,6 +1,11 @@
-//! Transcripts that `my_run_judge` finds right, and others that it refutes, each of a connection that received nothing.
+//! Transcripts that `my_run_judge` finds right, and others that it refutes, each of a connection that received nothing; and
+//! dials that `my_plan_judge` finds planned, and others.
 //! This crate has tests alone.
 #![tactic(auto)]
 
+#[cfg(test)]
+mod lines;
+#[cfg(test)]
+mod plans;
 #[cfg(test)]
 mod tables;

@@ -2,6 +2,7 @@
 use Rattle.std.proofs.Common.{ℕ, ◌≡◌, zero, suc, List, [], ◌∷◌, ◌++◌, length, map, Bool, true, false, not, ◌&&◌, Option, Some, None, refl, sym, ap, ◌∙◌, subst}
 use Rattle.my_value.specs.RowParts.{RowParts}
 use Rattle.my_grammar.specs.declared.login.Login.{Login}
+use Rattle.my_link.specs.declared.dialer.DialItem.{DialItem}
 use Rattle.my_link.specs.declared.link.ReadItem.{ReadItem}
 use Rattle.my_link.specs.declared.link.WriteItem.{WriteItem}
 use Rattle.my_link.specs.declared.met.Met.{Met}
@@ -43,7 +44,7 @@ connects_once (c ∷ cs) = is_connect (kind_of c) && none_connects cs
 
 abbrev pub IsOnce : Handle → Type 0
 IsOnce Absent = Unit {0}
-IsOnce Dialing = Unit {0}
+IsOnce (Dialing left) = Unit {0}
 IsOnce (Joined there k x) = connects_once (kept_calls k) ≡ true
 
 abbrev pub AreOnce : List Handle → Type 0
@@ -122,7 +123,7 @@ module _ (login : Login) where
 
   on_once : (R : Kept → Looks → Outcome → List Use → Handle → Type 0) (o : Outcome) (us : List Use) (h t : Handle) → ((k : Kept) (x : Looks) → connects_once (kept_calls k) ≡ true → R k x o us t → IsOnce t) → IsOnce h → OnConnection R h o us t → IsOnce t
   on_once R o us Absent t on w r = refused_once Absent o us t w r
-  on_once R o us Dialing t on w r = refused_once Dialing o us t w r
+  on_once R o us (Dialing left) t on w r = refused_once (Dialing left) o us t w r
   on_once R o us (Joined false k x) t on w r = refused_once (Joined false k x) o us t w r
   on_once R o us (Joined true k x) t on w r = on k x w r
 
@@ -164,10 +165,10 @@ module _ (login : Login) where
   connect_once : (n : ℕ) (a : Asked) (k : Kept) (x : Looks) (o : Outcome) (u : Use) (t : Handle) → k.pending ≡ Some a → connects_once (kept_calls k) ≡ true → Connects login n a k x o u t → IsOnce t
   connect_once n a k x o u t e w r = shown_once n r.end r.link o t r.after (polled_once a k r.end x r.link u.met r.after e w r.polled) r.shows
 
-  dials_once : (plan : Option (List ReadItem)) (rules : Option (List WriteItem)) (n : ℕ) (o : Outcome) (us : List Use) (t : Handle) → Dials login plan rules n o us t → IsOnce t
-  dials_once plan rules n o us t (Holds e f g h) = subst IsOnce (sym g) tt
-  dials_once plan rules n o us t (Fails e f g h) = subst IsOnce (sym g) tt
-  dials_once plan rules n o us t (Links u x e new r) = connect_once n first_asked first_kept x o u t refl refl r
+  dials_once : (plan : Option (List ReadItem)) (rules : Option (List WriteItem)) (items : Option (List DialItem)) (n : ℕ) (o : Outcome) (us : List Use) (t : Handle) → Dials login plan rules items n o us t → IsOnce t
+  dials_once plan rules items n o us t (Holds left e f g h) = subst IsOnce (sym g) tt
+  dials_once plan rules items n o us t (Fails left e f g h) = subst IsOnce (sym g) tt
+  dials_once plan rules items n o us t (Links u x left e new given r) = connect_once n first_asked first_kept x o u t refl refl r
 
   -- a stream takes a set, after the rest of an earlier one
   then_once : (b : Bool) (n : ℕ) (first : Outcome) (mid : Handle) (o : Outcome) (us : List Use) (t : Handle) → IsOnce mid → ThenTakes b login n first mid o us t → IsOnce t
@@ -213,11 +214,11 @@ module _ (login : Login) where
   goes_on_with None n k x o us t e w r = refused_once (Joined true k x) o us t w r
   goes_on_with (Some a) n k x o us t e w r = polls_on (is_connect (kind_of a.call)) a.rows n a k x o us t e w r
 
-  goes_on_once : (n : ℕ) (o : Outcome) (us : List Use) (h t : Handle) → IsOnce h → GoesOn login n h o us t → IsOnce t
-  goes_on_once n o us Absent t w r = refused_once Absent o us t w r
-  goes_on_once n o us Dialing t w r = dials_once None None n o us t r
-  goes_on_once n o us (Joined false k x) t w r = refused_once (Joined false k x) o us t w r
-  goes_on_once n o us (Joined true k x) t w r = goes_on_with k.pending n k x o us t refl w r
+  goes_on_once : (plans : Plans) (n : ℕ) (o : Outcome) (us : List Use) (h t : Handle) → IsOnce h → GoesOn login plans n h o us t → IsOnce t
+  goes_on_once plans n o us Absent t w r = refused_once Absent o us t w r
+  goes_on_once plans n o us (Dialing left) t w r = dials_once (plans.reads n) (plans.writes n) left n o us t r
+  goes_on_once plans n o us (Joined false k x) t w r = refused_once (Joined false k x) o us t w r
+  goes_on_once plans n o us (Joined true k x) t w r = goes_on_with k.pending n k x o us t refl w r
 
   cancels_with : (q : Option Asked) (k : Kept) (x : Looks) (o : Outcome) (us : List Use) (t : Handle) → k.pending ≡ q → connects_once (kept_calls k) ≡ true → CancelsWith q login k x o us t → IsOnce t
   cancels_with None k x o us t e w r = refused_once (Joined true k x) o us t w r
@@ -225,7 +226,7 @@ module _ (login : Login) where
 
   cancels_once : (o : Outcome) (us : List Use) (h t : Handle) → IsOnce h → Cancels login h o us t → IsOnce t
   cancels_once o us Absent t w r = refused_once Absent o us t w r
-  cancels_once o us Dialing t w r = subst IsOnce (sym r.left) tt
+  cancels_once o us (Dialing left) t w r = subst IsOnce (sym r.left) tt
   cancels_once o us (Joined false k x) t w r = refused_once (Joined false k x) o us t w r
   cancels_once o us (Joined true k x) t w r = cancels_with k.pending k x o us t refl w r
 
@@ -255,7 +256,7 @@ module _ (login : Login) where
   at_step n R hs ts o us f w r = subst AreOnce (sym r.others) (put_once hs n r.made (f (at_number hs n) r.made (at_once hs n w) r.does) w)
 
   step_once : (plans : Plans) (there : Bool) (hs : List Handle) (step : Step) (o : Outcome) (us : List Use) (ts : List Handle) → AreOnce hs → StepGrows login plans there hs step o us ts → AreOnce ts
-  step_once plans there hs steps.Conn o us ts w r = subst AreOnce (sym r.others) (push_once hs r.made (dials_once _ _ _ o us r.made r.dials) w)
+  step_once plans there hs steps.Conn o us ts w r = subst AreOnce (sym r.others) (push_once hs r.made (dials_once _ _ _ _ o us r.made r.dials) w)
   step_once plans there hs (steps.Query n text) o us ts w r = at_step n _ hs ts o us (λ h t. calls_once n (calls.Query text) o us h t refl) w r
   step_once plans there hs (steps.Next n) o us ts w r = at_step n _ hs ts o us (λ h t. calls_once n calls.NextRow o us h t refl) w r
   step_once plans there hs (steps.Collect n) o us ts w r = at_step n _ hs ts o us (λ h t. collects_once n o us h t) w r
@@ -266,8 +267,10 @@ module _ (login : Login) where
   step_once plans there hs (steps.Item n) o us ts w r = at_step n _ hs ts o us (λ h t. items_once there n o us h t) w r
   step_once plans there hs (steps.Unstream n) o us ts w r = at_step n _ hs ts o us (λ h t. unstreams_once there o us h t) w r
   step_once plans there hs (steps.Fields n) o us ts w r = at_step n _ hs ts o us (λ h t. tells_once o us h t) w r
-  step_once plans there hs (steps.Poll n) o us ts w r = at_step n _ hs ts o us (λ h t. goes_on_once n o us h t) w r
+  step_once plans there hs (steps.Poll n) o us ts w r = at_step n _ hs ts o us (λ h t. goes_on_once plans n o us h t) w r
   step_once plans there hs (steps.Cancel n) o us ts w r = at_step n _ hs ts o us (λ h t. cancels_once o us h t) w r
+  step_once plans there hs (steps.Advance by) o us ts w r = subst AreOnce (sym r.same) w
+  step_once plans there hs (steps.Random word) o us ts w r = subst AreOnce (sym r.same) w
 
   pub grown_once : (plans : Plans) (ls : List Line) → AreGrown login plans ls → AreOnce (handles_after ls)
   grown_once plans [] w = tt

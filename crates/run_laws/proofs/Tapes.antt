@@ -1,6 +1,7 @@
 -- Each connection's tape in a run is one that the reading accepts.
 use Rattle.std.proofs.Common.{ℕ, ◌≡◌, List, [], ◌∷◌, map, Bool, true, false, not, Option, refl}
 use Rattle.my_grammar.specs.declared.login.Login.{Login}
+use Rattle.my_link.specs.declared.dialer.DialItem.{DialItem}
 use Rattle.my_link.specs.declared.link.ReadItem.{ReadItem}
 use Rattle.my_reading.specs.Calls.{kind_of, is_connect}
 use Rattle.my_reading.specs.Endings.{connects_first, connects_none}
@@ -26,16 +27,16 @@ unfolding read_calls
 first_read login t [] closed p e = refl
 first_read login t (c ∷ cs) closed p e = both _ _ (left_of _ (none_connects (map (λ c. c.call) cs)) e) (none_read login t cs _ _ (right_of (is_connect (kind_of c.call)) _ e))
 
-explained_now : (login : Login) (plans : Plans) (lines : List Line) → EachExplained login plans lines → (n : ℕ) → IsExplained login (plans.reads n) (at_number (handles_after lines) n)
+explained_now : (login : Login) (plans : Plans) (lines : List Line) → EachExplained login plans lines → (n : ℕ) → IsExplained login (plans.reads n) (plans.dials n) (at_number (handles_after lines) n)
 explained_now login plans [] w n = tt
 explained_now login plans (l ∷ ls) w n = w.0 n
 
-tape_at : (login : Login) (plan : Option (List ReadItem)) (h : Handle) → IsOnce h → IsExplained login plan h → HasTape login h
+tape_at : (login : Login) (plan : Option (List ReadItem)) (items : Option (List DialItem)) (h : Handle) → IsOnce h → IsExplained login plan items h → HasTape login h
 unfolding reading
-tape_at login plan Absent w e = tt
-tape_at login plan Dialing w e = tt
-tape_at login plan (Joined there k x) w e = record { first = first_read login (tape_kept k) (calls_kept k.calls k.pending) false (first_place login) w; calls = e.0.read }
+tape_at login plan items Absent w e = tt
+tape_at login plan items (Dialing left) w e = tt
+tape_at login plan items (Joined there k x) w e = record { first = first_read login (tape_kept k) (calls_kept k.calls k.pending) false (first_place login) w; calls = e.0.read }
 
 pub each_tape_is_read : EachTapeIsRead
 each_tape_is_read login plans before later steps answers tapes h n =
-    tape_at login (plans.reads n) (at_number (handles_after h.lines) n) (at_once login (handles_after h.lines) n (grown_once login plans h.lines h.grown)) (explained_now login plans h.lines h.explained n)
+    tape_at login (plans.reads n) (plans.dials n) (at_number (handles_after h.lines) n) (at_once login (handles_after h.lines) n (grown_once login plans h.lines h.grown)) (explained_now login plans h.lines h.explained n)

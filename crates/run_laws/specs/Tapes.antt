@@ -6,7 +6,8 @@ use Rattle.my_script.specs.declared.step.Step.{Step}
 use Rattle.my_script.specs.declared.transcript.StepAnswer.{StepAnswer}
 use Rattle.my_script.specs.declared.transcript.Tape.{Tape}
 use Rattle.my_client.specs.Reads.{tape_kept}
-use Rattle.my_world.specs.World.{Plans, DialCounts}
+use Rattle.my_world.specs.World.{Plans}
+use Rattle.my_steps.specs.Dialing.{Course}
 use Rattle.my_steps.specs.Grows.{handles_after}
 use Rattle.my_steps.specs.Handle.{Handle, Absent, Dialing, Joined, at_number}
 use Rattle.my_run.specs.Headline.{Headline}
@@ -14,11 +15,11 @@ use Rattle.my_run.specs.Headline.{Headline}
 -- what stands at a number has a tape of a client that logs in so
 abbrev pub HasTape : Login → Handle → Type 0
 HasTape login Absent = Unit {0}
-HasTape login Dialing = Unit {0}
+HasTape login (Dialing left) = Unit {0}
 HasTape login (Joined there k x) = IsTape login (tape_kept k)
 
 -- At the end of a run each connection's tape is one that the reading accepts: its first call connects and no other does, each call
 -- ended as it comes to, or is open there, and what was sent is a beginning of what the calls say.
 abbrev pub EachTapeIsRead : Type 0
-EachTapeIsRead = (login : Login) (plans : Plans) (before later : DialCounts) (steps : List Step) (answers : List StepAnswer) (tapes : List Tape)
+EachTapeIsRead = (login : Login) (plans : Plans) (before later : Course) (steps : List Step) (answers : List StepAnswer) (tapes : List Tape)
     → (h : Headline login plans before later steps answers tapes) → (n : ℕ) → HasTape login (at_number (handles_after h.lines) n)

@@ -6,6 +6,8 @@
 #[cfg(test)]
 mod answers;
 #[cfg(test)]
+mod dials;
+#[cfg(test)]
 mod live;
 #[cfg(test)]
 mod long;

@@ -6,7 +6,7 @@ use my_link::{
 };
 use my_net::{Stream, StreamLink, TcpWorld};
 use my_opts_parts::Target;
-use my_world::{DialStep, World};
+use my_world::{DialStep, Dialer, World};
 use std::alloc::{AllocError, Global};
 use std::io::{ErrorKind, Read, Write};
 use std::net::{IpAddr, Ipv4Addr, TcpListener};

@@ -1,7 +1,7 @@
 //! Words and lines: how runs end, and why.
 
 use crate::play::{Cause, PLAIN, Run, WORD, goes, is_read};
-use crate::{answers, sets, streams};
+use crate::{answers, dials, sets, streams};
 use my_frame::{NoMemory, Source, SourceStep};
 use std::alloc::Global;
 use std::test::Fail;
@@ -254,6 +254,12 @@ fn sets_of_rows(rt: HostRuntime) -> Result<(), Fail> {
 #[test]
 fn streams_of_rows(rt: HostRuntime) -> Result<(), Fail> {
     assert!(rt; all_go(rt.alloc(), streams::STREAMS)?);
+    Ok(())
+}
+
+#[test]
+fn dials_and_moves(rt: HostRuntime) -> Result<(), Fail> {
+    assert!(rt; all_go(rt.alloc(), dials::DIALS)?);
     Ok(())
 }
 

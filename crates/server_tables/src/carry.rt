@@ -4,34 +4,26 @@ ghost use Rattle.std.specs.Prelude.{◌≡◌, true, OnOk};
 ghost use Rattle.my_session.specs.Tasks.{is_open};
 
 use crate::want::{Want, is_answer, is_refusal};
-use my_flags::CapabilityFlags;
 use my_frame::limits::GREATEST_MAX_ALLOWED_PACKET;
-use my_frame::{Blob, Copied, Listed, NoMemory};
-use my_grammar::Login;
-use my_handshake::Attributes;
+use my_frame::{Blob, Copied, NoMemory};
+use my_opts::{Opts, OptsBuilder};
 use my_reading::Call;
 use my_server::{ServerCore, ServerStep};
 use my_session::{Session, SessionStep};
 use std::alloc::Global;
 
-/// What a client sends of itself, with long payloads, and with no queries after the login.
-pub fn login_of(alloc: Global, user: &str, password: Option<&str>) -> Result<Login, NoMemory> {
+/// The options of a client with long payloads, and with no queries after the login.
+pub fn options_of(alloc: Global, user: &str, password: Option<&str>) -> Result<Opts, NoMemory> {
     let password = match password {
-        Some(text) => Some(Blob::from_slice(alloc, text.as_bytes())?),
+        Some(text) => Some(String::from_str(alloc, text)?),
         None => None,
     };
-    Ok(Login {
-        user: Some(Blob::from_slice(alloc, user.as_bytes())?),
-        password,
-        database: None,
-        max_packet: 4_194_304,
-        attributes: Attributes::new(alloc),
-        capabilities: CapabilityFlags(0x10f_a281),
-        packet_limit: Some(GREATEST_MAX_ALLOWED_PACKET),
-        wait_timeout: Some(60),
-        init: Listed::new(alloc),
-        setup: Listed::new(alloc),
-    })
+    let builder = OptsBuilder::new(alloc)?
+        .user(Some(String::from_str(alloc, user)?))
+        .pass(password)
+        .max_allowed_packet(Some(GREATEST_MAX_ALLOWED_PACKET))
+        .wait_timeout(Some(60));
+    Ok(Opts::from(builder))
 }
 
 // Hands bytes that the session owes over, at most `most`.
@@ -78,7 +70,7 @@ fn carry(
     requires { is_open session.old.seen.task ≡ true }
 {
     'steps: for _ in 0..u64::MAX {
-        match session.step(alloc) {
+        match session.step(alloc, 0) {
             SessionStep::Send => give(session, server, most)?,
             SessionStep::Need => fetch(alloc, session, server, most)?,
             SessionStep::Done(answer) => return Ok(is_answer(&answer, want)),

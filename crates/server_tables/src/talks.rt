@@ -1,6 +1,6 @@
 //! Talks of a session with a scripted server: what the session reads is what the script says.
 
-use crate::carry::{ends, login_of};
+use crate::carry::{ends, options_of};
 use crate::notation::{VERSION, server_of};
 use crate::reading::reads;
 use crate::want::Want;
@@ -158,8 +158,8 @@ fn meets(
 
 // It alone owns a session.
 fn goes(alloc: Global, talk: &Talk, answer: &str, most: usize) -> Result<bool, ScriptFault> {
-    let login = login_of(alloc, talk.user, talk.password)?;
-    let mut session = Session::new(alloc, login)?;
+    let opts = options_of(alloc, talk.user, talk.password)?;
+    let mut session = Session::new(alloc, opts, false, None)?;
     meets(alloc, &mut session, talk, answer, most)
 }
 

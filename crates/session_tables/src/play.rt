@@ -5,10 +5,8 @@ ghost use Rattle.my_session.specs.Tasks.{is_open};
 
 use crate::hex::bytes_of;
 use my_flags::CapabilityFlags;
-use my_frame::limits::DEFAULT_MAX_ALLOWED_PACKET;
 use my_frame::{Blob, CodecFault, Listed, NoMemory};
-use my_grammar::Login;
-use my_handshake::Attributes;
+use my_opts::{Opts, OptsBuilder};
 use my_reading::{Answer, Call, DriverError, Error, IoError, IoFault, IoKind};
 use my_session::{LinkFault, Session, SessionStep};
 use my_value::{Row, Value};
@@ -21,45 +19,42 @@ pub const LOGIN: &str =
     00000000000000000000 696a6b6c6d6e6f707172737400 \
     6d7973716c5f6e61746976655f70617373776f726400 07000002 00000002000000";
 
-/// The response to that greeting.
-pub const RESPONSE: &str =
-    "3c00000181a20f01000040002d0000000000000000000000000000000000000000000000\
+/// The response to that greeting: its header and capabilities.
+pub const RESPONSE_HEAD: &str = "3c00000181a20f01";
+
+/// The same, after the longest payload that it names.
+pub const RESPONSE_TAIL: &str = "2d0000000000000000000000000000000000000000000000\
     726f6f7400006d7973716c5f6e61746976655f70617373776f726400 ";
 
 /// What the client can do, after the greeting too.
 pub const KEPT: CapabilityFlags = CapabilityFlags(0x10f_a281);
 
-fn texts(alloc: Global, list: &str) -> Result<Listed<Blob>, NoMemory> {
-    let mut texts = Listed::new(alloc);
-    for &byte in list.as_bytes() {
-        texts.push(Blob::from_slice(alloc, &[byte])?)?;
+fn texts(alloc: Global, list: &str) -> Result<Vec<String>, AllocError> {
+    let mut texts = Vec::new(alloc);
+    for letter in list.chars() {
+        let mut text = String::new(alloc);
+        text.push(letter)?;
+        texts.push(text)?;
     }
     Ok(texts)
 }
 
-/// A user `root`, with these options of the two settings, and with texts of one byte each that set the connection up.
-pub fn login(
+/// A user `root`, with these options of the two settings, and with texts of one letter each that set the connection up.
+pub fn options(
     alloc: Global,
     packet_limit: Option<u64>,
     wait_timeout: Option<u64>,
     init: &str,
     setup: &str,
-) -> Result<Login, NoMemory> {
-    let user = Blob::from_slice(alloc, b"root")?;
-    let init = texts(alloc, init)?;
-    let setup = texts(alloc, setup)?;
-    Ok(Login {
-        user: Some(user),
-        password: None,
-        database: None,
-        max_packet: 4_194_304,
-        attributes: Attributes::new(alloc),
-        capabilities: KEPT,
-        packet_limit,
-        wait_timeout,
-        init,
-        setup,
-    })
+) -> Result<Opts, NoMemory> {
+    let user = String::from_str(alloc, "root")?;
+    let builder = OptsBuilder::new(alloc)?
+        .user(Some(user))
+        .max_allowed_packet(packet_limit)
+        .wait_timeout(wait_timeout)
+        .init(texts(alloc, init)?)
+        .setup(texts(alloc, setup)?);
+    Ok(Opts::from(builder))
 }
 
 /// What happens where bytes are awaited that don't come: the call is cancelled or made to fail, or the link ends.
@@ -149,7 +144,7 @@ fn show_error(text: &mut String, error: &Error) -> Result<(), AllocError> {
             error.state.as_str(),
             error.message.as_str()
         ),
-        Error::Url(_) => text.push_str("url"),
+        Error::Url(_) | Error::Other(_) => text.push_str("outside"),
         Error::NoMemory => text.push_str("memory"),
     }
 }
@@ -187,7 +182,7 @@ fn go_on(
 {
     let mut given = false;
     'steps: for _ in 0..100 {
-        match session.step(alloc) {
+        match session.step(alloc, 0) {
             SessionStep::Send => {
                 show_bytes(text, session.owed())?;
                 let count = session.owed().len();

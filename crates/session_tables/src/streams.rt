@@ -1,13 +1,14 @@
 //! Streams of a server whose exchanges are known.
 
 use crate::hex::bytes_of;
-use crate::play::{KEPT, login};
+use crate::play::{KEPT, options};
 use my_flags::CapabilityFlags;
 use my_frame::limits::DEFAULT_MAX_ALLOWED_PACKET;
 use my_frame::{Blob, CodecFault, NoMemory};
 use my_grammar::{
     CutRest, Found, Kind, Login, Opening, Packet, Queue, Terms, cut_bytes, native_answer,
 };
+use my_session::login_for;
 use std::alloc::{AllocError, Global};
 use std::fmt::Write;
 use std::test::Fail;
@@ -222,7 +223,7 @@ fn show_case(
 }
 
 fn show_example(alloc: Global, case: &Example, text: &mut String) -> Result<(), NoMemory> {
-    let login = login(alloc, None, None, "", "")?;
+    let login = login_for(alloc, &options(alloc, None, None, "", "")?)?;
     show_case(alloc, &login, case, text)
 }
 

@@ -1,6 +1,6 @@
 //! A session that connects and then makes calls.
 
-use crate::play::{LOGIN, RESPONSE, Then, login, turn};
+use crate::play::{LOGIN, RESPONSE_HEAD, RESPONSE_TAIL, Then, options, turn};
 use my_frame::NoMemory;
 use my_frame::limits::DEFAULT_MAX_ALLOWED_PACKET;
 use my_session::Session;
@@ -41,29 +41,33 @@ pub const PLAIN: Visit<'static> = Visit {
     then: Then::Cancels,
 };
 
-// Whether the text is these parts in order.
-fn is_joined(text: &str, parts: &[&str]) -> bool {
-    let mut rest = text;
-    for part in parts {
-        match rest.strip_prefix(part) {
-            Some(after) => rest = after,
-            None => return false,
-        }
-    }
-    rest.is_empty()
-}
-
 fn show_settings(text: &mut String, limit: u64, wait: u64) -> Result<(), AllocError> {
     write!(text, " {limit} {wait}")
 }
 
-// Whether this is sent while the session connects, with the answer, the limit and the timeout.
+// What is sent while the session connects, with the answer, the limit and the timeout: the response names the longest payload
+// in four bytes.
+fn connecting(alloc: Global, visit: &Visit) -> Result<String, AllocError> {
+    let limit = visit.limit.unwrap_or(DEFAULT_MAX_ALLOWED_PACKET);
+    let mut text = String::new(alloc);
+    text.push_str(RESPONSE_HEAD)?;
+    for byte in &limit.to_le_bytes()[..4] {
+        write!(text, "{byte:02x}")?;
+    }
+    text.push_str(RESPONSE_TAIL)?;
+    text.push_str(visit.asks)?;
+    text.push_str(visit.want)?;
+    Ok(text)
+}
+
+// Whether this is sent.
 fn connects_so(alloc: Global, session: &mut Session, visit: &Visit) -> Result<bool, NoMemory> {
     let mut text = String::new(alloc);
     let bytes = [LOGIN, visit.head, visit.rest];
     turn(alloc, session, "connect", &bytes, visit.then, &mut text)?;
     show_settings(&mut text, session.limit(), session.wait_timeout())?;
-    Ok(is_joined(text.as_str(), &[RESPONSE, visit.asks, visit.want]))
+    let want = connecting(alloc, visit)?;
+    Ok(text.as_str() == want.as_str())
 }
 
 fn turns_so(
@@ -93,7 +97,9 @@ fn goes_so(alloc: Global, session: &mut Session, visit: &Visit) -> Result<bool, 
 
 /// Whether a session sends and answers what it should.
 pub fn goes(alloc: Global, visit: &Visit) -> Result<bool, NoMemory> {
-    let login = login(alloc, visit.limit, visit.wait, visit.init, visit.setup)?;
-    let mut session = Session::new(alloc, login)?;
-    goes_so(alloc, &mut session, visit)
+    let opts = options(alloc, visit.limit, visit.wait, visit.init, visit.setup)?;
+    let mut session = Session::new(alloc, opts, false, None)?;
+    let so = goes_so(alloc, &mut session, visit);
+    drop(session);
+    so
 }

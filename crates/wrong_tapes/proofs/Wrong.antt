@@ -41,7 +41,8 @@ error_mark (errors.Driver e) = 16
 error_mark (errors.Io e) = io_mark e
 error_mark (errors.Server e) = 17
 error_mark (errors.Url e) = 18
-error_mark errors.NoMemory = 19
+error_mark (errors.Other e) = 19
+error_mark errors.NoMemory = 20
 
 byte : Value → ℕ
 byte (Bytes (b ∷ bytes)) = b

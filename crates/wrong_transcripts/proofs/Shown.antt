@@ -20,6 +20,7 @@ use Rattle.my_session.specs.Fits.{may_be}
 use Rattle.my_session.specs.History.{has_closed}
 use Rattle.my_session.specs.Steps.{is_refused}
 use Rattle.my_handshake.specs.declared.version.ServerVersion.{ServerVersion}
+use Rattle.my_link.specs.declared.dialer.DialItem.{DialItem}
 use Rattle.my_link.specs.declared.link.ReadItem.{ReadItem}
 use Rattle.my_link.specs.declared.link.WriteItem.{WriteItem}
 use Rattle.my_link.specs.Looks.{Looks}
@@ -38,7 +39,8 @@ use Rattle.my_client.specs.declared.tape.Said.TheVariants as says
 use Rattle.my_client.specs.Causes.{PollEnds}
 use Rattle.my_client.specs.Kept.{Asked, Kept, nothing_kept, told_by, made_of, asking, asked_by, ended_by, first_asked, first_kept}
 use Rattle.my_client.specs.Reads.{calls_kept, facts_kept, tape_kept}
-use Rattle.my_world.specs.World.{Plans, DialCounts}
+use Rattle.my_world.specs.World.{Plans}
+use Rattle.my_steps.specs.Dialing.{Course}
 use Rattle.my_steps.specs.Grows.{Begins, BeginsOn, Calls, Connects, ConnectShows, Dials, Holds, Fails, Links, PolledOnce, StepGrows, TellsFields, TellsWith, answer_shown, shown, handles_after}
 use Rattle.my_steps.specs.Handle.{Handle, Joined, at_number, put_at}
 use Rattle.my_run.specs.Headline.{AnswerView, answer_view, answers_of, Headline}
@@ -288,10 +290,10 @@ connects_went login x o us used t id version is uses w =
         (s.1 ∙ ap (λ (m : Kept). Joined true m w.link) e.0) (ap Some (ready_answer answer e.2) ∙ sym (ap ending_by is))
     by_after (after.Failed x) count e s = let no : Failed x ≡ Connected 0 id version = sym s.0 ∙ is in cc
 
-dials_went : (login : Login) (plan : Option (List ReadItem)) (rules : Option (List WriteItem)) (o : Outcome) (us : List Use) (t : Handle) (id : ℕ) (version : ServerVersion) → o ≡ Connected 0 id version → Dials login plan rules 0 o us t → Went nothing_kept calls.Connect o (taken_in us) t
-dials_went login plan rules o us t id version is (Holds e f g h) = let no : Pending ≡ Connected 0 id version = sym e ∙ is in cc
-dials_went login plan rules o us t id version is (Fails e f g h) = let no : Failed (io_error Dial 0) ≡ Connected 0 id version = sym e ∙ is in cc
-dials_went login plan rules o us t id version is (Links used x uses new conn) = connects_went login x o us used t id version is uses conn
+dials_went : (login : Login) (plan : Option (List ReadItem)) (rules : Option (List WriteItem)) (items : Option (List DialItem)) (o : Outcome) (us : List Use) (t : Handle) (id : ℕ) (version : ServerVersion) → o ≡ Connected 0 id version → Dials login plan rules items 0 o us t → Went nothing_kept calls.Connect o (taken_in us) t
+dials_went login plan rules items o us t id version is (Holds left e f g h) = let no : Pending ≡ Connected 0 id version = sym e ∙ is in cc
+dials_went login plan rules items o us t id version is (Fails left e f g h) = let no : Failed (io_error Dial 0) ≡ Connected 0 id version = sym e ∙ is in cc
+dials_went login plan rules items o us t id version is (Links used x left uses new given conn) = connects_went login x o us used t id version is uses conn
 
 -- the calls of a tape, by where their sent bytes begin
 starts_kept : (ds : List DoneCall) (p : Option Asked) → map (λ c. c.sent_from) (calls_kept ds p) ≡ map (λ c. c.sent_from) (map tape_call ds ++ open_call p)
@@ -331,7 +333,7 @@ connected_ending id version = refl
 led_all : (login : Login) (plans : Plans) (a : StepAnswer) (vs : List StepAnswer) (t : Tape) (s : Span) (ss : List Span) (ts : List Handle) → s.call ≡ calls.Connect → s.ending ≡ Some ToldReady → are_plain ss ≡ true → Shows a vs t s ss
     → Chain login plans [] (steps.Conn ∷ map (λ c. step_of c.call) ss) (map answer_view (a ∷ vs)) ts → Led nothing_kept (s ∷ ss) ts
 led_all login plans a vs t s ss ts connects ready plain w chain =
-    let made = dials_went login (plans.reads 0) (plans.writes 0) a.outcome a.uses.items chain.1.1.made w.id w.version w.made chain.1.1.dials in
+    let made = dials_went login (plans.reads 0) (plans.writes 0) (plans.dials 0) a.outcome a.uses.items chain.1.1.made w.id w.version w.made chain.1.1.dials in
     let made_so : Went nothing_kept s.call a.outcome (taken_in a.uses.items) chain.1.1.made = subst (λ (c : Call). Went nothing_kept c a.outcome (taken_in a.uses.items) chain.1.1.made) (sym connects) made in
     let ending : made_so.ending ≡ s.ending = made_so.ending_is ∙ ap ending_by w.made ∙ connected_ending w.id w.version ∙ sym ready in
     let told : is_told made_so.ending ≡ true = ap is_told (ending ∙ ready) in
@@ -355,7 +357,7 @@ kept_shown a vs t s ss ts w all tapes =
     ∙ ap (λ (x : List TapeCall). let r : ReadTape = record { sent = all_sent (s ∷ ss); taken = all_taken (s ∷ ss); calls = x } in r) calls
 
 -- what the transcript shows is a tape that its reading accepts
-pub shown_tape : (login : Login) (plans : Plans) (before later : DialCounts) (a : StepAnswer) (vs : List StepAnswer) (t : Tape) (s : Span) (ss : List Span) → s.call ≡ calls.Connect → s.ending ≡ Some ToldReady → are_plain ss ≡ true → Shows a vs t s ss
+pub shown_tape : (login : Login) (plans : Plans) (before later : Course) (a : StepAnswer) (vs : List StepAnswer) (t : Tape) (s : Span) (ss : List Span) → s.call ≡ calls.Connect → s.ending ≡ Some ToldReady → are_plain ss ≡ true → Shows a vs t s ss
     → Headline login plans before later (steps.Conn ∷ map (λ c. step_of c.call) ss) (a ∷ vs) (t ∷ []) → IsTape login (tape_of (s ∷ ss))
 shown_tape login plans before later a vs t s ss connects ready plain w h =
     let chain : Chain login plans [] (steps.Conn ∷ map (λ c. step_of c.call) ss) (map answer_view (a ∷ vs)) (handles_after h.lines) =
@@ -375,7 +377,7 @@ tells None login k x o us h fields w e = (w.left, fields_same fields (facts_kept
 tells (Some a) login k x o us h fields w e = let no : NoSuchHandle ≡ Fields fields = sym w.outcome ∙ e in cc
 
 -- where `fields` follows, it shows what the reading of the tape says
-pub shown_fields : (login : Login) (plans : Plans) (before later : DialCounts) (a b : StepAnswer) (vs : List StepAnswer) (t : Tape) (s : Span) (ss : List Span) (fields : Option OkPacket) → s.call ≡ calls.Connect → s.ending ≡ Some ToldReady → are_plain ss ≡ true → Shows a vs t s ss → b.outcome ≡ Fields fields
+pub shown_fields : (login : Login) (plans : Plans) (before later : Course) (a b : StepAnswer) (vs : List StepAnswer) (t : Tape) (s : Span) (ss : List Span) (fields : Option OkPacket) → s.call ≡ calls.Connect → s.ending ≡ Some ToldReady → are_plain ss ≡ true → Shows a vs t s ss → b.outcome ≡ Fields fields
     → Headline login plans before later (steps.Conn ∷ (map (λ c. step_of c.call) ss ++ steps.Fields 0 ∷ [])) (a ∷ (vs ++ b ∷ [])) (t ∷ []) → fields ≡ (facts_at login (reading login (tape_of (s ∷ ss))).place).ok
 shown_fields login plans before later a b vs t s ss fields connects ready plain w is h =
     let ts = handles_after h.lines in

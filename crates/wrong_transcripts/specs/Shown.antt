@@ -17,7 +17,8 @@ use Rattle.my_script.specs.declared.transcript.Outcome.TheVariants.{Done, Pendin
 use Rattle.my_script.specs.declared.transcript.StepAnswer.{StepAnswer}
 use Rattle.my_script.specs.declared.transcript.Tape.{Tape}
 use Rattle.my_script.specs.declared.transcript.Use.{Use}
-use Rattle.my_world.specs.World.{Plans, DialCounts}
+use Rattle.my_world.specs.World.{Plans}
+use Rattle.my_steps.specs.Dialing.{Course}
 use Rattle.my_run.specs.Headline.{Headline}
 use Rattle.wrong_tapes.specs.Bytes.{all_sent, all_taken, calls_from}
 
@@ -74,12 +75,12 @@ pub record Shows (a : StepAnswer) (answers : List StepAnswer) (t : Tape) (s : Sp
 
 -- No run of these steps has a transcript that shows these calls.
 abbrev pub NoTranscript : Login → Span → List Span → Type 0
-NoTranscript login s ss = (plans : Plans) (before later : DialCounts) (a : StepAnswer) (answers : List StepAnswer) (t : Tape)
+NoTranscript login s ss = (plans : Plans) (before later : Course) (a : StepAnswer) (answers : List StepAnswer) (t : Tape)
     → Shows a answers t s ss
     → Headline login plans before later (steps.Conn ∷ map (λ c. step_of c.call) ss) (a ∷ answers) (t ∷ []) → ⊥
 
 -- Nor has one of these steps and `fields` a transcript that shows these calls and then this OK.
 abbrev pub NoFields : Login → Span → List Span → Option OkPacket → Type 0
-NoFields login s ss fields = (plans : Plans) (before later : DialCounts) (a b : StepAnswer) (answers : List StepAnswer) (t : Tape)
+NoFields login s ss fields = (plans : Plans) (before later : Course) (a b : StepAnswer) (answers : List StepAnswer) (t : Tape)
     → Shows a answers t s ss → b.outcome ≡ Fields fields
     → Headline login plans before later (steps.Conn ∷ (map (λ c. step_of c.call) ss ++ steps.Fields 0 ∷ [])) (a ∷ (answers ++ b ∷ [])) (t ∷ []) → ⊥

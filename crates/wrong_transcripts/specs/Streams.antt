@@ -15,14 +15,15 @@ use Rattle.my_script.specs.declared.transcript.StepAnswer.{StepAnswer}
 use Rattle.my_script.specs.declared.transcript.Tape.{Tape}
 use Rattle.my_script.specs.declared.transcript.TapeCall.{TapeCall}
 use Rattle.my_script.specs.declared.transcript.Use.{Use}
-use Rattle.my_world.specs.World.{Plans, DialCounts}
+use Rattle.my_world.specs.World.{Plans}
+use Rattle.my_steps.specs.Dialing.{Course}
 use Rattle.my_run.specs.Headline.{AnswerView, Headline, answer_view}
 use Rattle.my_run.specs.Tapes.{TapeView, tape_view}
 use Rattle.wrong_tapes.specs.Bytes.{root, response, greeting, fine, asks, head, one, packet, row}
 
 -- No run of these steps has a transcript of these answers and this tape.
 abbrev pub NoRun : List Step → List AnswerView → TapeView → Type 0
-NoRun ss vs v = (plans : Plans) (before later : DialCounts) (bs : List StepAnswer) (t : Tape)
+NoRun ss vs v = (plans : Plans) (before later : Course) (bs : List StepAnswer) (t : Tape)
     → map answer_view bs ≡ vs → tape_view t ≡ v → Headline root plans before later ss bs (t ∷ []) → ⊥
 
 -- a poll that received so many bytes

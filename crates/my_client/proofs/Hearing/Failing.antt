@@ -47,6 +47,7 @@ leaving_now s t (errors.Driver e) r d = let no : Tells ToldReady ≡ Tells (Told
 leaving_now s t (errors.Io e) r d = let no : Tells ToldReady ≡ Tells (ToldError (errors.Io e)) = sym r ∙ d.does in cc
 leaving_now s t (errors.Server e) r d = let no : Tells ToldReady ≡ Tells (ToldError (errors.Server e)) = sym r ∙ d.does in cc
 leaving_now s t (errors.Url e) r d = absurd d
+leaving_now s t (errors.Other e) r d = absurd d
 leaving_now s t errors.NoMemory r d = refl
 
 leaving_from : (s t : Seen) (e : Error) (n : ℕ) → (next s).does ≡ Tells ToldReady → AllGo n s → Does (next (moved n s)) (moved n s) t (ticks.Fault e) → e ≡ errors.NoMemory
@@ -99,6 +100,7 @@ own_by login k (errors.Io e) ended ne n o c = io_by login k e ended n o c
 own_by login k (errors.Server e) ended ne n o (inl c) = (refl, c)
 own_by login k (errors.Server e) ended ne n o (inr c) = let is : errors.Server e ≡ unexpected_eof c.0 = c.1 in cc
 own_by login k (errors.Url e) ended ne n o c = absurd o
+own_by login k (errors.Other e) ended ne n o c = absurd o
 own_by login k errors.NoMemory ended ne n o c = absurd (ne refl)
 
 -- the step failed the call, and the link had no part in it

@@ -74,6 +74,7 @@ module _ (s t : Seen) (leaving : s.task ≡ tasks.Leaving) (nothing : s.owed ≡
   quit_fault (errors.Io e) d = let no : Tells ToldReady ≡ Tells (ToldError (errors.Io e)) = sym (ap (λ (m : Move). m.does) quit_now) ∙ d.does in cc
   quit_fault (errors.Server e) d = let no : Tells ToldReady ≡ Tells (ToldError (errors.Server e)) = sym (ap (λ (m : Move). m.does) quit_now) ∙ d.does in cc
   quit_fault (errors.Url e) d = absurd d
+  quit_fault (errors.Other e) d = absurd d
   quit_fault errors.NoMemory d = refl
 
   quit_fails : (e : Error) (n : ℕ) → AllGo n s → Does (next (moved n s)) (moved n s) t (ticks.Fault e) → e ≡ errors.NoMemory
@@ -90,6 +91,7 @@ module _ (s t : Seen) (fault : LinkFault) (made : fault_in s.task ≡ Some fault
   fault_now (errors.Io e) d some = let same : Tells (ToldError (link_error fault s.facts.place)) ≡ Tells (ToldError (errors.Io e)) = sym (ap (λ (m : Move). m.does) fails_now) ∙ d.does in let is : errors.Io e ≡ link_error fault s.facts.place = cc in (is, d.seen ∙ ap (λ (m : Move). m.seen) fails_now)
   fault_now (errors.Server e) d some = let same : Tells (ToldError (link_error fault s.facts.place)) ≡ Tells (ToldError (errors.Server e)) = sym (ap (λ (m : Move). m.does) fails_now) ∙ d.does in let is : errors.Server e ≡ link_error fault s.facts.place = cc in (is, d.seen ∙ ap (λ (m : Move). m.seen) fails_now)
   fault_now (errors.Url e) d some = absurd d
+  fault_now (errors.Other e) d some = absurd d
   fault_now errors.NoMemory d some = absurd (some refl)
 
   fails_so : (e : Error) (n : ℕ) → AllGo n s → Does (next (moved n s)) (moved n s) t (ticks.Fault e) → e ≢ errors.NoMemory → (e ≡ link_error fault s.facts.place) × (t ≡ fell s)
@@ -163,6 +165,7 @@ module _ (login : Login) (s t : Seen) (k : Kept) (a : Asked) (log : s.login ≡ 
       by_error (errors.Io e) some rest q l c = by_place (errors.Io e) rest q l c
       by_error (errors.Server e) some rest q l c = by_place (errors.Server e) rest q l c
       by_error (errors.Url e) some rest q l c = by_place (errors.Url e) rest q l c
+      by_error (errors.Other e) some rest q l c = by_place (errors.Other e) rest q l c
       by_error errors.NoMemory some rest q l c = absurd (some refl)
   fault_stop e some p r v (inr q) = absurd (some (quit_fails s t q.leaving (q.at.settled (ap owes q.leaving)) e v.count v.go v.last))
 

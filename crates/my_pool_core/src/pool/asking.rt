@@ -49,14 +49,15 @@ impl Core {
         self.request_noting(&mut Uncounted)
     }
 
-    /// The same, where `steps` counts each comparison of two ages: at the end of ages or numbers there are some
-    /// for each waiting request.
+    /// The same, where `steps` counts each comparison of two ages: there is none, and at the end of ages or numbers
+    /// there are some for each waiting request.
     pub fn request_noting<C: Ledger>(&mut self, steps: &mut C) -> Result<u64, NoMemory>
         ensures ok { OnOk result (self.new ≡ request self.old) }
         ensures age { IfOk result (λ age. age ≡ request_age self.old) }
         ensures err { OnErr result (self.new ≡ self.old) }
-        ensures cost { (d : ℕ) → length self.old.requests < 2 ^ d → let waiting = how_many is_waiting self.old.requests
-            in C.noted steps.new ≤ C.noted steps.old + 2 * d + 2 + waiting * (3 * d + 5) }
+        ensures none { is_at_end self.old ≡ false → C.noted steps.new ≤ C.noted steps.old }
+        ensures cost { (d : ℕ) → length self.old.requests < 2 ^ d
+            → C.noted steps.new ≤ C.noted steps.old + how_many is_waiting self.old.requests * (3 * d + 5) }
     {
         let at_end = self.is_at_end();
         let room = self.requests.len() + 1;

@@ -1,10 +1,13 @@
 -- Each connection fits its link's plan: what it sent, what it took, and what is left lead from line to line.
-use Rattle.std.proofs.Common.{ℕ, ◌≡◌, zero, suc, List, [], ◌∷◌, ◌++◌, length, Option, Some, None, Bool, true, false, refl, sym, subst}
+use Rattle.std.proofs.Common.{ℕ, ◌≡◌, zero, suc, List, [], ◌∷◌, ◌++◌, length, Option, Some, None, Bool, true, false, refl, sym, ap, ◌∙◌, subst}
 use Rattle.my_value.specs.RowParts.{RowParts}
 use Rattle.my_grammar.specs.declared.login.Login.{Login}
 use Rattle.my_link.specs.declared.link.ReadItem.{ReadItem}
 use Rattle.my_link.specs.declared.link.WriteItem.{WriteItem}
 use Rattle.my_link.specs.declared.met.Met.{Met}
+use Rattle.my_link.specs.declared.dialer.DialItem.{DialItem}
+use Rattle.my_link.specs.declared.dialer.DialItem.TheVariants.{Wait}
+use Rattle.my_link.specs.Link.{Told}
 use Rattle.my_link.specs.Looks.{Looks}
 use Rattle.my_link.specs.Moves.{Stop, IsUsed}
 use Rattle.my_link.specs.Spent.{Whole, HasGot, ReadsSpent, IsSpent, FaultsSpent}
@@ -22,22 +25,42 @@ use Rattle.my_script.specs.declared.transcript.Use.{Use}
 use Rattle.my_script.specs.Streams.{is_skip}
 use Rattle.my_client.specs.Causes.{IsPolled, PollEnds}
 use Rattle.my_client.specs.Kept.{Asked, Kept, asking, asked_by}
-use Rattle.my_world.specs.World.{Plans, IsFresh}
+use Rattle.my_world.specs.World.{Plans, HeldBy, IsFresh}
 use Rattle.my_steps.specs.Grows.{IsRefused, OnConnection, PolledOnce, IsClosed, Begins, BeginsOn, Calls, ConnectShows, Connects, HasPlan, IsNew, Dials, Holds, Fails, Links, Gathers, GathersOn, Collects, CollectsOn, CollectsAt, PollsOn, PollsCall, ThenTakes, Skips, Takes, TakesOn, StreamsAt, ItemsAt, LetsGoWith, UnstreamsAt, GoesOnWith, GoesOn, CancelsWith, Cancels, TellsWith, TellsFields, At, StepGrows, is_done, skips_first}
 use Rattle.my_steps.specs.Handle.{Handle, Absent, Dialing, Joined, at_number, put_at}
-use Rattle.my_run.specs.Headline.{FitsLink}
+use Rattle.my_run.specs.Headline.{FitsLink, HasWaited, waits}
 
--- what stands at a number fits its link's plan
-abbrev pub IsFit : Option (List ReadItem) → Handle → Type 0
-IsFit plan Absent = Unit {0}
-IsFit plan Dialing = plan ≡ None
-IsFit plan (Joined there k x) = FitsLink plan x k.sent k.taken
+-- what stands at a number fits its link's plan, and the items for its dials
+abbrev pub IsFit : Option (List ReadItem) → Option (List DialItem) → Handle → Type 0
+IsFit plan items Absent = Unit {0}
+IsFit plan items (Dialing left) = Told items left HasWaited
+IsFit plan items (Joined there k x) = FitsLink plan x k.sent k.taken
 
 no_rules : (plan left : Option (List ReadItem)) (rest : Option (List WriteItem)) → FaultsSpent plan left None rest 0
 no_rules None left rest = tt
 no_rules (Some plan) left rest = tt
 
-module _ (plan : Option (List ReadItem)) where
+-- a dial waited, the first time or again
+pub waited_first : (items left : Option (List DialItem)) → HeldBy items left → Told items left HasWaited
+waited_first None left held = held
+waited_first (Some is) None held = held
+waited_first (Some is) (Some js) held = (0, held)
+
+waits_end : (k : ℕ) (js : List DialItem) → waits k ++ Wait ∷ js ≡ waits (suc k) ++ js
+waits_end zero js = refl
+waits_end (suc k) js = ap (λ is. Wait ∷ is) (waits_end k js)
+
+pub waited_on : (items left next : Option (List DialItem)) → Told items left HasWaited → HeldBy left next → Told items next HasWaited
+waited_on None left next w held = by_left left w held
+  where
+    by_left : (left : Option (List DialItem)) → left ≡ None → HeldBy left next → next ≡ None
+    by_left None e h = h
+    by_left (Some is) e h = cc
+waited_on (Some is) None next w held = absurd w
+waited_on (Some is) (Some js) None w held = absurd held
+waited_on (Some is) (Some js) (Some ks) w held = (suc w.0, w.1 ∙ ap (λ xs. waits (suc w.0) ++ xs) held ∙ waits_end (suc w.0) ks)
+
+module _ (plan : Option (List ReadItem)) (items : Option (List DialItem)) where
   fits_used : (x y : Looks) (sent taken out came : List ℕ) (stop : Stop) → IsUsed x y out came stop → FitsLink plan x sent taken → FitsLink plan y (sent ++ out) (taken ++ came)
   fits_used x y sent taken out came stop u f =
       let s : IsSpent plan None x sent taken 0 = record { got = f.got; reads = f.reads; failed = no_rules plan x.items x.writes } in
@@ -57,105 +80,105 @@ module _ (plan : Option (List ReadItem)) where
       (subst (λ (bs : List ℕ). FitsLink plan y (k.sent ++ w.sent) bs) (sym w.taken_is)
       (fits_used x y k.sent k.taken w.sent w.taken w.stop w.used f)))
 
-  once_fits : (login : Login) (n : ℕ) (a : Asked) (k : Kept) (x : Looks) (o : Outcome) (us : List Use) (t : Handle) → FitsLink plan x k.sent k.taken → PolledOnce login n a k x o us t → IsFit plan t
-  once_fits login n a k x o us t f r = subst (IsFit plan) (sym r.left) (polled_fits login a k r.end x r.link r.used.met r.after r.polled f)
+  once_fits : (login : Login) (n : ℕ) (a : Asked) (k : Kept) (x : Looks) (o : Outcome) (us : List Use) (t : Handle) → FitsLink plan x k.sent k.taken → PolledOnce login n a k x o us t → IsFit plan items t
+  once_fits login n a k x o us t f r = subst (IsFit plan items) (sym r.left) (polled_fits login a k r.end x r.link r.used.met r.after r.polled f)
 
-  kept_fits : (h : Handle) (o : Outcome) (us : List Use) (t : Handle) → IsFit plan h → IsRefused h o us t → IsFit plan t
-  kept_fits h o us t f r = subst (IsFit plan) (sym r.same) f
+  kept_fits : (h : Handle) (o : Outcome) (us : List Use) (t : Handle) → IsFit plan items h → IsRefused h o us t → IsFit plan items t
+  kept_fits h o us t f r = subst (IsFit plan items) (sym r.same) f
 
-  closed_fits : (k : Kept) (x : Looks) (call : Call) (o : Outcome) (us : List Use) (t : Handle) → FitsLink plan x k.sent k.taken → IsClosed k x call o us t → IsFit plan t
-  closed_fits k x call o us t f r = subst (IsFit plan) (sym r.left) f
+  closed_fits : (k : Kept) (x : Looks) (call : Call) (o : Outcome) (us : List Use) (t : Handle) → FitsLink plan x k.sent k.taken → IsClosed k x call o us t → IsFit plan items t
+  closed_fits k x call o us t f r = subst (IsFit plan items) (sym r.left) f
 
-  begins_fits : (b : Bool) (login : Login) (n : ℕ) (call : Call) (k : Kept) (x : Looks) (o : Outcome) (us : List Use) (t : Handle) → FitsLink plan x k.sent k.taken → Begins b login n call k x o us t → IsFit plan t
+  begins_fits : (b : Bool) (login : Login) (n : ℕ) (call : Call) (k : Kept) (x : Looks) (o : Outcome) (us : List Use) (t : Handle) → FitsLink plan x k.sent k.taken → Begins b login n call k x o us t → IsFit plan items t
   begins_fits true login n call k x o us t f r = closed_fits k x call o us t f r
   begins_fits false login n call k x o us t f r = once_fits login n (asked_by k call) (asking k call None) x o us t f r
 
-  begins_on : (q : Option Asked) (login : Login) (n : ℕ) (call : Call) (k : Kept) (x : Looks) (o : Outcome) (us : List Use) (t : Handle) → FitsLink plan x k.sent k.taken → BeginsOn q login n call k x o us t → IsFit plan t
+  begins_on : (q : Option Asked) (login : Login) (n : ℕ) (call : Call) (k : Kept) (x : Looks) (o : Outcome) (us : List Use) (t : Handle) → FitsLink plan x k.sent k.taken → BeginsOn q login n call k x o us t → IsFit plan items t
   begins_on None login n call k x o us t f r = begins_fits _ login n call k x o us t f r
   begins_on (Some a) login n call k x o us t f r = kept_fits (Joined true k x) o us t f r
 
-  on_fits : (R : Kept → Looks → Outcome → List Use → Handle → Type 0) (o : Outcome) (us : List Use) (h t : Handle) → ((k : Kept) (x : Looks) → FitsLink plan x k.sent k.taken → R k x o us t → IsFit plan t) → IsFit plan h → OnConnection R h o us t → IsFit plan t
+  on_fits : (R : Kept → Looks → Outcome → List Use → Handle → Type 0) (o : Outcome) (us : List Use) (h t : Handle) → ((k : Kept) (x : Looks) → FitsLink plan x k.sent k.taken → R k x o us t → IsFit plan items t) → IsFit plan items h → OnConnection R h o us t → IsFit plan items t
   on_fits R o us Absent t on f r = kept_fits Absent o us t f r
-  on_fits R o us Dialing t on f r = kept_fits Dialing o us t f r
+  on_fits R o us (Dialing left) t on f r = kept_fits (Dialing left) o us t f r
   on_fits R o us (Joined false k x) t on f r = kept_fits (Joined false k x) o us t f r
   on_fits R o us (Joined true k x) t on f r = on k x f r
 
-  calls_fits : (login : Login) (n : ℕ) (call : Call) (o : Outcome) (us : List Use) (h t : Handle) → IsFit plan h → Calls login n call h o us t → IsFit plan t
+  calls_fits : (login : Login) (n : ℕ) (call : Call) (o : Outcome) (us : List Use) (h t : Handle) → IsFit plan items h → Calls login n call h o us t → IsFit plan items t
   calls_fits login n call o us h t = on_fits (λ k. BeginsOn k.pending login n call k) o us h t (λ k x. begins_on k.pending login n call k x o us t)
 
-  gathers_on : (More : Asked → Kept → Looks → Outcome → Handle → Type 0) (us : List Use) (a : Asked) (end : Kept) (y : Looks) (o : Outcome) (t : Handle) (p : After) → ((b : Asked) (k : Kept) → FitsLink plan y k.sent k.taken → More b k y o t → IsFit plan t) → FitsLink plan y end.sent end.taken → GathersOn More a p end y o us t → IsFit plan t
-  gathers_on More us a end y o t after.Pending more f r = subst (IsFit plan) (sym r.2) f
-  gathers_on More us a end y o t (after.Answered answers.Ready) more f r = subst (IsFit plan) (sym r.2) f
+  gathers_on : (More : Asked → Kept → Looks → Outcome → Handle → Type 0) (us : List Use) (a : Asked) (end : Kept) (y : Looks) (o : Outcome) (t : Handle) (p : After) → ((b : Asked) (k : Kept) → FitsLink plan y k.sent k.taken → More b k y o t → IsFit plan items t) → FitsLink plan y end.sent end.taken → GathersOn More a p end y o us t → IsFit plan items t
+  gathers_on More us a end y o t after.Pending more f r = subst (IsFit plan items) (sym r.2) f
+  gathers_on More us a end y o t (after.Answered answers.Ready) more f r = subst (IsFit plan items) (sym r.2) f
   gathers_on More us a end y o t (after.Answered (answers.Row row)) more f r = more _ _ f r
-  gathers_on More us a end y o t (after.Answered answers.SetEnd) more f r = subst (IsFit plan) (sym r.2) f
-  gathers_on More us a end y o t (after.Answered answers.NoSet) more f r = subst (IsFit plan) (sym r.2) f
-  gathers_on More us a end y o t (after.Failed x) more f r = subst (IsFit plan) (sym r.2) f
+  gathers_on More us a end y o t (after.Answered answers.SetEnd) more f r = subst (IsFit plan items) (sym r.2) f
+  gathers_on More us a end y o t (after.Answered answers.NoSet) more f r = subst (IsFit plan items) (sym r.2) f
+  gathers_on More us a end y o t (after.Failed x) more f r = subst (IsFit plan items) (sym r.2) f
 
-  gathers_fits : (login : Login) (n : ℕ) (us : List Use) (a : Asked) (k : Kept) (x : Looks) (o : Outcome) (t : Handle) → FitsLink plan x k.sent k.taken → Gathers login n us a k x o t → IsFit plan t
+  gathers_fits : (login : Login) (n : ℕ) (us : List Use) (a : Asked) (k : Kept) (x : Looks) (o : Outcome) (t : Handle) → FitsLink plan x k.sent k.taken → Gathers login n us a k x o t → IsFit plan items t
   gathers_fits login n [] a k x o t f r = absurd r
   gathers_fits login n (u ∷ us) a k x o t f r = gathers_on (Gathers login n us) us a r.1 r.2 o t r.0 (λ b m g w. gathers_fits login n us b m r.2 o t g w) (polled_fits login a k r.1 x r.2 u.met r.0 r.3 f) r.4
 
-  collects_by : (b : Bool) (login : Login) (n : ℕ) (k : Kept) (x : Looks) (o : Outcome) (us : List Use) (t : Handle) → FitsLink plan x k.sent k.taken → Collects b login n k x o us t → IsFit plan t
+  collects_by : (b : Bool) (login : Login) (n : ℕ) (k : Kept) (x : Looks) (o : Outcome) (us : List Use) (t : Handle) → FitsLink plan x k.sent k.taken → Collects b login n k x o us t → IsFit plan items t
   collects_by true login n k x o us t f r = closed_fits k x _ o us t f r
   collects_by false login n k x o us t f r = gathers_fits login n us _ _ x o t f r
 
-  collects_on : (q : Option Asked) (login : Login) (n : ℕ) (k : Kept) (x : Looks) (o : Outcome) (us : List Use) (t : Handle) → FitsLink plan x k.sent k.taken → CollectsOn q login n k x o us t → IsFit plan t
+  collects_on : (q : Option Asked) (login : Login) (n : ℕ) (k : Kept) (x : Looks) (o : Outcome) (us : List Use) (t : Handle) → FitsLink plan x k.sent k.taken → CollectsOn q login n k x o us t → IsFit plan items t
   collects_on None login n k x o us t f r = collects_by _ login n k x o us t f r
   collects_on (Some a) login n k x o us t f r = kept_fits (Joined true k x) o us t f r
 
-  collects_fits : (login : Login) (n : ℕ) (o : Outcome) (us : List Use) (h t : Handle) → IsFit plan h → CollectsAt login n h o us t → IsFit plan t
+  collects_fits : (login : Login) (n : ℕ) (o : Outcome) (us : List Use) (h t : Handle) → IsFit plan items h → CollectsAt login n h o us t → IsFit plan items t
   collects_fits login n o us h t = on_fits (λ k. CollectsOn k.pending login n k) o us h t (λ k x. collects_on k.pending login n k x o us t)
 
   -- the handshake
-  shown_fits : (login : Login) (n : ℕ) (p : After) (end : Kept) (y : Looks) (o : Outcome) (t : Handle) → FitsLink plan y end.sent end.taken → ConnectShows login n p end y o t → IsFit plan t
-  shown_fits login n after.Pending end y o t f r = subst (IsFit plan) (sym r.1) f
-  shown_fits login n (after.Answered answer) end y o t f r = subst (IsFit plan) (sym r.1) f
-  shown_fits login n (after.Failed e) end y o t f r = subst (IsFit plan) (sym r.1) f
+  shown_fits : (login : Login) (n : ℕ) (p : After) (end : Kept) (y : Looks) (o : Outcome) (t : Handle) → FitsLink plan y end.sent end.taken → ConnectShows login n p end y o t → IsFit plan items t
+  shown_fits login n after.Pending end y o t f r = subst (IsFit plan items) (sym r.1) f
+  shown_fits login n (after.Answered answer) end y o t f r = subst (IsFit plan items) (sym r.1) f
+  shown_fits login n (after.Failed e) end y o t f r = subst (IsFit plan items) (sym r.1) f
 
-  connects_fits : (login : Login) (n : ℕ) (a : Asked) (k : Kept) (x : Looks) (o : Outcome) (u : Use) (t : Handle) → FitsLink plan x k.sent k.taken → Connects login n a k x o u t → IsFit plan t
+  connects_fits : (login : Login) (n : ℕ) (a : Asked) (k : Kept) (x : Looks) (o : Outcome) (u : Use) (t : Handle) → FitsLink plan x k.sent k.taken → Connects login n a k x o u t → IsFit plan items t
   connects_fits login n a k x o u t f r = shown_fits login n r.after r.end r.link o t (polled_fits login a k r.end x r.link u.met r.after r.polled f) r.shows
 
   -- a stream takes a set, after the rest of an earlier one
-  then_fits : (b : Bool) (login : Login) (n : ℕ) (first : Outcome) (mid : Handle) (o : Outcome) (us : List Use) (t : Handle) → IsFit plan mid → ThenTakes b login n first mid o us t → IsFit plan t
+  then_fits : (b : Bool) (login : Login) (n : ℕ) (first : Outcome) (mid : Handle) (o : Outcome) (us : List Use) (t : Handle) → IsFit plan items mid → ThenTakes b login n first mid o us t → IsFit plan items t
   then_fits true login n first mid o us t f r = calls_fits login n TakeSet o us mid t f r
-  then_fits false login n first mid o us t f r = subst (IsFit plan) (sym r.2) f
+  then_fits false login n first mid o us t f r = subst (IsFit plan items) (sym r.2) f
 
-  skips_fits : (R : Outcome → List Use → Handle → Type 0) (login : Login) (n : ℕ) (o : Outcome) (us : List Use) (t : Handle) → ((first : Outcome) (used : List Use) (mid : Handle) → R first used mid → IsFit plan mid) → Skips R login n o us t → IsFit plan t
+  skips_fits : (R : Outcome → List Use → Handle → Type 0) (login : Login) (n : ℕ) (o : Outcome) (us : List Use) (t : Handle) → ((first : Outcome) (used : List Use) (mid : Handle) → R first used mid → IsFit plan items mid) → Skips R login n o us t → IsFit plan items t
   skips_fits R login n o us t f r = then_fits (is_done r.first) login n r.first r.mid o r.later t (f r.first r.used r.mid r.skips) r.takes
 
-  takes_fits : (b : Bool) (login : Login) (n : ℕ) (o : Outcome) (us : List Use) (h t : Handle) → IsFit plan h → Takes b login n h o us t → IsFit plan t
+  takes_fits : (b : Bool) (login : Login) (n : ℕ) (o : Outcome) (us : List Use) (h t : Handle) → IsFit plan items h → Takes b login n h o us t → IsFit plan items t
   takes_fits true login n o us h t f r = skips_fits (Calls login n SkipTaken h) login n o us t (λ first used mid s. calls_fits login n SkipTaken first used h mid f s) r
   takes_fits false login n o us h t f r = calls_fits login n TakeSet o us h t f r
 
-  takes_on : (q : Option Asked) (login : Login) (n : ℕ) (k : Kept) (x : Looks) (o : Outcome) (us : List Use) (t : Handle) → FitsLink plan x k.sent k.taken → TakesOn q login n k x o us t → IsFit plan t
+  takes_on : (q : Option Asked) (login : Login) (n : ℕ) (k : Kept) (x : Looks) (o : Outcome) (us : List Use) (t : Handle) → FitsLink plan x k.sent k.taken → TakesOn q login n k x o us t → IsFit plan items t
   takes_on None login n k x o us t f r = takes_fits (skips_first login k) login n o us (Joined true k x) t f r
   takes_on (Some a) login n k x o us t f r = kept_fits (Joined true k x) o us t f r
 
-  streams_fits : (login : Login) (n : ℕ) (o : Outcome) (us : List Use) (h t : Handle) → IsFit plan h → StreamsAt login n h o us t → IsFit plan t
+  streams_fits : (login : Login) (n : ℕ) (o : Outcome) (us : List Use) (h t : Handle) → IsFit plan items h → StreamsAt login n h o us t → IsFit plan items t
   streams_fits login n o us h t = on_fits (λ k. TakesOn k.pending login n k) o us h t (λ k x. takes_on k.pending login n k x o us t)
 
-  items_fits : (b : Bool) (login : Login) (n : ℕ) (o : Outcome) (us : List Use) (h t : Handle) → IsFit plan h → ItemsAt b login n h o us t → IsFit plan t
+  items_fits : (b : Bool) (login : Login) (n : ℕ) (o : Outcome) (us : List Use) (h t : Handle) → IsFit plan items h → ItemsAt b login n h o us t → IsFit plan items t
   items_fits true login n o us h t f r = calls_fits login n NextRow o us h t f r
   items_fits false login n o us h t f r = kept_fits h o us t f r
 
-  lets_go_with : (q : Option Asked) (k : Kept) (x : Looks) (o : Outcome) (us : List Use) (t : Handle) → FitsLink plan x k.sent k.taken → LetsGoWith q k x o us t → IsFit plan t
-  lets_go_with None k x o us t f r = subst (IsFit plan) (sym r.left) f
+  lets_go_with : (q : Option Asked) (k : Kept) (x : Looks) (o : Outcome) (us : List Use) (t : Handle) → FitsLink plan x k.sent k.taken → LetsGoWith q k x o us t → IsFit plan items t
+  lets_go_with None k x o us t f r = subst (IsFit plan items) (sym r.left) f
   lets_go_with (Some a) k x o us t f r = kept_fits (Joined true k x) o us t f r
 
-  unstreams_fits : (b : Bool) (o : Outcome) (us : List Use) (h t : Handle) → IsFit plan h → UnstreamsAt b h o us t → IsFit plan t
+  unstreams_fits : (b : Bool) (o : Outcome) (us : List Use) (h t : Handle) → IsFit plan items h → UnstreamsAt b h o us t → IsFit plan items t
   unstreams_fits true o us h t f r = on_fits (λ k. LetsGoWith k.pending k) o us h t (λ k x. lets_go_with k.pending k x o us t) f r
   unstreams_fits false o us h t f r = kept_fits h o us t f r
 
-  polls_call : (b : Bool) (login : Login) (n : ℕ) (a : Asked) (k : Kept) (x : Looks) (o : Outcome) (us : List Use) (t : Handle) → FitsLink plan x k.sent k.taken → PollsCall b login n a k x o us t → IsFit plan t
+  polls_call : (b : Bool) (login : Login) (n : ℕ) (a : Asked) (k : Kept) (x : Looks) (o : Outcome) (us : List Use) (t : Handle) → FitsLink plan x k.sent k.taken → PollsCall b login n a k x o us t → IsFit plan items t
   polls_call true login n a k x o us t f r = skips_fits (PolledOnce login n a k x) login n o us t (λ first used mid s. once_fits login n a k x first used mid f s) r
   polls_call false login n a k x o us t f r = once_fits login n a k x o us t f r
 
-  polls_on : (b : Bool) (rows : Option (List RowParts)) (login : Login) (n : ℕ) (a : Asked) (k : Kept) (x : Looks) (o : Outcome) (us : List Use) (t : Handle) → FitsLink plan x k.sent k.taken → PollsOn b rows login n a k x o us t → IsFit plan t
+  polls_on : (b : Bool) (rows : Option (List RowParts)) (login : Login) (n : ℕ) (a : Asked) (k : Kept) (x : Looks) (o : Outcome) (us : List Use) (t : Handle) → FitsLink plan x k.sent k.taken → PollsOn b rows login n a k x o us t → IsFit plan items t
   polls_on true rows login n a k x o us t f r = connects_fits login n a k x o r.0 t f r.2
   polls_on false None login n a k x o us t f r = polls_call (is_skip (kind_of a.call)) login n a k x o us t f r
   polls_on false (Some rows) login n a k x o us t f r = gathers_fits login n us a k x o t f r
 
-  goes_on_with : (q : Option Asked) (login : Login) (n : ℕ) (k : Kept) (x : Looks) (o : Outcome) (us : List Use) (t : Handle) → FitsLink plan x k.sent k.taken → GoesOnWith q login n k x o us t → IsFit plan t
+  goes_on_with : (q : Option Asked) (login : Login) (n : ℕ) (k : Kept) (x : Looks) (o : Outcome) (us : List Use) (t : Handle) → FitsLink plan x k.sent k.taken → GoesOnWith q login n k x o us t → IsFit plan items t
   goes_on_with None login n k x o us t f r = kept_fits (Joined true k x) o us t f r
   goes_on_with (Some a) login n k x o us t f r = polls_on _ a.rows login n a k x o us t f r
 
@@ -171,37 +194,33 @@ module _ (plan : Option (List ReadItem)) where
       by_plan None h = tt
       by_plan (Some p) h = subst (λ (is : Option (List ReadItem)). ReadsSpent (Some p) is []) (sym h.0) (record { left_is = Whole [] refl; bytes = refl })
 
-  dials_fits : (login : Login) (rules : Option (List WriteItem)) (n : ℕ) (o : Outcome) (us : List Use) (t : Handle) → Dials login plan rules n o us t → IsFit plan t
-  dials_fits login rules n o us t (Holds e f g h) = subst (IsFit plan) (sym g) h
-  dials_fits login rules n o us t (Fails e f g h) = subst (IsFit plan) (sym g) tt
-  dials_fits login rules n o us t (Links u x e new r) = connects_fits login n _ _ x o u t (new_fits rules x new) r
+  dials_fits : (login : Login) (rules : Option (List WriteItem)) (now : Option (List DialItem)) (n : ℕ) (o : Outcome) (us : List Use) (t : Handle) → ((left : Option (List DialItem)) → HeldBy now left → Told items left HasWaited) → Dials login plan rules now n o us t → IsFit plan items t
+  dials_fits login rules now n o us t waited (Holds left e f g held) = subst (IsFit plan items) (sym g) (waited left held)
+  dials_fits login rules now n o us t waited (Fails left e f g failed) = subst (IsFit plan items) (sym g) tt
+  dials_fits login rules now n o us t waited (Links u x left e new given r) = connects_fits login n _ _ x o u t (new_fits rules x new) r
 
-  goes_on_fits : (login : Login) (n : ℕ) (o : Outcome) (us : List Use) (h t : Handle) → IsFit plan h → ((t : Handle) → Dials login None None n o us t → plan ≡ None → IsFit plan t) → GoesOn login n h o us t → IsFit plan t
-  goes_on_fits login n o us Absent t f again r = kept_fits Absent o us t f r
-  goes_on_fits login n o us Dialing t f again r = again t r f
-  goes_on_fits login n o us (Joined false k x) t f again r = kept_fits (Joined false k x) o us t f r
-  goes_on_fits login n o us (Joined true k x) t f again r = goes_on_with k.pending login n k x o us t f r
+  goes_on_fits : (login : Login) (plans : Plans) (n : ℕ) (o : Outcome) (us : List Use) (h t : Handle) → plans.reads n ≡ plan → IsFit plan items h → GoesOn login plans n h o us t → IsFit plan items t
+  goes_on_fits login plans n o us Absent t is f r = kept_fits Absent o us t f r
+  goes_on_fits login plans n o us (Dialing left) t is f r = dials_fits login (plans.writes n) left n o us t (λ next held. waited_on items left next f held) (subst (λ (p : Option (List ReadItem)). Dials login p (plans.writes n) left n o us t) is r)
+  goes_on_fits login plans n o us (Joined false k x) t is f r = kept_fits (Joined false k x) o us t f r
+  goes_on_fits login plans n o us (Joined true k x) t is f r = goes_on_with k.pending login n k x o us t f r
 
-  cancels_with : (q : Option Asked) (login : Login) (k : Kept) (x : Looks) (o : Outcome) (us : List Use) (t : Handle) → FitsLink plan x k.sent k.taken → CancelsWith q login k x o us t → IsFit plan t
+  cancels_with : (q : Option Asked) (login : Login) (k : Kept) (x : Looks) (o : Outcome) (us : List Use) (t : Handle) → FitsLink plan x k.sent k.taken → CancelsWith q login k x o us t → IsFit plan items t
   cancels_with None login k x o us t f r = kept_fits (Joined true k x) o us t f r
-  cancels_with (Some a) login k x o us t f r = subst (IsFit plan) (sym r.left) f
+  cancels_with (Some a) login k x o us t f r = subst (IsFit plan items) (sym r.left) f
 
-  cancels_fits : (login : Login) (o : Outcome) (us : List Use) (h t : Handle) → IsFit plan h → Cancels login h o us t → IsFit plan t
+  cancels_fits : (login : Login) (o : Outcome) (us : List Use) (h t : Handle) → IsFit plan items h → Cancels login h o us t → IsFit plan items t
   cancels_fits login o us Absent t f r = kept_fits Absent o us t f r
-  cancels_fits login o us Dialing t f r = subst (IsFit plan) (sym r.left) tt
+  cancels_fits login o us (Dialing left) t f r = subst (IsFit plan items) (sym r.left) tt
   cancels_fits login o us (Joined false k x) t f r = kept_fits (Joined false k x) o us t f r
   cancels_fits login o us (Joined true k x) t f r = cancels_with k.pending login k x o us t f r
 
-  tells_with : (q : Option Asked) (login : Login) (k : Kept) (x : Looks) (o : Outcome) (us : List Use) (t : Handle) → FitsLink plan x k.sent k.taken → TellsWith q login k x o us t → IsFit plan t
-  tells_with None login k x o us t f r = subst (IsFit plan) (sym r.left) f
+  tells_with : (q : Option Asked) (login : Login) (k : Kept) (x : Looks) (o : Outcome) (us : List Use) (t : Handle) → FitsLink plan x k.sent k.taken → TellsWith q login k x o us t → IsFit plan items t
+  tells_with None login k x o us t f r = subst (IsFit plan items) (sym r.left) f
   tells_with (Some a) login k x o us t f r = kept_fits (Joined true k x) o us t f r
 
-  tells_fits : (login : Login) (o : Outcome) (us : List Use) (h t : Handle) → IsFit plan h → TellsFields login h o us t → IsFit plan t
+  tells_fits : (login : Login) (o : Outcome) (us : List Use) (h t : Handle) → IsFit plan items h → TellsFields login h o us t → IsFit plan items t
   tells_fits login o us h t = on_fits (λ k. TellsWith k.pending login k) o us h t (λ k x. tells_with k.pending login k x o us t)
-
--- a dial that is tried again, whose link's plan isn't told
-pub again_fits : (login : Login) (plan : Option (List ReadItem)) (n : ℕ) (o : Outcome) (us : List Use) (t : Handle) → Dials login None None n o us t → plan ≡ None → IsFit plan t
-again_fits login plan n o us t r e = subst (λ (p : Option (List ReadItem)). IsFit p t) (sym e) (dials_fits None login None n o us t r)
 
 -- at all numbers
 put_all : (P : ℕ → Handle → Type 0) (n : ℕ) (t : Handle) (hs : List Handle) → ((m : ℕ) → P m (at_number hs m)) → P n t → (m : ℕ) → P m (at_number (put_at n t hs) m)
@@ -218,22 +237,24 @@ push_all P t (h ∷ hs) all p zero = all zero
 push_all P t (h ∷ hs) all p (suc m) = push_all (λ i. P (suc i)) t hs (λ i. all (suc i)) p m
 
 abbrev pub AllFit : Plans → List Handle → Type 0
-AllFit plans hs = (m : ℕ) → IsFit (plans.reads m) (at_number hs m)
+AllFit plans hs = (m : ℕ) → IsFit (plans.reads m) (plans.dials m) (at_number hs m)
 
-at_fits : (plans : Plans) (n : ℕ) (R : Handle → Outcome → List Use → Handle → Type 0) (hs ts : List Handle) (o : Outcome) (us : List Use) → ((h t : Handle) → IsFit (plans.reads n) h → R h o us t → IsFit (plans.reads n) t) → AllFit plans hs → At n R hs o us ts → AllFit plans ts
-at_fits plans n R hs ts o us f w r = subst (AllFit plans) (sym r.others) (put_all (λ m. IsFit (plans.reads m)) n r.made hs w (f (at_number hs n) r.made (w n) r.does))
+at_fits : (plans : Plans) (n : ℕ) (R : Handle → Outcome → List Use → Handle → Type 0) (hs ts : List Handle) (o : Outcome) (us : List Use) → ((h t : Handle) → IsFit (plans.reads n) (plans.dials n) h → R h o us t → IsFit (plans.reads n) (plans.dials n) t) → AllFit plans hs → At n R hs o us ts → AllFit plans ts
+at_fits plans n R hs ts o us f w r = subst (AllFit plans) (sym r.others) (put_all (λ m. IsFit (plans.reads m) (plans.dials m)) n r.made hs w (f (at_number hs n) r.made (w n) r.does))
 
 pub step_fits : (login : Login) (plans : Plans) (there : Bool) (hs : List Handle) (step : Step) (o : Outcome) (us : List Use) (ts : List Handle) → AllFit plans hs → StepGrows login plans there hs step o us ts → AllFit plans ts
-step_fits login plans there hs steps.Conn o us ts w r = subst (AllFit plans) (sym r.others) (push_all (λ m. IsFit (plans.reads m)) r.made hs w (dials_fits (plans.reads (length hs)) login (plans.writes (length hs)) (length hs) o us r.made r.dials))
-step_fits login plans there hs (steps.Query n text) o us ts w r = at_fits plans n _ hs ts o us (λ h t. calls_fits (plans.reads n) login n _ o us h t) w r
-step_fits login plans there hs (steps.Next n) o us ts w r = at_fits plans n _ hs ts o us (λ h t. calls_fits (plans.reads n) login n _ o us h t) w r
-step_fits login plans there hs (steps.Collect n) o us ts w r = at_fits plans n _ hs ts o us (λ h t. collects_fits (plans.reads n) login n o us h t) w r
-step_fits login plans there hs (steps.Drop n) o us ts w r = at_fits plans n _ hs ts o us (λ h t. calls_fits (plans.reads n) login n _ o us h t) w r
-step_fits login plans there hs (steps.Ping n) o us ts w r = at_fits plans n _ hs ts o us (λ h t. calls_fits (plans.reads n) login n _ o us h t) w r
-step_fits login plans there hs (steps.Quit n) o us ts w r = at_fits plans n _ hs ts o us (λ h t. calls_fits (plans.reads n) login n _ o us h t) w r
-step_fits login plans there hs (steps.Stream n) o us ts w r = at_fits plans n _ hs ts o us (λ h t. streams_fits (plans.reads n) login n o us h t) w r
-step_fits login plans there hs (steps.Item n) o us ts w r = at_fits plans n _ hs ts o us (λ h t. items_fits (plans.reads n) there login n o us h t) w r
-step_fits login plans there hs (steps.Unstream n) o us ts w r = at_fits plans n _ hs ts o us (λ h t. unstreams_fits (plans.reads n) there o us h t) w r
-step_fits login plans there hs (steps.Fields n) o us ts w r = at_fits plans n _ hs ts o us (λ h t. tells_fits (plans.reads n) login o us h t) w r
-step_fits login plans there hs (steps.Poll n) o us ts w r = at_fits plans n _ hs ts o us (λ h t f g. goes_on_fits (plans.reads n) login n o us h t f (again_fits login (plans.reads n) n o us) g) w r
-step_fits login plans there hs (steps.Cancel n) o us ts w r = at_fits plans n _ hs ts o us (λ h t. cancels_fits (plans.reads n) login o us h t) w r
+step_fits login plans there hs steps.Conn o us ts w r = subst (AllFit plans) (sym r.others) (push_all (λ m. IsFit (plans.reads m) (plans.dials m)) r.made hs w (dials_fits (plans.reads (length hs)) (plans.dials (length hs)) login (plans.writes (length hs)) (plans.dials (length hs)) (length hs) o us r.made (λ left held. waited_first (plans.dials (length hs)) left held) r.dials))
+step_fits login plans there hs (steps.Query n text) o us ts w r = at_fits plans n _ hs ts o us (λ h t. calls_fits (plans.reads n) (plans.dials n) login n _ o us h t) w r
+step_fits login plans there hs (steps.Next n) o us ts w r = at_fits plans n _ hs ts o us (λ h t. calls_fits (plans.reads n) (plans.dials n) login n _ o us h t) w r
+step_fits login plans there hs (steps.Collect n) o us ts w r = at_fits plans n _ hs ts o us (λ h t. collects_fits (plans.reads n) (plans.dials n) login n o us h t) w r
+step_fits login plans there hs (steps.Drop n) o us ts w r = at_fits plans n _ hs ts o us (λ h t. calls_fits (plans.reads n) (plans.dials n) login n _ o us h t) w r
+step_fits login plans there hs (steps.Ping n) o us ts w r = at_fits plans n _ hs ts o us (λ h t. calls_fits (plans.reads n) (plans.dials n) login n _ o us h t) w r
+step_fits login plans there hs (steps.Quit n) o us ts w r = at_fits plans n _ hs ts o us (λ h t. calls_fits (plans.reads n) (plans.dials n) login n _ o us h t) w r
+step_fits login plans there hs (steps.Stream n) o us ts w r = at_fits plans n _ hs ts o us (λ h t. streams_fits (plans.reads n) (plans.dials n) login n o us h t) w r
+step_fits login plans there hs (steps.Item n) o us ts w r = at_fits plans n _ hs ts o us (λ h t. items_fits (plans.reads n) (plans.dials n) there login n o us h t) w r
+step_fits login plans there hs (steps.Unstream n) o us ts w r = at_fits plans n _ hs ts o us (λ h t. unstreams_fits (plans.reads n) (plans.dials n) there o us h t) w r
+step_fits login plans there hs (steps.Fields n) o us ts w r = at_fits plans n _ hs ts o us (λ h t. tells_fits (plans.reads n) (plans.dials n) login o us h t) w r
+step_fits login plans there hs (steps.Poll n) o us ts w r = at_fits plans n _ hs ts o us (λ h t f g. goes_on_fits (plans.reads n) (plans.dials n) login plans n o us h t refl f g) w r
+step_fits login plans there hs (steps.Cancel n) o us ts w r = at_fits plans n _ hs ts o us (λ h t. cancels_fits (plans.reads n) (plans.dials n) login o us h t) w r
+step_fits login plans there hs (steps.Advance by) o us ts w r = subst (AllFit plans) (sym r.same) w
+step_fits login plans there hs (steps.Random word) o us ts w r = subst (AllFit plans) (sym r.same) w

@@ -1,6 +1,6 @@
 //! The words that lines begin with.
 ghost use Rattle.std.specs.Prelude.{◌≡◌};
-ghost use Rattle.my_script.specs.Keyword.{step_keyword_of, keyword_of};
+ghost use Rattle.my_script.specs.Keyword.{moving_keyword_of, step_keyword_of, keyword_of};
 
 /// The word that a line begins with.
 #[derive(Clone, Copy, Debug, PartialEq, Eq)]
@@ -15,6 +15,7 @@ pub enum Keyword {
     Accept,
     WriteWait,
     WriteFail,
+    Dial,
     Conn,
     Query,
     Next,
@@ -28,7 +29,21 @@ pub enum Keyword {
     Fields,
     Poll,
     Cancel,
+    Advance,
+    Random,
     Unknown,
+}
+
+fn moving_keyword(word: &[u8]) -> Keyword
+    ensures { result ≡ moving_keyword_of word.now }
+{
+    if word == b"advance".as_slice() {
+        return Keyword::Advance;
+    }
+    if word == b"random".as_slice() {
+        return Keyword::Random;
+    }
+    Keyword::Unknown
 }
 
 fn step_keyword(word: &[u8]) -> Keyword
@@ -73,7 +88,7 @@ fn step_keyword(word: &[u8]) -> Keyword
     if word == b"cancel".as_slice() {
         return Keyword::Cancel;
     }
-    Keyword::Unknown
+    moving_keyword(word)
 }
 
 /// Which keyword this word is.
@@ -109,6 +124,9 @@ pub fn known_keyword(word: &[u8]) -> Keyword
     }
     if word == b"wfail".as_slice() {
         return Keyword::WriteFail;
+    }
+    if word == b"dial".as_slice() {
+        return Keyword::Dial;
     }
     step_keyword(word)
 }

@@ -1,6 +1,6 @@
 //! Reads a line of a script.
 ghost use Rattle.std.specs.Prelude.{◌≡◌, IfOk, option_map};
-ghost use Rattle.my_script.specs.Line.{packet_parts, link_parts, accept_parts, query_parts, packet_view, link_view, accept_view, query_view, packet_as, packet_with, bytes_with, packet_item, bytes_item, accept_item, query_item, link_item, connection_item, bare_item, item_with, line_of};
+ghost use Rattle.my_script.specs.Line.{packet_parts, link_parts, accept_parts, query_parts, packet_view, link_view, accept_view, query_view, packet_as, packet_with, bytes_with, dial_with, packet_item, bytes_item, dial_item, accept_item, query_item, link_item, connection_item, moving_item, bare_item, item_with, line_of};
 
 use super::cut::cut;
 use super::keyword::{Keyword, known_keyword};
@@ -51,21 +51,21 @@ fn packet(rest: &[u8]) -> Option<PacketParts<'_>>
     })
 }
 
-// What follows `bytes`: a link and digits.
+// What follows `bytes` and `dial`: a link and what is said of it.
 #[derive(Clone, Copy)]
 struct LinkParts<'a> {
     link: u64,
-    digits: &'a [u8],
+    rest: &'a [u8],
 }
 
 #[tactic(auto, unfolding(crate::specs::Line::link_parts))]
-fn link_and_digits(rest: &[u8]) -> Option<LinkParts<'_>>
+fn link_and_rest(rest: &[u8]) -> Option<LinkParts<'_>>
     ensures { option_map link_view result ≡ link_parts rest.now }
 {
     let first = cut(b' ', rest);
     let link = number_to(LAST_LINK, first.first)?;
-    let digits = first.rest?;
-    Some(LinkParts { link, digits })
+    let rest = first.rest?;
+    Some(LinkParts { link, rest })
 }
 
 // What follows `accept`: a link and how many bytes.
@@ -156,12 +156,34 @@ fn packet_line(alloc: Global, keyword: Keyword, rest: &[u8]) -> Result<Item, NoM
 fn bytes_line(alloc: Global, rest: &[u8]) -> Result<Item, NoMemory>
     ensures { IfOk result (λ item. item ≡ bytes_item (link_parts rest.now)) }
 {
-    match link_and_digits(rest) {
+    match link_and_rest(rest) {
         None => Ok(Item::Wrong),
         Some(parts) => {
-            let read = bytes(alloc, parts.digits)?;
+            let read = bytes(alloc, parts.rest)?;
             Ok(planned_bytes(parts.link, read))
         }
+    }
+}
+
+// A dial waits or fails.
+fn planned_dial(link: u64, word: &[u8]) -> Item
+    ensures { result ≡ dial_with link word.now }
+{
+    if word == b"wait".as_slice() {
+        return Item::Plans(WorldLine::DialWait(link));
+    }
+    if word == b"fail".as_slice() {
+        return Item::Plans(WorldLine::DialFail(link));
+    }
+    Item::Wrong
+}
+
+fn dial_line(rest: &[u8]) -> Item
+    ensures { result ≡ dial_item (link_parts rest.now) }
+{
+    match link_and_rest(rest) {
+        None => Item::Wrong,
+        Some(parts) => planned_dial(parts.link, parts.rest),
     }
 }
 
@@ -227,6 +249,20 @@ fn connection_line(keyword: Keyword, connection: Option<u64>) -> Item
     }
 }
 
+// The steps that name a number and no connection.
+fn moving_line(keyword: Keyword, number: Option<u64>) -> Item
+    ensures { result ≡ moving_item keyword number }
+{
+    match number {
+        None => Item::Wrong,
+        Some(number) => match keyword {
+            Keyword::Advance => Item::Steps(Step::Advance(number)),
+            Keyword::Random => Item::Steps(Step::Random(number)),
+            _ => Item::Wrong,
+        },
+    }
+}
+
 // The steps of one word.
 fn bare(keyword: Keyword) -> Item
     ensures { result ≡ bare_item keyword }
@@ -244,6 +280,7 @@ fn with_arguments(alloc: Global, keyword: Keyword, rest: &[u8]) -> Result<Item, 
         Keyword::Packet | Keyword::Drip => packet_line(alloc, keyword, rest),
         Keyword::Bytes => bytes_line(alloc, rest),
         Keyword::Accept => Ok(accept_line(rest)),
+        Keyword::Dial => Ok(dial_line(rest)),
         Keyword::Query => query_line(alloc, rest),
         Keyword::Turn
         | Keyword::Wait
@@ -262,6 +299,7 @@ fn with_arguments(alloc: Global, keyword: Keyword, rest: &[u8]) -> Result<Item, 
         | Keyword::Fields
         | Keyword::Poll
         | Keyword::Cancel => Ok(connection_line(keyword, number(rest))),
+        Keyword::Advance | Keyword::Random => Ok(moving_line(keyword, number(rest))),
         Keyword::Conn | Keyword::Unknown => Ok(Item::Wrong),
     }
 }

@@ -1,6 +1,6 @@
 //! Reads all lines of a script.
 ghost use Rattle.std.specs.Prelude.{◌≡◌, IfOk, OnOk, take};
-ghost use Rattle.my_script.specs.Script.{Script as Scripts, front, with_item, admitted as admits, admitted_step, read_as, script_of};
+ghost use Rattle.my_script.specs.Script.{Script as Scripts, front, with_item, admitted as admits, admitted_step, admitted_moving, read_as, script_of, StandsIn};
 
 use super::cut::cut;
 use super::line::{Item, read_line};
@@ -45,8 +45,21 @@ pub struct Sofar {
     pub conns: u64,
 }
 
-fn admitted_by_step(sofar: Sofar, step: &Step) -> Option<Sofar>
-    ensures { result ≡ admitted_step sofar step.now }
+// A step that moves the world is there only where the world plans.
+fn admitted_by_move(plans: bool, sofar: Sofar) -> Option<Sofar>
+    ensures { result ≡ admitted_moving plans sofar }
+{
+    if !plans {
+        return None;
+    }
+    Some(Sofar {
+        stepped: true,
+        conns: sofar.conns,
+    })
+}
+
+fn admitted_by_step(plans: bool, sofar: Sofar, step: &Step) -> Option<Sofar>
+    ensures { result ≡ admitted_step plans sofar step.now }
 {
     match step {
         Step::Conn => {
@@ -58,6 +71,7 @@ fn admitted_by_step(sofar: Sofar, step: &Step) -> Option<Sofar>
                 conns: sofar.conns + 1,
             })
         }
+        Step::Advance(_) | Step::Random(_) => admitted_by_move(plans, sofar),
         _ => Some(Sofar {
             stepped: true,
             conns: sofar.conns,
@@ -97,7 +111,7 @@ fn admitted(plans: bool, sofar: Sofar, item: &Item) -> Option<Sofar>
             }
             Some(sofar)
         }
-        Item::Steps(step) => admitted_by_step(sofar, step),
+        Item::Steps(step) => admitted_by_step(plans, sofar, step),
         Item::Wrong => None,
     }
 }
@@ -119,9 +133,11 @@ fn add(script: &mut Script, item: Item) -> Result<(), NoMemory>
     }
 }
 
-/// Reads all lines. World lines stand before the first step, and read only where the world `plans`.
+/// Reads all lines. World lines stand before the first step; they and the steps that move the world read only where it
+/// `plans`.
 pub fn read_script(alloc: Global, plans: bool, bytes: &[u8]) -> Result<Read, NoMemory>
-    ensures { IfOk result (λ read. read_as read ≡ script_of plans bytes.now) }
+    ensures read { IfOk result (λ read. read_as read ≡ script_of plans bytes.now) }
+    ensures stands { IfOk result (λ read. StandsIn plans (read_as read)) }
 {
     let mut script = Script {
         plan: Vec::new(alloc),

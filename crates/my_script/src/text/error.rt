@@ -160,6 +160,7 @@ pub fn push_error(alloc: Global, out: &mut Vec<u8>, error: &Error) -> Result<(),
         Error::Io(error) => push_io(alloc, out, *error),
         Error::Server(error) => push_server(alloc, out, error),
         Error::Url(error) => push_url(alloc, out, error),
+        Error::Other(error) => push_one(alloc, out, b"Other", &error.text),
         Error::NoMemory => out.extend_from_slice(b"NoMemory"),
     }
 }

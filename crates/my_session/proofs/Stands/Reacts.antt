@@ -74,6 +74,7 @@ fatal_silent (errors.Driver e) es fatal = refl
 fatal_silent (errors.Io e) es fatal = refl
 fatal_silent (errors.Server e) es fatal = let no : is_connect Ping ≡ true = fatal Ping in cc
 fatal_silent (errors.Url e) es fatal = refl
+fatal_silent (errors.Other e) es fatal = refl
 fatal_silent errors.NoMemory es fatal = refl
 
 -- a fatal error

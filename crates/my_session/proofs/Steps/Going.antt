@@ -410,6 +410,7 @@ fault_is s new (errors.Driver e) op d = did_is s new (ticks.Fault (errors.Driver
 fault_is s new (errors.Io e) op d = did_is s new (ticks.Fault (errors.Io e)) op d
 fault_is s new (errors.Server e) op d = did_is s new (ticks.Fault (errors.Server e)) op d
 fault_is s new (errors.Url e) op d = absurd d
+fault_is s new (errors.Other e) op d = absurd d
 fault_is s new errors.NoMemory op d = ap (λ (n : Seen). n.task) d
 
 pub tick_is : (s new : Seen) (t : Tick) → is_open s.task ≡ true → Does (next s) s new t → TickIs s new t

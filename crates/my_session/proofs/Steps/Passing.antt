@@ -1,5 +1,5 @@
 -- Moves that go on are of one call, and only calls that pass over sets pass over anything.
-use Rattle.std.proofs.Common.{◌≡◌, ℕ, suc, List, [], ◌∷◌, length, Bool, true, false, cond, Option, Some, None, refl, sym, ap, ◌∙◌, subst}
+use Rattle.std.proofs.Common.{◌≡◌, ◌⊎◌, inl, inr, ℕ, suc, List, [], ◌∷◌, length, Bool, true, false, cond, Option, Some, None, refl, sym, ap, ◌∙◌, subst}
 use Rattle.my_frame.specs.Front.{Front, Waiting, Broken, Whole}
 use Rattle.my_value.specs.RowParts.{RowParts}
 use Rattle.my_reply.specs.declared.err.ErrPacket.{ErrPacket}
@@ -363,22 +363,28 @@ sound_by s None e = refl
 pub goes_sound : (s new : Seen) (t : Tick) → goes_on (doing t) ≡ true → Did (next s) new t → fault_in s.task ≡ None
 goes_sound s new t e d = sound_by s (fault_in s.task) (ap goes_on d.does ∙ e)
 
--- what the code did keeps the login
-did_login : (s new : Seen) (t : Tick) → Did (next s) new t → new.login ≡ s.login
-did_login s new t d = ap (λ (n : Seen). n.login) d.seen ∙ next_login s
+-- what the code did is the move, or it ran out of memory
+fault_seen : (s new : Seen) (e : Error) → FaultIs (next s) s new e → (new ≡ (next s).seen) ⊎ (new ≡ machine.fell s)
+fault_seen s new (errors.Driver e) d = inl d.seen
+fault_seen s new (errors.Io e) d = inl d.seen
+fault_seen s new (errors.Server e) d = inl d.seen
+fault_seen s new (errors.Url e) d = absurd d
+fault_seen s new (errors.Other e) d = absurd d
+fault_seen s new errors.NoMemory d = inr d
 
-fault_login : (s new : Seen) (e : Error) → FaultIs (next s) s new e → new.login ≡ s.login
-fault_login s new (errors.Driver e) d = did_login s new (ticks.Fault (errors.Driver e)) d
-fault_login s new (errors.Io e) d = did_login s new (ticks.Fault (errors.Io e)) d
-fault_login s new (errors.Server e) d = did_login s new (ticks.Fault (errors.Server e)) d
-fault_login s new (errors.Url e) d = absurd d
-fault_login s new errors.NoMemory d = ap (λ (n : Seen). n.login) d
+pub does_seen : (s new : Seen) (t : Tick) → Does (next s) s new t → (new ≡ (next s).seen) ⊎ (new ≡ machine.fell s)
+does_seen s new ticks.Goes d = inl d.seen
+does_seen s new (ticks.PassedRow row) d = inl d.seen
+does_seen s new ticks.PassedEnd d = inl d.seen
+does_seen s new ticks.Sends d = inl d.seen
+does_seen s new ticks.Needs d = inl d.seen
+does_seen s new (ticks.Done a) d = inl d.seen
+does_seen s new (ticks.Fault e) d = fault_seen s new e d
 
+-- so it keeps the login
 pub does_login : (s new : Seen) (t : Tick) → Does (next s) s new t → new.login ≡ s.login
-does_login s new ticks.Goes d = did_login s new ticks.Goes d
-does_login s new (ticks.PassedRow row) d = did_login s new (ticks.PassedRow row) d
-does_login s new ticks.PassedEnd d = did_login s new ticks.PassedEnd d
-does_login s new ticks.Sends d = did_login s new ticks.Sends d
-does_login s new ticks.Needs d = did_login s new ticks.Needs d
-does_login s new (ticks.Done a) d = did_login s new (ticks.Done a) d
-does_login s new (ticks.Fault e) d = fault_login s new e d
+does_login s new t d =
+    elim (does_seen s new t d) [
+      | inl moved_so ↦ ap (λ (n : Seen). n.login) moved_so ∙ next_login s
+      | inr fell_so ↦ ap (λ (n : Seen). n.login) fell_so
+    ]

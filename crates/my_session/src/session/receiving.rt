@@ -90,6 +90,7 @@ impl Session {
         ensures ok { let s = self.old.seen in
             OnOk result (self.new.seen ≡ record s { owed = s.owed ++ reply_bytes reply.now number }) }
         ensures err { OnErr result (self.new.seen ≡ self.old.seen) }
+        ensures lifetime { self.new.lifetime ≡ self.old.lifetime }
     {
         match reply {
             None => Ok(number),
@@ -102,6 +103,7 @@ impl Session {
         requires { IsArrival self.old.seen arrival.now }
         ensures ok { OnOk result (self.new.seen ≡ following self.old.seen arrival.now) }
         ensures err { OnErr result (fell self.new.seen ≡ fell self.old.seen) }
+        ensures lifetime { self.new.lifetime ≡ self.old.lifetime }
     {
         let number = self.owe(&arrival.reply, arrival.found.span.next)?;
         let payload = arrival.found.in_bytes(self.unread.as_slice());
@@ -124,8 +126,9 @@ impl Session {
         tick: Tick,
     ) -> Tick
         requires { IsArrival self.old.seen arrival.now }
-        ensures { let s = self.old.seen in
+        ensures does { let s = self.old.seen in
             Lands (with_task (following s arrival.now) task untold) tick s self.new.seen result }
+        ensures lifetime { self.new.lifetime ≡ self.old.lifetime }
     {
         match self.advance(alloc, arrival) {
             Ok(()) => {
@@ -140,8 +143,9 @@ impl Session {
     // The payload is a lone OK, whose end is left, and a stream takes its set.
     fn land_taken(&mut self, alloc: Global, arrival: &Arrival) -> Tick
         requires { IsArrival self.old.seen arrival.now }
-        ensures { let s = self.old.seen in
+        ensures does { let s = self.old.seen in
             Does (reacted s (following s arrival.now) (brought s arrival.now) Reaction.Takes) s self.new.seen result }
+        ensures lifetime { self.new.lifetime ≡ self.old.lifetime }
     {
         match self.advance(alloc, arrival) {
             Ok(()) => {
@@ -177,8 +181,9 @@ impl Session {
     // The server's error ends the call, and a session that isn't connected.
     fn end_refused(&mut self, alloc: Global, arrival: &Arrival, packet: ErrPacket) -> Tick
         requires { IsArrival self.old.seen arrival.now }
-        ensures { let s = self.old.seen in
+        ensures does { let s = self.old.seen in
             Does (refused s (following s arrival.now) (Some packet)) s self.new.seen result }
+        ensures lifetime { self.new.lifetime ≡ self.old.lifetime }
     {
         let connecting = is_connecting(self.task);
         let error = match server_error(alloc, packet) {
@@ -197,9 +202,10 @@ impl Session {
 
     fn refuse(&mut self, alloc: Global, arrival: &Arrival) -> Tick
         requires { IsArrival self.old.seen arrival.now }
-        ensures { let s = self.old.seen in
+        ensures does { let s = self.old.seen in
             let packet = err_at (is_greeting s.context.spot) (brought s arrival.now) in
             Does (refused s (following s arrival.now) packet) s self.new.seen result }
+        ensures lifetime { self.new.lifetime ≡ self.old.lifetime }
     {
         let payload = arrival.found.in_bytes(self.unread.as_slice());
         match read_err(alloc, payload, self.awaits_greeting()) {
@@ -220,9 +226,10 @@ impl Session {
 
     fn give(&mut self, alloc: Global, arrival: &Arrival) -> Tick
         requires { IsArrival self.old.seen arrival.now }
-        ensures { let s = self.old.seen in
+        ensures does { let s = self.old.seen in
             let row = row_at s.facts.columns (brought s arrival.now) in
             Does (gave s (following s arrival.now) row) s self.new.seen result }
+        ensures lifetime { self.new.lifetime ≡ self.old.lifetime }
     {
         match self.row(alloc, arrival) {
             Ok(row) => self.land(
@@ -239,9 +246,10 @@ impl Session {
 
     fn pass(&mut self, alloc: Global, arrival: &Arrival) -> Tick
         requires { IsArrival self.old.seen arrival.now }
-        ensures { let s = self.old.seen in
+        ensures does { let s = self.old.seen in
             let row = row_at s.facts.columns (brought s arrival.now) in
             Does (passed s (following s arrival.now) row) s self.new.seen result }
+        ensures lifetime { self.new.lifetime ≡ self.old.lifetime }
     {
         let task = self.task;
         match self.row(alloc, arrival) {
@@ -254,8 +262,9 @@ impl Session {
     // What the reaction makes of the payload.
     fn react(&mut self, alloc: Global, reaction: Reaction, arrival: &Arrival) -> Tick
         requires { IsArrival self.old.seen arrival.now }
-        ensures { let s = self.old.seen in
+        ensures does { let s = self.old.seen in
             Does (reacted s (following s arrival.now) (brought s arrival.now) reaction) s self.new.seen result }
+        ensures lifetime { self.new.lifetime ≡ self.old.lifetime }
     {
         let same = self.task;
         match reaction {
@@ -288,9 +297,10 @@ impl Session {
     // The payload is read, unless what the client sends after it is too long.
     fn arrive(&mut self, alloc: Global, reaction: Reaction, arrival: &Arrival) -> Tick
         requires { IsArrival self.old.seen arrival.now }
-        ensures { let s = self.old.seen in
+        ensures does { let s = self.old.seen in
             let a = arrival.now in
             Does (read_by s (following s a) (brought s a) reaction a.reply) s self.new.seen result }
+        ensures lifetime { self.new.lifetime ≡ self.old.lifetime }
     {
         let limit = self.context.terms.limit;
         match length_above(limit, &arrival.reply) {
@@ -301,10 +311,11 @@ impl Session {
 
     fn read_payload(&mut self, alloc: Global, found: FoundPayload) -> Tick
         requires { IsPlaced self.old.seen.unread found }
-        ensures { let s = self.old.seen in
+        ensures does { let s = self.old.seen in
             let payload = payload_in s.unread found in
             let rest = drop found.span.len s.unread in
             Does (read_kind s payload rest found.span.next (kind_there s.context payload)) s self.new.seen result }
+        ensures lifetime { self.new.lifetime ≡ self.old.lifetime }
     {
         let kind = kind_at(self.context, found.in_bytes(self.unread.as_slice()));
         let reaction = react_to(self.task, kind);
@@ -319,7 +330,8 @@ impl Session {
 
     // More bytes are awaited, unless the link reported its end.
     fn wait(&mut self) -> Tick
-        ensures { Does (reading self.old.seen Waiting) self.old.seen self.new.seen result }
+        ensures does { Does (reading self.old.seen Waiting) self.old.seen self.new.seen result }
+        ensures lifetime { self.new.lifetime ≡ self.old.lifetime }
     {
         if self.ended {
             return self.io_fault(IoKind::UnexpectedEof);
@@ -329,8 +341,9 @@ impl Session {
 
     // The payload in front is read.
     pub(super) fn read(&mut self, alloc: Global) -> Tick
-        ensures { let s = self.old.seen in
+        ensures does { let s = self.old.seen in
             Does (reading s (front_at s.number s.context.terms.limit s.unread)) s self.new.seen result }
+        ensures lifetime { self.new.lifetime ≡ self.old.lifetime }
     {
         let limit = self.context.terms.limit;
         match find_payload(alloc, self.unread.as_slice(), self.number, limit) {

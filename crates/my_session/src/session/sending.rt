@@ -66,7 +66,8 @@ impl Session {
 
     // A command's exchange begins.
     fn queue(&mut self, task: Task, spot: Spot, command: &[u8]) -> Tick
-        ensures { Does (commanded self.old.seen task spot command.now) self.old.seen self.new.seen result }
+        ensures does { Does (commanded self.old.seen task spot command.now) self.old.seen self.new.seen result }
+        ensures lifetime { self.new.lifetime ≡ self.old.lifetime }
     {
         let limit = self.facts.settings.limit;
         let length = command.len() as u64;
@@ -95,8 +96,9 @@ impl Session {
     // The exchange of this packet begins.
     fn command(&mut self, alloc: Global, task: Task, spot: Spot, packet: &ClientPacket) -> Tick
         requires { PartsFit packet.now }
-        ensures { let s = self.old.seen in
+        ensures does { let s = self.old.seen in
             Does (commanded s task spot (client_bytes packet.now)) s self.new.seen result }
+        ensures lifetime { self.new.lifetime ≡ self.old.lifetime }
     {
         match write_client(alloc, packet) {
             Ok(command) => self.queue(task, spot, &command),
@@ -105,9 +107,10 @@ impl Session {
     }
 
     fn ask_query(&mut self, alloc: Global) -> Tick
-        ensures { let s = self.old.seen in
+        ensures does { let s = self.old.seen in
             let command = client_bytes (ClientPacket.Query s.text) in
             Does (commanded s (Task.Own CallKind.Query) Spot.Head command) s self.new.seen result }
+        ensures lifetime { self.new.lifetime ≡ self.old.lifetime }
     {
         match query_packet(alloc, self.text.as_slice()) {
             Ok(packet) => self.command(alloc, Task::Own(CallKind::Query), Spot::Head, &packet),
@@ -117,8 +120,9 @@ impl Session {
 
     // The call's own command is owed.
     pub(super) fn ask(&mut self, alloc: Global, call: CallKind) -> Tick
-        ensures { let s = self.old.seen in
+        ensures does { let s = self.old.seen in
             Does (asked s call (command_of (next_terms s) (call_of call s.text))) s self.new.seen result }
+        ensures lifetime { self.new.lifetime ≡ self.old.lifetime }
     {
         let own = Task::Own(call);
         match call {
@@ -136,8 +140,9 @@ impl Session {
     // The next query that sets the connection up is owed, after `sent` others; where none is left, the connection is
     // made.
     pub(super) fn arrange(&mut self, alloc: Global, sent: usize) -> Tick
-        ensures { let s = self.old.seen in
+        ensures does { let s = self.old.seen in
             Does (arranged s sent (connecting s.login (next_terms s) (suc sent))) s self.new.seen result }
+        ensures lifetime { self.new.lifetime ≡ self.old.lifetime }
     {
         let Some(text) = arranging_text(&self.login, sent) else {
             return self.answer(Answer::Ready);

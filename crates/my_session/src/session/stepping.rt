@@ -1,6 +1,6 @@
 //! The steps of an open call: moves until it asks for something or ends.
 
-ghost use Rattle.std.specs.Prelude.{◌≡◌, List, true};
+ghost use Rattle.std.specs.Prelude.{◌≡◌, ◌≤◌, length, true};
 ghost use Rattle.my_session.specs.Tasks.{fault_in};
 
 use super::Session;
@@ -31,21 +31,21 @@ fn fault_in(task: Task) -> Option<LinkFault>
 }
 
 impl Session {
-    ghost use Rattle.my_session.specs.Tasks.{is_open, kind_in};
-    ghost use Rattle.my_session.specs.Causes.{HasCause};
+    ghost use Rattle.my_session.specs.Tasks.{is_open};
+    ghost use Rattle.my_session.specs.Causes.{EachStepStands};
     ghost use Rattle.my_reading.specs.Errors.{codec_error, io_error};
     ghost use Rattle.my_session.specs.LinkErrors.{link_error};
-    ghost use Rattle.my_reading.specs.Told.{Told};
-    ghost use Rattle.my_session.specs.History.{History, passing};
+    ghost use Rattle.my_session.specs.History.{History};
     ghost use Rattle.my_session.specs.Machine.{Does, failed_by, fell, next, planned, when_owed, with_task};
     ghost use Rattle.my_session.specs.Mirror.{EachStepReads, EachTickReads};
-    ghost use Rattle.my_session.specs.Passed.{ArePassed};
     ghost use Rattle.my_session.specs.Stands.{Stands};
-    ghost use Rattle.my_session.specs.Steps.{StepIs, Steps, TickIs, after_step, after_tick};
+    ghost use Rattle.my_session.specs.Steps.{StepIs, Steps, TickIs, after_tick};
+    ghost use Rattle.my_session.specs.View.{lived};
 
     pub(super) fn fault(&mut self, error: Error) -> Tick
         ensures fell { self.new.seen ≡ fell self.old.seen }
         ensures value { result ≡ Tick.Fault error }
+        ensures lifetime { self.new.lifetime ≡ self.old.lifetime }
     {
         self.fall();
         Tick::Fault(error)
@@ -55,6 +55,7 @@ impl Session {
     pub(super) fn io_fault(&mut self, kind: IoKind) -> Tick
         ensures fell { self.new.seen ≡ fell self.old.seen }
         ensures value { result ≡ Tick.Fault (io_error kind self.old.seen.facts.place) }
+        ensures lifetime { self.new.lifetime ≡ self.old.lifetime }
     {
         let place = self.facts.place;
         self.fault(Error::Io(IoError::Io(IoFault { kind, place })))
@@ -64,6 +65,7 @@ impl Session {
     pub(super) fn codec_fault(&mut self, fault: CodecFault) -> Tick
         ensures fell { self.new.seen ≡ fell self.old.seen }
         ensures value { result ≡ Tick.Fault (codec_error fault) }
+        ensures lifetime { self.new.lifetime ≡ self.old.lifetime }
     {
         self.fault(Error::Io(IoError::Codec(fault)))
     }
@@ -71,6 +73,7 @@ impl Session {
     pub(super) fn answer(&mut self, answer: Answer) -> Tick
         ensures task { self.new.seen ≡ with_task self.old.seen Task.Nothing self.old.seen.untold }
         ensures value { result ≡ Tick.Done answer }
+        ensures lifetime { self.new.lifetime ≡ self.old.lifetime }
     {
         self.task = Task::Nothing;
         Tick::Done(answer)
@@ -78,8 +81,9 @@ impl Session {
 
     // The call was made to fail.
     fn fail_by(&mut self, fault: LinkFault) -> Tick
-        ensures { let s = self.old.seen in
+        ensures does { let s = self.old.seen in
             Does (failed_by s (link_error fault s.facts.place)) s self.new.seen result }
+        ensures lifetime { self.new.lifetime ≡ self.old.lifetime }
     {
         match fault {
             LinkFault::Link => self.io_fault(IoKind::Link),
@@ -89,7 +93,8 @@ impl Session {
     }
 
     fn carry_out(&mut self, alloc: Global, plan: Plan) -> Tick
-        ensures { Does (planned self.old.seen plan) self.old.seen self.new.seen result }
+        ensures does { Does (planned self.old.seen plan) self.old.seen self.new.seen result }
+        ensures lifetime { self.new.lifetime ≡ self.old.lifetime }
     {
         match plan {
             Plan::Reads => self.read(alloc),
@@ -126,7 +131,8 @@ impl Session {
 
     // The call goes on, once nothing is owed.
     fn go_on(&mut self, alloc: Global) -> Tick
-        ensures { Does (when_owed self.old.seen.owed self.old.seen) self.old.seen self.new.seen result }
+        ensures does { Does (when_owed self.old.seen.owed self.old.seen) self.old.seen self.new.seen result }
+        ensures lifetime { self.new.lifetime ≡ self.old.lifetime }
     {
         if !self.owed.is_empty() {
             return Tick::Sends;
@@ -137,7 +143,8 @@ impl Session {
 
     // One move of the open call, exact on what clauses see.
     fn move_on(&mut self, alloc: Global) -> Tick
-        ensures { Does (next self.old.seen) self.old.seen self.new.seen result }
+        ensures does { Does (next self.old.seen) self.old.seen self.new.seen result }
+        ensures lifetime { self.new.lifetime ≡ self.old.lifetime }
     {
         match fault_in(self.task) {
             Some(fault) => self.fail_by(fault),
@@ -152,25 +159,22 @@ impl Session {
         ensures leaves { TickIs self.old.seen self.new.seen result }
         ensures reads { EachTickReads self.old.seen self.new.seen result }
         ensures stands { (h : History) → Stands self.old.seen h → Stands self.new.seen (after_tick h result) }
+        ensures lifetime { self.new.lifetime ≡ self.old.lifetime }
     {
         // Each element of the queue is a byte, by the session's invariant.
         let _ = &self.unread;
         self.move_on(alloc)
     }
 
-    /// The next step of the open call. Only `DropResult` and `SkipTaken` pass over rows and ends. Each error, and the answer that
-    /// nothing is left, has its cause in the history after what was passed over. A step is steps of the one reading of the
-    /// connection, and its stop is theirs (`reads`).
-    pub fn step(&mut self, alloc: Global) -> SessionStep
+    // Moves until the call asks for something or ends.
+    fn step_on(&mut self, alloc: Global) -> SessionStep
         requires { is_open self.old.seen.task ≡ true }
         ensures steps { Steps self.old.seen self.new.seen result }
         ensures leaves { StepIs self.new.seen result }
         ensures reads { EachStepReads self.old.seen self.new.seen result }
         ensures login { self.new.seen.login ≡ self.old.seen.login }
-        ensures stands { (h : History) → Stands self.old.seen h
-            → (passed : List Told) × ArePassed (kind_in self.old.seen.task) passed
-            × Stands self.new.seen (after_step (passing h passed) result)
-            × HasCause self.old.seen (passing h passed) result }
+        ensures stands { EachStepStands self.old.seen self.new.seen result }
+        ensures lifetime { self.new.lifetime ≡ self.old.lifetime }
     {
         'moves: loop {
             match self.tick(alloc) {
@@ -183,5 +187,35 @@ impl Session {
                 Tick::Fault(error) => return SessionStep::Fault(error),
             }
         }
+    }
+
+    // At this moment payloads were read where fewer bytes are unread than before.
+    fn mark_read(&mut self, before: usize, now: u64)
+        ensures seen { self.new.seen ≡ self.old.seen }
+        ensures lifetime { self.new.lifetime ≡ lived now 0 before (length self.old.seen.unread) self.old.lifetime }
+    {
+        if self.unread.len() < before {
+            self.last_io = now;
+        }
+    }
+
+    /// The next step of the open call. Only `DropResult` and `SkipTaken` pass over rows and ends. Each error, and the answer that
+    /// nothing is left, has its cause in the history after what was passed over. A step is steps of the one reading of the
+    /// connection, and its stop is theirs (`reads`). `now`, in milliseconds, is the moment of the payloads that are read.
+    pub fn step(&mut self, alloc: Global, now: u64) -> SessionStep
+        requires { is_open self.old.seen.task ≡ true }
+        ensures steps { Steps self.old.seen self.new.seen result }
+        ensures leaves { StepIs self.new.seen result }
+        ensures reads { EachStepReads self.old.seen self.new.seen result }
+        ensures login { self.new.seen.login ≡ self.old.seen.login }
+        ensures stands { EachStepStands self.old.seen self.new.seen result }
+        ensures shorter { length self.new.seen.unread ≤ length self.old.seen.unread }
+        ensures lifetime { self.new.lifetime ≡
+            lived now 0 (length self.old.seen.unread) (length self.new.seen.unread) self.old.lifetime }
+    {
+        let before = self.unread.len();
+        let step = self.step_on(alloc);
+        self.mark_read(before, now);
+        step
     }
 }

@@ -1,11 +1,12 @@
 -- How a call begins on a connection.
 use Rattle.my_client.proofs.Hearing.Beginning.{begins, closed_kept, is_asked, is_idle, refuses}
-use Rattle.std.proofs.Common.{ℕ, ◌≡◌, List, [], ◌∷◌, Bool, true, false, Option, Some, None, refl, sym, ap, ◌∙◌, subst}
+use Rattle.std.proofs.Common.{ℕ, ◌≡◌, List, [], ◌∷◌, Bool, true, false, Option, Some, None, if◌then◌else◌, refl, sym, ap, ◌∙◌, subst}
 use Rattle.my_grammar.specs.declared.login.Login.{Login}
 use Rattle.my_reading.specs.declared.call.Call.{Call}
 use Rattle.my_reading.specs.declared.error.Error.{Error}
 use Rattle.my_reading.specs.Calls.{kind_of}
 use Rattle.my_session.specs.Tasks.{is_open}
+use Rattle.my_session.specs.declared.task.Task.TheVariants.{Leaving, Begun}
 use Rattle.my_reading.specs.Errors.{connection_closed}
 use Rattle.my_session.specs.Fits.{is_begun}
 use Rattle.my_reading.specs.Told.{ToldError}
@@ -95,3 +96,11 @@ closed_so look login n call copy c b d s t e o us same idle shut seen is st kept
     closed_did look login n call c d o us idle (ap (λ (s : Seen). is_refused s.closed (kind_of call)) (sym seen) ∙ shut) w
     (subst (λ (s : Seen). Rests login s (ended_by (asking (kept_of c) call None) (asked_by (kept_of c) call) (says.Failed connection_closed))) (sym session) following)
     (session ∙ is ∙ seen) end (dlink ∙ link) (shown ∙ ap Failed why) none
+
+-- a call that began is open
+pub begun_open : (s : Seen) (call : Call) → is_open (begun s call).task ≡ true
+begun_open s call = by_closed s.closed
+  where
+    by_closed : (b : Bool) → is_open (if b then Leaving else Begun (kind_of call)) ≡ true
+    by_closed true = refl
+    by_closed false = refl

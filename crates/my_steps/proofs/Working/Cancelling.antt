@@ -12,7 +12,7 @@ use Rattle.my_session.specs.Stands.{Stands}
 use Rattle.my_session.specs.Tables.{closes_when_cancelled}
 use Rattle.my_client.specs.declared.conn.TapedConn.{TapedConn}
 use Rattle.my_steps.specs.declared.slot.Slot.{Slot}
-use Rattle.my_steps.specs.declared.slot.Slot.TheVariants.{Gone, Held, There}
+use Rattle.my_steps.specs.declared.slot.Slot.TheVariants.{There}
 use Rattle.my_client.specs.declared.tape.Said.TheVariants as says
 use Rattle.my_script.specs.declared.transcript.Outcome.{Outcome}
 use Rattle.my_script.specs.declared.transcript.Outcome.TheVariants.{Done, Fields, NoSuchHandle}
@@ -81,17 +81,6 @@ same_did look login R o us s w r = record {
   stood = w;
   does = r;
 }
-
--- the held dial is dropped
-pub dropped_did : {L : Type 0} (look : L → Looks) (login : Login) (n : ℕ) (o : Outcome) (us : List Use) → o ≡ Done → us ≡ [] → Did {L = L} look login (Cancels login) o us Held Gone
-dropped_did look login n o us e f = record {
-  stood = tt;
-  does = record { outcome = e; uses = f; left = refl };
-}
-
--- where the number's slot is known
-pub back_did : {L : Type 0} (look : L → Looks) (login : Login) (R : Handle → Outcome → List Use → Handle → Type 0) (o : Outcome) (us : List Use) (s t : Slot L) → s ≡ t → IsStood login s → R (handle_of look t) o us (handle_of look t) → Did look login R o us s t
-back_did {L} look login R o us s t e w r = subst (λ (x : Slot L). Did look login R o us x t) (sym e) (same_did look login R o us t (subst (IsStood login) e w) r)
 
 -- the step finds an open call
 pub collect_refused : {L : Type 0} (look : L → Looks) (login : Login) (n : ℕ) (c : TapedConn L) (o : Outcome) (us : List Use) → is_open c.session.seen.task ≡ true → o ≡ NoSuchHandle → us ≡ [] → StandsBy login c → Did look login (CollectsAt login n) o us (There c) (There c)

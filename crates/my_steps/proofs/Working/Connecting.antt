@@ -1,6 +1,6 @@
 -- How a connection is dialed and connects.
-use Rattle.std.proofs.Common.{ℕ, ◌≡◌, ◌+◌, List, [], ◌∷◌, ◌++◌, length, map, Option, Some, None, true, refl, sym, ap, ◌∙◌, subst, arith}
-use Rattle.std.proofs.lemmas.List.{length-append, length-map, map-append}
+use Rattle.std.proofs.Common.{ℕ, ◌≡◌, ◌+◌, List, [], ◌∷◌, ◌++◌, length, Option, Some, None, true, refl, sym, ap, ◌∙◌, subst, arith}
+use Rattle.std.proofs.lemmas.List.{length-append}
 use Rattle.my_grammar.specs.declared.login.Login.{Login}
 use Rattle.my_link.specs.declared.link.ReadItem.{ReadItem}
 use Rattle.my_link.specs.declared.link.WriteItem.{WriteItem}
@@ -22,11 +22,11 @@ use Rattle.my_script.specs.declared.transcript.Use.{Use}
 use Rattle.my_steps.specs.Connecting.{Settles, Joins, Dialed}
 use Rattle.my_steps.specs.Did.{Stepped}
 use Rattle.my_client.specs.Drives.{Drives}
-use Rattle.my_steps.specs.Grows.{ConnectShows, HasPlan, IsNew, Dials, Holds, Fails, Links, DialsNext}
+use Rattle.my_steps.specs.Grows.{ConnectShows, Connects, HasPlan, IsNew, Dials, Holds, Fails, Links, DialsNext}
 use Rattle.my_client.specs.Kept.{Asked, Kept, first_asked, first_kept}
-use Rattle.my_world.specs.World.{Plans, SameAt, SameFrom, IsFresh, DialCounts}
+use Rattle.my_world.specs.World.{Plans, SameAt, SameBut, SameLink, HeldBy, FailedBy, GivenBy, IsFresh, DialCounts}
 use Rattle.my_client.specs.Ready.{StandsBy}
-use Rattle.my_steps.specs.Keeps.{IsStood, AreStood}
+use Rattle.my_steps.specs.Keeps.{IsStood, AreStood, AreAwaited}
 use Rattle.my_link.specs.Looks.{Looks}
 use Rattle.my_handshake.specs.Version.{version_of}
 use Rattle.my_reading.specs.declared.facts.Facts.{Facts}
@@ -36,7 +36,8 @@ use Rattle.my_client.specs.Reads.{ReadsAs}
 use Rattle.my_client.proofs.TapeRead.Stopping.{facts_rest}
 use Rattle.my_client.specs.Rests.{Rests}
 use Rattle.my_client.specs.Conn.{kept_of}
-use Rattle.my_steps.specs.Slot.{handle_of}
+use Rattle.my_steps.specs.Slot.{HasLink, handle_with, handle_of, handles_in}
+use Rattle.my_steps.proofs.Working.Awaiting.{link_trans, link_at, awaited_on, linked_awaited, linked_handle, awaited_end, awaited_push, handles_length, handles_push}
 
 -- the handshake was polled
 shows : {L : Type 0} (look : L → Looks) (login : Login) (n : ℕ) (c : TapedConn L) (after : After) (slot : Slot L) (o : Outcome) (a : Asked) (k : Kept) (u : Met) (stop : Stop) → PollEnds login a k u stop after (kept_of c) → Rests login c.session.seen (kept_of c) → Settles c n after slot o → ConnectShows login n after (kept_of c) (look c.link) o (handle_of look slot)
@@ -57,6 +58,7 @@ joins {L} look login n a k x c met p slot o w s =
     let stands : StandsBy login c = record { rests = w.rests; stepped = w.stepped } in
     record {
       stood = slot_is (IsStood login) c n p slot o s stands stands;
+      linked = slot_is HasLink c n p slot o s tt tt;
       number = refl;
       does = record { number = refl; after = p; end = kept_of c; link = look c.link; polled = w.polled; shows = shows look login n c p slot o a w.polled.following met w.polled.stop w.polled.ends w.rests s };
     }
@@ -65,15 +67,6 @@ joins {L} look login n a k x c met p slot o w s =
 stood_push : {L : Type 0} (login : Login) (ss : List (Slot L)) (s : Slot L) → AreStood login ss → IsStood login s → AreStood login (ss ++ s ∷ [])
 stood_push login [] s w v = (v, tt)
 stood_push login (x ∷ ss) s w v = (w.0, stood_push login ss s w.1 v)
-
-pub stepped_new : {L : Type 0} (look : L → Looks) (login : Login) (plans : Plans) (n : ℕ) (o : Outcome) (us : List Use) (ss ts : List (Slot L)) (s : Slot L) → ts ≡ ss ++ s ∷ [] → n ≡ length ss → IsStood login s → Dials login (plans.reads n) (plans.writes n) n o us (handle_of look s) → AreStood login ss → Stepped login ss ts (DialsNext login plans (map (handle_of look) ss) o us (map (handle_of look) ts))
-stepped_new {L} look login plans n o us ss ts s e is st d all_st =
-    let counted : length ts ≡ length ss + 1 = ap length e ∙ length-append ss (s ∷ []) in
-    record {
-      stood = subst (AreStood login) (sym e) (stood_push login ss s all_st st);
-      longer = omega (arith, counted);
-      grows = record { made = handle_of look s; dials = subst (λ (i : ℕ). Dials login (plans.reads i) (plans.writes i) i o us (handle_of look s)) (is ∙ sym (length-map ss (handle_of look))) d; others = ap (map (handle_of look)) e ∙ map-append (handle_of look) ss (s ∷ []) };
-    }
 
 -- a link as it was dialed, where the plan is what the world told
 new_link : (x : Looks) (plan reads : Option (List ReadItem)) (rules writes : Option (List WriteItem)) → x.items ≡ reads → x.writes ≡ writes → IsFresh x.got → x.counts ≡ no_counts → reads ≡ plan → writes ≡ rules → IsNew plan rules x
@@ -84,18 +77,26 @@ new_link x plan reads rules writes e f g c p q = record { planned = has_plan pla
     has_plan (Some plan) e f = (e, f)
 
 -- the dial gave a link, over which the handshake was polled
-pub linked : {L : Type 0} (look : L → Looks) (login : Login) (n : ℕ) (l : L) (told : Plans) (slot : Slot L) (o : Outcome) (us : List Use) (u : Use) → (look l).items ≡ told.reads n → (look l).writes ≡ told.writes n → IsFresh (look l).got → (look l).counts ≡ no_counts → us ≡ quiet n ∷ u ∷ [] → Joins look login n first_asked first_kept (look l) slot o u → Dialed look login n told slot o us
-linked look login n l told slot o us u e f g c is w = record {
+pub linked : {L : Type 0} (look : L → Looks) (login : Login) (n : ℕ) (l : L) (before later : Plans) (slot : Slot L) (o : Outcome) (us : List Use) (u : Use) → (look l).items ≡ before.reads n → (look l).writes ≡ before.writes n → IsFresh (look l).got → (look l).counts ≡ no_counts → GivenBy (before.dials n) (later.dials n) → us ≡ quiet n ∷ u ∷ [] → Joins look login n first_asked first_kept (look l) slot o u → Dialed look login n before later slot o us
+linked look login n l before later slot o us u e f g c given is w = record {
   stood = w.stood;
-  does = λ plans same. Links u (look l) is (new_link (look l) (plans.reads n) (told.reads n) (plans.writes n) (told.writes n) e f g c (sym same.reads) (sym same.writes)) w.does;
-  again = Links u (look l) is (record { planned = tt; got = g; counts = c }) w.does;
+  awaited = linked_awaited before later n slot w.linked;
+  does = λ plans same. Links u (look l) (later.dials n) is (new_link (look l) (plans.reads n) (before.reads n) (plans.writes n) (before.writes n) e f g c same.reads same.writes) given (subst (Connects login n first_asked first_kept (look l) o u) (linked_handle look (later.dials n) slot w.linked) w.does);
 }
 
-pub dial_held : {L : Type 0} (look : L → Looks) (login : Login) (n : ℕ) (told : Plans) (o : Outcome) (us : List Use) → told.reads n ≡ None → o ≡ Pending → us ≡ held_use n ∷ [] → Dialed look login n told Held o us
-dial_held look login n told o us none e f = record { stood = tt; does = λ plans same. Holds e f refl (same.reads ∙ none); again = Holds e f refl refl }
+pub dial_held : {L : Type 0} (look : L → Looks) (login : Login) (n : ℕ) (before later : Plans) (o : Outcome) (us : List Use) → HeldBy (before.dials n) (later.dials n) → SameLink before later n → o ≡ Pending → us ≡ held_use n ∷ [] → Dialed look login n before later Held o us
+dial_held look login n before later o us held kept e f = record { stood = tt; awaited = kept; does = λ plans same. Holds (later.dials n) e f refl held }
 
-pub dial_failed : {L : Type 0} (look : L → Looks) (login : Login) (n : ℕ) (told : Plans) (o : Outcome) (us : List Use) → told.reads n ≡ None → o ≡ Failed (io_error Dial 0) → us ≡ failed_use n ∷ [] → Dialed look login n told Gone o us
-dial_failed look login n told o us none e f = record { stood = tt; does = λ plans same. Fails e f refl (same.reads ∙ none); again = Fails e f refl refl }
+pub dial_failed : {L : Type 0} (look : L → Looks) (login : Login) (n : ℕ) (before later : Plans) (o : Outcome) (us : List Use) → FailedBy (before.dials n) (later.dials n) → o ≡ Failed (io_error Dial 0) → us ≡ failed_use n ∷ [] → Dialed look login n before later Gone o us
+dial_failed look login n before later o us failed e f = record { stood = tt; awaited = tt; does = λ plans same. Fails (later.dials n) e f refl failed }
+
+-- the plans were the same before
+pub dialed_before : {L : Type 0} (look : L → Looks) (login : Login) (n : ℕ) (first before later : Plans) (slot : Slot L) (o : Outcome) (us : List Use) → SameAt first before n → Dialed look login n before later slot o us → Dialed look login n first later slot o us
+dialed_before look login n first before later slot o us same w = record {
+  stood = w.stood;
+  awaited = awaited_on first before later n slot (link_at first before n same) w.awaited;
+  does = λ plans told. subst (λ items. Dials login (plans.reads n) (plans.writes n) items n o us (handle_with look (later.dials n) slot)) same.dials (w.does plans (link_trans plans first before n told (link_at first before n same)));
+}
 
 -- the counts of a dial
 pub dial_same : (c d : DialCounts) (us : List Use) (u v : Use) → d ≡ c → us ≡ u ∷ v ∷ [] → u.met ≡ nothing_met → DialsTo c d (dial_met true us)
@@ -112,8 +113,18 @@ no_dial c d e = record { faults = ap (λ (x : DialCounts). x.faults) e; holds = 
 pub joins_first : {L : Type 0} (look : L → Looks) (login : Login) (n : ℕ) (l : L) (c : TapedConn L) (slot : Slot L) (o : Outcome) (u : Use) → kept_of c ≡ first_kept → c.link ≡ l → Joins look login n first_asked (kept_of c) (look c.link) slot o u → Joins look login n first_asked first_kept (look l) slot o u
 joins_first {L} look login n l c slot o u kept link w = subst (λ (x : L). Joins look login n first_asked first_kept (look x) slot o u) link (subst (λ (k : Kept). Joins look login n first_asked k (look c.link) slot o u) kept w)
 
-pub at_end : (told plans : Plans) (n k : ℕ) → n ≡ k → SameFrom k told plans → SameAt told plans n
-at_end told plans n k is same = same n (omega (arith, is))
-
-pub stepped_dialed : {L : Type 0} (look : L → Looks) (login : Login) (plans : Plans) (n : ℕ) (told : Plans) (o : Outcome) (us : List Use) (ss ts : List (Slot L)) (s : Slot L) → ts ≡ ss ++ s ∷ [] → n ≡ length ss → Dialed look login n told s o us → SameAt told plans n → AreStood login ss → Stepped login ss ts (DialsNext login plans (map (handle_of look) ss) o us (map (handle_of look) ts))
-stepped_dialed look login plans n told o us ss ts s e is w same st = stepped_new look login plans n o us ss ts s e is w.stood (w.does plans same) st
+-- the connection of the next number
+pub stepped_dialed : {L : Type 0} (look : L → Looks) (login : Login) (plans : Plans) (n : ℕ) (before later : Plans) (o : Outcome) (us : List Use) (ss ts : List (Slot L)) (s : Slot L) → ts ≡ ss ++ s ∷ [] → n ≡ length ss → SameBut n before later → Dialed look login n before later s o us → AreAwaited plans before 0 ss → AreStood login ss → Stepped login ss ts (AreAwaited plans later 0 ts × DialsNext login plans (handles_in look before ss) o us (handles_in look later ts))
+stepped_dialed {L} look login plans n before later o us ss ts s e is same w awaited st =
+    let at : n ≡ 0 + length ss = omega (arith, is) in
+    let counted : length ts ≡ length ss + 1 = ap length e ∙ length-append ss (s ∷ []) in
+    let fresh : SameAt plans before n = awaited_end plans before 0 n ss at awaited n (omega arith) in
+    let does : Dials login (plans.reads n) (plans.writes n) (plans.dials n) n o us (handle_with look (later.dials n) s) = subst (λ items. Dials login (plans.reads n) (plans.writes n) items n o us (handle_with look (later.dials n) s)) fresh.dials (w.does plans (link_at plans before n fresh)) in
+    record {
+      stood = subst (AreStood login) (sym e) (stood_push login ss s st w.stood);
+      longer = omega (arith, counted);
+      grows = (
+        subst (AreAwaited plans later 0) (sym e) (awaited_push plans before later 0 n ss s at same (awaited_on plans before later n s (link_at plans before n fresh) w.awaited) awaited),
+        record { made = handle_with look (later.dials n) s; dials = subst (λ (i : ℕ). Dials login (plans.reads i) (plans.writes i) (plans.dials i) i o us (handle_with look (later.dials n) s)) (is ∙ sym (handles_length look before.dials 0 ss)) does; others = ap (handles_in look later) e ∙ handles_push look before.dials later.dials 0 n ss s at (λ i apart. (same i apart).dials) },
+      );
+    }

@@ -1,19 +1,18 @@
 -- What a step at one number does to all numbers.
-use Rattle.std.proofs.Common.{ℕ, ◌≡◌, ◌<◌, ◌≤◌, zero, suc, List, [], ◌∷◌, length, map, get_or, slice_set, Result, Ok, Err, IfOk, OnOk, refl, sym, ap, ◌∙◌, subst, arith}
-use Rattle.std.proofs.lemmas.List.{length-map}
+use Rattle.std.proofs.Common.{ℕ, ◌≡◌, ◌&&◌, ◌+◌, ◌<◌, false, ◌≤◌, zero, suc, List, [], ◌∷◌, length, map, get_or, slice_set, Result, Ok, Err, IfOk, OnOk, refl, sym, ap, ◌∙◌, subst, arith}
 use Rattle.my_grammar.specs.declared.login.Login.{Login}
-use Rattle.my_client.specs.declared.conn.TapedConn.{TapedConn}
 use Rattle.my_steps.specs.declared.slot.Slot.{Slot}
-use Rattle.my_steps.specs.declared.slot.Slot.TheVariants.{There}
 use Rattle.my_script.specs.declared.transcript.Outcome.{Outcome}
 use Rattle.my_script.specs.declared.transcript.Use.{Use}
-use Rattle.my_steps.specs.Did.{Did, Stepped}
+use Rattle.my_world.specs.World.{Plans, SameBut}
+use Rattle.my_steps.specs.declared.work.Work.{Work}
+use Rattle.my_steps.specs.Did.{DidAt, Stepped, is_poll, redials}
 use Rattle.my_steps.specs.Grows.{At}
 use Rattle.my_steps.specs.Handle.{Handle, Absent, at_number, put_at}
-use Rattle.my_client.specs.Ready.{StandsBy}
-use Rattle.my_steps.specs.Keeps.{IsStood, AreStood}
+use Rattle.my_steps.specs.Keeps.{IsStood, AreStood, IsAwaited, AreAwaited}
 use Rattle.my_link.specs.Looks.{Looks}
-use Rattle.my_steps.specs.Slot.{handle_of}
+use Rattle.my_steps.specs.Slot.{handle_with, handle_of, handles_in}
+use Rattle.my_steps.proofs.Working.Awaiting.{dialing_same, handles_length, handles_got, handles_set, awaited_got, awaited_set}
 
 past_put : (n : ℕ) (t : Handle) (hs : List Handle) → length hs ≤ n → hs ≡ put_at n t hs
 past_put n t [] h = refl
@@ -26,24 +25,19 @@ past_at zero (x ∷ hs) h = absurd (omega (arith, h))
 past_at (suc n) (x ∷ hs) h = past_at n hs (omega (arith, h))
 
 -- a number that no step took
-pub stepped_past : {L : Type 0} (look : L → Looks) (login : Login) (n : ℕ) (R : Handle → Outcome → List Use → Handle → Type 0) (o : Outcome) (us : List Use) (ss : List (Slot L)) → length ss ≤ n → R Absent o us Absent → AreStood login ss → Stepped login ss ss (At n R (map (handle_of look) ss) o us (map (handle_of look) ss))
-stepped_past {L} look login n R o us ss h r st =
-    let past : length (map (handle_of look) ss) ≤ n = omega (arith, length-map ss (handle_of look), h) in
+pub stepped_past : {L : Type 0} (look : L → Looks) (login : Login) (plans before : Plans) (n : ℕ) (R : Handle → Outcome → List Use → Handle → Type 0) (o : Outcome) (us : List Use) (ss : List (Slot L)) → length ss ≤ n → R Absent o us Absent → AreAwaited plans before 0 ss → AreStood login ss → Stepped login ss ss (AreAwaited plans before 0 ss × At n R (handles_in look before ss) o us (handles_in look before ss))
+stepped_past {L} look login plans before n R o us ss h r awaited st =
+    let past : length (handles_in look before ss) ≤ n = omega (arith, handles_length look before.dials 0 ss, h) in
     record {
       stood = st;
       longer = omega arith;
-      grows = record { made = Absent; does = subst (λ (h : Handle). R h o us Absent) (sym (past_at n (map (handle_of look) ss) past)) r; others = past_put n Absent (map (handle_of look) ss) past };
+      grows = (awaited, record { made = Absent; does = subst (λ (h : Handle). R h o us Absent) (sym (past_at n (handles_in look before ss) past)) r; others = past_put n Absent (handles_in look before ss) past });
     }
 
 stood_set : {L : Type 0} (login : Login) (ss : List (Slot L)) (n : ℕ) (y : Slot L) → IsStood login y → AreStood login ss → AreStood login (slice_set ss n y)
 stood_set login [] n y w st = tt
 stood_set login (s ∷ ss) zero y w st = (w, st.1)
 stood_set login (s ∷ ss) (suc n) y w st = (st.0, stood_set login ss n y w st.1)
-
-handles_set : {L : Type 0} (look : L → Looks) (ss : List (Slot L)) (n : ℕ) (y : Slot L) → map (handle_of look) (slice_set ss n y) ≡ put_at n (handle_of look y) (map (handle_of look) ss)
-handles_set look [] n y = refl
-handles_set look (s ∷ ss) zero y = refl
-handles_set look (s ∷ ss) (suc n) y = ap (λ hs. handle_of look s ∷ hs) (handles_set look ss n y)
 
 pub handle_got : {L : Type 0} (look : L → Looks) (ss : List (Slot L)) (n : ℕ) (d : Slot L) → n < length ss → at_number (map (handle_of look) ss) n ≡ handle_of look (get_or ss n d)
 handle_got look [] n d h = absurd (omega (arith, h))
@@ -61,14 +55,21 @@ stood_got login (s ∷ ss) zero d h st = st.0
 stood_got login (s ∷ ss) (suc n) d h st = stood_got login ss n d (omega (arith, h)) st.1
 
 -- the number that the step names
-pub stepped_at : {L : Type 0} (look : L → Looks) (login : Login) (n : ℕ) (R : Handle → Outcome → List Use → Handle → Type 0) (o : Outcome) (us : List Use) (ss : List (Slot L)) (old new : Slot L) → n < length ss → old ≡ get_or ss n old → Did look login R o us old new → AreStood login ss → Stepped login ss (slice_set ss n new) (At n R (map (handle_of look) ss) o us (map (handle_of look) (slice_set ss n new)))
-stepped_at {L} look login n R o us ss old new h e w st =
-    let here : handle_of look old ≡ at_number (map (handle_of look) ss) n = ap (handle_of look) e ∙ sym (handle_got look ss n old h) in
+pub stepped_at : {L : Type 0} (look : L → Looks) (login : Login) (plans before later : Plans) (n : ℕ) (R : Handle → Outcome → List Use → Handle → Type 0) (o : Outcome) (us : List Use) (ss : List (Slot L)) (old new : Slot L) → n < length ss → old ≡ get_or ss n old → SameBut n before later → DidAt look login plans before later n R o us old new → AreAwaited plans before 0 ss → AreStood login ss → Stepped login ss (slice_set ss n new) (AreAwaited plans later 0 (slice_set ss n new) × At n R (handles_in look before ss) o us (handles_in look later (slice_set ss n new)))
+stepped_at {L} look login plans before later n R o us ss old new h e same w awaited st =
+    let at : n ≡ 0 + n = omega arith in
+    let here : handle_with look (before.dials n) old ≡ at_number (handles_in look before ss) n = ap (handle_with look (before.dials n)) e ∙ sym (handles_got look before.dials 0 n n ss old at h) in
     record {
       stood = stood_set login ss n new w.stood st;
       longer = omega (arith, length_set ss n new);
-      grows = record { made = handle_of look new; does = subst (λ (x : Handle). R x o us (handle_of look new)) here w.does; others = handles_set look ss n new };
+      grows = (
+        awaited_set plans before later 0 n n ss new at h same w.awaited awaited,
+        record { made = handle_with look (later.dials n) new; does = subst (λ (x : Handle). R x o us (handle_with look (later.dials n) new)) here w.does; others = handles_set look before.dials later.dials 0 n n ss new at (λ i apart. (same i apart).dials) },
+      );
     }
+
+pub awaited_here : {L : Type 0} (plans now : Plans) (ss : List (Slot L)) (n : ℕ) (v : Slot L) → n < length ss → v ≡ get_or ss n v → AreAwaited plans now 0 ss → IsAwaited plans now n v
+awaited_here plans now ss n v h e w = let at : n ≡ 0 + n = omega arith in subst (IsAwaited plans now n) (sym e) (awaited_got plans now 0 n n ss v at h w)
 
 pub did_ok : {T E : Type 0} (r : Result T E) (P Q R : T → Type 0) → IfOk r P → IfOk r Q → ((x : T) → P x → Q x → R x) → IfOk r R
 did_ok (Ok x) P Q R p q f = f x p q
@@ -81,5 +82,11 @@ pub did_kept : {T E : Type 0} (r : Result T E) (P Q R : T → Type 0) (K : Type 
 did_kept (Ok x) P Q R K p q k f = f x p q k
 did_kept (Err e) P Q R K p q k f = tt
 
-pub put_did : {L : Type 0} (look : L → Looks) (login : Login) (R : Handle → Outcome → List Use → Handle → Type 0) (o : Outcome) (us : List Use) (s : Slot L) (c : TapedConn L) (t : Slot L) → s ≡ There c → IsStood login s → (StandsBy login c → Did look login R o us (There c) t) → Did look login R o us s t
-put_did {L} look login R o us s c t e w f = subst (λ (x : Slot L). Did look login R o us x t) (sym e) (f (subst (IsStood login) e w))
+-- whether a held dial is tried again there
+pub redials_here : {L : Type 0} (look : L → Looks) (now : Plans) (ss : List (Slot L)) (n : ℕ) (v : Slot L) (work : Work) → n < length ss → v ≡ get_or ss n v → redials (at_number (handles_in look now ss) n) work ≡ redials (handle_of look v) work
+redials_here look now ss n v work h e =
+    let at : n ≡ 0 + n = omega arith in
+    ap (λ x. redials x work) (handles_got look now.dials 0 n n ss v at h ∙ ap (handle_with look (now.dials n)) (sym e)) ∙ ap (λ b. b && is_poll work) (dialing_same look (now.dials n) v)
+
+pub redials_past : {L : Type 0} (look : L → Looks) (now : Plans) (ss : List (Slot L)) (n : ℕ) (work : Work) → length ss ≤ n → redials (at_number (handles_in look now ss) n) work ≡ false
+redials_past look now ss n work h = let past : length (handles_in look now ss) ≤ n = omega (arith, handles_length look now.dials 0 ss, h) in ap (λ x. redials x work) (past_at n (handles_in look now ss) past)

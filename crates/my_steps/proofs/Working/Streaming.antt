@@ -9,13 +9,12 @@ use Rattle.my_link.specs.Looks.{Looks}
 use Rattle.my_reading.specs.declared.call.Call.{Call}
 use Rattle.my_reading.specs.declared.call.Call.TheVariants.{TakeSet, SkipTaken}
 use Rattle.my_reading.specs.Calls.{kind_of, is_connect}
-use Rattle.my_reading.specs.Place.{Place, is_rows, is_taken}
+use Rattle.my_reading.specs.Place.{is_rows, is_taken}
 use Rattle.my_script.specs.declared.transcript.Outcome.{Outcome}
 use Rattle.my_script.specs.declared.transcript.Outcome.TheVariants.{Done, NoSuchHandle}
 use Rattle.my_script.specs.declared.transcript.Use.{Use}
 use Rattle.my_script.specs.Streams.{is_skip}
 use Rattle.my_session.specs.Mirror.{passes_end}
-use Rattle.my_session.specs.Seen.{Seen}
 use Rattle.my_session.specs.Steps.{is_taken as session_taken}
 use Rattle.my_session.specs.Tasks.{is_open}
 use Rattle.my_session.specs.declared.task.Task.{Task}
@@ -25,13 +24,12 @@ use Rattle.my_client.specs.Conn.{kept_of}
 use Rattle.my_client.specs.Kept.{Asked, Kept}
 use Rattle.my_client.specs.Reads.{ReadsAs, RestRead, place_kept}
 use Rattle.my_client.specs.Ready.{ConnReady, JoinedBy, StandsBy}
-use Rattle.my_client.specs.Rests.{IsAsked}
 use Rattle.my_client.proofs.Hearing.Beginning.{closed_kept, is_asked, is_idle}
 use Rattle.my_client.proofs.TapeRead.Stopping.{place_rest}
 use Rattle.my_steps.specs.declared.outcome.StepResult.{StepResult}
 use Rattle.my_steps.specs.declared.slot.Slot.TheVariants.{There}
 use Rattle.my_steps.specs.declared.work.Work.TheVariants as works
-use Rattle.my_steps.specs.Did.{Did, EachDid, EachPolled, OpenPolled}
+use Rattle.my_steps.specs.Did.{Did, EachDid, EachPolled, OpenPolled, untold}
 use Rattle.my_steps.specs.Grows.{Calls, ThenTakes, is_done, GoesOn, GoesOnWith, LetsGo, LetsGoWith, Misses, PollsCall, PollsOn, PolledOnce, Skips, StreamsAt, Takes, TakesOn, skips_first}
 use Rattle.my_steps.specs.Handle.{Joined}
 use Rattle.my_steps.specs.Streaming.{EachTakes, TakesAfter}
@@ -150,7 +148,7 @@ module _ {L : Type 0} (look : L → Looks) (n : ℕ) where
     -- a passing over goes on, and then a set is taken
     pub skip_resumed : (c m d : TapedConn L) (a : Asked) (first whole : StepResult) → is_connect (kind_of a.call) ≡ false → is_some a.rows ≡ false → is_skip (kind_of a.call) ≡ true → (kept_of c).pending ≡ Some a
         → OpenPolled login n a m.session.seen (look c.link) (look m.link) (kept_of c) (kept_of m) first.outcome first.uses.items → EachTakes look n m d first whole
-        → Did look login (GoesOn login n) whole.outcome whole.uses.items (There c) (There d)
+        → Did look login (GoesOn login untold n) whole.outcome whole.uses.items (There c) (There d)
     skip_resumed c m d a first whole kind rows skip asked p then =
         let after = then login (record { rests = p.rests; stepped = p.stepped }) in
         let t = Joined true (kept_of d) (look d.link) in

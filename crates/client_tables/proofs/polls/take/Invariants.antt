@@ -1,5 +1,5 @@
 use Rattle.std.proofs.Common.{◌≡◌}
-use Rattle.my_conn.specs.Streams.{open_at}
+use Rattle.my_calls.specs.Streams.{open_at}
 use Rattle.client_tables.proofs.polls.take.Given as goal
 
 abbrev pub invariant-polls : goal.invariant-polls

@@ -1,6 +1,6 @@
-use Rattle.my_client.specs.Login.{login_of}
+use Rattle.my_session.specs.Login.{login_of}
 use Rattle.my_client.proofs.Hearing.Beginning.{first_begins}
 use Rattle.my_client.proofs.conn.begin_conn.Goals as goal
 
 pub returns-clause-asked : goal.returns-clause-asked
-returns-clause-asked g c = first_begins (login_of c.args.opts.now) c.in_ok-conn.conn c.ask.new.conn c.begin.new.self.seen c.in_ok-conn.ensures.seen c.in_ok-conn.ensures.stands c.in_ok-conn.ensures.kept c.in_ok-ask.ensures.kept c.ask.ensures.session c.in-Ok.ensures.ok c.in-Ok.ensures.stands
+returns-clause-asked g c = first_begins (login_of c.args.opts) c.in_ok-conn.conn c.ask.new.conn c.begin.new.self.seen c.in_ok-conn.ensures.seen c.in_ok-conn.ensures.stands c.in_ok-conn.ensures.kept c.in_ok-ask.ensures.kept c.ask.ensures.session c.in-Ok.ensures.ok c.in-Ok.ensures.stands

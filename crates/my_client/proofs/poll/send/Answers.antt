@@ -1,10 +1,12 @@
 use Rattle.my_session.specs.declared.task.LinkFault.TheVariants.{Link}
 use Rattle.my_session.proofs.Ends.{failing_fails}
-use Rattle.std.proofs.Common.{inl, inr, refl, rules}
+use Rattle.std.proofs.Common.{inl, inr, length, refl, ap, arith, rules, ◌∙◌}
 use Rattle.my_client.specs.Rests.{IsHeld}
 use Rattle.my_client.specs.declared.poll.Turn.TheVariants.{Held, Broke}
 use Rattle.my_client.proofs.Hearing.Failing.{broke_so}
 use Rattle.my_client.proofs.Turning.{went, stays}
+use Rattle.my_session.specs.Seen.{Seen}
+use Rattle.my_client.proofs.Living.{lives_still, lives_then, made_same}
 use Rattle.my_client.proofs.poll.send.Goals as goal
 
 pub returns-in_ok-note_sent-in-Took-clause-turn : goal.returns-in_ok-note_sent-in-Took-clause-turn
@@ -23,3 +25,24 @@ returns-in_ok-fail_now-in-Failed-clause-turn g c =
 
 pub fail_now-requires-clause-fails : goal.fail_now-requires-clause-fails
 fail_now-requires-clause-fails g c = failing_fails c.args.session.now.seen c.fail.new.self.seen Link c.requires.0 c.fail.ensures.seen
+
+pub returns-in_ok-note_sent-in-Took-clause-lives : goal.returns-in_ok-note_sent-in-Took-clause-lives
+returns-in_ok-note_sent-in-Took-clause-lives g c = lives_still c.args.now 0 c.args.session.now c.sent.new.self (omega (arith, ap (λ (s : Seen). length s.unread) c.sent.ensures.seen)) c.sent.ensures.lifetime
+
+pub returns-in-NotYet-clause-lives : goal.returns-in-NotYet-clause-lives
+returns-in-NotYet-clause-lives g c = lives_still c.args.now 0 c.args.session.now c.args.session.now (omega arith) refl
+
+pub returns-in_ok-fail_now-in-Failed-clause-lives : goal.returns-in_ok-fail_now-in-Failed-clause-lives
+returns-in_ok-fail_now-in-Failed-clause-lives g c =
+    lives_then c.args.now 0 c.args.session.now c.fail.new.self c.fail_now.new.session
+    (lives_still c.args.now 0 c.args.session.now c.fail.new.self (omega (arith, ap (λ (s : Seen). length s.unread) c.fail.ensures.seen)) c.fail.ensures.lifetime)
+    c.in_ok-fail_now-in-Failed.ensures.lives
+
+pub returns-in_ok-note_sent-in-Took-clause-made : goal.returns-in_ok-note_sent-in-Took-clause-made
+returns-in_ok-note_sent-in-Took-clause-made g c = made_same c.args.session.now c.sent.new.self c.sent.ensures.lifetime
+
+pub returns-in_ok-fail_now-in-Failed-clause-made : goal.returns-in_ok-fail_now-in-Failed-clause-made
+returns-in_ok-fail_now-in-Failed-clause-made g c = c.fail_now.ensures.made ∙ made_same c.args.session.now c.fail.new.self c.fail.ensures.lifetime
+
+pub returns-in_err-fail_now-in-Failed-clause-made : goal.returns-in_err-fail_now-in-Failed-clause-made
+returns-in_err-fail_now-in-Failed-clause-made g c = c.fail_now.ensures.made ∙ made_same c.args.session.now c.fail.new.self c.fail.ensures.lifetime

@@ -1,4 +1,4 @@
-use Rattle.std.proofs.Common.{inr, refl}
+use Rattle.std.proofs.Common.{inr, refl, ◌∙◌}
 use Rattle.std.proofs.lemmas.Result.{IfOk-weaker}
 use Rattle.my_session.proofs.Ends.{ended_fails}
 use Rattle.my_client.specs.Rests.{IsAsked, IsHeld}
@@ -7,6 +7,8 @@ use Rattle.my_client.specs.declared.poll.Turn.TheVariants.{Full, Answered, Fault
 use Rattle.my_client.proofs.Hearing.Stepping.{held_send, held_need, awaits, is_answered}
 use Rattle.my_client.proofs.Hearing.Failing.{faulted_same}
 use Rattle.my_client.proofs.Turning.{behind, stays}
+use Rattle.my_client.specs.Poll.{took_by}
+use Rattle.my_client.proofs.Living.{lives_by, lives_then, made_lived}
 use Rattle.my_client.proofs.poll.take_turn.Goals as goal
 
 pub returns-then-room-eq0-clause-turn : goal.returns-then-room-eq0-clause-turn
@@ -39,3 +41,37 @@ returns-in_ok-fault-in-Fault-clause-turn g c =
 
 pub receive-requires-clause-ends : goal.receive-requires-clause-ends
 receive-requires-clause-ends g c = ended_fails c.args.session.now.seen c.step.new.self.seen c.in-Need.ensures.steps
+
+pub returns-then-room-eq0-clause-lives : goal.returns-then-room-eq0-clause-lives
+returns-then-room-eq0-clause-lives g c = lives_by c.args.now c.args.session.now c.step.new.self c.in-Need.ensures.shorter c.in-Need.ensures.lifetime
+
+pub returns-in-Send-clause-lives : goal.returns-in-Send-clause-lives
+returns-in-Send-clause-lives g c = IfOk-weaker c.send.result _ _
+    (λ turn f. lives_then c.args.now (took_by turn) c.args.session.now c.step.new.self c.send.new.session (lives_by c.args.now c.args.session.now c.step.new.self c.in-Send.ensures.shorter c.in-Send.ensures.lifetime) f)
+    c.send.ensures.lives
+
+pub returns-else-room-eq0-clause-lives : goal.returns-else-room-eq0-clause-lives
+returns-else-room-eq0-clause-lives g c = IfOk-weaker c.receive.result _ _
+    (λ turn f. lives_then c.args.now (took_by turn) c.args.session.now c.step.new.self c.receive.new.session (lives_by c.args.now c.args.session.now c.step.new.self c.in-Need.ensures.shorter c.in-Need.ensures.lifetime) f)
+    c.receive.ensures.lives
+
+pub returns-in-Done-clause-lives : goal.returns-in-Done-clause-lives
+returns-in-Done-clause-lives g c = lives_by c.args.now c.args.session.now c.step.new.self c.in-Done.ensures.shorter c.in-Done.ensures.lifetime
+
+pub returns-in_ok-fault-in-Fault-clause-lives : goal.returns-in_ok-fault-in-Fault-clause-lives
+returns-in_ok-fault-in-Fault-clause-lives g c = lives_by c.args.now c.args.session.now c.step.new.self c.in-Fault.ensures.shorter c.in-Fault.ensures.lifetime
+
+pub returns-in-Send-clause-made : goal.returns-in-Send-clause-made
+returns-in-Send-clause-made g c = c.send.ensures.made ∙ made_lived c.args.now _ _ c.args.session.now c.step.new.self c.in-Send.ensures.lifetime
+
+pub returns-else-room-eq0-clause-made : goal.returns-else-room-eq0-clause-made
+returns-else-room-eq0-clause-made g c = c.receive.ensures.made ∙ made_lived c.args.now _ _ c.args.session.now c.step.new.self c.in-Need.ensures.lifetime
+
+pub returns-in-Done-clause-made : goal.returns-in-Done-clause-made
+returns-in-Done-clause-made g c = made_lived c.args.now _ _ c.args.session.now c.step.new.self c.in-Done.ensures.lifetime
+
+pub returns-in_ok-fault-in-Fault-clause-made : goal.returns-in_ok-fault-in-Fault-clause-made
+returns-in_ok-fault-in-Fault-clause-made g c = made_lived c.args.now _ _ c.args.session.now c.step.new.self c.in-Fault.ensures.lifetime
+
+pub returns-in_err-fault-in-Fault-clause-made : goal.returns-in_err-fault-in-Fault-clause-made
+returns-in_err-fault-in-Fault-clause-made g c = made_lived c.args.now _ _ c.args.session.now c.step.new.self c.in-Fault.ensures.lifetime

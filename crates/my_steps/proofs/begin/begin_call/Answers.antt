@@ -1,7 +1,8 @@
 use Rattle.my_steps.proofs.Working.Readying.{call_at}
-use Rattle.std.proofs.Common.{◌≡◌, true, false, rules, ap, refl}
+use Rattle.std.proofs.Common.{◌≡◌, true, false, rules, ap, refl, ◌∙◌}
+use Rattle.my_session.specs.Seen.{Seen}
 use Rattle.my_session.specs.Tasks.{is_open}
-use Rattle.my_steps.proofs.Working.Beginning.{not_refused, refused_did, begun_so, closed_so}
+use Rattle.my_steps.proofs.Working.Beginning.{begun_open, not_refused, refused_did, begun_so, closed_so}
 use Rattle.std.proofs.lemmas.Result.{IfOk-weaker}
 use Rattle.my_steps.proofs.Working.Numbers.{did_kept}
 use Rattle.my_steps.proofs.begin.begin_call.Goals as goal
@@ -27,3 +28,6 @@ pub begin-requires-clause-order : goal.begin-requires-clause-order
 begin-requires-clause-order g c =
     let idle : is_open c.args.conn.now.session.seen.task ≡ false = search rules in
     λ alive. call_at c.args.conn.now c.ask.new.conn.session.seen c.args.call c.requires.ready idle (ap (λ s. s.seen) c.ask.ensures.session) c.requires.kind alive
+
+pub poll_open-requires : goal.poll_open-requires
+poll_open-requires g c = ap (λ (s : Seen). is_open s.task) c.in-Ok.ensures.ok ∙ begun_open c.ask.new.conn.session.seen c.args.call

@@ -1,14 +1,16 @@
-use Rattle.std.proofs.Common.{Some, None}
+use Rattle.my_steps.specs.Slot.{handles_in}
 use Rattle.std.proofs.lemmas.Result.{IfOk-weaker}
-use Rattle.my_client.specs.Login.{login_of}
-use Rattle.my_steps.proofs.Working.{step_is, may_begin}
+use Rattle.my_session.specs.Login.{login_of}
+use Rattle.my_steps.proofs.Working.Ordering.{on_ok, step_chance, step_counts, step_is, same_handles}
 use Rattle.my_steps.proofs.step.run_step.Goals as goal
 
-pub returns-in-None-clause-steps : goal.returns-in-None-clause-steps
-returns-in-None-clause-steps g c = IfOk-weaker c.connect.result _ _ (λ d f plans same w. step_is g.N.L.Link.looks (login_of c.args.opts.now) plans c.args.there c.args.step.now None c.in_ok-errand.field-0 d.outcome d.uses.items c.args.slots.now.items c.connect.new.slots.items c.in_ok-errand.ensures c.in-None.is (f plans same w)) c.connect.ensures.steps
+pub returns-clause-steps : goal.returns-clause-steps
+returns-clause-steps g c = IfOk-weaker c.carry_out.result _ _ (λ d f. step_is g.N.L.Link.looks (login_of c.args.opts.now) (g.N.Dialer.seen c.args.world.now).plans (g.N.Dialer.seen c.now-now.new.self).plans (g.N.Dialer.seen c.carry_out.new.world).plans c.args.there c.args.step.now c.in_ok-order.order c.args.slots.now.items c.carry_out.new.slots.items d c.in_ok-order.ensures c.now-now.ensures.plans f) c.carry_out.ensures.steps
 
-pub returns-in-Some-clause-steps : goal.returns-in-Some-clause-steps
-returns-in-Some-clause-steps g c = IfOk-weaker c.work_at.result _ _ (λ d f plans same w. step_is g.N.L.Link.looks (login_of c.args.opts.now) plans c.args.there c.args.step.now (Some c.in-Some.field-0) c.in_ok-errand.field-0 d.outcome d.uses.items c.args.slots.now.items c.work_at.new.slots.items c.in_ok-errand.ensures c.in-Some.is (f plans same w)) c.work_at.ensures.steps
+pub returns-clause-chance : goal.returns-clause-chance
+returns-clause-chance g c =
+    on_ok c.carry_out.result _ _ (λ w. step_chance c.args.there c.args.step.now c.in_ok-order.order (handles_in g.N.L.Link.looks (g.N.Dialer.seen c.now-now.new.self).plans c.args.slots.now.items) (handles_in g.N.L.Link.looks (g.N.Dialer.seen c.args.world.now).plans c.args.slots.now.items) (g.N.Dialer.seen c.now-now.new.self).chance (g.N.Dialer.seen c.args.world.now).chance (g.N.Dialer.seen c.carry_out.new.world).chance c.in_ok-order.ensures (same_handles g.N.L.Link.looks (g.N.Dialer.seen c.args.world.now).plans (g.N.Dialer.seen c.now-now.new.self).plans c.args.slots.now.items c.now-now.ensures.plans) c.now-now.ensures.chance w) c.carry_out.ensures.chance
 
-pub work_at-requires-clause-kind : goal.work_at-requires-clause-kind
-work_at-requires-clause-kind g c = may_begin c.args.there c.args.step.now c.in_ok-errand.field-0 c.in-Some.field-0 c.in_ok-errand.ensures c.in-Some.is
+pub returns-clause-counts : goal.returns-clause-counts
+returns-clause-counts g c =
+    IfOk-weaker c.carry_out.result _ _ (λ d w. step_counts c.args.there c.args.step.now c.in_ok-order.order (handles_in g.N.L.Link.looks (g.N.Dialer.seen c.now-now.new.self).plans c.args.slots.now.items) (handles_in g.N.L.Link.looks (g.N.Dialer.seen c.args.world.now).plans c.args.slots.now.items) (g.N.Dialer.seen c.args.world.now).dials (g.N.Dialer.seen c.now-now.new.self).dials (g.N.Dialer.seen c.carry_out.new.world).dials d.uses.items c.in_ok-order.ensures (same_handles g.N.L.Link.looks (g.N.Dialer.seen c.args.world.now).plans (g.N.Dialer.seen c.now-now.new.self).plans c.args.slots.now.items c.now-now.ensures.plans) c.now-now.ensures.dials w) c.carry_out.ensures.counts

@@ -1,5 +1,4 @@
-use Rattle.std.proofs.Common.{◌≡◌, true, false, refl, rules}
-use Rattle.my_reading.specs.declared.call.Call.TheVariants.{TakeSet}
+use Rattle.std.proofs.Common.{◌≡◌, true, false, rules}
 use Rattle.my_steps.specs.Grows.{is_done}
 use Rattle.my_steps.proofs.Working.Numbers.{did_ok}
 use Rattle.my_steps.proofs.Working.Streaming.{nothing_after, taken_after}

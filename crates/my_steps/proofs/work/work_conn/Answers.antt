@@ -1,7 +1,16 @@
-use Rattle.std.proofs.Common.{sym, subst}
+use Rattle.std.proofs.Common.{Bool, true, false, sym, subst}
+use Rattle.my_client.specs.declared.conn.TapedConn.{TapedConn}
 use Rattle.my_steps.specs.declared.slot.Slot.{Slot}
 use Rattle.my_steps.specs.Did.{EachDid}
+use Rattle.my_steps.specs.Slot.{HasLink, placed}
 use Rattle.my_steps.proofs.work.work_conn.Goals as goal
 
-pub returns : goal.returns
-returns g c = subst (λ (s : Slot g.row.L.Denot). EachDid g.L.Link.looks c.args.number c.args.work c.args.conn s c.in_ok-worked.worked.did) (sym c.place.ensures) c.in_ok-worked.ensures
+placed_link : {L : Type 0} (b : Bool) (c : TapedConn L) → HasLink (placed b c)
+placed_link true c = tt
+placed_link false c = tt
+
+pub returns-clause-did : goal.returns-clause-did
+returns-clause-did g c = subst (λ (s : Slot g.row.L.Denot). EachDid g.L.Link.looks c.args.number c.args.work c.args.conn s c.in_ok-worked.worked.did) (sym c.place.ensures) c.in_ok-worked.ensures
+
+pub returns-clause-linked : goal.returns-clause-linked
+returns-clause-linked g c = subst (λ (s : Slot g.row.L.Denot). HasLink s) (sym c.place.ensures) (placed_link c.in_ok-worked.worked.there c.work_there.new.conn)

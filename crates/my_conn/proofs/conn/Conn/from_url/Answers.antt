@@ -1,6 +1,6 @@
 use Rattle.my_opts.specs.Url.{options_of}
-use Rattle.my_conn.proofs.Shaking.{no_memory_so}
+use Rattle.my_conn.proofs.Making.{no_memory_so}
 use Rattle.my_conn.proofs.conn.Conn.from_url.Goals as goal
 
 pub returns-clause-news : goal.returns-clause-news
-returns-clause-news g c = no_memory_so g.L.Link.looks (options_of c.args.url.now) (g.L.Link.looks c.args.link)
+returns-clause-news g c = no_memory_so g.L.Link.looks (options_of c.args.url.now) _

@@ -1,11 +1,12 @@
 use Rattle.std.proofs.Common.{inl, refl, subst}
-use Rattle.my_client.specs.Login.{login_of}
-use Rattle.my_conn.specs.News.{WhyUnmade}
-use Rattle.my_conn.proofs.Shaking.{begun_connects}
+use Rattle.my_session.specs.Login.{login_of}
+use Rattle.my_line.specs.Waits.{IsShaken, WhyUnmade}
+use Rattle.my_conn.specs.News.{Given, IsFirst}
+use Rattle.my_conn.proofs.Making.{begun_connects, new_is, unread_first}
 use Rattle.my_conn.proofs.conn.Conn.new.Goals as goal
 
-pub returns-in-Err-clause-news : goal.returns-in-Err-clause-news
-returns-in-Err-clause-news g c = (g.L.Link.looks c.args.link, inl refl)
+pub returns-in-Err : goal.returns-in-Err
+returns-in-Err g c = (g.L.Link.looks c.args.link, inl refl)
 
 pub made-requires : goal.made-requires
 made-requires g c =
@@ -13,10 +14,23 @@ made-requires g c =
     let u = c.in-Ok-shake_hands.ensures.shakes login (begun_connects login _ _ c.in-Ok.ensures.asked c.in-Ok.ensures.kept) in
     (login, u.end, u.stands)
 
-pub returns-in-Err-shake_hands-clause-news : goal.returns-in-Err-shake_hands-clause-news
-returns-in-Err-shake_hands-clause-news g c =
+pub returns-in-Err-shake_hands : goal.returns-in-Err-shake_hands
+returns-in-Err-shake_hands g c =
     let login = login_of c.args.opts in
     let look = g.L.Link.looks in (
       look c.shake_hands.new.link,
       subst (λ l. WhyUnmade login (look l) (look c.shake_hands.new.link) c.in-Err-shake_hands.error) c.in-Ok.ensures.link (c.in-Err-shake_hands.ensures.shakes login (begun_connects login _ _ c.in-Ok.ensures.asked c.in-Ok.ensures.kept)),
     )
+
+pub returns-in-Ok-shake_hands : goal.returns-in-Ok-shake_hands
+returns-in-Ok-shake_hands g c =
+    let look = g.L.Link.looks in
+    let login = login_of c.args.opts in
+    let given : Given = record { looks = look c.args.link; is_socket = g.L.Link.socket c.args.link; now = c.args.now; random = c.args.random } in
+    let begun = begun_connects login _ _ c.in-Ok.ensures.asked c.in-Ok.ensures.kept in
+    let first : IsFirst c.args.opts given c.in-Ok.begun.session = record {
+      unread = unread_first login _ _ c.in-Ok.ensures.asked.rests c.in-Ok.ensures.kept;
+      lifetime = c.in-Ok.ensures.lifetime;
+    } in
+    let shaken : IsShaken login c.args.now (look c.args.link) (look c.shake_hands.new.link) c.in-Ok.begun.session c.shake_hands.new.session c.shake_hands.new.tape = subst (λ l. IsShaken login c.args.now (look l) (look c.shake_hands.new.link) c.in-Ok.begun.session c.shake_hands.new.session c.shake_hands.new.tape) c.in-Ok.ensures.link (c.in-Ok-shake_hands.ensures.shakes login begun) in
+    rw (c.made.ensures) (new_is look c.args.opts given c.first-fixed.result c.in-Ok.begun.session c.shake_hands.new.session c.shake_hands.new.link c.shake_hands.new.tape c.first-fixed.ensures first shaken c.in-Ok-shake_hands.ensures.keeps)

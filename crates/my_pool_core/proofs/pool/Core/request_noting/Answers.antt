@@ -74,3 +74,8 @@ returns-clause-ok g c =
     let e : is_at_end s ≡ false = ap is_at_end c.self.view_is ∙ sym c.is_at_end-at_end.ensures ∙ c.if-at_end.false in
     let spare = c.max-self-inside-2.ensures ∙ ap (λ k. max s.spare (k + 1)) n in
     request-is s _ _ _ (request-next s e) (cc (c.in_ok-add.ensures.ok, spare, ap (λ x. x.list) c.reserve.ensures.same, ap (λ x. x.next) c.reserve.ensures.same, ap (λ x. x.list) c.expect.ensures.same, ap (λ x. x.next) c.expect.ensures.same)) c.self.view_is
+
+pub returns-then-at_end-clause-none : goal.returns-then-at_end-clause-none
+returns-then-at_end-clause-none g c = λ before_end.
+    let e = ap is_at_end c.self.view_is ∙ sym c.is_at_end-at_end.ensures ∙ c.if-at_end.true in
+    absurd (cc (before_end, e))

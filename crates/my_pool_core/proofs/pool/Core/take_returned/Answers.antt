@@ -1,7 +1,6 @@
 use Rattle.std.proofs.Common.{sym, ap, ◌∙◌, arith}
 use Rattle.my_pool_core.specs.contracts.pool.Core.{the_view}
 use Rattle.my_pool_core.proofs.Keeping.{next-there, kept-next}
-use Rattle.my_pool_parts.specs.Connections.{next_to_clean}
 use Rattle.my_pool_core.proofs.pool.Core.take_returned.Goals as goal
 
 pub move_to-requires : goal.move_to-requires

@@ -1,12 +1,13 @@
 use Rattle.std.proofs.Common.{◌≡◌, ◌+◌, Option, Some, None, List, ℕ, ap, ◌∙◌, subst, length, take, rules, arith}
 use Rattle.my_script.specs.Cut.{pieces_left}
 use Rattle.my_script.specs.Line.{line_of}
-use Rattle.my_script.specs.Script.{Script, Bad, front, with_item, script_from, script_of, admitted}
+use Rattle.my_script.specs.Script.{Script, Good, Bad, front, with_item, script_from, script_of, admitted}
 use Rattle.my_script.proofs.Scripts.{line_bad, line_good, text_of, less_left, left_over}
+use Rattle.my_script.proofs.Scripts.Standing.{stands_in}
 use Rattle.my_script.proofs.reading.script.read_script.Goals as goal
 
-pub returns-in_default-admitted : goal.returns-in_default-admitted
-returns-in_default-admitted c =
+pub returns-in_default-admitted-clause-read : goal.returns-in_default-admitted-clause-read
+returns-in_default-admitted-clause-read c =
     let none : admitted c.args.plans c.lines.sofar c.in_ok-item.item ≡ None = search rules in
     let is : text_of c.lines.rest ≡ Some c.in-Some.text.now = search rules in
     ap (λ n. Bad n c.in_ok-bad_line.field-0.text) c.in_ok-bad_line.ensures.number
@@ -26,3 +27,6 @@ lines-preserved c =
           (subst (λ (r : Option (List ℕ)). front c.lines.script.plan.items c.lines.script.steps.items (script_from c.args.plans c.lines.sofar c.lines.number (pieces_left 10 r)) ≡ script_of c.args.plans c.args.bytes.now) is c.lines.invariant.so);
       small = omega (arith, c.lines.invariant.small, size, less);
     }
+
+pub returns-clause-stands : goal.returns-clause-stands
+returns-clause-stands c = stands_in c.args.plans c.args.bytes.now (Good c.lines.script.plan.items c.lines.script.steps.items) (search rules)

@@ -6,8 +6,8 @@ use Rattle.my_session.specs.View.{View}
 use Rattle.my_session.specs.declared.session.payload.FoundPayload.{FoundPayload}
 use Rattle.my_session.proofs.session.Session.read.Goals as goal
 
-pub returns-in-Ok-Some : goal.returns-in-Ok-Some
-returns-in-Ok-Some c =
+pub returns-in-Ok-Some-clause-does : goal.returns-in-Ok-Some-clause-does
+returns-in-Ok-Some-clause-does c =
     let inside = c.self.inside in
     let n = inside.number in
     let limit = inside.context.terms.limit in
@@ -16,4 +16,4 @@ returns-in-Ok-Some c =
     let here = subst (λ (bytes : List ℕ). Finds bytes (front_at n limit bytes) (Ok (Some found))) c.as_slice.ensures some in
     let e = subst (λ (v : View). front_at v.seen.number v.seen.context.terms.limit v.seen.unread ≡ Whole (payload_in v.seen.unread found) (drop found.span.len v.seen.unread) found.span.next) c.self.view_is here.whole in
     let s = c.args.self.now.seen in
-    subst (λ (f : Front). Does (reading s f) s c.read_payload.new.self.seen c.read_payload.result) (sym e) c.read_payload.ensures
+    subst (λ (f : Front). Does (reading s f) s c.read_payload.new.self.seen c.read_payload.result) (sym e) c.read_payload.ensures.does

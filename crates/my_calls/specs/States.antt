@@ -1,0 +1,34 @@
+-- What a state of a call does, and what a caller gets of it.
+use Rattle.std.specs.Prelude.{ℕ, ◌≡◌, Option, Some, None}
+use Rattle.std.specs.declared.result.Result.{Result}
+use Rattle.std.specs.declared.result.Result.TheVariants.{Ok, Err}
+use Rattle.my_link.specs.Looks.{Looks}
+use Rattle.my_link.specs.declared.met.Met.{Met}
+use Rattle.my_packets.specs.declared.poll.Poll.{Poll}
+use Rattle.my_packets.specs.declared.poll.Poll.TheVariants as polls
+use Rattle.my_reading.specs.declared.answer.Answer.{Answer}
+use Rattle.my_reading.specs.declared.call.Call.{Call}
+use Rattle.my_reading.specs.declared.call.CallKind.{CallKind}
+use Rattle.my_reading.specs.declared.error.Error.{Error}
+use Rattle.my_client.specs.declared.poll.After.{After}
+use Rattle.my_client.specs.declared.poll.After.TheVariants.{Pending, Answered, Failed}
+use Rattle.my_conn.specs.Calls.{CallIs}
+use Rattle.my_conn.specs.Cancels.{CancelIs}
+use Rattle.my_conn.specs.Conn.{ConnSeen}
+
+-- by what the poll of a call came to, and what its answer is to the caller
+abbrev pub returned_by : {A : Type 0} → (Answer → A) → After → Poll (Result A Error)
+returned_by answer_of Pending = polls.Pending
+returned_by answer_of (Answered answer) = polls.Ready (Ok (answer_of answer))
+returned_by answer_of (Failed error) = polls.Ready (Err error)
+
+-- a poll of the call, of which a caller gets this
+abbrev pub PollIs : {L A : Type 0} → (L → Looks) → (Answer → A) → ℕ → CallKind → Option Call → ConnSeen L → ConnSeen L
+    → Poll (Result A Error) → Type 0
+PollIs look answer_of now c call old new result = (m : Met) × (after : After) × (result ≡ returned_by answer_of after)
+    × CallIs look now c call old new m after
+
+-- a call that wasn't polled leaves all as it is
+abbrev pub StateCancels : {L : Type 0} → Option Call → ConnSeen L → ConnSeen L → Type 0
+StateCancels None old new = CancelIs old new
+StateCancels (Some call) old new = new ≡ old

@@ -1,0 +1,155 @@
+//! The calls of a connection: each kind has a state by which it is polled by hand.
+ghost use Rattle.std.specs.Prelude.{◌≡◌, Some};
+ghost use Rattle.my_reading.specs.declared.call.Call.TheVariants as calls;
+ghost use Rattle.my_reading.specs.declared.call.CallKind.TheVariants as kinds;
+ghost use Rattle.my_conn.specs.Answers.{done_of, next_of};
+
+use crate::states::{CallState, Returns};
+use my_conn::{NextAnswer, next_answer};
+use my_frame::Blob;
+use my_reading::{Answer, Call, CallKind};
+
+/// A query, until the server accepts it.
+pub type QueryCall = CallState<Query>;
+
+/// The kind of `QueryCall`.
+#[derive(Drop)]
+pub struct Query;
+
+impl Returns for Query {
+    type Answer = ();
+
+    ghost KIND = { kinds.Query };
+
+    const KIND: CallKind = CallKind::Query;
+
+    ghost answer = { done_of };
+
+    fn answer(given: Answer) {
+        let _ = given;
+    }
+}
+
+impl CallState<Query> {
+    pub fn new(text: Blob) -> QueryCall
+        ensures { result.call ≡ Some (calls.Query text) }
+    {
+        CallState::first(Call::Query(text))
+    }
+}
+
+/// A read of the next row.
+pub type NextCall = CallState<NextRow>;
+
+/// The kind of `NextCall`.
+#[derive(Drop)]
+pub struct NextRow;
+
+impl Returns for NextRow {
+    type Answer = NextAnswer;
+
+    ghost KIND = { kinds.NextRow };
+
+    const KIND: CallKind = CallKind::NextRow;
+
+    ghost answer = { next_of };
+
+    fn answer(given: Answer) -> NextAnswer {
+        next_answer(given)
+    }
+}
+
+impl CallState<NextRow> {
+    pub fn new() -> NextCall
+        ensures { result.call ≡ Some calls.NextRow }
+    {
+        CallState::first(Call::NextRow)
+    }
+}
+
+/// A pass over all that is left of a result.
+pub type DropCall = CallState<DropResult>;
+
+/// The kind of `DropCall`.
+#[derive(Drop)]
+pub struct DropResult;
+
+impl Returns for DropResult {
+    type Answer = ();
+
+    ghost KIND = { kinds.DropResult };
+
+    const KIND: CallKind = CallKind::DropResult;
+
+    ghost answer = { done_of };
+
+    fn answer(given: Answer) {
+        let _ = given;
+    }
+}
+
+impl CallState<DropResult> {
+    pub fn new() -> DropCall
+        ensures { result.call ≡ Some calls.DropResult }
+    {
+        CallState::first(Call::DropResult)
+    }
+}
+
+/// A question whether the server is there.
+pub type PingCall = CallState<Ping>;
+
+/// The kind of `PingCall`.
+#[derive(Drop)]
+pub struct Ping;
+
+impl Returns for Ping {
+    type Answer = ();
+
+    ghost KIND = { kinds.Ping };
+
+    const KIND: CallKind = CallKind::Ping;
+
+    ghost answer = { done_of };
+
+    fn answer(given: Answer) {
+        let _ = given;
+    }
+}
+
+impl CallState<Ping> {
+    pub fn new() -> PingCall
+        ensures { result.call ≡ Some calls.Ping }
+    {
+        CallState::first(Call::Ping)
+    }
+}
+
+/// The end of a connection.
+pub type QuitCall = CallState<Quit>;
+
+/// The kind of `QuitCall`.
+#[derive(Drop)]
+pub struct Quit;
+
+impl Returns for Quit {
+    type Answer = ();
+
+    ghost KIND = { kinds.Quit };
+
+    const KIND: CallKind = CallKind::Quit;
+
+    ghost answer = { done_of };
+
+    fn answer(given: Answer) {
+        let _ = given;
+    }
+}
+
+impl CallState<Quit> {
+    pub fn new() -> QuitCall
+        ensures { result.call ≡ Some calls.Quit }
+    {
+        CallState::first(Call::Quit)
+    }
+}

@@ -1,0 +1,108 @@
+-- A connection that is being made, and one that was made.
+use Rattle.std.proofs.Common.{ℕ, ◌≡◌, List, [], ◌∷◌, ◌++◌, Option, Some, None, Result, Ok, Err, inl, inr, is_some, Bool, true, false, refl, sym, ap, ◌∙◌, subst}
+use Rattle.my_grammar.specs.declared.login.Login.{Login}
+use Rattle.my_link.specs.Aid.{Texts}
+use Rattle.my_link.specs.Looks.{Looks}
+use Rattle.my_reading.specs.declared.call.CallKind.{CallKind}
+use Rattle.my_reading.specs.declared.error.Error.TheVariants as errors
+use Rattle.my_opts.specs.Opts.{OptsView}
+use Rattle.my_opts_parts.specs.declared.error.UrlError.{UrlError}
+use Rattle.my_session.specs.Login.{login_of}
+use Rattle.my_session.specs.Seen.{Seen}
+use Rattle.my_session.specs.View.{View}
+use Rattle.my_client.specs.declared.tape.Tape.{Tape}
+use Rattle.my_client.specs.Conn.{kept_in}
+use Rattle.my_client.specs.Kept.{Kept, first_asked, first_kept}
+use Rattle.my_client.specs.Notes.{Agrees}
+use Rattle.my_client.specs.Rests.{IsAsked, Rests}
+use Rattle.my_line.specs.Makes.{ConnectsFor, IsMade, IsMaking, MakesFor, MakesTo, StaysMaking}
+use Rattle.my_line.specs.Stands.{StandsFor}
+use Rattle.my_line.specs.Waits.{IsShaken}
+use Rattle.my_line.specs.declared.texts.Making.{Making}
+use Rattle.my_line.specs.declared.texts.Making.TheVariants.{Shakes, Asks, Drops}
+use Rattle.my_conn.specs.Conn.{Standing}
+use Rattle.my_conn.specs.Connects.{kept_by}
+use Rattle.my_conn.specs.News.{FromUrlIs, Given, IsFirst, IsNew, first_fixed}
+use Rattle.my_conn.specs.declared.conn.Fixed.{Fixed}
+
+pub begun_connects : (login : Login) (s : Seen) (k : Kept) → IsAsked login s k first_asked → k ≡ first_kept → ConnectsFor login s None first_kept first_asked
+begun_connects login s k asked kept = record { asked = subst (λ (k : Kept). IsAsked login s k first_asked) kept asked; agrees = tt; connects = refl }
+
+agrees_by : (keep : Bool) (t : Tape) (k : Kept) → kept_in t ≡ k → Agrees (kept_by keep t) k
+agrees_by true t k e = e
+agrees_by false t k e = tt
+
+pub kept_connects : (login : Login) (s : Seen) (keep : Bool) (t : Tape) → IsAsked login s (kept_in t) first_asked → kept_in t ≡ first_kept → ConnectsFor login s (kept_by keep t) first_kept first_asked
+kept_connects login s keep t asked kept = record { asked = subst (λ (k : Kept). IsAsked login s k first_asked) kept asked; agrees = agrees_by keep t first_kept kept; connects = refl }
+
+pub keeps_by : (keep : Bool) (t : Tape) → is_some (kept_by keep t) ≡ keep
+keeps_by true t = refl
+keeps_by false t = refl
+
+-- nothing was received before the first call
+last_nil : (xs ys : List ℕ) → [] ≡ xs ++ ys → ys ≡ []
+last_nil [] ys e = sym e
+last_nil (x ∷ xs) ys e = absurd (no_first e)
+  where
+    no_first : [] ≡ x ∷ (xs ++ ys) → ⊥
+    no_first e = cc
+
+pub unread_first : (login : Login) (s : Seen) (k : Kept) → Rests login s k → k ≡ first_kept → s.unread ≡ []
+unread_first login s k r kept =
+    let h = r.heard in
+    last_nil _ s.unread (sym (h.kept.taken_is ∙ ap (λ (f : Kept). f.taken) kept) ∙ h.stands.wire.taken_is)
+
+-- a making goes on, or is done
+pub making_on : (texts : Texts) (now : ℕ) (at to : Making) (x y : Looks) (u v : View) (p q : Option Tape) → StaysMaking texts now at to x y u v p q → IsMaking at u.seen p → IsMaking to v.seen q
+making_on texts now at to x y u v p q m w =
+    let f = m.each w.0 w.1 w.2 in
+    (w.0, f.0, f.1)
+
+pub making_stands : (texts : Texts) (now : ℕ) (at : Making) (x y : Looks) (u v : View) (p q : Option Tape) → IsMade texts now at x y u v p q → IsMaking at u.seen p → Standing false v.seen q None
+making_stands texts now at x y u v p q m w =
+    let f = m.each w.0 w.1 w.2 in
+    (w.0, f.0, f.1)
+
+-- what a poll of it comes to
+pub stays_so : (texts : Texts) (now : ℕ) (at to : Making) (x y : Looks) (u v : View) (p q : Option Tape) (o : Option Making) → o ≡ Some to → MakesTo texts now at x y u v p q (Ok o) → StaysMaking texts now at to x y u v p q
+stays_so texts now at to x y u v p q o e w = subst (λ (o : Option Making). MakesTo texts now at x y u v p q (Ok o)) e w
+
+pub made_so : (texts : Texts) (now : ℕ) (at : Making) (x y : Looks) (u v : View) (p q : Option Tape) (o : Option Making) → o ≡ None → MakesTo texts now at x y u v p q (Ok o) → IsMade texts now at x y u v p q
+made_so texts now at x y u v p q o e w = subst (λ (o : Option Making). MakesTo texts now at x y u v p q (Ok o)) e w
+
+-- without its tape it did the same
+untaped : (login : Login) (o : Option CallKind) (s : Seen) (t : Option Tape) (k : Kept) → StandsFor login s t o k → StandsFor login s None o k
+untaped login o s t k w = record { rests = w.rests; stepped = w.stepped; agrees = tt; connected = w.connected; pending_is = w.pending_is }
+
+making_for : (login : Login) (at : Making) (s : Seen) (t : Option Tape) (k : Kept) → MakesFor login at None s t k → MakesFor login at None s None k
+making_for login Shakes s t k w = (refl, w.1, record { asked = w.2.asked; agrees = tt; connects = w.2.connects })
+making_for login (Asks n) s t k w = (w.0, untaped login w.0 s t k w.1, w.2)
+making_for login (Drops n) s t k w = (w.0, untaped login w.0 s t k w.1, w.2)
+
+pub making_untaped : (at : Making) (s : Seen) (t : Option Tape) → IsMaking at s t → IsMaking at s None
+making_untaped at s t w = (w.0, w.1, making_for w.0 at s t w.1 w.2)
+
+-- the handshake is open
+pub making_begins : (login : Login) (s : Seen) (t : Option Tape) → ConnectsFor login s t first_kept first_asked → IsMaking Shakes s t
+making_begins login s t w = (login, first_kept, (refl, first_asked, w))
+
+-- a connection that waited for its handshake
+no_tape : (q : Option Tape) → is_some q ≡ false → q ≡ None
+no_tape None e = refl
+no_tape (Some t) e = cc
+
+pub new_is : {L : Type 0} (look : L → Looks) (opts : OptsView) (g : Given) (f : Fixed) (u v : View) (link : L) (q : Option Tape) → f ≡ first_fixed opts g.now → IsFirst opts g u → IsShaken (login_of opts) g.now g.looks (look link) u v q → is_some q ≡ false → IsNew look opts g (record { seen = v.seen; lifetime = v.lifetime; link = link; tape = q; pending = None; lost = false; fixed = f })
+new_is look opts g f u v link q fixed first shaken none = record {
+  lost = refl;
+  pending = refl;
+  tape = no_tape q none;
+  fixed = fixed;
+  first = u;
+  is_first = first;
+  shaken = shaken;
+}
+
+-- out of memory, whatever the text reads as
+pub no_memory_so : {L : Type 0} (look : L → Looks) (read : Result OptsView UrlError) (g : Given) → FromUrlIs look read g (Err errors.NoMemory)
+no_memory_so look (Ok opts) g = (g.looks, inl refl)
+no_memory_so look (Err e) g = inr refl

@@ -1,0 +1,110 @@
+-- How a connection is made.
+use Rattle.std.proofs.Common.{◌≡◌, inl, inr, ◌||◌, Bool, true, false, Option, Some, None, refl, sym, ap, ◌∙◌, subst}
+use Rattle.my_grammar.specs.declared.login.Login.{Login}
+use Rattle.my_link.specs.Looks.{Looks}
+use Rattle.my_link.specs.declared.met.Met.{Met}
+use Rattle.my_reading.specs.Calls.{kind_of, is_connect}
+use Rattle.my_reading.specs.Told.{told}
+use Rattle.my_reading.specs.declared.answer.Answer.{Answer}
+use Rattle.my_reading.specs.declared.answer.Answer.TheVariants as answers
+use Rattle.my_reading.specs.declared.call.Call.{Call}
+use Rattle.my_reading.specs.declared.call.CallKind.{CallKind}
+use Rattle.my_reading.specs.declared.call.CallKind.TheVariants.{Connect}
+use Rattle.my_session.specs.Entries.{connects, has_connected}
+use Rattle.my_session.specs.Fits.{may_be}
+use Rattle.my_session.specs.Seen.{Seen}
+use Rattle.my_session.specs.Tasks.{is_open}
+use Rattle.my_client.specs.declared.poll.After.{After}
+use Rattle.my_client.specs.declared.poll.After.TheVariants as after
+use Rattle.my_client.specs.declared.tape.Said.TheVariants as says
+use Rattle.my_client.specs.declared.tape.Tape.{Tape}
+use Rattle.my_client.specs.Causes.{IsPolled}
+use Rattle.my_client.specs.Kept.{Asked, Kept, ended_by, made_of}
+use Rattle.my_client.specs.Notes.{Agrees}
+use Rattle.my_client.specs.Reads.{IsStepped}
+use Rattle.my_client.specs.Rests.{Rests}
+use Rattle.my_client.proofs.Hearing.{made_more}
+use Rattle.my_client.proofs.Hearing.Readying.{connect_ready}
+use Rattle.my_line.specs.Calls.{CallFor, Does, EachCall, PendsBy}
+use Rattle.my_line.specs.Makes.{ConnectsFor}
+use Rattle.my_line.specs.Stands.{StandsFor, kind_kept}
+use Rattle.my_line.proofs.Standing.{ends_pend, moves_count, open_kept}
+
+-- there is something that a handshake did
+abbrev pub Connects : Seen → Option Tape → Type 0
+Connects s t = (login : Login) × (k : Kept) × (a : Asked) × ConnectsFor login s t k a
+
+pub connects_open : (s : Seen) (p : Option Tape) → Connects s p → is_open s.task ≡ true
+connects_open s p w = open_kept w.0 s w.1 w.2 w.3.asked.rests w.3.asked.asked
+
+-- the handshake was polled
+pub record Shook (login : Login) (t : Seen) (x y : Looks) (q : Option Tape) (m : Met) (after : After) (k : Kept) (a : Asked) : Type 0 where
+  pub end : Kept
+  pub rests : Rests login t end
+  pub stepped : IsStepped login t end
+  pub agrees : Agrees q end
+  pub polled : IsPolled login a k x m after end y
+
+same_some : (b a : Asked) → Some b ≡ Some a → b ≡ a
+same_some b a e = cc
+
+no_call : (c : Call) → None ≡ Some c → ⊥
+no_call c e = cc
+
+first_true : (b c : Bool) → b ≡ true → b || c ≡ true
+first_true true c e = refl
+first_true false c e = cc
+
+module _ (s t : Seen) (x y : Looks) (p q : Option Tape) (m : Met) (p1 : After) (each : EachCall None s t x y p q m p1) where
+  pub shook : (login : Login) (k : Kept) (a : Asked) → ConnectsFor login s p k a → Shook login t x y q m p1 k a
+  shook login k a w =
+      let f : CallFor login None t q x y k m p1 = each login k (a, w.asked) w.agrees in
+      record { end = f.end; rests = f.rests; stepped = f.stepped; agrees = f.agrees; polled = by_does f.end f.does }
+    where
+      by_does : (end : Kept) → Does login None x y k end m p1 → IsPolled login a k x m p1 end y
+      by_does end (inl d) = subst (λ (b : Asked). IsPolled login b k x m p1 end y) (same_some d.asked a (sym d.pending ∙ w.asked.asked)) d.polled
+      by_does end (inr d) = absurd (no_call d.given d.call_is)
+
+-- it isn't made yet
+module _ (s t : Seen) (x y : Looks) (p q : Option Tape) (m : Met) (each : EachCall None s t x y p q m after.Pending) where
+  pub still : (login : Login) (k : Kept) (a : Asked) → ConnectsFor login s p k a → (end : Kept) × ConnectsFor login t q end a × IsPolled login a k x m after.Pending end y
+  still login k a w =
+      let f : Shook login t x y q m after.Pending k a = shook s t x y p q m after.Pending each login k a w in (
+        f.end,
+        record {
+          asked = record { rests = f.rests; asked = ap (λ (g : Kept). g.pending) f.polled.ends.0 ∙ f.polled.pending };
+          agrees = f.agrees;
+          connects = w.connects;
+        },
+        f.polled,
+      )
+
+  pub pends : Connects s p → PendsBy after.Pending x y m
+  pends w =
+      let f = (shook s t x y p q m after.Pending each w.0 w.1 w.2 w.3).polled in
+      ends_pend w.0 w.2 f.following _ m x f.used.moved y (moves_count f.used.moves x f.used.moved f.used.leads) f.stop after.Pending f.within f.used.stops f.ends
+
+-- it was made
+pub answer_ready : (answer : Answer) (c : CallKind) → c ≡ Connect → may_be c (told answer) ≡ true → answer ≡ answers.Ready
+answer_ready answers.Ready c e m = refl
+answer_ready (answers.Row row) c e m = let no : may_be Connect (told (answers.Row row)) ≡ true = subst (λ (c : CallKind). may_be c (told (answers.Row row)) ≡ true) e m in cc
+answer_ready answers.SetEnd c e m = let no : may_be Connect (told answers.SetEnd) ≡ true = subst (λ (c : CallKind). may_be c (told answers.SetEnd) ≡ true) e m in cc
+answer_ready answers.NoSet c e m = let no : may_be Connect (told answers.NoSet) ≡ true = subst (λ (c : CallKind). may_be c (told answers.NoSet) ≡ true) e m in cc
+
+module _ (s t : Seen) (x y : Looks) (p q : Option Tape) (m : Met) (answer : Answer) (each : EachCall None s t x y p q m (after.Answered answer)) where
+  pub made : (login : Login) (k : Kept) (a : Asked) → ConnectsFor login s p k a → (end : Kept) × StandsFor login t q None end × IsPolled login a k x m (after.Answered answers.Ready) end y
+  made login k a w =
+      let f : Shook login t x y q m (after.Answered answer) k a = shook s t x y p q m (after.Answered answer) each login k a w in
+      let b : Kept = f.polled.following in
+      let end_is : f.end ≡ ended_by b a (says.Answered answer) = f.polled.ends.0 in
+      let connected : has_connected (made_of (ended_by b a (says.Answered answer)).calls) ≡ true = ap has_connected (made_more b.calls (record { call = a.call; sent_from = a.sent_from; taken_from = a.taken_from; said = says.Answered answer })) ∙ first_true (connects (told answer) (kind_of a.call)) (has_connected (made_of b.calls)) (connect_ready (kind_of a.call) answer (ap is_connect w.connects) f.polled.ends.2) in (
+        f.end,
+        record {
+          rests = f.rests;
+          stepped = f.stepped;
+          agrees = f.agrees;
+          connected = subst (λ (g : Kept). has_connected (made_of g.calls) ≡ true) (sym end_is) connected;
+          pending_is = sym (ap kind_kept end_is);
+        },
+        subst (λ (v : Answer). IsPolled login a k x m (after.Answered v) f.end y) (answer_ready answer (kind_of a.call) w.connects f.polled.ends.2) f.polled,
+      )

@@ -1,0 +1,9 @@
+pub mod Noting
+pub mod Calling
+pub mod Standing
+pub mod Cancelling
+pub mod Joins
+pub mod Using
+pub mod Waiting
+pub mod Shaking
+pub mod Points

@@ -1,0 +1,193 @@
+//! A call on a session, from its beginning to its end, noted on the tape, where one is kept.
+ghost use Rattle.std.specs.Prelude.{◌≡◌, ◌≤◌, Some, None, true, false, is_some, IfOk, OnOk};
+ghost use Rattle.my_reading.specs.Calls.{kind_of};
+ghost use Rattle.my_session.specs.Tasks.{is_open};
+ghost use Rattle.my_session.specs.Steps.{AtBegun};
+ghost use Rattle.my_client.specs.Drives.{CancelStands, closed_by, kept_after};
+ghost use Rattle.my_session.specs.Machine.{dropped};
+ghost use Rattle.my_client.specs.Kept.{Asked, Kept, asking, ended_by};
+ghost use Rattle.my_client.specs.Lives.{Lives, made_in};
+ghost use Rattle.my_client.specs.Notes.{Agrees};
+ghost use Rattle.my_client.specs.Turns.{EachPoll};
+ghost use Rattle.my_client.specs.declared.tape.Said.TheVariants as says;
+ghost use Rattle.my_line.specs.Calls.{EachCall, MayStart};
+ghost use Rattle.my_line.specs.Cancels.{EachCancel};
+
+use my_client::{After, Said, Tape, poll_session};
+use my_frame::NoMemory;
+use my_frame::limits::MOST_TAKEN;
+use my_link::{Link, Met};
+use my_reading::Call;
+use my_session::Session;
+use std::alloc::Global;
+
+// Notes that this call begins.
+fn note_call(alloc: Global, tape: &mut Option<Tape>, call: &Call) -> Result<(), NoMemory>
+    ensures noted { OnOk result ((k : Kept) → Agrees tape.old k → Agrees tape.new (asking k call.now None)) }
+    ensures keeps { OnOk result (is_some tape.new ≡ is_some tape.old) }
+{
+    match tape {
+        None => Ok(()),
+        Some(tape) => {
+            let copy = call.copy(alloc)?;
+            tape.ask(copy, None)?;
+            Ok(())
+        }
+    }
+}
+
+// Notes what a poll of the open call came to.
+fn note_after(alloc: Global, tape: &mut Option<Tape>, after: &After) -> Result<(), NoMemory>
+    ensures noted { OnOk result ((k : Kept) (a : Asked) → Agrees tape.old k → k.pending ≡ Some a
+        → Agrees tape.new (kept_after k a after.now)) }
+    ensures keeps { OnOk result (is_some tape.new ≡ is_some tape.old) }
+{
+    match tape {
+        None => Ok(()),
+        Some(tape) => {
+            let _ = tape.keep(alloc, after)?;
+            Ok(())
+        }
+    }
+}
+
+// Polls the session's open call over the link, and notes its bytes on the tape, where one is kept.
+fn poll_noted<L: Link>(
+    alloc: Global,
+    session: &mut Session,
+    link: &mut L,
+    tape: &mut Option<Tape>,
+    now: u64,
+) -> Result<(After, Met), NoMemory>
+    requires { is_open session.old.seen.task ≡ true }
+    ensures polls { IfOk result (λ p. EachPoll Agrees session.old.seen session.new.seen
+        (L.looks link.old) (L.looks link.new) tape.old tape.new p.1 p.0) }
+    ensures within { IfOk result (λ p. p.1.taken ≤ MOST_TAKEN) }
+    ensures lives { IfOk result (λ p. Lives now p.1.taken session.old session.new) }
+    ensures made { made_in session.new ≡ made_in session.old }
+    ensures keeps { OnOk result (is_some tape.new ≡ is_some tape.old) }
+{
+    match tape {
+        Some(kept) => {
+            let (after, met) = poll_session(alloc, session, link, kept, now)?;
+            Ok((after, met))
+        }
+        None => {
+            let mut none = None;
+            let (after, met) = poll_session(alloc, session, link, &mut none, now)?;
+            Ok((after, met))
+        }
+    }
+}
+
+/// Polls the open call once, at the moment `now`.
+pub(crate) fn poll_open<L: Link>(
+    alloc: Global,
+    session: &mut Session,
+    link: &mut L,
+    tape: &mut Option<Tape>,
+    now: u64,
+) -> Result<(After, Met), NoMemory>
+    requires { is_open session.old.seen.task ≡ true }
+    ensures does { IfOk result (λ p. EachCall None session.old.seen session.new.seen
+        (L.looks link.old) (L.looks link.new) tape.old tape.new p.1 p.0) }
+    ensures within { IfOk result (λ p. p.1.taken ≤ MOST_TAKEN) }
+    ensures lives { IfOk result (λ p. Lives now p.1.taken session.old session.new) }
+    ensures made { made_in session.new ≡ made_in session.old }
+    ensures keeps { OnOk result (is_some tape.new ≡ is_some tape.old) }
+{
+    let (after, met) = poll_noted(alloc, session, link, tape, now)?;
+    note_after(alloc, tape, &after)?;
+    Ok((after, met))
+}
+
+// Begins a call, and polls it once.
+fn begin_call<L: Link>(
+    alloc: Global,
+    session: &mut Session,
+    link: &mut L,
+    tape: &mut Option<Tape>,
+    call: Call,
+    now: u64,
+) -> Result<(After, Met), NoMemory>
+    requires idle { is_open session.old.seen.task ≡ false }
+    requires order { session.old.seen.closed ≡ false → AtBegun (kind_of call) session.old.seen.context.spot }
+    ensures does { IfOk result (λ p. EachCall (Some call) session.old.seen session.new.seen
+        (L.looks link.old) (L.looks link.new) tape.old tape.new p.1 p.0) }
+    ensures within { IfOk result (λ p. p.1.taken ≤ MOST_TAKEN) }
+    ensures lives { IfOk result (λ p. Lives now p.1.taken session.old session.new) }
+    ensures made { made_in session.new ≡ made_in session.old }
+    ensures keeps { OnOk result (is_some tape.new ≡ is_some tape.old) }
+{
+    note_call(alloc, tape, &call)?;
+    match session.begin(call) {
+        Ok(()) => poll_open(alloc, session, link, tape, now),
+        Err(error) => {
+            let after = After::Failed(error);
+            let met = Met::nothing();
+            note_after(alloc, tape, &after)?;
+            Ok((after, met))
+        }
+    }
+}
+
+/// Polls a call once, at the moment `now`: `call` begins, or where there is none, the open one goes on.
+pub fn poll_once<L: Link>(
+    alloc: Global,
+    session: &mut Session,
+    link: &mut L,
+    tape: &mut Option<Tape>,
+    call: Option<Call>,
+    now: u64,
+) -> Result<(After, Met), NoMemory>
+    requires { MayStart call session.old.seen }
+    ensures does { IfOk result (λ p. EachCall call session.old.seen session.new.seen
+        (L.looks link.old) (L.looks link.new) tape.old tape.new p.1 p.0) }
+    ensures within { IfOk result (λ p. p.1.taken ≤ MOST_TAKEN) }
+    ensures lives { IfOk result (λ p. Lives now p.1.taken session.old session.new) }
+    ensures made { made_in session.new ≡ made_in session.old }
+    ensures keeps { OnOk result (is_some tape.new ≡ is_some tape.old) }
+{
+    match call {
+        None => return poll_open(alloc, session, link, tape, now),
+        Some(call) => return begin_call(alloc, session, link, tape, call, now),
+    }
+}
+
+// Notes that the open call was cancelled.
+fn note_cancel(tape: &mut Option<Tape>, closing: bool)
+    ensures noted { (k : Kept) (a : Asked) → Agrees tape.old k → k.pending ≡ Some a
+        → Agrees tape.new (ended_by k a (says.Cancelled closing)) }
+    ensures keeps { is_some tape.new ≡ is_some tape.old }
+{
+    match tape {
+        None => {}
+        Some(tape) => {
+            let _ = tape.note(Said::Cancelled(closing));
+        }
+    }
+}
+
+// Cancels the session's open call, and returns whether that closed it.
+fn cancel_session(session: &mut Session) -> bool
+    requires { is_open session.old.seen.task ≡ true }
+    ensures seen { session.new.seen ≡ dropped session.old.seen }
+    ensures stands { CancelStands session.old.seen session.new.seen }
+    ensures closing { result ≡ closed_by session.old.seen session.new.seen }
+    ensures lifetime { session.new.lifetime ≡ session.old.lifetime }
+{
+    let was_closed = session.is_closed();
+    session.cancel();
+    session.is_closed() && !was_closed
+}
+
+/// Cancels the open call. It takes no memory.
+pub fn cancel_open(session: &mut Session, tape: &mut Option<Tape>)
+    requires { is_open session.old.seen.task ≡ true }
+    ensures lifetime { session.new.lifetime ≡ session.old.lifetime }
+    ensures does { EachCancel session.old.seen session.new.seen tape.old tape.new }
+    ensures keeps { is_some tape.new ≡ is_some tape.old }
+{
+    let closing = cancel_session(session);
+    note_cancel(tape, closing);
+}

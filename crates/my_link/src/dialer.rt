@@ -1,0 +1,46 @@
+//! What dials links.
+ghost use Rattle.std.specs.Prelude.{◌≡◌};
+ghost use Rattle.my_link.specs.Outside.{no_counts};
+ghost use Rattle.my_link.specs.Dials.{WorldSeen, SameBut, SameLink, IfLink, IfNoLink, PlaysDial, CountsDial, IsFresh};
+
+use crate::link::Link;
+use my_opts_parts::Target;
+
+/// What the dials of a link do before one gives it, one item after another. With no item left a dial gives the link.
+#[derive(Clone, Copy, Debug, PartialEq, Eq)]
+pub enum DialItem {
+    /// The next dial isn't ready, once.
+    Wait,
+    /// The next dial fails, once.
+    Fail,
+}
+
+/// What a dial returns.
+#[derive(Drop)]
+pub enum DialStep<L> {
+    Link(L),
+    NotYet,
+    Failed,
+}
+
+/// What dials links.
+pub trait Dialer {
+    type L: Link + Drop;
+
+    /// The plan of each link and of its dials where it is known, how often a dial failed and wasn't ready, and what no dial
+    /// changes. A count never falls, and rises with each such result until it is at its greatest value.
+    ghost seen: { Self → WorldSeen };
+
+    /// Dials the link of `number` at `target`.
+    fn dial(&mut self, number: u64, target: &Target) -> DialStep<Self::L>
+        ensures items { IfLink result (λ l. (Self.L.looks l).items ≡ (seen self.old).plans.reads number) }
+        ensures writes { IfLink result (λ l. (Self.L.looks l).writes ≡ (seen self.old).plans.writes number) }
+        ensures got { IfLink result (λ l. IsFresh (Self.L.looks l).got) }
+        ensures counts { IfLink result (λ l. (Self.L.looks l).counts ≡ no_counts) }
+        ensures told { PlaysDial ((seen self.old).plans.dials number) ((seen self.new).plans.dials number) result }
+        ensures kept { IfNoLink result (SameLink (seen self.old).plans (seen self.new).plans number) }
+        ensures others { SameBut number (seen self.old).plans (seen self.new).plans }
+        ensures takes { (seen self.new).takes ≡ (seen self.old).takes }
+        ensures chance { (seen self.new).chance ≡ (seen self.old).chance }
+        ensures dials { CountsDial (seen self.old).dials (seen self.new).dials result };
+}

@@ -1,0 +1,130 @@
+-- A move, and so a step, leaves no more bytes unread than there were.
+use Rattle.std.proofs.Common.{◌≡◌, ℕ, zero, suc, ◌<◌, ◌≤◌, inl, inr, List, [], ◌∷◌, length, Bool, true, false, cond, Option, Some, None, refl, ap, arith}
+use Rattle.my_frame.specs.Front.{Front, Waiting, Broken, Whole, front_at}
+use Rattle.my_value.specs.RowParts.{RowParts}
+use Rattle.my_reply.specs.declared.err.ErrPacket.{ErrPacket}
+use Rattle.my_grammar.specs.declared.spot.Kind.{Kind}
+use Rattle.my_grammar.specs.Kinds.{kind_there}
+use Rattle.my_grammar.specs.Talk.{Talk}
+use Rattle.my_reading.specs.declared.call.CallKind.{CallKind}
+use Rattle.my_reading.specs.Commands.{command_in}
+use Rattle.my_reading.specs.Errors.{invalid_data, unexpected_eof}
+use Rattle.my_reading.specs.Rows.{row_at}
+use Rattle.my_session.specs.declared.answer.SessionStep.{SessionStep}
+use Rattle.my_session.specs.declared.answer.Tick.{Tick}
+use Rattle.my_session.specs.declared.tables.Plan.{Plan}
+use Rattle.my_session.specs.declared.tables.Plan.TheVariants as plans
+use Rattle.my_session.specs.declared.tables.Reaction.{Reaction}
+use Rattle.my_session.specs.declared.tables.Reaction.TheVariants as reactions
+use Rattle.my_session.specs.declared.task.LinkFault.{LinkFault}
+use Rattle.my_session.specs.declared.task.Task.{Task}
+use Rattle.my_session.specs.declared.task.Task.TheVariants.{Nothing, Own, Arranging}
+use Rattle.my_session.specs.Machine as machine
+use Rattle.my_session.specs.Machine.{Move, Sends, Needs, Does, advanced, reply_to, above, unless_above, refused, gave, passed, reacted, read_by, reading, asked, arranged, planned, when_owed, next_by, next}
+use Rattle.my_session.specs.Seen.{Seen}
+use Rattle.my_session.specs.Steps.{Steps, last_tick, moved}
+use Rattle.my_session.specs.Tables.{is_breaking, is_connecting, plan_of, react}
+use Rattle.my_session.specs.Tasks.{fault_in}
+use Rattle.my_grammar.proofs.Cutting.Fronts.{takes_whole}
+use Rattle.my_session.proofs.Steps.Passing.{does_seen}
+
+module _ (s : Seen) where
+  abbrev Fewer : Move → Type 0
+  Fewer m = length m.seen.unread ≤ length s.unread
+
+  refused_if : (b : Bool) (n : Seen) → length n.unread ≤ length s.unread → length (cond b (machine.fell n) (machine.with_task n Nothing n.untold)).unread ≤ length s.unread
+  refused_if true n few = few
+  refused_if false n few = few
+
+  refused_fewer : (n : Seen) (e : Option ErrPacket) → length n.unread ≤ length s.unread → Fewer (refused s n e)
+  refused_fewer n None few = omega arith
+  refused_fewer n (Some e) few = refused_if (is_connecting s.task) n few
+
+  gave_fewer : (n : Seen) (row : Option RowParts) → length n.unread ≤ length s.unread → Fewer (gave s n row)
+  gave_fewer n None few = omega arith
+  gave_fewer n (Some row) few = few
+
+  passed_fewer : (n : Seen) (row : Option RowParts) → length n.unread ≤ length s.unread → Fewer (passed s n row)
+  passed_fewer n None few = omega arith
+  passed_fewer n (Some row) few = few
+
+  reacted_fewer : (n : Seen) (p : List ℕ) (r : Reaction) → length n.unread ≤ length s.unread → Fewer (reacted s n p r)
+  reacted_fewer n p (reactions.Goes t) few = few
+  reacted_fewer n p (reactions.Readies untold) few = few
+  reacted_fewer n p reactions.Takes few = few
+  reacted_fewer n p reactions.Gives few = gave_fewer n (row_at s.facts.columns p) few
+  reacted_fewer n p reactions.Ends few = few
+  reacted_fewer n p reactions.PassesRow few = passed_fewer n (row_at s.facts.columns p) few
+  reacted_fewer n p reactions.PassesEnd few = few
+  reacted_fewer n p reactions.Refuses few = refused_fewer n _ few
+  reacted_fewer n p reactions.Breaks few = omega arith
+
+  unless_fewer : (len : Option ℕ) (m : Move) → Fewer m → Fewer (unless_above s len m)
+  unless_fewer None m few = few
+  unless_fewer (Some len) m few = omega arith
+
+  kind_fewer : (p rest : List ℕ) (next : ℕ) (k : Kind) (breaks : Bool) → length rest < length s.unread → Fewer (cond breaks (machine.failed_by s (invalid_data s.facts.place)) (read_by s (advanced s k p rest next) p (react s.task k) (reply_to s.login k p)))
+  kind_fewer p rest next k true less = omega arith
+  kind_fewer p rest next k false less =
+      unless_fewer (above s.context.terms.limit (reply_to s.login k p)) (reacted s (advanced s k p rest next) p (react s.task k))
+      (reacted_fewer (advanced s k p rest next) p (react s.task k) (omega (arith, less)))
+
+  waiting_fewer : (ended : Bool) → Fewer (cond ended (machine.failed_by s (unexpected_eof s.facts.place)) (record { seen = s; does = Needs }))
+  waiting_fewer true = omega arith
+  waiting_fewer false = omega arith
+
+  front_fewer : (f : Front) → front_at s.number s.context.terms.limit s.unread ≡ f → Fewer (reading s f)
+  front_fewer Waiting at = waiting_fewer s.ended
+  front_fewer (Broken fault) at = omega arith
+  front_fewer (Whole p rest next) at =
+      kind_fewer p rest next (kind_there s.context p) (is_breaking (react s.task (kind_there s.context p)))
+      (takes_whole s.number s.context.terms.limit s.unread p rest next at).shorter
+
+  begins_if : (u : Task) (talk : Talk) (long : Bool) → Fewer (cond long (machine.too_large s s.facts.settings.limit (length (command_in talk))) (record { seen = machine.queued s u talk; does = Sends }))
+  begins_if u talk true = omega arith
+  begins_if u talk false = omega arith
+
+  asked_fewer : (c : CallKind) (talk : Option Talk) → Fewer (asked s c talk)
+  asked_fewer c None = omega arith
+  asked_fewer c (Some talk) = begins_if (Own c) talk _
+
+  arranged_fewer : (n : ℕ) (talk : Option Talk) → Fewer (arranged s n talk)
+  arranged_fewer n None = omega arith
+  arranged_fewer n (Some talk) = begins_if (Arranging (suc n)) talk _
+
+  plan_fewer : (plan : Plan) → Fewer (planned s plan)
+  plan_fewer plans.Reads = front_fewer (front_at s.number s.context.terms.limit s.unread) refl
+  plan_fewer (plans.Starts u) = omega arith
+  plan_fewer plans.Hears = omega arith
+  plan_fewer (plans.Asks c) = asked_fewer c _
+  plan_fewer (plans.Arranges n) = arranged_fewer n _
+  plan_fewer plans.Readies = omega arith
+  plan_fewer plans.Takes = omega arith
+  plan_fewer plans.Quits = omega arith
+  plan_fewer plans.Passes = omega arith
+  plan_fewer plans.Dropped = omega arith
+  plan_fewer plans.Ends = omega arith
+  plan_fewer plans.NoMore = omega arith
+
+  owed_fewer : (owed : List ℕ) → Fewer (when_owed owed s)
+  owed_fewer [] = plan_fewer (plan_of s.task s.context.spot s.untold)
+  owed_fewer (b ∷ bytes) = omega arith
+
+  by_fault : (fault : Option LinkFault) → Fewer (next_by fault s)
+  by_fault (Some fault) = omega arith
+  by_fault None = owed_fewer s.owed
+
+-- what the code did
+does_fewer : (s new : Seen) (t : Tick) → Does (next s) s new t → length new.unread ≤ length s.unread
+does_fewer s new t d =
+    elim (does_seen s new t d) [
+      | inl moved_so ↦ omega (arith, ap (λ (n : Seen). length n.unread) moved_so, by_fault s (fault_in s.task))
+      | inr fell_so ↦ omega (arith, ap (λ (n : Seen). length n.unread) fell_so)
+    ]
+
+moved_fewer : (count : ℕ) (s : Seen) → length (moved count s).unread ≤ length s.unread
+moved_fewer zero s = omega arith
+moved_fewer (suc n) s = omega (arith, by_fault (moved n s) (fault_in (moved n s).task), moved_fewer n s)
+
+pub step_fewer : (old new : Seen) (step : SessionStep) → Steps old new step → length new.unread ≤ length old.unread
+step_fewer old new step w = omega (arith, does_fewer (moved w.count old) new (last_tick step) w.last, moved_fewer w.count old)

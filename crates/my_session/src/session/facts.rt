@@ -1,0 +1,85 @@
+//! What a session knows: what it was made with, what the server said of itself, and whether a rest of a response is unread.
+
+ghost use Rattle.std.specs.Prelude.{◌≡◌};
+ghost use Rattle.std.specs.Option.{option_copied};
+ghost use Rattle.my_session.specs.Rest.{has_rest};
+
+use super::Session;
+use my_grammar::Spot;
+use my_opts::Opts;
+use my_reply::OkPacket;
+
+impl Session {
+    /// The options that it was made with.
+    pub fn opts(&self) -> &Opts
+        ensures { result.now ≡ self.now.lifetime.opts }
+    {
+        &self.opts
+    }
+
+    /// Whether its link is a local socket.
+    pub fn is_socket(&self) -> bool
+        ensures { result ≡ self.now.lifetime.is_socket }
+    {
+        self.is_socket
+    }
+
+    /// The moment at which the connection ends, in milliseconds, where it has one.
+    pub fn deadline(&self) -> Option<u128>
+        ensures { result ≡ self.now.lifetime.deadline }
+    {
+        self.deadline
+    }
+
+    /// The moment at which the last whole payload was read, in milliseconds; 0 before the first.
+    pub fn last_io(&self) -> u64
+        ensures { result ≡ self.now.lifetime.last_io }
+    {
+        self.last_io
+    }
+
+    /// The number of the connection, as the server reported it.
+    pub fn connection_id(&self) -> u32
+        ensures { result ≡ self.now.seen.facts.connection }
+    {
+        self.facts.connection
+    }
+
+    /// The server's version, as it reported it.
+    pub fn version(&self) -> &[u8]
+        ensures { result.now ≡ self.now.seen.facts.version }
+    {
+        self.facts.version.as_slice()
+    }
+
+    /// The longest payload of a command and its answer, in bytes.
+    pub fn limit(&self) -> u64
+        ensures { result ≡ self.now.seen.facts.settings.limit }
+    {
+        self.facts.settings.limit
+    }
+
+    /// After this many seconds without a command the server ends the connection.
+    pub fn wait_timeout(&self) -> u64
+        ensures { result ≡ self.now.seen.facts.settings.wait_timeout }
+    {
+        self.facts.settings.wait_timeout
+    }
+
+    /// The last OK, or the OK that ended a set; none after an ERR.
+    pub fn last_ok(&self) -> Option<&OkPacket>
+        ensures { option_copied result ≡ self.now.seen.facts.ok }
+    {
+        self.facts.ok.as_ref()
+    }
+
+    /// Whether the rest of a response is unread: rows, a further set, or the end of a lone OK.
+    pub fn has_rest(&self) -> bool
+        ensures { result ≡ has_rest self.now.seen }
+    {
+        match self.context.spot {
+            Spot::Idle => self.untold,
+            _ => true,
+        }
+    }
+}
