@@ -38,7 +38,8 @@ fn settle<L>(conn: &TapedConn<L>, number: u64, after: After) -> (bool, Outcome)
 {
     match after {
         After::Pending => (true, Outcome::Pending),
-        After::Answered(_) => {
+        After::Answered(answer) => {
+            drop(answer);
             let id = conn.session.connection_id();
             let version = server_version(conn.session.version());
             (true, Outcome::Connected(number, id, version))
@@ -103,8 +104,13 @@ fn first_call<L: Link + Drop>(
     ensures { IfOk result (λ r. JoinsFirst L.looks (login_of opts.now) number (L.looks link) r.0 r.1) }
 {
     let mut conn = begin_conn(alloc, opts.copy(alloc)?, link, given.now, given.random)?;
-    let worked = join(alloc, &mut conn, number, given.now)?;
-    Ok((place(conn, worked.there), worked.did))
+    match join(alloc, &mut conn, number, given.now) {
+        Ok(worked) => Ok((place(conn, worked.there), worked.did)),
+        Err(error) => {
+            drop(conn);
+            Err(error)
+        }
+    }
 }
 
 // Dials the link of this number at this target, and connects over it.
@@ -186,6 +192,11 @@ pub(crate) fn connect<N: World>(
 {
     let number = slots.len() as u64;
     let (slot, did) = dial_at(alloc, opts, world, number, now)?;
-    slots.push(slot)?;
-    Ok(did)
+    match slots.push(slot) {
+        Ok(()) => Ok(did),
+        Err(error) => {
+            drop(did);
+            Err(error.into())
+        }
+    }
 }

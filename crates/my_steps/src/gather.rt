@@ -51,7 +51,10 @@ fn ask_next<L>(conn: &mut TapedConn<L>, rows: Vec<Row>) -> Result<(), NoMemory>
     ask(conn, Call::NextRow, Some(rows))?;
     match conn.session.begin(Call::NextRow) {
         Ok(()) => Ok(()),
-        Err(_) => unreachable!(),
+        Err(error) => {
+            drop(error);
+            unreachable!()
+        }
     }
 }
 

@@ -61,6 +61,11 @@ pub(crate) fn used_once(alloc: Global, outcome: Outcome, used: Use) -> Result<St
     ensures uses { IfOk result (λ d. d.uses.items ≡ used ∷ []) }
 {
     let mut uses = Vec::new(alloc);
-    uses.push(used)?;
-    Ok(StepResult { outcome, uses })
+    match uses.push(used) {
+        Ok(()) => Ok(StepResult { outcome, uses }),
+        Err(error) => {
+            drop(outcome);
+            Err(error.into())
+        }
+    }
 }

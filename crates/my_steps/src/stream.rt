@@ -54,13 +54,19 @@ fn joined(first: StepResult, second: StepResult) -> Result<StepResult, NoMemory>
     ensures outcome { IfOk result (λ d. d.outcome ≡ second.outcome) }
     ensures uses { IfOk result (λ d. d.uses.items ≡ first.uses.items ++ second.uses.items) }
 {
+    drop(first.outcome);
     let mut uses = first.uses;
     let mut later = second.uses;
-    uses.append(&mut later)?;
-    Ok(StepResult {
-        outcome: second.outcome,
-        uses,
-    })
+    match uses.append(&mut later) {
+        Ok(()) => Ok(StepResult {
+            outcome: second.outcome,
+            uses,
+        }),
+        Err(error) => {
+            drop(second.outcome);
+            Err(error.into())
+        }
+    }
 }
 
 /// Once the rest of the earlier set was passed over, takes the next set.
@@ -77,8 +83,13 @@ pub(crate) fn then_take<L: Link>(
     if !is_done(&skipped.outcome) {
         return Ok(skipped);
     }
-    let took = begin_call(alloc, conn, number, now, Call::TakeSet)?;
-    joined(skipped, took)
+    match begin_call(alloc, conn, number, now, Call::TakeSet) {
+        Ok(took) => joined(skipped, took),
+        Err(error) => {
+            drop(skipped);
+            Err(error)
+        }
+    }
 }
 
 // Whether a stream took the set that is read, or whose end is left, on an open connection.

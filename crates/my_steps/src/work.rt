@@ -109,8 +109,13 @@ fn work_conn<L: Link + Drop>(
     ensures did { IfOk result (λ r. EachDid L.looks number work conn r.0 r.1) }
     ensures linked { IfOk result (λ r. HasLink r.0) }
 {
-    let worked = work_there(alloc, &mut conn, number, now, work)?;
-    Ok((place(conn, worked.there), worked.did))
+    match work_there(alloc, &mut conn, number, now, work) {
+        Ok(worked) => Ok((place(conn, worked.there), worked.did)),
+        Err(error) => {
+            drop(conn);
+            Err(error)
+        }
+    }
 }
 
 // Where the dial wasn't ready: it is tried again, or dropped.
@@ -162,8 +167,12 @@ fn work_on<N: World>(
     match slot {
         Slot::There(conn) => work_conn(alloc, conn, number, now, work),
         Slot::Held => work_held(alloc, opts, world, number, now, work),
-        Slot::Gone => return Ok((Slot::Gone, unused(alloc, Outcome::NoSuchHandle))),
+        Slot::Gone => {
+            drop(work);
+            return Ok((Slot::Gone, unused(alloc, Outcome::NoSuchHandle)));
+        }
         Slot::Ended(conn) => {
+            drop(work);
             return Ok((Slot::Ended(conn), unused(alloc, Outcome::NoSuchHandle)));
         }
     }
@@ -194,10 +203,11 @@ pub(crate) fn work_at<N: World>(
         slots.old.items slots.new.items (λ plans. At number (does_at (login_of opts.now) plans number work)) d) }
 {
     if number >= slots.len() as u64 {
+        drop(work);
         return Ok(unused(alloc, Outcome::NoSuchHandle));
     }
     let slot = mem::replace(&mut slots[number as usize], Slot::Gone);
     let (slot, did) = work_on(alloc, opts, world, slot, number, now, work)?;
-    slots[number as usize] = slot;
+    drop(mem::replace(&mut slots[number as usize], slot));
     Ok(did)
 }

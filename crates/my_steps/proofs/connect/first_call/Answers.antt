@@ -10,12 +10,12 @@ use Rattle.my_steps.specs.Slot.{placed}
 use Rattle.my_steps.proofs.Working.Connecting.{joins_first}
 use Rattle.my_steps.proofs.connect.first_call.Goals as goal
 
-pub returns : goal.returns
-returns g c =
+pub returns-in-Ok : goal.returns-in-Ok
+returns-in-Ok g c =
     let same : c.in_ok-copy.field-0 ≡ c.args.opts.now = search rules in
-    let r = c.in_ok-worked.ensures (login_of c.args.opts.now) first_asked (subst (λ (o : OptsView). IsAsked (login_of o) c.in_ok-conn.conn.session.seen (kept_of c.in_ok-conn.conn) first_asked) same c.in_ok-conn.ensures.asked) in
-    subst (λ (s : Slot g.row.L.Denot). JoinsFirst g.L.Link.looks (login_of c.args.opts.now) c.args.number (g.L.Link.looks c.args.link) s c.in_ok-worked.worked.did) (sym c.place.ensures) (
+    let r = c.in-Ok.ensures (login_of c.args.opts.now) first_asked (subst (λ (o : OptsView). IsAsked (login_of o) c.in_ok-conn.conn.session.seen (kept_of c.in_ok-conn.conn) first_asked) same c.in_ok-conn.ensures.asked) in
+    subst (λ (s : Slot g.row.L.Denot). JoinsFirst g.L.Link.looks (login_of c.args.opts.now) c.args.number (g.L.Link.looks c.args.link) s c.in-Ok.worked.did) (sym c.place.ensures) (
       r.0,
       r.1,
-      joins_first g.L.Link.looks (login_of c.args.opts.now) c.args.number c.args.link c.in_ok-conn.conn (placed c.in_ok-worked.worked.there c.join.new.conn) c.in_ok-worked.worked.did.outcome r.0 c.in_ok-conn.ensures.kept c.in_ok-conn.ensures.link r.2,
+      joins_first g.L.Link.looks (login_of c.args.opts.now) c.args.number c.args.link c.in_ok-conn.conn (placed c.in-Ok.worked.there c.join.new.conn) c.in-Ok.worked.did.outcome r.0 c.in_ok-conn.ensures.kept c.in_ok-conn.ensures.link r.2,
     )

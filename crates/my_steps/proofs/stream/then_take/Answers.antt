@@ -9,8 +9,8 @@ returns-then-not-is_done g c =
     let none : is_done c.args.skipped.outcome ≡ false = search rules in
     λ login w. nothing_after g.L.Link.looks c.args.number login c.args.conn.now c.args.skipped none w
 
-pub returns : goal.returns
-returns g c =
+pub returns-in-Ok : goal.returns-in-Ok
+returns-in-Ok g c =
     let done : is_done c.args.skipped.outcome ≡ true = search rules in
     did_ok c.joined.result _ _ _ c.joined.ensures.outcome c.joined.ensures.uses
-    (λ d e f login w. taken_after g.L.Link.looks c.args.number login c.args.conn.now c.begin_call.new.conn c.args.skipped c.in_ok-took.took d done e f (c.in_ok-took.ensures login w))
+    (λ d e f login w. taken_after g.L.Link.looks c.args.number login c.args.conn.now c.begin_call.new.conn c.args.skipped c.in-Ok.took d done e f (c.in-Ok.ensures login w))

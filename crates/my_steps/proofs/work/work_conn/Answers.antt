@@ -9,8 +9,8 @@ placed_link : {L : Type 0} (b : Bool) (c : TapedConn L) → HasLink (placed b c)
 placed_link true c = tt
 placed_link false c = tt
 
-pub returns-clause-did : goal.returns-clause-did
-returns-clause-did g c = subst (λ (s : Slot g.row.L.Denot). EachDid g.L.Link.looks c.args.number c.args.work c.args.conn s c.in_ok-worked.worked.did) (sym c.place.ensures) c.in_ok-worked.ensures
+pub returns-in-Ok-clause-did : goal.returns-in-Ok-clause-did
+returns-in-Ok-clause-did g c = subst (λ (s : Slot g.row.L.Denot). EachDid g.L.Link.looks c.args.number c.args.work c.args.conn s c.in-Ok.worked.did) (sym c.place.ensures) c.in-Ok.ensures
 
-pub returns-clause-linked : goal.returns-clause-linked
-returns-clause-linked g c = subst (λ (s : Slot g.row.L.Denot). HasLink s) (sym c.place.ensures) (placed_link c.in_ok-worked.worked.there c.work_there.new.conn)
+pub returns-in-Ok-clause-linked : goal.returns-in-Ok-clause-linked
+returns-in-Ok-clause-linked g c = subst (λ (s : Slot g.row.L.Denot). HasLink s) (sym c.place.ensures) (placed_link c.in-Ok.worked.there c.work_there.new.conn)
