@@ -53,10 +53,12 @@ fn end_tape<L: Drop>(alloc: Global, conn: TapedConn<L>, number: u64) -> Result<T
     ensures { IfOk result (λ t. tape_view t ≡ tape_of number (kept_of conn)) }
 {
     let TapedConn {
-        session: _,
-        link: _,
+        session,
+        link,
         tape,
     } = conn;
+    drop(session);
+    drop(link);
     let calls = tape_calls(alloc, tape.calls, tape.pending)?;
     Ok(Tape {
         number,

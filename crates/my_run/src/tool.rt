@@ -218,7 +218,11 @@ fn run_command<S: Source, W: Sink, N: World>(
     match read_word(alloc, command.word) {
         Err(_) => blank(alloc, Status::NoMemory),
         Ok(Err(fault)) => blank(alloc, Status::Refused(fault)),
-        Ok(Ok(opts)) => run_input(alloc, &opts, src, plans, out, world),
+        Ok(Ok(opts)) => {
+            let report = run_input(alloc, &opts, src, plans, out, world);
+            drop(opts);
+            report
+        }
     }
 }
 
