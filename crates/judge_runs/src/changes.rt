@@ -1,6 +1,8 @@
 //! The changes that are made of each transcript. Each is undone by being made again.
 
-use my_script::{StepAnswer, Tape, TapeCall, Transcript};
+use my_reading::{Answer, Error};
+use my_script::{Outcome, StepAnswer, Tape, TapeCall, Transcript};
+use std::mem;
 
 /// One change of a transcript: of a line, of a tape, or of a call on it.
 #[derive(Clone, Copy, Debug, PartialEq, Eq)]
@@ -105,4 +107,54 @@ pub fn toggle(transcript: &mut Transcript, change: Change) {
             }
         }
     }
+}
+
+/// The outcomes that have no parts, by number.
+pub fn outcome_of(kind: usize) -> Outcome {
+    match kind {
+        0 => Outcome::Done,
+        1 => Outcome::Pending,
+        2 => Outcome::SetEnd,
+        3 => Outcome::NoSet,
+        _ => Outcome::NoSuchHandle,
+    }
+}
+
+/// The line's outcome and this one, each in the other's place; false where there is no such line.
+pub fn swap_outcome(transcript: &mut Transcript, line: usize, outcome: &mut Outcome) -> bool {
+    match transcript.answers.as_mut_slice().get_mut(line) {
+        Some(answer) => {
+            mem::swap(&mut answer.outcome, outcome);
+            true
+        }
+        None => false,
+    }
+}
+
+/// No answer, and the answers that have no parts, by number.
+pub fn answer_of(kind: usize) -> Option<Result<Answer, Error>> {
+    match kind {
+        0 => None,
+        1 => Some(Ok(Answer::Ready)),
+        2 => Some(Ok(Answer::SetEnd)),
+        _ => Some(Ok(Answer::NoSet)),
+    }
+}
+
+/// The call's answer and this one, each in the other's place; false where they are the same, or there is no such call.
+pub fn swap_answer(
+    transcript: &mut Transcript,
+    at: usize,
+    call: usize,
+    answer: &mut Option<Result<Answer, Error>>,
+) -> bool {
+    if let Some(tape) = transcript.tapes.as_mut_slice().get_mut(at) {
+        if let Some(call) = tape.calls.as_mut_slice().get_mut(call) {
+            if call.answer != *answer {
+                mem::swap(&mut call.answer, answer);
+                return true;
+            }
+        }
+    }
+    false
 }

@@ -7,10 +7,29 @@ use my_world::WorldLine;
 use std::alloc::Global;
 use std::mem;
 
-// The line at this place, with another one in its place.
-fn put_line(run: &mut Run, at: usize, line: WorldLine) -> Option<WorldLine> {
-    let old = run.read.plan.as_mut_slice().get_mut(at)?;
-    Some(mem::replace(old, line))
+// The line at this place and this one, each in the other's place; false where there is no such line.
+fn swap_line(run: &mut Run, at: usize, line: &mut WorldLine) -> bool {
+    match run.read.plan.as_mut_slice().get_mut(at) {
+        Some(old) => {
+            mem::swap(old, line);
+            true
+        }
+        None => false,
+    }
+}
+
+fn change_line_to(
+    alloc: Global,
+    run: &mut Run,
+    counts: &mut Counts,
+    at: usize,
+    line: &mut WorldLine,
+) -> Result<(), NoMemory> {
+    if swap_line(run, at, line) {
+        counts.count(run.found(alloc)?);
+        swap_line(run, at, line);
+    }
+    Ok(())
 }
 
 fn change_line(
@@ -18,14 +37,11 @@ fn change_line(
     run: &mut Run,
     counts: &mut Counts,
     at: usize,
-    line: WorldLine,
+    mut line: WorldLine,
 ) -> Result<(), NoMemory> {
-    let Some(old) = put_line(run, at, line) else {
-        return Ok(());
-    };
-    counts.count(run.found(alloc)?);
-    let _ = put_line(run, at, old);
-    Ok(())
+    let changed = change_line_to(alloc, run, counts, at, &mut line);
+    drop(line);
+    changed
 }
 
 // Whether the line is a packet, whose number is then another one, or is again.

@@ -69,7 +69,9 @@ fn transcript_of(alloc: Global, word: &str, text: &[u8]) -> Result<Transcript, N
     let mut src = MemSource::new(text.to_vec(alloc)?);
     let mut out = MemSink::new(alloc, 65_536)?;
     let mut world = MemWorld::new(alloc);
-    Ok(run_tool(alloc, &words, &mut src, &mut out, &mut world).transcript)
+    let report = run_tool(alloc, &words, &mut src, &mut out, &mut world);
+    drop(report.status);
+    Ok(report.transcript)
 }
 
 fn lines_of(alloc: Global, text: &[u8]) -> Result<ReadLines, NoMemory> {
@@ -84,24 +86,35 @@ fn lines_of(alloc: Global, text: &[u8]) -> Result<ReadLines, NoMemory> {
 
 fn login_of(alloc: Global, word: &str) -> Result<Option<Login>, NoMemory> {
     match read_word(alloc, word)? {
-        Ok(opts) => Ok(Some(login_for(alloc, &opts)?)),
-        Err(_) => Ok(None),
+        Ok(opts) => {
+            let login = login_for(alloc, &opts);
+            drop(opts);
+            Ok(Some(login?))
+        }
+        Err(fault) => {
+            drop(fault);
+            Ok(None)
+        }
     }
+}
+
+// The lines of a script, and what it printed.
+fn printed(alloc: Global, script: &Script) -> Result<(ReadLines, Transcript), NoMemory> {
+    let text = text_of(alloc, script)?;
+    let read = lines_of(alloc, text.as_slice())?;
+    let transcript = transcript_of(alloc, script.word, text.as_slice())?;
+    Ok((read, transcript))
 }
 
 /// The run of a script; none where the word of its options is refused.
 pub fn run_of(alloc: Global, script: &Script) -> Result<Option<Run>, NoMemory> {
+    let (read, transcript) = printed(alloc, script)?;
     match login_of(alloc, script.word)? {
-        Some(login) => {
-            let text = text_of(alloc, script)?;
-            let read = lines_of(alloc, text.as_slice())?;
-            let transcript = transcript_of(alloc, script.word, text.as_slice())?;
-            Ok(Some(Run {
-                login,
-                read,
-                transcript,
-            }))
-        }
+        Some(login) => Ok(Some(Run {
+            login,
+            read,
+            transcript,
+        })),
         None => Ok(None),
     }
 }

@@ -1,6 +1,6 @@
 //! The run of each script is right, and a line of each changed one is wrong, but where the change is allowed.
 
-use crate::changes::{Change, toggle};
+use crate::changes::{Change, answer_of, outcome_of, swap_answer, swap_outcome, toggle};
 use crate::plans::change_plan;
 use crate::runs::{Run, run_of};
 use crate::scripts::{Script, answered, closing, connecting, held, polled, streamed, writing};
@@ -51,19 +51,25 @@ fn change_outcome(
     run: &mut Run,
     counts: &mut Counts,
     line: usize,
-    outcome: Outcome,
+    mut outcome: Outcome,
 ) -> Result<(), NoMemory> {
-    let Some(old) = put_outcome(run, line, outcome) else {
-        return Ok(());
-    };
-    counts.count(run.found(alloc)?);
-    let _ = put_outcome(run, line, old);
-    Ok(())
+    let changed = change_outcome_to(alloc, run, counts, line, &mut outcome);
+    drop(outcome);
+    changed
 }
 
-fn put_outcome(run: &mut Run, line: usize, outcome: Outcome) -> Option<Outcome> {
-    let answer = run.transcript.answers.as_mut_slice().get_mut(line)?;
-    Some(std::mem::replace(&mut answer.outcome, outcome))
+fn change_outcome_to(
+    alloc: Global,
+    run: &mut Run,
+    counts: &mut Counts,
+    line: usize,
+    outcome: &mut Outcome,
+) -> Result<(), NoMemory> {
+    if swap_outcome(&mut run.transcript, line, outcome) {
+        counts.count(run.found(alloc)?);
+        swap_outcome(&mut run.transcript, line, outcome);
+    }
+    Ok(())
 }
 
 fn is_shown(run: &Run, line: usize, kind: usize) -> bool {
@@ -77,16 +83,6 @@ fn is_shown(run: &Run, line: usize, kind: usize) -> bool {
             _ => false,
         },
         None => true,
-    }
-}
-
-fn outcome_of(kind: usize) -> Outcome {
-    match kind {
-        0 => Outcome::Done,
-        1 => Outcome::Pending,
-        2 => Outcome::SetEnd,
-        3 => Outcome::NoSet,
-        _ => Outcome::NoSuchHandle,
     }
 }
 
@@ -160,25 +156,19 @@ fn is_other(run: &Run, at: usize, call: usize) -> bool {
     }
 }
 
-fn answer_of(kind: usize) -> Option<Result<Answer, Error>> {
-    match kind {
-        0 => None,
-        1 => Some(Ok(Answer::Ready)),
-        2 => Some(Ok(Answer::SetEnd)),
-        _ => Some(Ok(Answer::NoSet)),
-    }
-}
-
-// The call's answer, with another one in its place.
-fn put_answer(
+fn change_answer_to(
+    alloc: Global,
     run: &mut Run,
+    counts: &mut Counts,
     at: usize,
     call: usize,
-    answer: Option<Result<Answer, Error>>,
-) -> Option<Result<Answer, Error>> {
-    let tape = run.transcript.tapes.as_mut_slice().get_mut(at)?;
-    let call = tape.calls.as_mut_slice().get_mut(call)?;
-    std::mem::replace(&mut call.answer, answer)
+    answer: &mut Option<Result<Answer, Error>>,
+) -> Result<(), NoMemory> {
+    if swap_answer(&mut run.transcript, at, call, answer) {
+        counts.count(run.found(alloc)?);
+        swap_answer(&mut run.transcript, at, call, answer);
+    }
+    Ok(())
 }
 
 // The changes of a call's answer: it is open, or ended otherwise.
@@ -190,11 +180,10 @@ fn change_answers(
     call: usize,
 ) -> Result<(), NoMemory> {
     for kind in 0..4 {
-        let old = put_answer(run, at, call, answer_of(kind));
-        if old != answer_of(kind) {
-            counts.count(run.found(alloc)?);
-        }
-        let _ = put_answer(run, at, call, old);
+        let mut answer = answer_of(kind);
+        let changed = change_answer_to(alloc, run, counts, at, call, &mut answer);
+        drop(answer);
+        changed?;
     }
     Ok(())
 }
@@ -256,12 +245,14 @@ fn change_taken(alloc: Global, run: &mut Run, counts: &mut Counts) -> Result<(),
 // The last answer is missing, or the last tape.
 fn change_ends(alloc: Global, run: &mut Run, counts: &mut Counts) -> Result<(), NoMemory> {
     if let Some(answer) = run.transcript.answers.pop() {
-        counts.count(run.found(alloc)?);
+        let found = run.found(alloc);
         run.transcript.answers.push(answer)?;
+        counts.count(found?);
     }
     if let Some(tape) = run.transcript.tapes.pop() {
-        counts.count(run.found(alloc)?);
+        let found = run.found(alloc);
         run.transcript.tapes.push(tape)?;
+        counts.count(found?);
     }
     change_taken(alloc, run, counts)
 }
@@ -288,7 +279,9 @@ fn count_all(rt: &impl Abort, alloc: Global, scripts: &[Script]) -> Result<Sums,
     let mut sums = refuted(0, counted(0, 0));
     for script in scripts {
         if let Some(mut run) = run_of(alloc, script)? {
-            count_run(rt, alloc, &mut run, &mut sums)?;
+            let counted = count_run(rt, alloc, &mut run, &mut sums);
+            drop(run);
+            counted?;
         }
     }
     Ok(sums)
@@ -370,11 +363,11 @@ fn skip_none(run: &mut Run, line: usize, call: usize) {
 
 // Two lines show each other's outcome.
 fn swap_outcomes(run: &mut Run, one: usize, other: usize) {
-    if let Some(first) = put_outcome(run, one, Outcome::Done) {
-        if let Some(second) = put_outcome(run, other, first) {
-            let _ = put_outcome(run, one, second);
-        }
-    }
+    let mut outcome = Outcome::Done;
+    swap_outcome(&mut run.transcript, one, &mut outcome);
+    swap_outcome(&mut run.transcript, other, &mut outcome);
+    swap_outcome(&mut run.transcript, one, &mut outcome);
+    drop(outcome);
 }
 
 // An item that shows the row of another line, or the second of two streams, which passes over nothing.
@@ -390,7 +383,11 @@ fn refutes_streams(alloc: Global, run: &mut Run) -> Result<bool, NoMemory> {
 fn is_stream_refuted(alloc: Global) -> Result<bool, NoMemory> {
     let [script, _, _, _] = streamed();
     match run_of(alloc, &script)? {
-        Some(mut run) => refutes_streams(alloc, &mut run),
+        Some(mut run) => {
+            let refuted = refutes_streams(alloc, &mut run);
+            drop(run);
+            refuted
+        }
         None => Ok(false),
     }
 }
