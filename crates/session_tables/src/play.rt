@@ -48,12 +48,14 @@ pub fn options(
     setup: &str,
 ) -> Result<Opts, NoMemory> {
     let user = String::from_str(alloc, "root")?;
+    let init = texts(alloc, init)?;
+    let setup = texts(alloc, setup)?;
     let builder = OptsBuilder::new(alloc)?
         .user(Some(user))
         .max_allowed_packet(packet_limit)
         .wait_timeout(wait_timeout)
-        .init(texts(alloc, init)?)
-        .setup(texts(alloc, setup)?);
+        .init(init)
+        .setup(setup);
     Ok(Opts::from(builder))
 }
 
@@ -149,6 +151,16 @@ fn show_error(text: &mut String, error: &Error) -> Result<(), AllocError> {
     }
 }
 
+// What a call ended with.
+fn show_end(text: &mut String, end: Result<Answer, Error>) -> Result<(), NoMemory> {
+    let shown = match &end {
+        Ok(answer) => show_answer(text, answer),
+        Err(error) => show_error(text, error),
+    };
+    drop(end);
+    Ok(shown?)
+}
+
 // No more bytes come: whether the call goes on.
 fn end_link(session: &mut Session, then: Then) -> bool
     requires { is_open session.old.seen.task ≡ true }
@@ -197,8 +209,8 @@ fn go_on(
                     return Ok(());
                 }
             }
-            SessionStep::Done(answer) => return Ok(show_answer(text, &answer)?),
-            SessionStep::Fault(error) => return Ok(show_error(text, &error)?),
+            SessionStep::Done(answer) => return show_end(text, Ok(answer)),
+            SessionStep::Fault(error) => return show_end(text, Err(error)),
         }
     }
     Ok(())
@@ -217,7 +229,7 @@ fn begin(
     }
     match session.begin(call) {
         Ok(()) => go_on(alloc, session, bytes, then, text),
-        Err(error) => Ok(show_error(text, &error)?),
+        Err(error) => show_end(text, Err(error)),
     }
 }
 

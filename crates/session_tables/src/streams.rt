@@ -197,7 +197,9 @@ fn show_cut(
     text: &mut String,
 ) -> Result<(), NoMemory> {
     let found = cut_bytes(alloc, login, openings, bytes)?;
-    Ok(show(text, &found, look)?)
+    let shown = show(text, &found, look);
+    drop(found);
+    Ok(shown?)
 }
 
 fn show_stream(
@@ -222,9 +224,18 @@ fn show_case(
     show_stream(alloc, login, openings.as_slice(), case, text)
 }
 
+fn login(alloc: Global) -> Result<Login, NoMemory> {
+    let opts = options(alloc, None, None, "", "")?;
+    let login = login_for(alloc, &opts);
+    drop(opts);
+    login
+}
+
 fn show_example(alloc: Global, case: &Example, text: &mut String) -> Result<(), NoMemory> {
-    let login = login_for(alloc, &options(alloc, None, None, "", "")?)?;
-    show_case(alloc, &login, case, text)
+    let login = login(alloc)?;
+    let shown = show_case(alloc, &login, case, text);
+    drop(login);
+    shown
 }
 
 // Whether the stream is read as it should be.
