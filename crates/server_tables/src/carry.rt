@@ -18,8 +18,9 @@ pub fn options_of(alloc: Global, user: &str, password: Option<&str>) -> Result<O
         Some(text) => Some(String::from_str(alloc, text)?),
         None => None,
     };
+    let user = String::from_str(alloc, user)?;
     let builder = OptsBuilder::new(alloc)?
-        .user(Some(String::from_str(alloc, user)?))
+        .user(Some(user))
         .pass(password)
         .max_allowed_packet(Some(GREATEST_MAX_ALLOWED_PACKET))
         .wait_timeout(Some(60));
@@ -73,8 +74,16 @@ fn carry(
         match session.step(alloc, 0) {
             SessionStep::Send => give(session, server, most)?,
             SessionStep::Need => fetch(alloc, session, server, most)?,
-            SessionStep::Done(answer) => return Ok(is_answer(&answer, want)),
-            SessionStep::Fault(error) => return Ok(is_refusal(&error, want)),
+            SessionStep::Done(answer) => {
+                let is_wanted = is_answer(&answer, want);
+                drop(answer);
+                return Ok(is_wanted);
+            }
+            SessionStep::Fault(error) => {
+                let is_wanted = is_refusal(&error, want);
+                drop(error);
+                return Ok(is_wanted);
+            }
         }
     }
     Ok(false)
@@ -90,10 +99,14 @@ pub fn ends(
     want: Want<'_>,
 ) -> Result<bool, NoMemory> {
     if session.is_open() || !session.may_begin(call.kind()) {
+        drop(call);
         return Ok(false);
     }
     match session.begin(call) {
         Ok(()) => carry(alloc, session, server, most, want),
-        Err(_) => Ok(false),
+        Err(error) => {
+            drop(error);
+            Ok(false)
+        }
     }
 }

@@ -32,7 +32,8 @@ const SCRIPTS: &[(&[u8], &str, ScriptFault)] = &[
 
 fn served(alloc: Global, version: &[u8], answer: &str) -> Result<(), ScriptFault> {
     let replies = [("A", "ok2"), ("B", answer), ("C", "@0")];
-    let _core = server_of(alloc, version, None, &replies)?;
+    let server = server_of(alloc, version, None, &replies)?;
+    drop(server);
     Ok(())
 }
 

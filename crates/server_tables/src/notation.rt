@@ -170,16 +170,16 @@ fn script_of(
 ) -> Result<ServerScript, NoMemory> {
     let version = Blob::from_slice(alloc, version)?;
     let user = Blob::from_slice(alloc, b"root")?;
-    let mut script = ServerScript {
+    let mut list = Listed::new(alloc);
+    add_replies(alloc, &mut list, replies)?;
+    Ok(ServerScript {
         version,
         id: 7,
         nonce: *b"abcdefghijklmnopqrst",
         user,
         stored,
-        replies: Listed::new(alloc),
-    };
-    add_replies(alloc, &mut script.replies, replies)?;
-    Ok(script)
+        replies: list,
+    })
 }
 
 /// A server of a script of the id 7, for the user `root`.

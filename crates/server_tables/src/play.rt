@@ -169,7 +169,9 @@ fn plays(
 ) -> Result<bool, ScriptFault> {
     let replies = [("SELECT 1", "1/1"), ("2", "1/1|1")];
     let mut server = server_of(alloc, VERSION, None, &replies)?;
-    serves(alloc, &mut server, input, most, want, end)
+    let served = serves(alloc, &mut server, input, most, want, end);
+    drop(server);
+    served
 }
 
 /// Whether a server that is handed these bytes sends these and comes to this step, byte by byte and all at once; a long

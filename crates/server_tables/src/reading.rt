@@ -86,7 +86,9 @@ pub fn reads(
     query: &str,
     answer: &str,
 ) -> Result<bool, NoMemory> {
+    let query = Blob::from_slice(alloc, query.as_bytes())?;
     let answer = answer_of(alloc, answer)?;
-    let query = Call::Query(Blob::from_slice(alloc, query.as_bytes())?);
-    reads_answer(alloc, session, server, most, query, &answer)
+    let read = reads_answer(alloc, session, server, most, Call::Query(query), &answer);
+    drop(answer);
+    read
 }

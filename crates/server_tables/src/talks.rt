@@ -153,14 +153,18 @@ fn meets(
 ) -> Result<bool, ScriptFault> {
     let replies = [("A", "n/2"), ("B", answer), ("B", "n/3")];
     let mut server = server_of(alloc, VERSION, talk.stored, &replies)?;
-    is_right(alloc, session, &mut server, most, talk.admitted, answer)
+    let right = is_right(alloc, session, &mut server, most, talk.admitted, answer);
+    drop(server);
+    right
 }
 
 // It alone owns a session.
 fn goes(alloc: Global, talk: &Talk, answer: &str, most: usize) -> Result<bool, ScriptFault> {
     let opts = options_of(alloc, talk.user, talk.password)?;
     let mut session = Session::new(alloc, opts, false, None)?;
-    meets(alloc, &mut session, talk, answer, most)
+    let met = meets(alloc, &mut session, talk, answer, most);
+    drop(session);
+    met
 }
 
 // Whether the talk with this answer goes so, all at once and byte by byte.
