@@ -126,7 +126,9 @@ pub fn is_run<S: Source, W: World>(
     let mut out = MemSink::new(alloc, run.room)?;
     let status = ends_so(alloc, words, src, &mut out, world);
     let is_well = status.code() == run.status && is_shown(out.taken(), run);
-    Ok(is_well && is_cause(alloc, &status, run.cause)?)
+    let is_caused = is_cause(alloc, &status, run.cause);
+    drop(status);
+    Ok(is_well && is_caused?)
 }
 
 /// Whether a run in a world in memory comes to what it should.
