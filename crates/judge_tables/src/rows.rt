@@ -46,7 +46,7 @@ const SELECT: &[u8] = b"\x09\x00\x00\x00\x03SELECT 1";
 
 pub const DO: &[u8] = b"\x05\x00\x00\x00\x03DO 1";
 
-pub const PING: &[u8] = b"\x01\x00\x00\x00\x0e";
+const PING: &[u8] = b"\x01\x00\x00\x00\x0e";
 
 pub const QUIT: &[u8] = b"\x01\x00\x00\x00\x01";
 
@@ -124,8 +124,8 @@ pub const WAITS: Line<'static> = Line {
     ..RETURNS
 };
 
-/// A call on a closed connection.
-pub const CLOSED: Line<'static> = Line {
+// A call on a closed connection.
+const CLOSED: Line<'static> = Line {
     needs: Needs::Nothing,
     ..RETURNS
 };
@@ -152,4 +152,65 @@ pub const SELECTS: Line<'static> = Line {
     sent: SELECT,
     taken: [HEAD, b""],
     ..RETURNS
+};
+
+/// The call of a query that has no columns.
+pub const DO_ONE: Said<'static> = Said::Query(b"DO 1");
+
+/// A query that is answered by an OK.
+pub const DOES: Line<'static> = Line {
+    call: DO_ONE,
+    sent: DO,
+    taken: [OK, b""],
+    ..RETURNS
+};
+
+/// A read of the row.
+pub const READS_ROW: Line<'static> = Line {
+    call: Said::NextRow,
+    taken: [ROW, b""],
+    ending: Told::Row(b"1"),
+    ..RETURNS
+};
+
+/// A read where no set is left.
+pub const READS_NONE: Line<'static> = Line {
+    call: Said::NextRow,
+    ending: Told::NoSet,
+    ..RETURNS
+};
+
+/// A drop where nothing is left to be received.
+pub const DROPS: Line<'static> = Line {
+    call: Said::DropResult,
+    ..RETURNS
+};
+
+/// A ping that is answered.
+pub const PINGS: Line<'static> = Line {
+    call: Said::Ping,
+    sent: PING,
+    taken: [OK, b""],
+    ..RETURNS
+};
+
+/// A read on a closed connection.
+pub const READ_REFUSED: Line<'static> = Line {
+    call: Said::NextRow,
+    ending: Told::Closed,
+    ..CLOSED
+};
+
+/// A ping on a closed connection.
+pub const PING_REFUSED: Line<'static> = Line {
+    call: Said::Ping,
+    ending: Told::Closed,
+    ..CLOSED
+};
+
+/// A quit on a closed connection.
+pub const QUIT_AGAIN: Line<'static> = Line {
+    call: Said::Quit,
+    ending: Told::Ready,
+    ..CLOSED
 };

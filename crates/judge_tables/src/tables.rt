@@ -2,14 +2,13 @@
 
 use crate::changes::{Table, is_right};
 use crate::rows::{
-    CLOSED, CONNECTS, DO, END, ERR, ERR_OF_ROW, Line, Needs, OK, OK_AND_MORE, PING, QUIT, RETURNS,
-    ROW, SELECTS, SETS_UP, Said, Told, WAITS,
+    CONNECTS, DO, DO_ONE, DOES, DROPS, END, ERR, ERR_OF_ROW, Line, Needs, OK, OK_AND_MORE,
+    PING_REFUSED, PINGS, QUIT, QUIT_AGAIN, READ_REFUSED, READS_NONE, READS_ROW, RETURNS, SELECTS,
+    SETS_UP, Said, Told, WAITS,
 };
 use crate::tapes::{Change, SetUp};
 use std::alloc::Global;
 use std::test::Fail;
-
-const DO_ONE: Said<'static> = Said::Query(b"DO 1");
 
 const WAITING: &[Told] = &[
     Told::Open,
@@ -27,15 +26,7 @@ const TABLES: &[Table] = &[
     // A login, of which later tables change nothing.
     Table {
         set_up: SetUp::Plain,
-        lines: &[
-            CONNECTS,
-            Line {
-                call: Said::Ping,
-                sent: PING,
-                taken: [OK, b""],
-                ..RETURNS
-            },
-        ],
+        lines: &[CONNECTS, PINGS],
         checks: &[(0, Change::Missing, Some(0)), (0, Change::Swapped, Some(0))],
         from: 0,
         refuted: 48,
@@ -43,15 +34,7 @@ const TABLES: &[Table] = &[
     // A connection is made once it is set up whole.
     Table {
         set_up: SetUp::Asking,
-        lines: &[
-            SETS_UP,
-            Line {
-                call: Said::Ping,
-                sent: PING,
-                taken: [OK, b""],
-                ..RETURNS
-            },
-        ],
+        lines: &[SETS_UP, PINGS],
         checks: &[
             // The sequence ids of the set's packets and of the OK after them; bytes of both queries.
             (0, Change::TakenByte(92), Some(0)),
@@ -74,44 +57,22 @@ const TABLES: &[Table] = &[
         lines: &[
             CONNECTS,
             SELECTS,
-            Line {
-                call: Said::NextRow,
-                taken: [ROW, b""],
-                ending: Told::Row(b"1"),
-                ..RETURNS
-            },
+            READS_ROW,
             Line {
                 call: Said::NextRow,
                 taken: [END, b""],
                 ending: Told::SetEnd,
                 ..RETURNS
             },
-            Line {
-                call: Said::NextRow,
-                ending: Told::NoSet,
-                ..RETURNS
-            },
-            Line {
-                call: Said::Ping,
-                sent: PING,
-                taken: [OK, b""],
-                ..RETURNS
-            },
+            READS_NONE,
+            PINGS,
             Line {
                 call: Said::Quit,
                 sent: QUIT,
                 ..RETURNS
             },
-            Line {
-                call: Said::Ping,
-                ending: Told::Closed,
-                ..CLOSED
-            },
-            Line {
-                call: Said::Quit,
-                ending: Told::Ready,
-                ..CLOSED
-            },
+            PING_REFUSED,
+            QUIT_AGAIN,
         ],
         checks: &[
             // The cell; a row after its end; the end is gone.
@@ -134,22 +95,13 @@ const TABLES: &[Table] = &[
         set_up: SetUp::Plain,
         lines: &[
             CONNECTS,
-            Line {
-                call: DO_ONE,
-                sent: DO,
-                taken: [OK, b""],
-                ..RETURNS
-            },
+            DOES,
             Line {
                 call: Said::NextRow,
                 ending: Told::SetEnd,
                 ..RETURNS
             },
-            Line {
-                call: Said::NextRow,
-                ending: Told::NoSet,
-                ..RETURNS
-            },
+            READS_NONE,
             Line {
                 call: DO_ONE,
                 sent: DO,
@@ -157,10 +109,7 @@ const TABLES: &[Table] = &[
                 ending: Told::Server,
                 ..RETURNS
             },
-            Line {
-                call: Said::DropResult,
-                ..RETURNS
-            },
+            DROPS,
         ],
         checks: &[
             (2, Change::Missing, Some(2)),
@@ -187,21 +136,9 @@ const TABLES: &[Table] = &[
                 ending: Told::Server,
                 ..RETURNS
             },
-            Line {
-                call: DO_ONE,
-                sent: DO,
-                taken: [OK, b""],
-                ..RETURNS
-            },
-            Line {
-                call: Said::DropResult,
-                ..RETURNS
-            },
-            Line {
-                call: Said::NextRow,
-                ending: Told::NoSet,
-                ..RETURNS
-            },
+            DOES,
+            DROPS,
+            READS_NONE,
         ],
         checks: &[
             (2, Change::Swapped, Some(2)),
@@ -242,12 +179,7 @@ const TABLES: &[Table] = &[
                 taken: [END, b""],
                 ..RETURNS
             },
-            Line {
-                call: Said::Ping,
-                sent: PING,
-                taken: [OK, b""],
-                ..RETURNS
-            },
+            PINGS,
         ],
         checks: &[
             (4, Change::Missing, None),
@@ -269,11 +201,7 @@ const TABLES: &[Table] = &[
                 ending: Told::Unfit(4),
                 ..RETURNS
             },
-            Line {
-                call: Said::Ping,
-                ending: Told::Closed,
-                ..CLOSED
-            },
+            PING_REFUSED,
         ],
         checks: &[],
         from: 1,
@@ -292,11 +220,7 @@ const TABLES: &[Table] = &[
                 needs: Needs::Number,
                 ..RETURNS
             },
-            Line {
-                call: Said::NextRow,
-                ending: Told::Closed,
-                ..CLOSED
-            },
+            READ_REFUSED,
         ],
         checks: &[],
         from: 1,
@@ -334,11 +258,7 @@ const TABLES: &[Table] = &[
                 also: CLOSING,
                 ..WAITS
             },
-            Line {
-                call: Said::NextRow,
-                ending: Told::Closed,
-                ..CLOSED
-            },
+            READ_REFUSED,
         ],
         checks: &[
             (1, Change::Ending(Told::Open), Some(2)),
@@ -365,11 +285,7 @@ const TABLES: &[Table] = &[
                 also: CLOSING,
                 ..WAITS
             },
-            Line {
-                call: Said::NextRow,
-                ending: Told::Closed,
-                ..CLOSED
-            },
+            READ_REFUSED,
         ],
         checks: &[(2, Change::Missing, Some(2))],
         from: 1,
@@ -385,12 +301,7 @@ const TABLES: &[Table] = &[
                 call: Said::TakeSet,
                 ..RETURNS
             },
-            Line {
-                call: Said::NextRow,
-                taken: [ROW, b""],
-                ending: Told::Row(b"1"),
-                ..RETURNS
-            },
+            READS_ROW,
             Line {
                 call: Said::SkipTaken,
                 taken: [END, b""],
@@ -424,16 +335,8 @@ const TABLES: &[Table] = &[
                 also: WAITING,
                 ..WAITS
             },
-            Line {
-                call: Said::Ping,
-                ending: Told::Closed,
-                ..CLOSED
-            },
-            Line {
-                call: Said::Quit,
-                ending: Told::Ready,
-                ..CLOSED
-            },
+            PING_REFUSED,
+            QUIT_AGAIN,
         ],
         checks: &[
             (2, Change::Missing, Some(2)),

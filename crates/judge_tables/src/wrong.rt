@@ -2,7 +2,7 @@
 
 use crate::changes::judged;
 use crate::rows::{
-    CONNECTS, DO, END, LOGGED_IN, Line, OK_AND_MORE, RETURNS, ROW, SELECTS, Said, Told,
+    CONNECTS, DO, DO_ONE, END, LOGGED_IN, Line, OK_AND_MORE, RETURNS, ROW, SELECTS, Said, Told,
 };
 use crate::tapes::{Change, SetUp, changed};
 use my_frame::NoMemory;
@@ -52,7 +52,7 @@ fn line(word: &str) -> Line<'static> {
     let call = match letter(word, 0) {
         b'c' => return CONNECTS,
         b's' => return SELECTS,
-        b'd' => Said::Query(b"DO 1"),
+        b'd' => DO_ONE,
         b't' => Said::TakeSet,
         b'k' => Said::SkipTaken,
         _ => Said::NextRow,
