@@ -104,8 +104,9 @@ impl Walker {
     ) -> Result<bool, NoMemory>
         requires somewhere { IsSomewhere login.now self.old }
         requires index { index < 2 ^ 63 }
-        ensures { let there = λ (w : Walk). LineRight login.now number (seen tape.now) index stream w step.now answer.now in
-            let after = λ (w : Walk). after_line login.now number (seen tape.now) stream w step.now answer.now in
+        ensures { let said = seen tape.now in
+            let there = λ (w : Walk). LineRight login.now number said index stream w step.now answer.now in
+            let after = λ (w : Walk). after_line login.now number said stream w step.now answer.now in
             IfOk result (λ right. Does login.now there after self.old right self.new) }
     {
         if answer.number != index as u64 + 1 {

@@ -5,6 +5,8 @@
 #[cfg(test)]
 mod connects;
 #[cfg(test)]
+mod examples;
+#[cfg(test)]
 mod hex;
 #[cfg(test)]
 mod library;
