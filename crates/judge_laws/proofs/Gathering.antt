@@ -34,7 +34,7 @@ use Rattle.judge_laws.proofs.Tying.{AtWalk, at_begin}
 use Rattle.judge_laws.proofs.Meeting.{ShownBy, met_at_stop}
 use Rattle.judge_laws.proofs.Polling.{HasRest, LastSo, after_so, before_more, begins_here, call_so, ended_so, fits, last_poll, may_end, next_so, poll_back}
 
--- the tape goes on from what stands there
+-- the tape goes on from what is there
 abbrev pub HasTape : Tape → Handle → Type 0
 HasTape t Absent = Unit {0}
 HasTape t (Dialing left) = Unit {0}

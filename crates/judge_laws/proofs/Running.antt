@@ -49,7 +49,7 @@ by_less m n false e = inr (e, grind (arith, nat_tests))
 pub less_or : (m n : ℕ) → ((nat_lt m n ≡ true) × (m < n)) ⊎ ((nat_lt m n ≡ false) × (n ≤ m))
 less_or m n = by_less m n (nat_lt m n) refl
 
--- what stands at a number
+-- what is at a number
 pub past : (hs : List Handle) (n : ℕ) → length hs ≤ n → at_number hs n ≡ Absent
 past [] n e = refl
 past (h ∷ hs) zero e = absurd (omega (arith, e))
@@ -81,7 +81,7 @@ pub push_last : (hs : List Handle) (h : Handle) → at_number (hs ++ h ∷ []) (
 push_last [] h = refl
 push_last (x ∷ hs) h = push_last hs h
 
--- where the walk stands by the handles
+-- the place of the walk by the handles
 pub record Placed (login : Login) (t : Tape) (n : ℕ) (hs : List Handle) (w : Walk) : Type 0 where
   pub there : n < length hs → Tied login t (at_number hs n) w
   pub ahead : length hs ≤ n → (w.spot.status ≡ status.Ahead (n - length hs)) × AtWalk login nothing_kept w
@@ -137,7 +137,7 @@ names_one (steps.Cancel n) m e = refl
 names_one (steps.Advance by) m e = cc
 names_one (steps.Random word) m e = cc
 
--- a line is right at a number, and the walk stands there after it
+-- a line is right at a number, and the walk is there after it
 pub record RunsLine (login : Login) (t : Tape) (n : ℕ) (there : Bool) (ts : List Handle) (step : Step) (o : Outcome) (us : List Use) (w : Walk) : Type 0 where
   pub act : Act
   pub act_is : act_with there w.spot.status n w.spot.next w.closed step o (length us) ≡ act

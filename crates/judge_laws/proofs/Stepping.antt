@@ -1,4 +1,4 @@
--- A step at its number: what stands there before and after it, and its line.
+-- A step at its number: what is there before and after it, and its line.
 use Rattle.std.proofs.Common.{◌≡◌, ◌≤◌, ℕ, ◌==◌, List, [], ◌∷◌, length, slice_get, map, Bool, true, false, Option, Some, None, refl, sym, ap, ◌∙◌, subst, if◌then◌else◌}
 use Rattle.std.proofs.lemmas.Bool.{eq-eqb}
 use Rattle.my_value.specs.RowParts.{RowParts}

@@ -93,7 +93,7 @@ module _ (login : Login) (plans : Plans) (t : Tape) (all : AreCalls login (readi
             )));
       }
 
--- the tape of what stands at a number
+-- the tape of what is at a number
 abbrev pub nothing_taped : Tape
 nothing_taped = record { sent = []; taken = []; calls = [] }
 

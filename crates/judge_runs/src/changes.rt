@@ -25,7 +25,7 @@ pub enum Change {
     TapeNumber(usize),
     /// A call began at another byte.
     SentFrom(usize, usize),
-    /// A call and the next one stand in each other's place.
+    /// A call and the next one are swapped.
     Calls(usize, usize),
 }
 

@@ -96,7 +96,7 @@ fn is_end(run: &Run, at: usize) -> bool {
 }
 
 /// Changes each line of the plan that gives bytes, a fault, an end, or a dial that waits or fails: it is taken away, an end
-/// of the first link stands in its place, or a packet has another number.
+/// of the first link is in its place, or a packet has another number.
 pub fn change_plan(alloc: Global, run: &mut Run, counts: &mut Counts) -> Result<(), NoMemory> {
     for at in 0..run.read.plan.len() {
         let given = is_given(run, at);

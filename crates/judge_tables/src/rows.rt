@@ -74,7 +74,7 @@ pub enum Told<'a> {
     /// ERR 1064 42000 X.
     Server,
     Closed,
-    /// Faults after so many packets.
+    /// Faults after `n` packets.
     Link(u64),
     Eof(u64),
     Unfit(u64),

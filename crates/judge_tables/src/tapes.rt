@@ -219,7 +219,7 @@ pub enum Change<'a> {
     /// The call is missing, with its bytes or without them.
     Missing,
     MissingName,
-    /// The call and the next one stand in each other's place.
+    /// The call and the next one are swapped.
     Swapped,
     /// The last byte is counted for the next call.
     SentLater,

@@ -41,7 +41,7 @@ use Rattle.my_run.proofs.Runs.Fitting.{IsFit, AllFit, step_fits}
 said : {L : Type 0} (login : Login) (c : TapedConn L) → StandsBy login c → IsSaid login (kept_of c)
 said login c w = record { history = w.rests.heard.history; kept = w.rests.heard.kept; law = subst (λ l. IsLawful l w.rests.heard.history) w.rests.heard.login_is (each_history c.session.seen w.rests.heard.history w.rests.heard.stands).law; read = is_read login c.session.seen (kept_of c) (kept_of c).pending refl w.rests.read w.stepped.stops }
 
--- what stands at each number is explained
+-- what is at each number is explained
 said_at : {L : Type 0} (look : L → Looks) (login : Login) (plan : Option (List ReadItem)) (items left : Option (List DialItem)) (s : Slot L) → IsStood login s → IsFit plan items (handle_with look left s) → IsExplained login plan items (handle_with look left s)
 said_at look login plan items left Gone w f = tt
 said_at look login plan items left Held w f = f

@@ -259,7 +259,7 @@ dial_fault login plans chance a may is =
     nothing zero = tt
     nothing (suc n) = tt
 
--- a moment that stands still
+-- a moment that stays the same
 pub no_still_moment : NoStillMoment
 no_still_moment login plans before later a first last w =
     let o = one_line w.lines (steps.Advance 5) w.steps_are in

@@ -34,7 +34,7 @@ pub record AnswerView : Type 0 where
 abbrev pub answer_view : StepAnswer → AnswerView
 answer_view a = record { number = a.number; outcome = a.outcome; uses = a.uses.items }
 
--- in order, of lines that stand newest first
+-- in order, of lines, the newest first
 abbrev pub steps_of : List Line → List Step
 steps_of [] = []
 steps_of (l ∷ ls) = steps_of ls ++ l.step ∷ []

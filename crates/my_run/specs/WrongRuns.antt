@@ -73,7 +73,7 @@ DialFault = (login : Login) (plans : Plans) (chance : Chance) (a : StepAnswer) �
     → Headline login plans (record { dials = no_dials; chance = chance })
     (record { dials = one_fault; chance = drawn chance }) (steps.Conn ∷ []) (a ∷ []) []
 
--- `advance 5`, and the moment of the world stands still
+-- `advance 5`, and the moment of the world stays the same
 abbrev pub NoStillMoment : Type 0
 NoStillMoment = (login : Login) (plans : Plans) (before later : Course) (a : StepAnswer) → before.chance.moment ≡ Some 0
     → later.chance.moment ≡ Some 0 → Headline login plans before later (steps.Advance 5 ∷ []) (a ∷ []) [] → ⊥

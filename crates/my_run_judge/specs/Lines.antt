@@ -130,7 +130,7 @@ after_polls login t outcome [] w = w
 after_polls login t outcome (u ∷ []) w = after_last_poll login t outcome u w
 after_polls login t outcome (u ∷ v ∷ us) w = after_polls login t outcome (v ∷ us) (after_row_poll login t u w)
 
--- the calls of a gathering stand from this one on
+-- the calls of a gathering begin with this one
 abbrev pub first_of : Status → ℕ → ℕ
 first_of (Gathers first) next = first
 first_of status next = next
@@ -180,7 +180,7 @@ abbrev pub TakesRight : Login → ℕ → TapeSeen → Walk → Option Call → 
 TakesRight login n t w begun outcome us =
     IsBegun begun (slice_get t.calls w.spot.next) × ArePassed login n t outcome us w
 
--- the use of a dial that gave a link stands before those of the polls
+-- the use of a dial that gave a link comes before those of the polls
 abbrev pub ConnectsRight : Login → ℕ → TapeSeen → Walk → Outcome → List Use → Type 0
 ConnectsRight login n t w outcome [] = ⊥
 ConnectsRight login n t w outcome (u ∷ us) =
@@ -286,7 +286,7 @@ AreLines login n t k s w (step ∷ steps) [] = ⊥
 AreLines login n t k s w (step ∷ steps) (a ∷ bs) = LineRight login n t k s w step a
     × AreLines login n t (k + 1) (stream_by n s step a.outcome) (after_line login n t s w step a) steps bs
 
--- The first line that isn't right is this one; the number of lines stands for the end.
+-- The first line that isn't right is this one; the number of lines means the end.
 abbrev pub FirstWrong : Login → ℕ → TapeSeen → ℕ → ℕ → Stream → Walk → List Step → List StepAnswer → Type 0
 FirstWrong login n t index k s w [] [] = (index ≡ k) × (IsOver login t w w.spot.status → ⊥)
 FirstWrong login n t index k s w [] (a ∷ bs) = index ≡ k

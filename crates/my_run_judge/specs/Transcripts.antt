@@ -29,7 +29,7 @@ AreTapes first most (t ∷ ts) =
     (first ≤ t.number) × (t.number < most) × (0 < length t.calls.items) × AreTapes (t.number + 1) most ts
 
 -- The tapes are of numbers that were dialed, in order; and at each number the lines are right over its tape, or over nothing
--- where it has none. The number after those that were dialed stands for all that weren't.
+-- where it has none. The number after those that were dialed means all that weren't.
 pub record AreRight (login : Login) (steps : List Step) (answers : List StepAnswer) (tapes : List Tape) : Type 0 where
   pub numbered : AreTapes 0 (dialed_in steps) tapes
   pub each : (n : ℕ) → n < dialed_in steps + 1 → AreLines login n (seen_at n tapes) 0 Without (start login n) steps answers
@@ -81,7 +81,7 @@ with_tapes Right false end = Wrong end
 with_tapes (Wrong line) numbered end = Wrong line
 
 -- The first wrong line: at no number one before it is wrong, and at one number it is; or the lines are right, and the tapes aren't
--- those of connections, for which the number of lines stands.
+-- those of connections, for which it is the number of lines.
 pub record IsFirstWrong (login : Login) (steps : List Step) (answers : List StepAnswer) (tapes : List Tape) (line : ℕ)
     : Type 0 where
   pub wrong : IsWrongBelow (FoundAt login steps answers tapes) line (dialed_in steps + 1)

@@ -16,7 +16,7 @@ use Rattle.my_acts.specs.declared.act.Status.{Status}
 use Rattle.my_acts.specs.declared.act.Status.TheVariants.{Ahead}
 use Rattle.my_run_judge.specs.declared.walk.Spot.{Spot}
 
--- where the lines are, and where the reading of the calls that ended stands
+-- where the lines are, and the place of the reading of the calls that ended
 pub record Walk : Type 0 where
   pub spot : Spot
   pub closed : Bool

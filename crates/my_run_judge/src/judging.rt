@@ -21,7 +21,7 @@ use std::alloc::Global;
 #[derive(Clone, Copy, Debug, PartialEq, Eq)]
 pub enum Found {
     Right,
-    /// The first line that isn't right there, with its index from 0; the number of lines stands for the end.
+    /// The first line that isn't right there, with its index from 0; the number of lines means the end.
     Wrong(usize),
 }
 

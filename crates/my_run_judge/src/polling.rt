@@ -43,7 +43,7 @@ fn calls_before(tape: &Tape, first: usize, next: usize) -> &[TapeCall]
     front
 }
 
-/// The calls of a gathering stand from this one on.
+/// The calls of a gathering begin with this one.
 pub fn first_of(status: Status, next: usize) -> usize
     ensures { result ≡ first_of status next }
 {

@@ -28,7 +28,7 @@ Settles c n (after.Answered answer) slot o = (slot ≡ There c)
     × (o ≡ Connected n c.session.seen.facts.connection (version_of c.session.seen.facts.version))
 Settles c n (after.Failed e) slot o = (slot ≡ Ended c) × (o ≡ Failed e)
 
--- a poll of the handshake, and what stands at the number after it
+-- a poll of the handshake, and what is at the number after it
 pub record Joins {L : Type 0} (look : L → Looks) (login : Login) (n : ℕ) (a : Asked) (k : Kept) (x : Looks)
     (slot : Slot L) (o : Outcome) (used : Use) : Type 0 where
   pub stood : IsStood login slot

@@ -33,7 +33,7 @@ has_dialed steps.Conn hs = true
 has_dialed (steps.Poll n) hs = is_dialing (at_number hs n)
 has_dialed _ hs = false
 
--- what the dial met: its use stands first
+-- what the dial met: its use comes first
 abbrev pub dial_met : Bool → List Use → Met
 dial_met true (u ∷ us) = u.met
 dial_met _ us = nothing_met
@@ -49,7 +49,7 @@ chance_by dials (steps.Advance by) chance = chance_on (lines.Advance by) chance
 chance_by dials (steps.Random word) chance = chance_on (lines.Random word) chance
 chance_by dials _ chance = chance_dialed dials chance
 
--- what lines, which stand newest first, make of those before them
+-- what lines, the newest of them first, make of those before them
 abbrev pub moved_by : Chance → List Line → Chance
 moved_by first [] = first
 moved_by first (l ∷ ls) = chance_by (has_dialed l.step (handles_after ls)) l.step (moved_by first ls)

@@ -1,4 +1,4 @@
--- What a step did to what stands at one number, and to all numbers.
+-- What a step did to what is at one number, and to all numbers.
 use Rattle.std.specs.Prelude.{◌≡◌, ◌≤◌, ℕ, List, None, length, Bool, true, false, ◌&&◌}
 use Rattle.my_grammar.specs.declared.login.Login.{Login}
 use Rattle.my_link.specs.Looks.{Looks}
@@ -38,7 +38,7 @@ pub record OpenPolled (login : Login) (n : ℕ) (a : Asked) (t : Seen) (x y : Lo
   pub rests : Rests login t end
   pub stepped : IsStepped login t end
 
--- at number n: what stands there is kept, and the transcript's fact holds
+-- at number n: what is there is kept, and the transcript's fact holds
 pub record Did {L : Type 0} (look : L → Looks) (login : Login) (R : Handle → Outcome → List Use → Handle → Type 0)
     (o : Outcome) (us : List Use) (old new : Slot L) : Type 0 where
   pub stood : IsStood login new
@@ -117,7 +117,7 @@ abbrev pub EachDid : {L : Type 0} → (L → Looks) → ℕ → Work → TapedCo
 EachDid look n work c slot r = (login : Login) → StandsBy login c
     → Did look login (does_at login untold n work) r.outcome r.uses.items (There c) slot
 
--- at number n, in a world with the plans `before`, and `later` after the step: what stands there is kept, the link of a dial that
+-- at number n, in a world with the plans `before`, and `later` after the step: what is there is kept, the link of a dial that
 -- isn't ready stays as it is planned, and the transcript's fact holds
 pub record DidAt {L : Type 0} (look : L → Looks) (login : Login) (plans before later : Plans) (n : ℕ)
     (R : Handle → Outcome → List Use → Handle → Type 0) (o : Outcome) (us : List Use) (old new : Slot L) : Type 0 where
@@ -125,7 +125,7 @@ pub record DidAt {L : Type 0} (look : L → Looks) (login : Login) (plans before
   pub awaited : IsAwaited plans later n new
   pub does : R (handle_with look (before.dials n) old) o us (handle_with look (later.dials n) new)
 
--- what it did to what stands at a number, in a world that told these plans of its link
+-- what it did to what is at a number, in a world that told these plans of its link
 abbrev pub DoesAt : {L : Type 0} → (L → Looks) → Login → Plans → Plans → ℕ → Work → Slot L → Slot L → StepResult → Type 0
 DoesAt look login before later n work old new r = (plans : Plans) → IsAwaited plans before n old → IsStood login old
     → DidAt look login plans before later n (does_at login plans n work) r.outcome r.uses.items old new

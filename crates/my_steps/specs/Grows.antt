@@ -76,7 +76,7 @@ pub record PolledOnce (login : Login) (n : ℕ) (a : Asked) (k : Kept) (x : Look
   pub outcome : o ≡ shown after
   pub left : t ≡ Joined true end link
 
--- a closed session refuses the call at once, and it stands on the tape with that answer
+-- a closed session refuses the call at once, and it is on the tape with that answer
 pub record IsClosed (k : Kept) (x : Looks) (call : Call) (o : Outcome) (us : List Use) (t : Handle) : Type 0 where
   pub outcome : o ≡ Failed connection_closed
   pub uses : us ≡ []
@@ -373,7 +373,7 @@ abbrev pub is_streamed : Option ℕ → List Line → Bool
 is_streamed None ls = false
 is_streamed (Some n) ls = is_there (stream_of n ls)
 
--- the lines stand newest first; each is what its step may come to after the earlier ones
+-- the lines are newest first; each is what its step may come to after the earlier ones
 pub record Grows (login : Login) (plans : Plans) (before : List Line) (l : Line) : Type 0 where
   pub number : l.number ≡ length before + 1
   pub answer : StepGrows login plans (is_streamed (target l.step) before) (handles_after before) l.step l.outcome

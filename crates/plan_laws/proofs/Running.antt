@@ -63,7 +63,7 @@ module _ (n : ℕ) (is : List ReadItem) (ws : List WriteItem) (all : ℕ) where
   abbrev pub first : Left
   first = left_at all 0 is ws
 
-  -- what stands at the number, and what is left of the plan
+  -- what is at the number, and what is left of the plan
   abbrev pub Stands : Handle → Left → Type 0
   Stands Absent left = left ≡ first
   Stands (Dialing items) left = left ≡ first

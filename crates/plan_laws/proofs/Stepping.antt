@@ -25,7 +25,7 @@ use Rattle.my_steps.specs.Sums.{failed_use, held_use, quiet}
 use Rattle.plan_laws.proofs.Spending.{Has}
 use Rattle.plan_laws.proofs.Walking.{OnePoll, Walks, polled_once, walks_both, walks_one}
 
--- from a link on, these polls lead to what stands there
+-- from a link on, these polls lead to what is there
 pub record WalksTo (n : ℕ) (us : List Use) (x : Looks) (taken : List ℕ) (t : Handle) : Type 0 where
   pub there : Bool
   pub kept : Kept
@@ -52,7 +52,7 @@ pub data HeldTo (n : ℕ) (is : List ReadItem) (ws : List WriteItem) (us : List 
   IsLeft : us ≡ [] → t ≡ Absent → HeldTo n is ws us t
   Dials : DialsTo n is ws us t → HeldTo n is ws us t
 
--- by what stands at the number; without a link and a dial nothing is done
+-- by what is at the number; without a link and a dial nothing is done
 abbrev pub Goes : ℕ → List ReadItem → List WriteItem → Handle → List Use → Handle → Type 0
 Goes n is ws Absent us t = (us ≡ []) × (t ≡ Absent)
 Goes n is ws (Dialing left) us t = HeldTo n is ws us t

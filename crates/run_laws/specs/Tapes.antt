@@ -12,7 +12,7 @@ use Rattle.my_steps.specs.Grows.{handles_after}
 use Rattle.my_steps.specs.Handle.{Handle, Absent, Dialing, Joined, at_number}
 use Rattle.my_run.specs.Headline.{Headline}
 
--- what stands at a number has a tape of a client that logs in so
+-- what is at a number has a tape of a client that logs in so
 abbrev pub HasTape : Login → Handle → Type 0
 HasTape login Absent = Unit {0}
 HasTape login (Dialing left) = Unit {0}

@@ -23,7 +23,7 @@ pub fn number_of(digits: &str) -> usize {
     number
 }
 
-// What stands before the mark, and the number after it; 1 where there is no mark.
+// What is before the mark, and the number after it; 1 where there is no mark.
 fn counted(text: &str, mark: char) -> (&str, usize) {
     match text.split_once(mark) {
         Some((item, count)) => (item, number_of(count)),

@@ -30,7 +30,7 @@ use Rattle.my_steps.specs.Grows.{IsRefused, OnConnection, PolledOnce, IsClosed, 
 use Rattle.my_steps.specs.Handle.{Handle, Absent, Dialing, Joined, at_number, put_at}
 use Rattle.my_run.specs.Headline.{FitsLink, HasWaited, waits}
 
--- what stands at a number fits its link's plan, and the items for its dials
+-- what is at a number fits its link's plan, and the items for its dials
 abbrev pub IsFit : Option (List ReadItem) → Option (List DialItem) → Handle → Type 0
 IsFit plan items Absent = Unit {0}
 IsFit plan items (Dialing left) = Told items left HasWaited

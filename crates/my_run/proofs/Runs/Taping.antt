@@ -9,7 +9,7 @@ use Rattle.my_steps.specs.Slot.{handle_of}
 use Rattle.my_link.specs.Looks.{Looks}
 use Rattle.my_run.specs.Tapes.{TapeView, tape_call, tape_at, tapes_in}
 
--- a call goes from the calls to the tape, which stands in reverse
+-- a call goes from the calls to the tape, which is in reverse order
 pub call_on : (calls rest : List DoneCall) (call : DoneCall) (tape more all : List TapeCall) (t : TapeCall) → calls ≡ rest ++ call ∷ [] → t ≡ tape_call call → more ≡ tape ++ t ∷ [] → map tape_call calls ++ reverse tape ≡ all → map tape_call rest ++ reverse more ≡ all
 call_on calls rest call tape more all t e f g i =
     ap (λ ts. map tape_call rest ++ reverse ts) g ∙ ap (λ ts. map tape_call rest ++ ts) (reverse-append tape (t ∷ []))
