@@ -54,6 +54,12 @@ fn waits_on(core: &mut Core, age: u64) -> bool {
         && steps.count() == 1
 }
 
+/// How many ages are compared where a request begins to wait, where each one before it waits: none for the first one,
+/// and else the oldest one with it, and it with the one above it in the heap, which is older.
+fn steps_to_wait(age: u64) -> u64 {
+    if age == 1 { 0 } else { 2 }
+}
+
 /// `waiting` requests wait, and the oldest gets the connection that came back: how many ages are compared from the
 /// last request to `ready`; None where something else happens.
 fn count_steps(core: &mut Core, waiting: u64) -> Result<Option<u64>, NoMemory> {
@@ -63,7 +69,7 @@ fn count_steps(core: &mut Core, waiting: u64) -> Result<Option<u64>, NoMemory> {
     let mut steps = Counted::new();
     for age in 1..=waiting {
         steps = Counted::new();
-        if !asks(core, age, &mut steps)? {
+        if !asks(core, age, &mut steps)? || steps.count() != steps_to_wait(age) {
             return Ok(None);
         }
     }
@@ -123,8 +129,21 @@ const USED: Facts = Facts {
     ..CLEAN
 };
 
+/// A connection whose link is closed.
+const CUT: Facts = Facts {
+    link_closed: true,
+    ..CLEAN
+};
+
 const COMPARING: &[Comparing] = &[
     (1000, AWAITED, &[], PoolEvent::Cancel { age: 1 }),
+    (
+        1000,
+        AWAITED,
+        &[Line::Wait(4), Line::Keep(1000)],
+        PoolEvent::Cancel { age: 1 },
+    ),
+    (LATE, DIALING, &[], PoolEvent::Cancel { age: 0 }),
     (1000, AWAITED, &[], PoolEvent::Detach { conn: 1000 }),
     (1000, AWAITED, &[], PoolEvent::Close),
     (
@@ -147,6 +166,27 @@ const COMPARING: &[Comparing] = &[
         PoolEvent::Done {
             conn: 1000,
             ok: true,
+            facts: CLEAN,
+            now: 0,
+        },
+    ),
+    (
+        1000,
+        AWAITED,
+        &[Line::Back(1000)],
+        PoolEvent::Decide {
+            conn: 1000,
+            facts: CUT,
+            now: 0,
+        },
+    ),
+    (
+        1000,
+        AWAITED,
+        &[Line::Back(1000)],
+        PoolEvent::Done {
+            conn: 1000,
+            ok: false,
             facts: CLEAN,
             now: 0,
         },
