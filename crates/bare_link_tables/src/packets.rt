@@ -347,8 +347,17 @@ fn keeps_two_of(pool: &mut BufferPool) -> Result<bool, NoMemory> {
     )
 }
 
+// A new buffer has room for this many bytes, also one that is filled at once.
+fn has_room(alloc: Global) -> Result<bool, NoMemory> {
+    let mut pool = BufferPool::new(alloc, 2, 10, 4)?;
+    let mut empty = pool.get()?;
+    let mut filled = pool.get_with(b"ab")?;
+    Ok(empty.as_mut().capacity() == 4 && filled.as_mut().capacity() >= 4)
+}
+
 #[test]
 fn ample_buffers(rt: HostRuntime) -> Result<(), Fail> {
-    assert!(rt; keeps_none(rt.alloc())? && keeps_two(rt.alloc())?);
+    let alloc = rt.alloc();
+    assert!(rt; keeps_none(alloc)? && keeps_two(alloc)? && has_room(alloc)?);
     Ok(())
 }
