@@ -1,18 +1,20 @@
 //! Links over sockets of this machine. The test plays the peer itself: what it sends waits in the system until it is read.
 
-use my_frame::{Listed, NoMemory, SourceStep, Text};
+use my_frame::{Blob, Listed, NoMemory, SourceStep, Text};
 use my_link::{
-    CheckStep, Link, MemLink, ReadItem, ReadStep, ReadyLink, WriteStep, Writes, read_blocking,
+    AfterStep, Aid, CheckStep, Link, MemLink, Opening, ReadItem, ReadStep, ReadyLink, WriteItem,
+    WriteStep, Writes, read_blocking,
 };
 use my_net::{Stream, StreamLink, TcpWorld};
 use my_opts_parts::Target;
-use my_world::{DialStep, Dialer, World};
+use my_world::{DialStep, Dialer, MemWorld, World};
 use std::alloc::{AllocError, Global};
 use std::io::{ErrorKind, Read, Write};
 use std::net::{IpAddr, Ipv4Addr, TcpListener};
 use std::os::unix::net::UnixListener;
 use std::test::Fail;
-use std::{env, fs, io, process};
+use std::time::Duration;
+use std::{env, fs, io, process, thread};
 
 // A stream of which every call fails.
 #[derive(Drop)]
@@ -172,15 +174,36 @@ fn a_stream_that_fails(rt: HostRuntime) {
     );
 }
 
-// The clock doesn't go back, and random words differ.
+// The clock goes on by milliseconds, and random words differ.
 #[test]
 fn moments_and_random_words(rt: HostRuntime) {
     let mut world = TcpWorld::new(&rt);
     let first = world.now();
-    assert!(rt; first > 0 && first <= world.now() && world.random() != world.random());
+    thread::sleep(&rt, Duration::from_millis(20));
+    let passed = world.now().saturating_sub(first);
+    assert!(rt; first > 0 && passed >= 20 && passed < 20_000 && world.random() != world.random());
 }
 
-// A link in memory has nothing to be read, which is a fault where a link is to be ready.
+// No file is lent, and no text follows a login.
+fn lends_nothing<A: Aid>(alloc: Global, aid: &mut A) -> Result<bool, NoMemory> {
+    Ok(
+        aid.open_file(b"a") == Opening::Absent
+            && aid.read(&mut [0u8; 1]) == SourceStep::End
+            && aid.next(alloc, 0)? == AfterStep::Done,
+    )
+}
+
+#[test]
+fn worlds_lend_nothing(rt: HostRuntime) -> Result<(), Fail> {
+    let alloc = rt.alloc();
+    assert!(rt;
+        lends_nothing(alloc, &mut MemWorld::new(alloc))?
+            && lends_nothing(alloc, &mut TcpWorld::new(&rt))?
+    );
+    Ok(())
+}
+
+// A link in memory has nothing to be read yet, which is a fault where a link is to be ready.
 fn is_ready(alloc: Global) -> Result<bool, AllocError> {
     let items = vec![in alloc; ReadItem::Wait, ReadItem::End]?;
     let mut link = ReadyLink::new(MemLink::new(alloc, items, Writes::new(alloc)));
@@ -194,8 +217,24 @@ fn is_ready(alloc: Global) -> Result<bool, AllocError> {
     )
 }
 
+// The byte comes once the other link was sent one; a write that isn't ready, or fails, is a fault.
+fn is_asked(alloc: Global) -> Result<bool, NoMemory> {
+    let byte = ReadItem::Bytes(Blob::from_slice(alloc, b"z")?);
+    let items = vec![in alloc; ReadItem::Turn, byte]?;
+    let mut writes = Writes::new(alloc);
+    writes.push(WriteItem::Wait)?;
+    writes.push(WriteItem::Fail)?;
+    let mut link = ReadyLink::new(MemLink::new(alloc, items, writes));
+    let mut buf = [0u8; 1];
+    let is_held = link.write(b"a") == WriteStep::Failed
+        && link.write(b"a") == WriteStep::Failed
+        && link.read(&mut buf) == ReadStep::Failed;
+    let is_sent = link.write(b"a") == WriteStep::Took(1);
+    Ok(is_held && is_sent && link.read(&mut buf) == ReadStep::Got(1) && buf == *b"z")
+}
+
 #[test]
 fn a_ready_link(rt: HostRuntime) -> Result<(), Fail> {
-    assert!(rt; is_ready(rt.alloc())?);
+    assert!(rt; is_ready(rt.alloc())? && is_asked(rt.alloc())?);
     Ok(())
 }
