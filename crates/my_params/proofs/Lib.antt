@@ -1,3 +1,3 @@
 mod Bodies
-mod Filling
+pub mod Filling
 mod Texts

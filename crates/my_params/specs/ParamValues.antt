@@ -1,7 +1,11 @@
 -- Which values are sent for the parameters of a text.
 use Rattle.std.specs.Prelude.{◌≡◌, ℕ, Bool, true, false, List, [], ◌∷◌, length, Vec, Option, Some, None, Result, Ok, Err, ⊤, ◌==◌, nat_eq, if◌then◌else◌}
-use Rattle.std.specs.Cmp.Lexicographic.{pointwise}
+use Rattle.std.specs.Cmp.Lexicographic.{pointwise, slice_cmp}
 use Rattle.std.specs.List.{list_any}
+use Rattle.std.specs.Borrow.{Bor}
+use Rattle.std.specs.BTreeMap.{BTreeMap, get_by}
+use Rattle.std.specs.Ordering.{nat_cmp}
+use Rattle.std.specs.Option.{option_copied}
 use Rattle.my_value.specs.declared.value.Value.{Value}
 use Rattle.my_value.specs.declared.value.Value.TheVariants.{FloatBits, DoubleBits}
 use Rattle.my_params.specs.declared.params.Params.{Params}
@@ -25,6 +29,14 @@ first_of (Some x) o = Some x
 abbrev pub last_value : List ℕ → List (List ℕ × Value) → Option Value
 last_value name [] = None
 last_value name (p ∷ ps) = first_of (last_value name ps) (if pointwise nat_eq p.0 name then Some p.1 else None)
+
+-- what a map has at a name
+abbrev pub value_in : {X : Type 0} → List ℕ → BTreeMap (Bor (List ℕ)) X → Option X
+value_in name index = get_by (λ k. slice_cmp nat_cmp name k.now) index
+
+-- The map has the value of each name that has one.
+abbrev pub HasLastValues : List (List ℕ × Value) → BTreeMap (Bor (List ℕ)) (Bor Value) → Type 0
+HasLastValues pairs index = (name : List ℕ) → option_copied (value_in name index) ≡ last_value name pairs
 
 -- a value before those of the later names, unless it or one of them is missing
 abbrev pub with_value : List ℕ → Option Value → Result (List Value) (List ℕ) → Result (List Value) (List ℕ)

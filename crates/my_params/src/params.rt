@@ -1,15 +1,14 @@
 //! Parameters of a statement.
 
-ghost use Rattle.std.specs.Prelude.{◌≡◌, [], ◌∷◌, ◌++◌, OnOk, IfOk, Option, nat_eq, length};
-ghost use Rattle.std.specs.Option.{option_copied};
-ghost use Rattle.std.specs.Cmp.Lexicographic.{pointwise};
+ghost use Rattle.std.specs.Prelude.{◌≡◌, [], ◌∷◌, ◌++◌, OnOk, IfOk, Option, length};
 ghost use Rattle.std.specs.List.{list_any};
-ghost use Rattle.my_params.specs.ParamValues.{FillsTo, HasValuesOf, MissesOrFails, ResolvesTo, filled, is_float, last_value, resolved, sendable};
+ghost use Rattle.my_params.specs.ParamValues.{FillsTo, HasLastValues, HasValuesOf, MissesOrFails, ResolvesTo, filled, is_float, resolved, sendable};
 
 use my_frame::{Blob, NoMemory, copy_items};
 use my_value::Value;
 use my_value::shown::Lossy;
 use std::alloc::Global;
+use std::collections::BTreeMap;
 use std::fmt;
 
 /// The parameters that a caller gives with a statement.
@@ -114,23 +113,18 @@ fn without_floats(values: Vec<Value>) -> Result<Vec<Value>, ParamsError>
     Ok(values)
 }
 
-fn is_named(pair: &(Blob, Value), name: &Blob) -> bool
-    ensures { result ≡ pointwise nat_eq pair.now.0 name.now }
+// The value of each name that has one: that of the last pair with it.
+fn index_of<'a>(
+    alloc: Global,
+    pairs: &'a [(Blob, Value)],
+) -> Result<BTreeMap<&'a [u8], &'a Value>, NoMemory>
+    ensures { IfOk result (HasLastValues pairs.now) }
 {
-    pair.0 == *name
-}
-
-// The value of the last pair with this name.
-fn value_of<'a>(pairs: &'a [(Blob, Value)], name: &Blob) -> Option<&'a Value>
-    ensures { option_copied result ≡ last_value name.now pairs.now }
-{
-    let mut found = None;
-    for pair in pairs {
-        if is_named(pair, name) {
-            found = Some(&pair.1);
-        }
+    let mut index = BTreeMap::new(alloc);
+    for (name, value) in pairs {
+        index.insert(name.as_slice(), value)?;
     }
-    found
+    Ok(index)
 }
 
 fn missing(alloc: Global, name: &Blob) -> ParamsError
@@ -146,12 +140,15 @@ fn missing(alloc: Global, name: &Blob) -> ParamsError
 fn fill(alloc: Global, names: &[Blob], pairs: &[(Blob, Value)]) -> Result<Vec<Value>, ParamsError>
     ensures { FillsTo result (filled names.now pairs.now) }
 {
+    let Ok(index) = index_of(alloc, pairs) else {
+        return Err(ParamsError::NoMemory);
+    };
     let mut values = Vec::new(alloc);
     for name in names {
-        match value_of(pairs, name) {
+        match index.get(name.as_slice()) {
             None => return Err(missing(alloc, name)),
             Some(value) => {
-                if push_copy(alloc, &mut values, value).is_err() {
+                if push_copy(alloc, &mut values, *value).is_err() {
                     return Err(ParamsError::NoMemory);
                 }
             }

@@ -6,6 +6,8 @@ mod conversions;
 #[cfg(test)]
 mod made;
 #[cfg(test)]
+mod many_names;
+#[cfg(test)]
 mod names;
 #[cfg(test)]
 mod parameters;
