@@ -3,6 +3,7 @@ pub mod Looks
 pub mod Link
 pub mod Moves
 pub mod Check
+pub mod Ready
 pub mod Memory
 pub mod Items
 pub mod Planned

@@ -1,8 +1,8 @@
 //! Links that are always ready.
-ghost use Rattle.std.specs.Prelude.{◌≡◌, ◌<◌, None, length};
-ghost use Rattle.my_link.specs.Check.{read_of};
+ghost use Rattle.std.specs.Prelude.{◌≡◌, ◌<◌, length};
+ghost use Rattle.my_link.specs.Check.{CheckIs, read_of};
 ghost use Rattle.my_frame.specs.Outside.{Rose};
-ghost use Rattle.my_link.specs.Moves.{ReadIs};
+ghost use Rattle.my_link.specs.Moves.{ReadIs, WriteIs};
 
 use crate::link::{CheckStep, Link, ReadStep, WriteStep};
 use my_frame::SourceStep;
@@ -37,22 +37,18 @@ impl<K> ReadyLink<K> {
 }
 
 impl<K: Link> Link for ReadyLink<K> {
-    // It tells nothing of the other link's items.
-    ghost looks = { λ l. record {
-      items = None;
-      writes = None;
-      got = None;
-      counts = record {
-        faults = l.faults;
-        holds = 0;
-        ends = (K.looks l.inner).counts.ends;
-        deaths = (K.looks l.inner).counts.deaths;
-      };
-    } };
+    ghost use Rattle.my_link.specs.Ready.{ready_looks, ReadyRead, ReadyWrite, ReadyCheck};
+
+    ghost looks = { ready_looks K.looks };
 
     ghost socket = { λ l. K.socket l.inner };
 
-    fn read(&mut self, buf: &mut [u8]) -> ReadStep {
+    fn read(&mut self, buf: &mut [u8]) -> ReadStep
+        requires { 0 < length buf.old }
+        ensures looks { ReadIs (ready_looks K.looks self.old) buf.new (ready_looks K.looks self.new) result }
+        ensures socket { K.socket self.new.inner ≡ K.socket self.old.inner }
+        ensures inner { ReadyRead (K.looks self.old.inner) buf.new (K.looks self.new.inner) result }
+    {
         match self.inner.read(buf) {
             ReadStep::Got(count) => ReadStep::Got(count),
             ReadStep::End => ReadStep::End,
@@ -63,7 +59,12 @@ impl<K: Link> Link for ReadyLink<K> {
         }
     }
 
-    fn write(&mut self, bytes: &[u8]) -> WriteStep {
+    fn write(&mut self, bytes: &[u8]) -> WriteStep
+        requires { 0 < length bytes.now }
+        ensures looks { WriteIs (ready_looks K.looks self.old) bytes.now (ready_looks K.looks self.new) result }
+        ensures socket { K.socket self.new.inner ≡ K.socket self.old.inner }
+        ensures inner { ReadyWrite (K.looks self.old.inner) bytes.now (K.looks self.new.inner) result }
+    {
         match self.inner.write(bytes) {
             WriteStep::Took(count) => WriteStep::Took(count),
             WriteStep::NoMemory => WriteStep::NoMemory,
@@ -74,7 +75,11 @@ impl<K: Link> Link for ReadyLink<K> {
         }
     }
 
-    fn check(&mut self) -> CheckStep {
+    fn check(&mut self) -> CheckStep
+        ensures looks { CheckIs (ready_looks K.looks self.old) (ready_looks K.looks self.new) result }
+        ensures socket { K.socket self.new.inner ≡ K.socket self.old.inner }
+        ensures inner { ReadyCheck (K.looks self.old.inner) (K.looks self.new.inner) result }
+    {
         match self.inner.check() {
             CheckStep::Alive => CheckStep::Alive,
             CheckStep::Dead => CheckStep::Dead,
