@@ -107,11 +107,15 @@ impl<R> GlobalHandler for TcpWorld<R> {
 
     ghost file = { λ w. record { left = Some []; faults = 0 } };
 
-    fn open_file(&mut self, _name: &[u8]) -> Opening {
+    fn open_file(&mut self, _name: &[u8]) -> Opening
+        ensures { result ≡ Opening.Absent }
+    {
         Opening::Absent
     }
 
-    fn read(&mut self, _buf: &mut [u8]) -> SourceStep {
+    fn read(&mut self, _buf: &mut [u8]) -> SourceStep
+        ensures { result ≡ SourceStep.End }
+    {
         SourceStep::End
     }
 }
@@ -122,7 +126,9 @@ impl<R> AfterConnect for TcpWorld<R> {
 
     ghost texts = { λ w. no_texts };
 
-    fn next(&mut self, _alloc: Global, _n: u64) -> Result<AfterStep, NoMemory> {
+    fn next(&mut self, _alloc: Global, _n: u64) -> Result<AfterStep, NoMemory>
+        ensures { result ≡ Ok AfterStep.Done }
+    {
         Ok(AfterStep::Done)
     }
 }

@@ -283,11 +283,15 @@ impl GlobalHandler for MemWorld {
 
     ghost file = { λ w. record { left = Some []; faults = 0 } };
 
-    fn open_file(&mut self, _name: &[u8]) -> Opening {
+    fn open_file(&mut self, _name: &[u8]) -> Opening
+        ensures { result ≡ Opening.Absent }
+    {
         Opening::Absent
     }
 
-    fn read(&mut self, _buf: &mut [u8]) -> SourceStep {
+    fn read(&mut self, _buf: &mut [u8]) -> SourceStep
+        ensures { result ≡ SourceStep.End }
+    {
         SourceStep::End
     }
 }
@@ -297,7 +301,9 @@ impl AfterConnect for MemWorld {
 
     ghost texts = { λ w. no_texts };
 
-    fn next(&mut self, _alloc: Global, _n: u64) -> Result<AfterStep, NoMemory> {
+    fn next(&mut self, _alloc: Global, _n: u64) -> Result<AfterStep, NoMemory>
+        ensures { result ≡ Ok AfterStep.Done }
+    {
         Ok(AfterStep::Done)
     }
 }
