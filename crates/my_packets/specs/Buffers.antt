@@ -1,5 +1,5 @@
 -- Buffers, and the pool that keeps some of them.
-use Rattle.std.specs.Prelude.{ℕ, ◌≡◌, ◌+◌, ◌≤◌, ◌&&◌, nat_lt, nat_le, List, [], vec_capacity, if◌then◌else◌}
+use Rattle.std.specs.Prelude.{ℕ, ◌≡◌, ◌+◌, ◌≤◌, ◌&&◌, nat_lt, nat_le, List, [], Vec, vec_len, vec_capacity, if◌then◌else◌}
 use Rattle.std.specs.List.{AllByRecursion}
 use Rattle.my_packets.specs.declared.buffers.PooledBuf.{PooledBuf}
 
@@ -27,7 +27,7 @@ pub record IsSpare (size_cap : ℕ) (b : PooledBuf) : Type 0 where
   pub small : room b ≤ size_cap
 
 -- the buffers that are kept: as many as may be have room in the list
-pub record IsPool (buffers : List PooledBuf) (kept capacity pool_cap size_cap : ℕ) : Type 0 where
-  pub each : AllByRecursion (IsSpare size_cap) buffers
-  pub few : kept ≤ pool_cap
-  pub reserved : pool_cap ≤ capacity
+pub record IsPool {A : Type 0} (buffers : Vec PooledBuf A) (pool_cap size_cap : ℕ) : Type 0 where
+  pub each : AllByRecursion (IsSpare size_cap) buffers.items
+  pub few : vec_len buffers ≤ pool_cap
+  pub reserved : pool_cap ≤ vec_capacity buffers

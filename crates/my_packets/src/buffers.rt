@@ -70,7 +70,7 @@ pub struct BufferPool {
 }
 
 impl Model for BufferPool {
-    ghost use Rattle.std.specs.Prelude.{vec_len, vec_capacity};
+    ghost use Rattle.std.specs.Prelude.{vec_len};
     ghost use Rattle.my_packets.specs.Buffers.{Spare, IsPool};
 
     ghost Value = { Spare };
@@ -82,7 +82,7 @@ impl Model for BufferPool {
       init_cap = p.init_cap;
     } };
 
-    ghost invariant = { λ p. IsPool p.buffers.items (vec_len p.buffers) (vec_capacity p.buffers) p.pool_cap p.size_cap };
+    ghost invariant = { λ p. IsPool p.buffers p.pool_cap p.size_cap };
 }
 
 impl BufferPool {
