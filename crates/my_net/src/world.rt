@@ -108,13 +108,15 @@ impl<R> GlobalHandler for TcpWorld<R> {
     ghost file = { λ w. record { left = Some []; faults = 0 } };
 
     fn open_file(&mut self, _name: &[u8]) -> Opening
-        ensures { result ≡ Opening.Absent }
+        ensures absent { result ≡ Opening.Absent }
+        ensures same { self.new ≡ self.old }
     {
         Opening::Absent
     }
 
     fn read(&mut self, _buf: &mut [u8]) -> SourceStep
-        ensures { result ≡ SourceStep.End }
+        ensures end { result ≡ SourceStep.End }
+        ensures same { self.new ≡ self.old }
     {
         SourceStep::End
     }
@@ -127,7 +129,8 @@ impl<R> AfterConnect for TcpWorld<R> {
     ghost texts = { λ w. no_texts };
 
     fn next(&mut self, _alloc: Global, _n: u64) -> Result<AfterStep, NoMemory>
-        ensures { result ≡ Ok AfterStep.Done }
+        ensures done { result ≡ Ok AfterStep.Done }
+        ensures same { self.new ≡ self.old }
     {
         Ok(AfterStep::Done)
     }

@@ -284,13 +284,15 @@ impl GlobalHandler for MemWorld {
     ghost file = { λ w. record { left = Some []; faults = 0 } };
 
     fn open_file(&mut self, _name: &[u8]) -> Opening
-        ensures { result ≡ Opening.Absent }
+        ensures absent { result ≡ Opening.Absent }
+        ensures same { self.new ≡ self.old }
     {
         Opening::Absent
     }
 
     fn read(&mut self, _buf: &mut [u8]) -> SourceStep
-        ensures { result ≡ SourceStep.End }
+        ensures end { result ≡ SourceStep.End }
+        ensures same { self.new ≡ self.old }
     {
         SourceStep::End
     }
@@ -302,7 +304,8 @@ impl AfterConnect for MemWorld {
     ghost texts = { λ w. no_texts };
 
     fn next(&mut self, _alloc: Global, _n: u64) -> Result<AfterStep, NoMemory>
-        ensures { result ≡ Ok AfterStep.Done }
+        ensures done { result ≡ Ok AfterStep.Done }
+        ensures same { self.new ≡ self.old }
     {
         Ok(AfterStep::Done)
     }
