@@ -28,6 +28,7 @@ pub type RealLink = StreamLink<RealStream>;
 impl<S: Stream> StreamLink<S> {
     /// A link over a stream whose reads and writes wait.
     pub fn new(stream: S) -> StreamLink<S>
+        ensures socket { result.socket ≡ S.local stream }
         ensures faults { result.faults ≡ 0 }
         ensures ends { result.ends ≡ 0 }
         ensures deaths { result.deaths ≡ 0 }

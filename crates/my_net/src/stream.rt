@@ -1,4 +1,5 @@
 //! Streams of the system.
+ghost use Rattle.std.specs.Prelude.{◌≡◌, Bool, true, false};
 
 use std::io;
 use std::io::{Read, Write};
@@ -7,14 +8,20 @@ use std::os::unix::net::UnixStream;
 
 /// A stream to a peer, which waits until it is ready or is told not to wait.
 pub trait Stream: Read + Write {
+    /// Whether it is a local socket.
+    ghost local: { Self → Bool };
+
     /// Says whether reads and writes wait.
     fn set_waits(&self, waits: bool) -> io::Result<()>;
 
     /// Whether it is a local socket.
-    fn is_local(&self) -> bool;
+    fn is_local(&self) -> bool
+        ensures { result ≡ local self.now };
 }
 
 impl Stream for TcpStream {
+    ghost local = { λ s. false };
+
     fn set_waits(&self, waits: bool) -> io::Result<()> {
         self.set_nonblocking(!waits)
     }
@@ -25,6 +32,8 @@ impl Stream for TcpStream {
 }
 
 impl Stream for UnixStream {
+    ghost local = { λ s. true };
+
     fn set_waits(&self, waits: bool) -> io::Result<()> {
         self.set_nonblocking(!waits)
     }
@@ -67,6 +76,10 @@ impl Write for RealStream {
 }
 
 impl Stream for RealStream {
+    ghost use Rattle.my_net.specs.Streams.{is_local};
+
+    ghost local = { is_local };
+
     fn set_waits(&self, waits: bool) -> io::Result<()> {
         match self {
             RealStream::Tcp(stream) => stream.set_waits(waits),

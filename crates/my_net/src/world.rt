@@ -1,5 +1,6 @@
 //! A world of real links.
-ghost use Rattle.std.specs.Prelude.{◌≡◌, None, false};
+ghost use Rattle.std.specs.Prelude.{◌≡◌, None, IfSome, false};
+ghost use Rattle.my_net.specs.Streams.{is_local, at_socket};
 ghost use Rattle.my_net.specs.Untold.{nothing_told};
 
 use crate::link::{RealLink, StreamLink};
@@ -51,7 +52,9 @@ fn connect_first<R: Net>(rt: &R, ips: &[IpAddr], port: u16) -> Option<R::Stream>
 }
 
 // The stream to a target: to its addresses in order where they are known, else to those that its host's name has.
-fn open<R: Net<Stream = TcpStream>>(rt: &R, target: &Target) -> Option<RealStream> {
+fn open<R: Net<Stream = TcpStream>>(rt: &R, target: &Target) -> Option<RealStream>
+    ensures { IfSome result (λ s. is_local s ≡ at_socket target.now) }
+{
     match target {
         Target::Socket(path) => match UnixStream::connect(rt, path.as_str()) {
             Ok(stream) => Some(RealStream::Socket(stream)),

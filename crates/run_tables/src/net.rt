@@ -37,6 +37,10 @@ impl Write for Broken {
 }
 
 impl Stream for Broken {
+    ghost use Rattle.std.specs.Prelude.{false};
+
+    ghost local = { λ s. false };
+
     fn set_waits(&self, _waits: bool) -> io::Result<()> {
         Ok(())
     }
