@@ -5,5 +5,6 @@ pub mod Queue
 pub mod Retiring
 pub mod Seats
 pub mod Order
+pub mod Linked
 pub mod Queues
 pub mod Turning

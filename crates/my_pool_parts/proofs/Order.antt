@@ -1,14 +1,11 @@
 -- What a map of places has at a number, and the connections in the order of their arrival.
-use Rattle.std.proofs.Common.{◌≡◌, ℕ, ◌+◌, ◌-◌, ◌≤◌, ◌<◌, Bool, true, false, cond, Option, Some, None, List, [], ◌∷◌, ◌++◌, length, take, refl, sym, ap, ◌∙◌, arith, subst, nat_eq, option_map, reverse}
+use Rattle.std.proofs.Common.{◌≡◌, ℕ, ◌+◌, ◌-◌, ◌<◌, Bool, true, false, cond, Option, Some, None, List, [], ◌∷◌, ◌++◌, refl, sym, ap, ◌∙◌, arith, subst, nat_eq, option_map, reverse}
 use Rattle.std.specs.Prelude.{find, ◌==◌, ◌||◌, ◌&&◌, nat_le}
 use Rattle.std.specs.List.{list_any}
-use Rattle.std.specs.Map.{lookup, lookup_entry, remove_entry}
-use Rattle.std.specs.Option.{option_map_or, IsSome}
-use Rattle.std.specs.Result.{IsOk, OnOk}
-use Rattle.std.proofs.Common.{Result, Ok, Err}
-use Rattle.std.proofs.lemmas.List.{take_all}
+use Rattle.std.specs.Map.{lookup, remove_entry}
+use Rattle.std.specs.Option.{IsSome}
+use Rattle.std.proofs.lemmas.Option.{none-some}
 use Rattle.std.proofs.lemmas.Grind.{reverse_onto}
-use Rattle.lru.specs.LruCache.{LruCache, put_entries}
 use Rattle.my_pool_parts.proofs.Finding.{without-unfound}
 use Rattle.std.proofs.lemmas.Bool.Decides.{nat_tests}
 use Rattle.my_pool_parts.specs.declared.connection.Connection.{Connection}
@@ -190,13 +187,9 @@ pub some-is : {X : Type 0} (o : Option X) (x : X) → o ≡ Some x → IsSome o
 some-is None x e = absurd (cc)
 some-is (Some y) x e = refl
 
-pub is-some : {X : Type 0} (o : Option X) → IsSome o → (x : X) × (o ≡ Some x)
-is-some None h = absurd (cc)
-is-some (Some x) h = (x, refl)
-
-pub on-ok : {T E P : Type 0} (r : Result T E) → IsOk r → OnOk r P → P
-on-ok (Ok v) k p = p
-on-ok (Err e) k p = absurd (cc)
+pub some-mapped : {X Y : Type 0} (f : X → Y) (o : Option X) → IsSome (option_map f o) → IsSome o
+some-mapped f None h = h
+some-mapped f (Some x) h = refl
 
 -- a counted number has a place
 pub there : (n : ℕ) (es : List (ℕ × Option Place)) → IsApart es → list_any (has_number n) (counted es) ≡ true → (p : Place) × (lookup (nat_eq n) es ≡ Some (Some p))
@@ -205,17 +198,17 @@ there n es h any =
     let p = x.0.place in
     (p, unjoin (lookup (nat_eq n) es) p (sym (found n es h) ∙ ap (option_map (λ c. c.place)) x.1))
 
-unmapped : (o : Option Connection) → option_map (λ c. c.place) o ≡ None → o ≡ None
-unmapped None e = refl
-unmapped (Some c) e = absurd (cc)
+pub unmapped : {X Y : Type 0} (f : X → Y) (o : Option X) → option_map f o ≡ None → o ≡ None
+unmapped f None e = refl
+unmapped f (Some x) e = absurd (cc)
 
 -- a number that may come isn't counted
 pub coming-absent : (n : ℕ) (es : List (ℕ × Option Place)) → IsApart es → lookup (nat_eq n) es ≡ Some None → find (has_number n) (counted es) ≡ None
-coming-absent n es h e = unmapped (find (has_number n) (counted es)) (found n es h ∙ ap joined e)
+coming-absent n es h e = unmapped (λ c. c.place) (find (has_number n) (counted es)) (found n es h ∙ ap joined e)
 
 pub counted-coming : (n : ℕ) (es : List (ℕ × Option Place)) → IsApart es → lookup (nat_eq n) es ≡ Some None → counted (remove_entry (nat_eq n) es) ≡ counted es
 counted-coming n es h e =
-    counted-left n es h ∙ without-unfound (has_number n) (counted es) (unmapped (find (has_number n) (counted es)) (found n es h ∙ ap joined e))
+    counted-left n es h ∙ without-unfound (has_number n) (counted es) (unmapped (λ c. c.place) (find (has_number n) (counted es)) (found n es h ∙ ap joined e))
 
 turned : (m n : ℕ) → nat_eq m n ≡ false → nat_eq n m ≡ false
 turned m n e = grind (arith, nat_tests)
@@ -230,7 +223,7 @@ differ n m es x y e f apart =
       | false ↦ λ t. refl
     ] refl
 
-apart-put : (n : ℕ) (v : Option Place) (es : List (ℕ × Option Place)) → IsApart es → IsApart ((n, v) ∷ remove_entry (nat_eq n) es)
+pub apart-put : (n : ℕ) (v : Option Place) (es : List (ℕ × Option Place)) → IsApart es → IsApart ((n, v) ∷ remove_entry (nat_eq n) es)
 apart-put n v es h = (removed-none n es h, apart-left n es h)
 
 placed-isnt : (p : Place) → Some (Some p) ≡ Some None → ⊥
@@ -252,9 +245,6 @@ arrived-moved n p q es next coming h at = record {
   ]) refl e;
 }
 
-nothing-isnt : (v : Option Place) → None ≡ Some v → ⊥
-nothing-isnt v e = absurd (cc)
-
 -- and one that is taken out
 pub arrived-left : (n : ℕ) (p : Place) (es : List (ℕ × Option Place)) (next coming : ℕ) → IsArrived es next coming → lookup (nat_eq n) es ≡ Some (Some p) → IsArrived (remove_entry (nat_eq n) es) next coming
 arrived-left n p es next coming h at = record {
@@ -263,7 +253,7 @@ arrived-left n p es next coming h at = record {
   ready = λ m a b. removed-other n m es (turned m n (differ n m es (Some (Some p)) (Some None) at (h.ready m a b) (placed-isnt p))) ∙ h.ready m a b;
   fresh = λ m a. none-left n m es (h.fresh m a);
   earlier = λ m a e. (elim (nat_eq m n) as (λ b. nat_eq m n ≡ b → ⊥) [
-    | true ↦ λ t. nothing-isnt None (sym (removed-none n es h.apart) ∙ ap (λ k. lookup (nat_eq k) (remove_entry (nat_eq n) es)) (same-number m n t) ∙ e)
+    | true ↦ λ t. none-some None (sym (removed-none n es h.apart) ∙ ap (λ k. lookup (nat_eq k) (remove_entry (nat_eq n) es)) (same-number m n t) ∙ e)
     | false ↦ λ t. h.earlier m a (sym (removed-other n m es (turned m n t)) ∙ e)
   ]) refl;
 }
@@ -286,34 +276,6 @@ arrived-next q es next coming h some = record {
 
 pub next-there : (es : List (ℕ × Option Place)) (next coming : ℕ) → IsArrived es next coming → 0 < coming → lookup (nat_eq next) es ≡ Some None
 next-there es next coming h some = h.ready next (omega arith) (omega arith)
-
--- ---- what `put` makes of the map ----
-
-entry-there : (n : ℕ) (es : List (ℕ × Option Place)) (v : Option Place) → lookup (nat_eq n) es ≡ Some v → (w : Option Place) × (lookup_entry (nat_eq n) es ≡ Some (n, w))
-entry-there n [] v e = absurd (cc)
-entry-there n (x ∷ es) v e =
-    elim (nat_eq n x.0) as (λ b. nat_eq n x.0 ≡ b → cond b (Some x.1) (lookup (nat_eq n) es) ≡ Some v → (w : Option Place) × (cond b (Some x) (lookup_entry (nat_eq n) es) ≡ Some (n, w))) [
-      | true ↦ λ t k. (x.1, ap (λ i. Some (i, x.1)) (same-number n x.0 t))
-      | false ↦ λ t k. entry-there n es v k
-    ] refl e
-
-entry-absent : (n : ℕ) (es : List (ℕ × Option Place)) → lookup (nat_eq n) es ≡ None → lookup_entry (nat_eq n) es ≡ None
-entry-absent n [] e = refl
-entry-absent n (x ∷ es) e =
-    elim (nat_eq n x.0) as (λ b. cond b (Some x.1) (lookup (nat_eq n) es) ≡ None → cond b (Some x) (lookup_entry (nat_eq n) es) ≡ None) [
-      | true ↦ λ k. absurd (cc)
-      | false ↦ λ k. entry-absent n es k
-    ] e
-
-pub put-there : (c : LruCache ℕ (Option Place)) (n : ℕ) (v w : Option Place) → lookup (nat_eq n) c.entries ≡ Some w → put_entries nat_eq c n v ≡ (n, v) ∷ remove_entry (nat_eq n) c.entries
-put-there c n v w e =
-    let x = entry-there n c.entries w e in
-    ap (λ o. option_map_or (λ f. (f.0, v) ∷ remove_entry (nat_eq n) c.entries) o ((n, v) ∷ take (c.cap - 1) c.entries)) x.1
-
-pub put-new : (c : LruCache ℕ (Option Place)) (n : ℕ) (v : Option Place) → lookup (nat_eq n) c.entries ≡ None → length c.entries ≤ c.cap - 1 → put_entries nat_eq c n v ≡ (n, v) ∷ c.entries
-put-new c n v e fits =
-    ap (λ o. option_map_or (λ f. (f.0, v) ∷ remove_entry (nat_eq n) c.entries) o ((n, v) ∷ take (c.cap - 1) c.entries)) (entry-absent n c.entries e)
-    ∙ ap (λ es. (n, v) ∷ es) (take_all (c.cap - 1) c.entries fits)
 
 -- ---- the connections from the last one on ----
 

@@ -10,7 +10,7 @@ use Rattle.my_pool_parts.specs.declared.connection.Place.TheVariants.{Connecting
 use Rattle.my_pool_parts.specs.Connections.{has_number, placed, is_idle, is_returned, is_leased, is_leased_place, is_idle_place, is_returned_place, move_to}
 use Rattle.my_pool_parts.specs.Lists.{without, how_many, found_is}
 use Rattle.my_pool_parts.proofs.Finding.{one, count-without, count-push, count-le-length, length-without, without-unfound, without-none, some-counted, count-without-le, count-none}
-use Rattle.my_pool_parts.proofs.Order.{find-absent}
+use Rattle.my_pool_parts.proofs.Order.{find-absent, unmapped}
 use Rattle.my_pool_parts.specs.Stored.{numbers_at, IsStored}
 
 -- with one more at the end
@@ -225,11 +225,7 @@ found-whole n (c ∷ cs) p e =
     ]) refl e
 
 pub nowhere : (n : ℕ) (cs : List Connection) → option_map (λ c. c.place) (find (has_number n) cs) ≡ None → find (has_number n) cs ≡ None
-nowhere n cs e = unmapped (find (has_number n) cs) e
-  where
-    unmapped : (o : Option Connection) → option_map (λ c. c.place) o ≡ None → o ≡ None
-    unmapped None e = refl
-    unmapped (Some c) e = absurd (cc)
+nowhere n cs e = unmapped (λ c. c.place) (find (has_number n) cs) e
 
 self-number : (n : ℕ) → (n == n) ≡ true
 self-number n = grind (arith, nat_tests)

@@ -1,7 +1,6 @@
--- Connections in the order of their arrival, as a map that has the one that moved last in front.
-use Rattle.std.specs.Prelude.{◌≡◌, ℕ, ◌+◌, ◌<◌, ◌≤◌, ◌^◌, ◌-◌, Option, Some, None, List, [], ◌∷◌, ◌++◌, nat_eq}
+-- Connections in the order of their arrival, as a list that has the one that moved last in front.
+use Rattle.std.specs.Prelude.{◌≡◌, ℕ, ◌+◌, ◌<◌, ◌≤◌, ◌^◌, Option, Some, None, List, [], ◌∷◌, ◌++◌, nat_eq}
 use Rattle.std.specs.Map.{lookup}
-use Rattle.lru.specs.LruCache.{LruCache}
 use Rattle.my_pool_parts.specs.declared.connection.Connection.{Connection}
 use Rattle.my_pool_parts.specs.declared.connection.Place.{Place}
 use Rattle.my_pool_parts.specs.Connections.{placed}
@@ -20,7 +19,7 @@ abbrev pub then_at : List Connection → ℕ → Option Place → List Connectio
 then_at cs number None = cs
 then_at cs number (Some place) = cs ++ placed number place ∷ []
 
--- the connections of a map, the one in front last
+-- the connections of a list of places, the one in front last
 abbrev pub counted : List (ℕ × Option Place) → List Connection
 counted [] = []
 counted (e ∷ es) = then_at (counted es) e.0 e.1
@@ -29,15 +28,6 @@ counted (e ∷ es) = then_at (counted es) e.0 e.1
 abbrev pub IsApart : List (ℕ × Option Place) → Type 0
 IsApart [] = Unit {0}
 IsApart (e ∷ es) = (lookup (nat_eq e.0) es ≡ None) × IsApart es
-
--- what a map has, and how much it may have, where it was made
-abbrev pub entries_of : Option (LruCache ℕ (Option Place)) → List (ℕ × Option Place)
-entries_of None = []
-entries_of (Some c) = c.entries
-
-abbrev pub cap_of : Option (LruCache ℕ (Option Place)) → ℕ
-cap_of None = 2 ^ 64 - 1
-cap_of (Some c) = c.cap
 
 pub record IsArrived (es : List (ℕ × Option Place)) (next coming : ℕ) : Type 0 where
   pub apart : IsApart es

@@ -6,4 +6,5 @@ pub mod Requests
 pub mod Live
 pub mod Next
 pub mod Arrived
+pub mod Linked
 pub mod Stored

@@ -2,6 +2,7 @@
 
 ghost use Rattle.std.specs.Prelude.{◌≡◌};
 ghost use Rattle.my_pool_parts.specs.Connections.{is_kind, is_past, is_over, is_usable, is_usable_place, is_outdated, mark_of_place};
+ghost use Rattle.my_pool_parts.specs.Lists.{found_is};
 
 /// What an idle connection's life is measured by, in milliseconds.
 #[derive(Clone, Copy, PartialEq, Eq)]
@@ -126,5 +127,15 @@ impl Place {
             Place::Returned { marked } | Place::Cleaning { marked } => *marked,
             _ => false,
         }
+    }
+}
+
+/// Whether a place, where there is one, is of a kind.
+pub(crate) fn is_at(place: &Option<Place>, kind: PlaceKind) -> bool
+    ensures { result ≡ found_is (is_kind kind) place.now }
+{
+    match place {
+        Some(place) => place.is(kind),
+        None => false,
     }
 }

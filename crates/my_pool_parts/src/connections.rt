@@ -8,7 +8,7 @@ ghost use Rattle.my_pool_parts.specs.Lists.{without, how_many, found_is};
 ghost use Rattle.my_pool_parts.specs.Stored.{stored, IsIdleAt, connecting};
 
 use crate::arrivals::Arrivals;
-use crate::connection::{Connection, Place, PlaceKind};
+use crate::connection::{Connection, Place, PlaceKind, is_at};
 use crate::turns::{enter, leave};
 use my_frame::NoMemory;
 use std::alloc::Global;
@@ -41,16 +41,6 @@ impl Model for Connections {
 
     ghost invariant = { λ c. IsStored c.arrivals.list c.idle.items c.returned.items c.count c.leased c.room
         (deque_capacity c.idle) (deque_capacity c.returned) };
-}
-
-/// Whether a place, where there is one, is of a kind.
-fn is_at(place: &Option<Place>, kind: PlaceKind) -> bool
-    ensures { result ≡ found_is (is_kind kind) place.now }
-{
-    match place {
-        Some(place) => place.is(kind),
-        None => false,
-    }
 }
 
 impl Connections {

@@ -10,6 +10,7 @@ mod entry;
 mod heap;
 mod ledger;
 mod live;
+mod node;
 mod places;
 mod request;
 mod seat;

@@ -1,44 +1,38 @@
 //! Places by number, the one that was put last first.
+//!
+//! They are nodes of a map, each with the numbers of its neighbours, so that putting or taking out one looks at a few
+//! nodes, however many there are. What the map compares goes down one path of its tree.
 
 ghost use Rattle.std.specs.Prelude.{◌≡◌, [], ◌∷◌, IsSome, None, OnOk, OnErr, nat_eq, IfOk};
 ghost use Rattle.my_pool_parts.specs.Arrived.{counted};
-ghost use Rattle.my_pool_parts.specs.Next.{least_at, lesser};
+ghost use Rattle.my_pool_parts.specs.Next.{least_at};
 ghost use Rattle.std.specs.Map.{lookup, remove_entry};
 
-use crate::connection::{Connection, Place, PlaceKind};
-use lru::LruCache;
+use crate::connection::{Connection, Place, PlaceKind, is_at};
+use crate::node::{Node, set_newer, unlink};
 use my_frame::NoMemory;
 use std::alloc::Global;
+use std::collections::BTreeMap;
 use std::marker::Model;
 
 /// The place of each number; a number that may come has none yet.
 #[derive(Drop)]
 pub(crate) struct Places {
-    /// Made with the first number, so that a new one takes no memory.
-    map: Option<LruCache<u64, Option<Place>>>,
-    alloc: Global,
+    nodes: BTreeMap<u64, Node>,
+    /// The number that was put last.
+    newest: Option<u64>,
 }
 
 impl Model for Places {
-    ghost use Rattle.std.specs.Prelude.{◌≡◌, ◌-◌, ◌^◌, ℕ, List, Option};
+    ghost use Rattle.std.specs.Prelude.{ℕ, List, Option};
     ghost use Rattle.my_pool_parts.specs.declared.connection.Place.{Place};
-    ghost use Rattle.my_pool_parts.specs.Arrived.{entries_of, cap_of};
+    ghost use Rattle.my_pool_parts.specs.Linked.{in_order, IsLinked};
 
     ghost Value = { List (ℕ × Option Place) };
 
-    ghost view = { λ p. entries_of p.map };
+    ghost view = { λ p. in_order p.nodes.entries p.newest };
 
-    ghost invariant = { λ p. cap_of p.map ≡ 2 ^ 64 - 1 };
-}
-
-/// The lesser of two numbers, of which one may be missing.
-fn lesser(a: Option<u64>, b: u64) -> u64
-    ensures { result ≡ lesser a b }
-{
-    match a {
-        Some(a) => a.min(b),
-        None => b,
-    }
+    ghost invariant = { λ p. IsLinked p.nodes.entries p.newest (in_order p.nodes.entries p.newest) };
 }
 
 impl Places {
@@ -46,15 +40,18 @@ impl Places {
     pub(crate) fn new(alloc: Global) -> Places
         ensures { result ≡ [] }
     {
-        Places { map: None, alloc }
+        Places {
+            nodes: BTreeMap::new(alloc),
+            newest: None,
+        }
     }
 
     /// What stands at a number.
     pub(crate) fn peek(&self, number: u64) -> Option<Option<Place>>
         ensures { result ≡ lookup (nat_eq number) self.now }
     {
-        match &self.map {
-            Some(map) => map.peek(&number).copied(),
+        match self.nodes.get(&number) {
+            Some(node) => Some(node.place),
             None => None,
         }
     }
@@ -64,30 +61,28 @@ impl Places {
         requires { IsSome (lookup (nat_eq number) self.old) }
         ensures { self.new ≡ (number, place) ∷ remove_entry (nat_eq number) self.old }
     {
-        let Some(map) = &mut self.map else {
-            return;
+        let node = self.nodes.get_mut(&number).unwrap();
+        let old = *node;
+        let older = old.newest_without(self.newest);
+        *node = Node {
+            place,
+            older,
+            newer: None,
         };
-        map.put(number, place).unwrap();
+        unlink(&mut self.nodes, &old);
+        set_newer(&mut self.nodes, older, Some(number));
+        self.newest = Some(number);
     }
 
     /// Nothing stands at a number.
     pub(crate) fn pop(&mut self, number: u64)
         ensures { self.new ≡ remove_entry (nat_eq number) self.old }
     {
-        let Some(map) = &mut self.map else {
+        let Some(old) = self.nodes.remove(&number) else {
             return;
         };
-        map.pop(&number);
-    }
-
-    /// There is memory for numbers from now on.
-    fn make(&mut self) -> Result<(), NoMemory>
-        ensures { self.new ≡ self.old }
-    {
-        if self.map.is_none() {
-            self.map = Some(LruCache::unbounded(self.alloc)?);
-        }
-        Ok(())
+        self.newest = old.newest_without(self.newest);
+        unlink(&mut self.nodes, &old);
     }
 
     /// One more number, at which nothing stands yet. Out of memory, nothing changes.
@@ -96,14 +91,14 @@ impl Places {
         ensures ok { OnOk result (self.new ≡ (number, None) ∷ self.old) }
         ensures err { OnErr result (self.new ≡ self.old) }
     {
-        self.make()?;
-        let Some(map) = &mut self.map else {
-            return Err(NoMemory);
+        let node = Node {
+            place: None,
+            older: self.newest,
+            newer: None,
         };
-        if map.len() == usize::MAX {
-            return Err(NoMemory);
-        }
-        map.put(number, None)?;
+        self.nodes.insert(number, node)?;
+        set_newer(&mut self.nodes, self.newest, Some(number));
+        self.newest = Some(number);
         Ok(())
     }
 
@@ -112,16 +107,13 @@ impl Places {
         ensures { IfOk result (λ all. all.items ≡ counted self.now) }
     {
         let mut all = Vec::new(alloc);
-        let Some(map) = &self.map else {
-            return Ok(all);
-        };
-        for (number, place) in map.iter() {
-            if let Some(place) = place {
-                all.push(Connection {
-                    number: *number,
-                    place: *place,
-                })?;
+        let mut at = self.newest;
+        while let Some(number) = at {
+            let node = self.nodes[&number];
+            if let Some(place) = node.place {
+                all.push(Connection { number, place })?;
             }
+            at = node.older;
         }
         all.reverse();
         Ok(all)
@@ -131,18 +123,11 @@ impl Places {
     pub(crate) fn next_at(&self, kind: PlaceKind, from: u64) -> Option<u64>
         ensures { result ≡ least_at kind from None (counted self.now) }
     {
-        let mut next = None;
-        let Some(map) = &self.map else {
-            return next;
-        };
-        for (number, place) in map.iter() {
-            if let Some(place) = place
-                && from <= *number
-                && place.is(kind)
-            {
-                next = Some(lesser(next, *number));
+        for (number, node) in self.nodes.range(from..) {
+            if is_at(&node.place, kind) {
+                return Some(*number);
             }
         }
-        next
+        None
     }
 }

@@ -1,33 +1,60 @@
-use Rattle.std.proofs.Common.{[], ◌∷◌, ◌++◌, sym, ap, ◌∙◌, append_assoc, append-nil, reverse}
+use Rattle.std.proofs.Common.{[], ◌∷◌, ◌++◌, length, sym, ap, ◌∙◌, arith, append_assoc, append-nil, reverse}
 use Rattle.my_pool_parts.specs.Connections.{placed}
-use Rattle.my_pool_parts.specs.Arrived.{entries_of}
+use Rattle.my_pool_parts.specs.Arrived.{counted}
+use Rattle.my_pool_parts.specs.Linked.{in_order}
 use Rattle.my_pool_parts.proofs.Order.{backwards, at_first, counted-back}
+use Rattle.my_pool_parts.proofs.Linked.Walked.{linked-rest, rest-at, rest-end, rest-there}
 use Rattle.my_pool_parts.proofs.places.Places.list.Goals as goal
 
-pub loop-number-init : goal.loop-number-init
-loop-number-init c =
-    ap (λ xs. xs ++ backwards c.into_iter-number-iterator.result) c.new-all.ensures.items
-    ∙ ap backwards (c.into_iter-number-iterator.ensures.into_iter_gives ∙ c.iter-number-items.ensures.rest ∙ sym (ap entries_of c.in-Some.is) ∙ c.self.view_is)
+pub index-node-requires : goal.index-node-requires
+index-node-requires c = rest-there c.self.inside.nodes.entries c.loop-at.at c.in-Some.number c.loop-at.invariant.rest c.in-Some.is
 
-pub loop-number-preserved-in-Continue-1 : goal.loop-number-preserved-in-Continue-1
-loop-number-preserved-in-Continue-1 c =
-    let all = c.loop-number.all.items in
-    let n = c.in-Some-2.number.now in
-    let rest = backwards c.next.new.self in
-    ap (λ xs. xs ++ rest) c.in_ok-push.ensures.items
-    ∙ append_assoc all (placed n c.in-Some-place.place ∷ []) rest
-    ∙ ap (λ p. all ++ at_first n p rest) (sym c.in-Some-place.is)
-    ∙ ap (λ es. all ++ backwards es) (sym c.in-Some-2.ensures.steps) ∙ c.loop-number.invariant
+pub loop-at-smaller-in_ok-push : goal.loop-at-smaller-in_ok-push
+loop-at-smaller-in_ok-push c =
+    let s = rest-at c.self.inside.nodes.entries c.loop-at.at c.in-Some.number c.index-node.result.now c.loop-at.invariant.rest c.in-Some.is c.index-node.ensures in
+    omega (arith, ap length s.0)
 
-pub loop-number-preserved : goal.loop-number-preserved
-loop-number-preserved c =
-    let all = c.loop-number.all.items in
-    ap (λ p. all ++ at_first c.in-Some-2.number.now p (backwards c.next.new.self)) (sym c.in_default-place.is)
-    ∙ ap (λ es. all ++ backwards es) (sym c.in-Some-2.ensures.steps) ∙ c.loop-number.invariant
+pub loop-at-preserved-in_ok-push : goal.loop-at-preserved-in_ok-push
+loop-at-preserved-in_ok-push c =
+    let m = c.self.inside.nodes.entries in
+    let n = c.in-Some.number in
+    let d = c.index-node.result.now in
+    let s = rest-at m c.loop-at.at n d c.loop-at.invariant.rest c.in-Some.is c.index-node.ensures in
+    let all = c.loop-at.all.items in
+    let rest = backwards (in_order m d.older) in
+    record {
+      rest = s.1;
+      items = ap (λ xs. xs ++ rest) c.in_ok-push.ensures.items ∙ append_assoc all (placed n c.in-Some-place.place ∷ []) rest
+          ∙ ap (λ p. all ++ at_first n p rest) (sym c.in-Some-place.is) ∙ ap (λ es. all ++ backwards es) (sym s.0) ∙ c.loop-at.invariant.items;
+    }
+
+pub loop-at-smaller : goal.loop-at-smaller
+loop-at-smaller c =
+    let s = rest-at c.self.inside.nodes.entries c.loop-at.at c.in-Some.number c.index-node.result.now c.loop-at.invariant.rest c.in-Some.is c.index-node.ensures in
+    omega (arith, ap length s.0)
+
+pub loop-at-preserved : goal.loop-at-preserved
+loop-at-preserved c =
+    let m = c.self.inside.nodes.entries in
+    let n = c.in-Some.number in
+    let d = c.index-node.result.now in
+    let s = rest-at m c.loop-at.at n d c.loop-at.invariant.rest c.in-Some.is c.index-node.ensures in
+    let all = c.loop-at.all.items in
+    record {
+      rest = s.1;
+      items = ap (λ p. all ++ at_first n p (backwards (in_order m d.older))) (sym c.in_default-place.is) ∙ ap (λ es. all ++ backwards es) (sym s.0) ∙ c.loop-at.invariant.items;
+    }
+
+pub loop-at-init : goal.loop-at-init
+loop-at-init c = record {
+  rest = linked-rest c.self.invariant;
+  items = ap (λ xs. xs ++ backwards (in_order c.self.inside.nodes.entries c.self.inside.newest)) c.new-all.ensures.items;
+}
 
 pub returns : goal.returns
 returns c =
-    let all = c.loop-number.all.items in
-    c.reverse.ensures.items
-    ∙ ap reverse (sym (append-nil all) ∙ ap (λ es. all ++ backwards es) (sym c.in-None.ensures.steps.0) ∙ c.loop-number.invariant)
-    ∙ sym (counted-back c.args.self.now)
+    let m = c.self.inside.nodes.entries in
+    let all = c.loop-at.all.items in
+    let end = ap (in_order m) c.in_default.is ∙ rest-end m in
+    c.reverse.ensures.items ∙ ap reverse (sym (append-nil all) ∙ ap (λ es. all ++ backwards es) (sym end) ∙ c.loop-at.invariant.items)
+    ∙ sym (counted-back (in_order m c.self.inside.newest)) ∙ ap counted c.self.view_is

@@ -1,15 +1,43 @@
-use Rattle.std.proofs.Common.{◌≡◌, ◌∷◌, sym, ap, ◌∙◌, subst, nat_eq}
+use Rattle.std.proofs.Common.{◌∷◌, Some, None, cond, sym, ap, ◌∙◌, subst, nat_eq}
 use Rattle.std.specs.Map.{lookup, remove_entry}
-use Rattle.std.specs.Option.{IsSome}
-use Rattle.my_pool_parts.specs.Arrived.{entries_of}
-use Rattle.my_pool_parts.proofs.Order.{is-some, on-ok, put-there}
+use Rattle.std.specs.Option.{IsSome, option_copied_mut}
+use Rattle.my_pool_parts.specs.declared.node.Node.{Node}
+use Rattle.my_pool_parts.specs.Linked.{node, with_newer, changed_at, unlinked, node_at}
+use Rattle.my_pool_parts.proofs.Order.{some-mapped, some-is}
+use Rattle.my_pool_parts.proofs.Linked.{at-number, linked-found, linked-put}
+use Rattle.my_pool_parts.proofs.Linked.Walked.{linked-order, linked-seen}
 use Rattle.my_pool_parts.proofs.places.Places.put.Goals as goal
+
+pub unwrap-node-requires : goal.unwrap-node-requires
+unwrap-node-requires c =
+    let n = c.args.number in
+    let placed = subst IsSome (linked-found n c.self.invariant) (subst (λ es. IsSome (lookup (nat_eq n) es)) (sym c.self.view_is) c.requires) in
+    let there = some-mapped (λ (d : Node). d.place) (node_at c.self.inside.nodes.entries n) placed in
+    some-mapped (λ x. x.now) c.get_mut.result (subst IsSome (sym c.get_mut.ensures.value) there)
+
+pub invariant_of-self : goal.invariant_of-self
+invariant_of-self c =
+    let n = c.args.number in
+    let d = c.unwrap-node.result.now in
+    let older = c.newest_without-older.result in
+    let front = node c.args.place older None in
+    let wrote = c.get_mut.follows.holds front in
+    let at = sym c.get_mut.ensures.value ∙ ap option_copied_mut c.unwrap-node.ensures in
+    let there = wrote.3 (some-is _ d at) in
+    linked-seen (linked-put n c.args.place older d c.self.invariant at c.newest_without-older.ensures
+    (λ q. c.set_newer.ensures.nodes q ∙ ap (changed_at older (with_newer (Some n)) q) (c.unlink.ensures.nodes q ∙ ap (unlinked d q) (there.0 q ∙ ap (λ b. cond b (Some front) (node_at c.self.inside.nodes.entries q)) (at-number n q))))
+    (c.set_newer.ensures.count ∙ c.unlink.ensures.count ∙ wrote.2))
 
 pub returns : goal.returns
 returns c =
     let n = c.args.number in
-    let same : c.args.self.now ≡ c.in-Some.map.entries = sym c.self.view_is ∙ ap entries_of c.in-Some.is in
-    let some = subst (λ es. IsSome (lookup (nat_eq n) es)) same c.requires in
-    let w = is-some (lookup (nat_eq n) c.in-Some.map.entries) some in
-    let put = on-ok c.put.result (c.put.ensures.succeeds some) c.put.ensures.entries in
-    ap (λ m. m.entries) put ∙ put-there c.in-Some.map n c.args.place w.0 w.1 ∙ ap (λ es. (n, c.args.place) ∷ remove_entry (nat_eq n) es) (sym same)
+    let d = c.unwrap-node.result.now in
+    let older = c.newest_without-older.result in
+    let front = node c.args.place older None in
+    let wrote = c.get_mut.follows.holds front in
+    let at = sym c.get_mut.ensures.value ∙ ap option_copied_mut c.unwrap-node.ensures in
+    let there = wrote.3 (some-is _ d at) in
+    linked-order (linked-put n c.args.place older d c.self.invariant at c.newest_without-older.ensures
+    (λ q. c.set_newer.ensures.nodes q ∙ ap (changed_at older (with_newer (Some n)) q) (c.unlink.ensures.nodes q ∙ ap (unlinked d q) (there.0 q ∙ ap (λ b. cond b (Some front) (node_at c.self.inside.nodes.entries q)) (at-number n q))))
+    (c.set_newer.ensures.count ∙ c.unlink.ensures.count ∙ wrote.2))
+    ∙ ap (λ es. (n, c.args.place) ∷ remove_entry (nat_eq n) es) c.self.view_is
