@@ -355,9 +355,19 @@ fn has_room(alloc: Global) -> Result<bool, NoMemory> {
     Ok(empty.as_mut().capacity() == 4 && filled.as_mut().capacity() >= 4)
 }
 
+// A buffer that is kept keeps its room.
+fn keeps_room(alloc: Global) -> Result<bool, NoMemory> {
+    let mut pool = BufferPool::new(alloc, 1, 100, 0)?;
+    let mut buffer = pool.get()?;
+    buffer.as_mut().extend_from_slice(b"0123456789")?;
+    pool.give(buffer);
+    let mut again = pool.get()?;
+    Ok(again.as_slice().is_empty() && again.as_mut().capacity() >= 10)
+}
+
 #[test]
 fn ample_buffers(rt: HostRuntime) -> Result<(), Fail> {
     let alloc = rt.alloc();
-    assert!(rt; keeps_none(alloc)? && keeps_two(alloc)? && has_room(alloc)?);
+    assert!(rt; keeps_none(alloc)? && keeps_two(alloc)? && has_room(alloc)? && keeps_room(alloc)?);
     Ok(())
 }
