@@ -246,6 +246,29 @@ pub const URLS: &[Run] = &[
         ],
         ..PLAIN
     },
+    // The same user and password by the parts of `plain`, which names no database; an empty user is none.
+    Run {
+        words: &["script", "plain,app,pass word,4194304,28800"],
+        script: &[GREETING, "conn\n"],
+        shows: &[
+            CONNECTED,
+            "sent 0 ",
+            "4f00000181a20f01000040002d0000000000000000000000000000000000000000000000617070001453f7c8aaf4676b43927cb788b034f4ee12f9f87d6d7973716c5f6e61746976655f70617373776f726400",
+            "\ntaken 0 ",
+        ],
+        ..PLAIN
+    },
+    Run {
+        words: &["script", "plain,,,4194304,28800"],
+        script: &[GREETING, "conn\n"],
+        shows: &[
+            CONNECTED,
+            "sent 0 ",
+            "3800000181a20f01000040002d000000000000000000000000000000000000000000000000006d7973716c5f6e61746976655f70617373776f726400",
+            "\ntaken 0 ",
+        ],
+        ..PLAIN
+    },
     // A URL that leaves both settings open: the server is asked for them, and its limit holds from then on.
     Run {
         words: &["script", "mysql://root@localhost"],

@@ -22,4 +22,6 @@ mod sets;
 #[cfg(test)]
 mod streams;
 #[cfg(test)]
+mod texts;
+#[cfg(test)]
 mod words;
