@@ -59,7 +59,7 @@ refused_so : (call : Call) (x y : Looks) (k end : Kept) (m : Met) (after : After
 refused_so call x y k end m after given g d r e =
     let same : d.given ≡ call = same_call d.given call (sym d.call_is ∙ g) in
     let so : r ≡ Err connection_closed = subst (λ (p : After). Results p r) d.after_is e in
-    subst (λ (c : Call). DriveRefused c x y k m.taken r end) same (record { closed = d.closed; other = d.other; result_is = so; end_is = d.end_is; link_is = d.link_is; none = d.none })
+    subst (λ (c : Call). DriveRefused c x y k m.taken r end) same (record { closed = d.closed; other = d.other; result_is = so; end_is = d.end_is; link_is = d.link_is; none = ap (λ (u : Met). u.taken) d.none })
   where
     same_call : (b c : Call) → Some b ≡ Some c → b ≡ c
     same_call b c e = cc

@@ -39,6 +39,7 @@ module _ {L : Type 0} (look : L → Looks) (now : ℕ) (kind : CallKind) (call :
             (end.0, subst (λ (n : Option CallKind). StandsFor login v.seen q n end.0) (sym new) end.1, end.2);
         loses = λ f g. absurd (not_both b f g);
         lost = λ g. absurd (not_both b e g);
+        unmet = λ g. absurd (not_both b e g);
         lives = λ _ _. lives;
         made = made;
         keeps = λ _. keeps;

@@ -3,6 +3,7 @@ use Rattle.std.specs.Prelude.{ℕ, ◌≡◌, ◌≤◌, Option, None, true, fal
 use Rattle.my_frame.specs.declared.limits.TheConstants.{MOST_TAKEN}
 use Rattle.my_grammar.specs.declared.login.Login.{Login}
 use Rattle.my_link.specs.Looks.{Looks}
+use Rattle.my_link.specs.Met.{nothing_met}
 use Rattle.my_link.specs.declared.met.Met.{Met}
 use Rattle.my_reading.specs.declared.answer.Answer.TheVariants as answers
 use Rattle.my_reading.specs.declared.call.Call.{Call}
@@ -33,6 +34,8 @@ pub record CallIs {L : Type 0} (look : L → Looks) (now : ℕ) (c : CallKind) (
       × Does login call (look old.link) (look new.link) k end m after
   pub loses : old.lost ≡ false → new.lost ≡ true → (after ≡ Failed errors.NoMemory) × (new.tape ≡ None)
   pub lost : old.lost ≡ true → (new ≡ old) × (after ≡ lost_answer c)
+  -- where the connection is lost, it met nothing
+  pub unmet : new.lost ≡ true → m ≡ nothing_met
   -- the moment of the last whole payload
   pub lives : old.lost ≡ false → new.lost ≡ false → Lives now m.taken (session_of old) (session_of new)
   -- what the session was made with, also where the connection is lost

@@ -2,6 +2,7 @@
 use Rattle.std.proofs.Common.{ℕ, ◌≡◌, length, inl, inr, Option, Some, None, false, true, refl, sym, ap, ◌∙◌, subst, arith}
 use Rattle.my_grammar.specs.declared.login.Login.{Login}
 use Rattle.my_link.specs.Looks.{Looks}
+use Rattle.my_link.specs.Met.{nothing_met}
 use Rattle.my_link.specs.declared.met.Met.{Met}
 use Rattle.my_reading.specs.Calls.{kind_of, is_quit}
 use Rattle.my_reading.specs.Errors.{connection_closed}
@@ -78,7 +79,7 @@ begun_call s r t x y p q u call m after idle noted is st each login k w agrees =
 is_begun_not : (t : Task) → is_open t ≡ false → is_begun t ≡ false
 is_begun_not t e = ap is_begun (idle_task t e)
 
-pub refused_call : (s t : Seen) (x y : Looks) (p q r : Option Tape) (call : Call) (m : Met) (e : Error) → is_open s.task ≡ false → NotesCall p q call → is_refused s.closed (kind_of call) ≡ true → t ≡ s → e ≡ connection_closed → ((h : History) → Stands s h → Stands t (answered (began h call) (ToldError connection_closed))) → y ≡ x → m.taken ≡ 0 → NotesAfter q r (Failed e) → EachCall (Some call) s t x y p r m (Failed e)
+pub refused_call : (s t : Seen) (x y : Looks) (p q r : Option Tape) (call : Call) (m : Met) (e : Error) → is_open s.task ≡ false → NotesCall p q call → is_refused s.closed (kind_of call) ≡ true → t ≡ s → e ≡ connection_closed → ((h : History) → Stands s h → Stands t (answered (began h call) (ToldError connection_closed))) → y ≡ x → m ≡ nothing_met → NotesAfter q r (Failed e) → EachCall (Some call) s t x y p r m (Failed e)
 refused_call s t x y p q r call m e idle noted refused same why st link none after login k w agrees =
     let end : Kept = ended_by (asking k call None) (asked_by k call) (says.Failed connection_closed) in
     let rests : Rests login t end = refuses login s t k call idle refused same st w.0 in

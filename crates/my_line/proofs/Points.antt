@@ -54,7 +54,7 @@ does_take login call x y k end m after (inl d) =
     omega (arith, ap (λ (bs : List ℕ). length bs) all, length-append k.taken u.taken, u.met.taken)
 does_take login call x y k end m after (inr d) =
     let same : end.taken ≡ k.taken = ap (λ (g : Kept). g.taken) d.end_is in
-    omega (arith, ap (λ (bs : List ℕ). length bs) same, d.none)
+    omega (arith, ap (λ (bs : List ℕ). length bs) same, ap (λ (u : Met). u.taken) d.none)
 
 -- each call of the making is answered that it is done
 abbrev pub ready : After → After

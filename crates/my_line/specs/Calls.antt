@@ -4,6 +4,7 @@ use Rattle.my_frame.specs.declared.limits.TheConstants.{MOST_TAKEN}
 use Rattle.my_frame.specs.Outside.{Rose}
 use Rattle.my_grammar.specs.declared.login.Login.{Login}
 use Rattle.my_link.specs.Looks.{Looks}
+use Rattle.my_link.specs.Met.{nothing_met}
 use Rattle.my_link.specs.declared.met.Met.{Met}
 use Rattle.my_reading.specs.declared.call.Call.{Call}
 use Rattle.my_reading.specs.declared.call.CallKind.{CallKind}
@@ -55,7 +56,7 @@ pub record Refuses (call : Option Call) (x y : Looks) (k end : Kept) (m : Met) (
   pub after_is : after ≡ Failed connection_closed
   pub end_is : end ≡ ended_by (asking k given None) (asked_by k given) (says.Failed connection_closed)
   pub link_is : y ≡ x
-  pub none : m.taken ≡ 0
+  pub none : m ≡ nothing_met
 
 abbrev pub Does : Login → Option Call → Looks → Looks → Kept → Kept → Met → After → Type 0
 Does login call x y k end m after = PollsOn login call x y k end m after ⊎ Refuses call x y k end m after

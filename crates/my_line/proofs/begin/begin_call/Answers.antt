@@ -11,7 +11,7 @@ returns-in-Ok-clause-does g c = IfOk-weaker c.poll_open.result _ _
 
 pub returns-in_ok-note_after-in-Err-clause-does : goal.returns-in_ok-note_after-in-Err-clause-does
 returns-in_ok-note_after-in-Err-clause-does g c =
-    refused_call c.args.session.now.seen c.begin.new.self.seen _ _ c.args.tape.now c.note_call.new.tape c.note_after.new.tape c.args.call _ c.in-Err.error c.requires.idle c.in_ok-note_call.ensures.noted (c.in-Err.ensures.closed.0 refl) c.in-Err.ensures.err c.in-Err.ensures.why c.in-Err.ensures.refused refl (ap (λ (m : Met). m.taken) c.nothing-met.ensures) c.in_ok-note_after-in-Err.ensures.noted
+    refused_call c.args.session.now.seen c.begin.new.self.seen _ _ c.args.tape.now c.note_call.new.tape c.note_after.new.tape c.args.call _ c.in-Err.error c.requires.idle c.in_ok-note_call.ensures.noted (c.in-Err.ensures.closed.0 refl) c.in-Err.ensures.err c.in-Err.ensures.why c.in-Err.ensures.refused refl c.nothing-met.ensures c.in_ok-note_after-in-Err.ensures.noted
 
 pub returns-in-Ok-clause-lives : goal.returns-in-Ok-clause-lives
 returns-in-Ok-clause-lives g c = IfOk-weaker c.poll_open.result _ _
