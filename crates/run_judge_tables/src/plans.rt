@@ -72,3 +72,17 @@ fn a_dropped_dial_leaves_its_plan(rt: HostRuntime) -> Result<(), Fail> {
     assert!(rt; right && unplanned);
     Ok(())
 }
+
+// Without steps there is no connection, whatever is planned.
+#[test]
+fn no_line_is_right(rt: HostRuntime) -> Result<(), Fail> {
+    let alloc = rt.alloc();
+    let lines = Lines::new(alloc);
+    let alone = lines.found(alloc, false)? == Found::Right;
+    let joined = lines.found(alloc, true)? == Found::Wrong(0);
+    let right = lines.planned(alloc, &[], false)? == Found::Right;
+    let planned = lines.planned(alloc, &[WAIT, FAIL], false)? == Found::Right;
+    let other = lines.planned(alloc, &[], true)? == Found::Wrong(0);
+    assert!(rt; alone && joined && right && planned && other);
+    Ok(())
+}

@@ -52,8 +52,23 @@ fn row(alloc: Global) -> Result<Row, NoMemory> {
     Ok(Row::new(values, Arc::new(alloc, Vec::new(alloc))?))
 }
 
+// The least of each kind.
+fn least_row(alloc: Global) -> Result<Row, NoMemory> {
+    let mut values = Vec::new(alloc);
+    values.push(Value::Bytes(Blob::new(alloc)))?;
+    values.push(Value::Int(0))?;
+    values.push(Value::UInt(0))?;
+    values.push(Value::FloatBits(0))?;
+    values.push(Value::DoubleBits(0))?;
+    values.push(Value::Date(0, 0, 0, 0, 0, 0, 0))?;
+    values.push(Value::Time(false, 0, 0, 0, 0, 0))?;
+    Ok(Row::new(values, Arc::new(alloc, Vec::new(alloc))?))
+}
+
 const CELLS: &str =
     "NULL b:610a i:-5 u:18446744073709551615 f:3f800000 d:4000000000000001 D:2026-11-29_3:35:0.120 T:1_1_2:3:4.5 T:0_34_22:59:58.999999";
+
+const LEAST: &str = "row b: i:0 u:0 f:00000000 d:0000000000000000 D:0-0-0_0:0:0.0 T:0_0_0:0:0.0";
 
 #[test]
 fn each_kind_of_value(rt: HostRuntime) -> Result<(), Fail> {
@@ -64,6 +79,7 @@ fn each_kind_of_value(rt: HostRuntime) -> Result<(), Fail> {
     rows.push(row(alloc)?)?;
     assert!(rt;
         is_printed(alloc, Outcome::Row(row(alloc)?), alone.as_str())?
+            && is_printed(alloc, Outcome::Row(least_row(alloc)?), LEAST)?
             && is_printed(alloc, Outcome::Rows(rows), among.as_str())?
     );
     Ok(())
