@@ -1,5 +1,5 @@
 -- What a poll of the open call does, once what it came to is kept.
-use Rattle.std.specs.Prelude.{◌≡◌, ◌&&◌, List, Option, Some, Bool, not}
+use Rattle.std.specs.Prelude.{◌≡◌, ◌&&◌, List, Option, None, Some, Bool, not}
 use Rattle.my_value.specs.RowParts.{RowParts}
 use Rattle.my_grammar.specs.declared.login.Login.{Login}
 use Rattle.my_session.specs.Seen.{Seen}
@@ -38,9 +38,9 @@ abbrev pub EachDrives : {L : Type 0} → (L → Looks) → TapedConn L → Taped
 EachDrives look c d m after = (login : Login) (a : Asked) → IsAsked login c.session.seen (kept_of c) a
     → Drives login a d.session.seen (look c.link) (look d.link) (kept_of c) (kept_of d) m after
 
--- the rows that the call gathered are returned where it ended
+-- the rows that the call gathered are returned where it ended, and none before
 abbrev pub RowsOf : Asked → After → Option (List RowParts) → Type 0
-RowsOf a Pending rows = Unit {0}
+RowsOf a Pending rows = rows ≡ None
 RowsOf a (Answered answer) rows = rows ≡ a.rows
 RowsOf a (Failed e) rows = rows ≡ a.rows
 

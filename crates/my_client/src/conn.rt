@@ -1,5 +1,5 @@
 //! A connection: a session on its link.
-ghost use Rattle.std.specs.Prelude.{◌≡◌, Some, is_some, option_map, true, IfOk, OnOk};
+ghost use Rattle.std.specs.Prelude.{◌≡◌, None, Some, false, is_some, option_map, true, IfOk, OnErr, OnOk};
 ghost use Rattle.my_reading.specs.Calls.{is_connect, kind_of};
 ghost use Rattle.my_session.specs.Tasks.{is_open};
 ghost use Rattle.my_session.specs.History.{beginning};
@@ -83,6 +83,7 @@ pub fn begin_conn<L: Link + Drop>(
 pub fn ask<L>(conn: &mut TapedConn<L>, call: Call, rows: Option<Vec<Row>>) -> Result<(), NoMemory>
     ensures kept { OnOk result (
         kept_of conn.new ≡ asking (kept_of conn.old) call (option_map (λ rows. rows.items) rows)) }
+    ensures same { OnErr result (kept_of conn.new ≡ kept_of conn.old) }
     ensures session { conn.new.session ≡ conn.old.session }
     ensures link { conn.new.link ≡ conn.old.link }
 {
@@ -92,6 +93,7 @@ pub fn ask<L>(conn: &mut TapedConn<L>, call: Call, rows: Option<Vec<Row>>) -> Re
 /// Keeps how the open call ended. It takes no memory.
 pub fn note<L>(conn: &mut TapedConn<L>, said: Said)
     ensures kept { EachEnded conn.old conn.new said }
+    ensures still { (kept_of conn.old).pending ≡ None → kept_of conn.new ≡ kept_of conn.old }
     ensures session { conn.new.session ≡ conn.old.session }
     ensures link { conn.new.link ≡ conn.old.link }
 {
@@ -107,6 +109,7 @@ pub fn cancel_call<L>(conn: &mut TapedConn<L>)
     ensures link { conn.new.link ≡ conn.old.link }
     ensures kept { EachEnded conn.old conn.new
         (says.Cancelled (closed_by conn.old.session.seen conn.new.session.seen)) }
+    ensures still { (kept_of conn.old).pending ≡ None → kept_of conn.new ≡ kept_of conn.old }
 {
     let was_closed = conn.session.is_closed();
     conn.session.cancel();
@@ -116,7 +119,8 @@ pub fn cancel_call<L>(conn: &mut TapedConn<L>)
 
 /// Whether the open call is the handshake.
 pub fn is_connecting<L>(conn: &TapedConn<L>) -> bool
-    ensures { (a : Asked) → (kept_of conn.now).pending ≡ Some a → result ≡ is_connect (kind_of a.call) }
+    ensures open { (a : Asked) → (kept_of conn.now).pending ≡ Some a → result ≡ is_connect (kind_of a.call) }
+    ensures none { (kept_of conn.now).pending ≡ None → result ≡ false }
 {
     match &conn.tape.pending {
         None => false,
@@ -135,7 +139,8 @@ pub fn is_connecting<L>(conn: &TapedConn<L>) -> bool
 
 /// Whether the open call gathers a set's rows.
 pub fn is_gathering<L>(conn: &TapedConn<L>) -> bool
-    ensures { (a : Asked) → (kept_of conn.now).pending ≡ Some a → result ≡ is_some a.rows }
+    ensures open { (a : Asked) → (kept_of conn.now).pending ≡ Some a → result ≡ is_some a.rows }
+    ensures none { (kept_of conn.now).pending ≡ None → result ≡ false }
 {
     match &conn.tape.pending {
         None => false,

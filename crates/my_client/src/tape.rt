@@ -51,7 +51,7 @@ pub struct Tape {
 }
 
 impl Tape {
-    ghost use Rattle.std.specs.Prelude.{◌≡◌, option_map, IfOk, OnErr, OnOk};
+    ghost use Rattle.std.specs.Prelude.{◌≡◌, None, option_map, IfOk, OnErr, OnOk};
     ghost use Rattle.my_client.specs.Conn.{kept_in};
     ghost use Rattle.my_client.specs.Drives.{RowsBy, EndsBy, KeepsBy, GathersBy};
     ghost use Rattle.my_client.specs.Kept.{asking, nothing_kept};
@@ -91,6 +91,8 @@ impl Tape {
     pub fn note(&mut self, said: Said) -> Option<Vec<Row>>
         ensures rows { GathersBy (kept_in self.old) (option_map (λ v. v.items) result) }
         ensures kept { EndsBy (kept_in self.old) (kept_in self.new) said }
+        ensures none { (kept_in self.old).pending ≡ None → result ≡ None }
+        ensures still { (kept_in self.old).pending ≡ None → kept_in self.new ≡ kept_in self.old }
     {
         match self.pending.take() {
             None => None,
@@ -110,6 +112,8 @@ impl Tape {
     pub fn keep(&mut self, alloc: Global, after: &After) -> Result<Option<Vec<Row>>, NoMemory>
         ensures rows { IfOk result (λ rows. RowsBy (kept_in self.old) after.now (option_map (λ v. v.items) rows)) }
         ensures kept { OnOk result (KeepsBy (kept_in self.old) (kept_in self.new) after.now) }
+        ensures none { IfOk result (λ rows. (kept_in self.old).pending ≡ None → rows ≡ None) }
+        ensures still { (kept_in self.old).pending ≡ None → kept_in self.new ≡ kept_in self.old }
     {
         match after {
             After::Pending => Ok(None),
