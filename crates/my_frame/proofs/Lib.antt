@@ -1,5 +1,6 @@
 pub mod ChunkLaws
 pub mod Decoding
+pub mod Finding
 pub mod Fronts
 pub mod Growing
 pub mod Meanings

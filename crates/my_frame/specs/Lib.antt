@@ -4,6 +4,7 @@ pub mod Faults
 pub mod Framed
 pub mod Front
 pub mod FrontLaws
+pub mod Lists
 pub mod Numbers
 pub mod Numeral
 pub mod Outside

@@ -1,4 +1,4 @@
-//! Limits on lengths, in bytes: those of the protocol, and those that programs here keep to.
+//! Limits on lengths, in bytes, and on numbers: those of the protocol, and those that programs here keep to.
 
 /// The bytes that a full chunk carries. A chunk with fewer is the last of its payload.
 pub const FULL_LENGTH: usize = 0xFF_FFFF;
@@ -17,3 +17,6 @@ pub const MOST_INPUT: usize = 67_108_864;
 
 /// The most bytes that one poll of a connection takes from its link.
 pub const MOST_TAKEN: u64 = 67_108_864;
+
+/// The most statements that a cache keeps.
+pub const MOST_STATEMENTS: usize = 65_535;

@@ -8,7 +8,8 @@ use Rattle.std.proofs.lemmas.Bool.{eqb-true}
 use Rattle.std.proofs.lemmas.Bool.Decides.{nat_tests}
 use Rattle.my_pool_parts.specs.declared.request.Request.{Request}
 use Rattle.my_pool_parts.specs.declared.request.Standing.TheVariants.{Woken}
-use Rattle.my_pool_parts.specs.Lists.{without, change_first, found_is}
+use Rattle.my_frame.specs.Lists.{without}
+use Rattle.my_pool_parts.specs.Lists.{change_first, found_is}
 use Rattle.my_pool_parts.specs.Requests.{last_age, has_age, is_waiting, standing_as, ended, roused, wake, wake_all, IsRising, oldest_in}
 use Rattle.my_pool_parts.proofs.Finding.Keyed.{other-number, find-left}
 

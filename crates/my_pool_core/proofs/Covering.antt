@@ -13,7 +13,8 @@ use Rattle.my_pool_parts.specs.declared.request.Request.{Request}
 use Rattle.my_pool_parts.specs.declared.request.Standing.{Standing}
 use Rattle.my_pool_parts.specs.declared.request.Standing.TheVariants.{Asks, Waits, Woken, Dials, Checks}
 use Rattle.my_pool_core.specs.declared.limits.Counts.{Counts}
-use Rattle.my_pool_parts.specs.Lists.{without, how_many, found_is}
+use Rattle.my_frame.specs.Lists.{without}
+use Rattle.my_pool_parts.specs.Lists.{how_many, found_is}
 use Rattle.my_pool_parts.specs.Connections.{placed, has_number, is_idle, is_idle_place, is_usable, is_left, move_to, latest_usable, unexpired, expired, retire, next_to_clean, mark_of_place, is_marked, is_resetting, is_leased}
 use Rattle.my_pool_parts.specs.Requests.{asking, has_age, is_waiting, is_woken, is_free, holds, holds_number, is_dialing, standing_as, ended, wake, waits_up_to, is_queued, has_waited, is_live}
 use Rattle.my_pool_core.specs.State.{State}

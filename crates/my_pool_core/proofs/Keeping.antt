@@ -12,7 +12,8 @@ use Rattle.my_pool_core.specs.declared.event.Facts.{Facts}
 use Rattle.my_pool_parts.specs.declared.request.Request.{Request}
 use Rattle.my_pool_parts.specs.declared.request.Standing.{Standing}
 use Rattle.my_pool_parts.specs.declared.request.Standing.TheVariants.{Asks, Waits, Woken, Dials, Checks}
-use Rattle.my_pool_parts.specs.Lists.{without, how_many, found_is}
+use Rattle.my_frame.specs.Lists.{without}
+use Rattle.my_pool_parts.specs.Lists.{how_many, found_is}
 use Rattle.my_pool_parts.specs.Connections.{has_number, is_leased, is_idle, is_idle_place, is_connecting_place, is_checking_place, is_cleaning_place, is_resetting_place, is_closing_place, returned, placed, move_to, is_cleaning, next_to_clean, mark_of_place, latest_usable, retire}
 use Rattle.my_pool_parts.specs.Requests.{asking, last_age, may_dial, roused, standing_as, has_age, holds, holds_number, is_free, ended, set_waiting, wake, wake_all, waits_up_to, with_last, IsRising}
 use Rattle.my_pool_core.specs.State.{State}
@@ -23,7 +24,8 @@ use Rattle.std.specs.Prelude.{nat_le, nat_lt, ◌==◌}
 use Rattle.std.proofs.Common.{◌-◌, ◌^◌}
 use Rattle.std.proofs.lemmas.Bool.Decides.{nat_tests}
 use Rattle.my_pool_parts.proofs.Queue.Waking.{rising-awake, wake-all-last}
-use Rattle.my_pool_parts.proofs.Finding.{one, count-change, count-implies, count-map-same, count-push, count-found, found-any, found-passes, shorter-where-any}
+use Rattle.my_frame.proofs.Finding.{found-passes}
+use Rattle.my_pool_parts.proofs.Finding.{one, count-change, count-implies, count-map-same, count-push, count-found, found-any, shorter-where-any}
 use Rattle.my_pool_core.proofs.Kept.Opening.{sound-close, sound-request, sound-ended, sound-waits, sound-takes, sound-dials, open-not-last, free-dialer}
 use Rattle.my_pool_core.proofs.Kept.Moving.{retire-fewer, sound-retire, swept-fewer}
 use Rattle.my_pool_core.proofs.Kept.{sound-cancel, sound-ready, sound-failed, sound-give-back, sound-freed, sound-move-on, sound-rested, IsUnheld, sound-check-ttl, sound-found-next, next-place, none-ended, retired-there, found-req, found-at}

@@ -17,13 +17,15 @@ use Rattle.my_pool_parts.specs.declared.request.Standing.{Standing}
 use Rattle.my_pool_parts.specs.declared.request.Standing.TheVariants.{Asks, Waits, Woken, Dials, Checks}
 use Rattle.my_pool_core.specs.declared.event.Facts.{Facts}
 use Rattle.my_pool_core.specs.declared.limits.Counts.{Counts}
-use Rattle.my_pool_parts.specs.Lists.{without, how_many, found_is}
+use Rattle.my_frame.specs.Lists.{without}
+use Rattle.my_pool_parts.specs.Lists.{how_many, found_is}
 use Rattle.my_pool_parts.specs.Connections.{placed, has_number, is_idle, is_idle_place, is_usable, is_usable_place, is_leased_place, is_connecting_place, is_checking_place, is_returned, is_returned_place, is_cleaning_place, is_resetting, is_resetting_place, is_closing_place, is_marked, move_to, latest_usable, retire, next_to_clean, mark_of_place}
 use Rattle.my_pool_parts.specs.Requests.{has_age, is_waiting, is_dialing, is_free, holds, holds_number, set_standing, ended, wake, waits_up_to, is_queued, has_waited, is_live}
 use Rattle.my_pool_core.specs.State.{State}
 use Rattle.my_pool_core.specs.Events.{Polled, Decided, creation_failed, unestablished, dirty_return, outlived, being_reset, superfluous, kept, cleanup_failed, may_poll, queued, sought, poll_request, is_full, may_cancel, cancel_standing, cancel_found, cancel, may_settle, ready, failed, may_give_back, give_back, detach, found_next, take_returned, may_decide, keep, decide, may_done, done, above_min, check_ttl, moved, resting}
 use Rattle.my_pool_core.specs.Sound.{IsSound}
-use Rattle.my_pool_parts.proofs.Finding.{one, count-found, found-passes, found-once}
+use Rattle.my_frame.proofs.Finding.{found-passes}
+use Rattle.my_pool_parts.proofs.Finding.{one, count-found, found-once}
 use Rattle.my_pool_core.proofs.Kept.Fewer.{sound_after, same-connections, found-placed, move-count}
 use Rattle.my_pool_core.proofs.Kept.Quiet.{IsAt, req, quiet-same, quiet-quiet, wake-quiet, ended-quiet}
 use Rattle.my_pool_core.proofs.Kept.Moving.{sound-move, sound-free, sound-retire, sound-swept, retire-same}

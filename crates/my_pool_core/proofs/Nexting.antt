@@ -10,7 +10,8 @@ use Rattle.my_pool_core.specs.State.{State}
 use Rattle.my_pool_core.specs.Sound.{IsSound}
 use Rattle.my_pool_core.specs.Owners.{is_at, IsNextAt, IsNoneAt}
 use Rattle.my_pool_parts.specs.Next.{lesser, least_at}
-use Rattle.my_pool_parts.proofs.Finding.{one, count-found, found-once, found-passes}
+use Rattle.my_frame.proofs.Finding.{found-passes}
+use Rattle.my_pool_parts.proofs.Finding.{one, count-found, found-once}
 use Rattle.my_pool_core.proofs.Kept.Moving.{both}
 
 -- a connection of a list that isn't below a number and is at a kind of place

@@ -14,7 +14,8 @@ use Rattle.my_pool_parts.specs.declared.connection.Connection.{Connection}
 use Rattle.my_pool_parts.specs.declared.connection.Place.{Place}
 use Rattle.my_pool_parts.specs.declared.connection.Place.TheVariants.{Idle, Leased, Connecting, Checking, Returned, Cleaning, Resetting, Closing}
 use Rattle.my_pool_parts.specs.declared.connection.Times.{Times}
-use Rattle.my_pool_parts.specs.Lists.{without, how_many}
+use Rattle.my_frame.specs.Lists.{without}
+use Rattle.my_pool_parts.specs.Lists.{how_many}
 use Rattle.my_pool_parts.specs.Connections.{placed, has_number, is_idle, is_idle_place, is_usable, is_usable_place, is_past, is_over, is_left, move_to, unexpired, expired, retire, is_outdated, lasting, outdated}
 use Rattle.my_pool_core.specs.Moves.{MayReturn, is_aged}
 use Rattle.my_pool_parts.proofs.Finding.{one}

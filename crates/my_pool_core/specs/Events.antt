@@ -15,7 +15,8 @@ use Rattle.my_pool_core.specs.declared.event.PollAnswer.{PollAnswer}
 use Rattle.my_pool_core.specs.declared.event.PollAnswer.TheVariants.{Wait, Take, Dial, Closed, Full}
 use Rattle.my_pool_core.specs.declared.event.Verdict.{Verdict}
 use Rattle.my_pool_core.specs.declared.event.Verdict.TheVariants.{Drop, Clean, Close, Reset, Keep}
-use Rattle.my_pool_parts.specs.Lists.{without, found_is, how_many}
+use Rattle.my_frame.specs.Lists.{without}
+use Rattle.my_pool_parts.specs.Lists.{found_is, how_many}
 use Rattle.my_pool_parts.specs.Connections.{placed, has_number, is_idle, is_leased, is_cleaning, is_marked, is_resetting, is_closing, is_connecting, is_checking, mark_of_place, move_to, latest_usable, retire, lasting, outdated, next_to_clean}
 use Rattle.my_pool_parts.specs.Requests.{with_last, has_waited, is_live, is_dialing, last_age, asking, has_age, is_free, holds, set_standing, set_waiting, ended, wake, wake_all, waits_up_to, may_dial, is_queued}
 use Rattle.my_pool_core.specs.State.{State, one_more}

@@ -8,7 +8,8 @@ use Rattle.std.proofs.Common.{get_or}
 use Rattle.std.proofs.lemmas.Bool.{ltb-true, ltb-false}
 use Rattle.std.specs.List.{list_any, position, position_or_len, remove}
 use Rattle.std.proofs.lemmas.List.Recursion.{is_count_by}
-use Rattle.my_pool_parts.specs.Lists.{without, change_first, how_many, found_is}
+use Rattle.my_frame.specs.Lists.{without}
+use Rattle.my_pool_parts.specs.Lists.{change_first, how_many, found_is}
 
 -- one where it passes
 abbrev pub one : Bool → ℕ
@@ -87,30 +88,13 @@ count-map-same q f same (x ∷ xs) = omega (arith, ap one (same x), count-map-sa
 pub count-found : {X : Type 0} (q key : X → Bool) (xs : List X) (y : X) → find key xs ≡ Some y → one (q y) ≤ how_many q xs
 count-found q key xs y e = omega (arith, count-without q key xs y e)
 
--- what is found passes the test by which it was found
-pub found-passes : {X : Type 0} (key : X → Bool) (xs : List X) (y : X) → find key xs ≡ Some y → key y ≡ true
-found-passes key [] y e = absurd (cc)
-found-passes key (x ∷ xs) y e =
-    elim (key x) as (λ b. key x ≡ b → cond b (Some x) (find key xs) ≡ Some y → key y ≡ true) [
-      | true ↦ λ k h. let s : x ≡ y = cc in subst (λ z. key z ≡ true) s k
-      | false ↦ λ k h. found-passes key xs y h
-    ] refl e
-
--- where none is found, nothing is taken out or changed
+-- where none is found, none is changed
 pub change-none : {X : Type 0} (key : X → Bool) (f : X → X) (xs : List X) → find key xs ≡ None → change_first key f xs ≡ xs
 change-none key f [] e = refl
 change-none key f (x ∷ xs) e =
     elim (key x) as (λ b. cond b (Some x) (find key xs) ≡ None → cond b (f x ∷ xs) (x ∷ change_first key f xs) ≡ x ∷ xs) [
       | true ↦ λ h. absurd (cc)
       | false ↦ λ h. ap (λ ys. x ∷ ys) (change-none key f xs h)
-    ] e
-
-pub without-unfound : {X : Type 0} (key : X → Bool) (xs : List X) → find key xs ≡ None → without key xs ≡ xs
-without-unfound key [] e = refl
-without-unfound key (x ∷ xs) e =
-    elim (key x) as (λ b. cond b (Some x) (find key xs) ≡ None → cond b xs (x ∷ without key xs) ≡ x ∷ xs) [
-      | true ↦ λ h. absurd (cc)
-      | false ↦ λ h. ap (λ ys. x ∷ ys) (without-unfound key xs h)
     ] e
 
 -- none passes where none is found

@@ -6,14 +6,14 @@ use Rattle.std.specs.Map.{lookup, remove_entry}
 use Rattle.std.specs.Option.{IsSome}
 use Rattle.std.proofs.lemmas.Option.{none-some}
 use Rattle.std.proofs.lemmas.Grind.{reverse_onto}
-use Rattle.my_pool_parts.proofs.Finding.{without-unfound}
+use Rattle.my_frame.proofs.Finding.{without-unfound}
 use Rattle.std.proofs.lemmas.Bool.Decides.{nat_tests}
 use Rattle.my_pool_parts.specs.declared.connection.Connection.{Connection}
 use Rattle.my_pool_parts.specs.declared.connection.Place.{Place}
 use Rattle.my_pool_parts.specs.declared.connection.PlaceKind.{PlaceKind}
 use Rattle.my_pool_parts.specs.Connections.{has_number, placed, is_kind}
 use Rattle.my_pool_parts.specs.Next.{lesser, least_at}
-use Rattle.my_pool_parts.specs.Lists.{without}
+use Rattle.my_frame.specs.Lists.{without}
 use Rattle.my_pool_parts.specs.Arrived.{then_at, counted, IsApart, IsArrived}
 
 -- ---- lists with one more at the end ----

@@ -8,8 +8,10 @@ use Rattle.my_pool_parts.specs.declared.connection.Connection.{Connection}
 use Rattle.my_pool_parts.specs.declared.connection.Place.{Place}
 use Rattle.my_pool_parts.specs.declared.connection.Place.TheVariants.{Connecting}
 use Rattle.my_pool_parts.specs.Connections.{has_number, placed, is_idle, is_returned, is_leased, is_leased_place, is_idle_place, is_returned_place, move_to}
-use Rattle.my_pool_parts.specs.Lists.{without, how_many, found_is}
-use Rattle.my_pool_parts.proofs.Finding.{one, count-without, count-push, count-le-length, length-without, without-unfound, without-none, some-counted, count-without-le, count-none}
+use Rattle.my_frame.specs.Lists.{without}
+use Rattle.my_pool_parts.specs.Lists.{how_many, found_is}
+use Rattle.my_frame.proofs.Finding.{found-passes, without-unfound}
+use Rattle.my_pool_parts.proofs.Finding.{one, count-without, count-push, count-le-length, length-without, without-none, some-counted, count-without-le, count-none}
 use Rattle.my_pool_parts.proofs.Order.{find-absent, unmapped}
 use Rattle.my_pool_parts.specs.Stored.{numbers_at, IsStored}
 
@@ -148,7 +150,7 @@ pub stored-moved : (n : ℕ) (place : Place) (cs : List Connection) (idle return
 stored-moved n place cs idle returned idle' returned' count leased leased' room ir rr ir' rr' was h any w l i r a b =
     let x = found-there (has_number n) cs any in
     let left = without (has_number n) cs in
-    let passes = found-passes' (has_number n) cs x.0 x.1 in
+    let passes = found-passes (has_number n) cs x.0 x.1 in
     record {
       once = λ m. omega (arith, h.once m, count-push (has_number m) left (placed n place), count-without (has_number m) (has_number n) cs x.0 x.1, ap one (own-number n m place x.0 passes));
       idle_are = i ∙ sym (numbers-snoc is_idle left (placed n place));
@@ -160,14 +162,6 @@ stored-moved n place cs idle returned idle' returned' count leased leased' room 
       returned_fit = omega (arith, h.returned_fit, b);
     }
   where
-    found-passes' : {X : Type 0} (key : X → Bool) (xs : List X) (y : X) → find key xs ≡ Some y → key y ≡ true
-    found-passes' key [] y e = absurd (cc)
-    found-passes' key (x ∷ xs) y e =
-        elim (key x) as (λ k. key x ≡ k → cond k (Some x) (find key xs) ≡ Some y → key y ≡ true) [
-          | true ↦ λ t h. let s : x ≡ y = cc in ap key (sym s) ∙ t
-          | false ↦ λ t h. found-passes' key xs y h
-        ] refl e
-
     count-length : {X : Type 0} (xs : List X) (y : X) → length (xs ++ y ∷ []) ≡ length xs + 1
     count-length [] y = refl
     count-length (x ∷ xs) y = omega (arith, count-length xs y)

@@ -12,7 +12,8 @@ use Rattle.std.proofs.lemmas.Bool.Decides.{nat_tests}
 use Rattle.std.proofs.lemmas.Bool.{eqb-true}
 use Rattle.my_pool_parts.specs.declared.request.Request.{Request}
 use Rattle.my_pool_parts.specs.declared.seat.Seat.{Seat}
-use Rattle.my_pool_parts.specs.Lists.{without, change_first}
+use Rattle.my_frame.specs.Lists.{without}
+use Rattle.my_pool_parts.specs.Lists.{change_first}
 use Rattle.my_pool_parts.specs.Requests.{asking, has_age, IsRising}
 use Rattle.my_pool_parts.specs.Live.{requests_of, slots_of, IsKeyed}
 

@@ -7,7 +7,8 @@ use Rattle.my_pool_parts.specs.declared.connection.Connection.{Connection}
 use Rattle.my_pool_parts.specs.declared.connection.Place.{Place}
 use Rattle.my_pool_parts.specs.declared.connection.Place.TheVariants.{Idle, Leased, Connecting, Checking, Returned, Cleaning, Resetting, Closing}
 use Rattle.my_pool_parts.specs.Connections.{has_number, placed, returned, is_idle, is_idle_place, is_usable, is_usable_place, is_left, unexpired, expired, retire, latest_usable, lasting, outdated, is_outdated, move_to}
-use Rattle.my_pool_parts.specs.Lists.{without, how_many}
+use Rattle.my_frame.specs.Lists.{without}
+use Rattle.my_pool_parts.specs.Lists.{how_many}
 use Rattle.my_pool_parts.proofs.Finding.{one, count-append}
 use Rattle.my_pool_parts.proofs.Retiring.{retire-front, latest-front, latest-usable, retire-usable, none-latest}
 use Rattle.my_pool_parts.specs.Stored.{numbers_at, IsIdleAt}

@@ -8,7 +8,7 @@ use Rattle.my_pool_parts.specs.declared.connection.Place.TheVariants.{Idle, Leas
 use Rattle.my_pool_parts.specs.declared.connection.PlaceKind.{PlaceKind}
 use Rattle.my_pool_parts.specs.declared.connection.PlaceKind.TheVariants as kinds
 use Rattle.my_pool_parts.specs.declared.connection.Times.{Times}
-use Rattle.my_pool_parts.specs.Lists.{without}
+use Rattle.my_frame.specs.Lists.{without}
 
 -- a connection at a place
 abbrev pub placed : ℕ → Place → Connection

@@ -1,10 +1,5 @@
--- Lists in which one element, the first that passes a test, is looked for, taken out or changed.
+-- Lists in which one element, the first that passes a test, is looked for or changed.
 use Rattle.std.specs.Prelude.{ℕ, ◌+◌, Bool, false, Option, Some, None, List, [], ◌∷◌, if◌then◌else◌}
-
--- the list without the first element that passes
-abbrev pub without : {X : Type 0} → (X → Bool) → List X → List X
-without test [] = []
-without test (x ∷ xs) = if test x then xs else x ∷ without test xs
 
 -- the list with the first element that passes changed
 abbrev pub change_first : {X : Type 0} → (X → Bool) → (X → X) → List X → List X

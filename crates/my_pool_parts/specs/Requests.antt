@@ -4,7 +4,8 @@ use Rattle.std.specs.List.{list_any}
 use Rattle.my_pool_parts.specs.declared.request.Request.{Request}
 use Rattle.my_pool_parts.specs.declared.request.Standing.{Standing}
 use Rattle.my_pool_parts.specs.declared.request.Standing.TheVariants.{Asks, Waits, Woken, Dials, Checks}
-use Rattle.my_pool_parts.specs.Lists.{without, change_first}
+use Rattle.my_frame.specs.Lists.{without}
+use Rattle.my_pool_parts.specs.Lists.{change_first}
 
 -- the last age, which stays live for good once it is given
 abbrev pub last_age : ℕ

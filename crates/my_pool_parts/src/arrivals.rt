@@ -3,7 +3,7 @@
 ghost use Rattle.std.specs.Prelude.{◌≡◌, ◌≤◌, ◌<◌, ◌+◌, ◌-◌, ◌^◌, ◌++◌, [], ◌∷◌, IsTrue, find, option_map, None, OnOk, OnErr, IfOk};
 ghost use Rattle.std.specs.List.{list_any};
 ghost use Rattle.my_pool_parts.specs.Connections.{has_number, move_to, placed};
-ghost use Rattle.my_pool_parts.specs.Lists.{without};
+ghost use Rattle.my_frame.specs.Lists.{without};
 ghost use Rattle.my_pool_parts.specs.Arrived.{arrived};
 ghost use Rattle.my_pool_parts.specs.Next.{least_at};
 

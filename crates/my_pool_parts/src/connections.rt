@@ -4,7 +4,8 @@ ghost use Rattle.std.specs.Prelude.{◌≡◌, ◌≤◌, ◌<◌, ◌+◌, ◌-
 ghost use Rattle.std.specs.List.{list_any};
 ghost use Rattle.my_pool_parts.specs.Connections.{has_number, is_kind, is_marked, move_to, placed, is_idle, is_leased, latest_usable, retire, is_usable, is_outdated, lasting, outdated, next_to_clean};
 ghost use Rattle.my_pool_parts.specs.Next.{least_at};
-ghost use Rattle.my_pool_parts.specs.Lists.{without, how_many, found_is};
+ghost use Rattle.my_frame.specs.Lists.{without};
+ghost use Rattle.my_pool_parts.specs.Lists.{how_many, found_is};
 ghost use Rattle.my_pool_parts.specs.Stored.{stored, IsIdleAt, connecting};
 
 use crate::arrivals::Arrivals;

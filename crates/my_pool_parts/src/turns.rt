@@ -2,7 +2,8 @@
 
 ghost use Rattle.std.specs.Prelude.{◌≡◌, ◌≤◌, ◌<◌, ◌++◌, ◌==◌, [], ◌∷◌, position, if◌then◌else◌};
 ghost use Rattle.std.specs.VecDeque.{deque_len, deque_capacity};
-ghost use Rattle.my_pool_parts.specs.Lists.{without, how_many};
+ghost use Rattle.my_frame.specs.Lists.{without};
+ghost use Rattle.my_pool_parts.specs.Lists.{how_many};
 
 use std::collections::VecDeque;
 

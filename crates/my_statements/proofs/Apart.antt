@@ -5,7 +5,8 @@ use Rattle.std.specs.Option.{is_some, option_map_or}
 use Rattle.std.specs.List.{find, list_any}
 use Rattle.std.specs.Cmp.{nat_eq_equiv}
 use Rattle.std.specs.Cmp.Lexicographic.{pointwise, bytes_decides, nat_list_eq_equiv}
-use Rattle.my_statements.specs.Cache.{Held, has_query, has_id, in_front, without}
+use Rattle.my_frame.specs.Lists.{without}
+use Rattle.my_statements.specs.Cache.{Held, has_query, has_id, in_front}
 use Rattle.my_statements.specs.Indexed.{AreApart}
 
 abbrev pub same_text : List ℕ → List ℕ → Bool
@@ -168,21 +169,3 @@ any-is_some test (h ∷ hs) =
       | true ↦ refl
       | false ↦ any-is_some test hs
     ]
-
--- what is found passes the test by which it was found
-pub found-passes : (test : Held → Bool) (hs : List Held) (h : Held) → find test hs ≡ Some h → test h ≡ true
-found-passes test [] h e = absurd (cc)
-found-passes test (g ∷ hs) h e =
-    elim (test g) as (λ b. test g ≡ b → cond b (Some g) (find test hs) ≡ Some h → test h ≡ true) [
-      | true ↦ λ k f. let s : g ≡ h = cc in subst (λ x. test x ≡ true) s k
-      | false ↦ λ k f. found-passes test hs h f
-    ] refl e
-
--- where none is found, none is taken out
-pub unfound : (test : Held → Bool) (hs : List Held) → find test hs ≡ None → without test hs ≡ hs
-unfound test [] e = refl
-unfound test (h ∷ hs) e =
-    elim (test h) as (λ b. cond b (Some h) (find test hs) ≡ None → cond b hs (h ∷ without test hs) ≡ h ∷ hs) [
-      | true ↦ λ f. absurd (cc)
-      | false ↦ λ f. ap (λ gs. h ∷ gs) (unfound test hs f)
-    ] e

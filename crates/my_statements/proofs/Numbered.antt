@@ -5,7 +5,8 @@ use Rattle.std.specs.Option.{option_map, option_map_or}
 use Rattle.std.specs.List.{find}
 use Rattle.std.specs.Map.{lookup, lookup_entry, remove_entry}
 use Rattle.lru.specs.LruCache.{promoted}
-use Rattle.my_statements.specs.Cache.{Held, has_id, in_front, without}
+use Rattle.my_frame.specs.Lists.{without}
+use Rattle.my_statements.specs.Cache.{Held, has_id, in_front}
 use Rattle.my_statements.specs.Indexed.{at_numbers}
 
 pub lookup-numbered : (n : ℕ) (hs : List Held) → lookup (nat_eq n) (at_numbers hs) ≡ find (has_id n) hs

@@ -8,10 +8,12 @@ use Rattle.std.specs.HashMap.{HashMap, get}
 use Rattle.std.specs.Cmp.{nat_eq_equiv}
 use Rattle.std.specs.Cmp.Lexicographic.{bytes_decides}
 use Rattle.lru.specs.LruCache.{LruCache, lru_cache, promoted, put_entries, displaced}
-use Rattle.my_statements.specs.Cache.{Held, cached, has_query, has_id, in_front, without, with_first, last_of_full}
+use Rattle.my_frame.specs.Lists.{without}
+use Rattle.my_frame.proofs.Finding.{found-passes}
+use Rattle.my_statements.specs.Cache.{Held, cached, has_query, has_id, in_front, with_first, last_of_full}
 use Rattle.my_statements.specs.Indexed.{AreApart, Finds, IsIndexed, at_numbers, list_of}
 use Rattle.my_statements.proofs.Numbered.{lookup-numbered, entry-numbered, remove-numbered, values-numbered, promoted-numbered, take-numbered}
-use Rattle.my_statements.proofs.Apart.{same_text, text-symm, none-found, found-fails, apart-without, find-without, query-as-id, last-out, none-out, length-without, apart-in_front, found-passes}
+use Rattle.my_statements.proofs.Apart.{same_text, text-symm, none-found, found-fails, apart-without, find-without, query-as-id, last-out, none-out, length-without, apart-in_front}
 
 abbrev Texts : Type 0 → Type 0
 Texts S = HashMap (List ℕ) ℕ S

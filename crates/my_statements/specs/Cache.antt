@@ -1,10 +1,11 @@
 -- What a cache of prepared statements holds: the statements with their texts, the one that was used last first.
-use Rattle.std.specs.Prelude.{ℕ, zero, suc, nat_eq, Bool, Option, None, List, [], ◌∷◌, Vec, take, slice_get, if◌then◌else◌}
+use Rattle.std.specs.Prelude.{ℕ, zero, suc, nat_eq, Bool, Option, None, List, ◌∷◌, Vec, take, slice_get}
 use Rattle.std.specs.Option.{option_map, option_map_or}
 use Rattle.std.specs.List.{find}
 use Rattle.std.specs.Arc.{arc_value}
 use Rattle.std.specs.declared.sync.Arc.{Arc}
 use Rattle.std.specs.Cmp.Lexicographic.{pointwise}
+use Rattle.my_frame.specs.Lists.{without}
 use Rattle.my_statements.specs.declared.statement.StmtInner.{StmtInner}
 
 abbrev pub text_of : {A B : Type 0} → Arc (Vec ℕ A) B → List ℕ
@@ -34,15 +35,6 @@ pub record Cached : Type 0 where
 
 abbrev pub cached : List Held → ℕ → Cached
 cached list capacity = record { list = list; capacity = capacity }
-
--- the most statements that are kept
-abbrev pub most_held : ℕ
-most_held = 65535
-
--- the list without the first one that passes
-abbrev pub without : (Held → Bool) → List Held → List Held
-without test [] = []
-without test (h ∷ hs) = if test h then hs else h ∷ without test hs
 
 -- the first one that passes goes to the front
 abbrev pub in_front : (Held → Bool) → List Held → List Held

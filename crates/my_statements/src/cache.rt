@@ -3,21 +3,21 @@
 ghost use Rattle.std.specs.Prelude.{◌≡◌, ◌-◌, ◌∷◌, [], false, IfOk, OnErr, OnOk, take, slice_get, min};
 ghost use Rattle.std.specs.Option.{option_copied, option_map};
 ghost use Rattle.std.specs.List.{find, list_any};
-ghost use Rattle.my_statements.specs.Cache.{cached, evicted, fetched, has_id, has_query, held, most_held, stmt_of, text_of, with_first, without};
+ghost use Rattle.my_frame.specs.Lists.{without};
+ghost use Rattle.my_frame.specs.declared.limits.TheConstants.{MOST_STATEMENTS as most};
+ghost use Rattle.my_statements.specs.Cache.{cached, evicted, fetched, has_id, has_query, held, stmt_of, text_of, with_first};
 
 use crate::entry::Entry;
 use crate::query_string::QueryString;
 use crate::statement::StmtInner;
 use lru::LruCache;
 use my_frame::NoMemory;
+use my_frame::limits::MOST_STATEMENTS;
 use std::alloc::Global;
 use std::collections::HashMap;
 use std::marker::Model;
 use std::num::NonZeroUsize;
 use std::sync::Arc;
-
-/// The most statements that a cache keeps.
-pub const MOST_STATEMENTS: usize = 65_535;
 
 /// Prepared statements, found by their text. Where one too many is put, the one that was not used longest goes.
 #[derive(Drop)]
@@ -45,9 +45,9 @@ impl StmtCache {
     ghost use Rattle.std.specs.Borrow.{sem};
     ghost use Rattle.my_statements.specs.Fetched.{ends_fetched};
 
-    /// An empty cache of at most `cap` statements, and of at most 65,535. With 0 it keeps none.
+    /// An empty cache of at most `cap` statements, and of at most `MOST_STATEMENTS`. With 0 it keeps none.
     pub fn new(alloc: Global, cap: usize) -> Result<StmtCache, NoMemory>
-        ensures { IfOk result (λ c. c ≡ cached [] (min cap most_held)) }
+        ensures { IfOk result (λ c. c ≡ cached [] (min cap most)) }
     {
         let room = match NonZeroUsize::new(cap.min(MOST_STATEMENTS)) {
             Some(room) => room,

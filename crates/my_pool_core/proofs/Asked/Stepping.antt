@@ -13,7 +13,8 @@ use Rattle.my_pool_core.specs.declared.event.PoolEvent.TheVariants as events
 use Rattle.my_pool_parts.specs.declared.request.Request.{Request}
 use Rattle.my_pool_parts.specs.declared.request.Standing.{Standing}
 use Rattle.my_pool_parts.specs.declared.request.Standing.TheVariants.{Asks, Waits, Woken, Dials, Checks}
-use Rattle.my_pool_parts.specs.Lists.{without, change_first, how_many, found_is}
+use Rattle.my_frame.specs.Lists.{without}
+use Rattle.my_pool_parts.specs.Lists.{change_first, how_many, found_is}
 use Rattle.my_pool_parts.specs.Connections.{has_number, is_idle, is_marked, is_resetting, next_to_clean, retire, latest_usable}
 use Rattle.my_pool_parts.specs.Requests.{last_age, asking, has_age, is_waiting, is_waiting_standing, is_asking, is_asking_standing, is_dialing, is_queued, holds, holds_number, standing_as, now_waiting, set_standing, set_waiting, ended, wake, wake_all, roused, waits_up_to, may_dial, with_last, has_waited, is_live, IsRising}
 use Rattle.my_pool_core.specs.State.{State}
@@ -21,7 +22,8 @@ use Rattle.my_pool_core.specs.Events.{Polled, Decided, is_at_end, request, reque
 use Rattle.my_pool_core.specs.Steps.{may, step}
 use Rattle.my_pool_core.specs.Sound.{IsSound, is_unborn, is_last_busy}
 use Rattle.my_pool_core.specs.Wakes.{waits, is_oldest, hands_on, frees, wakes}
-use Rattle.my_pool_parts.proofs.Finding.{one, count-found, count-implies, found-passes}
+use Rattle.my_frame.proofs.Finding.{found-passes}
+use Rattle.my_pool_parts.proofs.Finding.{one, count-found, count-implies}
 use Rattle.my_pool_core.proofs.Kept.{if-keeps, found-req}
 use Rattle.my_pool_core.proofs.Kept.Fewer.{ended-fewer}
 use Rattle.my_pool_core.proofs.Kept.Moving.{both}

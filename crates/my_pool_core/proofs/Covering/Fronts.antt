@@ -4,7 +4,8 @@ use Rattle.std.specs.Prelude.{find, ◌==◌, ◌&&◌, ◌||◌, nat_le}
 use Rattle.std.proofs.lemmas.Bool.{eqb-true, lt-leb}
 use Rattle.my_pool_parts.specs.declared.request.Request.{Request}
 use Rattle.my_pool_parts.specs.declared.request.Standing.TheVariants.{Woken}
-use Rattle.my_pool_parts.specs.Lists.{without, change_first, how_many}
+use Rattle.my_frame.specs.Lists.{without}
+use Rattle.my_pool_parts.specs.Lists.{change_first, how_many}
 use Rattle.my_pool_parts.specs.Requests.{last_age, has_age, is_waiting, is_woken, standing_as, now_waiting, set_waiting, ended, wake, waits_up_to, IsRising}
 use Rattle.my_pool_core.specs.Sound.{woken_first}
 use Rattle.my_pool_parts.proofs.Finding.{one}

@@ -5,12 +5,14 @@ use Rattle.my_pool_parts.specs.declared.connection.Connection.{Connection}
 use Rattle.my_pool_parts.specs.declared.connection.Place.{Place}
 use Rattle.my_pool_parts.specs.declared.request.Request.{Request}
 use Rattle.my_pool_core.specs.declared.limits.Counts.{Counts}
-use Rattle.my_pool_parts.specs.Lists.{without, change_first, how_many}
+use Rattle.my_frame.specs.Lists.{without}
+use Rattle.my_pool_parts.specs.Lists.{change_first, how_many}
 use Rattle.my_pool_parts.specs.Connections.{placed, has_number, is_idle, move_to}
 use Rattle.my_pool_parts.specs.Requests.{last_age, has_age, is_waiting, ended, IsRising}
 use Rattle.my_pool_core.specs.State.{State}
 use Rattle.my_pool_core.specs.Sound.{IsSound, dials, checks, connects, is_checked, is_unmarked, is_dialer, is_last_busy}
-use Rattle.my_pool_parts.proofs.Finding.{one, count-without, count-without-le, count-change-less, count-push, length-without, shorter-without, found-passes}
+use Rattle.my_frame.proofs.Finding.{found-passes}
+use Rattle.my_pool_parts.proofs.Finding.{one, count-without, count-without-le, count-change-less, count-push, length-without, shorter-without}
 use Rattle.my_pool_parts.proofs.Finding.Rising.{rising-without, rising-change}
 use Rattle.std.proofs.Common.{length-append}
 use Rattle.std.proofs.lemmas.Bool.{eqb-true}

@@ -9,7 +9,8 @@ use Rattle.my_pool_parts.specs.declared.request.Request.{Request}
 use Rattle.my_pool_parts.specs.declared.request.Standing.{Standing}
 use Rattle.my_pool_parts.specs.declared.request.Standing.TheVariants.{Asks, Waits, Woken, Dials, Checks}
 use Rattle.my_pool_core.specs.declared.limits.Counts.{Counts}
-use Rattle.my_pool_parts.specs.Lists.{without, change_first, how_many}
+use Rattle.my_frame.specs.Lists.{without}
+use Rattle.my_pool_parts.specs.Lists.{change_first, how_many}
 use Rattle.my_pool_parts.specs.Connections.{placed, has_number, is_idle, is_connecting, is_connecting_place, is_checking, is_checking_place, move_to}
 use Rattle.my_pool_parts.specs.Requests.{last_age, has_age, is_waiting, is_waiting_standing, is_asking_standing, is_dialing_standing, is_checking_standing, is_free, standing_as, set_standing, ended, wake}
 use Rattle.my_pool_core.specs.State.{State}

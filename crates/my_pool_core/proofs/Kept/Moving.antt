@@ -8,7 +8,8 @@ use Rattle.my_pool_parts.specs.declared.connection.Place.TheVariants.{Idle, Leas
 use Rattle.my_pool_parts.specs.declared.connection.Times.{Times}
 use Rattle.my_pool_parts.specs.declared.request.Request.{Request}
 use Rattle.my_pool_core.specs.declared.limits.Counts.{Counts}
-use Rattle.my_pool_parts.specs.Lists.{without, how_many}
+use Rattle.my_frame.specs.Lists.{without}
+use Rattle.my_pool_parts.specs.Lists.{how_many}
 use Rattle.my_pool_parts.specs.Connections.{placed, has_number, is_idle, is_idle_place, is_usable, is_left, is_connecting_place, is_checking_place, move_to, unexpired, expired, retire, is_outdated, lasting, outdated}
 use Rattle.my_pool_parts.specs.Requests.{is_waiting}
 use Rattle.my_pool_core.specs.State.{State}

@@ -4,7 +4,8 @@ use Rattle.std.specs.Prelude.{find, ◌==◌}
 use Rattle.my_pool_parts.specs.declared.request.Request.{Request}
 use Rattle.my_pool_parts.specs.declared.request.Standing.{Standing}
 use Rattle.my_pool_parts.specs.declared.request.Standing.TheVariants.{Asks, Waits, Woken, Dials, Checks}
-use Rattle.my_pool_parts.specs.Lists.{without, how_many}
+use Rattle.my_frame.specs.Lists.{without}
+use Rattle.my_pool_parts.specs.Lists.{how_many}
 use Rattle.my_pool_parts.specs.Requests.{last_age, has_age, is_waiting, is_waiting_standing, standing_as, ended, wake}
 use Rattle.my_pool_core.specs.Sound.{dials, checks, is_unmarked, is_dialer, is_last_busy}
 use Rattle.my_pool_parts.proofs.Finding.{one, count-without, count-change-same}

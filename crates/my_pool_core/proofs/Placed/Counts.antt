@@ -12,7 +12,8 @@ use Rattle.my_pool_core.specs.declared.event.PoolEvent.{PoolEvent}
 use Rattle.my_pool_core.specs.declared.event.PoolEvent.TheVariants as events
 use Rattle.my_pool_parts.specs.declared.request.Standing.{Standing}
 use Rattle.my_pool_parts.specs.declared.request.Standing.TheVariants.{Asks, Waits, Woken, Dials, Checks}
-use Rattle.my_pool_parts.specs.Lists.{without, found_is, how_many}
+use Rattle.my_frame.specs.Lists.{without}
+use Rattle.my_pool_parts.specs.Lists.{found_is, how_many}
 use Rattle.my_pool_parts.specs.Connections.{placed, has_number, is_idle, is_leased, is_returned, is_cleaning_place, is_resetting_place, is_closing_place, is_marked, is_resetting, mark_of_place, move_to, latest_usable, retire, next_to_clean}
 use Rattle.my_pool_parts.specs.Requests.{has_age, holds, holds_number, is_queued, waits_up_to, has_waited, is_live}
 use Rattle.my_pool_core.specs.State.{State}

@@ -13,7 +13,8 @@ use Rattle.my_pool_core.specs.declared.event.PoolEvent.{PoolEvent}
 use Rattle.my_pool_core.specs.declared.event.PoolEvent.TheVariants as events
 use Rattle.my_pool_parts.specs.declared.request.Standing.{Standing}
 use Rattle.my_pool_parts.specs.declared.request.Standing.TheVariants.{Asks, Waits, Woken, Dials, Checks}
-use Rattle.my_pool_parts.specs.Lists.{without, how_many, found_is}
+use Rattle.my_frame.specs.Lists.{without}
+use Rattle.my_pool_parts.specs.Lists.{how_many, found_is}
 use Rattle.my_pool_parts.specs.Connections.{has_number, is_idle, is_leased_place, is_returned, is_cleaning_place, is_marked, is_resetting, mark_of_place, move_to, retire, latest_usable, next_to_clean, is_over}
 use Rattle.my_pool_parts.specs.Requests.{has_age, holds, holds_number, is_queued, ended, wake, waits_up_to, has_waited, is_live}
 use Rattle.my_pool_core.specs.State.{State}
@@ -22,7 +23,8 @@ use Rattle.my_pool_core.specs.Steps.{may, step}
 use Rattle.my_pool_core.specs.Sound.{IsSound, is_unnumbered}
 use Rattle.my_pool_core.specs.Owners.{place_at, is_held_place, mark_at, token, token_of}
 use Rattle.my_pool_core.specs.Moves.{IsMove, IsStill, MayReturn, IsAging, PolledPlaces, CancelledPlaces, TakenPlaces, is_due_place, is_ending_place, verdict_place, PlacesMove}
-use Rattle.my_pool_parts.proofs.Finding.{one, count-found, count-implies, found-passes}
+use Rattle.my_frame.proofs.Finding.{found-passes}
+use Rattle.my_pool_parts.proofs.Finding.{one, count-found, count-implies}
 use Rattle.my_pool_core.proofs.Kept.{if-keeps, found-req, retired-usable}
 use Rattle.my_pool_core.proofs.Kept.Holding.{connecting-found, checking-found}
 use Rattle.my_pool_core.proofs.Kept.Moving.{sound-retire}

@@ -3,7 +3,8 @@ use Rattle.std.proofs.Common.{◌≡◌, ℕ, ◌+◌, ◌≤◌, Bool, true, fa
 use Rattle.std.specs.Prelude.{find, ◌==◌, ◌||◌}
 use Rattle.std.specs.List.{list_any}
 use Rattle.std.proofs.lemmas.Bool.Decides.{nat_tests}
-use Rattle.my_pool_parts.specs.Lists.{without, how_many}
+use Rattle.my_frame.specs.Lists.{without}
+use Rattle.my_pool_parts.specs.Lists.{how_many}
 use Rattle.my_pool_parts.proofs.Finding.{one}
 
 -- whether something has this number

@@ -2,7 +2,8 @@
 use Rattle.std.proofs.Common.{◌≡◌, ℕ, ◌+◌, ◌≤◌, ◌<◌, Bool, true, false, cond, List, [], ◌∷◌, ◌++◌, refl, arith, map, subst, sym}
 use Rattle.std.specs.Prelude.{nat_le}
 use Rattle.my_pool_parts.specs.declared.request.Request.{Request}
-use Rattle.my_pool_parts.specs.Lists.{without, change_first, how_many}
+use Rattle.my_frame.specs.Lists.{without}
+use Rattle.my_pool_parts.specs.Lists.{change_first, how_many}
 use Rattle.my_pool_parts.specs.Requests.{asking, IsRising}
 use Rattle.my_pool_parts.proofs.Finding.{one}
 use Rattle.std.proofs.lemmas.Bool.{leb-false}

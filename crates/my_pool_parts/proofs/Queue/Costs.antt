@@ -5,7 +5,8 @@ use Rattle.std.specs.List.{list_any}
 use Rattle.std.proofs.Math.Nat.{pow-suc}
 use Rattle.my_pool_parts.specs.declared.request.Request.{Request}
 use Rattle.my_pool_parts.specs.declared.request.Standing.TheVariants.{Woken}
-use Rattle.my_pool_parts.specs.Lists.{how_many, without}
+use Rattle.my_frame.specs.Lists.{without}
+use Rattle.my_pool_parts.specs.Lists.{how_many}
 use Rattle.my_pool_parts.specs.Requests.{last_age, asking, has_age, is_waiting, standing_as, ended, wake, with_last}
 use Rattle.my_pool_parts.proofs.Finding.{shorter-without, length-change, count-append}
 

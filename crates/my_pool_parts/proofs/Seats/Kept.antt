@@ -8,7 +8,8 @@ use Rattle.std.proofs.lemmas.List.{length-map, get_or-map, map-set, map-append, 
 use Rattle.std.proofs.lemmas.List.Edits.{remove-append_left, length-remove}
 use Rattle.my_pool_parts.specs.declared.request.Request.{Request}
 use Rattle.my_pool_parts.specs.declared.seat.Seat.{Seat}
-use Rattle.my_pool_parts.specs.Lists.{how_many, without, change_first}
+use Rattle.my_frame.specs.Lists.{without}
+use Rattle.my_pool_parts.specs.Lists.{how_many, change_first}
 use Rattle.my_pool_parts.specs.Requests.{asking, has_age, is_dialing, is_queued, IsRising}
 use Rattle.my_pool_parts.specs.Live.{age_if, IsQueue, requests_of, slots_of, IsKeyed, IsSeated}
 use Rattle.my_pool_parts.proofs.Finding.{one}

@@ -1,7 +1,8 @@
 use Rattle.std.proofs.Common.{◌≡◌, ◌+◌, ◌-◌, ◌++◌, ◌∷◌, [], true, cond, sym, ap, ◌∙◌, arith, subst, deque_capacity}
 use Rattle.std.specs.List.{list_any}
 use Rattle.my_pool_parts.specs.Connections.{has_number, is_idle, is_returned, is_leased, is_idle_place, is_returned_place, is_leased_place}
-use Rattle.my_pool_parts.specs.Lists.{without, found_is}
+use Rattle.my_frame.specs.Lists.{without}
+use Rattle.my_pool_parts.specs.Lists.{found_is}
 use Rattle.my_pool_parts.proofs.Finding.{one, count-le-length}
 use Rattle.my_pool_parts.specs.Stored.{numbers_at, IsStored}
 use Rattle.my_pool_parts.proofs.Queues.{byte-one, queue-once, queue-room, leaves, leased-counted, stored-moved, one-le}

@@ -1,9 +1,9 @@
 use Rattle.std.proofs.Common.{◌≡◌, true, is_some, sym, ap, ◌∙◌, arith, subst}
 use Rattle.std.specs.List.{list_any}
 use Rattle.my_pool_parts.specs.Connections.{has_number}
-use Rattle.my_pool_parts.specs.Lists.{without}
+use Rattle.my_frame.specs.Lists.{without}
 use Rattle.my_pool_parts.specs.Stored.{stored}
-use Rattle.my_pool_parts.proofs.Finding.{without-unfound}
+use Rattle.my_frame.proofs.Finding.{without-unfound}
 use Rattle.my_pool_parts.proofs.Queues.{any-where-some, none-where-not, some-placed}
 use Rattle.my_pool_parts.proofs.connections.Connections.take_out.Goals as goal
 

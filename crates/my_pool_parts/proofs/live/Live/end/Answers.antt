@@ -4,9 +4,9 @@ use Rattle.std.specs.Option.{option_map}
 use Rattle.std.proofs.lemmas.Bool.{ne_eqb}
 use Rattle.my_pool_parts.specs.declared.seat.Seat.{Seat}
 use Rattle.my_pool_parts.specs.Live.{requests_of}
-use Rattle.my_pool_parts.specs.Lists.{without}
+use Rattle.my_frame.specs.Lists.{without}
 use Rattle.my_pool_parts.specs.Requests.{has_age, last_age, is_dialing, is_queued}
-use Rattle.my_pool_parts.proofs.Finding.{without-unfound}
+use Rattle.my_frame.proofs.Finding.{without-unfound}
 use Rattle.my_pool_parts.proofs.Queue.Lived.{held-few}
 use Rattle.my_pool_parts.proofs.Seats.{found-in}
 use Rattle.my_pool_parts.proofs.Seats.Kept.{found, found-counted, seated-ended, ended-list, seats-few}

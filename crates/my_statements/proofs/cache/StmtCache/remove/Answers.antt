@@ -1,9 +1,11 @@
 use Rattle.std.proofs.Common.{◌≡◌, Some, None, sym, ap, ◌∙◌, subst, cond}
 use Rattle.std.specs.HashMap.{get}
 use Rattle.std.specs.List.{find}
-use Rattle.my_statements.specs.Cache.{cached, has_id, without}
+use Rattle.my_frame.specs.Lists.{without}
+use Rattle.my_statements.specs.Cache.{cached, has_id}
 use Rattle.my_statements.specs.Indexed.{Finds, IsIndexed, list_of, capacity_of}
-use Rattle.my_statements.proofs.Apart.{same_text, unfound}
+use Rattle.my_frame.proofs.Finding.{without-unfound}
+use Rattle.my_statements.proofs.Apart.{same_text}
 use Rattle.my_statements.proofs.Steps.{found-at, finds-without, left-of, removed}
 use Rattle.my_statements.proofs.cache.StmtCache.remove.Goals as goal
 
@@ -23,7 +25,7 @@ invariant_of-self-in_default c =
     let n = c.args.id in
     let none : find (has_id n) (list_of i.entries) ≡ None = sym (found-at n i.entries c.self.invariant.numbered) ∙ sym c.pop.ensures.value ∙ c.in_default.is in
     subst (λ e. IsIndexed e i.ids i.keeps) (sym c.pop.ensures.entries)
-    (removed n i.entries i.ids i.ids i.keeps c.self.invariant (subst (Finds i.ids) (sym (unfound (has_id n) (list_of i.entries) none)) c.self.invariant.found))
+    (removed n i.entries i.ids i.ids i.keeps c.self.invariant (subst (Finds i.ids) (sym (without-unfound (has_id n) (list_of i.entries) none)) c.self.invariant.found))
 
 pub returns-in-Some : goal.returns-in-Some
 returns-in-Some c =
