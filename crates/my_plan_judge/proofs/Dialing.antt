@@ -8,7 +8,7 @@ use Rattle.my_run_judge.specs.declared.judging.Found.TheVariants.{Right, Wrong}
 use Rattle.my_script.specs.declared.step.Step.{Step}
 use Rattle.my_script.specs.declared.transcript.StepAnswer.{StepAnswer}
 use Rattle.my_world.specs.declared.line.WorldLine.{WorldLine}
-use Rattle.my_world.specs.Plan.{all_dials_for, dials_for}
+use Rattle.my_world.specs.Plan.{all_given, dials_of, given_to}
 use Rattle.my_plan_judge.specs.declared.dials.DialSpot.{DialSpot}
 use Rattle.my_plan_judge.specs.declared.dials.DialSpot.TheVariants.{Ahead}
 use Rattle.my_plan_judge.specs.Dials.{DialKept, DialsFound, LineDials, after_step, dials_now, items_after, left_by, spot_after}
@@ -16,16 +16,16 @@ use Rattle.my_plan_judge.proofs.Keeping.{not_so}
 
 -- the items so far, with those of the lines that are left
 abbrev pub ItemsSo : ℕ → List WorldLine → List DialItem → List WorldLine → Type 0
-ItemsSo n lines items left = items ++ all_dials_for n left ≡ all_dials_for n lines
+ItemsSo n lines items left = items ++ all_given dials_of n left ≡ all_given dials_of n lines
 
 pub items_more : (n : ℕ) (lines : List WorldLine) (items : List DialItem) (left : List WorldLine) (line : WorldLine) (later : List WorldLine) (new : List DialItem) → ItemsSo n lines items left → left ≡ line ∷ later
-    → new ≡ items ++ dials_for n line → ItemsSo n lines new later
-items_more n lines items left line later new so e f = ap (λ (is : List DialItem). is ++ all_dials_for n later) f
-    ∙ append_assoc items (dials_for n line) (all_dials_for n later)
-    ∙ subst (λ (ls : List WorldLine). items ++ all_dials_for n ls ≡ all_dials_for n lines) e so
+    → new ≡ items ++ given_to dials_of n line → ItemsSo n lines new later
+items_more n lines items left line later new so e f = ap (λ (is : List DialItem). is ++ all_given dials_of n later) f
+    ∙ append_assoc items (given_to dials_of n line) (all_given dials_of n later)
+    ∙ subst (λ (ls : List WorldLine). items ++ all_given dials_of n ls ≡ all_given dials_of n lines) e so
 
-pub items_all : (n : ℕ) (lines : List WorldLine) (items : List DialItem) (left : List WorldLine) → ItemsSo n lines items left → left ≡ [] → items ≡ all_dials_for n lines
-items_all n lines items left so e = sym (append-nil items) ∙ subst (λ (ls : List WorldLine). items ++ all_dials_for n ls ≡ all_dials_for n lines) e so
+pub items_all : (n : ℕ) (lines : List WorldLine) (items : List DialItem) (left : List WorldLine) → ItemsSo n lines items left → left ≡ [] → items ≡ all_given dials_of n lines
+items_all n lines items left so e = sym (append-nil items) ∙ subst (λ (ls : List WorldLine). items ++ all_given dials_of n ls ≡ all_given dials_of n lines) e so
 
 -- What is found of the dials from here on is found of the whole.
 pub record DialsSo (n : ℕ) (first : List DialItem) (steps : List Step) (answers : List StepAnswer) (index : ℕ)

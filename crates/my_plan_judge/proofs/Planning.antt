@@ -7,7 +7,7 @@ use Rattle.my_link.specs.declared.link.WriteItem.{WriteItem}
 use Rattle.my_link.specs.declared.link.WriteItem.TheVariants as puts
 use Rattle.my_link.specs.Spent.{spelled, fails_in, write_fails_in}
 use Rattle.my_world.specs.declared.line.WorldLine.{WorldLine}
-use Rattle.my_world.specs.Plan.{all_for, all_writes_for, dripped, items_for, writes_for}
+use Rattle.my_world.specs.Plan.{all_given, dripped, given_to, items_of, writes_of}
 use Rattle.my_plan_judge.specs.Planned.{PlanSeen, before_end, has_end, no_plan, plan_on, plan_with, planned, with_bytes}
 
 -- each byte by itself
@@ -89,7 +89,7 @@ read_dripped p bs e = rw e (plan_is _ _ _ _ _ _ (ap (λ (xs : List ℕ). p.bytes
 
 -- so far, with the lines that are left
 pub record PlannedSo (n : ℕ) (lines : List WorldLine) (p : PlanSeen) (left : List WorldLine) : Type 0 where
-  pub rest : plan_on p (all_for n left) (all_writes_for n left) ≡ planned n lines
+  pub rest : plan_on p (all_given items_of n left) (all_given writes_of n left) ≡ planned n lines
   pub within : p.faults + 2 * length left ≤ 2 * length lines
 
 pub planned_first : (n : ℕ) (lines : List WorldLine) → PlannedSo n lines no_plan lines
@@ -101,9 +101,9 @@ module _ (n : ℕ) (lines : List WorldLine) (p : PlanSeen) (left : List WorldLin
       let count : length left ≡ length later + 1 = ap length e ∙ omega arith in
       let within : p.faults + 2 * length left ≤ 2 * length lines = so.within in
       record {
-        rest = ap (λ (z : PlanSeen). plan_on z (all_for n later) (all_writes_for n later)) f
-            ∙ on_more p (items_for n line) (all_for n later) (writes_for n line) (all_writes_for n later)
-            ∙ subst (λ (ls : List WorldLine). plan_on p (all_for n ls) (all_writes_for n ls) ≡ planned n lines) e so.rest;
+        rest = ap (λ (z : PlanSeen). plan_on z (all_given items_of n later) (all_given writes_of n later)) f
+            ∙ on_more p (given_to items_of n line) (all_given items_of n later) (given_to writes_of n line) (all_given writes_of n later)
+            ∙ subst (λ (ls : List WorldLine). plan_on p (all_given items_of n ls) (all_given writes_of n ls) ≡ planned n lines) e so.rest;
         within = omega (arith, within, count, low);
       }
 
@@ -114,7 +114,7 @@ module _ (n : ℕ) (lines : List WorldLine) (p : PlanSeen) (left : List WorldLin
       omega (arith, within, count, low)
 
   pub planned_all : left ≡ [] → p ≡ planned n lines
-  planned_all e = plan_is _ _ _ _ _ _ (by_end p.ends) (by_faults p.ends) (by_ends p.ends) ∙ subst (λ (ls : List WorldLine). plan_on p (all_for n ls) (all_writes_for n ls) ≡ planned n lines) e so.rest
+  planned_all e = plan_is _ _ _ _ _ _ (by_end p.ends) (by_faults p.ends) (by_ends p.ends) ∙ subst (λ (ls : List WorldLine). plan_on p (all_given items_of n ls) (all_given writes_of n ls) ≡ planned n lines) e so.rest
     where
       by_end : (d : Bool) → p.bytes ≡ (if d then p.bytes else p.bytes ++ [])
       by_end true = refl

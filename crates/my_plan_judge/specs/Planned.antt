@@ -5,7 +5,7 @@ use Rattle.my_link.specs.declared.link.ReadItem.TheVariants.{Bytes, Turn, Wait, 
 use Rattle.my_link.specs.declared.link.WriteItem.{WriteItem}
 use Rattle.my_link.specs.Spent.{spelled, fails_in, write_fails_in}
 use Rattle.my_world.specs.declared.line.WorldLine.{WorldLine}
-use Rattle.my_world.specs.Plan.{all_for, all_writes_for, items_for, writes_for}
+use Rattle.my_world.specs.Plan.{all_given, given_to, items_of, writes_of}
 
 -- a link that ended gives nothing else
 abbrev pub before_end : List ReadItem → List ReadItem
@@ -52,8 +52,8 @@ plan_on p is ws = record {
 }
 
 abbrev pub plan_with : ℕ → PlanSeen → WorldLine → PlanSeen
-plan_with n p line = plan_on p (items_for n line) (writes_for n line)
+plan_with n p line = plan_on p (given_to items_of n line) (given_to writes_of n line)
 
 -- what all lines say of link n
 abbrev pub planned : ℕ → List WorldLine → PlanSeen
-planned n lines = plan_seen (all_for n lines) (all_writes_for n lines)
+planned n lines = plan_seen (all_given items_of n lines) (all_given writes_of n lines)

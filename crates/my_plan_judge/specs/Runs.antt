@@ -9,7 +9,7 @@ use Rattle.my_script.specs.declared.transcript.StepAnswer.{StepAnswer}
 use Rattle.my_script.specs.declared.transcript.Tape.{Tape}
 use Rattle.my_world.specs.declared.line.WorldLine.{WorldLine}
 use Rattle.my_plan_judge.specs.Left.{first_left}
-use Rattle.my_world.specs.Plan.{all_dials_for}
+use Rattle.my_world.specs.Plan.{all_given, dials_of}
 use Rattle.my_plan_judge.specs.Dials.{DialsFound}
 use Rattle.my_plan_judge.specs.declared.dials.DialSpot.TheVariants.{Ahead}
 use Rattle.my_plan_judge.specs.Lines.{LinkFound}
@@ -17,7 +17,7 @@ use Rattle.my_plan_judge.specs.Planned.{planned}
 
 -- what is found of the dials of number n
 abbrev pub DialsAt : List WorldLine → List Step → List StepAnswer → ℕ → Found → Type 0
-DialsAt lines steps answers n found = DialsFound n 0 (Ahead n) (all_dials_for n lines) steps answers found
+DialsAt lines steps answers n found = DialsFound n 0 (Ahead n) (all_given dials_of n lines) steps answers found
 
 -- what is found at the link of a tape
 abbrev pub TapeFound : List WorldLine → List StepAnswer → Tape → Found → Type 0

@@ -2,7 +2,7 @@
 
 ghost use Rattle.std.specs.Prelude.{◌≡◌, ◌++◌, IfOk, OnOk};
 ghost use Rattle.std.specs.Bool.{Decides};
-ghost use Rattle.my_world.specs.Plan.{all_dials_for, dials_for};
+ghost use Rattle.my_world.specs.Plan.{all_given, dials_of, given_to};
 ghost use Rattle.my_plan_judge.specs.Dials.{
   DialKept,
   DialsFound,
@@ -15,7 +15,6 @@ ghost use Rattle.my_plan_judge.specs.Dials.{
   spot_after,
 };
 
-use crate::plan::link_number;
 use my_frame::NoMemory;
 use my_link::{DialItem, Met};
 use my_run_judge::Found;
@@ -36,9 +35,9 @@ pub enum DialSpot {
 
 // A line more.
 fn add_dial(items: &mut Vec<DialItem>, number: u64, line: &WorldLine) -> Result<(), NoMemory>
-    ensures { OnOk result (items.new.items ≡ items.old.items ++ dials_for number line.now) }
+    ensures { OnOk result (items.new.items ≡ items.old.items ++ given_to dials_of number line.now) }
 {
-    if link_number(line) != number {
+    if line.link() != number {
         return Ok(());
     }
     match line {
@@ -55,7 +54,7 @@ pub fn dial_items(
     number: u64,
     lines: &[WorldLine],
 ) -> Result<Vec<DialItem>, NoMemory>
-    ensures { IfOk result (λ items. items.items ≡ all_dials_for number lines.now) }
+    ensures { IfOk result (λ items. items.items ≡ all_given dials_of number lines.now) }
 {
     let mut items = Vec::new(alloc);
     let mut left = lines;

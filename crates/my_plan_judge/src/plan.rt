@@ -2,7 +2,7 @@
 
 ghost use Rattle.std.specs.Prelude.{◌≡◌, ◌≤◌, ◌+◌, ◌<◌, ◌^◌, [], false, IfOk, OnOk};
 ghost use Rattle.my_plan_judge.specs.Planned.{no_plan, plan_on, plan_with, planned, with_bytes};
-ghost use Rattle.my_world.specs.Plan.{items_of, link_of, packet_of, writes_of};
+ghost use Rattle.my_world.specs.Plan.{items_of, packet_of, writes_of};
 
 use my_frame::NoMemory;
 use my_world::WorldLine;
@@ -26,27 +26,6 @@ impl Model for LinkPlan {
     ghost Value = { PlanSeen };
 
     ghost view = { λ p. record { bytes = p.bytes.items; faults = p.faults; ends = p.ends } };
-}
-
-/// The number of the link that a line is of, and 0 where it is of none.
-pub fn link_number(line: &WorldLine) -> u64
-    ensures { result ≡ link_of line.now }
-{
-    match line {
-        WorldLine::Packet(link, _, _)
-        | WorldLine::Bytes(link, _)
-        | WorldLine::Turn(link)
-        | WorldLine::Wait(link)
-        | WorldLine::Fail(link)
-        | WorldLine::End(link)
-        | WorldLine::Drip(link, _, _)
-        | WorldLine::Accept(link, _)
-        | WorldLine::WriteWait(link)
-        | WorldLine::WriteFail(link)
-        | WorldLine::DialWait(link)
-        | WorldLine::DialFail(link) => *link,
-        WorldLine::Advance(_) | WorldLine::Random(_) => 0,
-    }
 }
 
 impl LinkPlan {
@@ -125,7 +104,7 @@ impl LinkPlan {
         ensures plan { OnOk result (self.new ≡ plan_with number self.old line.now) }
         ensures within { OnOk result (self.new.faults ≤ self.old.faults + 2) }
     {
-        if link_number(line) != number {
+        if line.link() != number {
             return Ok(());
         }
         if !self.ends {

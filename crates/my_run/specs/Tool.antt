@@ -3,7 +3,7 @@ use Rattle.std.specs.Prelude.{◌≡◌, ◌&&◌, not, ℕ, List, [], Some, Non
 use Rattle.my_frame.specs.declared.limits.TheConstants.{MOST_INPUT}
 use Rattle.my_grammar.specs.declared.login.Login.{Login}
 use Rattle.my_opts.specs.Opts.{OptsView}
-use Rattle.my_world.specs.Plan.{planned_lines, written_lines, dialed_lines, chance_after}
+use Rattle.my_world.specs.Plan.{chance_after, dials_of, items_of, with_lines, writes_of}
 use Rattle.my_script.specs.declared.step.Step.{Step}
 use Rattle.my_world.specs.declared.line.WorldLine.{WorldLine}
 use Rattle.my_script.specs.declared.transcript.Transcript.{Transcript}
@@ -36,9 +36,9 @@ pub record IsBlank (w v : SinkSeen) (t : Transcript) : Type 0 where
 -- the plan of the world once it was handed the script's lines; a world that takes no plan is handed none
 abbrev pub plans_with : WorldSeen → List WorldLine → Plans
 plans_with world lines = record {
-  reads = λ n. if world.takes then planned_lines n lines (world.plans.reads n) else world.plans.reads n;
-  writes = λ n. if world.takes then written_lines n lines (world.plans.writes n) else world.plans.writes n;
-  dials = λ n. if world.takes then dialed_lines n lines (world.plans.dials n) else world.plans.dials n;
+  reads = λ n. if world.takes then with_lines items_of n lines (world.plans.reads n) else world.plans.reads n;
+  writes = λ n. if world.takes then with_lines writes_of n lines (world.plans.writes n) else world.plans.writes n;
+  dials = λ n. if world.takes then with_lines dials_of n lines (world.plans.dials n) else world.plans.dials n;
 }
 
 -- and what else a run changes

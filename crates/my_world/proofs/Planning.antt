@@ -10,7 +10,7 @@ use Rattle.my_link.specs.declared.dialer.DialItem.{DialItem}
 use Rattle.my_world.specs.declared.line.WorldLine.{WorldLine}
 use Rattle.my_world.specs.declared.memory.dials.PlannedDial.{PlannedDial}
 use Rattle.my_world.specs.MemDials.{dials_at}
-use Rattle.my_world.specs.Plan.{dripped, link_of, given_by, dials_of, dials_for, plans_on}
+use Rattle.my_world.specs.Plan.{dials_of, dripped, given_by, given_to, link_of, plans_on}
 use Rattle.my_link.specs.Planned.{PlannedItems, items_at, place_at}
 use Rattle.my_world.specs.MemWorld.{plans_of}
 use Rattle.my_world.specs.World.{SameAt, SamePlans}
@@ -157,7 +157,7 @@ others n place ps p q e h f g m differs =
     ap (λ k. items_at m (slice_set ps k q)) e ∙ set_at n m ps q h' numbered ∙ ap (λ t. if t then q.items else items_at m ps) apart
 
 -- what a line gave the links and their dials is its plan
-pub planned : (line : WorldLine) (ls ms : List PlannedItems) (ds es : List PlannedDial) → ((n : ℕ) → items_at n ms ≡ grown (items_at n ls) (if link_of line == n then given_by line else no_items)) → ((n : ℕ) → dials_at n es ≡ dials_at n ds ++ dials_for n line) → SamePlans (plans_on line (plans_of ls ds)) (plans_of ms es)
+pub planned : (line : WorldLine) (ls ms : List PlannedItems) (ds es : List PlannedDial) → ((n : ℕ) → items_at n ms ≡ grown (items_at n ls) (if link_of line == n then given_by line else no_items)) → ((n : ℕ) → dials_at n es ≡ dials_at n ds ++ given_to dials_of n line) → SamePlans (plans_on line (plans_of ls ds)) (plans_of ms es)
 planned line ls ms ds es items dials n = record {
   reads = ap Some (more_reads (link_of line == n) (items_at n ms) (items_at n ls) (given_by line) (items n));
   writes = ap Some (more_writes (link_of line == n) (items_at n ms) (items_at n ls) (given_by line) (items n));
@@ -172,7 +172,7 @@ none_given line e n a = by_test (link_of line == n)
     by_test true = sym (grown_none a) ∙ ap (grown a) (sym e)
     by_test false = sym (grown_none a)
 
-pub none_dialed : (line : WorldLine) → dials_of line ≡ [] → (n : ℕ) (ds : List DialItem) → ds ≡ ds ++ dials_for n line
+pub none_dialed : (line : WorldLine) → dials_of line ≡ [] → (n : ℕ) (ds : List DialItem) → ds ≡ ds ++ given_to dials_of n line
 none_dialed line e n ds = by_test (link_of line == n)
   where
     by_test : (t : Bool) → ds ≡ ds ++ (if t then dials_of line else [])
@@ -180,7 +180,7 @@ none_dialed line e n ds = by_test (link_of line == n)
     by_test false = sym (append-nil ds)
 
 -- one item more for the dials of its number
-pub dialed : (line : WorldLine) (d : PlannedDial) (ds : List PlannedDial) → link_of line ≡ d.number → dials_of line ≡ d.item ∷ [] → (n : ℕ) → dials_at n (ds ++ d ∷ []) ≡ dials_at n ds ++ dials_for n line
+pub dialed : (line : WorldLine) (d : PlannedDial) (ds : List PlannedDial) → link_of line ≡ d.number → dials_of line ≡ d.item ∷ [] → (n : ℕ) → dials_at n (ds ++ d ∷ []) ≡ dials_at n ds ++ given_to dials_of n line
 dialed line d [] e f n = by_test (link_of line == n) refl
   where
     by_test : (t : Bool) → (link_of line == n) ≡ t → dials_at n (d ∷ []) ≡ (if t then dials_of line else [])
@@ -188,7 +188,7 @@ dialed line d [] e f n = by_test (link_of line == n) refl
     by_test false g = let is : (d.number == n) ≡ false = ap (λ k. k == n) (sym e) ∙ g in rw is refl
 dialed line d (p ∷ ds) e f n = by_test (p.number == n) (dialed line d ds e f n)
   where
-    by_test : (t : Bool) → dials_at n (ds ++ d ∷ []) ≡ dials_at n ds ++ dials_for n line → (if t then p.item ∷ dials_at n (ds ++ d ∷ []) else dials_at n (ds ++ d ∷ [])) ≡ (if t then p.item ∷ dials_at n ds else dials_at n ds) ++ dials_for n line
+    by_test : (t : Bool) → dials_at n (ds ++ d ∷ []) ≡ dials_at n ds ++ given_to dials_of n line → (if t then p.item ∷ dials_at n (ds ++ d ∷ []) else dials_at n (ds ++ d ∷ [])) ≡ (if t then p.item ∷ dials_at n ds else dials_at n ds) ++ given_to dials_of n line
     by_test true more = ap (λ is. p.item ∷ is) more
     by_test false more = more
 

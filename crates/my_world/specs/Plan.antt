@@ -93,65 +93,37 @@ dials_of _ = []
 abbrev pub given_by : WorldLine → LinkItems
 given_by line = record { reads = items_of line; writes = writes_of line }
 
--- what a line gives the link of number n
-abbrev pub items_for : ℕ → WorldLine → List ReadItem
-items_for n line = if link_of line == n then items_of line else []
+-- of what lines give of one kind (to be read, for writes, for dials): what a line gives the link of number n
+abbrev pub given_to : {I : Type 0} → (WorldLine → List I) → ℕ → WorldLine → List I
+given_to gives n line = if link_of line == n then gives line else []
 
--- the plan of link n, with a line more
-abbrev pub planned_on : ℕ → WorldLine → Option (List ReadItem) → Option (List ReadItem)
-planned_on n line plan = option_map (λ is. is ++ items_for n line) plan
+-- what all lines give it
+abbrev pub all_given : {I : Type 0} → (WorldLine → List I) → ℕ → List WorldLine → List I
+all_given gives n [] = []
+all_given gives n (line ∷ rest) = given_to gives n line ++ all_given gives n rest
 
--- all lines' items for link n
-abbrev pub all_for : ℕ → List WorldLine → List ReadItem
-all_for n [] = []
-all_for n (line ∷ rest) = items_for n line ++ all_for n rest
+-- its plan, with a line more
+abbrev pub with_line : {I : Type 0} → (WorldLine → List I) → ℕ → WorldLine → Option (List I) → Option (List I)
+with_line gives n line plan = option_map (λ is. is ++ given_to gives n line) plan
 
--- the plan of link n, with these lines more
-abbrev pub planned_lines : ℕ → List WorldLine → Option (List ReadItem) → Option (List ReadItem)
-planned_lines n lines plan = option_map (λ is. is ++ all_for n lines) plan
-
--- the same for writes
-abbrev pub writes_for : ℕ → WorldLine → List WriteItem
-writes_for n line = if link_of line == n then writes_of line else []
-
-abbrev pub written_on : ℕ → WorldLine → Option (List WriteItem) → Option (List WriteItem)
-written_on n line plan = option_map (λ ws. ws ++ writes_for n line) plan
-
-abbrev pub all_writes_for : ℕ → List WorldLine → List WriteItem
-all_writes_for n [] = []
-all_writes_for n (line ∷ rest) = writes_for n line ++ all_writes_for n rest
-
-abbrev pub written_lines : ℕ → List WorldLine → Option (List WriteItem) → Option (List WriteItem)
-written_lines n lines plan = option_map (λ ws. ws ++ all_writes_for n lines) plan
-
--- the same for dials
-abbrev pub dials_for : ℕ → WorldLine → List DialItem
-dials_for n line = if link_of line == n then dials_of line else []
-
-abbrev pub dialed_on : ℕ → WorldLine → Option (List DialItem) → Option (List DialItem)
-dialed_on n line plan = option_map (λ ds. ds ++ dials_for n line) plan
-
-abbrev pub all_dials_for : ℕ → List WorldLine → List DialItem
-all_dials_for n [] = []
-all_dials_for n (line ∷ rest) = dials_for n line ++ all_dials_for n rest
-
-abbrev pub dialed_lines : ℕ → List WorldLine → Option (List DialItem) → Option (List DialItem)
-dialed_lines n lines plan = option_map (λ ds. ds ++ all_dials_for n lines) plan
+-- its plan, with these lines more
+abbrev pub with_lines : {I : Type 0} → (WorldLine → List I) → ℕ → List WorldLine → Option (List I) → Option (List I)
+with_lines gives n lines plan = option_map (λ is. is ++ all_given gives n lines) plan
 
 -- each link's plan, with a line more
 abbrev pub plans_on : WorldLine → Plans → Plans
 plans_on line plans = record {
-  reads = λ n. planned_on n line (plans.reads n);
-  writes = λ n. written_on n line (plans.writes n);
-  dials = λ n. dialed_on n line (plans.dials n);
+  reads = λ n. with_line items_of n line (plans.reads n);
+  writes = λ n. with_line writes_of n line (plans.writes n);
+  dials = λ n. with_line dials_of n line (plans.dials n);
 }
 
 -- with these lines more
 abbrev pub plans_after : List WorldLine → Plans → Plans
 plans_after lines plans = record {
-  reads = λ n. planned_lines n lines (plans.reads n);
-  writes = λ n. written_lines n lines (plans.writes n);
-  dials = λ n. dialed_lines n lines (plans.dials n);
+  reads = λ n. with_lines items_of n lines (plans.reads n);
+  writes = λ n. with_lines writes_of n lines (plans.writes n);
+  dials = λ n. with_lines dials_of n lines (plans.dials n);
 }
 
 -- the moment that comes this many milliseconds later, at most the last one

@@ -1,5 +1,8 @@
 //! The lines of a world's plan.
 
+ghost use Rattle.std.specs.Prelude.{◌≡◌};
+ghost use Rattle.my_world.specs.Plan.{link_of};
+
 use my_frame::Blob;
 
 /// A line of a world's plan. Its first field is the number of its link, which is that of the link's connection; the last two
@@ -35,4 +38,27 @@ pub enum WorldLine {
     Advance(u64),
     /// This word comes after the other random words.
     Random(u64),
+}
+
+impl WorldLine {
+    /// The number of the link that it is of, and 0 where it is of none.
+    pub fn link(&self) -> u64
+        ensures { result ≡ link_of self.now }
+    {
+        match self {
+            WorldLine::Packet(link, _, _)
+            | WorldLine::Bytes(link, _)
+            | WorldLine::Turn(link)
+            | WorldLine::Wait(link)
+            | WorldLine::Fail(link)
+            | WorldLine::End(link)
+            | WorldLine::Drip(link, _, _)
+            | WorldLine::Accept(link, _)
+            | WorldLine::WriteWait(link)
+            | WorldLine::WriteFail(link)
+            | WorldLine::DialWait(link)
+            | WorldLine::DialFail(link) => *link,
+            WorldLine::Advance(_) | WorldLine::Random(_) => 0,
+        }
+    }
 }

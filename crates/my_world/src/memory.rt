@@ -5,7 +5,7 @@ ghost use Rattle.my_link.specs.Outside.{no_counts};
 ghost use Rattle.my_link.specs.Link.{accept_back};
 ghost use Rattle.my_link.specs.Memory.{is_filled};
 ghost use Rattle.my_link.specs.Items.{no_items};
-ghost use Rattle.my_world.specs.Plan.{given_by, packet_of, dripped, bytes_item, link_of};
+ghost use Rattle.my_world.specs.Plan.{given_by, packet_of, dripped, bytes_item};
 ghost use Rattle.my_world.specs.MemParts.{PartIs};
 ghost use Rattle.my_link.specs.Planned.{added, is_lawful, items_at, items_with, place_at};
 
@@ -47,26 +47,6 @@ fn packet_bytes(alloc: Global, number: u8, payload: &[u8]) -> Result<Vec<u8>, Al
     bytes.push(number)?;
     bytes.extend_from_slice(payload)?;
     Ok(bytes)
-}
-
-fn link_number(line: &WorldLine) -> u64
-    ensures { result ≡ link_of line.now }
-{
-    match line {
-        WorldLine::Packet(link, _, _)
-        | WorldLine::Bytes(link, _)
-        | WorldLine::Turn(link)
-        | WorldLine::Wait(link)
-        | WorldLine::Fail(link)
-        | WorldLine::End(link)
-        | WorldLine::Drip(link, _, _)
-        | WorldLine::Accept(link, _)
-        | WorldLine::WriteWait(link)
-        | WorldLine::WriteFail(link)
-        | WorldLine::DialWait(link)
-        | WorldLine::DialFail(link) => *link,
-        WorldLine::Advance(_) | WorldLine::Random(_) => 0,
-    }
 }
 
 // One item to be read.
@@ -322,7 +302,7 @@ impl World for MemWorld {
         match part_of(line) {
             Part::Links => {
                 let addition = addition(self.alloc, line)?;
-                add(self.alloc, &mut self.links, link_number(line), addition)?;
+                add(self.alloc, &mut self.links, line.link(), addition)?;
             }
             Part::Dial(planned) => self.dials.push(planned)?,
             Part::Advance(by) => self.moment = self.moment.saturating_add(by),

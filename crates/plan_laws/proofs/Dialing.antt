@@ -14,7 +14,7 @@ use Rattle.my_script.specs.declared.transcript.Outcome.{Outcome}
 use Rattle.my_script.specs.declared.transcript.StepAnswer.{StepAnswer}
 use Rattle.my_script.specs.declared.transcript.Use.{Use}
 use Rattle.my_world.specs.declared.line.WorldLine.{WorldLine}
-use Rattle.my_world.specs.Plan.{all_dials_for}
+use Rattle.my_world.specs.Plan.{all_given, dials_of}
 use Rattle.my_world.specs.World.{Plans, HeldBy, FailedBy, GivenBy}
 use Rattle.my_steps.specs.Grows.{At, AreGrown, Dials, Holds, Fails, Links, GoesOn, ItemsAt, Line, StepGrows, UnstreamsAt, handles_after}
 use Rattle.my_steps.specs.Handle.{Handle, Dialing, at_number}
@@ -68,7 +68,7 @@ dial_so n login plan rules its left o us made e (Links used x later a new given 
 -- A run over a world that told the plans of these lines.
 module _ (login : Login) (plans : Plans) (lines : List WorldLine) (told : ArePlansOf lines plans) (n : ℕ) where
   abbrev first : List DialItem
-  first = all_dials_for n lines
+  first = all_given dials_of n lines
 
   -- where the lines so far are in the dials of the number, by the handles
   abbrev StandsAt : List Handle → DialSpot → List DialItem → Type 0
@@ -99,7 +99,7 @@ module _ (login : Login) (plans : Plans) (lines : List WorldLine) (told : ArePla
           let none : k ≡ 0 = grind (arith, nat_tests) in
           let sum : length hs + k ≡ n = s.0 in
           let here : length hs ≡ n = omega (arith, none, sum) in
-          let d : DialSo left us r.made = dial_so (length hs) login (plans.reads (length hs)) (plans.writes (length hs)) (plans.dials (length hs)) left o us r.made (told.dials (length hs) ∙ ap (λ m. Some (all_dials_for m lines)) here ∙ ap Some (sym s.1)) r.dials in
+          let d : DialSo left us r.made = dial_so (length hs) login (plans.reads (length hs)) (plans.writes (length hs)) (plans.dials (length hs)) left o us r.made (told.dials (length hs) ∙ ap (λ m. Some (all_given dials_of m lines)) here ∙ ap Some (sym s.1)) r.dials in
           dialed left us r.made ts d (omega (arith, grown, here)) (ap (at_number ts) (sym here) ∙ ap (λ (xs : List Handle). at_number xs (length hs)) r.others ∙ push_last hs r.made)
       by_test false e =
           let some : k ≢ 0 = λ z. grind (arith, nat_tests) in
@@ -231,7 +231,7 @@ module _ (login : Login) (plans : Plans) (lines : List WorldLine) (told : ArePla
             (before.reaches (l.step ∷ ss) (view ∷ vs) (line.0, r)));
       }
 
-  pub each_dialed : (ls : List Line) → AreGrown login plans ls → (ss : List Step) (bs : List StepAnswer) → steps_of ls ≡ ss → map answer_view bs ≡ answers_of ls → DialsKept n (Ahead n) (all_dials_for n lines) ss bs
+  pub each_dialed : (ls : List Line) → AreGrown login plans ls → (ss : List Step) (bs : List StepAnswer) → steps_of ls ≡ ss → map answer_view bs ≡ answers_of ls → DialsKept n (Ahead n) (all_given dials_of n lines) ss bs
   each_dialed ls grown ss bs e f =
       let all : RanSo ls = ran ls grown in
       shown_dials n (Ahead n) first ss bs

@@ -13,7 +13,7 @@ use Rattle.my_script.specs.declared.step.Step.{Step}
 use Rattle.my_script.specs.declared.transcript.StepAnswer.{StepAnswer}
 use Rattle.my_script.specs.declared.transcript.Tape.{Tape}
 use Rattle.my_world.specs.declared.line.WorldLine.{WorldLine}
-use Rattle.my_world.specs.Plan.{all_for, all_writes_for, all_dials_for}
+use Rattle.my_world.specs.Plan.{all_given, dials_of, items_of, writes_of}
 use Rattle.my_world.specs.World.{Plans}
 use Rattle.my_steps.specs.Grows.{AreGrown, Line, handles_after}
 use Rattle.my_steps.specs.Handle.{Handle, Absent, Dialing, Joined, at_number}
@@ -45,18 +45,18 @@ alike_front (x ∷ xs) ys =
     ap (λ b. if b then suc (alike xs (xs ++ ys)) else 0) same ∙ ap suc (alike_front xs ys)
 
 module _ (login : Login) (plans : Plans) (lines : List WorldLine) (told : ArePlansOf lines plans) where
-  abbrev reads_of : ℕ → List ReadItem
-  reads_of n = all_for n lines
+  abbrev reads_at : ℕ → List ReadItem
+  reads_at n = all_given items_of n lines
 
-  abbrev writes_of : ℕ → List WriteItem
-  writes_of n = all_writes_for n lines
+  abbrev writes_at : ℕ → List WriteItem
+  writes_at n = all_given writes_of n lines
 
   module _ (ls : List Line) (grown : AreGrown login plans ls) (answers : List StepAnswer) (answered : map answer_view answers ≡ answers_of ls) where
     -- what a link that took these bytes began with
-    first_is : (n : ℕ) (x : Looks) (taken : List ℕ) (left : Left) → StandsIn (spelled (before_end (reads_of n))) (length taken) x taken left → first_left (planned n lines) taken ≡ left_at (length taken) 0 (reads_of n) (writes_of n)
-    first_is n x taken left s = both (alike taken (spelled (before_end (reads_of n)))) (ap (alike taken) s.bytes ∙ alike_front taken (spelled (before_end s.reads)))
+    first_is : (n : ℕ) (x : Looks) (taken : List ℕ) (left : Left) → StandsIn (spelled (before_end (reads_at n))) (length taken) x taken left → first_left (planned n lines) taken ≡ left_at (length taken) 0 (reads_at n) (writes_at n)
+    first_is n x taken left s = both (alike taken (spelled (before_end (reads_at n)))) (ap (alike taken) s.bytes ∙ alike_front taken (spelled (before_end s.reads)))
       where
-        both : (a : ℕ) → a ≡ length taken → (let p = planned n lines in let l : Left = record { faults = p.faults; bytes = a; until_end = length p.bytes; ends = p.ends; others = length taken - a } in l) ≡ left_at (length taken) 0 (reads_of n) (writes_of n)
+        both : (a : ℕ) → a ≡ length taken → (let p = planned n lines in let l : Left = record { faults = p.faults; bytes = a; until_end = length p.bytes; ends = p.ends; others = length taken - a } in l) ≡ left_at (length taken) 0 (reads_at n) (writes_at n)
         both a e = left_as _ _ _ _ _ (omega (arith, e)) (omega (arith, e))
           where
             left_as : (f b c u : ℕ) (g : Bool) → b ≡ length taken - 0 → c ≡ 0 → (let l : Left = record { faults = f; bytes = b; until_end = u; ends = g; others = c } in l) ≡ (let m : Left = record { faults = f; bytes = length taken - 0; until_end = u; ends = g; others = 0 } in m)
@@ -65,17 +65,17 @@ module _ (login : Login) (plans : Plans) (lines : List WorldLine) (told : ArePla
     link_kept : (n : ℕ) (there : Bool) (k : Kept) (x : Looks) → at_number (handles_after ls) n ≡ Joined there k x → LinesKept n (first_left (planned n lines) k.taken) answers
     link_kept n there k x e = subst (λ (l : Left). LinesKept n l answers) (sym (first_is n x k.taken r.left stands)) (shown_lines n _ answers shown)
       where
-        room : NumberRoom login plans reads_of writes_of told.reads told.writes n (length k.taken) (handles_after ls)
-        room low = subst (HasRoom n (reads_of n) (writes_of n) (length k.taken)) (sym e) (omega arith)
+        room : NumberRoom login plans reads_at writes_at told.reads told.writes n (length k.taken) (handles_after ls)
+        room low = subst (HasRoom n (reads_at n) (writes_at n) (length k.taken)) (sym e) (omega arith)
 
-        r : RanSo login plans reads_of writes_of told.reads told.writes n (length k.taken) ls
-        r = ran login plans reads_of writes_of told.reads told.writes n (length k.taken) ls grown room
+        r : RanSo login plans reads_at writes_at told.reads told.writes n (length k.taken) ls
+        r = ran login plans reads_at writes_at told.reads told.writes n (length k.taken) ls grown room
 
-        stands : StandsIn (spelled (before_end (reads_of n))) (length k.taken) x k.taken r.left
-        stands = subst (λ (h : Handle). Stands n (reads_of n) (writes_of n) (length k.taken) h r.left) e r.stands
+        stands : StandsIn (spelled (before_end (reads_at n))) (length k.taken) x k.taken r.left
+        stands = subst (λ (h : Handle). Stands n (reads_at n) (writes_at n) (length k.taken) h r.left) e r.stands
 
-        shown : AreShown n (first n (reads_of n) (writes_of n) (length k.taken)) (map answer_view answers)
-        shown = subst (λ (vs : List AnswerView). AreShown n (first n (reads_of n) (writes_of n) (length k.taken)) vs) (append-nil (answers_of ls) ∙ sym answered) (r.reaches [] (ap (λ (l : Left). l.others) stands.left_is))
+        shown : AreShown n (first n (reads_at n) (writes_at n) (length k.taken)) (map answer_view answers)
+        shown = subst (λ (vs : List AnswerView). AreShown n (first n (reads_at n) (writes_at n) (length k.taken)) vs) (append-nil (answers_of ls) ∙ sym answered) (r.reaches [] (ap (λ (l : Left). l.others) stands.left_is))
 
     abbrev KeptAt : ℕ → Handle → Type 0
     KeptAt n Absent = Unit {0}
@@ -140,7 +140,7 @@ unplanned : (lines : List WorldLine) (steps : List Step) (answers : List StepAns
 unplanned lines steps answers tapes line f r = by_cause f.wrong
   where
     by_cause : IsWrongBelow (DialsAt lines steps answers) line (dialed_in steps) ⊎ OneUnkept lines answers line tapes → ⊥
-    by_cause (inl w) = undialed w.number line 0 (Ahead w.number) (all_dials_for w.number lines) steps answers w.is (r.dials w.number w.below)
+    by_cause (inl w) = undialed w.number line 0 (Ahead w.number) (all_given dials_of w.number lines) steps answers w.is (r.dials w.number w.below)
     by_cause (inr w) = one_unkept lines answers line tapes w r.links
 
 pub each_refusal_refutes : EachRefusalRefutes
@@ -153,7 +153,7 @@ each_refusal_refutes login lines steps answers tapes line f plans before later t
 
 pub memory_tells : MemoryTells
 memory_tells links dials counts moment randoms lines none free = record {
-  reads = λ n. ap (λ is. Some (is.reads ++ all_for n lines)) (none n);
-  writes = λ n. ap (λ is. Some (is.writes ++ all_writes_for n lines)) (none n);
-  dials = λ n. ap (λ is. Some (is ++ all_dials_for n lines)) (free n);
+  reads = λ n. ap (λ is. Some (is.reads ++ all_given items_of n lines)) (none n);
+  writes = λ n. ap (λ is. Some (is.writes ++ all_given writes_of n lines)) (none n);
+  dials = λ n. ap (λ is. Some (is ++ all_given dials_of n lines)) (free n);
 }

@@ -10,7 +10,7 @@ use Rattle.my_world.specs.declared.line.WorldLine.{WorldLine}
 use Rattle.my_world.specs.declared.memory.dials.PlannedDial.{PlannedDial}
 use Rattle.my_world.specs.MemDials.{dials_at}
 use Rattle.my_world.specs.MemWorld.{world_of}
-use Rattle.my_world.specs.Plan.{all_for, all_writes_for, all_dials_for}
+use Rattle.my_world.specs.Plan.{all_given, dials_of, items_of, writes_of}
 use Rattle.my_world.specs.World.{Plans, DialCounts}
 use Rattle.my_steps.specs.Dialing.{Course}
 use Rattle.my_run.specs.Headline.{Headline}
@@ -19,9 +19,9 @@ use Rattle.my_plan_judge.specs.Runs.{IsFirstOfBoth, IsRightRun}
 
 -- the plans of all links and of their dials are those of these lines
 pub record ArePlansOf (lines : List WorldLine) (plans : Plans) : Type 0 where
-  pub reads : (n : ℕ) → plans.reads n ≡ Some (all_for n lines)
-  pub writes : (n : ℕ) → plans.writes n ≡ Some (all_writes_for n lines)
-  pub dials : (n : ℕ) → plans.dials n ≡ Some (all_dials_for n lines)
+  pub reads : (n : ℕ) → plans.reads n ≡ Some (all_given items_of n lines)
+  pub writes : (n : ℕ) → plans.writes n ≡ Some (all_given writes_of n lines)
+  pub dials : (n : ℕ) → plans.dials n ≡ Some (all_given dials_of n lines)
 
 -- The transcript of each run is right, and keeps to the plan.
 abbrev pub EachPlannedRunIsRight : Type 0
