@@ -8,6 +8,7 @@ use my_conn::{Conn, Connected, Connecting};
 use my_frame::NoMemory;
 use my_link::{BlockingLink, Link, MemLink, ReadyLink};
 use my_opts::Opts;
+use my_opts_parts::limits::LONGEST_URL;
 use my_reading::Error;
 use std::alloc::Global;
 use std::test::Fail;
@@ -219,7 +220,7 @@ fn is_right<L: Link>(alloc: Global, connected: &mut Connected<L>, row: &Row) -> 
 }
 
 fn opts_of(alloc: Global) -> Result<Opts, NoMemory> {
-    if URL.len() > 1_048_576 {
+    if URL.len() > LONGEST_URL {
         return Err(NoMemory);
     }
     match Opts::from_url(alloc, URL) {
@@ -277,7 +278,7 @@ fn new_by_url(
     url: &str,
     link: ReadyLink<MemLink>,
 ) -> Result<Conn<ReadyLink<MemLink>>, Error> {
-    if url.len() > 1_048_576 {
+    if url.len() > LONGEST_URL {
         drop(link);
         return Err(Error::NoMemory);
     }

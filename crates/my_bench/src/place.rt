@@ -7,12 +7,10 @@ use my_conn::Conn;
 use my_net::RealLink;
 use my_opts::{Opts, OptsBuilder, UrlFault};
 use my_opts_parts::Target;
+use my_opts_parts::limits::LONGEST_URL;
 use my_reading::{Error, IoError, IoFault, IoKind};
 use my_world::{DialStep, World};
 use std::alloc::Global;
-
-// The most bytes of a URL.
-const LONGEST_URL: usize = 1048576;
 
 /// The options of a connection, and where it is dialed.
 #[derive(Drop)]

@@ -5,6 +5,7 @@ ghost use Rattle.my_conn.specs.Drives.{DoneIs};
 ghost use Rattle.my_conn.specs.News.{FromUrlIs, NewIs};
 ghost use Rattle.my_opts.specs.Url.{options_of};
 ghost use Rattle.my_opts_parts.specs.declared.error.UrlError.{UrlError};
+ghost use Rattle.my_opts_parts.specs.declared.limits.TheConstants.{LONGEST_URL};
 ghost use Rattle.my_reading.specs.declared.call.Call.TheVariants as calls;
 ghost use Rattle.my_reading.specs.declared.call.CallKind.TheVariants as kinds;
 ghost use Rattle.my_reading.specs.declared.error.Error.TheVariants as errors;
@@ -51,7 +52,7 @@ impl<L: BlockingLink + Drop> Conn<L> {
     }
 
     /// Connects over this link with the options that a URL gives, as `new` does. A URL that gives none is refused, and
-    /// the link let go unused. The text has at most 1,048,576 bytes.
+    /// the link let go unused. The text has at most `LONGEST_URL` bytes.
     pub fn from_url(
         alloc: Global,
         url: &str,
@@ -59,7 +60,7 @@ impl<L: BlockingLink + Drop> Conn<L> {
         now: u64,
         random: u64,
     ) -> Result<Conn<L>, Error>
-        requires { length url.now ≤ 1048576 }
+        requires { length url.now ≤ LONGEST_URL }
         ensures news { FromUrlIs L.looks (options_of url.now)
             (record { looks = L.looks link; is_socket = L.socket link; now = now; random = random }) result }
         ensures refused { (e : UrlError) → result ≡ Err (errors.Url e) → options_of url.now ≡ Err e }

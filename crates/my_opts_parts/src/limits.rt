@@ -5,6 +5,9 @@ ghost use Rattle.my_opts_parts.specs.Limits.{packet_limit, waiting_limit};
 
 use my_frame::limits::{GREATEST_MAX_ALLOWED_PACKET, LEAST_MAX_ALLOWED_PACKET};
 
+/// The most bytes of a URL.
+pub const LONGEST_URL: usize = 1_048_576;
+
 /// The longest waiting time in seconds: a year.
 pub const LONGEST_WAIT_TIMEOUT: u64 = 31_536_000;
 

@@ -10,10 +10,7 @@ use Rattle.my_grammar.specs.declared.login.Login.{Login}
 use Rattle.my_reading.specs.declared.settings.Stage.{Stage}
 use Rattle.my_reading.specs.declared.settings.Stage.TheVariants.{Unasked, Asked, Known}
 use Rattle.my_reading.specs.declared.settings.Settings.{Settings}
-
--- the timeout where the answer has none: eight hours
-abbrev pub default_wait : ℕ
-default_wait = 28800
+use Rattle.my_reading.specs.declared.settings.TheConstants.{DEFAULT_WAIT}
 
 -- before the login is settled; what will hold is what the options set
 abbrev pub first_settings : Login → Settings
@@ -23,7 +20,7 @@ first_settings login = record {
   wait_option = login.wait_timeout;
   limit = DEFAULT_MAX_ALLOWED_PACKET;
   next_limit = unwrap_or login.packet_limit DEFAULT_MAX_ALLOWED_PACKET;
-  wait_timeout = unwrap_or login.wait_timeout default_wait;
+  wait_timeout = unwrap_or login.wait_timeout DEFAULT_WAIT;
 }
 
 -- the next limit holds from now on
@@ -61,7 +58,7 @@ wait_place None = 1
 
 abbrev pub wait_in : Option ℕ → Option ℕ → List Value → ℕ
 wait_in limit (Some wait) cells = wait
-wait_in limit None cells = unwrap_or (number_in (slice_get cells (wait_place limit))) default_wait
+wait_in limit None cells = unwrap_or (number_in (slice_get cells (wait_place limit))) DEFAULT_WAIT
 
 -- what a row of the answer says will hold; a later row overrides it
 abbrev pub told : List Value → Settings → Settings

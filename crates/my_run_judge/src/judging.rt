@@ -69,9 +69,9 @@ impl Walker {
         act: Act,
     ) -> Result<bool, NoMemory>
         requires { IsSomewhere login.now self.old }
-        ensures { let uses = answer.now.uses.items in
-            let there = λ (w : Walk). ActRight login.now number (seen tape.now) w step.now answer.now.outcome uses act in
-            let after = λ (w : Walk). after_reads login.now (seen tape.now) w answer.now.outcome uses act in
+        ensures { let said = seen tape.now in let uses = answer.now.uses.items in
+            let there = λ (w : Walk). ActRight login.now number said w step.now answer.now.outcome uses act in
+            let after = λ (w : Walk). after_reads login.now said w answer.now.outcome uses act in
             IfOk result (λ right. Does login.now there after self.old right self.new) }
     {
         let outcome = &answer.outcome;

@@ -6,6 +6,7 @@ use Rattle.my_opts.specs.Limits.{packet_limit, waiting_limit}
 use Rattle.my_opts.specs.Opts.{OptsView, default_opts}
 use Rattle.my_opts.specs.Url.{options_of}
 use Rattle.my_opts_parts.specs.declared.error.UrlError.{UrlError}
+use Rattle.my_opts_parts.specs.declared.limits.TheConstants.{LONGEST_URL}
 use Rattle.my_script.specs.declared.words.Command.{Command}
 use Rattle.my_script.specs.declared.words.Plain.{Plain as PlainParts}
 use Rattle.my_script.specs.declared.words.WordFault.{WordFault}
@@ -72,9 +73,9 @@ abbrev pub url_word : Result OptsView UrlError → Result OptsView WordFault
 url_word (Ok opts) = Ok opts
 url_word (Err e) = Err (Url e)
 
--- the options of a URL by the option table, which refuses some; a URL has at most 1,048,576 bytes
+-- the options of a URL by the option table, which refuses some; a longer text is none
 abbrev pub url_opts : List ℕ → Result OptsView WordFault
-url_opts word = if nat_lt 1048576 (length word) then Err TooLong else url_word (options_of word)
+url_opts word = if nat_lt LONGEST_URL (length word) then Err TooLong else url_word (options_of word)
 
 -- `plain,USER,PASS,PACKET,WAIT`, by what follows the first comma, or a URL
 abbrev pub opts_by : Option (List ℕ) → List ℕ → Result OptsView WordFault

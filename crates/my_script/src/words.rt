@@ -6,18 +6,16 @@ ghost use Rattle.my_script.specs.Words.{command_of, command_view, after_plain, p
 use crate::reading::number::number;
 use my_frame::NoMemory;
 use my_opts::{Opts, OptsBuilder, UrlError, UrlFault};
+use my_opts_parts::limits::LONGEST_URL;
 use std::alloc::Global;
 use std::fmt;
-
-/// The most bytes of a URL.
-const LONGEST_URL: usize = 1048576;
 
 /// Why a word is no `plain,USER,PASS,PACKET,WAIT` and no URL that gives options.
 #[derive(Debug, Drop, PartialEq, Eq)]
 pub enum WordFault {
     /// It begins with `plain,`, and what follows isn't four such parts.
     Plain,
-    /// It is longer than 1,048,576 bytes.
+    /// It is longer than `LONGEST_URL` bytes.
     TooLong,
     /// The option table refuses it.
     Url(UrlError),

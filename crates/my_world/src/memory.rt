@@ -20,7 +20,7 @@ use my_link::{
     Opening, Planned, ReadItem, WriteItem, Writes,
 };
 use my_opts_parts::Target;
-use std::alloc::{AllocError, Global};
+use std::alloc::Global;
 use std::collections::VecDeque;
 
 /// A world in memory. Each link has the items of the lines with its number, in order, for reads, for writes and for dials
@@ -36,7 +36,7 @@ pub struct MemWorld {
     randoms: VecDeque<u64>,
 }
 
-fn packet_bytes(alloc: Global, number: u8, payload: &[u8]) -> Result<Vec<u8>, AllocError>
+fn packet_bytes(alloc: Global, number: u8, payload: &[u8]) -> Result<Vec<u8>, NoMemory>
     ensures { IfOk result (λ bytes. bytes.items ≡ packet_of number payload.now) }
 {
     let len = payload.len();
@@ -50,7 +50,7 @@ fn packet_bytes(alloc: Global, number: u8, payload: &[u8]) -> Result<Vec<u8>, Al
 }
 
 // One item to be read.
-fn one(alloc: Global, item: ReadItem) -> Result<Addition, AllocError>
+fn one(alloc: Global, item: ReadItem) -> Result<Addition, NoMemory>
     requires { is_filled item ≡ true }
     ensures added { IfOk result (λ a. added a ≡ record { reads = item ∷ []; writes = [] }) }
     ensures lawful { IfOk result (λ a. is_lawful a ≡ true) }
@@ -156,7 +156,7 @@ impl MemWorld {
 }
 
 // The place of the entry of this number, which is made where there is none.
-fn entry(alloc: Global, links: &mut Vec<Planned>, number: u64) -> Result<usize, AllocError>
+fn entry(alloc: Global, links: &mut Vec<Planned>, number: u64) -> Result<usize, NoMemory>
     ensures place { IfOk result (λ place. place ≡ place_at number links.new.items) }
     ensures within { IfOk result (λ place. place < length links.new.items) }
     ensures same { (n : ℕ) → items_at n links.new.items ≡ items_at n links.old.items }
@@ -173,7 +173,7 @@ fn add(
     links: &mut Vec<Planned>,
     number: u64,
     addition: Addition,
-) -> Result<(), AllocError>
+) -> Result<(), NoMemory>
     requires { is_lawful addition ≡ true }
     ensures ok { OnOk result ((n : ℕ) → items_at n links.new.items ≡ items_with number addition n links.old.items) }
     ensures err { OnErr result ((n : ℕ) → items_at n links.new.items ≡ items_at n links.old.items) }

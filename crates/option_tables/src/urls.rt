@@ -1,6 +1,7 @@
 //! URLs with what they give: options or a refusal.
 
 ghost use Rattle.std.specs.Prelude.{◌≤◌, length};
+ghost use Rattle.my_opts_parts.specs.declared.limits.TheConstants.{LONGEST_URL};
 
 use crate::line::{is_line_of, is_refusal};
 use my_frame::NoMemory;
@@ -265,7 +266,7 @@ fn refusal_is(alloc: Global, fault: &UrlFault, look: Look) -> Result<bool, NoMem
 
 // A builder is asked for a refusal alone.
 fn opts_of(alloc: Global, url: &str, look: Look) -> Result<Opts, UrlFault>
-    requires { length url.now ≤ 1048576 }
+    requires { length url.now ≤ LONGEST_URL }
 {
     match look {
         Look::Invalid => Ok(Opts::from(OptsBuilder::from_url(alloc, url)?)),

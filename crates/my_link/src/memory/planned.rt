@@ -7,7 +7,8 @@ ghost use Rattle.my_link.specs.Planned.{is_lawful, with_more};
 
 use crate::link::{ReadItem, WriteItem};
 use crate::memory::writes::Writes;
-use std::alloc::{AllocError, Global};
+use my_frame::NoMemory;
+use std::alloc::Global;
 use std::marker::Model;
 use std::mem;
 
@@ -57,16 +58,17 @@ impl Planned {
         self.number
     }
 
-    fn add_reads(&mut self, mut reads: Vec<ReadItem>) -> Result<(), AllocError>
+    fn add_reads(&mut self, mut reads: Vec<ReadItem>) -> Result<(), NoMemory>
         requires { list_all is_filled reads.items ≡ true }
         ensures ok { OnOk result (self.new ≡ with_more self.old (Addition.Reads reads)) }
         ensures err { OnErr result (self.new ≡ self.old) }
     {
-        self.reads.append(&mut reads)
+        self.reads.append(&mut reads)?;
+        Ok(())
     }
 
     /// Appends these items.
-    pub fn add(&mut self, addition: Addition) -> Result<(), AllocError>
+    pub fn add(&mut self, addition: Addition) -> Result<(), NoMemory>
         requires { is_lawful addition ≡ true }
         ensures ok { OnOk result (self.new ≡ with_more self.old addition) }
         ensures err { OnErr result (self.new ≡ self.old) }

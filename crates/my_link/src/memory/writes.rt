@@ -5,7 +5,8 @@ ghost use Rattle.my_link.specs.Link.{after_taken};
 ghost use Rattle.my_link.specs.Memory.{is_open, RoomIs};
 
 use crate::link::WriteItem;
-use std::alloc::{AllocError, Global};
+use my_frame::NoMemory;
+use std::alloc::Global;
 use std::collections::VecDeque;
 use std::marker::Model;
 
@@ -46,7 +47,7 @@ impl Writes {
         }
     }
 
-    pub fn push(&mut self, item: WriteItem) -> Result<(), AllocError>
+    pub fn push(&mut self, item: WriteItem) -> Result<(), NoMemory>
         requires { is_open item ≡ true }
         ensures ok { OnOk result (self.new ≡ self.old ++ item ∷ []) }
         ensures err { OnErr result (self.new ≡ self.old) }
