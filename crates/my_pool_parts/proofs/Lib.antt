@@ -1,3 +1,4 @@
+pub mod Filled
 pub mod Slots
 pub mod Sifting
 pub mod Finding
