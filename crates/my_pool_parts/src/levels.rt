@@ -1,6 +1,6 @@
 //! A list that grows and moves nothing that it holds.
 
-ghost use Rattle.std.specs.Prelude.{◌≡◌, ◌+◌, ◌-◌, ◌*◌, ◌^◌, ◌<◌, ◌≤◌, ◌++◌, [], ◌∷◌, ◌==◌, OnOk, OnErr, length, take, max, slice_set, slice_index_or};
+ghost use Rattle.std.specs.Prelude.{◌≡◌, ◌+◌, ◌-◌, ◌*◌, ◌^◌, ◌<◌, ◌≤◌, ◌++◌, [], ◌∷◌, ◌==◌, OnOk, OnErr, length, take, max, replicate, slice_set, slice_index_or};
 ghost use Rattle.my_pool_parts.specs.Row.{row};
 
 use my_frame::NoMemory;
@@ -84,7 +84,8 @@ impl<T: Copy> Levels<T> {
 
     /// For how many elements there is room.
     fn room(&self) -> usize
-        ensures { result ≡ self.now.room }
+        ensures room { result ≡ self.now.room }
+        ensures small { result < 2 ^ 63 }
     {
         size_of_level(self.levels.len()) - 1
     }
@@ -102,7 +103,8 @@ impl<T: Copy> Levels<T> {
     /// Another element stands at an index.
     pub(crate) fn set(&mut self, index: usize, value: T)
         requires { index < length self.old.items }
-        ensures { self.new ≡ row (slice_set self.old.items index value) self.old.room }
+        ensures items { self.new.items ≡ slice_set self.old.items index value }
+        ensures room { self.new.room ≡ self.old.room }
     {
         let levels = &mut self.levels;
         let Spot { level, offset } = spot_of(index);
@@ -112,17 +114,30 @@ impl<T: Copy> Levels<T> {
     /// One more element, for which there is room.
     pub(crate) fn push(&mut self, value: T)
         requires { length self.old.items < self.old.room }
-        ensures { self.new ≡ row (self.old.items ++ value ∷ []) self.old.room }
+        ensures items { self.new.items ≡ self.old.items ++ value ∷ [] }
+        ensures room { self.new.room ≡ self.old.room }
     {
         let level = spot_of(self.len).level;
         self.levels[level].push(value).unwrap();
         self.len += 1;
     }
 
+    /// There are so many elements from now on, for which there is room: where there were fewer, each new one is `value`.
+    pub(crate) fn fill(&mut self, len: usize, value: T)
+        requires { len ≤ self.old.room }
+        ensures items { self.new.items ≡ self.old.items ++ replicate (len - length self.old.items) value }
+        ensures room { self.new.room ≡ self.old.room }
+    {
+        while self.len() < len {
+            self.push(value);
+        }
+    }
+
     /// The last element leaves.
     pub(crate) fn drop_last(&mut self)
         requires { 0 < length self.old.items }
-        ensures { self.new ≡ row (take (length self.old.items - 1) self.old.items) self.old.room }
+        ensures items { self.new.items ≡ take (length self.old.items - 1) self.old.items }
+        ensures room { self.new.room ≡ self.old.room }
     {
         self.len -= 1;
         let level = spot_of(self.len).level;
@@ -146,6 +161,7 @@ impl<T: Copy> Levels<T> {
         ensures ok { OnOk result (room ≤ self.new.room) }
         ensures grows { self.old.room ≤ self.new.room }
         ensures least { self.new.room ≤ max self.old.room (2 * room) }
+        ensures small { self.new.room < 2 ^ 63 }
     {
         while self.room() < room {
             self.add_level()?;

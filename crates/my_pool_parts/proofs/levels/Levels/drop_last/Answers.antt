@@ -1,5 +1,5 @@
-use Rattle.std.proofs.Common.{◌≡◌, ◌<◌, ◌≤◌, ◌+◌, ◌-◌, ◌++◌, [], ◌∷◌, length, set, take, length-set, sym, ap, ap₂, ◌∙◌, subst, arith, vec_len}
-use Rattle.my_pool_parts.specs.Row.{row, joined, room_of, IsFilled}
+use Rattle.std.proofs.Common.{◌≡◌, ◌<◌, ◌≤◌, ◌+◌, ◌-◌, ◌++◌, [], ◌∷◌, length, set, take, length-set, sym, ap, ◌∙◌, subst, arith, vec_len}
+use Rattle.my_pool_parts.specs.Row.{joined, room_of, IsFilled}
 use Rattle.my_pool_parts.proofs.Filled.{joined-length, index-small, Spotted, spotted, dropped-filled, dropped-joined}
 use Rattle.my_pool_parts.proofs.levels.Levels.drop_last.Goals as goal
 
@@ -33,8 +33,8 @@ invariant_of-self g c =
       omega (arith, c.self.invariant.1, length-set ls k c.pop.new.self),
     )
 
-pub returns : goal.returns
-returns g c =
+pub returns-clause-items : goal.returns-clause-items
+returns-clause-items g c =
     let ls = c.self.inside.levels.items in
     let k = c.spot_of-level.result.level in
     let o = c.spot_of-level.result.offset in
@@ -43,6 +43,8 @@ returns g c =
     let s = spotted ls _ _ k o c.self.invariant.0 lt c.spot_of-level.ensures.whole c.spot_of-level.ensures.within in
     let more = subst (λ n. IsFilled 1 n ls) (omega (arith, lt)) c.self.invariant.0 in
     let rest = c.pop.ensures.rest ∙ ap (λ n. take (n - 1) l.items) l.ok.0 in
-    ap₂ row (dropped-joined ls 1 (c.self.inside.len - 1) k o l c.pop.new.self more s.at s.within c.index_mut.ensures.value rest ∙ ap (λ n. take (n - 1) (joined ls)) (sym (joined-length ls 1 c.self.inside.len c.self.invariant.0)))
-    (ap room_of (length-set ls k c.pop.new.self))
-    ∙ ap (λ r. row (take (length r.items - 1) r.items) r.room) c.self.view_is
+    dropped-joined ls 1 (c.self.inside.len - 1) k o l c.pop.new.self more s.at s.within c.index_mut.ensures.value rest ∙ ap (λ n. take (n - 1) (joined ls)) (sym (joined-length ls 1 c.self.inside.len c.self.invariant.0))
+    ∙ ap (λ r. take (length r.items - 1) r.items) c.self.view_is
+
+pub returns-clause-room : goal.returns-clause-room
+returns-clause-room g c = ap room_of (length-set c.self.inside.levels.items c.spot_of-level.result.level c.pop.new.self) ∙ ap (λ r. r.room) c.self.view_is

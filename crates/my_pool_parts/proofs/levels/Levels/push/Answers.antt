@@ -1,6 +1,6 @@
-use Rattle.std.proofs.Common.{◌≡◌, ◌<◌, ◌≤◌, ◌+◌, ◌*◌, ◌^◌, ◌++◌, [], ◌∷◌, length, set, length-set, sym, ap, ap₂, ◌∙◌, arith, vec_len, rules}
+use Rattle.std.proofs.Common.{◌≡◌, ◌<◌, ◌≤◌, ◌+◌, ◌*◌, ◌^◌, ◌++◌, [], ◌∷◌, length, set, length-set, sym, ap, ◌∙◌, arith, vec_len, rules}
 use Rattle.std.specs.Prelude.{is_ok, if◌then◌else◌}
-use Rattle.my_pool_parts.specs.Row.{row, joined, room_of}
+use Rattle.my_pool_parts.specs.Row.{joined, room_of}
 use Rattle.my_pool_parts.proofs.Filled.{start, start-at, joined-length, room-small, level-within, push-room, pushed-filled, pushed-joined}
 use Rattle.my_pool_parts.proofs.levels.Levels.push.Goals as goal
 
@@ -44,8 +44,8 @@ invariant_of-self g c =
       omega (arith, c.self.invariant.1, length-set ls k c.push.new.self),
     )
 
-pub returns : goal.returns
-returns g c =
+pub returns-clause-items : goal.returns-clause-items
+returns-clause-items g c =
     let ls = c.self.inside.levels.items in
     let k = c.spot_of-level.result.level in
     let o = c.spot_of-level.result.offset in
@@ -53,6 +53,8 @@ returns g c =
     let lt : c.self.inside.len < room_of (length ls) = omega (arith, c.requires, ap (λ r. length r.items) c.self.view_is, ap (λ r. r.room) c.self.view_is, joined-length ls 1 c.self.inside.len c.self.invariant.0) in
     let there = level-within c.self.inside.len k (length ls) lt (omega (arith, c.spot_of-level.ensures.whole)) in
     let pushed = c.push.ensures.items ∙ ap (λ r. if is_ok r then l.items ++ c.args.value ∷ [] else l.items) c.unwrap.ensures in
-    ap₂ row (pushed-joined ls 1 c.self.inside.len k o l c.push.new.self c.args.value c.self.invariant.0 (start-at c.self.inside.len k o c.spot_of-level.ensures.whole) (omega (arith, c.spot_of-level.ensures.within)) there c.index_mut.ensures.value pushed)
-    (ap room_of (length-set ls k c.push.new.self))
-    ∙ ap (λ r. row (r.items ++ c.args.value ∷ []) r.room) c.self.view_is
+    pushed-joined ls 1 c.self.inside.len k o l c.push.new.self c.args.value c.self.invariant.0 (start-at c.self.inside.len k o c.spot_of-level.ensures.whole) (omega (arith, c.spot_of-level.ensures.within)) there c.index_mut.ensures.value pushed
+    ∙ ap (λ r. r.items ++ c.args.value ∷ []) c.self.view_is
+
+pub returns-clause-room : goal.returns-clause-room
+returns-clause-room g c = ap room_of (length-set c.self.inside.levels.items c.spot_of-level.result.level c.push.new.self) ∙ ap (λ r. r.room) c.self.view_is

@@ -1,6 +1,6 @@
-use Rattle.std.proofs.Common.{◌≡◌, ◌<◌, ◌≤◌, length, set, length-set, refl, sym, ap, ap₂, ◌∙◌, subst, arith}
+use Rattle.std.proofs.Common.{◌≡◌, ◌<◌, ◌≤◌, length, set, length-set, refl, sym, ap, ◌∙◌, subst, arith}
 use Rattle.std.specs.Vec.{with_item}
-use Rattle.my_pool_parts.specs.Row.{row, joined, room_of}
+use Rattle.my_pool_parts.specs.Row.{joined, room_of}
 use Rattle.my_pool_parts.proofs.Filled.{joined-length, index-small, Spotted, spotted, offset-there, written-filled, written-joined}
 use Rattle.my_pool_parts.proofs.levels.Levels.set.Goals as goal
 
@@ -32,14 +32,16 @@ invariant_of-self g c =
       omega (arith, c.self.invariant.1, length-set ls k (with_item l o c.args.value)),
     )
 
-pub returns : goal.returns
-returns g c =
+pub returns-clause-items : goal.returns-clause-items
+returns-clause-items g c =
     let ls = c.self.inside.levels.items in
     let k = c.spot_of-level.result.level in
     let o = c.spot_of-level.result.offset in
     let l = c.index_mut.result.now in
     let lt : c.args.index < c.self.inside.len = omega (arith, c.requires, ap (λ r. length r.items) c.self.view_is, joined-length ls 1 c.self.inside.len c.self.invariant.0) in
     let s = spotted ls _ _ _ _ c.self.invariant.0 lt c.spot_of-level.ensures.whole c.spot_of-level.ensures.within in
-    ap₂ row (written-joined ls 1 _ k o l (with_item l o c.args.value) c.args.value c.self.invariant.0 s.before s.within c.index_mut.ensures.value refl ∙ ap (λ i. set (joined ls) i c.args.value) s.at)
-    (ap room_of (length-set ls k (with_item l o c.args.value)))
-    ∙ ap (λ r. row (set r.items c.args.index c.args.value) r.room) c.self.view_is
+    written-joined ls 1 _ k o l (with_item l o c.args.value) c.args.value c.self.invariant.0 s.before s.within c.index_mut.ensures.value refl ∙ ap (λ i. set (joined ls) i c.args.value) s.at
+    ∙ ap (λ r. set r.items c.args.index c.args.value) c.self.view_is
+
+pub returns-clause-room : goal.returns-clause-room
+returns-clause-room g c = ap room_of (length-set c.self.inside.levels.items c.spot_of-level.result.level (with_item c.index_mut.result.now c.spot_of-level.result.offset c.args.value)) ∙ ap (λ r. r.room) c.self.view_is
