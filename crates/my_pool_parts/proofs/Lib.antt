@@ -1,3 +1,4 @@
+pub mod Strung
 pub mod Filled
 pub mod Slots
 pub mod Sifting

@@ -137,6 +137,7 @@ stored-left n cs idle returned idle' returned' count leased leased' room ir rr i
       counted = omega (arith, h.counted, length-without (has_number n) cs x.0 x.1);
       leased_are = omega (arith, l, h.leased_are, left-count is_leased n cs was any (w ∙ placed-found is_leased_place (find (has_number n) cs)));
       few = omega (arith, h.few, length-without (has_number n) cs x.0 x.1);
+      small = h.small;
       idle_fit = omega (arith, h.idle_fit, a);
       returned_fit = omega (arith, h.returned_fit, b);
     }
@@ -158,6 +159,7 @@ stored-moved n place cs idle returned idle' returned' count leased leased' room 
       counted = omega (arith, h.counted, length-without (has_number n) cs x.0 x.1, count-length left (placed n place));
       leased_are = omega (arith, l, h.leased_are, left-count is_leased n cs was any (w ∙ placed-found is_leased_place (find (has_number n) cs)), count-push is_leased left (placed n place));
       few = omega (arith, h.few, length-without (has_number n) cs x.0 x.1, count-length left (placed n place));
+      small = h.small;
       idle_fit = omega (arith, h.idle_fit, a);
       returned_fit = omega (arith, h.returned_fit, b);
     }
@@ -260,6 +262,7 @@ stored-next n cs idle returned count leased room ir rr h none few = record {
   counted = omega (arith, h.counted, length-append cs (placed n Connecting ∷ []));
   leased_are = omega (arith, h.leased_are, count-push is_leased cs (placed n Connecting));
   few = omega (arith, few, length-append cs (placed n Connecting ∷ []));
+  small = h.small;
   idle_fit = h.idle_fit;
   returned_fit = h.returned_fit;
 }
