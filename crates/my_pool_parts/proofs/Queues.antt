@@ -298,10 +298,6 @@ empty-none t cs queue q e = none-any t cs (omega (arith, ap length q, numbers-le
 pub empty-find : (t : Connection → Bool) (cs : List Connection) (queue : List ℕ) → queue ≡ numbers_at t cs → length queue ≡ 0 → find t cs ≡ None
 empty-find t cs queue q e = find-absent t cs (empty-none t cs queue q e)
 
-pub empty-len : {X : Type 0} (o : Option X) (n : ℕ) → o ≡ None → (0 < n → IsSome o) → n ≡ 0
-empty-len o zero e h = refl
-empty-len o (suc n) e h = let s : is_some o ≡ true = h (omega arith) in let f : is_some o ≡ false = ap is_some e in absurd (cc)
-
 pub some-placed : (key : Connection → Bool) (cs : List Connection) → is_some (find key cs) ≡ is_some (option_map (λ c. c.place) (find key cs))
 some-placed key cs = mapped (find key cs)
   where

@@ -14,7 +14,6 @@ returns-clause-items c =
     let some : k + 1 ≡ length q.items = omega (arith, q.ok.0, c.in-Some.ensures.variant.0 refl) in
     c.pop_back.ensures.rest ∙ sym (without-back n k q.items c.in-Some.last.now c.requires some (sym c.in-Some.ensures.lookup ∙ last))
 
-
 pub returns-in-Some-index_of-clause-items : goal.returns-in-Some-index_of-clause-items
 returns-in-Some-index_of-clause-items c =
     let q = c.args.part.now in
@@ -24,7 +23,6 @@ returns-in-Some-index_of-clause-items c =
     let at = position-is (λ m. m == n) q.items i e in
     let gone = c.remove.ensures.succeeds n (omega (arith, at.0, q.ok.0)) in
     on-some c.remove.result _ gone c.remove.ensures.items ∙ sym (without-position (λ m. m == n) q.items i e)
-
 
 pub returns-in_default-clause-items : goal.returns-in_default-clause-items
 returns-in_default-clause-items c =

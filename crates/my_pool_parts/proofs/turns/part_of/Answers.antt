@@ -17,7 +17,7 @@ pub returns-in-Some-clause-found : goal.returns-in-Some-clause-found
 returns-in-Some-clause-found c =
     let n = c.args.number in
     position-stands deque_items (λ part. list_any (λ m. m == n) (drop (length part.items - 1) part.items)) n c.args.parts.now.items c.in-Some.at
-      (λ p e. any-drop (λ m. m == n) (length p.items - 1) p.items e) (sym c.ended_by.ensures ∙ c.in-Some.is)
+    (λ p e. any-drop (λ m. m == n) (length p.items - 1) p.items e) (sym c.ended_by.ensures ∙ c.in-Some.is)
 
 pub returns-in-None-clause-found : goal.returns-in-None-clause-found
 returns-in-None-clause-found c =

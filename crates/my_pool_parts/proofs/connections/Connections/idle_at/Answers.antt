@@ -11,7 +11,7 @@ use Rattle.my_pool_parts.proofs.connections.Connections.idle_at.Goals as goal
 pub unwrap-requires : goal.unwrap-requires
 unwrap-requires c =
     let lt : c.args.index < length c.self.inside.idle.items =
-        omega (arith, ap length c.self.invariant.idle_are, numbers-length is_idle c.self.inside.arrivals.list, subst (λ s. c.args.index < how_many is_idle s.list) (sym c.self.view_is) c.requires) in
+    omega (arith, ap length c.self.invariant.idle_are, numbers-length is_idle c.self.inside.arrivals.list, subst (λ s. c.args.index < how_many is_idle s.list) (sym c.self.view_is) c.requires) in
     subst IsSome (sym (c.get.ensures ∙ get-some c.self.inside.idle.items c.args.index 0 lt)) refl
 
 pub returns : goal.returns

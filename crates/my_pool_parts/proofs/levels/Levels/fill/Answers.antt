@@ -10,6 +10,6 @@ loop-value-preserved g c =
     let more : c.args.len - length was ≡ suc left = omega (arith, c.loop-value-test.true, c.len.ensures.count, ap length c.push.ensures.items, length_push was v) in
     record {
       items = ap (λ xs. xs ++ replicate left v) c.push.ensures.items ∙ append_assoc was (v ∷ []) (replicate left v)
-        ∙ ap (λ n. was ++ replicate n v) (sym more) ∙ c.loop-value.invariant.items;
+          ∙ ap (λ n. was ++ replicate n v) (sym more) ∙ c.loop-value.invariant.items;
       room = c.push.ensures.room ∙ c.loop-value.invariant.room;
     }

@@ -23,7 +23,7 @@ returns-clause-linked c =
     let li : c.args.i < length old.entries.items = omega arith in
     let lj : c.args.j < length old.entries.items = omega arith in
     linked-as (linked-swapped (links-set c.args.i c.args.j c.get-first.result c.get-second.result c.requires.linked li lj (read-entry old.entries.items c.args.i c.get-first.result li c.get-first.ensures) (read-entry old.entries.items c.args.j c.get-second.result lj c.get-second.ensures)))
-      refl (sym (c.set-4.ensures.items ∙ ap (λ ps. set ps c.get-first.result.slot c.args.j) c.set-3.ensures.items)) (sym (c.set-2.ensures.items ∙ ap (λ es. set es c.args.j c.get-first.result) c.set.ensures.items))
+    refl (sym (c.set-4.ensures.items ∙ ap (λ ps. set ps c.get-first.result.slot c.args.j) c.set-3.ensures.items)) (sym (c.set-2.ensures.items ∙ ap (λ es. set es c.args.j c.get-first.result) c.set.ensures.items))
 
 pub returns-clause-swapped : goal.returns-clause-swapped
 returns-clause-swapped c =

@@ -7,5 +7,5 @@ pub returns-in-Some-clause-room : goal.returns-in-Some-clause-room
 returns-in-Some-clause-room c =
     let parts = c.self.inside.parts.items in
     let there : slice_get parts (length parts - 1) ≡ Some c.in-Some.part.now =
-        ap (λ ps. slice_get ps (length ps - 1)) (sym c.deref.ensures.value) ∙ sym c.last.ensures.value ∙ ap option_copied c.in-Some.is in
+    ap (λ ps. slice_get ps (length ps - 1)) (sym c.deref.ensures.value) ∙ sym c.last.ensures.value ∙ ap option_copied c.in-Some.is in
     c.capacity.ensures ∙ sym (room-read deque_capacity parts c.in-Some.part.now there) ∙ ap (λ r. r.room) c.self.view_is
