@@ -37,7 +37,7 @@ struct Spot {
 /// The room of a level.
 fn size_of_level(level: usize) -> usize
     requires { level < 64 }
-    ensures { result ≡ 2 ^ level }
+    ensures size { result ≡ 2 ^ level }
 {
     1 << level
 }
@@ -58,7 +58,7 @@ fn spot_of(index: usize) -> Spot
 impl<T: Copy> Levels<T> {
     /// No element, and no room.
     pub(crate) fn new(alloc: Global) -> Levels<T>
-        ensures { result ≡ row [] 0 }
+        ensures empty { result ≡ row [] 0 }
     {
         Levels {
             levels: Vec::new(alloc),
@@ -77,7 +77,7 @@ impl<T: Copy> Levels<T> {
 
     /// Whether there is none.
     pub(crate) fn is_empty(&self) -> bool
-        ensures { result ≡ (length self.now.items == 0) }
+        ensures answer { result ≡ (length self.now.items == 0) }
     {
         self.len == 0
     }
@@ -93,7 +93,7 @@ impl<T: Copy> Levels<T> {
     /// The element at an index.
     pub(crate) fn get(&self, index: usize) -> T
         requires { index < length self.now.items }
-        ensures { result ≡ slice_index_or self.now.items index result }
+        ensures element { result ≡ slice_index_or self.now.items index result }
     {
         let levels = &self.levels;
         let Spot { level, offset } = spot_of(index);

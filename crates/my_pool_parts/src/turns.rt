@@ -34,7 +34,7 @@ impl Model for Turns {
 
 /// Where a number stands in a part.
 fn index_of(part: &VecDeque<u64>, number: u64) -> Option<usize>
-    ensures { result ≡ position (λ m. m == number) part.now.items }
+    ensures index { result ≡ position (λ m. m == number) part.now.items }
 {
     part.iter().position(|m| *m == number)
 }
@@ -58,7 +58,7 @@ fn leave_part(part: &mut VecDeque<u64>, number: u64)
 
 /// Whether a number is the last one of a part.
 fn is_last(part: &VecDeque<u64>, number: u64) -> bool
-    ensures { result ≡ list_any (λ m. m == number) (drop (length part.now.items - 1) part.now.items) }
+    ensures answer { result ≡ list_any (λ m. m == number) (drop (length part.now.items - 1) part.now.items) }
 {
     match part.back() {
         Some(last) => *last == number,
@@ -68,7 +68,7 @@ fn is_last(part: &VecDeque<u64>, number: u64) -> bool
 
 /// The first part whose last number is this one.
 fn ended_by(parts: &Vec<VecDeque<u64>>, number: u64) -> Option<usize>
-    ensures { result
+    ensures part { result
         ≡ position (λ part. list_any (λ m. m == number) (drop (length part.items - 1) part.items)) parts.now.items }
 {
     parts.iter().position(|part| is_last(part, number))
@@ -76,7 +76,7 @@ fn ended_by(parts: &Vec<VecDeque<u64>>, number: u64) -> Option<usize>
 
 /// The first part in which a number stands.
 fn first_with(parts: &Vec<VecDeque<u64>>, number: u64) -> Option<usize>
-    ensures { result ≡ position (λ part. list_any (λ m. m == number) part.items) parts.now.items }
+    ensures part { result ≡ position (λ part. list_any (λ m. m == number) part.items) parts.now.items }
 {
     parts.iter().position(|part| part.contains(&number))
 }
@@ -109,7 +109,7 @@ fn forget_empty(parts: &mut Vec<VecDeque<u64>>, count: usize)
 impl Turns {
     /// No number, and no room.
     pub(crate) fn new(alloc: Global) -> Turns
-        ensures { result ≡ row [] 0 }
+        ensures empty { result ≡ row [] 0 }
     {
         Turns {
             parts: Vec::new(alloc),
@@ -119,7 +119,7 @@ impl Turns {
 
     /// How many numbers there are.
     pub(crate) fn len(&self) -> usize
-        ensures { result ≡ length self.now.items }
+        ensures count { result ≡ length self.now.items }
     {
         self.len
     }
@@ -137,7 +137,7 @@ impl Turns {
 
     /// The number before which `index` others stand.
     pub(crate) fn get(&self, index: usize) -> Option<u64>
-        ensures { result ≡ slice_get self.now.items index }
+        ensures number { result ≡ slice_get self.now.items index }
     {
         let mut left = index;
         for part in &self.parts {

@@ -19,7 +19,7 @@ returns-in-Some-index_of-clause-items c =
     let q = c.args.part.now in
     let n = c.args.number in
     let i = c.in-Some-index_of.index in
-    let e = sym c.index_of.ensures ∙ c.in-Some-index_of.is in
+    let e = sym c.index_of.ensures.index ∙ c.in-Some-index_of.is in
     let at = position-is (λ m. m == n) q.items i e in
     let gone = c.remove.ensures.succeeds n (omega (arith, at.0, q.ok.0)) in
     on-some c.remove.result _ gone c.remove.ensures.items ∙ sym (without-position (λ m. m == n) q.items i e)
@@ -28,5 +28,5 @@ pub returns-in_default-clause-items : goal.returns-in_default-clause-items
 returns-in_default-clause-items c =
     let q = c.args.part.now in
     let n = c.args.number in
-    let e = sym c.index_of.ensures ∙ c.in_default-2.is in
+    let e = sym c.index_of.ensures.index ∙ c.in_default-2.is in
     sym (without-nothing (λ m. m == n) q.items e)

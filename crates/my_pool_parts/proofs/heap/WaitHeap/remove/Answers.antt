@@ -6,13 +6,13 @@ use Rattle.my_pool_parts.proofs.heap.WaitHeap.remove.Goals as goal
 
 pub remove_at-requires-clause-within : goal.remove_at-requires-clause-within
 remove_at-requires-clause-within g c =
-    let at = held-at c.args.slot c.get-place.result c.self.invariant.linked c.self.view_is c.requires c.get-place.ensures in
+    let at = held-at c.args.slot c.get-place.result c.self.invariant.linked c.self.view_is c.requires c.get-place.ensures.element in
     omega (arith, at.within)
 
 pub invariant_of-self : goal.invariant_of-self
 invariant_of-self g c =
     let t = c.self.inside.tree in
-    let at = held-at c.args.slot c.get-place.result c.self.invariant.linked c.self.view_is c.requires c.get-place.ensures in
+    let at = held-at c.args.slot c.get-place.result c.self.invariant.linked c.self.view_is c.requires c.get-place.ensures.element in
     let ages = c.remove_at.ensures.ages ∙ ap (λ s. set t.ages.items s None) at.same in
     record {
       linked = c.remove_at.ensures.linked;
@@ -23,5 +23,5 @@ invariant_of-self g c =
 
 pub returns-clause-ages : goal.returns-clause-ages
 returns-clause-ages g c =
-    let at = held-at c.args.slot c.get-place.result c.self.invariant.linked c.self.view_is c.requires c.get-place.ensures in
+    let at = held-at c.args.slot c.get-place.result c.self.invariant.linked c.self.view_is c.requires c.get-place.ensures.element in
     c.remove_at.ensures.ages ∙ ap (λ s. set c.self.inside.tree.ages.items s None) at.same ∙ ap (λ ages. set ages c.args.slot None) c.self.view_is

@@ -9,7 +9,7 @@ pub invariant_of-self-2 : goal.invariant_of-self-2
 invariant_of-self-2 g c =
     let ls = c.self.inside.levels.items in
     let new = c.in_ok-level.level in
-    let size : vec_capacity new ≡ 2 ^ length ls = c.in_ok-level.ensures.exact ∙ c.size_of_level.ensures ∙ ap (λ k. 2 ^ k) (c.len.ensures ∙ c.self.inside.levels.ok.0) in
+    let size : vec_capacity new ≡ 2 ^ length ls = c.in_ok-level.ensures.exact ∙ c.size_of_level.ensures.size ∙ ap (λ k. 2 ^ k) (c.len.ensures ∙ c.self.inside.levels.ok.0) in
     let items = c.in_ok-push.ensures.items in (
       subst (λ xs. IsFilled 1 c.self.inside.len xs) (sym items) (grown-filled ls 1 c.self.inside.len new c.self.invariant.0 c.in_ok-level.ensures.items (omega (arith, size))),
       omega (arith, few-levels (length ls) (omega (arith, size, new.small)), ap length items, length_push ls new),

@@ -27,5 +27,7 @@ returns g c =
     let lt : c.args.index < c.self.inside.len = omega (arith, c.requires, ap (λ r. length r.items) c.self.view_is, joined-length ls 1 c.self.inside.len c.self.invariant.0) in
     let s = spotted ls _ _ _ _ c.self.invariant.0 lt c.spot_of-level.ensures.whole c.spot_of-level.ensures.within in
     let x = c.index-2.result.now in
-    c.index-2.ensures ∙ sym (read-there ls 1 _ _ _ c.index.result.now x c.self.invariant.0 s.before s.within c.index.ensures)
-    ∙ ap (λ i. get_or (joined ls) i x) s.at ∙ ap (λ r. get_or r.items c.args.index x) c.self.view_is
+    record {
+      element = c.index-2.ensures ∙ sym (read-there ls 1 _ _ _ c.index.result.now x c.self.invariant.0 s.before s.within c.index.ensures)
+          ∙ ap (λ i. get_or (joined ls) i x) s.at ∙ ap (λ r. get_or r.items c.args.index x) c.self.view_is;
+    }

@@ -19,7 +19,7 @@ invariant_of-self-2 c =
     let some : 0 < length free.items = omega (arith, c.in_ok-have_slot.ensures.free) in
     let rising = subst (λ xs. IsRising 0 (xs ++ asking c.args.age ∷ [])) (sym c.self.view_is) c.requires in
     let slot = c.get-slot.result in
-    let is : slot ≡ get_or free.items (length free.items - 1) slot = c.get-slot.ensures ∙ ap (λ n. get_or free.items (n - 1) slot) c.len-2.ensures.count in
+    let is : slot ≡ get_or free.items (length free.items - 1) slot = c.get-slot.ensures.element ∙ ap (λ n. get_or free.items (n - 1) slot) c.len-2.ensures.count in
     let last = with-last free.items slot some is ∙ ap (λ xs. xs ++ slot ∷ []) (sym c.drop_last.ensures.items) in
     let put = c.in_ok-insert.ensures.entries ∙ ap (λ (r : Request). insert_entry nat_cmp c.self.inside.seats.entries c.args.age (seat r slot)) c.asking-request.ensures in
     seated-added c.args.age slot _ h rising put last c.drop_last.ensures.room

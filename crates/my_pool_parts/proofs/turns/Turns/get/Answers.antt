@@ -12,8 +12,10 @@ returns-then-left-len c =
     let part = c.part-item.result in
     let here = drop_more parts k part (omega (arith, c.loop-part-test.true)) ∙ ap (λ p. p ∷ drop (k + 1) parts) (sym c.part-item.is) in
     let lt : c.loop-part.left < length part.items = omega (arith, c.if-left-len.true, c.len.ensures, part.ok.0) in
-    ap Some c.index.ensures ∙ sym (get-some part.items c.loop-part.left c.index.result.now lt)
-    ∙ sym (part-read deque_items (drop k parts) part (drop (k + 1) parts) c.loop-part.left here lt) ∙ c.loop-part.invariant
+    record {
+      number = ap Some c.index.ensures ∙ sym (get-some part.items c.loop-part.left c.index.result.now lt)
+          ∙ sym (part-read deque_items (drop k parts) part (drop (k + 1) parts) c.loop-part.left here lt) ∙ c.loop-part.invariant;
+    }
 
 pub loop-part-preserved : goal.loop-part-preserved
 loop-part-preserved c =
