@@ -1,5 +1,5 @@
 -- Levels of a list: what is read, written, added or dropped in one of them is so in the list of all.
-use Rattle.std.proofs.Common.{◌≡◌, ℕ, ◌+◌, ◌-◌, ◌*◌, ◌^◌, ◌<◌, ◌≤◌, min, List, [], ◌∷◌, ◌++◌, Vec, vec_capacity, length, get_or, set, take, zero, suc, refl, sym, ap, ◌∙◌, subst, arith, length-append, length-set, length-take, append-nil, append_assoc, pow-suc, mul_assoc, mul_comm, mul_left_comm, pow_mono, pow_pos, inl, inr}
+use Rattle.std.proofs.Common.{◌≡◌, ℕ, ◌+◌, ◌-◌, ◌*◌, ◌^◌, ◌<◌, ◌≤◌, List, [], ◌∷◌, ◌++◌, Vec, vec_capacity, length, get_or, set, take, zero, suc, refl, sym, ap, ◌∙◌, subst, arith, length-append, length-set, length-take, append-nil, append_assoc, pow-suc, mul_assoc, mul_left_comm, pow_mono, pow_pos, inl, inr}
 use Rattle.std.proofs.lemmas.List.{get_or_append_left, get_or-append-add, set-append_left, take-append-le, length_push}
 use Rattle.std.proofs.lemmas.Bool.{cases_lt}
 use Rattle.my_pool_parts.specs.Row.{joined, IsFilled, room_of}

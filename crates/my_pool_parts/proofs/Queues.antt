@@ -1,5 +1,5 @@
 -- The numbers of those that pass a test, as a connection leaves its place and goes to the end.
-use Rattle.std.proofs.Common.{◌≡◌, ℕ, ◌+◌, ◌-◌, ◌≤◌, ◌<◌, zero, suc, Bool, true, false, cond, Option, Some, None, List, [], ◌∷◌, ◌++◌, length, refl, sym, ap, ◌∙◌, arith, option_map, get_or, take, OnSome, is_some, IsSome, append-nil, length-append}
+use Rattle.std.proofs.Common.{◌≡◌, ℕ, ◌+◌, ◌-◌, ◌≤◌, ◌<◌, zero, suc, Bool, true, false, cond, Option, Some, None, List, [], ◌∷◌, ◌++◌, length, refl, sym, ap, ◌∙◌, arith, option_map, get_or, take, OnSome, is_some, append-nil, length-append}
 use Rattle.std.specs.Prelude.{find, ◌==◌, ◌||◌}
 use mir.Val.{bool_byte}
 use Rattle.std.specs.List.{list_any}

@@ -1,6 +1,5 @@
 use Rattle.std.proofs.Common.{◌≡◌, ℕ, ◌+◌, ◌-◌, ◌++◌, ◌∷◌, [], Option, None, length, length-append, append_assoc, arith, sym, ap, ◌∙◌, subst}
-use Rattle.std.specs.Prelude.{replicate, is_ok, if◌then◌else◌}
-use Rattle.std.proofs.lemmas.Bool.Decides.{nat_tests}
+use Rattle.std.specs.Prelude.{replicate}
 use Rattle.std.proofs.lemmas.List.{length-replicate}
 use Rattle.my_pool_parts.specs.Live.{IsQueue}
 use Rattle.my_pool_parts.proofs.Queue.{queue-more, queue-slot}

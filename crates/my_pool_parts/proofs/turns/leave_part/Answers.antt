@@ -1,6 +1,5 @@
-use Rattle.std.proofs.Common.{◌≡◌, ◌+◌, ◌-◌, refl, sym, ap, ◌∙◌, cond, arith, length, deque_len}
+use Rattle.std.proofs.Common.{◌≡◌, ◌+◌, ◌-◌, refl, sym, ◌∙◌, arith, length, deque_len}
 use Rattle.std.specs.Prelude.{◌==◌}
-use Rattle.my_frame.specs.Lists.{without}
 use Rattle.my_pool_parts.proofs.Finding.{without-position, without-nothing, position-is}
 use Rattle.my_pool_parts.proofs.Queues.{without-back, on-some}
 use Rattle.my_pool_parts.proofs.turns.leave_part.Goals as goal

@@ -1,4 +1,4 @@
-use Rattle.std.proofs.Common.{◌≡◌, ◌-◌, Option, Some, None, IfSome, IfNone, true, false, length, drop, deque_items, refl, sym, ap, ◌∙◌}
+use Rattle.std.proofs.Common.{◌≡◌, ◌-◌, Option, Some, None, IfSome, IfNone, length, drop, deque_items, refl, sym, ◌∙◌}
 use Rattle.std.specs.Prelude.{◌==◌}
 use Rattle.std.specs.List.{list_any}
 use Rattle.my_pool_parts.proofs.Finding.{position-isnt}

@@ -1,4 +1,4 @@
-use Rattle.std.proofs.Common.{◌≡◌, ◌<◌, cond, None, refl, sym, ap, ◌∙◌, arith, length, get_or}
+use Rattle.std.proofs.Common.{◌≡◌, ◌<◌, cond, None, sym, ap, ◌∙◌, arith, length, get_or}
 use Rattle.std.specs.Prelude.{find}
 use Rattle.my_pool_parts.specs.Connections.{has_number, is_idle, is_returned, next_to_clean}
 use Rattle.my_pool_parts.specs.Stored.{numbers_at}

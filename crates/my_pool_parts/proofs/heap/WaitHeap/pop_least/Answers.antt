@@ -1,4 +1,4 @@
-use Rattle.std.proofs.Common.{◌<◌, None, set, refl, ap, subst, sym, arith, length, length-set}
+use Rattle.std.proofs.Common.{◌<◌, None, refl, ap, subst, sym, arith, length, length-set}
 use Rattle.std.proofs.lemmas.Bool.Decides.{nat_tests}
 use Rattle.my_pool_parts.specs.declared.entry.Entry.{Entry}
 use Rattle.my_pool_parts.specs.Ages.{AreDistinct, IsLeast}

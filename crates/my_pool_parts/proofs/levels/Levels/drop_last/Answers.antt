@@ -1,6 +1,6 @@
-use Rattle.std.proofs.Common.{◌≡◌, ◌<◌, ◌≤◌, ◌+◌, ◌-◌, ◌++◌, [], ◌∷◌, length, set, take, length-set, sym, ap, ◌∙◌, subst, arith, vec_len}
+use Rattle.std.proofs.Common.{◌<◌, ◌-◌, length, take, length-set, sym, ap, ◌∙◌, subst, arith}
 use Rattle.my_pool_parts.specs.Row.{joined, room_of, IsFilled}
-use Rattle.my_pool_parts.proofs.Filled.{joined-length, index-small, Spotted, spotted, dropped-filled, dropped-joined}
+use Rattle.my_pool_parts.proofs.Filled.{joined-length, index-small, spotted, dropped-filled, dropped-joined}
 use Rattle.my_pool_parts.proofs.levels.Levels.drop_last.Goals as goal
 
 pub overflow_sub-self : goal.overflow_sub-self

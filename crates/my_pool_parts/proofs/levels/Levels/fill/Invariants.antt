@@ -1,4 +1,4 @@
-use Rattle.std.proofs.Common.{◌≡◌, ℕ, ◌-◌, ◌≤◌, ◌++◌, length, replicate}
+use Rattle.std.proofs.Common.{◌≡◌, ◌-◌, ◌++◌, length, replicate}
 use Rattle.my_pool_parts.proofs.levels.Levels.fill.Given as goal
 
 -- what is missing makes the list that is wanted

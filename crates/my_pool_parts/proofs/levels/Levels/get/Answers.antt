@@ -1,6 +1,6 @@
-use Rattle.std.proofs.Common.{◌≡◌, ◌<◌, length, get_or, sym, ap, ◌∙◌, arith}
+use Rattle.std.proofs.Common.{◌<◌, length, get_or, sym, ap, ◌∙◌, arith}
 use Rattle.my_pool_parts.specs.Row.{joined}
-use Rattle.my_pool_parts.proofs.Filled.{joined-length, index-small, Spotted, spotted, offset-there, read-there}
+use Rattle.my_pool_parts.proofs.Filled.{joined-length, index-small, spotted, offset-there, read-there}
 use Rattle.my_pool_parts.proofs.levels.Levels.get.Goals as goal
 
 pub spot_of-level-requires : goal.spot_of-level-requires

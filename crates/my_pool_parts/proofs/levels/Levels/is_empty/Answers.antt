@@ -1,4 +1,4 @@
-use Rattle.std.proofs.Common.{◌≡◌, ◌==◌, length, sym, ap, ◌∙◌}
+use Rattle.std.proofs.Common.{◌==◌, length, sym, ap, ◌∙◌}
 use Rattle.my_pool_parts.proofs.Filled.{joined-length}
 use Rattle.my_pool_parts.proofs.levels.Levels.is_empty.Goals as goal
 

@@ -1,4 +1,4 @@
-use Rattle.std.proofs.Common.{◌≡◌, ◌≤◌, length, sym, ap, ◌∙◌, arith}
+use Rattle.std.proofs.Common.{length, sym, ap, ◌∙◌, arith}
 use Rattle.my_pool_parts.proofs.Filled.{joined-length, filled-room, room-small}
 use Rattle.my_pool_parts.proofs.levels.Levels.len.Goals as goal
 

@@ -1,7 +1,7 @@
-use Rattle.std.proofs.Common.{◌≡◌, ◌<◌, ◌≤◌, ◌+◌, ◌*◌, ◌^◌, ◌++◌, [], ◌∷◌, length, set, length-set, sym, ap, ◌∙◌, arith, vec_len, rules}
+use Rattle.std.proofs.Common.{◌<◌, ◌+◌, ◌^◌, ◌++◌, [], ◌∷◌, length, length-set, ap, ◌∙◌, arith, rules}
 use Rattle.std.specs.Prelude.{is_ok, if◌then◌else◌}
-use Rattle.my_pool_parts.specs.Row.{joined, room_of}
-use Rattle.my_pool_parts.proofs.Filled.{start, start-at, joined-length, room-small, level-within, push-room, pushed-filled, pushed-joined}
+use Rattle.my_pool_parts.specs.Row.{room_of}
+use Rattle.my_pool_parts.proofs.Filled.{start-at, joined-length, room-small, level-within, push-room, pushed-filled, pushed-joined}
 use Rattle.my_pool_parts.proofs.levels.Levels.push.Goals as goal
 
 pub spot_of-level-requires : goal.spot_of-level-requires

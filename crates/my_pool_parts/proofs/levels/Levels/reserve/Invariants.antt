@@ -1,4 +1,4 @@
-use Rattle.std.proofs.Common.{◌≡◌, ℕ, ◌-◌, ◌*◌, ◌≤◌, max}
+use Rattle.std.proofs.Common.{◌≡◌, ◌-◌, ◌*◌, ◌≤◌, max}
 use Rattle.my_pool_parts.proofs.levels.Levels.reserve.Given as goal
 
 abbrev pub invariant-loop-self : goal.invariant-loop-self

@@ -1,7 +1,7 @@
-use Rattle.std.proofs.Common.{◌≡◌, ◌<◌, ◌≤◌, length, set, length-set, refl, sym, ap, ◌∙◌, subst, arith}
+use Rattle.std.proofs.Common.{◌<◌, length, set, length-set, refl, ap, ◌∙◌, arith}
 use Rattle.std.specs.Vec.{with_item}
 use Rattle.my_pool_parts.specs.Row.{joined, room_of}
-use Rattle.my_pool_parts.proofs.Filled.{joined-length, index-small, Spotted, spotted, offset-there, written-filled, written-joined}
+use Rattle.my_pool_parts.proofs.Filled.{joined-length, index-small, spotted, offset-there, written-filled, written-joined}
 use Rattle.my_pool_parts.proofs.levels.Levels.set.Goals as goal
 
 pub spot_of-level-requires : goal.spot_of-level-requires

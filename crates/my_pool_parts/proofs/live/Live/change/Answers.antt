@@ -1,4 +1,4 @@
-use Rattle.std.proofs.Common.{ℕ, Some, None, cond, set, sym, ap, ◌∙◌, arith}
+use Rattle.std.proofs.Common.{ℕ, Some, None, cond, set, sym, ap, ◌∙◌}
 use Rattle.std.specs.BTreeMap.{BTreeMap}
 use Rattle.std.specs.Option.{option_map}
 use Rattle.my_pool_parts.specs.declared.request.Request.{Request}

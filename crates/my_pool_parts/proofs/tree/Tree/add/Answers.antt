@@ -1,5 +1,4 @@
-use Rattle.std.proofs.Common.{◌≡◌, ◌++◌, [], ◌∷◌, length, set, refl, sym, ap, ◌∙◌, arith}
-use Rattle.my_pool_parts.specs.Tree.{entry}
+use Rattle.std.proofs.Common.{◌≡◌, length, set, sym, ap, ◌∙◌, arith}
 use Rattle.my_pool_parts.proofs.Slots.{linked-added, linked-as}
 use Rattle.my_pool_parts.proofs.tree.Tree.add.Goals as goal
 

@@ -1,4 +1,4 @@
-use Rattle.std.proofs.Common.{◌≡◌, ◌-◌, ◌++◌, None, length, replicate, sym, ap, ◌∙◌, arith}
+use Rattle.std.proofs.Common.{◌≡◌, ◌-◌, ◌++◌, None, length, replicate, sym, ap, ◌∙◌}
 use Rattle.my_pool_parts.proofs.Slots.{linked-grown, linked-as, refilled}
 use Rattle.my_pool_parts.proofs.tree.Tree.reserve.Goals as goal
 

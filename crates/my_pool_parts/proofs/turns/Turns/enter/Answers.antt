@@ -1,7 +1,7 @@
-use Rattle.std.proofs.Common.{◌≡◌, ◌^◌, deque_len, ◌<◌, ◌≤◌, ◌+◌, ◌-◌, ◌++◌, [], ◌∷◌, suc, cond, length, set, deque_items, deque_capacity, sym, ap, ◌∙◌, arith, rules}
+use Rattle.std.proofs.Common.{◌≡◌, ◌^◌, deque_len, ◌<◌, ◌+◌, ◌-◌, ◌++◌, [], ◌∷◌, suc, cond, length, deque_items, deque_capacity, sym, ap, ◌∙◌, arith, rules}
 use Rattle.std.specs.Prelude.{is_ok, if◌then◌else◌}
 use Rattle.std.proofs.lemmas.List.{length_push}
-use Rattle.my_pool_parts.specs.Row.{strung, last_room}
+use Rattle.my_pool_parts.specs.Row.{strung}
 use Rattle.my_pool_parts.proofs.Strung.{strung-set, part-short, last-room, room-set, room-some}
 use Rattle.my_pool_parts.proofs.turns.Turns.enter.Goals as goal
 

@@ -1,4 +1,4 @@
-use Rattle.std.proofs.Common.{◌≡◌, ℕ, drop, deque_items}
+use Rattle.std.proofs.Common.{◌≡◌, drop, deque_items}
 use Rattle.std.specs.Prelude.{slice_get}
 use Rattle.my_pool_parts.specs.Row.{strung}
 use Rattle.my_pool_parts.proofs.turns.Turns.get.Given as goal

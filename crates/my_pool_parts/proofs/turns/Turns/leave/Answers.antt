@@ -1,4 +1,4 @@
-use Rattle.std.proofs.Common.{◌≡◌, ◌≤◌, ◌+◌, ◌-◌, true, cond, length, set, deque_items, deque_capacity, sym, ap, ◌∙◌, arith}
+use Rattle.std.proofs.Common.{◌≤◌, cond, length, deque_items, deque_capacity, sym, ap, ◌∙◌, arith}
 use Rattle.std.specs.Prelude.{◌==◌}
 use Rattle.my_frame.specs.Lists.{without}
 use Rattle.my_pool_parts.specs.Lists.{how_many}

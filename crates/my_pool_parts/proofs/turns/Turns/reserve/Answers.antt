@@ -1,4 +1,4 @@
-use Rattle.std.proofs.Common.{◌≡◌, ◌<◌, ◌++◌, [], ◌∷◌, max, deque_capacity, ap, ◌∙◌, arith}
+use Rattle.std.proofs.Common.{◌++◌, [], ◌∷◌, deque_capacity, ap, ◌∙◌, arith}
 use Rattle.std.specs.Prelude.{is_ok, if◌then◌else◌}
 use Rattle.my_pool_parts.specs.Row.{last_room}
 use Rattle.my_pool_parts.proofs.Strung.{room-more}
