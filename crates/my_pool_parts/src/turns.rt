@@ -67,25 +67,25 @@ fn is_last(part: &VecDeque<u64>, number: u64) -> bool
 }
 
 /// The first part whose last number is this one.
-fn ended_by(parts: &Vec<VecDeque<u64>>, number: u64) -> Option<usize>
+fn ended_by(parts: &[VecDeque<u64>], number: u64) -> Option<usize>
     ensures part { result
-        ≡ position (λ part. list_any (λ m. m == number) (drop (length part.items - 1) part.items)) parts.now.items }
+        ≡ position (λ part. list_any (λ m. m == number) (drop (length part.items - 1) part.items)) parts.now }
 {
     parts.iter().position(|part| is_last(part, number))
 }
 
 /// The first part in which a number stands.
-fn first_with(parts: &Vec<VecDeque<u64>>, number: u64) -> Option<usize>
-    ensures part { result ≡ position (λ part. list_any (λ m. m == number) part.items) parts.now.items }
+fn first_with(parts: &[VecDeque<u64>], number: u64) -> Option<usize>
+    ensures part { result ≡ position (λ part. list_any (λ m. m == number) part.items) parts.now }
 {
     parts.iter().position(|part| part.contains(&number))
 }
 
 /// A part in which a number stands. Where it is the last one of a part no other number is looked at, and else those
 /// before it are.
-fn part_of(parts: &Vec<VecDeque<u64>>, number: u64) -> Option<usize>
-    ensures found { IfSome result (λ k. IsTrue (stands_in deque_items number parts.now.items k)) }
-    ensures none { IfNone result (list_any (λ m. m == number) (strung deque_items parts.now.items) ≡ false) }
+fn part_of(parts: &[VecDeque<u64>], number: u64) -> Option<usize>
+    ensures found { IfSome result (λ k. IsTrue (stands_in deque_items number parts.now k)) }
+    ensures none { IfNone result (list_any (λ m. m == number) (strung deque_items parts.now) ≡ false) }
 {
     match ended_by(parts, number) {
         Some(at) => Some(at),
