@@ -1,10 +1,11 @@
 -- A queue in parts: what is read, added or taken out in one of them is so in the whole.
-use Rattle.std.proofs.Common.{◌≡◌, ℕ, ◌+◌, ◌-◌, ◌<◌, ◌≤◌, Bool, true, false, cond, Some, None, List, [], ◌∷◌, ◌++◌, length, get_or, set, drop, zero, suc, refl, sym, ap, ◌∙◌, subst, arith, length-append, append-nil, append_assoc}
-use Rattle.std.specs.Prelude.{◌==◌, ◌||◌, not, slice_get, position}
+use Rattle.std.proofs.Common.{◌≡◌, ℕ, ◌+◌, ◌-◌, ◌<◌, ◌≤◌, Bool, true, false, cond, Some, None, List, [], ◌∷◌, ◌++◌, length, get_or, set, drop, zero, suc, refl, sym, ap, ◌∙◌, subst, arith, length-append, append-nil, append_assoc, ◌*◌, max}
+use Rattle.std.specs.Prelude.{◌==◌, ◌||◌, not, nat_le, slice_get, position}
 use Rattle.std.specs.List.{list_any, position_or_len}
+use Rattle.std.proofs.lemmas.Bool.Decides.{nat_tests}
 use Rattle.my_frame.specs.Lists.{without}
 use Rattle.my_pool_parts.specs.Lists.{how_many}
-use Rattle.my_pool_parts.specs.Row.{strung, last_room, stands_in}
+use Rattle.my_pool_parts.specs.Row.{strung, last_room, stands_in, more_room}
 use Rattle.my_pool_parts.proofs.Finding.{one, count-append, some-counted, position-is}
 
 -- ---- lists ----
@@ -183,3 +184,10 @@ module _ {P : Type 0} (items : P → List ℕ) where
         | true ↦ λ h. absurd (cc)
         | false ↦ λ h. nowhere n ps h
       ] e
+
+-- ---- its room ----
+
+pub grows-to : (before room n : ℕ) → before < room → n ≡ max room (2 * before) → n ≡ more_room before room
+grows-to before room n lt e =
+    let no : nat_le room before ≡ false = grind (arith, nat_tests) in
+    e ∙ ap (λ b. cond b before (max room (2 * before))) (sym no)

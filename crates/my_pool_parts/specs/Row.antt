@@ -1,5 +1,5 @@
 -- A list in levels, each with twice the room of the one before it, and a queue in parts, of which the last one takes what comes.
-use Rattle.std.specs.Prelude.{◌≡◌, ℕ, zero, suc, Bool, false, ◌==◌, ◌-◌, ◌*◌, ◌≤◌, ◌^◌, min, List, [], ◌∷◌, length, Vec, vec_capacity}
+use Rattle.std.specs.Prelude.{◌≡◌, ℕ, zero, suc, Bool, false, ◌==◌, ◌-◌, ◌*◌, ◌≤◌, ◌^◌, min, max, nat_le, if◌then◌else◌, List, [], ◌∷◌, length, Vec, vec_capacity}
 use Rattle.std.specs.List.{flat_map, list_any}
 
 -- what is seen: the elements, and for how many there is room
@@ -40,3 +40,7 @@ abbrev pub stands_in : {P : Type 0} → (P → List ℕ) → ℕ → List P → 
 stands_in items number [] k = false
 stands_in items number (part ∷ parts) zero = list_any (λ m. m == number) (items part)
 stands_in items number (part ∷ parts) (suc k) = stands_in items number parts k
+
+-- the room for so many: where it is more than before, at least twice of that
+abbrev pub more_room : ℕ → ℕ → ℕ
+more_room before room = if nat_le room before then before else max room (2 * before)

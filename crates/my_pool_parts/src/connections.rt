@@ -160,8 +160,7 @@ impl Connections {
         self.arrivals.add(Place::Connecting)
     }
 
-    /// There is room for `more` connections beside those that are counted. Where there was too little there is at least
-    /// twice of it from now on, so that the queues have few parts. Out of memory, there may be less.
+    /// There is room for `more` connections beside those that are counted. Out of memory, there may be less.
     pub fn reserve(&mut self, more: usize) -> Result<(), NoMemory>
         requires { more ≤ 2 ^ 63 }
         ensures same { self.new ≡ stored self.old.list self.old.next self.old.coming self.new.room }
@@ -172,7 +171,6 @@ impl Connections {
         if room <= self.room {
             return Ok(());
         }
-        let room = room.max(self.room.saturating_mul(2));
         self.idle.reserve(room)?;
         self.returned.reserve(room)?;
         self.room = room;

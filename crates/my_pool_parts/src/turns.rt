@@ -1,11 +1,11 @@
 //! Queues of numbers.
 
-ghost use Rattle.std.specs.Prelude.{◌≡◌, ◌≤◌, ◌<◌, ◌+◌, ◌-◌, ◌^◌, ◌++◌, ◌==◌, false, IsTrue, [], ◌∷◌, OnOk, OnErr, IfSome, IfNone, position, length, vec_len, vec_capacity, drop, max, slice_get, if◌then◌else◌};
+ghost use Rattle.std.specs.Prelude.{◌≡◌, ◌≤◌, ◌<◌, ◌+◌, ◌-◌, ◌^◌, ◌++◌, ◌==◌, false, IsTrue, [], ◌∷◌, OnOk, OnErr, IfSome, IfNone, position, length, vec_len, vec_capacity, drop, slice_get, if◌then◌else◌};
 ghost use Rattle.std.specs.List.{list_any};
 ghost use Rattle.std.specs.VecDeque.{deque_items, deque_capacity};
 ghost use Rattle.my_frame.specs.Lists.{without};
 ghost use Rattle.my_pool_parts.specs.Lists.{how_many};
-ghost use Rattle.my_pool_parts.specs.Row.{row, strung, stands_in};
+ghost use Rattle.my_pool_parts.specs.Row.{row, strung, stands_in, more_room};
 
 use my_frame::NoMemory;
 use std::alloc::Global;
@@ -179,18 +179,20 @@ impl Turns {
         self.len -= 1;
     }
 
-    /// There is room for so many numbers from now on. Out of memory, nothing changes.
+    /// There is room for so many numbers from now on, and where there was too little for twice as many as before at
+    /// least, so that there are few parts. Out of memory, nothing changes.
     pub(crate) fn reserve(&mut self, room: usize) -> Result<(), NoMemory>
         ensures items { self.new.items ≡ self.old.items }
-        ensures ok { OnOk result (self.new.room ≡ max self.old.room room) }
+        ensures ok { OnOk result (self.new.room ≡ more_room self.old.room room) }
         ensures err { OnErr result (self.new.room ≡ self.old.room) }
         ensures small { self.new.room < 2 ^ 63 }
     {
-        if room <= self.room() {
+        let before = self.room();
+        if room <= before {
             return Ok(());
         }
         self.parts.reserve(1)?;
-        let part = VecDeque::with_capacity(*self.parts.allocator(), room)?;
+        let part = VecDeque::with_capacity(*self.parts.allocator(), room.max(2 * before))?;
         forget_empty(&mut self.parts, self.len);
         self.parts.push(part).unwrap();
         Ok(())
