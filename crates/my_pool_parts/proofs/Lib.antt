@@ -1,3 +1,5 @@
+pub mod Strung
+pub mod Filled
 pub mod Slots
 pub mod Sifting
 pub mod Finding

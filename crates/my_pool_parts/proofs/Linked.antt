@@ -218,6 +218,28 @@ linked-put {m} {after} {newest} {es} n p older d h at is nodes count =
     itself : (n q : ℕ) (d : Node) (x : Option Node) → n ≡ q → is_number d.older n ≡ false → is_number d.newer n ≡ false → unlinked d q x ≡ x
     itself n q d x e o w = subst (λ k. unlinked d k x ≡ x) e (ap (λ b. cond b (option_map (with_newer d.newer) (changed_at d.newer (with_older d.older) n x)) (changed_at d.newer (with_older d.older) n x)) o ∙ ap (λ b. cond b (option_map (with_older d.older) x) x) w)
 
+-- the place of the one in front was replaced
+pub linked-front : {m after : List (ℕ × Node)} (es : List (ℕ × Option Place)) (n : ℕ) (p : Option Place) (older : Option ℕ) (d : Node) → IsLinked m (Some n) es → node_at m n ≡ Some d → older ≡ newest_without (Some n) d
+    → ((q : ℕ) → node_at after q ≡ cond (nat_eq q n) (Some (node p older None)) (node_at m q)) → length after ≡ length m → IsLinked after (Some n) ((n, p) ∷ remove_entry (nat_eq n) es)
+linked-front {m} {after} [] n p older d h at is nodes count = absurd (cc)
+linked-front {m} {after} (e ∷ es) n p older d h at is nodes count =
+    let all = remove_entry (nat_eq n) (e ∷ es) in
+    let same : e.0 ≡ n = sym (same_Some n e.0 h.newest_is) in
+    let left : all ≡ es = ap (λ b. cond b es (e ∷ remove_entry (nat_eq n) es)) (ap (λ k. nat_eq n k) same ∙ number-same n) in
+    let own : node_of None (e ∷ es) n ≡ Some d = sym (h.nodes n) ∙ at in
+    let front : older ≡ first all = is ∙ ap (λ o. newest_without o d) h.newest_is ∙ newest-left n (e ∷ es) d own in
+    let there : lookup (nat_eq n) (e ∷ es) ≡ Some d.place = sym (place-at None (e ∷ es) n) ∙ ap (option_map (λ (x : Node). x.place)) own in
+    record {
+      apart = apart-put n p (e ∷ es) h.apart;
+      newest_is = refl;
+      nodes = λ q. nodes q ∙ elim (nat_eq q n) as (λ t. nat_eq q n ≡ t → cond t (Some (node p older None)) (node_at m q) ≡ cond t (Some (node p (first all) None)) (node_of (Some n) all q)) [
+        | true ↦ λ t. ap (λ o. Some (node p o None)) front
+        | false ↦ λ t. h.nodes q ∙ ap (λ b. cond b (Some (node e.1 (first es) None)) (node_of (Some e.0) es q)) (ap (λ k. nat_eq q k) same ∙ t)
+            ∙ ap (λ k. node_of (Some k) es q) same ∙ ap (λ xs. node_of (Some n) xs q) (sym left)
+      ] refl;
+      fits = omega (arith, h.fits, count, length-left (nat_eq n) (e ∷ es) d.place there);
+    }
+
 -- one that was taken out
 pub linked-left : {m after : List (ℕ × Node)} {newest : Option ℕ} {es : List (ℕ × Option Place)} (n : ℕ) (d : Node) → IsLinked m newest es → node_at m n ≡ Some d
     → ((q : ℕ) → node_at after q ≡ unlinked d q (cond (nat_eq q n) None (node_at m q))) → length after + 1 ≡ length m → IsLinked after (newest_without newest d) (remove_entry (nat_eq n) es)

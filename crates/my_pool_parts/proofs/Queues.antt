@@ -1,5 +1,5 @@
 -- The numbers of those that pass a test, as a connection leaves its place and goes to the end.
-use Rattle.std.proofs.Common.{◌≡◌, ℕ, ◌+◌, ◌-◌, ◌≤◌, ◌<◌, zero, suc, Bool, true, false, cond, Option, Some, None, List, [], ◌∷◌, ◌++◌, length, refl, sym, ap, ◌∙◌, arith, option_map, get_or, take, OnSome, is_some, IsSome, append-nil, length-append}
+use Rattle.std.proofs.Common.{◌≡◌, ℕ, ◌+◌, ◌-◌, ◌≤◌, ◌<◌, zero, suc, Bool, true, false, cond, Option, Some, None, List, [], ◌∷◌, ◌++◌, length, refl, sym, ap, ◌∙◌, arith, option_map, get_or, take, OnSome, is_some, append-nil, length-append}
 use Rattle.std.specs.Prelude.{find, ◌==◌, ◌||◌}
 use mir.Val.{bool_byte}
 use Rattle.std.specs.List.{list_any}
@@ -137,6 +137,7 @@ stored-left n cs idle returned idle' returned' count leased leased' room ir rr i
       counted = omega (arith, h.counted, length-without (has_number n) cs x.0 x.1);
       leased_are = omega (arith, l, h.leased_are, left-count is_leased n cs was any (w ∙ placed-found is_leased_place (find (has_number n) cs)));
       few = omega (arith, h.few, length-without (has_number n) cs x.0 x.1);
+      small = h.small;
       idle_fit = omega (arith, h.idle_fit, a);
       returned_fit = omega (arith, h.returned_fit, b);
     }
@@ -158,6 +159,7 @@ stored-moved n place cs idle returned idle' returned' count leased leased' room 
       counted = omega (arith, h.counted, length-without (has_number n) cs x.0 x.1, count-length left (placed n place));
       leased_are = omega (arith, l, h.leased_are, left-count is_leased n cs was any (w ∙ placed-found is_leased_place (find (has_number n) cs)), count-push is_leased left (placed n place));
       few = omega (arith, h.few, length-without (has_number n) cs x.0 x.1, count-length left (placed n place));
+      small = h.small;
       idle_fit = omega (arith, h.idle_fit, a);
       returned_fit = omega (arith, h.returned_fit, b);
     }
@@ -260,6 +262,7 @@ stored-next n cs idle returned count leased room ir rr h none few = record {
   counted = omega (arith, h.counted, length-append cs (placed n Connecting ∷ []));
   leased_are = omega (arith, h.leased_are, count-push is_leased cs (placed n Connecting));
   few = omega (arith, few, length-append cs (placed n Connecting ∷ []));
+  small = h.small;
   idle_fit = h.idle_fit;
   returned_fit = h.returned_fit;
 }
@@ -294,10 +297,6 @@ empty-none t cs queue q e = none-any t cs (omega (arith, ap length q, numbers-le
 
 pub empty-find : (t : Connection → Bool) (cs : List Connection) (queue : List ℕ) → queue ≡ numbers_at t cs → length queue ≡ 0 → find t cs ≡ None
 empty-find t cs queue q e = find-absent t cs (empty-none t cs queue q e)
-
-pub empty-len : {X : Type 0} (o : Option X) (n : ℕ) → o ≡ None → (0 < n → IsSome o) → n ≡ 0
-empty-len o zero e h = refl
-empty-len o (suc n) e h = let s : is_some o ≡ true = h (omega arith) in let f : is_some o ≡ false = ap is_some e in absurd (cc)
 
 pub some-placed : (key : Connection → Bool) (cs : List Connection) → is_some (find key cs) ≡ is_some (option_map (λ c. c.place) (find key cs))
 some-placed key cs = mapped (find key cs)

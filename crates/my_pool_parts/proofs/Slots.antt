@@ -160,9 +160,6 @@ linked-grown {ages} {places} {es} k h =
 pub linked-as : {ages bges : List (Option ℕ)} {places qlaces : List ℕ} {es fs : List Entry} → IsLinked ages places es → ages ≡ bges → places ≡ qlaces → es ≡ fs → IsLinked bges qlaces fs
 linked-as {ages} {bges} {places} {qlaces} {es} {fs} h a p e = subst (λ xs. IsLinked bges qlaces xs) e (subst (λ ps. IsLinked bges ps es) p (subst (λ xs. IsLinked xs places es) a h))
 
--- a list that was filled up
-pub resized : {X : Type 0} (xs mid ys : List X) (n count more : ℕ) (v : X) → mid ≡ xs → count ≡ length mid → n ≡ length xs + more → ys ≡ take n mid ++ replicate (n - count) v → ys ≡ xs ++ replicate more v
-resized {X} xs mid ys n count more v same counted len e =
-    let total = ap length same in
-    let left : n - count ≡ more = omega arith in
-    e ∙ ap (λ (zs : List X). zs ++ replicate (n - count) v) (take_all n mid (omega arith)) ∙ ap (λ k. mid ++ replicate k v) left ∙ ap (λ (zs : List X). zs ++ replicate more v) same
+-- a list that got room and was filled up
+pub refilled : {X : Type 0} (xs mid : List X) {ys : List X} (n : ℕ) (v : X) → mid ≡ xs → ys ≡ mid ++ replicate (n - length mid) v → ys ≡ xs ++ replicate (n - length xs) v
+refilled {X} xs mid n v same e = e ∙ ap (λ (zs : List X). zs ++ replicate (n - length zs) v) same

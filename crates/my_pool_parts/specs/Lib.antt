@@ -1,6 +1,7 @@
 pub mod Ages
 pub mod Tree
 pub mod Lists
+pub mod Row
 pub mod Connections
 pub mod Requests
 pub mod Live

@@ -1,5 +1,5 @@
 -- The live requests beside the heap of those that wait.
-use Rattle.std.specs.Prelude.{◌≡◌, ℕ, ◌+◌, ◌<◌, ◌≤◌, Option, Some, None, List, [], ◌∷◌, ◌++◌, length, map, slice_index, if◌then◌else◌}
+use Rattle.std.specs.Prelude.{◌≡◌, ℕ, ◌+◌, ◌^◌, ◌<◌, ◌≤◌, Option, Some, None, List, [], ◌∷◌, ◌++◌, length, map, slice_index, if◌then◌else◌}
 use Rattle.my_pool_parts.specs.Ages.{age_of, how_many as how_many_held}
 use Rattle.my_pool_parts.specs.declared.request.Request.{Request}
 use Rattle.my_pool_parts.specs.declared.seat.Seat.{Seat}
@@ -46,3 +46,4 @@ pub record IsSeated (es : List (ℕ × Seat)) (free : List ℕ) (room : ℕ) (he
   pub keyed : IsKeyed es
   pub live : IsLive (requests_of es) (slots_of es ++ free) held dialing queued
   pub roomy : length es + length free ≤ room
+  pub small : room < 2 ^ 63

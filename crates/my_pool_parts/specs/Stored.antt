@@ -1,5 +1,5 @@
 -- Connections beside the queues of those that are idle and of those that are returned.
-use Rattle.std.specs.Prelude.{◌≡◌, ℕ, ◌≤◌, Bool, true, false, List, [], ◌∷◌, ◌++◌, length, if◌then◌else◌}
+use Rattle.std.specs.Prelude.{◌≡◌, ℕ, ◌^◌, ◌<◌, ◌≤◌, Bool, true, false, List, [], ◌∷◌, ◌++◌, length, if◌then◌else◌}
 use Rattle.std.specs.List.{list_any}
 use Rattle.my_pool_parts.specs.declared.connection.Connection.{Connection}
 use Rattle.my_pool_parts.specs.declared.connection.Place.{Place}
@@ -47,5 +47,6 @@ pub record IsStored (cs : List Connection) (idle returned : List ℕ) (count lea
   pub counted : count ≡ length cs
   pub leased_are : leased ≡ how_many is_leased cs
   pub few : length cs ≤ room
+  pub small : room < 2 ^ 63
   pub idle_fit : room ≤ idle_room
   pub returned_fit : room ≤ returned_room

@@ -1,5 +1,5 @@
 -- A tree of entries in a list, and its links to the slots.
-use Rattle.std.specs.Prelude.{◌≡◌, ◌≢◌, ℕ, ◌+◌, ◌*◌, ◌<◌, ◌≤◌, Option, Some, List, slice_index_or, slice_index, length, vec_len, vec_capacity}
+use Rattle.std.specs.Prelude.{◌≡◌, ◌≢◌, ℕ, ◌+◌, ◌*◌, ◌<◌, ◌≤◌, Option, Some, List, slice_index_or, slice_index, length}
 use Rattle.my_pool_parts.specs.declared.entry.Entry.{Entry}
 use Rattle.my_pool_parts.specs.declared.tree.Tree.{Tree}
 use Rattle.my_pool_parts.specs.Ages.{age_of, how_many, AreDistinct}
@@ -61,6 +61,6 @@ IsBelow age i = (p : ℕ) → 2 * p + 1 ≤ i → i ≤ 2 * p + 2 → age p ≤ 
 -- a tree that keeps to the order of the ages, of which no two are the same, with room for an entry of each slot
 pub record IsHeap (t : Tree) : Type 0 where
   pub linked : IsTree t
-  pub ordered : IsOrdered (vec_len t.entries) (age_at t.entries.items)
+  pub ordered : IsOrdered (length t.entries.items) (age_at t.entries.items)
   pub distinct : AreDistinct t.ages.items
-  pub room : vec_len t.ages ≤ vec_capacity t.entries
+  pub room : length t.ages.items ≤ t.entries.room

@@ -10,10 +10,9 @@ ghost use Rattle.my_pool_parts.specs.Stored.{stored, IsIdleAt, connecting};
 
 use crate::arrivals::Arrivals;
 use crate::connection::{Connection, Place, PlaceKind, is_at};
-use crate::turns::{enter, leave};
+use crate::turns::Turns;
 use my_frame::NoMemory;
 use std::alloc::Global;
-use std::collections::VecDeque;
 use std::marker::Model;
 
 /// Counted connections with their places. One is found by its number; the idle and the returned ones stand in queues.
@@ -23,9 +22,9 @@ use std::marker::Model;
 pub struct Connections {
     arrivals: Arrivals,
     /// The numbers of the idle ones, the one that is idle longest first.
-    idle: VecDeque<u64>,
+    idle: Turns,
     /// The numbers of the returned ones, the one that returned first first.
-    returned: VecDeque<u64>,
+    returned: Turns,
     count: usize,
     leased: usize,
     /// For how many connections there is room in the queues.
@@ -33,7 +32,6 @@ pub struct Connections {
 }
 
 impl Model for Connections {
-    ghost use Rattle.std.specs.VecDeque.{deque_capacity};
     ghost use Rattle.my_pool_parts.specs.Stored.{Stored, stored, IsStored};
 
     ghost Value = { Stored };
@@ -41,7 +39,7 @@ impl Model for Connections {
     ghost view = { λ c. stored c.arrivals.list c.arrivals.next c.arrivals.coming c.room };
 
     ghost invariant = { λ c. IsStored c.arrivals.list c.idle.items c.returned.items c.count c.leased c.room
-        (deque_capacity c.idle) (deque_capacity c.returned) };
+        c.idle.room c.returned.room };
 }
 
 impl Connections {
@@ -51,8 +49,8 @@ impl Connections {
     {
         Connections {
             arrivals: Arrivals::new(alloc, first),
-            idle: VecDeque::new(alloc),
-            returned: VecDeque::new(alloc),
+            idle: Turns::new(alloc),
+            returned: Turns::new(alloc),
             count: 0,
             leased: 0,
             room: 0,
@@ -85,7 +83,7 @@ impl Connections {
         requires { index < how_many is_idle self.now.list }
         ensures { IsIdleAt index result self.now.list }
     {
-        self.idle[index]
+        self.idle.get(index).unwrap()
     }
 
     /// A counted connection is taken out.
@@ -95,8 +93,9 @@ impl Connections {
             ≡ stored (without (has_number number) self.old.list) self.old.next self.old.coming self.old.room }
     {
         let old = self.arrivals.place(number);
-        leave(&mut self.idle, is_at(&old, PlaceKind::Idle), number);
-        leave(&mut self.returned, is_at(&old, PlaceKind::Returned), number);
+        self.idle.leave(is_at(&old, PlaceKind::Idle), number);
+        self.returned
+            .leave(is_at(&old, PlaceKind::Returned), number);
         self.leased -= usize::from(is_at(&old, PlaceKind::Leased));
         self.count -= 1;
         self.arrivals.take_out(number);
@@ -110,10 +109,12 @@ impl Connections {
     {
         let old = self.arrivals.place(number);
         let new = Some(place);
-        leave(&mut self.idle, is_at(&old, PlaceKind::Idle), number);
-        leave(&mut self.returned, is_at(&old, PlaceKind::Returned), number);
-        enter(&mut self.idle, is_at(&new, PlaceKind::Idle), number);
-        enter(&mut self.returned, is_at(&new, PlaceKind::Returned), number);
+        self.idle.leave(is_at(&old, PlaceKind::Idle), number);
+        self.returned
+            .leave(is_at(&old, PlaceKind::Returned), number);
+        self.idle.enter(is_at(&new, PlaceKind::Idle), number);
+        self.returned
+            .enter(is_at(&new, PlaceKind::Returned), number);
         self.leased = self.leased - usize::from(is_at(&old, PlaceKind::Leased))
             + usize::from(is_at(&new, PlaceKind::Leased));
         self.arrivals.move_to(number, place);
@@ -159,8 +160,7 @@ impl Connections {
         self.arrivals.add(Place::Connecting)
     }
 
-    /// There is room for `more` connections beside those that are counted. Where there was too little there is at least
-    /// twice of it from now on, so that few calls move the queues. Out of memory, there may be less.
+    /// There is room for `more` connections beside those that are counted. Out of memory, there may be less.
     pub fn reserve(&mut self, more: usize) -> Result<(), NoMemory>
         requires { more ≤ 2 ^ 63 }
         ensures same { self.new ≡ stored self.old.list self.old.next self.old.coming self.new.room }
@@ -171,7 +171,6 @@ impl Connections {
         if room <= self.room {
             return Ok(());
         }
-        let room = room.max(self.room.saturating_mul(2));
         self.idle.reserve(room)?;
         self.returned.reserve(room)?;
         self.room = room;
@@ -197,14 +196,14 @@ impl Connections {
     pub fn next_to_clean(&self, closed: bool) -> Option<Connection>
         ensures { result ≡ next_to_clean closed self.now.list }
     {
-        if let Some(number) = self.returned.front() {
-            return self.find(*number);
+        if let Some(number) = self.returned.get(0) {
+            return self.find(number);
         }
         if !closed {
             return None;
         }
-        match self.idle.front() {
-            Some(number) => self.find(*number),
+        match self.idle.get(0) {
+            Some(number) => self.find(number),
             None => None,
         }
     }

@@ -5,6 +5,7 @@ ghost use Rattle.my_pool_parts.specs.Ages.{age_of, how_many, IsLeast};
 
 use crate::entry::Entry;
 use crate::ledger::Ledger;
+use crate::levels::Levels;
 use crate::tree::Tree;
 use my_frame::NoMemory;
 use std::alloc::Global;
@@ -36,9 +37,9 @@ impl WaitHeap {
     {
         WaitHeap {
             tree: Tree {
-                ages: Vec::new(alloc),
-                places: Vec::new(alloc),
-                entries: Vec::new(alloc),
+                ages: Levels::new(alloc),
+                places: Levels::new(alloc),
+                entries: Levels::new(alloc),
             },
         }
     }
@@ -70,7 +71,7 @@ impl WaitHeap {
         ensures ages { self.new ≡ slice_set self.old slot None }
         ensures cost { (d : ℕ) → how_many self.old < 2 ^ d → C.noted steps.new ≤ C.noted steps.old + 2 * d + 1 }
     {
-        let place = self.tree.places[slot];
+        let place = self.tree.places.get(slot);
         self.tree.remove_at(place, steps);
     }
 
@@ -93,14 +94,14 @@ impl WaitHeap {
         if self.tree.entries.is_empty() {
             return None;
         }
-        Some(self.tree.entries[0].age)
+        Some(self.tree.entries.get(0).age)
     }
 
     /// Whether a slot is held. One that isn't reserved is not.
     pub fn holds(&self, slot: usize) -> bool
         ensures { result ≡ is_some (age_of self.now slot) }
     {
-        slot < self.tree.ages.len() && self.tree.ages[slot].is_some()
+        slot < self.tree.ages.len() && self.tree.ages.get(slot).is_some()
     }
 
     /// Whether some slot is held by an age: each slot is looked at.
@@ -108,9 +109,9 @@ impl WaitHeap {
         ensures some { result ≡ true → (slot : ℕ) × (age_of self.now slot ≡ Some age) }
         ensures none { result ≡ false → (slot : ℕ) → age_of self.now slot ≡ Some age → ⊥ }
     {
-        for held in &self.tree.ages {
-            if let Some(other) = held
-                && *other == age
+        for slot in 0..self.tree.ages.len() {
+            if let Some(other) = self.tree.ages.get(slot)
+                && other == age
             {
                 return true;
             }

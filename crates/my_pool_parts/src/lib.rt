@@ -9,6 +9,7 @@ mod connections;
 mod entry;
 mod heap;
 mod ledger;
+mod levels;
 mod live;
 mod node;
 mod places;

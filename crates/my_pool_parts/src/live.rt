@@ -3,7 +3,7 @@
 //! Each comparison of two ages by the heap is counted. A request is found in a map, whose own comparisons no clause
 //! counts: they go down one path of its tree.
 
-ghost use Rattle.std.specs.Prelude.{◌≡◌, ℕ, ◌+◌, ◌*◌, ◌^◌, ◌≤◌, ◌<◌, ◌++◌, [], ◌∷◌, Some, None, true, false, length, find, List, Option, slice_set, vec_capacity, IfOk, OnOk, OnErr, if◌then◌else◌};
+ghost use Rattle.std.specs.Prelude.{◌≡◌, ℕ, ◌+◌, ◌*◌, ◌^◌, ◌≤◌, ◌<◌, ◌++◌, [], ◌∷◌, Some, None, true, false, length, find, List, Option, slice_set, IfOk, OnOk, OnErr, if◌then◌else◌};
 ghost use Rattle.std.specs.List.{list_any};
 ghost use Rattle.my_pool_parts.specs.Ages.{age_of, how_many as how_many_held};
 ghost use Rattle.my_pool_parts.specs.Lists.{how_many, found_is, change_first};
@@ -12,6 +12,7 @@ ghost use Rattle.my_pool_parts.specs.Live.{IsQueue};
 
 use crate::heap::WaitHeap;
 use crate::ledger::Ledger;
+use crate::levels::Levels;
 use crate::request::{LAST, Request, Standing};
 use crate::seat::Seat;
 use my_frame::NoMemory;
@@ -25,7 +26,7 @@ pub struct Live {
     /// Each request with its slot, by its age.
     seats: BTreeMap<u64, Seat>,
     /// The slots that no request has.
-    free: Vec<usize>,
+    free: Levels<usize>,
     /// The ages of those that wait.
     waiting: WaitHeap,
     /// How many make a connection.
@@ -35,7 +36,7 @@ pub struct Live {
 }
 
 impl Model for Live {
-    ghost use Rattle.std.specs.Prelude.{List, vec_capacity};
+    ghost use Rattle.std.specs.Prelude.{List};
     ghost use Rattle.my_pool_parts.specs.declared.request.Request.{Request};
     ghost use Rattle.my_pool_parts.specs.Live.{requests_of, IsSeated};
 
@@ -43,7 +44,7 @@ impl Model for Live {
 
     ghost view = { λ l. requests_of l.seats.entries };
 
-    ghost invariant = { λ l. IsSeated l.seats.entries l.free.items (vec_capacity l.free) l.waiting l.dialing l.queued };
+    ghost invariant = { λ l. IsSeated l.seats.entries l.free.items l.free.room l.waiting l.dialing l.queued };
 }
 
 /// A count, where one that was counted or not is counted or not from now on.
@@ -80,20 +81,21 @@ fn set_held<C: Ledger>(heap: &mut WaitHeap, slot: usize, age: u64, holds: bool, 
 
 /// Afterwards there is a free slot beside those of `count` requests, and room for the slots that these free. Out of
 /// memory, the slots stay as they are.
-fn have_slot(free: &mut Vec<usize>, heap: &mut WaitHeap, count: usize) -> Result<(), NoMemory>
+fn have_slot(free: &mut Levels<usize>, heap: &mut WaitHeap, count: usize) -> Result<(), NoMemory>
     requires small { count < 2 ^ 63 }
-    requires roomy { count + length free.old.items ≤ vec_capacity free.old }
+    requires roomy { count + length free.old.items ≤ free.old.room }
     ensures queue { (ages : List (Option ℕ)) (slots : List ℕ) → length slots ≡ count
         → IsQueue ages (slots ++ free.old.items) heap.old → IsQueue ages (slots ++ free.new.items) heap.new }
     ensures free { OnOk result (0 < length free.new.items) }
-    ensures roomy { count + length free.new.items ≤ vec_capacity free.new }
+    ensures roomy { count + length free.new.items ≤ free.new.room }
+    ensures small { free.new.room < 2 ^ 63 }
 {
-    if !free.is_empty() {
+    if free.len() > 0 {
         return Ok(());
     }
     free.reserve(count + 1)?;
     heap.reserve(count + 1)?;
-    free.push(count).unwrap();
+    free.push(count);
     Ok(())
 }
 
@@ -104,7 +106,7 @@ impl Live {
     {
         Live {
             seats: BTreeMap::new(alloc),
-            free: Vec::new(alloc),
+            free: Levels::new(alloc),
             waiting: WaitHeap::new(alloc),
             dialing: 0,
             queued: 0,
@@ -153,10 +155,10 @@ impl Live {
         ensures err { OnErr result (self.new ≡ self.old) }
     {
         have_slot(&mut self.free, &mut self.waiting, self.seats.len())?;
-        let slot = self.free[self.free.len() - 1];
+        let slot = self.free.get(self.free.len() - 1);
         let request = Request::asking(age);
         self.seats.insert(age, Seat { request, slot })?;
-        self.free.pop();
+        self.free.drop_last();
         Ok(())
     }
 
@@ -231,7 +233,7 @@ impl Live {
         set_held(&mut self.waiting, slot, age, false, steps);
         self.dialing = recount(self.dialing, old.is_dialing(), false);
         self.queued = recount(self.queued, old.is_queued(), false);
-        self.free.push(slot).unwrap();
+        self.free.push(slot);
     }
 
     /// The oldest waiting request is woken.

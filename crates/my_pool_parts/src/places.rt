@@ -56,7 +56,7 @@ impl Places {
         }
     }
 
-    /// Something else stands at a number, which goes first.
+    /// Something else stands at a number, which goes first. Where it is first already, its neighbours stay.
     pub(crate) fn put(&mut self, number: u64, place: Option<Place>)
         requires { IsSome (lookup (nat_eq number) self.old) }
         ensures { self.new ≡ (number, place) ∷ remove_entry (nat_eq number) self.old }
@@ -69,6 +69,11 @@ impl Places {
             older,
             newer: None,
         };
+        if let Some(newest) = self.newest
+            && newest == number
+        {
+            return;
+        }
         unlink(&mut self.nodes, &old);
         set_newer(&mut self.nodes, older, Some(number));
         self.newest = Some(number);

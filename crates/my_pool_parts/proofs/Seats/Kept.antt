@@ -1,10 +1,10 @@
 -- The map of the live requests beside the heap and the free slots: what a request that changes, ends or comes leaves.
-use Rattle.std.proofs.Common.{◌≡◌, ℕ, ◌+◌, ◌^◌, ◌<◌, ◌≤◌, Bool, false, Option, Some, None, List, [], ◌∷◌, ◌++◌, length, get_or, set, map, zero, suc, refl, sym, ap, ◌∙◌, subst, arith, append_assoc, length-append, length-set, take, drop}
+use Rattle.std.proofs.Common.{◌≡◌, ℕ, ◌+◌, ◌^◌, ◌-◌, ◌<◌, ◌≤◌, Bool, false, Option, Some, None, List, [], ◌∷◌, ◌++◌, length, get_or, set, map, zero, suc, refl, sym, ap, ◌∙◌, subst, arith, append_assoc, length-append, length-set, take, drop}
 use Rattle.std.specs.Prelude.{remove}
 use Rattle.std.specs.Ordering.{nat_cmp}
 use Rattle.std.specs.Map.{lookup, remove_entry, set_value}
 use Rattle.std.specs.BTreeMap.{is_at, insert_entry}
-use Rattle.std.proofs.lemmas.List.{length-map, get_or-map, map-set, map-append, get_or_append_left, set-get_or, take-map, drop-map, length_push}
+use Rattle.std.proofs.lemmas.List.{length-map, get_or-map, map-set, map-append, get_or_append_left, set-get_or, take-map, drop-map, length_push, take_all, take_more}
 use Rattle.std.proofs.lemmas.List.Edits.{remove-append_left, length-remove}
 use Rattle.my_pool_parts.specs.declared.request.Request.{Request}
 use Rattle.my_pool_parts.specs.declared.seat.Seat.{Seat}
@@ -82,6 +82,7 @@ seated-changed {es} {fs} {free} {room} {held} {after} {dialing} {queued} {dialin
       keyed = subst IsKeyed (sym is) (subst (λ n. IsKeyed (set es i (n, new))) same (keyed-set es i new h.keyed));
       live = live-as live rs (ap (λ xs. xs ++ free) ss);
       roomy = omega (arith, ap length is, length-set es i (age, new), h.roomy);
+      small = h.small;
     }
 
 pub changed-list : {es fs : List (ℕ × Seat)} {free : List ℕ} {held : List (Option ℕ)} {age : ℕ} {here : Seat} (f : Request → Request) (next : Request) → IsFound es free held age here → f here.request ≡ next
@@ -94,7 +95,7 @@ map-remove f es i = map-append f (take i es) (drop (suc i) es) ∙ ap (λ xs. xs
 
 -- a request leaves the map, and its slot is free
 pub seated-ended : {es fs : List (ℕ × Seat)} {free next : List ℕ} {room : ℕ} {held after : List (Option ℕ)} {dialing queued dialing' queued' age : ℕ} {here : Seat} (more : ℕ) → IsSeated es free room held dialing queued → IsFound es free held age here
-    → fs ≡ remove_entry (is_at (nat_cmp age)) es → next ≡ free ++ here.slot ∷ [] → room ≤ more → after ≡ set held here.slot None → IsRecount (is_dialing here.request) false dialing dialing' → IsRecount (is_queued here.request) false queued queued' → IsSeated fs next more after dialing' queued'
+    → fs ≡ remove_entry (is_at (nat_cmp age)) es → next ≡ free ++ here.slot ∷ [] → more ≡ room → after ≡ set held here.slot None → IsRecount (is_dialing here.request) false dialing dialing' → IsRecount (is_queued here.request) false queued queued' → IsSeated fs next more after dialing' queued'
 seated-ended {es} {fs} {free} {next} {room} {held} {after} {dialing} {queued} {dialing'} {queued'} {age} {here} more h f e n le a di qu =
     let i = f.i in
     let r = f.read here.request in
@@ -109,6 +110,7 @@ seated-ended {es} {fs} {free} {next} {room} {held} {after} {dialing} {queued} {d
       keyed = subst IsKeyed (sym is) (keyed-remove es i f.there.within h.keyed);
       live = live-as live rs all;
       roomy = omega (arith, ap length is, length-remove es i f.there.within, ap length n, length_push free here.slot, h.roomy, le);
+      small = omega (arith, h.small, le);
     }
 
 pub ended-list : {es fs : List (ℕ × Seat)} {free : List ℕ} {held : List (Option ℕ)} {age : ℕ} {here : Seat} → IsFound es free held age here → fs ≡ remove_entry (is_at (nat_cmp age)) es → requests_of fs ≡ without (has_age age) (requests_of es)
@@ -116,16 +118,23 @@ ended-list {es} {fs} {free} {held} {age} {here} h e = ap requests_of (e ∙ h.th
 
 -- the slots changed, and nothing else
 pub seated-slots : {es : List (ℕ × Seat)} {free next : List ℕ} {room : ℕ} {held after : List (Option ℕ)} {dialing queued : ℕ} (more : ℕ) → IsSeated es free room held dialing queued
-    → ((ages : List (Option ℕ)) (slots : List ℕ) → length slots ≡ length es → IsQueue ages (slots ++ free) held → IsQueue ages (slots ++ next) after) → length es + length next ≤ more → IsSeated es next more after dialing queued
-seated-slots {es} {free} {next} {room} {held} {after} {dialing} {queued} more h slots le = record {
+    → ((ages : List (Option ℕ)) (slots : List ℕ) → length slots ≡ length es → IsQueue ages (slots ++ free) held → IsQueue ages (slots ++ next) after) → length es + length next ≤ more → more < 2 ^ 63 → IsSeated es next more after dialing queued
+seated-slots {es} {free} {next} {room} {held} {after} {dialing} {queued} more h slots le lt = record {
   keyed = h.keyed;
   live = live-queue h.live (slots (map age_if (requests_of es)) (slots_of es) (length-map es (λ (e : ℕ × Seat). e.1.slot)) h.live.queue);
   roomy = le;
+  small = lt;
 }
+
+-- a list with its last element
+pub with-last : (xs : List ℕ) (x : ℕ) → 0 < length xs → x ≡ get_or xs (length xs - 1) x → xs ≡ take (length xs - 1) xs ++ x ∷ []
+with-last xs x some e =
+    let last = length xs - 1 in
+    sym (take_all (last + 1) xs (omega arith)) ∙ take_more xs last x (omega arith) ∙ ap (λ y. take last xs ++ y ∷ []) (sym e)
 
 -- a request comes into the map, with the last one of the free slots
 pub seated-added : {es fs : List (ℕ × Seat)} {free next : List ℕ} {room : ℕ} {held : List (Option ℕ)} {dialing queued : ℕ} (age slot more : ℕ) → IsSeated es free room held dialing queued → IsRising 0 (requests_of es ++ asking age ∷ [])
-    → fs ≡ insert_entry nat_cmp es age (seat (asking age) slot) → free ≡ next ++ slot ∷ [] → room ≤ more → IsSeated fs next more held dialing queued
+    → fs ≡ insert_entry nat_cmp es age (seat (asking age) slot) → free ≡ next ++ slot ∷ [] → more ≡ room → IsSeated fs next more held dialing queued
 seated-added {es} {fs} {free} {next} {room} {held} {dialing} {queued} age slot more h rising e n le =
     let new = seat (asking age) slot in
     let is : fs ≡ es ++ (age, new) ∷ [] = e ∙ put-last 0 age es new h.keyed rising in
@@ -140,6 +149,7 @@ seated-added {es} {fs} {free} {next} {room} {held} {dialing} {queued} age slot m
       keyed = subst IsKeyed (sym is) (keyed-push es age new refl h.keyed);
       live = live-as live rs ss;
       roomy = omega (arith, ap length is, length_push es (age, new), ap length n, length_push next slot, h.roomy, le);
+      small = omega (arith, h.small, le);
     }
 
 pub added-list : {es fs : List (ℕ × Seat)} {free : List ℕ} {room : ℕ} {held : List (Option ℕ)} {dialing queued : ℕ} (age slot : ℕ) → IsSeated es free room held dialing queued → IsRising 0 (requests_of es ++ asking age ∷ [])
@@ -147,5 +157,5 @@ pub added-list : {es fs : List (ℕ × Seat)} {free : List ℕ} {room : ℕ} {he
 added-list {es} age slot h rising e = ap requests_of (e ∙ put-last 0 age es (seat (asking age) slot) h.keyed rising) ∙ map-append (λ (e : ℕ × Seat). e.1.request) es ((age, seat (asking age) slot) ∷ [])
 
 -- fewer than half of all numbers
-pub seats-few : (p : Request → Bool) {es : List (ℕ × Seat)} {free : List ℕ} {room : ℕ} {held : List (Option ℕ)} {dialing queued : ℕ} (count : ℕ) → IsSeated es free room held dialing queued → count ≡ how_many p (requests_of es) → room < 2 ^ 63 → count < 2 ^ 63
-seats-few p {es} {free} {room} count h c le = live-few p (requests_of es) count (2 ^ 63) c (omega (arith, length-map es (λ (e : ℕ × Seat). e.1.request), h.roomy, le))
+pub seats-few : (p : Request → Bool) {es : List (ℕ × Seat)} {free : List ℕ} {room : ℕ} {held : List (Option ℕ)} {dialing queued : ℕ} (count : ℕ) → IsSeated es free room held dialing queued → count ≡ how_many p (requests_of es) → count < 2 ^ 63
+seats-few p {es} {free} {room} count h c = live-few p (requests_of es) count (2 ^ 63) c (omega (arith, length-map es (λ (e : ℕ × Seat). e.1.request), h.roomy, h.small))

@@ -6,5 +6,5 @@ use Rattle.my_pool_parts.proofs.connections.Connections.count_idle.Goals as goal
 
 pub returns : goal.returns
 returns c =
-    c.len.ensures ∙ c.self.inside.idle.ok.0 ∙ ap length c.self.invariant.idle_are ∙ numbers-length is_idle c.self.inside.arrivals.list
+    c.len.ensures.count ∙ ap length c.self.invariant.idle_are ∙ numbers-length is_idle c.self.inside.arrivals.list
     ∙ ap (λ s. how_many is_idle s.list) c.self.view_is

@@ -1,4 +1,4 @@
-use Rattle.std.proofs.Common.{◌≡◌, ◌+◌, ◌-◌, ◌++◌, ◌∷◌, [], true, cond, sym, ap, ◌∙◌, arith, subst, deque_capacity}
+use Rattle.std.proofs.Common.{◌≡◌, ◌+◌, ◌-◌, ◌++◌, ◌∷◌, [], true, cond, sym, ap, ◌∙◌, arith, subst}
 use Rattle.std.specs.List.{list_any}
 use Rattle.my_pool_parts.specs.Connections.{has_number, is_idle, is_returned, is_leased, is_idle_place, is_returned_place, is_leased_place}
 use Rattle.my_frame.specs.Lists.{without}
@@ -20,7 +20,7 @@ enter-requires c =
     let cs = c.self.inside.arrivals.list in
     let inv = c.self.invariant in
     let idle = c.leave.ensures.items ∙ leaves is_idle_place n cs c.self.inside.idle.items c.is_at.result inv.idle_are (inv.once n) (c.is_at.ensures ∙ ap (found_is is_idle_place) c.place-old.ensures) in
-    omega (arith, c.leave.new.queue.ok.0, c.leave.ensures.capacity, inv.idle_fit, queue-room is_idle n cs c.leave.new.queue.items c.self.inside.room (subst (λ s. list_any (has_number c.args.number) s.list ≡ true) (sym c.self.view_is) c.requires) idle inv.few)
+    omega (arith, c.leave.ensures.room, inv.idle_fit, queue-room is_idle n cs c.leave.new.self.items c.self.inside.room (subst (λ s. list_any (has_number c.args.number) s.list ≡ true) (sym c.self.view_is) c.requires) idle inv.few)
 
 pub enter-requires-2 : goal.enter-requires-2
 enter-requires-2 c =
@@ -28,7 +28,7 @@ enter-requires-2 c =
     let cs = c.self.inside.arrivals.list in
     let inv = c.self.invariant in
     let returned = c.leave-2.ensures.items ∙ leaves is_returned_place n cs c.self.inside.returned.items c.is_at-2.result inv.returned_are (inv.once n) (c.is_at-2.ensures ∙ ap (found_is is_returned_place) c.place-old.ensures) in
-    omega (arith, c.leave-2.new.queue.ok.0, c.leave-2.ensures.capacity, inv.returned_fit, queue-room is_returned n cs c.leave-2.new.queue.items c.self.inside.room (subst (λ s. list_any (has_number c.args.number) s.list ≡ true) (sym c.self.view_is) c.requires) returned inv.few)
+    omega (arith, c.leave-2.ensures.room, inv.returned_fit, queue-room is_returned n cs c.leave-2.new.self.items c.self.inside.room (subst (λ s. list_any (has_number c.args.number) s.list ≡ true) (sym c.self.view_is) c.requires) returned inv.few)
 
 pub overflow_sub-self : goal.overflow_sub-self
 overflow_sub-self c =
@@ -38,7 +38,7 @@ overflow_sub-self c =
 pub overflow_add-self : goal.overflow_add-self
 overflow_add-self c =
     let inv = c.self.invariant in
-    omega (arith, c.self.inside.idle.small.0, inv.idle_fit, inv.few, inv.leased_are, count-le-length is_leased c.self.inside.arrivals.list, c.from-2.ensures ∙ byte-one c.is_at-6.result, one-le c.is_at-6.result)
+    omega (arith, inv.small, inv.few, inv.leased_are, count-le-length is_leased c.self.inside.arrivals.list, c.from-2.ensures ∙ byte-one c.is_at-6.result, one-le c.is_at-6.result)
 
 pub invariant_of-self : goal.invariant_of-self
 invariant_of-self c =
@@ -51,6 +51,6 @@ invariant_of-self c =
     let left2 = leaves is_returned_place n cs c.self.inside.returned.items c.is_at-2.result inv.returned_are (inv.once n) (c.is_at-2.ensures ∙ ap (found_is is_returned_place) c.place-old.ensures) in
     let idle = c.enter.ensures.items ∙ ap (λ q. q ++ cond c.is_at-3.result (n ∷ []) []) (c.leave.ensures.items ∙ left) ∙ ap (λ b. numbers_at is_idle (without (has_number n) cs) ++ cond b (n ∷ []) []) c.is_at-3.ensures in
     let returned = c.enter-2.ensures.items ∙ ap (λ q. q ++ cond c.is_at-4.result (n ∷ []) []) (c.leave-2.ensures.items ∙ left2) ∙ ap (λ b. numbers_at is_returned (without (has_number n) cs) ++ cond b (n ∷ []) []) c.is_at-4.ensures in
-    subst (λ xs. IsStored xs c.enter.new.queue.items c.enter-2.new.queue.items c.self.inside.count (c.self.inside.leased - c.from.result + c.from-2.result) c.self.inside.room (deque_capacity c.enter.new.queue) (deque_capacity c.enter-2.new.queue))
+    subst (λ xs. IsStored xs c.enter.new.self.items c.enter-2.new.self.items c.self.inside.count (c.self.inside.leased - c.from.result + c.from-2.result) c.self.inside.room c.enter.new.self.room c.enter-2.new.self.room)
     (sym (ap (λ a. a.list) c.move_to.ensures))
-    (stored-moved n c.args.place cs _ _ _ _ _ _ _ _ _ _ _ _ c.is_at-5.result inv (subst (λ s. list_any (has_number c.args.number) s.list ≡ true) (sym c.self.view_is) c.requires) was (omega (arith, c.from.ensures ∙ byte-one c.is_at-5.result, c.from-2.ensures ∙ byte-one c.is_at-6.result, ap one c.is_at-6.ensures, fewer)) idle returned (c.enter.ensures.capacity ∙ c.leave.ensures.capacity) (c.enter-2.ensures.capacity ∙ c.leave-2.ensures.capacity))
+    (stored-moved n c.args.place cs _ _ _ _ _ _ _ _ _ _ _ _ c.is_at-5.result inv (subst (λ s. list_any (has_number c.args.number) s.list ≡ true) (sym c.self.view_is) c.requires) was (omega (arith, c.from.ensures ∙ byte-one c.is_at-5.result, c.from-2.ensures ∙ byte-one c.is_at-6.result, ap one c.is_at-6.ensures, fewer)) idle returned (c.enter.ensures.room ∙ c.leave.ensures.room) (c.enter-2.ensures.room ∙ c.leave-2.ensures.room))

@@ -1,4 +1,4 @@
-use Rattle.std.proofs.Common.{◌≡◌, ◌-◌, true, sym, ap, ◌∙◌, arith, subst, deque_capacity}
+use Rattle.std.proofs.Common.{◌≡◌, ◌-◌, true, sym, ap, ◌∙◌, arith, subst}
 use Rattle.std.specs.List.{list_any}
 use Rattle.my_pool_parts.specs.Connections.{has_number, is_idle, is_returned, is_idle_place, is_returned_place, is_leased_place}
 use Rattle.my_pool_parts.specs.Lists.{found_is}
@@ -26,6 +26,6 @@ invariant_of-self c =
     let fewer = leased-counted n cs c.self.inside.leased c.is_at-3.result inv.leased_are was in
     let idle = c.leave.ensures.items ∙ leaves is_idle_place n cs c.self.inside.idle.items c.is_at.result inv.idle_are (inv.once n) (c.is_at.ensures ∙ ap (found_is is_idle_place) c.place-old.ensures) in
     let returned = c.leave-2.ensures.items ∙ leaves is_returned_place n cs c.self.inside.returned.items c.is_at-2.result inv.returned_are (inv.once n) (c.is_at-2.ensures ∙ ap (found_is is_returned_place) c.place-old.ensures) in
-    subst (λ xs. IsStored xs c.leave.new.queue.items c.leave-2.new.queue.items (c.self.inside.count - 1) (c.self.inside.leased - c.from.result) c.self.inside.room (deque_capacity c.leave.new.queue) (deque_capacity c.leave-2.new.queue))
+    subst (λ xs. IsStored xs c.leave.new.self.items c.leave-2.new.self.items (c.self.inside.count - 1) (c.self.inside.leased - c.from.result) c.self.inside.room c.leave.new.self.room c.leave-2.new.self.room)
     (sym (ap (λ a. a.list) c.take_out.ensures))
-    (stored-left n cs _ _ _ _ _ _ _ _ _ _ _ _ c.is_at-3.result inv (subst (λ s. list_any (has_number c.args.number) s.list ≡ true) (sym c.self.view_is) c.requires) was (omega (arith, c.from.ensures ∙ byte-one c.is_at-3.result, fewer)) idle returned c.leave.ensures.capacity c.leave-2.ensures.capacity)
+    (stored-left n cs _ _ _ _ _ _ _ _ _ _ _ _ c.is_at-3.result inv (subst (λ s. list_any (has_number c.args.number) s.list ≡ true) (sym c.self.view_is) c.requires) was (omega (arith, c.from.ensures ∙ byte-one c.is_at-3.result, fewer)) idle returned c.leave.ensures.room c.leave-2.ensures.room)

@@ -14,10 +14,10 @@ take-requires c =
     (any-where-some (has_number c.args.number) cs (some-placed (has_number c.args.number) cs ∙ sym (ap is_some c.place.ensures) ∙ sym c.is_some.ensures ∙ c.if-is_some.true))
 
 pub returns-then-is_some-clause-small : goal.returns-then-is_some-clause-small
-returns-then-is_some-clause-small c = omega (arith, c.self.inside.idle.small.0, c.self.invariant.idle_fit, ap (λ s. s.room) c.self.view_is)
+returns-then-is_some-clause-small c = omega (arith, c.self.invariant.small, ap (λ s. s.room) c.self.view_is)
 
 pub returns-else-is_some-clause-small : goal.returns-else-is_some-clause-small
-returns-else-is_some-clause-small c = omega (arith, c.self.inside.idle.small.0, c.self.invariant.idle_fit, ap (λ s. s.room) c.self.view_is)
+returns-else-is_some-clause-small c = omega (arith, c.self.invariant.small, ap (λ s. s.room) c.self.view_is)
 
 pub returns-else-is_some-clause-state : goal.returns-else-is_some-clause-state
 returns-else-is_some-clause-state c =

@@ -1,4 +1,4 @@
-use Rattle.std.proofs.Common.{◌<◌, subst, sym, arith, vec_len}
+use Rattle.std.proofs.Common.{◌<◌, refl, subst, sym, arith, length}
 use Rattle.std.proofs.lemmas.Bool.Decides.{nat_tests}
 use Rattle.my_pool_parts.specs.declared.entry.Entry.{Entry}
 use Rattle.my_pool_parts.specs.Ages.{IsLeast}
@@ -10,7 +10,7 @@ use Rattle.my_pool_parts.proofs.heap.WaitHeap.least.Goals as goal
 pub returns : goal.returns
 returns c =
     let t = c.self.inside.tree in
-    let some : 0 < vec_len t.entries = grind (arith, nat_tests, c.is_empty.ensures, c.if-is_empty.false) in
-    let first = first-is-least (vec_len t.entries) t.entries.ok.0 c.self.invariant.linked c.self.invariant.ordered c.self.invariant.distinct some in
-    let read = read-entry t.entries.items 0 c.index.result.now (omega (arith, t.entries.ok.0, some)) c.index.ensures in
-    (slot_at t.entries.items 0, subst (λ ages. IsLeast ages (slot_at t.entries.items 0) c.index.result.now.age) c.self.view_is (subst (λ (e : Entry). IsLeast t.ages.items (slot_at t.entries.items 0) e.age) (sym read) first))
+    let some : 0 < length t.entries.items = grind (arith, nat_tests, c.is_empty.ensures.answer, c.if-is_empty.false) in
+    let first = first-is-least (length t.entries.items) refl c.self.invariant.linked c.self.invariant.ordered c.self.invariant.distinct some in
+    let read = read-entry t.entries.items 0 c.get.result (omega (arith, some)) c.get.ensures.element in
+    (slot_at t.entries.items 0, subst (λ ages. IsLeast ages (slot_at t.entries.items 0) c.get.result.age) c.self.view_is (subst (λ (e : Entry). IsLeast t.ages.items (slot_at t.entries.items 0) e.age) (sym read) first))

@@ -1,4 +1,4 @@
-use Rattle.std.proofs.Common.{ℕ, Some, None, cond, set, sym, ap, ◌∙◌, arith}
+use Rattle.std.proofs.Common.{ℕ, Some, None, cond, set, sym, ap, ◌∙◌}
 use Rattle.std.specs.BTreeMap.{BTreeMap}
 use Rattle.std.specs.Option.{option_map}
 use Rattle.my_pool_parts.specs.declared.request.Request.{Request}
@@ -37,13 +37,11 @@ recount-self-inside-requires-clause-there g c =
 
 pub recount-self-inside-requires-clause-room : goal.recount-self-inside-requires-clause-room
 recount-self-inside-requires-clause-room g c =
-    let v = c.self.inside.free in
-    seats-few is_dialing c.self.inside.dialing c.self.invariant c.self.invariant.live.dialing_counted (omega (arith, v.ok.1, v.small))
+    seats-few is_dialing c.self.inside.dialing c.self.invariant c.self.invariant.live.dialing_counted
 
 pub recount-self-inside-requires-2-clause-room : goal.recount-self-inside-requires-2-clause-room
 recount-self-inside-requires-2-clause-room g c =
-    let v = c.self.inside.free in
-    seats-few is_queued c.self.inside.queued c.self.invariant c.self.invariant.live.queued_counted (omega (arith, v.ok.1, v.small))
+    seats-few is_queued c.self.inside.queued c.self.invariant c.self.invariant.live.queued_counted
 
 pub recount-self-inside-requires-2-clause-there : goal.recount-self-inside-requires-2-clause-there
 recount-self-inside-requires-2-clause-there g c =

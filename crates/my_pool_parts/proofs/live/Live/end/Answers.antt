@@ -1,5 +1,5 @@
-use Rattle.std.proofs.Common.{◌≡◌, ◌++◌, ◌∷◌, [], Some, false, cond, refl, sym, ap, ◌∙◌, arith}
-use Rattle.std.specs.Prelude.{◌==◌, is_ok, if◌then◌else◌}
+use Rattle.std.proofs.Common.{◌≡◌, Some, false, cond, refl, sym, ap, ◌∙◌, arith}
+use Rattle.std.specs.Prelude.{◌==◌}
 use Rattle.std.specs.Option.{option_map}
 use Rattle.std.proofs.lemmas.Bool.{ne_eqb}
 use Rattle.my_pool_parts.specs.declared.seat.Seat.{Seat}
@@ -40,8 +40,7 @@ recount-self-inside-requires-clause-there g c =
 
 pub recount-self-inside-requires-clause-room : goal.recount-self-inside-requires-clause-room
 recount-self-inside-requires-clause-room g c =
-    let v = c.self.inside.free in
-    seats-few is_dialing c.self.inside.dialing c.self.invariant c.self.invariant.live.dialing_counted (omega (arith, v.ok.1, v.small))
+    seats-few is_dialing c.self.inside.dialing c.self.invariant c.self.invariant.live.dialing_counted
 
 pub recount-self-inside-requires-2-clause-there : goal.recount-self-inside-requires-2-clause-there
 recount-self-inside-requires-2-clause-there g c =
@@ -50,16 +49,14 @@ recount-self-inside-requires-2-clause-there g c =
 
 pub recount-self-inside-requires-2-clause-room : goal.recount-self-inside-requires-2-clause-room
 recount-self-inside-requires-2-clause-room g c =
-    let v = c.self.inside.free in
-    seats-few is_queued c.self.inside.queued c.self.invariant c.self.invariant.live.queued_counted (omega (arith, v.ok.1, v.small))
+    seats-few is_queued c.self.inside.queued c.self.invariant c.self.invariant.live.queued_counted
 
 pub invariant_of-self-2 : goal.invariant_of-self-2
 invariant_of-self-2 g c =
     let here = c.in-Some.seat in
     let free = c.self.inside.free.items in
     let f = found c.args.age here c.self.invariant (sym c.in-Some.ensures.value) in
-    let pushed = c.push.ensures.items ∙ ap (λ o. if is_ok o then free ++ here.slot ∷ [] else free) c.unwrap.ensures in
-    seated-ended _ c.self.invariant f c.remove.ensures.entries pushed (omega (arith, c.push.ensures.capacity)) c.set_held.ensures.ages
+    seated-ended _ c.self.invariant f c.remove.ensures.entries c.push.ensures.items c.push.ensures.room c.set_held.ensures.ages
     (record { was = c.is_dialing.result; is = false; was_is = c.is_dialing.ensures; is_is = refl; same = c.recount-self-inside.ensures })
     (record { was = c.is_queued.result; is = false; was_is = c.is_queued.ensures; is_is = refl; same = c.recount-self-inside-2.ensures })
 

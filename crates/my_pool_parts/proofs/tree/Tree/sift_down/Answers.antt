@@ -1,4 +1,4 @@
-use Rattle.std.proofs.Common.{◌≡◌, ◌<◌, ◌≤◌, ◌+◌, ◌*◌, sym, ◌∙◌, subst, arith, vec_len, refl}
+use Rattle.std.proofs.Common.{◌≡◌, ◌<◌, ◌≤◌, ◌+◌, ◌*◌, sym, ◌∙◌, subst, arith, refl, length}
 use Rattle.std.proofs.lemmas.Bool.{ltb-true}
 use Rattle.my_pool_parts.specs.Tree.{age_at, IsOrderedBut}
 use Rattle.my_pool_parts.proofs.Sifting.{traded, down-but, down-below}
@@ -25,10 +25,10 @@ loop-i-preserved g c =
     let age = age_at c.loop-i.self.entries.items in
     let new = age_at c.swap.new.self.entries.items in
     let following = c.older_after-following.ensures in
-    let len : vec_len c.swap.new.self.entries ≡ vec_len c.loop-i.self.entries = omega (arith, c.swap.ensures.swapped.len, c.swap.new.self.entries.ok.0, c.loop-i.self.entries.ok.0) in
+    let len : length c.swap.new.self.entries.items ≡ length c.loop-i.self.entries.items = omega (arith, c.swap.ensures.swapped.len) in
     let older : age b < age i = ltb-true _ _ (sym c.is_older.ensures.answer ∙ c.if-not-is_older.false) in
     let t = traded c.swap.ensures.swapped in
-    let room : 2 * i + 2 ≤ vec_len c.args.self.now.entries = omega (arith, c.loop-i-test.true, c.len.ensures, was.len) in
+    let room : 2 * i + 2 ≤ length c.args.self.now.entries.items = omega (arith, c.loop-i-test.true, c.len.ensures, was.len) in
     record {
       linked = c.swap.ensures.linked;
       len = len ∙ was.len;

@@ -1,4 +1,4 @@
-use Rattle.std.proofs.Common.{◌≡◌, ◌<◌, ◌≤◌, ◌+◌, ◌-◌, ◌*◌, ◌/◌, sym, ◌∙◌, subst, arith, vec_len}
+use Rattle.std.proofs.Common.{◌≡◌, ◌<◌, ◌≤◌, ◌+◌, ◌-◌, ◌*◌, ◌/◌, sym, ◌∙◌, subst, arith, length}
 use Rattle.std.proofs.lemmas.Bool.{ltb-true}
 use Rattle.my_pool_parts.specs.Tree.{age_at, IsOrderedBut, IsAbove}
 use Rattle.my_pool_parts.proofs.Sifting.{traded, up-but, up-above}
@@ -12,7 +12,7 @@ loop-i-preserved g c =
     let p = (i - 1) / 2 in
     let age = age_at c.loop-i.self.entries.items in
     let new = age_at c.swap.new.self.entries.items in
-    let len : vec_len c.swap.new.self.entries ≡ vec_len c.loop-i.self.entries = omega (arith, c.swap.ensures.swapped.len, c.swap.new.self.entries.ok.0, c.loop-i.self.entries.ok.0) in
+    let len : length c.swap.new.self.entries.items ≡ length c.loop-i.self.entries.items = omega (arith, c.swap.ensures.swapped.len) in
     let lo : 2 * p + 1 ≤ i = omega (arith, c.loop-i-test.true) in
     let hi : i ≤ 2 * p + 2 = omega (arith, c.loop-i-test.true) in
     let older : age i < age p = ltb-true _ _ (sym c.is_older.ensures.answer ∙ c.if-not-is_older.false) in
