@@ -1,7 +1,7 @@
 //! Runs scripts of steps over MySQL connections.
 #![tactic(auto)]
 
-ghost use Rattle.std.specs.Prelude.{◌≡◌, map, string_bytes};
+ghost use Rattle.std.specs.Prelude.{◌≡◌, ◌≢◌, map, string_bytes};
 ghost use Rattle.my_cli.specs.Live.{has_live};
 ghost use Rattle.my_cli.specs.Page.{page_text, PageEnds};
 ghost use Rattle.my_script.specs.Words.{command_of};
@@ -17,7 +17,7 @@ use my_run::{Status, run_tool, write_all};
 use my_script::{Command, read_command};
 use my_world::MemWorld;
 use std::alloc::AllocError;
-use std::io::Eprint;
+use std::io::{Eprint, ErrorKind};
 use std::process::ExitCode;
 use std::rt::Env;
 use std::{env, io};
@@ -53,9 +53,12 @@ fn is_live(words: &[String]) -> bool
 }
 
 // How a run ends whose words can't be read.
-fn unread_words(error: &io::Error) -> Status {
-    match error.kind() {
-        io::ErrorKind::OutOfMemory => Status::NoMemory,
+fn unread_words(kind: ErrorKind) -> Status
+    ensures memory { kind ≡ ErrorKind.OutOfMemory → result ≡ Status.NoMemory }
+    ensures other { kind ≢ ErrorKind.OutOfMemory → result ≡ Status.NoCommand }
+{
+    match kind {
+        ErrorKind::OutOfMemory => Status::NoMemory,
         _ => Status::NoCommand,
     }
 }
@@ -73,7 +76,7 @@ fn main(rt: HostRuntime) -> ExitCode {
     let words = match command_words(&rt) {
         Ok(words) => words,
         Err(error) => {
-            let status = unread_words(&error);
+            let status = unread_words(error.kind());
             explain(&rt, &[], &status);
             return ExitCode::from(status.code());
         }

@@ -67,7 +67,7 @@ pub fn begin_conn<L: Link + Drop>(
     ensures lifetime { IfOk result (λ c. c.session.lifetime ≡
         first_lifetime opts (L.socket link) (deadline_of opts.pool_opts now random)) }
     ensures kept { IfOk result (λ c. kept_of c ≡ first_kept) }
-    ensures open { IfOk result (λ c. is_open c.session.seen.task ≡ true) }
+    ensures is_on { IfOk result (λ c. is_open c.session.seen.task ≡ true) }
     ensures link { IfOk result (λ c. c.link ≡ link) }
 {
     let deadline = opts.pool_opts().new_deadline(now, random);
@@ -119,7 +119,7 @@ pub fn cancel_call<L>(conn: &mut TapedConn<L>)
 
 /// Whether the open call is the handshake.
 pub fn is_connecting<L>(conn: &TapedConn<L>) -> bool
-    ensures open { (a : Asked) → (kept_of conn.now).pending ≡ Some a → result ≡ is_connect (kind_of a.call) }
+    ensures some { (a : Asked) → (kept_of conn.now).pending ≡ Some a → result ≡ is_connect (kind_of a.call) }
     ensures none { (kept_of conn.now).pending ≡ None → result ≡ false }
 {
     match &conn.tape.pending {
@@ -139,7 +139,7 @@ pub fn is_connecting<L>(conn: &TapedConn<L>) -> bool
 
 /// Whether the open call gathers a set's rows.
 pub fn is_gathering<L>(conn: &TapedConn<L>) -> bool
-    ensures open { (a : Asked) → (kept_of conn.now).pending ≡ Some a → result ≡ is_some a.rows }
+    ensures some { (a : Asked) → (kept_of conn.now).pending ≡ Some a → result ≡ is_some a.rows }
     ensures none { (kept_of conn.now).pending ≡ None → result ≡ false }
 {
     match &conn.tape.pending {

@@ -1,6 +1,5 @@
 -- A connection goes on standing for what it did.
-use Rattle.std.proofs.Common.{ℕ, ◌≡◌, ◌≤◌, Bool, false, Option, is_some, refl, sym, subst}
-use Rattle.my_frame.specs.declared.limits.TheConstants.{MOST_TAKEN}
+use Rattle.std.proofs.Common.{ℕ, ◌≡◌, Bool, false, Option, refl, sym, subst}
 use Rattle.my_link.specs.Looks.{Looks}
 use Rattle.my_link.specs.declared.met.Met.{Met}
 use Rattle.my_reading.specs.declared.call.Call.{Call}
@@ -9,8 +8,8 @@ use Rattle.my_session.specs.Seen.{Seen}
 use Rattle.my_session.specs.View.{View}
 use Rattle.my_client.specs.declared.poll.After.{After}
 use Rattle.my_client.specs.declared.tape.Tape.{Tape}
-use Rattle.my_client.specs.Lives.{Lives, made_in}
-use Rattle.my_line.specs.Calls.{EachCall, MayPoll, pending_after}
+use Rattle.my_client.specs.Lives.{made_in}
+use Rattle.my_line.specs.Calls.{EachCall, Leaves, MayPoll, pending_after}
 use Rattle.my_line.specs.Stands.{StandsFor}
 use Rattle.my_line.proofs.Standing.{fits_after, not_both, pends_after, stands_after}
 use Rattle.my_conn.specs.Conn.{Standing}
@@ -30,8 +29,8 @@ sound_after b s t x y p q o n kind call m after e new may each w =
 
 module _ {L : Type 0} (look : L → Looks) (now : ℕ) (kind : CallKind) (call : Option Call) (b : Bool) (u v : View) (link other : L) (p q : Option Tape) (o n : Option CallKind) (m : Met) (after : After)
     (e : b ≡ false) (new : n ≡ pending_after kind after) (may : MayPoll kind call o) (each : EachCall call u.seen v.seen (look link) (look other) p q m after) (w : Standing b u.seen p o) where
-  pub call_is : (f : Fixed) → m.taken ≤ MOST_TAKEN → Lives now m.taken u v → made_in v ≡ made_in u → is_some q ≡ is_some p → CallIs look now kind call (record { seen = u.seen; lifetime = u.lifetime; link = link; tape = p; pending = o; lost = b; fixed = f }) (record { seen = v.seen; lifetime = v.lifetime; link = other; tape = q; pending = n; lost = b; fixed = f }) m after
-  call_is f within lives made keeps =
+  pub call_is : (f : Fixed) → Leaves now m.taken u v p q → made_in v ≡ made_in u → CallIs look now kind call (record { seen = u.seen; lifetime = u.lifetime; link = link; tape = p; pending = o; lost = b; fixed = f }) (record { seen = v.seen; lifetime = v.lifetime; link = other; tape = q; pending = n; lost = b; fixed = f }) m after
+  call_is f leaves made =
       let old = sound b u.seen p o e w in
       record {
         each = λ _ _ login k v'.
@@ -40,12 +39,12 @@ module _ {L : Type 0} (look : L → Looks) (now : ℕ) (kind : CallKind) (call :
         loses = λ f g. absurd (not_both b f g);
         lost = λ g. absurd (not_both b e g);
         unmet = λ g. absurd (not_both b e g);
-        lives = λ _ _. lives;
+        lives = λ _ _. leaves.lives;
         made = made;
-        keeps = λ _. keeps;
+        keeps = λ _. leaves.keeps;
         fixed = refl;
         pending = new;
         fits = fits_after kind call u.seen v.seen (look link) (look other) p q o m after may each old;
         pends = pends_after kind call u.seen v.seen (look link) (look other) p q o m after may each old;
-        within = within;
+        within = leaves.within;
       }

@@ -25,6 +25,9 @@ pub record Given : Type 0 where
   pub now : ℕ
   pub random : ℕ
 
+abbrev pub given_by : {L : Type 0} → (L → Looks) → (L → Bool) → L → ℕ → ℕ → Given
+given_by look socket link now random = record { looks = look link; is_socket = socket link; now = now; random = random }
+
 -- a session that was made for it, and received nothing
 pub record IsFirst (opts : OptsView) (g : Given) (v : View) : Type 0 where
   pub unread : v.seen.unread ≡ []

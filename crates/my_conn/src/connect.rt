@@ -2,7 +2,7 @@
 ghost use Rattle.std.specs.Prelude.{◌≡◌, ◌≤◌, None, Ok, Err, IfOk, length};
 ghost use Rattle.my_conn.specs.Conn.{ConnSeen};
 ghost use Rattle.my_conn.specs.Drives.{DoneIs};
-ghost use Rattle.my_conn.specs.News.{FromUrlIs, NewIs};
+ghost use Rattle.my_conn.specs.News.{FromUrlIs, NewIs, given_by};
 ghost use Rattle.my_opts.specs.Url.{options_of};
 ghost use Rattle.my_opts_parts.specs.declared.error.UrlError.{UrlError};
 ghost use Rattle.my_opts_parts.specs.declared.limits.TheConstants.{LONGEST_URL};
@@ -25,8 +25,7 @@ impl<L: BlockingLink + Drop> Conn<L> {
     /// `now` is the moment, in milliseconds. Where the options say that a connection ends, `random` picks among the moments of
     /// its end.
     pub fn new(alloc: Global, opts: Opts, link: L, now: u64, random: u64) -> Result<Conn<L>, Error>
-        ensures { NewIs L.looks opts
-            (record { looks = L.looks link; is_socket = L.socket link; now = now; random = random }) result }
+        ensures { NewIs L.looks opts (given_by L.looks L.socket link now random) result }
     {
         let fixed = Fixed::first(&opts, now);
         let begun = match begin_conn(alloc, opts, link, now, random) {
@@ -61,8 +60,7 @@ impl<L: BlockingLink + Drop> Conn<L> {
         random: u64,
     ) -> Result<Conn<L>, Error>
         requires { length url.now ≤ LONGEST_URL }
-        ensures news { FromUrlIs L.looks (options_of url.now)
-            (record { looks = L.looks link; is_socket = L.socket link; now = now; random = random }) result }
+        ensures news { FromUrlIs L.looks (options_of url.now) (given_by L.looks L.socket link now random) result }
         ensures refused { (e : UrlError) → result ≡ Err (errors.Url e) → options_of url.now ≡ Err e }
     {
         match Opts::from_url(alloc, url) {

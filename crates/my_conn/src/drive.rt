@@ -1,6 +1,6 @@
 //! Calls that wait, over links that never hold: each polls its call until it returns.
-ghost use Rattle.std.specs.Prelude.{◌≡◌, None, false};
-ghost use Rattle.my_reading.specs.Calls.{is_connect, kind_of};
+ghost use Rattle.std.specs.Prelude.{◌≡◌, None, Some};
+ghost use Rattle.my_line.specs.Calls.{MayPoll};
 ghost use Rattle.my_reading.specs.declared.call.Call.TheVariants as calls;
 ghost use Rattle.my_reading.specs.declared.call.CallKind.TheVariants as kinds;
 ghost use Rattle.my_conn.specs.Answers.{next_of};
@@ -45,9 +45,7 @@ impl<L: BlockingLink> Conn<L> {
         kind: CallKind,
         call: Call,
     ) -> Result<Answer, Error>
-        requires idle { self.old.pending ≡ None }
-        requires kind { kind_of call ≡ kind }
-        requires other { is_connect kind ≡ false }
+        requires { MayPoll kind (Some call) self.old.pending }
         ensures { DriveIs L.looks kind call self.old self.new result }
     {
         let now = self.now();
@@ -72,9 +70,7 @@ impl<L: BlockingLink> Conn<L> {
 
     // Makes a call of this kind, and waits until it is done.
     fn wait(&mut self, alloc: Global, kind: CallKind, call: Call) -> Result<(), Error>
-        requires idle { self.old.pending ≡ None }
-        requires kind { kind_of call ≡ kind }
-        requires other { is_connect kind ≡ false }
+        requires { MayPoll kind (Some call) self.old.pending }
         ensures { DoneIs L.looks kind call self.old self.new result }
     {
         match self.drive(alloc, kind, call) {

@@ -1,5 +1,6 @@
 -- A call over a session, for all that may have been done before it.
-use Rattle.std.proofs.Common.{ℕ, ◌≡◌, length, inl, inr, Option, Some, None, false, true, refl, sym, ap, ◌∙◌, subst, arith}
+use Rattle.std.proofs.Common.{ℕ, ◌≡◌, length, inl, inr, Option, Some, None, false, true, is_some, refl, sym, ap, ◌∙◌, subst, arith}
+use Rattle.my_frame.specs.declared.limits.TheConstants.{MOST_TAKEN}
 use Rattle.my_grammar.specs.declared.login.Login.{Login}
 use Rattle.my_link.specs.Looks.{Looks}
 use Rattle.my_link.specs.Met.{nothing_met}
@@ -30,7 +31,7 @@ use Rattle.my_client.specs.Turns.{EachPoll, PollFor}
 use Rattle.my_client.proofs.Driving.{drives}
 use Rattle.my_client.proofs.Living.{lives_on, lives_still}
 use Rattle.my_client.proofs.Hearing.Beginning.{begins, closed_kept, idle_task, refused_so, refuses}
-use Rattle.my_line.specs.Calls.{CallFor, Does, EachCall}
+use Rattle.my_line.specs.Calls.{CallFor, Does, EachCall, Leaves}
 
 -- what the tape keeps of it
 abbrev pub NotesCall : Option Tape → Option Tape → Call → Type 0
@@ -102,13 +103,24 @@ refused_call s t x y p q r call m e idle noted refused same why st link none aft
     }
 
 -- the beginning of a call reads nothing
-pub lives_begun : (now n : ℕ) (a b c : View) (call : Call) → b.seen ≡ begun a.seen call → b.lifetime ≡ a.lifetime → Lives now n b c → Lives now n a c
+lives_begun : (now n : ℕ) (a b c : View) (call : Call) → b.seen ≡ begun a.seen call → b.lifetime ≡ a.lifetime → Lives now n b c → Lives now n a c
 lives_begun now n a b c call seen same w =
     let unread : length b.seen.unread ≡ length a.seen.unread = ap (λ (v : Seen). length v.unread) seen in
     subst (λ (i : ℕ). Lives now i a c) (omega arith) (lives_on now 0 n a b c (lives_still now 0 a b (omega (arith, unread)) same) w)
 
+pub leaves_begun : (now n : ℕ) (a b c : View) (p q u : Option Tape) (call : Call) → b.seen ≡ begun a.seen call → b.lifetime ≡ a.lifetime → is_some q ≡ is_some p → Leaves now n b c q u → Leaves now n a c p u
+leaves_begun now n a b c p q u call seen same kept w = record {
+  within = w.within;
+  lives = lives_begun now n a b c call seen same w.lives;
+  keeps = w.keeps ∙ kept;
+}
+
 -- nor does a call that is refused
-pub lives_refused : (now n : ℕ) (a b : View) → n ≡ 0 → b.seen ≡ a.seen → b.lifetime ≡ a.lifetime → Lives now n a b
-lives_refused now n a b none seen same =
+pub leaves_refused : (now n : ℕ) (a b : View) (p q : Option Tape) → n ≡ 0 → b.seen ≡ a.seen → b.lifetime ≡ a.lifetime → is_some q ≡ is_some p → Leaves now n a b p q
+leaves_refused now n a b p q none seen same kept =
     let unread : length b.seen.unread ≡ length a.seen.unread = ap (λ (v : Seen). length v.unread) seen in
-    lives_still now n a b (omega (arith, none, unread)) same
+    record {
+      within = omega (arith, none);
+      lives = lives_still now n a b (omega (arith, none, unread)) same;
+      keeps = kept;
+    }

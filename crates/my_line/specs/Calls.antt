@@ -1,5 +1,5 @@
 -- What one poll of a call does to a line.
-use Rattle.std.specs.Prelude.{◌≡◌, ◌⊎◌, Option, Some, None, true, false}
+use Rattle.std.specs.Prelude.{ℕ, ◌≡◌, ◌≤◌, ◌⊎◌, Option, Some, None, true, false, is_some}
 use Rattle.my_frame.specs.declared.limits.TheConstants.{MOST_TAKEN}
 use Rattle.my_frame.specs.Outside.{Rose}
 use Rattle.my_grammar.specs.declared.login.Login.{Login}
@@ -16,12 +16,14 @@ use Rattle.my_session.specs.Steps.{AtBegun}
 use Rattle.my_session.specs.Tasks.{is_open}
 use Rattle.my_session.specs.History.{has_closed}
 use Rattle.my_session.specs.Seen.{Seen}
+use Rattle.my_session.specs.View.{View}
 use Rattle.my_client.specs.declared.poll.After.{After}
 use Rattle.my_client.specs.declared.poll.After.TheVariants.{Pending, Answered, Failed}
 use Rattle.my_client.specs.declared.tape.Said.TheVariants as says
 use Rattle.my_client.specs.declared.tape.Tape.{Tape}
 use Rattle.my_client.specs.Causes.{IsPolled}
 use Rattle.my_client.specs.Kept.{Asked, Kept, asking, asked_by, ended_by, made_of}
+use Rattle.my_client.specs.Lives.{Lives}
 use Rattle.my_client.specs.Notes.{Agrees}
 use Rattle.my_client.specs.Reads.{IsStepped}
 use Rattle.my_client.specs.Rests.{Rests, IsAsked}
@@ -78,6 +80,13 @@ IsCallable (Some call) login s k = Rests login s k × (k.pending ≡ None)
 abbrev pub EachCall : Option Call → Seen → Seen → Looks → Looks → Option Tape → Option Tape → Met → After → Type 0
 EachCall call s t x y p q m after = (login : Login) (k : Kept) → IsCallable call login s k → Agrees p k
     → CallFor login call t q x y k m after
+
+-- what a poll at the moment `now`, in which `taken` bytes were taken, leaves of the session and of the tape
+pub record Leaves (now taken : ℕ) (u v : View) (p q : Option Tape) : Type 0 where
+  pub within : taken ≤ MOST_TAKEN
+  pub lives : Lives now taken u v
+  -- where a tape was kept it is kept
+  pub keeps : is_some q ≡ is_some p
 
 -- the call stays open while it is pending
 abbrev pub pending_after : CallKind → After → Option CallKind

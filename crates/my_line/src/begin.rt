@@ -1,21 +1,20 @@
 //! A call on a session, from its beginning to its end, noted on the tape, where one is kept.
-ghost use Rattle.std.specs.Prelude.{◌≡◌, ◌≤◌, Some, None, true, false, is_some, IfOk, OnOk};
+ghost use Rattle.std.specs.Prelude.{◌≡◌, Some, None, true, false, is_some, IfOk, OnOk};
 ghost use Rattle.my_reading.specs.Calls.{kind_of};
 ghost use Rattle.my_session.specs.Tasks.{is_open};
 ghost use Rattle.my_session.specs.Steps.{AtBegun};
 ghost use Rattle.my_client.specs.Drives.{CancelStands, closed_by, kept_after};
 ghost use Rattle.my_session.specs.Machine.{dropped};
 ghost use Rattle.my_client.specs.Kept.{Asked, Kept, asking, ended_by};
-ghost use Rattle.my_client.specs.Lives.{Lives, made_in};
+ghost use Rattle.my_client.specs.Lives.{made_in};
 ghost use Rattle.my_client.specs.Notes.{Agrees};
 ghost use Rattle.my_client.specs.Turns.{EachPoll};
 ghost use Rattle.my_client.specs.declared.tape.Said.TheVariants as says;
-ghost use Rattle.my_line.specs.Calls.{EachCall, MayStart};
+ghost use Rattle.my_line.specs.Calls.{EachCall, Leaves, MayStart};
 ghost use Rattle.my_line.specs.Cancels.{EachCancel};
 
 use my_client::{After, Said, Tape, poll_session};
 use my_frame::NoMemory;
-use my_frame::limits::MOST_TAKEN;
 use my_link::{Link, Met};
 use my_reading::Call;
 use my_session::Session;
@@ -62,10 +61,8 @@ fn poll_noted<L: Link>(
     requires { is_open session.old.seen.task ≡ true }
     ensures polls { IfOk result (λ p. EachPoll Agrees session.old.seen session.new.seen
         (L.looks link.old) (L.looks link.new) tape.old tape.new p.1 p.0) }
-    ensures within { IfOk result (λ p. p.1.taken ≤ MOST_TAKEN) }
-    ensures lives { IfOk result (λ p. Lives now p.1.taken session.old session.new) }
+    ensures leaves { IfOk result (λ p. Leaves now p.1.taken session.old session.new tape.old tape.new) }
     ensures made { made_in session.new ≡ made_in session.old }
-    ensures keeps { OnOk result (is_some tape.new ≡ is_some tape.old) }
 {
     match tape {
         Some(kept) => {
@@ -91,10 +88,8 @@ pub(crate) fn poll_open<L: Link>(
     requires { is_open session.old.seen.task ≡ true }
     ensures does { IfOk result (λ p. EachCall None session.old.seen session.new.seen
         (L.looks link.old) (L.looks link.new) tape.old tape.new p.1 p.0) }
-    ensures within { IfOk result (λ p. p.1.taken ≤ MOST_TAKEN) }
-    ensures lives { IfOk result (λ p. Lives now p.1.taken session.old session.new) }
+    ensures leaves { IfOk result (λ p. Leaves now p.1.taken session.old session.new tape.old tape.new) }
     ensures made { made_in session.new ≡ made_in session.old }
-    ensures keeps { OnOk result (is_some tape.new ≡ is_some tape.old) }
 {
     let (after, met) = poll_noted(alloc, session, link, tape, now)?;
     note_after(alloc, tape, &after)?;
@@ -114,10 +109,8 @@ fn begin_call<L: Link>(
     requires order { session.old.seen.closed ≡ false → AtBegun (kind_of call) session.old.seen.context.spot }
     ensures does { IfOk result (λ p. EachCall (Some call) session.old.seen session.new.seen
         (L.looks link.old) (L.looks link.new) tape.old tape.new p.1 p.0) }
-    ensures within { IfOk result (λ p. p.1.taken ≤ MOST_TAKEN) }
-    ensures lives { IfOk result (λ p. Lives now p.1.taken session.old session.new) }
+    ensures leaves { IfOk result (λ p. Leaves now p.1.taken session.old session.new tape.old tape.new) }
     ensures made { made_in session.new ≡ made_in session.old }
-    ensures keeps { OnOk result (is_some tape.new ≡ is_some tape.old) }
 {
     note_call(alloc, tape, &call)?;
     match session.begin(call) {
@@ -143,10 +136,8 @@ pub fn poll_once<L: Link>(
     requires { MayStart call session.old.seen }
     ensures does { IfOk result (λ p. EachCall call session.old.seen session.new.seen
         (L.looks link.old) (L.looks link.new) tape.old tape.new p.1 p.0) }
-    ensures within { IfOk result (λ p. p.1.taken ≤ MOST_TAKEN) }
-    ensures lives { IfOk result (λ p. Lives now p.1.taken session.old session.new) }
+    ensures leaves { IfOk result (λ p. Leaves now p.1.taken session.old session.new tape.old tape.new) }
     ensures made { made_in session.new ≡ made_in session.old }
-    ensures keeps { OnOk result (is_some tape.new ≡ is_some tape.old) }
 {
     match call {
         None => return poll_open(alloc, session, link, tape, now),

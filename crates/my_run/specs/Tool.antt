@@ -155,6 +155,17 @@ ToolEnds words world later s r w v t (Refused fault) = IsCommand words world lat
 ToolEnds words world later s r w v t TooLong = IsCommand words world later s r w v t TooLong
 ToolEnds words world later s r w v t NoMemory = IsBlank w v t
 
+-- what a run leaves of the world that ends before the first step, unless memory ran out: all of it
+abbrev pub LeavesWorld : Status → WorldSeen → WorldSeen → Type 0
+LeavesWorld Done world later = Unit {0}
+LeavesWorld NoCommand world later = later ≡ world
+LeavesWorld (Unread line) world later = later ≡ world
+LeavesWorld SourceFailed world later = later ≡ world
+LeavesWorld SinkFailed world later = Unit {0}
+LeavesWorld (Refused fault) world later = later ≡ world
+LeavesWorld TooLong world later = later ≡ world
+LeavesWorld NoMemory world later = Unit {0}
+
 -- the number with which the program ends
 abbrev pub code_of : Status → ℕ
 code_of Done = 0

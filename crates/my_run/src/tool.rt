@@ -9,7 +9,7 @@ ghost use Rattle.my_run.specs.Headline.{Headline};
 ghost use Rattle.my_session.specs.Login.{login_of};
 ghost use Rattle.my_script.specs.Script.{script_of};
 ghost use Rattle.my_script.specs.Text.{text_of};
-ghost use Rattle.my_run.specs.Tool.{IsEmpty, plans_with, course_with, code_of, ScriptEnds, TextEnds, InputEnds, WordEnds, planning, world_for, IsReport};
+ghost use Rattle.my_run.specs.Tool.{IsEmpty, plans_with, course_with, code_of, ScriptEnds, TextEnds, InputEnds, WordEnds, planning, world_for, IsReport, LeavesWorld};
 
 use crate::input::{Came, read_all};
 use crate::output::write_all;
@@ -141,10 +141,11 @@ fn run_good<W: Sink, N: World>(
 ) -> Report
     requires takes { plans ≡ true → (N.seen world.old).takes ≡ true }
     requires stand { list_all (may_stand plans) script.now.steps.items ≡ true }
-    ensures { ScriptEnds (login_of opts.now) (plans_with (planning plans (N.seen world.old)) script.now.plan.items)
+    ensures ends { ScriptEnds (login_of opts.now) (plans_with (planning plans (N.seen world.old)) script.now.plan.items)
         (course_with (planning plans (N.seen world.old)) script.now.plan.items) (course_of (N.seen world.new))
         script.now.steps.items
         (W.seen out.old) (W.seen out.new) result.transcript result.status }
+    ensures world { LeavesWorld result.status (N.seen world.old) (N.seen world.new) }
 {
     match run_script(alloc, opts, script, plans, world) {
         Err(_) => blank(alloc, Status::NoMemory),
@@ -173,9 +174,10 @@ fn run_text<W: Sink, N: World>(
     world: &mut N,
 ) -> Report
     requires { plans ≡ true → (N.seen world.old).takes ≡ true }
-    ensures { TextEnds (login_of opts.now) (planning plans (N.seen world.old)) (N.seen world.new)
+    ensures ends { TextEnds (login_of opts.now) (planning plans (N.seen world.old)) (N.seen world.new)
         (script_of plans bytes.now)
         (W.seen out.old) (W.seen out.new) result.transcript result.status }
+    ensures world { LeavesWorld result.status (N.seen world.old) (N.seen world.new) }
 {
     match read_script(alloc, plans, bytes) {
         Err(_) => blank(alloc, Status::NoMemory),
@@ -193,8 +195,9 @@ fn run_input<S: Source, W: Sink, N: World>(
     world: &mut N,
 ) -> Report
     requires { plans ≡ true → (N.seen world.old).takes ≡ true }
-    ensures { InputEnds (login_of opts.now) (planning plans (N.seen world.old)) (N.seen world.new)
+    ensures ends { InputEnds (login_of opts.now) (planning plans (N.seen world.old)) (N.seen world.new)
         (S.seen src.old) (S.seen src.new) (W.seen out.old) (W.seen out.new) result.transcript result.status }
+    ensures world { LeavesWorld result.status (N.seen world.old) (N.seen world.new) }
 {
     match read_all(alloc, src) {
         Err(_) => blank(alloc, Status::NoMemory),
@@ -211,8 +214,9 @@ fn run_command<S: Source, W: Sink, N: World>(
     out: &mut W,
     world: &mut N,
 ) -> Report
-    ensures { WordEnds command.entry.word.now (world_for command.entry.is_live (N.seen world.old)) (N.seen world.new)
+    ensures ends { WordEnds command.entry.word.now (world_for command.entry.is_live (N.seen world.old)) (N.seen world.new)
         (S.seen src.old) (S.seen src.new) (W.seen out.old) (W.seen out.new) result.transcript result.status }
+    ensures world { LeavesWorld result.status (N.seen world.old) (N.seen world.new) }
 {
     let plans = !command.is_live && world.plans();
     match read_word(alloc, command.word) {
@@ -230,7 +234,8 @@ fn run_command<S: Source, W: Sink, N: World>(
 /// In `live` the lines of a world and the steps that move it don't read, nor do they over a world that takes no plan.
 ///
 /// The status is the first of these that comes: no command, a word that is refused, a source that fails or has more
-/// than 67,108,864 bytes, a line that doesn't read, a sink that fails; out of memory may come at any place.
+/// than 67,108,864 bytes, a line that doesn't read, a sink that fails; out of memory may come at any place. Where a run ends
+/// before the first step, and memory didn't run out, the world is left as it was.
 pub fn run_tool<S: Source, W: Sink, N: World>(
     alloc: Global,
     words: &[String],
@@ -238,8 +243,9 @@ pub fn run_tool<S: Source, W: Sink, N: World>(
     out: &mut W,
     world: &mut N,
 ) -> Report
-    ensures { IsReport (map string_bytes words.now) (N.seen world.old) (N.seen world.new)
+    ensures report { IsReport (map string_bytes words.now) (N.seen world.old) (N.seen world.new)
         (S.seen src.old) (S.seen src.new) (W.seen out.old) (W.seen out.new) result }
+    ensures world { LeavesWorld result.status (N.seen world.old) (N.seen world.new) }
 {
     match read_command(words) {
         None => blank(alloc, Status::NoCommand),

@@ -42,7 +42,7 @@ fn rows_so_far(alloc: Global, rows: Option<Vec<Row>>) -> Vec<Row>
 fn ask_next<L>(conn: &mut TapedConn<L>, rows: Vec<Row>) -> Result<(), NoMemory>
     requires idle { conn.old.session.seen.task ≡ Nothing }
     requires ready { IsReady conn.old.session.seen }
-    requires open { conn.old.session.seen.closed ≡ false }
+    requires alive { conn.old.session.seen.closed ≡ false }
     ensures kept { OnOk result (kept_of conn.new ≡ asking (kept_of conn.old) NextRowOf (Some rows.items)) }
     ensures seen { OnOk result (conn.new.session.seen ≡ begun conn.old.session.seen NextRowOf) }
     ensures stands { OnOk result (BeginStands conn.old.session.seen conn.new.session.seen) }
@@ -67,7 +67,7 @@ fn add_row<L>(
 ) -> Result<(), NoMemory>
     requires idle { conn.old.session.seen.task ≡ Nothing }
     requires ready { IsReady conn.old.session.seen }
-    requires open { conn.old.session.seen.closed ≡ false }
+    requires alive { conn.old.session.seen.closed ≡ false }
     ensures kept { OnOk result (
         kept_of conn.new ≡ asking_on (kept_of conn.old) (option_map (λ rows. rows.items) rows) row) }
     ensures seen { OnOk result (conn.new.session.seen ≡ begun conn.old.session.seen NextRowOf) }
@@ -87,7 +87,7 @@ fn go_on<L>(
     rows: Option<Vec<Row>>,
 ) -> Result<Gathering, NoMemory>
     requires rests { RestsBy after conn.old.session.seen }
-    requires open { StaysOpen after conn.old.session.seen }
+    requires alive { StaysOpen after conn.old.session.seen }
     requires ready { IsReady conn.old.session.seen }
     ensures { IfOk result (λ g. Goes conn.old conn.new (option_map (λ rows. rows.items) rows) after g) }
 {

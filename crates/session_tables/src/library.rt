@@ -147,3 +147,28 @@ fn a_session_knows_when_it_read_last(rt: HostRuntime) -> Result<(), Fail> {
     assert!(rt; lives_new(rt.alloc(), &ok)?);
     Ok(())
 }
+
+// Whether a buffer of 4,096 bytes is lent, and the one that was kept is lent again, with what was read into it.
+fn lends_again(alloc: Global, session: &mut Session) -> Result<bool, NoMemory> {
+    let mut first = session.lend_buffer(alloc)?;
+    let is_long = first.len() == 4_096;
+    first[0] = 7;
+    session.keep_buffer(first);
+    let second = session.lend_buffer(alloc)?;
+    let is_same = second.len() == 4_096 && second[0] == 7;
+    session.keep_buffer(second);
+    Ok(is_long && is_same)
+}
+
+fn lends_again_new(alloc: Global) -> Result<bool, NoMemory> {
+    let mut session = session(alloc)?;
+    let so = lends_again(alloc, &mut session);
+    drop(session);
+    so
+}
+
+#[test]
+fn a_session_lends_one_buffer(rt: HostRuntime) -> Result<(), Fail> {
+    assert!(rt; lends_again_new(rt.alloc())?);
+    Ok(())
+}

@@ -16,8 +16,8 @@ returns-in-Pending g c =
     let w = c.poll_once.new.session in
     let each : EachCall c.calls.next c.calls.session.seen w.seen (look c.calls.link) (look c.poll_once.new.link) c.calls.tape c.poll_once.new.tape c.in-Ok._met c.in-Ok.after = subst (λ (n : Option Call). EachCall n c.calls.session.seen w.seen (look c.calls.link) (look c.poll_once.new.link) c.calls.tape c.poll_once.new.tape c.in-Ok._met c.in-Ok.after) c.take.ensures.value c.in-Ok.ensures.does in
     record {
-      makes = stays _ _ _ _ _ _ _ _ _ _ _ c.calls.invariant.so (look c.poll_once.new.link) w c.poll_once.new.tape c.in-Ok._met c.in-Ok.after each c.in-Ok.ensures.lives c.requires c.in-Pending.is;
-      keeps = c.in-Ok.ensures.keeps ∙ c.calls.invariant.keeps;
+      makes = stays _ _ _ _ _ _ _ _ _ _ _ c.calls.invariant.so (look c.poll_once.new.link) w c.poll_once.new.tape c.in-Ok._met c.in-Ok.after each c.in-Ok.ensures.leaves.lives c.requires c.in-Pending.is;
+      keeps = c.in-Ok.ensures.leaves.keeps ∙ c.calls.invariant.keeps;
       same = c.calls.invariant.same;
     }
 
@@ -27,7 +27,7 @@ returns-in-Failed g c =
     let w = c.poll_once.new.session in
     let each : EachCall c.calls.next c.calls.session.seen w.seen (look c.calls.link) (look c.poll_once.new.link) c.calls.tape c.poll_once.new.tape c.in-Ok._met c.in-Ok.after = subst (λ (n : Option Call). EachCall n c.calls.session.seen w.seen (look c.calls.link) (look c.poll_once.new.link) c.calls.tape c.poll_once.new.tape c.in-Ok._met c.in-Ok.after) c.take.ensures.value c.in-Ok.ensures.does in
     record {
-      makes = inr (inl (call_fails _ _ _ _ _ _ _ _ _ _ _ c.calls.invariant.so (look c.poll_once.new.link) w c.poll_once.new.tape c.in-Ok._met c.in-Ok.after each c.in-Ok.ensures.lives c.in-Failed.error c.in-Failed.is));
+      makes = inr (inl (call_fails _ _ _ _ _ _ _ _ _ _ _ c.calls.invariant.so (look c.poll_once.new.link) w c.poll_once.new.tape c.in-Ok._met c.in-Ok.after each c.in-Ok.ensures.leaves.lives c.in-Failed.error c.in-Failed.is));
       keeps = tt;
       same = c.calls.invariant.same;
     }
@@ -38,7 +38,7 @@ returns-in-Err-follow g c =
     let w = c.poll_once.new.session in
     let each : EachCall c.calls.next c.calls.session.seen w.seen (look c.calls.link) (look c.poll_once.new.link) c.calls.tape c.poll_once.new.tape c.in-Ok._met c.in-Ok.after = subst (λ (n : Option Call). EachCall n c.calls.session.seen w.seen (look c.calls.link) (look c.poll_once.new.link) c.calls.tape c.poll_once.new.tape c.in-Ok._met c.in-Ok.after) c.take.ensures.value c.in-Ok.ensures.does in
     record {
-      makes = not_made _ _ _ _ _ _ _ _ _ _ _ c.calls.invariant.so (look c.poll_once.new.link) w c.poll_once.new.tape c.in-Ok._met c.in-Ok.after each c.in-Ok.ensures.lives c.in-Answered.field-0 c.in-Answered.is c.in-Err-follow.error (subst (λ (t : Texts). (c.in-Err-follow.error ≡ errors.NoMemory) ⊎ EndsRefused t c.calls.at c.in-Err-follow.error) c.calls.invariant.same c.in-Err-follow.ensures.follows);
+      makes = not_made _ _ _ _ _ _ _ _ _ _ _ c.calls.invariant.so (look c.poll_once.new.link) w c.poll_once.new.tape c.in-Ok._met c.in-Ok.after each c.in-Ok.ensures.leaves.lives c.in-Answered.field-0 c.in-Answered.is c.in-Err-follow.error (subst (λ (t : Texts). (c.in-Err-follow.error ≡ errors.NoMemory) ⊎ EndsRefused t c.calls.at c.in-Err-follow.error) c.calls.invariant.same c.in-Err-follow.ensures.follows);
       keeps = tt;
       same = c.follow.ensures.same ∙ c.calls.invariant.same;
     }
@@ -49,8 +49,8 @@ returns-in-Ok-None g c =
     let w = c.poll_once.new.session in
     let each : EachCall c.calls.next c.calls.session.seen w.seen (look c.calls.link) (look c.poll_once.new.link) c.calls.tape c.poll_once.new.tape c.in-Ok._met c.in-Ok.after = subst (λ (n : Option Call). EachCall n c.calls.session.seen w.seen (look c.calls.link) (look c.poll_once.new.link) c.calls.tape c.poll_once.new.tape c.in-Ok._met c.in-Ok.after) c.take.ensures.value c.in-Ok.ensures.does in
     record {
-      makes = is_made _ _ _ _ _ _ _ _ _ _ _ c.calls.invariant.so (look c.poll_once.new.link) w c.poll_once.new.tape c.in-Ok._met c.in-Ok.after each c.in-Ok.ensures.lives c.in-Answered.field-0 c.in-Answered.is (ends_so _ _ c.calls.at c.in-Ok-None.field-0 c.calls.invariant.same c.in-Ok-None.field-0-is c.in-Ok-None.ensures.follows);
-      keeps = c.in-Ok.ensures.keeps ∙ c.calls.invariant.keeps;
+      makes = is_made _ _ _ _ _ _ _ _ _ _ _ c.calls.invariant.so (look c.poll_once.new.link) w c.poll_once.new.tape c.in-Ok._met c.in-Ok.after each c.in-Ok.ensures.leaves.lives c.in-Answered.field-0 c.in-Answered.is (ends_so _ _ c.calls.at c.in-Ok-None.field-0 c.calls.invariant.same c.in-Ok-None.field-0-is c.in-Ok-None.ensures.follows);
+      keeps = c.in-Ok.ensures.leaves.keeps ∙ c.calls.invariant.keeps;
       same = c.follow.ensures.same ∙ c.calls.invariant.same;
     }
 
@@ -60,7 +60,7 @@ calls-preserved g c =
     let w = c.poll_once.new.session in
     let each : EachCall c.calls.next c.calls.session.seen w.seen (look c.calls.link) (look c.poll_once.new.link) c.calls.tape c.poll_once.new.tape c.in-Ok._met c.in-Ok.after = subst (λ (n : Option Call). EachCall n c.calls.session.seen w.seen (look c.calls.link) (look c.poll_once.new.link) c.calls.tape c.poll_once.new.tape c.in-Ok._met c.in-Ok.after) c.take.ensures.value c.in-Ok.ensures.does in
     record {
-      so = goes_on _ _ _ _ _ _ _ _ _ _ _ c.calls.invariant.so (look c.poll_once.new.link) w c.poll_once.new.tape c.in-Ok._met c.in-Ok.after each c.in-Ok.ensures.lives c.in-Answered.field-0 c.in-Answered.is c.in-Ok-Some.to c.in-Ok-Some.call (follows_so _ _ c.calls.at c.in-Ok-Some.field-0 c.in-Ok-Some.to c.in-Ok-Some.call c.calls.invariant.same c.in-Ok-Some.field-0-is c.in-Ok-Some.ensures.follows);
-      keeps = c.in-Ok.ensures.keeps ∙ c.calls.invariant.keeps;
+      so = goes_on _ _ _ _ _ _ _ _ _ _ _ c.calls.invariant.so (look c.poll_once.new.link) w c.poll_once.new.tape c.in-Ok._met c.in-Ok.after each c.in-Ok.ensures.leaves.lives c.in-Answered.field-0 c.in-Answered.is c.in-Ok-Some.to c.in-Ok-Some.call (follows_so _ _ c.calls.at c.in-Ok-Some.field-0 c.in-Ok-Some.to c.in-Ok-Some.call c.calls.invariant.same c.in-Ok-Some.field-0-is c.in-Ok-Some.ensures.follows);
+      keeps = c.in-Ok.ensures.leaves.keeps ∙ c.calls.invariant.keeps;
       same = c.follow.ensures.same ∙ c.calls.invariant.same;
     }

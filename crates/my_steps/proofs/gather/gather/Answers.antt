@@ -26,8 +26,8 @@ rows-preserved g c =
       so = λ login a w. gather_next g.L.Link.looks login c.args.number a c.args.conn.now c.rows.conn c.drive.new.conn c.go_on.new.conn c.rows.uses.items c.push.new.self.items c.in_ok-after.met c.in_ok-after.after (option_map (λ rows. rows.items) c.in_ok-after.rows) (c.rows.invariant.so login a w) c.in_ok-after.ensures.drives c.in_ok-after.ensures.rows more on;
     }
 
-pub go_on-requires-clause-open : goal.go_on-requires-clause-open
-go_on-requires-clause-open g c =
+pub go_on-requires-clause-alive : goal.go_on-requires-clause-alive
+go_on-requires-clause-alive g c =
     let x : Looks = g.L.Link.looks c.rows.conn.link in
     let y : Looks = g.L.Link.looks c.drive.new.conn.link in
     polled_open x y c.rows.conn c.drive.new.conn c.in_ok-after.met c.in_ok-after.after c.rows.invariant.asked c.in_ok-after.ensures.drives

@@ -20,7 +20,7 @@ returns-then-is_connecting g c =
     IfOk-weaker c.poll_connect.result _ _ (λ d f login w.
     let a = open_asked login c.args.conn.now opened w in
     let r = f login a.0 a.1 in
-    connect_resumed g.L.Link.looks login c.args.number c.args.conn.now a.0 (placed d.there c.poll_connect.new.conn) d.did.outcome d.did.uses.items r.0 (sym (c.is_connecting.ensures.«open» a.0 a.1.asked) ∙ connecting) a.1.asked (r.1 ∙ ap (λ us. us ++ r.0 ∷ []) none) r.2) c.poll_connect.ensures
+    connect_resumed g.L.Link.looks login c.args.number c.args.conn.now a.0 (placed d.there c.poll_connect.new.conn) d.did.outcome d.did.uses.items r.0 (sym (c.is_connecting.ensures.some a.0 a.1.asked) ∙ connecting) a.1.asked (r.1 ∙ ap (λ us. us ++ r.0 ∷ []) none) r.2) c.poll_connect.ensures
 
 pub returns-then-is_gathering : goal.returns-then-is_gathering
 returns-then-is_gathering g c =
@@ -29,7 +29,7 @@ returns-then-is_gathering g c =
     let gathering : c.is_gathering.result ≡ true = search rules in
     λ login w.
     let a = open_asked login c.args.conn.now opened w in
-    gathering_resumed g.L.Link.looks login c.args.number c.args.conn.now c.gather.new.conn a.0 c.in_ok-did.did.outcome c.in_ok-did.did.uses.items (sym (c.is_connecting.ensures.«open» a.0 a.1.asked) ∙ connecting) (sym (c.is_gathering.ensures.«open» a.0 a.1.asked) ∙ gathering) a.1.asked (c.in_ok-did.ensures login a.0 a.1)
+    gathering_resumed g.L.Link.looks login c.args.number c.args.conn.now c.gather.new.conn a.0 c.in_ok-did.did.outcome c.in_ok-did.did.uses.items (sym (c.is_connecting.ensures.some a.0 a.1.asked) ∙ connecting) (sym (c.is_gathering.ensures.some a.0 a.1.asked) ∙ gathering) a.1.asked (c.in_ok-did.ensures login a.0 a.1)
 
 pub returns-then-skipping : goal.returns-then-skipping
 returns-then-skipping g c =
@@ -39,7 +39,7 @@ returns-then-skipping g c =
     let skipping : c.is_skipping-skipping.result ≡ true = search rules in
     λ login w.
     let a = open_asked login c.args.conn.now opened w in
-    skip_resumed g.L.Link.looks c.args.number login c.args.conn.now c.poll_open.new.conn c.then_take.new.conn a.0 c.in_ok-did-2.did c.in_ok-did-3.did (sym (c.is_connecting.ensures.«open» a.0 a.1.asked) ∙ connecting) (sym (c.is_gathering.ensures.«open» a.0 a.1.asked) ∙ gathering) (sym (c.is_skipping-skipping.ensures a.0 a.1.asked) ∙ skipping) a.1.asked (c.in_ok-did-2.ensures login a.0 a.1) c.in_ok-did-3.ensures
+    skip_resumed g.L.Link.looks c.args.number login c.args.conn.now c.poll_open.new.conn c.then_take.new.conn a.0 c.in_ok-did-2.did c.in_ok-did-3.did (sym (c.is_connecting.ensures.some a.0 a.1.asked) ∙ connecting) (sym (c.is_gathering.ensures.some a.0 a.1.asked) ∙ gathering) (sym (c.is_skipping-skipping.ensures a.0 a.1.asked) ∙ skipping) a.1.asked (c.in_ok-did-2.ensures login a.0 a.1) c.in_ok-did-3.ensures
 
 pub returns : goal.returns
 returns g c =
@@ -49,17 +49,17 @@ returns g c =
     let skipping : c.is_skipping-skipping.result ≡ false = search rules in
     λ login w.
     let a = open_asked login c.args.conn.now opened w in
-    call_resumed g.L.Link.looks login c.args.number c.args.conn.now c.poll_open.new.conn a.0 c.in_ok-did-2.did.outcome c.in_ok-did-2.did.uses.items (sym (c.is_connecting.ensures.«open» a.0 a.1.asked) ∙ connecting) (sym (c.is_gathering.ensures.«open» a.0 a.1.asked) ∙ gathering) (sym (c.is_skipping-skipping.ensures a.0 a.1.asked) ∙ skipping) a.1.asked (c.in_ok-did-2.ensures login a.0 a.1)
+    call_resumed g.L.Link.looks login c.args.number c.args.conn.now c.poll_open.new.conn a.0 c.in_ok-did-2.did.outcome c.in_ok-did-2.did.uses.items (sym (c.is_connecting.ensures.some a.0 a.1.asked) ∙ connecting) (sym (c.is_gathering.ensures.some a.0 a.1.asked) ∙ gathering) (sym (c.is_skipping-skipping.ensures a.0 a.1.asked) ∙ skipping) a.1.asked (c.in_ok-did-2.ensures login a.0 a.1)
 
 pub then_take-requires : goal.then_take-requires
 then_take-requires g c =
     let opened : is_open c.args.conn.now.session.seen.task ≡ true = search rules in
     let connecting : c.is_connecting.result ≡ false = search rules in
-    polled_ready g.L.Link.looks c.args.number c.args.conn.now c.poll_open.new.conn c.in_ok-did-2.did c.is_connecting.result c.requires opened c.is_connecting.ensures.«open» connecting c.in_ok-did-2.ensures
+    polled_ready g.L.Link.looks c.args.number c.args.conn.now c.poll_open.new.conn c.in_ok-did-2.did c.is_connecting.result c.requires opened c.is_connecting.ensures.some connecting c.in_ok-did-2.ensures
 
 pub gather-requires-clause-asked : goal.gather-requires-clause-asked
 gather-requires-clause-asked g c =
     let opened : is_open c.args.conn.now.session.seen.task ≡ true = search rules in
     let connecting : c.is_connecting.result ≡ false = search rules in
     let gathering : c.is_gathering.result ≡ true = search rules in
-    asked_again c.args.conn.now c.is_connecting.result c.is_gathering.result c.requires opened c.is_connecting.ensures.«open» connecting c.is_gathering.ensures.«open» gathering
+    asked_again c.args.conn.now c.is_connecting.result c.is_gathering.result c.requires opened c.is_connecting.ensures.some connecting c.is_gathering.ensures.some gathering

@@ -1,7 +1,7 @@
 use Rattle.std.proofs.Common.{inl, refl, subst}
 use Rattle.my_session.specs.Login.{login_of}
 use Rattle.my_line.specs.Waits.{IsShaken, WhyUnmade}
-use Rattle.my_conn.specs.News.{Given, IsFirst}
+use Rattle.my_conn.specs.News.{Given, IsFirst, given_by}
 use Rattle.my_conn.proofs.Making.{begun_connects, new_is, unread_first}
 use Rattle.my_conn.proofs.conn.Conn.new.Goals as goal
 
@@ -26,7 +26,7 @@ pub returns-in-Ok-shake_hands : goal.returns-in-Ok-shake_hands
 returns-in-Ok-shake_hands g c =
     let look = g.L.Link.looks in
     let login = login_of c.args.opts in
-    let given : Given = record { looks = look c.args.link; is_socket = g.L.Link.socket c.args.link; now = c.args.now; random = c.args.random } in
+    let given : Given = given_by look g.L.Link.socket c.args.link c.args.now c.args.random in
     let begun = begun_connects login _ _ c.in-Ok.ensures.asked c.in-Ok.ensures.kept in
     let first : IsFirst c.args.opts given c.in-Ok.begun.session = record {
       unread = unread_first login _ _ c.in-Ok.ensures.asked.rests c.in-Ok.ensures.kept;

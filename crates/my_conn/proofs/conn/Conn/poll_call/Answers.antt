@@ -19,4 +19,4 @@ invariant_of-self g c =
 pub returns-in-Ok : goal.returns-in-Ok
 returns-in-Ok g c =
     let v = c.self.inside in
-    rw (← c.self.view_is) (call_is g.L.Link.looks c.args.now c.args.kind c.args.call v.lost v.session c.poll_once.new.session v.link c.poll_once.new.link v.tape c.poll_once.new.tape v.pending c.pending_after-self-inside.result c.in-Ok.met c.in-Ok.after c.if-self.false c.pending_after-self-inside.ensures (subst (λ (s : ConnSeen g.row.L.Denot). MayPoll c.args.kind c.args.call s.pending) (sym c.self.view_is) c.requires) c.in-Ok.ensures.does c.self.invariant v.fixed c.in-Ok.ensures.within c.in-Ok.ensures.lives c.poll_once.ensures.made c.in-Ok.ensures.keeps)
+    rw (← c.self.view_is) (call_is g.L.Link.looks c.args.now c.args.kind c.args.call v.lost v.session c.poll_once.new.session v.link c.poll_once.new.link v.tape c.poll_once.new.tape v.pending c.pending_after-self-inside.result c.in-Ok.met c.in-Ok.after c.if-self.false c.pending_after-self-inside.ensures (subst (λ (s : ConnSeen g.row.L.Denot). MayPoll c.args.kind c.args.call s.pending) (sym c.self.view_is) c.requires) c.in-Ok.ensures.does c.self.invariant v.fixed c.in-Ok.ensures.leaves c.poll_once.ensures.made)
