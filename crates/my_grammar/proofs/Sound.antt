@@ -1,5 +1,7 @@
 -- What is read from bytes is in them.
 pub mod Reaching
+pub mod Replies
+pub mod WholeReplies
 use Rattle.std.proofs.Common.{◌≡◌, ℕ, suc, zero, ◌+◌, ◌^◌, ◌≤◌, ◌<◌, List, [], ◌∷◌, ◌++◌, map, length, Bool, true, false, cond, get_or, refl, sym, ap, ◌∙◌, subst, arith, append_assoc}
 use Rattle.std.proofs.Math.Seq.{get_or-append_right}
 use Rattle.my_flags.specs.Sets.{deprecates_eof}
@@ -13,7 +15,7 @@ use Rattle.my_grammar.specs.declared.spot.Kind.{Kind}
 use Rattle.my_grammar.specs.declared.spot.Kind.TheVariants.{Bad}
 use Rattle.my_grammar.specs.Contexts.{is_bad}
 use Rattle.my_grammar.specs.Kinds.{kind_by}
-use Rattle.my_grammar.specs.Talk.{Talk, Start, Unwelcome, Greeted, Settled, Asked, Replied, Queried, Silent, Fits, turns, number_of, server_bytes, packets_of, context_of, limit_of, origin, login_in}
+use Rattle.my_grammar.specs.Talk.{Talk, Start, Unwelcome, Greeted, Settled, Asked, Replied, Queried, Preparing, Silent, Fits, turns, number_of, server_bytes, packets_of, context_of, limit_of, origin, login_in}
 use Rattle.my_grammar.specs.Growth.{grow, Grows}
 use Rattle.my_grammar.specs.Cut.{Read, Trailing, Cut, front_of, kind_of, read_payload, read_front, read_within, read_from, rest_in_front, is_idle, is_over, rest_of, onto, cut_after, cut}
 use Rattle.my_grammar.specs.CutLaws.{StopsAt, IsRead, bytes_of, AreOver, IsCut}
@@ -85,6 +87,7 @@ origin_fits (Settled login p c last kind) = record { kinds = tt; within = tt }
 origin_fits (Asked terms c) = record { kinds = tt; within = tt }
 origin_fits (Replied terms c last kind) = record { kinds = tt; within = tt }
 origin_fits (Queried terms c sets) = record { kinds = tt; within = tt }
+origin_fits (Preparing terms c r) = record { kinds = tt; within = tt }
 origin_fits (Silent terms c) = record { kinds = tt; within = tt }
 
 -- an exchange as it began holds nothing of the server's
@@ -100,6 +103,7 @@ begins (Settled login p c last kind) = record { bytes = refl; again = refl }
 begins (Asked terms c) = record { bytes = refl; again = refl }
 begins (Replied terms c last kind) = record { bytes = refl; again = refl }
 begins (Queried terms c sets) = record { bytes = refl; again = refl }
+begins (Preparing terms c r) = record { bytes = refl; again = refl }
 begins (Silent terms c) = record { bytes = refl; again = refl }
 
 over_more : (t : Talk) (ts : List Talk) → is_over t ≡ true → AreOver ts → AreOver (t ∷ ts)
@@ -158,6 +162,11 @@ idle_kind spots.Further d n p e = cc
 idle_kind (spots.Columns left) d n p e = cc
 idle_kind spots.ColumnsEnd d n p e = cc
 idle_kind spots.Rows d n p e = cc
+idle_kind spots.Prepare d n p e = cc
+idle_kind (spots.Parameters left columns) d n p e = cc
+idle_kind (spots.ParametersEnd columns) d n p e = cc
+idle_kind (spots.Fields left) d n p e = cc
+idle_kind spots.FieldsEnd d n p e = cc
 
 stops_over : (t : Talk) (bytes : List ℕ) (x : Front) (go : Talk → List ℕ → Read) → is_over t ≡ true → read_front t bytes x go ≡ record { talk = t; rest = bytes }
 stops_over t bytes Waiting go e = refl

@@ -69,6 +69,11 @@ idle_bad spots.Further deprecates columns p e = cc
 idle_bad (spots.Columns left) deprecates columns p e = cc
 idle_bad spots.ColumnsEnd deprecates columns p e = cc
 idle_bad spots.Rows deprecates columns p e = cc
+idle_bad spots.Prepare deprecates columns p e = cc
+idle_bad (spots.Parameters left fields) deprecates columns p e = cc
+idle_bad (spots.ParametersEnd fields) deprecates columns p e = cc
+idle_bad (spots.Fields left) deprecates columns p e = cc
+idle_bad spots.FieldsEnd deprecates columns p e = cc
 
 pub over_stops : (t : Talk) (x : Front) → is_over t ≡ true → StopsAt t x
 over_stops t Waiting e = tt

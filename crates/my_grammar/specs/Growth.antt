@@ -8,7 +8,8 @@ use Rattle.my_grammar.specs.declared.spot.Kind.TheVariants as kinds
 use Rattle.my_grammar.specs.Contexts.{context_after}
 use Rattle.my_grammar.specs.Response.{response}
 use Rattle.my_grammar.specs.Sets.{grow_sets}
-use Rattle.my_grammar.specs.Talk.{Talk, Start, Unwelcome, Greeted, Settled, Asked, Replied, Queried, Silent, Turn, Client, Server, packets_of, turns, number_of, server_bytes, client_bytes, context_of, Fits, origin, login_in}
+use Rattle.my_grammar.specs.Prepares.{grow_reply}
+use Rattle.my_grammar.specs.Talk.{Talk, Start, Unwelcome, Greeted, Settled, Asked, Replied, Queried, Preparing, Silent, Turn, Client, Server, packets_of, turns, number_of, server_bytes, client_bytes, context_of, Fits, origin, login_in}
 
 -- the exchange with a payload of this kind
 abbrev pub grow_start : Kind → Login → List ℕ → Talk
@@ -24,6 +25,7 @@ grow k (Settled login q capabilities last kind) p = Settled login q capabilities
 grow k (Asked terms c) p = Replied terms c p k
 grow k (Replied terms c last kind) p = Replied terms c last kind
 grow k (Queried terms c sets) p = Queried terms c (grow_sets (deprecates_eof terms.kept) k sets p)
+grow k (Preparing terms c reply) p = Preparing terms c (grow_reply (deprecates_eof terms.kept) k reply p)
 grow k (Silent terms c) p = Silent terms c
 
 -- what the client says at once after a payload of this kind: its response after the greeting

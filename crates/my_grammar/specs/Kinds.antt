@@ -1,5 +1,5 @@
--- What a payload is in its context. MySQL client/server protocol, "Connection Phase", "Generic Response Packets" and "Text
--- Resultset": in each place the forms that fit there, in the order in which they are tried.
+-- What a payload is in its context. MySQL client/server protocol, "Connection Phase", "Generic Response Packets", "Text
+-- Resultset" and "COM_STMT_PREPARE Response": in each place the forms that fit there, in the order in which they are tried.
 use Rattle.std.specs.Prelude.{ℕ, List, codes, Option, Some, None, Bool, true, false, if◌then◌else◌}
 use Rattle.std.specs.Str.{bytes_eq}
 use Rattle.my_flags.specs.declared.flags.CapabilityFlags.{CapabilityFlags}
@@ -16,12 +16,14 @@ use Rattle.my_reply.specs.declared.column_count.ColumnCount.{ColumnCount}
 use Rattle.my_reply.specs.ColumnCount.{column_count_at}
 use Rattle.my_reply.specs.declared.column.Column.{Column as ColumnPacket}
 use Rattle.my_reply.specs.Column.{column_at}
+use Rattle.my_reply.specs.declared.replies.PrepareOk.{PrepareOk}
+use Rattle.my_reply.specs.Replies.{prepare_ok_at}
 use Rattle.my_value.specs.declared.value.Value.{Value}
 use Rattle.my_value.specs.TextRow.{text_row_at}
 use Rattle.my_grammar.specs.declared.spot.Spot.{Spot}
 use Rattle.my_grammar.specs.declared.spot.Spot.TheVariants as spots
 use Rattle.my_grammar.specs.declared.spot.Kind.{Kind}
-use Rattle.my_grammar.specs.declared.spot.Kind.TheVariants.{Greets, Good, Failed, Count, Column, ColumnsDone, Row, End, Bad}
+use Rattle.my_grammar.specs.declared.spot.Kind.TheVariants.{Greets, Good, Failed, Count, Column, ColumnsDone, Row, End, Prepared, Parameter, Field, Bad}
 use Rattle.my_grammar.specs.declared.spot.Context.{Context}
 
 -- the first form where the payload has it; else the other
@@ -57,10 +59,10 @@ abbrev pub greets_kind : Option Greeting → Kind
 greets_kind None = Bad
 greets_kind (Some g) = offer_kind g.capabilities g.plugin
 
--- a column
-abbrev pub described_kind : Option ColumnPacket → Kind
-described_kind None = Bad
-described_kind (Some c) = Column
+-- a column packet: a column of a set, or a parameter or a column of a statement
+abbrev pub described_kind : Kind → Option ColumnPacket → Kind
+described_kind k None = Bad
+described_kind k (Some c) = k
 
 -- the EOF after columns
 abbrev pub done_kind : Option EofPacket → Kind
@@ -95,7 +97,7 @@ head_kind p = or_else (good_kind (ok_at p)) (or_else (failed_kind (err_at false 
 
 -- What may come in the place of a column: no ERR.
 abbrev pub column_kind : List ℕ → Kind
-column_kind p = described_kind (column_at p)
+column_kind p = described_kind Column (column_at p)
 
 -- What may follow the columns of a server that doesn't deprecate EOF.
 abbrev pub columns_end_kind : List ℕ → Kind
@@ -110,6 +112,22 @@ end_kind false p = eof_kind (eof_at p)
 abbrev pub row_kind : Bool → ℕ → List ℕ → Kind
 row_kind deprecates columns p = or_else (end_kind deprecates p) (or_else (failed_kind (err_at false p)) (cells_kind (text_row_at columns p)))
 
+-- the head of a prepare reply
+abbrev pub prepared_kind : Option PrepareOk → Kind
+prepared_kind None = Bad
+prepared_kind (Some head) = Prepared head.params head.columns
+
+-- What may answer a statement to prepare: no OK of another form.
+abbrev pub prepare_kind : List ℕ → Kind
+prepare_kind p = or_else (prepared_kind (prepare_ok_at p)) (failed_kind (err_at false p))
+
+-- What may come in the place of a statement's parameter, or of a column of its rows: no ERR.
+abbrev pub parameter_kind : List ℕ → Kind
+parameter_kind p = described_kind Parameter (column_at p)
+
+abbrev pub field_kind : List ℕ → Kind
+field_kind p = described_kind Field (column_at p)
+
 -- what a payload is in each place
 abbrev pub kind_by : Spot → Bool → ℕ → List ℕ → Kind
 kind_by spots.Idle deprecates columns p = Bad
@@ -121,6 +139,11 @@ kind_by spots.Further deprecates columns p = head_kind p
 kind_by (spots.Columns left) deprecates columns p = column_kind p
 kind_by spots.ColumnsEnd deprecates columns p = columns_end_kind p
 kind_by spots.Rows deprecates columns p = row_kind deprecates columns p
+kind_by spots.Prepare deprecates columns p = prepare_kind p
+kind_by (spots.Parameters left fields) deprecates columns p = parameter_kind p
+kind_by (spots.ParametersEnd fields) deprecates columns p = columns_end_kind p
+kind_by (spots.Fields left) deprecates columns p = field_kind p
+kind_by spots.FieldsEnd deprecates columns p = columns_end_kind p
 
 abbrev pub kind_there : Context → List ℕ → Kind
 kind_there c p = kind_by c.spot (deprecates_eof c.terms.kept) c.columns p

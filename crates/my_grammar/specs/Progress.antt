@@ -9,7 +9,8 @@ use Rattle.my_grammar.specs.declared.cut.CutRest.{CutRest}
 use Rattle.my_grammar.specs.declared.cut.CutRest.TheVariants as rests
 use Rattle.my_grammar.specs.declared.cut.Found.{Found}
 use Rattle.my_grammar.specs.Sets.{NoSets}
-use Rattle.my_grammar.specs.Talk.{Talk, Start, Asked, Queried, Silent, turns, number_of, client_bytes, packets_of, context_of}
+use Rattle.my_grammar.specs.Prepares.{Unanswered}
+use Rattle.my_grammar.specs.Talk.{Talk, Start, Asked, Queried, Preparing, Silent, turns, number_of, client_bytes, packets_of, context_of}
 use Rattle.my_grammar.specs.Cut.{Read, Rest, Trailing, Unfinished, Unfit, Blamed, Cut}
 
 -- the exchange that begins so
@@ -17,6 +18,7 @@ abbrev pub talk_of : Login → Opening → Talk
 talk_of login openings.Connect = Start login
 talk_of login (openings.Simple terms command) = Asked terms command
 talk_of login (openings.Query terms command) = Queried terms command NoSets
+talk_of login (openings.Prepare terms command) = Preparing terms command Unanswered
 talk_of login (openings.Silent terms command) = Silent terms command
 
 -- The program is where the exchange is, with its payloads in order and what the client sent.

@@ -113,4 +113,7 @@ grow_sets deprecates kinds.Column x p = with_column deprecates x p
 grow_sets deprecates kinds.ColumnsDone x p = with_close x p
 grow_sets deprecates kinds.Row x p = with_row x p
 grow_sets deprecates (kinds.End status) x p = with_end x p status
+grow_sets deprecates (kinds.Prepared params columns) x p = x
+grow_sets deprecates kinds.Parameter x p = x
+grow_sets deprecates kinds.Field x p = x
 grow_sets deprecates kinds.Bad x p = x

@@ -17,11 +17,13 @@ use Rattle.my_grammar.specs.Contexts.{is_bad}
 use Rattle.my_grammar.specs.Kinds.{greeting_kind, single_kind}
 use Rattle.my_grammar.specs.Sets.{Sets, NoSets, Packet, packets_in, context_in}
 use Rattle.my_grammar.specs.FitSets.{FitSets}
+use Rattle.my_grammar.specs.Prepares.{Reply, Unanswered, packets_in_reply, context_in_reply}
+use Rattle.my_grammar.specs.FitReplies.{FitReply}
 use Rattle.my_grammar.specs.Response.{response}
 
 -- Start: a connection before the greeting; Unwelcome: an ERR in its place; Greeted: the greeting and the client's response;
 -- Settled: what the server said to that. Asked: a simple command; Replied: with its OK or ERR. Queried: a query with its sets.
--- Silent: a command without a reply.
+-- Preparing: a statement to prepare with its reply. Silent: a command without a reply.
 pub data Talk : Type 0 where
   Start : (login : Login) → Talk
   Unwelcome : (login : Login) (p : List ℕ) → Talk
@@ -30,6 +32,7 @@ pub data Talk : Type 0 where
   Asked : (terms : Terms) (command : List ℕ) → Talk
   Replied : (terms : Terms) (command : List ℕ) (last : List ℕ) (kind : Kind) → Talk
   Queried : (terms : Terms) (command : List ℕ) (sets : Sets) → Talk
+  Preparing : (terms : Terms) (command : List ℕ) (reply : Reply) → Talk
   Silent : (terms : Terms) (command : List ℕ) → Talk
 
 -- the longest payload that is read until the settings are known
@@ -50,6 +53,7 @@ packets_of (Greeted login p capabilities) = record { kind = kinds.Greets capabil
 packets_of (Settled login p capabilities last kind) = record { kind = kind; payload = last } ∷ record { kind = kinds.Greets capabilities; payload = p } ∷ []
 packets_of (Replied terms c last kind) = record { kind = kind; payload = last } ∷ []
 packets_of (Queried terms c sets) = packets_in sets
+packets_of (Preparing terms c reply) = packets_in_reply reply
 packets_of _ = []
 
 -- whose payload it is
@@ -71,6 +75,7 @@ turns (Settled login p capabilities last kind) = Server last ∷ Client (respons
 turns (Asked terms c) = Client c ∷ []
 turns (Replied terms c last kind) = Server last ∷ Client c ∷ []
 turns (Queried terms c sets) = served (packets_in sets) (Client c ∷ [])
+turns (Preparing terms c reply) = served (packets_in_reply reply) (Client c ∷ [])
 turns (Silent terms c) = Client c ∷ []
 
 -- the sequence id of the next packet, of either side
@@ -99,6 +104,7 @@ context_of (Settled login p capabilities last kind) = record { spot = spots.Idle
 context_of (Asked terms c) = record { spot = spots.Single; columns = 0; terms = terms }
 context_of (Replied terms c last kind) = record { spot = spots.Idle; columns = 0; terms = terms }
 context_of (Queried terms c sets) = context_in terms sets
+context_of (Preparing terms c reply) = context_in_reply terms reply
 context_of (Silent terms c) = record { spot = spots.Idle; columns = 0; terms = terms }
 
 -- each payload is one that fits in its place
@@ -108,6 +114,7 @@ FitKinds (Greeted login p capabilities) = greeting_kind p ≡ kinds.Greets capab
 FitKinds (Settled login p capabilities last kind) = (greeting_kind p ≡ kinds.Greets capabilities) × (single_kind last ≡ kind) × (is_bad kind ≡ false)
 FitKinds (Replied terms c last kind) = (single_kind last ≡ kind) × (is_bad kind ≡ false)
 FitKinds (Queried terms c sets) = FitSets (deprecates_eof terms.kept) sets
+FitKinds (Preparing terms c reply) = FitReply (deprecates_eof terms.kept) reply
 FitKinds _ = Unit {0}
 
 -- the longest payload that is read in the exchange
@@ -115,6 +122,7 @@ abbrev pub limit_of : Talk → ℕ
 limit_of (Asked terms c) = terms.limit
 limit_of (Replied terms c last kind) = terms.limit
 limit_of (Queried terms c sets) = terms.limit
+limit_of (Preparing terms c reply) = terms.limit
 limit_of (Silent terms c) = terms.limit
 limit_of _ = default_limit
 
@@ -132,6 +140,7 @@ origin (Settled login p capabilities last kind) = Start login
 origin (Asked terms c) = Asked terms c
 origin (Replied terms c last kind) = Asked terms c
 origin (Queried terms c sets) = Queried terms c NoSets
+origin (Preparing terms c reply) = Preparing terms c Unanswered
 origin (Silent terms c) = Silent terms c
 
 -- the login of a connecting exchange; for others the default any

@@ -24,6 +24,8 @@ pub enum Opening {
     Simple { terms: Terms, command: Blob },
     /// A command that sets answer.
     Query { terms: Terms, command: Blob },
+    /// A statement to prepare.
+    Prepare { terms: Terms, command: Blob },
     /// A command without a reply.
     Silent { terms: Terms, command: Blob },
 }
@@ -40,6 +42,10 @@ impl Opening {
                 command: command.copy(alloc)?,
             }),
             Opening::Query { terms, command } => Ok(Opening::Query {
+                terms: *terms,
+                command: command.copy(alloc)?,
+            }),
+            Opening::Prepare { terms, command } => Ok(Opening::Prepare {
                 terms: *terms,
                 command: command.copy(alloc)?,
             }),
@@ -130,6 +136,9 @@ impl Progress {
             }
             Opening::Query { terms, command } => {
                 asked(alloc, Spot::Head, *terms, command.as_slice())
+            }
+            Opening::Prepare { terms, command } => {
+                asked(alloc, Spot::Prepare, *terms, command.as_slice())
             }
             Opening::Silent { terms, command } => {
                 asked(alloc, Spot::Idle, *terms, command.as_slice())

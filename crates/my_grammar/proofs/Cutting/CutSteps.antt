@@ -12,7 +12,7 @@ use Rattle.my_grammar.specs.declared.cut.CutRest.TheVariants as rests
 use Rattle.my_grammar.specs.declared.cut.Found.{Found}
 use Rattle.my_grammar.specs.Contexts.{context_after, is_bad}
 use Rattle.my_grammar.specs.Kinds.{kind_there}
-use Rattle.my_grammar.specs.Talk.{Talk, Start, Unwelcome, Greeted, Settled, Asked, Replied, Queried, Silent, Fits, Server, turns, number_of, client_bytes, packets_of, context_of, limit_of, login_in}
+use Rattle.my_grammar.specs.Talk.{Talk, Start, Unwelcome, Greeted, Settled, Asked, Replied, Queried, Preparing, Silent, Fits, Server, turns, number_of, client_bytes, packets_of, context_of, limit_of, login_in}
 use Rattle.my_grammar.specs.declared.spot.Context.{Context}
 use Rattle.my_grammar.specs.Growth.{grow, replies, number_next, said, Grows, Reads}
 use Rattle.my_grammar.specs.Cut.{Read, Trailing, Cut, front_of, kind_of, read_from, is_idle, is_over, onto, cut, rest_of, rest_in_front}
@@ -32,6 +32,7 @@ limit_is (Settled login p c last kind) = refl
 limit_is (Asked terms c) = refl
 limit_is (Replied terms c last kind) = refl
 limit_is (Queried terms c sets) = refl
+limit_is (Preparing terms c r) = refl
 limit_is (Silent terms c) = refl
 
 -- An exchange that began so is read up to the rest of the bytes.
@@ -46,12 +47,14 @@ opening_fits : (login : Login) (opening : Opening) → Fits (talk_of login openi
 opening_fits login openings.Connect = record { kinds = tt; within = tt }
 opening_fits login (openings.Simple terms c) = record { kinds = tt; within = tt }
 opening_fits login (openings.Query terms c) = record { kinds = tt; within = tt }
+opening_fits login (openings.Prepare terms c) = record { kinds = tt; within = tt }
 opening_fits login (openings.Silent terms c) = record { kinds = tt; within = tt }
 
 opening_login : (login : Login) (opening : Opening) → login_in login (talk_of login opening) ≡ login
 opening_login login openings.Connect = refl
 opening_login login (openings.Simple terms c) = refl
 opening_login login (openings.Query terms c) = refl
+opening_login login (openings.Prepare terms c) = refl
 opening_login login (openings.Silent terms c) = refl
 
 pub read_none : (login : Login) (opening : Opening) (bytes : List ℕ) (p : Progress) → IsAt (talk_of login opening) p → ReadSoFar login opening bytes p bytes

@@ -17,7 +17,7 @@ use Rattle.my_value.specs.TextRow.{text_row_at}
 use Rattle.my_grammar.specs.declared.spot.Spot.{Spot}
 use Rattle.my_grammar.specs.declared.spot.Spot.TheVariants as spots
 use Rattle.my_grammar.specs.declared.spot.Kind.{Kind}
-use Rattle.my_grammar.specs.declared.spot.Kind.TheVariants.{Greets, Good, Failed, Count, Column, ColumnsDone, Row, End, Bad}
+use Rattle.my_grammar.specs.declared.spot.Kind.TheVariants.{Greets, Good, Failed, Count, Column, ColumnsDone, Row, End, Prepared, Parameter, Field, Bad}
 use Rattle.my_grammar.specs.Contexts.{more, after_head, spot_after}
 use Rattle.my_grammar.specs.Kinds.{or_else, is_caching, good_kind, failed_kind, count_kind, greets_kind, described_kind, done_kind, ended_kind, eof_kind, cells_kind, greeting_kind, single_kind, head_kind, column_kind, columns_end_kind, end_kind, row_kind, kind_by}
 use Rattle.my_grammar.specs.FitSets.{is_head}
@@ -69,6 +69,9 @@ either P Column l a b = a
 either P ColumnsDone l a b = a
 either P Row l a b = a
 either P (End status) l a b = a
+either P (Prepared params columns) l a b = a
+either P Parameter l a b = a
+either P Field l a b = a
 either P Bad l a b = b
 
 failed : (P : Kind → Bool) → P Bad ≡ true → P Failed ≡ true → (b : Bool) (p : List ℕ) → P (failed_kind (err_at b p)) ≡ true
@@ -110,7 +113,7 @@ pub known_head : (p : List ℕ) → is_head_kind (head_kind p) ≡ true
 known_head p = either is_head_kind (good_kind (ok_at p)) (or_else (failed_kind (err_at false p)) (count_kind (column_count_at false p))) (good is_head_kind refl (λ s. refl) p) (either is_head_kind (failed_kind (err_at false p)) (count_kind (column_count_at false p)) (failed is_head_kind refl refl false p) (counted p (column_count_at false p) refl))
 
 pub known_column : (p : List ℕ) → is_column_kind (column_kind p) ≡ true
-known_column p = elim (column_at p) as (λ o. is_column_kind (described_kind o) ≡ true) [ None ↦ refl | Some c ↦ refl ]
+known_column p = elim (column_at p) as (λ o. is_column_kind (described_kind Column o) ≡ true) [ None ↦ refl | Some c ↦ refl ]
 
 pub known_close : (p : List ℕ) → is_close_kind (columns_end_kind p) ≡ true
 known_close p = elim (eof_at p) as (λ o. is_close_kind (done_kind o) ≡ true) [ None ↦ refl | Some c ↦ refl ]
@@ -140,6 +143,11 @@ head_kind_is spots.Further d n p h = refl
 head_kind_is (spots.Columns left) d n p h = cc
 head_kind_is spots.ColumnsEnd d n p h = cc
 head_kind_is spots.Rows d n p h = cc
+head_kind_is spots.Prepare d n p h = cc
+head_kind_is (spots.Parameters left columns) d n p h = cc
+head_kind_is (spots.ParametersEnd columns) d n p h = cc
+head_kind_is (spots.Fields left) d n p h = cc
+head_kind_is spots.FieldsEnd d n p h = cc
 
 pub after_head_is : (s : Spot) (d : Bool) (k : Kind) → is_head s ≡ true → after_head k ≡ spot_after d s k
 after_head_is spots.Idle d k h = cc
@@ -151,6 +159,11 @@ after_head_is spots.Further d k h = refl
 after_head_is (spots.Columns left) d k h = cc
 after_head_is spots.ColumnsEnd d k h = cc
 after_head_is spots.Rows d k h = cc
+after_head_is spots.Prepare d k h = cc
+after_head_is (spots.Parameters left columns) d k h = cc
+after_head_is (spots.ParametersEnd columns) d k h = cc
+after_head_is (spots.Fields left) d k h = cc
+after_head_is spots.FieldsEnd d k h = cc
 
 more_if : (t : Bool) → (cond t spots.Further spots.Idle ≡ spots.Further) ⊎ (cond t spots.Further spots.Idle ≡ spots.Idle)
 more_if true = inl refl

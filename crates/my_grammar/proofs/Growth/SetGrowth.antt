@@ -6,7 +6,7 @@ use Rattle.my_flags.specs.declared.flags.StatusFlags.{StatusFlags}
 use Rattle.my_grammar.specs.declared.spot.Spot.{Spot}
 use Rattle.my_grammar.specs.declared.spot.Spot.TheVariants as spots
 use Rattle.my_grammar.specs.declared.spot.Kind.{Kind}
-use Rattle.my_grammar.specs.declared.spot.Kind.TheVariants.{Greets, Good, Failed, Count, Column, ColumnsDone, Row, End, Bad}
+use Rattle.my_grammar.specs.declared.spot.Kind.TheVariants.{Greets, Good, Failed, Count, Column, ColumnsDone, Row, End, Prepared, Parameter, Field, Bad}
 use Rattle.my_grammar.specs.declared.login.Login.{Login}
 use Rattle.my_grammar.specs.Contexts.{more, spot_after, columns_after, kept_after, is_bad}
 use Rattle.my_grammar.specs.Growth.{replies, not_greets}
@@ -52,6 +52,9 @@ at_head d x Column p h e i b f = cc
 at_head d x ColumnsDone p h e i b f = cc
 at_head d x Row p h e i b f = cc
 at_head d x (End status) p h e i b f = cc
+at_head d x (Prepared params columns) p h e i b f = cc
+at_head d x Parameter p h e i b f = cc
+at_head d x Field p h e i b f = cc
 at_head d x Bad p h e i b f = cc
 
 -- a head with one column more
@@ -89,6 +92,9 @@ at_column d older head left Column p e i b f = record { grown = column_if d olde
 at_column d older head left ColumnsDone p e i b f = cc
 at_column d older head left Row p e i b f = cc
 at_column d older head left (End status) p e i b f = cc
+at_column d older head left (Prepared params columns) p e i b f = cc
+at_column d older head left Parameter p e i b f = cc
+at_column d older head left Field p e i b f = cc
 at_column d older head left Bad p e i b f = cc
 
 closed : (d : Bool) (older : Sets) (head : SetHead) (p : List ℕ) → columns_end_kind p ≡ ColumnsDone → FitSets d (Headed older head) → GrowsSets d (Headed older head) ColumnsDone p
@@ -107,6 +113,9 @@ at_close d older head Column p e i b f = cc
 at_close d older head ColumnsDone p e i b f = closed d older head p e f
 at_close d older head Row p e i b f = cc
 at_close d older head (End status) p e i b f = cc
+at_close d older head (Prepared params columns) p e i b f = cc
+at_close d older head Parameter p e i b f = cc
+at_close d older head Field p e i b f = cc
 at_close d older head Bad p e i b f = cc
 
 at_row : (d : Bool) (older : Sets) (head : SetHead) (rows : List (List ℕ)) (k : Kind) (p : List ℕ) → row_kind d head.number p ≡ k → is_row_kind k ≡ true → is_bad k ≡ false → FitSets d (Begun older head rows) → GrowsSets d (Begun older head rows) k p
@@ -120,6 +129,9 @@ at_row d older head rows Row p e i b f =
     let w = f.0 in
     record { grown = record { other = refl; spot = refl; columns = refl; packets_are = refl; fits = (record { heading = w.heading; close = w.close; filled = (e, w.filled) }, f.1) } }
 at_row d older head rows (End status) p e i b f = record { grown = record { other = refl; spot = refl; columns = refl; packets_are = refl; fits = (f.0, e, f.1) } }
+at_row d older head rows (Prepared params columns) p e i b f = cc
+at_row d older head rows Parameter p e i b f = cc
+at_row d older head rows Field p e i b f = cc
 at_row d older head rows Bad p e i b f = cc
 
 -- after a set that another may follow
@@ -164,4 +176,7 @@ no_greeting Column p i = record { kept = λ n. refl; silent = λ l. refl }
 no_greeting ColumnsDone p i = record { kept = λ n. refl; silent = λ l. refl }
 no_greeting Row p i = record { kept = λ n. refl; silent = λ l. refl }
 no_greeting (End status) p i = record { kept = λ n. refl; silent = λ l. refl }
+no_greeting (Prepared params columns) p i = record { kept = λ n. refl; silent = λ l. refl }
+no_greeting Parameter p i = record { kept = λ n. refl; silent = λ l. refl }
+no_greeting Field p i = record { kept = λ n. refl; silent = λ l. refl }
 no_greeting Bad p i = record { kept = λ n. refl; silent = λ l. refl }

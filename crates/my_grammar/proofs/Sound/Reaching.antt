@@ -12,10 +12,11 @@ use Rattle.my_grammar.specs.declared.spot.Terms.{Terms}
 use Rattle.my_grammar.specs.Kinds.{head_kind, columns_end_kind, kind_by}
 use Rattle.my_grammar.specs.Sets.{SetHead, Sets, NoSets, Lone, Failed as FailedSet, Heading, Headed, Begun, Ended, Broken, Packet, each, at_most_one, head_packets, packets_in, spot_in, columns_in}
 use Rattle.my_grammar.specs.FitSets.{is_head, IsClose, IsHeading, IsBegun, FitSets}
-use Rattle.my_grammar.specs.Talk.{Talk, Start, Unwelcome, Greeted, Settled, Asked, Replied, Queried, Silent, Fits}
+use Rattle.my_grammar.specs.Talk.{Talk, Start, Unwelcome, Greeted, Settled, Asked, Replied, Queried, Preparing, Silent, Fits}
 use Rattle.my_grammar.proofs.Growth.Known.{is_head_kind, known_head, is_then, head_kind_is}
 use Rattle.my_grammar.proofs.Growth.SetGrowth.{error_is}
 use Rattle.my_grammar.proofs.Cutting.{Reaches, at_origin, goes_on}
+use Rattle.my_grammar.proofs.Sound.Replies.{reply_reaches}
 
 -- each is within the limit
 AllWithin : ℕ → List Packet → Type 0
@@ -196,4 +197,5 @@ reaches (Settled login p capabilities last kind) f =
 reaches (Asked terms c) f = at_origin (Asked terms c) refl refl
 reaches (Replied terms c last kind) f = goes_on (Asked terms c) kind last f.kinds.0 f.kinds.1 f.within.0 (record { kinds = tt; within = tt }) (at_origin (Asked terms c) refl refl)
 reaches (Queried terms c x) f = (sets_stand terms c x f.kinds f.within).reached
+reaches (Preparing terms c r) f = reply_reaches terms c r f.kinds f.within
 reaches (Silent terms c) f = at_origin (Silent terms c) refl refl
