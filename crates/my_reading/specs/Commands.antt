@@ -6,7 +6,7 @@ use Rattle.my_command.specs.Client.Packet.{client_bytes as packet_bytes}
 use Rattle.my_grammar.specs.declared.login.Login.{Login}
 use Rattle.my_grammar.specs.declared.spot.Terms.{Terms}
 use Rattle.my_grammar.specs.Sets.{NoSets}
-use Rattle.my_grammar.specs.Talk.{Talk, Start, Asked, Replied, Queried, Silent}
+use Rattle.my_grammar.specs.Talk.{Talk, Start, Asked, Replied, Queried, Preparing, Silent}
 use Rattle.my_reading.specs.declared.call.Call.{Call}
 use Rattle.my_reading.specs.declared.call.Call.TheVariants.{Connect, Query, NextRow, DropResult, TakeSet, SkipTaken, Ping, Quit}
 
@@ -58,5 +58,6 @@ abbrev pub command_in : Talk → List ℕ
 command_in (Asked terms c) = c
 command_in (Replied terms c last kind) = c
 command_in (Queried terms c sets) = c
+command_in (Preparing terms c reply) = c
 command_in (Silent terms c) = c
 command_in _ = []

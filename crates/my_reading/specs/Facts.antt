@@ -1,5 +1,6 @@
 -- What a client learns from the server's payloads, as a fold over them.
--- MySQL internals, "Protocol::Handshake" (version and connection id), "OK_Packet", "ERR_Packet" and "Text Resultset".
+-- MySQL internals, "Protocol::Handshake" (version and connection id), "OK_Packet", "ERR_Packet" and "Text Resultset"; a reply to a
+-- statement to prepare ("COM_STMT_PREPARE Response") tells nothing of these.
 use Rattle.std.specs.Prelude.{ℕ, ◌+◌, ◌-◌, ◌^◌, min, List, [], ◌∷◌, ◌++◌, nat_le, Option, Some, None, if◌then◌else◌}
 use Rattle.my_flags.specs.declared.flags.StatusFlags.{StatusFlags}
 use Rattle.my_reply.specs.declared.ok.OkPacket.{OkPacket}
@@ -9,7 +10,7 @@ use Rattle.my_reply.specs.OkPacket.{ok_at, end_ok_at}
 use Rattle.my_handshake.specs.Greeting.{greeting_at}
 use Rattle.my_reply.specs.Column.{column_at}
 use Rattle.my_grammar.specs.declared.spot.Kind.{Kind}
-use Rattle.my_grammar.specs.declared.spot.Kind.TheVariants.{Greets, Good, Failed, Count, Column as ColumnKind, ColumnsDone, Row, End, Bad}
+use Rattle.my_grammar.specs.declared.spot.Kind.TheVariants.{Greets, Good, Failed, Count, Column as ColumnKind, ColumnsDone, Row, End, Prepared, Parameter, Field, Bad}
 use Rattle.my_grammar.specs.declared.login.Login.{Login}
 use Rattle.my_grammar.specs.declared.packet.Packet.{Packet}
 use Rattle.my_reading.specs.declared.facts.Facts.{Facts}
@@ -64,6 +65,9 @@ told_after ColumnKind p f = with_column (column_at p) f
 told_after ColumnsDone p f = f
 told_after Row p f = with_settings (row_settings (row_at f.columns p) f.settings) f
 told_after (End status) p f = with_settings (end_settings f.settings.stage f.settings) (with_ok (end_ok_at p) status f)
+told_after (Prepared params columns) p f = f
+told_after Parameter p f = f
+told_after Field p f = f
 told_after Bad p f = f
 
 abbrev pub facts_after : Kind → List ℕ → Facts → Facts
