@@ -85,6 +85,9 @@ module _ (login : Login) (part : CodePart) (more : List CodePart) (new : Place) 
       by_part parts.Head kinds.ColumnsDone = (refl, at)
       by_part parts.Head kinds.Row = (refl, at)
       by_part parts.Head (kinds.End status) = (refl, at)
+      by_part parts.Head (kinds.Prepared params columns) = (refl, at)
+      by_part parts.Head kinds.Parameter = (refl, at)
+      by_part parts.Head kinds.Field = (refl, at)
       by_part parts.Head kinds.Bad = (refl, at)
       by_part parts.Item (kinds.Good status) = (refl, at)
       by_part parts.Item (kinds.Greets c) = (refl, at)
@@ -94,6 +97,9 @@ module _ (login : Login) (part : CodePart) (more : List CodePart) (new : Place) 
       by_part parts.Item kinds.ColumnsDone = (refl, at)
       by_part parts.Item kinds.Row = (refl, at)
       by_part parts.Item (kinds.End status) = (refl, at)
+      by_part parts.Item (kinds.Prepared params columns) = (refl, at)
+      by_part parts.Item kinds.Parameter = (refl, at)
+      by_part parts.Item kinds.Field = (refl, at)
       by_part parts.Item kinds.Bad = (refl, at)
       by_part parts.Set (kinds.Good status) = (refl, subst (λ (x : Stand). IsAt login (with_taken (with_end new)) (with_mark (with_left true x))) (sym is) (at_end_taken login new n arranged fits same))
       by_part parts.Set (kinds.Greets c) = (refl, at)
@@ -103,6 +109,9 @@ module _ (login : Login) (part : CodePart) (more : List CodePart) (new : Place) 
       by_part parts.Set kinds.ColumnsDone = (refl, at)
       by_part parts.Set kinds.Row = (refl, at)
       by_part parts.Set (kinds.End status) = (refl, at)
+      by_part parts.Set (kinds.Prepared params columns) = (refl, at)
+      by_part parts.Set kinds.Parameter = (refl, at)
+      by_part parts.Set kinds.Field = (refl, at)
       by_part parts.Set kinds.Bad = (refl, at)
       by_part parts.Rest k = (refl, at)
 
@@ -153,6 +162,9 @@ module _ (login : Login) (p : Place) (n : ℕ) (arranged : connects_in (exchange
     payload_follows kinds.ColumnsDone e = plain_follows kinds.ColumnsDone e refl
     payload_follows kinds.Row e = plain_follows kinds.Row e refl
     payload_follows (kinds.End status) e = plain_follows (kinds.End status) e refl
+    payload_follows (kinds.Prepared params columns) e = plain_follows (kinds.Prepared params columns) e refl
+    payload_follows kinds.Parameter e = plain_follows kinds.Parameter e refl
+    payload_follows kinds.Field e = plain_follows kinds.Field e refl
 
   reads_follow : (part : CodePart) (more : List CodePart) → TurnIs login (part ∷ more) (code_reads login part s) (reads login (part_of part) (map part_of more) p)
   reads_follow part more = subst (λ l. TurnIs login (part ∷ more) (code_front login part s (front_at (number_of (turns p.talk)) l p.unread)) (reads login (part_of part) (map part_of more) p)) (sym (limit_is p.talk))
