@@ -100,6 +100,7 @@ kept_after kept k = kept
 abbrev pub context_after : Context → Kind → Context
 context_after c k = record {
   spot = spot_after (deprecates_eof c.terms.kept) c.spot k;
+  rows = c.rows;
   columns = columns_after c.columns k;
   terms = record { kept = kept_after c.terms.kept k; limit = c.terms.limit };
 }

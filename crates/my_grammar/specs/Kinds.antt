@@ -1,5 +1,5 @@
 -- What a payload is in its context. MySQL client/server protocol, "Connection Phase", "Generic Response Packets", "Text
--- Resultset" and "COM_STMT_PREPARE Response": in each place the forms that fit there, in the order in which they are tried.
+-- Resultset", "Binary Protocol Resultset" and "COM_STMT_PREPARE Response": in each place the forms that fit there, in the order in which they are tried.
 use Rattle.std.specs.Prelude.{ℕ, List, codes, Option, Some, None, Bool, true, false, if◌then◌else◌}
 use Rattle.std.specs.Str.{bytes_eq}
 use Rattle.my_flags.specs.declared.flags.CapabilityFlags.{CapabilityFlags}
@@ -20,6 +20,9 @@ use Rattle.my_reply.specs.declared.replies.PrepareOk.{PrepareOk}
 use Rattle.my_reply.specs.Replies.{prepare_ok_at}
 use Rattle.my_value.specs.declared.value.Value.{Value}
 use Rattle.my_value.specs.TextRow.{text_row_at}
+use Rattle.my_value.specs.BinaryRow.{binary_row_at}
+use Rattle.my_grammar.specs.declared.spot.RowFormat.{RowFormat}
+use Rattle.my_grammar.specs.declared.spot.RowFormat.TheVariants.{Text, Binary}
 use Rattle.my_grammar.specs.declared.spot.Spot.{Spot}
 use Rattle.my_grammar.specs.declared.spot.Spot.TheVariants as spots
 use Rattle.my_grammar.specs.declared.spot.Kind.{Kind}
@@ -78,7 +81,11 @@ abbrev pub eof_kind : Option EofPacket → Kind
 eof_kind None = Bad
 eof_kind (Some e) = End e.status
 
--- the cells of a row
+-- the cells of a row: n of the text protocol, or of the binary protocol as the columns say
+abbrev pub cells_at : RowFormat → ℕ → List ColumnPacket → List ℕ → Option (List Value)
+cells_at Text n columns p = text_row_at n p
+cells_at Binary n columns p = binary_row_at columns p
+
 abbrev pub cells_kind : Option (List Value) → Kind
 cells_kind None = Bad
 cells_kind (Some cells) = Row
@@ -108,9 +115,9 @@ abbrev pub end_kind : Bool → List ℕ → Kind
 end_kind true p = ended_kind (end_ok_at p)
 end_kind false p = eof_kind (eof_at p)
 
--- What may come in the place of a row of that many columns: an end is tried first.
-abbrev pub row_kind : Bool → ℕ → List ℕ → Kind
-row_kind deprecates columns p = or_else (end_kind deprecates p) (or_else (failed_kind (err_at false p)) (cells_kind (text_row_at columns p)))
+-- What may come in the place of a row of n columns, which are these: an end is tried first.
+abbrev pub row_kind : RowFormat → Bool → ℕ → List ColumnPacket → List ℕ → Kind
+row_kind rows deprecates n columns p = or_else (end_kind deprecates p) (or_else (failed_kind (err_at false p)) (cells_kind (cells_at rows n columns p)))
 
 -- the head of a prepare reply
 abbrev pub prepared_kind : Option PrepareOk → Kind
@@ -129,21 +136,22 @@ abbrev pub field_kind : List ℕ → Kind
 field_kind p = described_kind Field (column_at p)
 
 -- what a payload is in each place
-abbrev pub kind_by : Spot → Bool → ℕ → List ℕ → Kind
-kind_by spots.Idle deprecates columns p = Bad
-kind_by spots.Greeting deprecates columns p = greeting_kind p
-kind_by spots.Authentication deprecates columns p = single_kind p
-kind_by spots.Single deprecates columns p = single_kind p
-kind_by spots.Head deprecates columns p = head_kind p
-kind_by spots.Further deprecates columns p = head_kind p
-kind_by (spots.Columns left) deprecates columns p = column_kind p
-kind_by spots.ColumnsEnd deprecates columns p = columns_end_kind p
-kind_by spots.Rows deprecates columns p = row_kind deprecates columns p
-kind_by spots.Prepare deprecates columns p = prepare_kind p
-kind_by (spots.Parameters left fields) deprecates columns p = parameter_kind p
-kind_by (spots.ParametersEnd fields) deprecates columns p = columns_end_kind p
-kind_by (spots.Fields left) deprecates columns p = field_kind p
-kind_by spots.FieldsEnd deprecates columns p = columns_end_kind p
+abbrev pub kind_by : Spot → RowFormat → Bool → ℕ → List ColumnPacket → List ℕ → Kind
+kind_by spots.Idle rows deprecates n columns p = Bad
+kind_by spots.Greeting rows deprecates n columns p = greeting_kind p
+kind_by spots.Authentication rows deprecates n columns p = single_kind p
+kind_by spots.Single rows deprecates n columns p = single_kind p
+kind_by spots.Head rows deprecates n columns p = head_kind p
+kind_by spots.Further rows deprecates n columns p = head_kind p
+kind_by (spots.Columns left) rows deprecates n columns p = column_kind p
+kind_by spots.ColumnsEnd rows deprecates n columns p = columns_end_kind p
+kind_by spots.Rows rows deprecates n columns p = row_kind rows deprecates n columns p
+kind_by spots.Prepare rows deprecates n columns p = prepare_kind p
+kind_by (spots.Parameters left fields) rows deprecates n columns p = parameter_kind p
+kind_by (spots.ParametersEnd fields) rows deprecates n columns p = columns_end_kind p
+kind_by (spots.Fields left) rows deprecates n columns p = field_kind p
+kind_by spots.FieldsEnd rows deprecates n columns p = columns_end_kind p
 
-abbrev pub kind_there : Context → List ℕ → Kind
-kind_there c p = kind_by c.spot (deprecates_eof c.terms.kept) c.columns p
+-- what a payload is in its context, where the columns of the set that is being read are these
+abbrev pub kind_there : Context → List ColumnPacket → List ℕ → Kind
+kind_there c columns p = kind_by c.spot c.rows (deprecates_eof c.terms.kept) c.columns columns p

@@ -6,6 +6,7 @@ use Rattle.my_grammar.specs.declared.spot.Spot.{Spot}
 use Rattle.my_grammar.specs.declared.spot.Spot.TheVariants as spots
 use Rattle.my_grammar.specs.declared.spot.Kind.{Kind}
 use Rattle.my_grammar.specs.declared.spot.Kind.TheVariants as kinds
+use Rattle.my_grammar.specs.declared.spot.RowFormat.TheVariants.{Text}
 use Rattle.my_grammar.specs.declared.packet.Packet.{Packet}
 use Rattle.my_grammar.specs.declared.spot.Terms.{Terms}
 use Rattle.my_grammar.specs.declared.spot.Context.{Context}
@@ -60,7 +61,7 @@ spot_in_reply (AfterFields head parameters fields) = spots.FieldsEnd
 spot_in_reply (Complete head parameters fields) = spots.Idle
 
 abbrev pub context_in_reply : Terms → Reply → Context
-context_in_reply terms r = record { spot = spot_in_reply r; columns = 0; terms = terms }
+context_in_reply terms r = record { spot = spot_in_reply r; rows = Text; columns = 0; terms = terms }
 
 -- packets of a part, with an EOF or without
 abbrev pub open_part : List (List ℕ) → Described

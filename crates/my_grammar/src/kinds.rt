@@ -1,7 +1,8 @@
 //! What a payload is in its context. No call allocates.
 
-ghost use Rattle.std.specs.Prelude.{◌≡◌, true, false};
-ghost use Rattle.my_grammar.specs.Kinds.{cells_kind, columns_end_kind, count_kind, described_kind, end_kind, failed_kind, good_kind, greeting_kind, greets_kind, head_kind, is_caching, kind_there, offer_kind, or_else, prepare_kind, prepared_kind, row_kind, single_kind};
+ghost use Rattle.std.specs.Prelude.{◌≡◌, is_some, true, false};
+ghost use Rattle.my_flags.specs.Sets.{deprecates_eof};
+ghost use Rattle.my_grammar.specs.Kinds.{cells_at, cells_kind, columns_end_kind, count_kind, described_kind, end_kind, failed_kind, good_kind, greeting_kind, greets_kind, head_kind, is_caching, kind_there, offer_kind, or_else, prepare_kind, prepared_kind, row_kind, single_kind};
 ghost use Rattle.my_reply.specs.ColumnCount.{column_count_at};
 ghost use Rattle.my_reply.specs.Column.{column_at};
 ghost use Rattle.my_reply.specs.ErrPacket.{err_at};
@@ -9,13 +10,14 @@ ghost use Rattle.my_handshake.specs.Greeting.{greeting_at};
 ghost use Rattle.my_reply.specs.OkPacket.{ok_at};
 ghost use Rattle.my_reply.specs.Replies.{prepare_ok_at};
 ghost use Rattle.my_value.specs.TextRow.{text_row_at};
+ghost use Rattle.my_value.specs.BinaryRow.{binary_row_at};
 
-use crate::spot::{Context, Kind, Spot};
+use crate::spot::{Context, Kind, RowFormat, Spot};
 use my_flags::CapabilityFlags;
 use my_handshake::greeting_offer;
 use my_reply::glance::{end_ok_status, is_column, is_err, ok_status};
-use my_reply::{read_column_count, read_eof, read_prepare_ok};
-use my_value::is_text_row;
+use my_reply::{Column, read_column_count, read_eof, read_prepare_ok};
+use my_value::{is_binary_row, is_text_row};
 
 // An ERR, or else what the payload was found to be.
 fn failed(payload: &[u8], before_response: bool) -> Kind
@@ -124,10 +126,19 @@ fn ended(with_ok: bool, payload: &[u8]) -> Kind
     }
 }
 
-fn cells(columns: u16, payload: &[u8]) -> Kind
-    ensures { result ≡ cells_kind (text_row_at columns payload.now) }
+fn has_cells(rows: RowFormat, count: u16, columns: &[Column], payload: &[u8]) -> bool
+    ensures { result ≡ is_some (cells_at rows count columns.now payload.now) }
 {
-    if is_text_row(columns as usize, payload) {
+    match rows {
+        RowFormat::Text => is_text_row(count as usize, payload),
+        RowFormat::Binary => is_binary_row(columns, payload),
+    }
+}
+
+fn cells(rows: RowFormat, count: u16, columns: &[Column], payload: &[u8]) -> Kind
+    ensures { result ≡ cells_kind (cells_at rows count columns.now payload.now) }
+{
+    if has_cells(rows, count, columns, payload) {
         Kind::Row
     } else {
         Kind::Bad
@@ -149,12 +160,13 @@ fn head(payload: &[u8]) -> Kind
     )
 }
 
-fn row(with_ok: bool, columns: u16, payload: &[u8]) -> Kind
-    ensures { result ≡ row_kind with_ok columns payload.now }
+fn row(context: Context, columns: &[Column], payload: &[u8]) -> Kind
+    ensures { result ≡ row_kind context.rows (deprecates_eof context.terms.kept) context.columns columns.now payload.now }
 {
+    let cells = cells(context.rows, context.columns, columns, payload);
     first_of(
-        ended(with_ok, payload),
-        first_of(failed(payload, false), cells(columns, payload)),
+        ended(context.terms.kept.deprecates_eof(), payload),
+        first_of(failed(payload, false), cells),
     )
 }
 
@@ -182,9 +194,9 @@ fn prepare(payload: &[u8]) -> Kind
     first_of(prepared(payload), failed(payload, false))
 }
 
-/// What the payload is in this context.
-pub fn kind_at(context: Context, payload: &[u8]) -> Kind
-    ensures { result ≡ kind_there context payload.now }
+/// What the payload is in this context, where the columns of the set that is being read are these.
+pub fn kind_at(context: Context, columns: &[Column], payload: &[u8]) -> Kind
+    ensures { result ≡ kind_there context columns.now payload.now }
 {
     match context.spot {
         Spot::Idle => Kind::Bad,
@@ -193,11 +205,7 @@ pub fn kind_at(context: Context, payload: &[u8]) -> Kind
         Spot::Head | Spot::Further => head(payload),
         Spot::Columns(_) => described(Kind::Column, payload),
         Spot::ColumnsEnd | Spot::ParametersEnd(_) | Spot::FieldsEnd => done(payload),
-        Spot::Rows => row(
-            context.terms.kept.deprecates_eof(),
-            context.columns,
-            payload,
-        ),
+        Spot::Rows => row(context, columns, payload),
         Spot::Prepare => prepare(payload),
         Spot::Parameters { .. } => described(Kind::Parameter, payload),
         Spot::Fields(_) => described(Kind::Field, payload),

@@ -40,6 +40,15 @@ pub enum Spot {
     FieldsEnd,
 }
 
+/// How the rows of an exchange's sets are written.
+#[derive(Clone, Copy, Debug, PartialEq, Eq)]
+pub enum RowFormat {
+    /// Each cell is `NULL` or bytes.
+    Text,
+    /// Each cell is what its column's type and flags say.
+    Binary,
+}
+
 /// What a payload is in its context.
 #[derive(Clone, Copy, Debug, PartialEq, Eq)]
 pub enum Kind {
@@ -78,10 +87,11 @@ pub struct Terms {
     pub limit: u64,
 }
 
-/// All that the reading of the next payload needs to know of those before.
+/// All that the reading of the next payload needs to know of those before, but for the columns of its set.
 #[derive(Clone, Copy, Debug, PartialEq, Eq)]
 pub struct Context {
     pub spot: Spot,
+    pub rows: RowFormat,
     /// The number of columns of the set that is being read, 0 between sets.
     pub columns: u16,
     pub terms: Terms,
@@ -250,6 +260,7 @@ impl Context {
     {
         Context {
             spot: Spot::Greeting,
+            rows: RowFormat::Text,
             columns: 0,
             terms: Terms {
                 kept: login.capabilities,
@@ -264,6 +275,7 @@ impl Context {
     {
         Context {
             spot: next_spot(self.terms.kept.deprecates_eof(), self.spot, kind),
+            rows: self.rows,
             columns: next_columns(self.columns, kind),
             terms: Terms {
                 kept: next_kept(self.terms.kept, kind),

@@ -13,13 +13,14 @@ use Rattle.my_reply.specs.declared.column_count.ColumnCount.{ColumnCount}
 use Rattle.my_reply.specs.ColumnCount.{column_count_at, skipped_at}
 use Rattle.my_reply.specs.Column.{column_at}
 use Rattle.my_frame.proofs.NumberLaws.{bind_then, passed}
-use Rattle.my_value.specs.TextRow.{text_row_at}
+use Rattle.my_reply.specs.declared.column.Column.{Column as ColumnPacket}
+use Rattle.my_grammar.specs.declared.spot.RowFormat.{RowFormat}
 use Rattle.my_grammar.specs.declared.spot.Spot.{Spot}
 use Rattle.my_grammar.specs.declared.spot.Spot.TheVariants as spots
 use Rattle.my_grammar.specs.declared.spot.Kind.{Kind}
 use Rattle.my_grammar.specs.declared.spot.Kind.TheVariants.{Greets, Good, Failed, Count, Column, ColumnsDone, Row, End, Prepared, Parameter, Field, Bad}
 use Rattle.my_grammar.specs.Contexts.{more, after_head, spot_after}
-use Rattle.my_grammar.specs.Kinds.{or_else, is_caching, good_kind, failed_kind, count_kind, greets_kind, described_kind, done_kind, ended_kind, eof_kind, cells_kind, greeting_kind, single_kind, head_kind, column_kind, columns_end_kind, end_kind, row_kind, kind_by}
+use Rattle.my_grammar.specs.Kinds.{or_else, is_caching, good_kind, failed_kind, count_kind, greets_kind, described_kind, done_kind, ended_kind, eof_kind, cells_at, cells_kind, greeting_kind, single_kind, head_kind, column_kind, columns_end_kind, end_kind, row_kind, kind_by}
 use Rattle.my_grammar.specs.FitSets.{is_head}
 
 -- what may come in a place, as tests
@@ -122,32 +123,32 @@ known_end : (d : Bool) (p : List ℕ) → is_row_kind (end_kind d p) ≡ true
 known_end true p = elim (end_ok_at p) as (λ o. is_row_kind (ended_kind o) ≡ true) [ None ↦ refl | Some c ↦ refl ]
 known_end false p = elim (eof_at p) as (λ o. is_row_kind (eof_kind o) ≡ true) [ None ↦ refl | Some c ↦ refl ]
 
-pub known_row : (d : Bool) (n : ℕ) (p : List ℕ) → is_row_kind (row_kind d n p) ≡ true
-known_row d n p =
-    either is_row_kind (end_kind d p) (or_else (failed_kind (err_at false p)) (cells_kind (text_row_at n p))) (known_end d p)
-    (either is_row_kind (failed_kind (err_at false p)) (cells_kind (text_row_at n p)) (failed is_row_kind refl refl false p)
-    (elim (text_row_at n p) as (λ o. is_row_kind (cells_kind o) ≡ true) [ None ↦ refl | Some c ↦ refl ]))
+pub known_row : (f : RowFormat) (d : Bool) (n : ℕ) (cs : List ColumnPacket) (p : List ℕ) → is_row_kind (row_kind f d n cs p) ≡ true
+known_row f d n cs p =
+    either is_row_kind (end_kind d p) (or_else (failed_kind (err_at false p)) (cells_kind (cells_at f n cs p))) (known_end d p)
+    (either is_row_kind (failed_kind (err_at false p)) (cells_kind (cells_at f n cs p)) (failed is_row_kind refl refl false p)
+    (elim (cells_at f n cs p) as (λ o. is_row_kind (cells_kind o) ≡ true) [ None ↦ refl | Some c ↦ refl ]))
 
 -- what a kind is that comes in a place
 pub is_then : (P : Kind → Bool) (k l : Kind) → P k ≡ true → k ≡ l → P l ≡ true
 is_then P k l a e = subst (λ x. P x ≡ true) e a
 
 -- a head's place
-pub head_kind_is : (s : Spot) (d : Bool) (n : ℕ) (p : List ℕ) → is_head s ≡ true → kind_by s d n p ≡ head_kind p
-head_kind_is spots.Idle d n p h = cc
-head_kind_is spots.Greeting d n p h = cc
-head_kind_is spots.Authentication d n p h = cc
-head_kind_is spots.Single d n p h = cc
-head_kind_is spots.Head d n p h = refl
-head_kind_is spots.Further d n p h = refl
-head_kind_is (spots.Columns left) d n p h = cc
-head_kind_is spots.ColumnsEnd d n p h = cc
-head_kind_is spots.Rows d n p h = cc
-head_kind_is spots.Prepare d n p h = cc
-head_kind_is (spots.Parameters left columns) d n p h = cc
-head_kind_is (spots.ParametersEnd columns) d n p h = cc
-head_kind_is (spots.Fields left) d n p h = cc
-head_kind_is spots.FieldsEnd d n p h = cc
+pub head_kind_is : (s : Spot) (f : RowFormat) (d : Bool) (n : ℕ) (cs : List ColumnPacket) (p : List ℕ) → is_head s ≡ true → kind_by s f d n cs p ≡ head_kind p
+head_kind_is spots.Idle f d n cs p h = cc
+head_kind_is spots.Greeting f d n cs p h = cc
+head_kind_is spots.Authentication f d n cs p h = cc
+head_kind_is spots.Single f d n cs p h = cc
+head_kind_is spots.Head f d n cs p h = refl
+head_kind_is spots.Further f d n cs p h = refl
+head_kind_is (spots.Columns left) f d n cs p h = cc
+head_kind_is spots.ColumnsEnd f d n cs p h = cc
+head_kind_is spots.Rows f d n cs p h = cc
+head_kind_is spots.Prepare f d n cs p h = cc
+head_kind_is (spots.Parameters left columns) f d n cs p h = cc
+head_kind_is (spots.ParametersEnd columns) f d n cs p h = cc
+head_kind_is (spots.Fields left) f d n cs p h = cc
+head_kind_is spots.FieldsEnd f d n cs p h = cc
 
 pub after_head_is : (s : Spot) (d : Bool) (k : Kind) → is_head s ≡ true → after_head k ≡ spot_after d s k
 after_head_is spots.Idle d k h = cc
@@ -174,5 +175,5 @@ pub more_cases : (status : StatusFlags) → (more status ≡ spots.Further) ⊎ 
 more_cases status = more_if (has_more_results status)
 
 -- nothing is known where nothing is awaited
-pub idle_bad : (s : Spot) (d : Bool) (n : ℕ) (p : List ℕ) (k : Kind) → s ≡ spots.Idle → kind_by s d n p ≡ k → k ≡ Bad
-idle_bad s d n p k i e = sym (subst (λ s. kind_by s d n p ≡ k) i e)
+pub idle_bad : (s : Spot) (f : RowFormat) (d : Bool) (n : ℕ) (cs : List ColumnPacket) (p : List ℕ) (k : Kind) → s ≡ spots.Idle → kind_by s f d n cs p ≡ k → k ≡ Bad
+idle_bad s f d n cs p k i e = sym (subst (λ s. kind_by s f d n cs p ≡ k) i e)

@@ -9,12 +9,13 @@ use Rattle.my_reply.specs.Column.{column_at}
 use Rattle.my_reply.specs.EofPacket.{eof_at}
 use Rattle.my_reply.specs.ErrPacket.{err_at}
 use Rattle.my_reply.specs.Replies.{prepare_ok_at}
+use Rattle.my_grammar.specs.declared.spot.RowFormat.TheVariants as formats
 use Rattle.my_grammar.specs.declared.spot.Spot.{Spot}
 use Rattle.my_grammar.specs.declared.spot.Spot.TheVariants as spots
 use Rattle.my_grammar.specs.declared.spot.Kind.{Kind}
 use Rattle.my_grammar.specs.declared.spot.Kind.TheVariants.{Failed, ColumnsDone, Prepared, Parameter, Field}
 use Rattle.my_grammar.specs.Contexts.{after_parameters, spot_after, columns_after, is_bad}
-use Rattle.my_grammar.specs.Growth.{not_greets}
+use Rattle.my_grammar.specs.Growth.{not_greets, described_after}
 use Rattle.my_grammar.specs.Kinds.{or_else, described_kind, done_kind, failed_kind, prepared_kind, prepare_kind, parameter_kind, field_kind, columns_end_kind, kind_by}
 use Rattle.my_grammar.specs.FitSets.{IsClose}
 use Rattle.my_grammar.specs.Prepares.{PreparedHead, Described, Reply, Unanswered, Refused, InParameters, AfterParameters, InFields, AfterFields, Complete, described_packets, head_packet, packets_in_reply, spot_in_reply, open_part, closed_part, with_parameters, grow_reply}
@@ -25,6 +26,7 @@ use Rattle.my_grammar.proofs.Growth.SetGrowth.{none}
 pub record Grown (d : Bool) (r y : Reply) (s : Spot) (k : Kind) (p : List ℕ) : Type 0 where
   pub spot : spot_in_reply y ≡ s
   pub columns : columns_after 0 k ≡ 0
+  pub described : described_after [] k p ≡ []
   pub packets_are : packets_in_reply y ≡ record { kind = k; payload = p } ∷ packets_in_reply r
   pub fits : FitReply d y
   pub other : not_greets k ≡ true
@@ -83,8 +85,8 @@ head_grown d params columns p e = record { grown = by_none (params == 0) refl }
     by_none : (t : Bool) → (params == 0) ≡ t → Grown d Unanswered (cond t (with_parameters h (open_part [])) (InParameters h [] params)) (cond t (after_parameters columns) (spots.Parameters params columns)) (Prepared params columns) p
     by_none true z =
         let w = parameters_whole d h (open_part []) (record { head_is = e; are = tt; all = record { number = grind (arith, nat_tests); close = close_none d params z } }) in
-        record { spot = w.spot; columns = refl; packets_are = w.packets_are; fits = w.fits; other = refl }
-    by_none false z = record { spot = refl; columns = refl; packets_are = refl; fits = (e, tt, record { number = add-zero params; some = grind (arith, nat_tests) }); other = refl }
+        record { spot = w.spot; columns = refl; described = refl; packets_are = w.packets_are; fits = w.fits; other = refl }
+    by_none false z = record { spot = refl; columns = refl; described = refl; packets_are = refl; fits = (e, tt, record { number = add-zero params; some = grind (arith, nat_tests) }); other = refl }
 
 -- one packet more of a part
 more_open : (n left : ℕ) (p : List ℕ) (ps : List (List ℕ)) → IsOpenPart n ps left → leb left 1 ≡ false → IsOpenPart n (p ∷ ps) (left - 1)
@@ -105,33 +107,33 @@ parameter_if : (d : Bool) (h : PreparedHead) (ps : List (List ℕ)) (left : ℕ)
     → Grown d (InParameters h ps left) (cond t (cond d (with_parameters h (open_part (p ∷ ps))) (AfterParameters h (p ∷ ps))) (InParameters h (p ∷ ps) (left - 1))) (cond t (cond d (after_parameters h.columns) (spots.ParametersEnd h.columns)) (spots.Parameters (left - 1) h.columns)) Parameter p
 parameter_if true h ps left p e f true t =
     let w = parameters_whole true h (open_part (p ∷ ps)) (record { head_is = f.0; are = (e, f.1); all = record { number = last_number h.params left p ps f.2 t; close = tt } }) in
-    record { spot = w.spot; columns = refl; packets_are = w.packets_are; fits = w.fits; other = refl }
-parameter_if false h ps left p e f true t = record { spot = refl; columns = refl; packets_are = refl; fits = (f.0, (e, f.1), awaits_close h.params p ps (last_number h.params left p ps f.2 t)); other = refl }
-parameter_if d h ps left p e f false t = record { spot = refl; columns = refl; packets_are = refl; fits = (f.0, (e, f.1), more_open h.params left p ps f.2 t); other = refl }
+    record { spot = w.spot; columns = refl; described = refl; packets_are = w.packets_are; fits = w.fits; other = refl }
+parameter_if false h ps left p e f true t = record { spot = refl; columns = refl; described = refl; packets_are = refl; fits = (f.0, (e, f.1), awaits_close h.params p ps (last_number h.params left p ps f.2 t)); other = refl }
+parameter_if d h ps left p e f false t = record { spot = refl; columns = refl; described = refl; packets_are = refl; fits = (f.0, (e, f.1), more_open h.params left p ps f.2 t); other = refl }
 
 field_if : (d : Bool) (h : PreparedHead) (w : Described) (ps : List (List ℕ)) (left : ℕ) (p : List ℕ) → field_kind p ≡ Field → FitReply d (InFields h w ps left) → (t : Bool) → leb left 1 ≡ t
     → Grown d (InFields h w ps left) (cond t (cond d (Complete h w (open_part (p ∷ ps))) (AfterFields h w (p ∷ ps))) (InFields h w (p ∷ ps) (left - 1))) (cond t (cond d spots.Idle spots.FieldsEnd) (spots.Fields (left - 1))) Field p
-field_if true h w ps left p e f true t = record { spot = refl; columns = refl; packets_are = refl; fits = (f.0, (e, f.1), record { number = last_number h.columns left p ps f.2 t; close = tt }); other = refl }
-field_if false h w ps left p e f true t = record { spot = refl; columns = refl; packets_are = refl; fits = (f.0, (e, f.1), awaits_close h.columns p ps (last_number h.columns left p ps f.2 t)); other = refl }
-field_if d h w ps left p e f false t = record { spot = refl; columns = refl; packets_are = refl; fits = (f.0, (e, f.1), more_open h.columns left p ps f.2 t); other = refl }
+field_if true h w ps left p e f true t = record { spot = refl; columns = refl; described = refl; packets_are = refl; fits = (f.0, (e, f.1), record { number = last_number h.columns left p ps f.2 t; close = tt }); other = refl }
+field_if false h w ps left p e f true t = record { spot = refl; columns = refl; described = refl; packets_are = refl; fits = (f.0, (e, f.1), awaits_close h.columns p ps (last_number h.columns left p ps f.2 t)); other = refl }
+field_if d h w ps left p e f false t = record { spot = refl; columns = refl; described = refl; packets_are = refl; fits = (f.0, (e, f.1), more_open h.columns left p ps f.2 t); other = refl }
 
 -- an EOF after the parameters, or after the columns
 parameters_closed : (d : Bool) (h : PreparedHead) (ps : List (List ℕ)) (p : List ℕ) → columns_end_kind p ≡ ColumnsDone → FitReply d (AfterParameters h ps) → GrowsReply d (AfterParameters h ps) ColumnsDone p
 parameters_closed d h ps p e f =
     let a = f.2 in
     let w = parameters_whole d h (closed_part ps p) (record { head_is = f.0; are = f.1; all = record { number = a.number; close = closed_by d h.params p a.plain a.some e } }) in
-    record { grown = record { spot = w.spot; columns = refl; packets_are = w.packets_are; fits = w.fits; other = refl } }
+    record { grown = record { spot = w.spot; columns = refl; described = refl; packets_are = w.packets_are; fits = w.fits; other = refl } }
 
 fields_closed : (d : Bool) (h : PreparedHead) (w : Described) (ps : List (List ℕ)) (p : List ℕ) → columns_end_kind p ≡ ColumnsDone → FitReply d (AfterFields h w ps) → GrowsReply d (AfterFields h w ps) ColumnsDone p
 fields_closed d h w ps p e f =
     let a = f.2 in
-    record { grown = record { spot = refl; columns = refl; packets_are = refl; fits = (f.0, f.1, record { number = a.number; close = closed_by d h.columns p a.plain a.some e }); other = refl } }
+    record { grown = record { spot = refl; columns = refl; described = refl; packets_are = refl; fits = (f.0, f.1, record { number = a.number; close = closed_by d h.columns p a.plain a.some e }); other = refl } }
 
-pub grows_reply : (d : Bool) (r : Reply) (k : Kind) (p : List ℕ) → kind_by (spot_in_reply r) d 0 p ≡ k → is_bad k ≡ false → FitReply d r → GrowsReply d r k p
+pub grows_reply : (d : Bool) (r : Reply) (k : Kind) (p : List ℕ) → kind_by (spot_in_reply r) formats.Text d 0 [] p ≡ k → is_bad k ≡ false → FitReply d r → GrowsReply d r k p
 grows_reply d Unanswered k p e b f =
     elim (answers k (prepare_ok_at p) (err_at false p) e b) [
       | inl w ↦ let h = w.head in subst (λ k. GrowsReply d Unanswered k p) w.is (head_grown d h.params h.columns p (e ∙ sym w.is))
-      | inr is ↦ subst (λ k. GrowsReply d Unanswered k p) is (record { grown = record { spot = refl; columns = refl; packets_are = refl; fits = e ∙ sym is; other = refl } })
+      | inr is ↦ subst (λ k. GrowsReply d Unanswered k p) is (record { grown = record { spot = refl; columns = refl; described = refl; packets_are = refl; fits = e ∙ sym is; other = refl } })
     ]
 grows_reply d (Refused q) k p e b f = absurd (none k e b)
 grows_reply d (InParameters h ps left) k p e b f =
