@@ -93,7 +93,7 @@ module _ (login : Login) (sent taken : List ℕ) where
 
   module _ (part : Part) (parts : List Part) (p : Place) where
     abbrev row : List ℕ → Told
-    row payload = ToldRow (row_of (facts_at login p).columns payload)
+    row payload = ToldRow (row_of (context_of p.talk).rows (facts_at login p).columns payload)
 
     err_more : (new : Place) (x : Option ErrPacket)
         → after_err login (more p) (more new) x ≡ lift sent taken (after_err login p new x)
