@@ -17,14 +17,15 @@ use Rattle.my_grammar.specs.Contexts.{is_bad}
 use Rattle.my_grammar.specs.Cut.{front_of, kind_of, is_over}
 use Rattle.my_grammar.specs.Growth.{grow}
 use Rattle.my_grammar.specs.Response.{response}
-use Rattle.my_grammar.specs.Sets.{NoSets}
+use Rattle.my_grammar.specs.Sets.{ByText, NoSets}
 use Rattle.my_grammar.specs.Talk.{Talk, Asked, Queried, Silent, turns, number_of, context_of, limit_of, Fits, login_in}
 use Rattle.my_reading.specs.declared.call.Call.{Call}
 use Rattle.my_reading.specs.declared.call.Call.TheVariants as calls
 use Rattle.my_reading.specs.Commands.{arranging_texts, connecting, query_of, command_in}
 use Rattle.my_reading.specs.Course.{Step, Goes, Stops, step, step_of, unless_owed, reads, with_front, after_payload, after_kind, after_err, with_command, failure, is_greeting, is_rows}
 use Rattle.my_reading.specs.Errors.{codec_error}
-use Rattle.my_reading.specs.Place.{Place, exchanges, facts_at, client_side, connects_in, terms_of, owed, next_exchange, with_end, with_taken, with_talk, with_exchange}
+use Rattle.my_reading.proofs.Described.{kind_known}
+use Rattle.my_reading.specs.Place.{Place, exchanges, facts_at, facts_of, client_side, connects_in, terms_of, owed, next_exchange, with_end, with_taken, with_talk, with_exchange}
 use Rattle.my_reading.specs.Rows.{row_of}
 use Rattle.my_reading.specs.Told.{ToldRow}
 use Rattle.my_judge.specs.declared.part.Part.{Part as CodePart}
@@ -127,7 +128,7 @@ module _ (login : Login) (p : Place) (n : ℕ) (arranged : connects_in (exchange
     new k = with_talk p (grow k p.talk payload) rest
 
     abbrev row : RowParts
-    row = row_of (facts_at login p).columns payload
+    row = row_of (context_of p.talk).rows (facts_at login p).columns payload
 
     -- after a payload of this kind
     abbrev Reads : Kind → Type 0
@@ -173,7 +174,9 @@ module _ (login : Login) (p : Place) (n : ℕ) (arranged : connects_in (exchange
       by_front : (x : Front) → front_of p.talk p.unread ≡ x → TurnIs login (part ∷ more) (code_front login part s x) (with_front login (part_of part) (map part_of more) p x)
       by_front Waiting e = (refl, here)
       by_front (Broken fault) e = (refl, here)
-      by_front (Whole payload rest next) e = payload_follows part more payload rest next e (kind_of p.talk payload) refl
+      by_front (Whole payload rest next) e =
+          subst (λ k. TurnIs login (part ∷ more) (code_payload login part payload s (heard login k payload rest s) k) (after_payload login (part_of part) (map part_of more) p (with_talk p (grow (kind_of p.talk payload) p.talk payload) rest) payload (kind_of p.talk payload)))
+          (sym (kind_known p.talk (facts_of login p.older) payload fits)) (payload_follows part more payload rest next e (kind_of p.talk payload) refl)
 
   -- a command of this exchange
   asks_follows : (call : Call) (more : List CodePart) (talk : Talk) (t : Turn) (m : ℕ) → IsAt login (with_exchange p call talk) t.stand → t.does ≡ steps.Passes
@@ -194,7 +197,7 @@ module _ (login : Login) (p : Place) (n : ℕ) (arranged : connects_in (exchange
   arranges_follow : (more : List CodePart) (x : Option (List ℕ)) → TurnIs login (parts.Command ∷ more) (arranges x s) (with_command calls.Connect (map part_of more) p (query_of terms x))
   arranges_follow more None = (refl, here)
   arranges_follow more (Some text) =
-      let talk : Talk = Queried terms (packet_bytes (packets.Query text)) NoSets in
+      let talk : Talk = Queried terms (packet_bytes (packets.Query text)) (NoSets ByText) in
       asks_follows calls.Connect more talk (turn steps.Passes (asked spots.Head (packet_bytes (packets.Query text)) (suc n) s)) (suc n)
       (asked_at calls.Connect talk _ (suc n) refl refl (ap suc arranged) (record { kinds = tt; within = tt }) refl) refl
 
@@ -202,7 +205,7 @@ module _ (login : Login) (p : Place) (n : ℕ) (arranged : connects_in (exchange
   commands_follow calls.Connect more = subst (λ k. TurnIs login (parts.Command ∷ more) (commands calls.Connect s) (with_command calls.Connect (map part_of more) p (connecting login terms k))) (sym arranged)
       (arranges_follow more (slice_get (arranging_texts login) n))
   commands_follow (calls.Query text) more =
-      let talk : Talk = Queried terms (packet_bytes (packets.Query text)) NoSets in
+      let talk : Talk = Queried terms (packet_bytes (packets.Query text)) (NoSets ByText) in
       asks_follows (calls.Query text) more talk (turn steps.Passes (asked spots.Head (packet_bytes (packets.Query text)) n s)) n
       (asked_at (calls.Query text) talk _ n refl refl arranged (record { kinds = tt; within = tt }) refl) refl
   commands_follow calls.NextRow more = (refl, here)
