@@ -114,13 +114,6 @@ impl Stand {
         Ok(())
     }
 
-    // What the payload is.
-    fn kind_of(&self, payload: &[u8]) -> Kind
-        ensures { result ≡ kind_there self.now.context self.now.facts.columns payload.now }
-    {
-        kind_at(self.context, self.facts.columns.as_slice(), payload)
-    }
-
     // The payload that was found is read.
     fn hear(
         &mut self,
@@ -257,7 +250,7 @@ impl Stand {
     }
 
     // What the payload is.
-    fn kind_of(&self, payload: &[u8]) -> Kind
+    fn kind_here(&self, payload: &[u8]) -> Kind
         ensures { result ≡ kind_there self.now.context self.now.facts.columns payload.now }
     {
         kind_at(self.context, self.facts.columns.as_slice(), payload)
@@ -277,7 +270,7 @@ impl Stand {
             let rest = drop found.now.span.len s.unread in
             IfOk result (λ step. Comes (read_payload login.now part found.now.payload rest s) step self.new) }
     {
-        let kind = self.kind_of(found.payload.as_slice());
+        let kind = self.kind_here(found.payload.as_slice());
         match kind {
             Kind::Bad => Ok(self.unfit()),
             Kind::Failed => self.refuse(alloc, login, found),
