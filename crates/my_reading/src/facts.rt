@@ -206,11 +206,8 @@ impl Facts {
                 self.learn_column(alloc, column)?;
             }
             Kind::Row => self.learn_row(alloc, payload)?,
-            Kind::ColumnsDone
-            | Kind::Prepared { .. }
-            | Kind::Parameter
-            | Kind::Field
-            | Kind::Bad => {}
+            Kind::ColumnsDone | Kind::Prepared { .. } | Kind::Parameter | Kind::Field | Kind::Bad =>
+                {}
         }
         self.count();
         Ok(())
