@@ -75,8 +75,9 @@ abbrev pub with_parameters : PreparedHead → Described → Reply
 with_parameters h w = if h.columns == 0 then Complete h w (open_part []) else InFields h w [] h.columns
 
 -- one payload more, of each kind
-abbrev pub with_head : PreparedHead → Reply
-with_head h = if h.params == 0 then with_parameters h (open_part []) else InParameters h [] h.params
+abbrev pub with_head : Reply → PreparedHead → Reply
+with_head Unanswered h = if h.params == 0 then with_parameters h (open_part []) else InParameters h [] h.params
+with_head r h = r
 
 abbrev pub with_parameter : Bool → Reply → List ℕ → Reply
 with_parameter deprecates (InParameters head parameters left) p =
@@ -99,7 +100,7 @@ with_part_end r p = r
 
 abbrev pub grow_reply : Bool → Kind → Reply → List ℕ → Reply
 grow_reply deprecates kinds.Failed r p = Refused p
-grow_reply deprecates (kinds.Prepared params columns) r p = with_head (record { payload = p; params = params; columns = columns })
+grow_reply deprecates (kinds.Prepared params columns) r p = with_head r (record { payload = p; params = params; columns = columns })
 grow_reply deprecates kinds.Parameter r p = with_parameter deprecates r p
 grow_reply deprecates kinds.Field r p = with_field deprecates r p
 grow_reply deprecates kinds.ColumnsDone r p = with_part_end r p

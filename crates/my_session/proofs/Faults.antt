@@ -209,6 +209,9 @@ module _ (s : Seen) (h : History) (st : Stands s h) (op : is_open s.task ≡ tru
     unless_told kinds.ColumnsDone e m told = told
     unless_told kinds.Row e m told = told
     unless_told (kinds.End status) e m told = told
+    unless_told (kinds.Prepared params columns) e m told = told
+    unless_told kinds.Parameter e m told = told
+    unless_told kinds.Field e m told = told
     unless_told kinds.Bad e m told = told
 
     kind_told : ((k : Kind) → is_known s.context.spot k ≡ true → is_breaking (react s.task k) ≡ true → is_bad k ≡ true) → (k : Kind) → kind_there s.context p ≡ k → (b : Bool) → is_breaking (react s.task k) ≡ b → Explained (cond b (machine.failed_by s (invalid_data s.facts.place)) (read_by s (advanced s k p rest next) p (react s.task k) (reply_to s.login k p)))
@@ -311,6 +314,11 @@ module _ (s : Seen) (h : History) (st : Stands s h) (op : is_open s.task ≡ tru
   clean_suits t e waits p suit (spots.Columns left) at past untold = awaits_as t e (waits s.context.spot (ap is_idle at) (ap is_greeting at))
   clean_suits t e waits p suit spots.ColumnsEnd at past untold = awaits_as t e (waits s.context.spot (ap is_idle at) (ap is_greeting at))
   clean_suits t e waits p suit spots.Rows at past untold = awaits_as t e (waits s.context.spot (ap is_idle at) (ap is_greeting at))
+  clean_suits t e waits p suit spots.Prepare at past untold = awaits_as t e (waits s.context.spot (ap is_idle at) (ap is_greeting at))
+  clean_suits t e waits p suit (spots.Parameters left columns) at past untold = awaits_as t e (waits s.context.spot (ap is_idle at) (ap is_greeting at))
+  clean_suits t e waits p suit (spots.ParametersEnd columns) at past untold = awaits_as t e (waits s.context.spot (ap is_idle at) (ap is_greeting at))
+  clean_suits t e waits p suit (spots.Fields left) at past untold = awaits_as t e (waits s.context.spot (ap is_idle at) (ap is_greeting at))
+  clean_suits t e waits p suit spots.FieldsEnd at past untold = awaits_as t e (waits s.context.spot (ap is_idle at) (ap is_greeting at))
 
   query_suits : s.task ≡ Own Query → (spot : Spot) → s.context.spot ≡ spot → is_heading spot ≡ true → Suits (query_plan spot)
   query_suits e spots.Idle at heads = cc
@@ -322,6 +330,11 @@ module _ (s : Seen) (h : History) (st : Stands s h) (op : is_open s.task ≡ tru
   query_suits e (spots.Columns left) at heads = awaits_as (Own Query) e (subst (λ (x : Spot). Awaits (Own Query) x) (sym at) (column_awaits left))
   query_suits e spots.ColumnsEnd at heads = awaits_as (Own Query) e (subst (λ (x : Spot). Awaits (Own Query) x) (sym at) close_awaits)
   query_suits e spots.Rows at heads = tt
+  query_suits e spots.Prepare at heads = cc
+  query_suits e (spots.Parameters left columns) at heads = cc
+  query_suits e (spots.ParametersEnd columns) at heads = cc
+  query_suits e (spots.Fields left) at heads = cc
+  query_suits e spots.FieldsEnd at heads = cc
 
   own_suits : (c : CallKind) → s.task ≡ Own c → HeardAs (Own c) → Suits (own_plan c s.context.spot)
   own_suits Connect e hd = awaits_as (Own Connect) e (connect_awaits s.context.spot hd.at.1)
@@ -345,6 +358,11 @@ module _ (s : Seen) (h : History) (st : Stands s h) (op : is_open s.task ≡ tru
   read_suits e told (spots.Columns left) at reads = awaits_as Reading e (reading_awaits s.context.spot (ap is_idle at) (ap is_greeting at))
   read_suits e told spots.ColumnsEnd at reads = awaits_as Reading e (reading_awaits s.context.spot (ap is_idle at) (ap is_greeting at))
   read_suits e told spots.Rows at reads = awaits_as Reading e (reading_awaits s.context.spot (ap is_idle at) (ap is_greeting at))
+  read_suits e told spots.Prepare at reads = cc
+  read_suits e told (spots.Parameters left columns) at reads = cc
+  read_suits e told (spots.ParametersEnd columns) at reads = cc
+  read_suits e told (spots.Fields left) at reads = cc
+  read_suits e told spots.FieldsEnd at reads = cc
 
   drop_suits : s.task ≡ Dropping → (spot : Spot) → s.context.spot ≡ spot → is_reading spot ≡ true → Suits (drop_plan spot)
   drop_suits e spots.Idle at reads = tt
@@ -356,6 +374,11 @@ module _ (s : Seen) (h : History) (st : Stands s h) (op : is_open s.task ≡ tru
   drop_suits e (spots.Columns left) at reads = awaits_as Dropping e (dropping_awaits s.context.spot (ap is_idle at) (ap is_greeting at))
   drop_suits e spots.ColumnsEnd at reads = awaits_as Dropping e (dropping_awaits s.context.spot (ap is_idle at) (ap is_greeting at))
   drop_suits e spots.Rows at reads = awaits_as Dropping e (dropping_awaits s.context.spot (ap is_idle at) (ap is_greeting at))
+  drop_suits e spots.Prepare at reads = cc
+  drop_suits e (spots.Parameters left columns) at reads = cc
+  drop_suits e (spots.ParametersEnd columns) at reads = cc
+  drop_suits e (spots.Fields left) at reads = cc
+  drop_suits e spots.FieldsEnd at reads = cc
 
   take_suits : s.task ≡ Taking → s.untold ≡ false → (spot : Spot) → s.context.spot ≡ spot → is_reading spot ≡ true → Suits (take_plan spot)
   take_suits e told spots.Idle at reads = (ap is_idle at, told)
@@ -367,6 +390,11 @@ module _ (s : Seen) (h : History) (st : Stands s h) (op : is_open s.task ≡ tru
   take_suits e told (spots.Columns left) at reads = awaits_as Taking e (subst (λ (x : Spot). Awaits Taking x) (sym at) (next_column_awaits left))
   take_suits e told spots.ColumnsEnd at reads = awaits_as Taking e (subst (λ (x : Spot). Awaits Taking x) (sym at) next_close_awaits)
   take_suits e told spots.Rows at reads = tt
+  take_suits e told spots.Prepare at reads = cc
+  take_suits e told (spots.Parameters left columns) at reads = cc
+  take_suits e told (spots.ParametersEnd columns) at reads = cc
+  take_suits e told (spots.Fields left) at reads = cc
+  take_suits e told spots.FieldsEnd at reads = cc
 
   skip_suits : s.task ≡ Skipping → (spot : Spot) → s.context.spot ≡ spot → Suits (skip_plan spot)
   skip_suits e spots.Idle at = tt
@@ -378,6 +406,11 @@ module _ (s : Seen) (h : History) (st : Stands s h) (op : is_open s.task ≡ tru
   skip_suits e (spots.Columns left) at = tt
   skip_suits e spots.ColumnsEnd at = tt
   skip_suits e spots.Rows at = awaits_as Skipping e (subst (λ (x : Spot). Awaits Skipping x) (sym at) skipping_awaits)
+  skip_suits e spots.Prepare at = tt
+  skip_suits e (spots.Parameters left columns) at = tt
+  skip_suits e (spots.ParametersEnd columns) at = tt
+  skip_suits e (spots.Fields left) at = tt
+  skip_suits e spots.FieldsEnd at = tt
 
   suits : (t : Task) → s.task ≡ t → fault_in t ≡ None → HeardAs t → (untold : Bool) → s.untold ≡ untold → Suits (plan_of t s.context.spot untold)
   suits Nothing e sound hd untold told = let no : false ≡ true = sym (ap is_open e) ∙ op in cc

@@ -105,6 +105,9 @@ payload_known kinds.Column p f e = column_says_none (column_at p) f
 payload_known kinds.ColumnsDone p f e = refl
 payload_known kinds.Row p f e = row_known (row_at f.columns p) f.settings e
 payload_known (kinds.End status) p f e = end_known f.settings.stage f.settings e
+payload_known (kinds.Prepared params columns) p f e = refl
+payload_known kinds.Parameter p f e = refl
+payload_known kinds.Field p f e = refl
 payload_known kinds.Bad p f e = refl
 
 all_known : (f : Facts) (packets : List Packet) → f.settings.stage ≡ Known → (facts_by packets f).settings ≡ f.settings

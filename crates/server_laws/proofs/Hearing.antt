@@ -45,6 +45,9 @@ quiet_number login kinds.Column p n i = refl
 quiet_number login kinds.ColumnsDone p n i = refl
 quiet_number login kinds.Row p n i = refl
 quiet_number login (kinds.End status) p n i = refl
+quiet_number login (kinds.Prepared params columns) p n i = refl
+quiet_number login kinds.Parameter p n i = refl
+quiet_number login kinds.Field p n i = refl
 quiet_number login kinds.Bad p n i = refl
 
 pub heard_one : (t : Talk) (k : Kind) (p : List ℕ) → kind_there (context_of t) p ≡ k → is_bad k ≡ false → not_greets k ≡ true → length p ≤ limit_of t → Fits t → Heard t (p ∷ []) (grow k t p)

@@ -91,7 +91,7 @@ column_back laws name short = laws.column (column_of name) (record {
 })
 
 pub column_is : (laws : PacketLaws) (name : List ℕ) → length name < 2 ^ 64 → column_kind (column_payload name) ≡ kinds.Column
-column_is laws name short = ap described_kind (column_back laws name short)
+column_is laws name short = ap (described_kind kinds.Column) (column_back laws name short)
 
 begins_no_end : (p : List ℕ) → (w : BeginsCell p) → end_ok_at p ≡ None
 begins_no_end p w =

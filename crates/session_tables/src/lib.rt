@@ -13,6 +13,8 @@ mod library;
 #[cfg(test)]
 mod play;
 #[cfg(test)]
+mod prepares;
+#[cfg(test)]
 mod streams;
 #[cfg(test)]
 mod talks;

@@ -7,6 +7,7 @@ use Rattle.my_flags.specs.Sets.{deprecates_eof, has_more_results}
 use Rattle.my_reply.specs.OkPacket.{ok_at, end_ok_at}
 use Rattle.my_reply.specs.ErrPacket.{err_at}
 use Rattle.my_reply.specs.EofPacket.{eof_at}
+use Rattle.my_reply.specs.Replies.{prepare_ok_at}
 use Rattle.my_frame.specs.Numbers.{len_at}
 use Rattle.my_handshake.specs.Greeting.{greeting_at}
 use Rattle.my_reply.specs.declared.column_count.ColumnCount.{ColumnCount}
@@ -20,7 +21,7 @@ use Rattle.my_grammar.specs.declared.spot.Spot.TheVariants as spots
 use Rattle.my_grammar.specs.declared.spot.Kind.{Kind}
 use Rattle.my_grammar.specs.declared.spot.Kind.TheVariants.{Greets, Good, Failed, Count, Column, ColumnsDone, Row, End, Prepared, Parameter, Field, Bad}
 use Rattle.my_grammar.specs.Contexts.{more, after_head, spot_after}
-use Rattle.my_grammar.specs.Kinds.{or_else, is_caching, good_kind, failed_kind, count_kind, greets_kind, described_kind, done_kind, ended_kind, eof_kind, cells_at, cells_kind, greeting_kind, single_kind, head_kind, column_kind, columns_end_kind, end_kind, row_kind, kind_by}
+use Rattle.my_grammar.specs.Kinds.{or_else, is_caching, good_kind, failed_kind, count_kind, greets_kind, described_kind, prepared_kind, done_kind, ended_kind, eof_kind, cells_at, cells_kind, greeting_kind, single_kind, head_kind, column_kind, columns_end_kind, end_kind, row_kind, prepare_kind, parameter_kind, field_kind, kind_by}
 use Rattle.my_grammar.specs.FitSets.{is_head}
 
 -- what may come in a place, as tests
@@ -59,6 +60,22 @@ is_row_kind (End status) = true
 is_row_kind Failed = true
 is_row_kind Bad = true
 is_row_kind k = false
+
+abbrev pub is_prepare_kind : Kind → Bool
+is_prepare_kind (Prepared params columns) = true
+is_prepare_kind Failed = true
+is_prepare_kind Bad = true
+is_prepare_kind k = false
+
+abbrev pub is_parameter_kind : Kind → Bool
+is_parameter_kind Parameter = true
+is_parameter_kind Bad = true
+is_parameter_kind k = false
+
+abbrev pub is_field_kind : Kind → Bool
+is_field_kind Field = true
+is_field_kind Bad = true
+is_field_kind k = false
 
 -- what holds of both forms holds of the one that the payload has
 either : (P : Kind → Bool) (k l : Kind) → P k ≡ true → P l ≡ true → P (or_else k l) ≡ true
@@ -128,6 +145,18 @@ known_row f d n cs p =
     either is_row_kind (end_kind d p) (or_else (failed_kind (err_at false p)) (cells_kind (cells_at f n cs p))) (known_end d p)
     (either is_row_kind (failed_kind (err_at false p)) (cells_kind (cells_at f n cs p)) (failed is_row_kind refl refl false p)
     (elim (cells_at f n cs p) as (λ o. is_row_kind (cells_kind o) ≡ true) [ None ↦ refl | Some c ↦ refl ]))
+
+pub known_prepare : (p : List ℕ) → is_prepare_kind (prepare_kind p) ≡ true
+known_prepare p =
+    either is_prepare_kind (prepared_kind (prepare_ok_at p)) (failed_kind (err_at false p))
+    (elim (prepare_ok_at p) as (λ o. is_prepare_kind (prepared_kind o) ≡ true) [ None ↦ refl | Some head ↦ refl ])
+    (failed is_prepare_kind refl refl false p)
+
+pub known_parameter : (p : List ℕ) → is_parameter_kind (parameter_kind p) ≡ true
+known_parameter p = elim (column_at p) as (λ o. is_parameter_kind (described_kind Parameter o) ≡ true) [ None ↦ refl | Some c ↦ refl ]
+
+pub known_field : (p : List ℕ) → is_field_kind (field_kind p) ≡ true
+known_field p = elim (column_at p) as (λ o. is_field_kind (described_kind Field o) ≡ true) [ None ↦ refl | Some c ↦ refl ]
 
 -- what a kind is that comes in a place
 pub is_then : (P : Kind → Bool) (k l : Kind) → P k ≡ true → k ≡ l → P l ≡ true

@@ -14,6 +14,8 @@ use Rattle.my_reply.specs.EofPacket.{eof_at}
 use Rattle.my_reply.specs.ErrPacket.{err_at}
 use Rattle.my_handshake.specs.Greeting.{greeting_at}
 use Rattle.my_reply.specs.OkPacket.{ok_at, end_ok_at}
+use Rattle.my_reply.specs.declared.replies.PrepareOk.{PrepareOk}
+use Rattle.my_reply.specs.Replies.{prepare_ok_at}
 use Rattle.my_value.specs.declared.value.Value.{Value}
 use Rattle.my_value.specs.TextRow.{text_row_at}
 use Rattle.my_value.specs.RowParts.{RowParts}
@@ -22,15 +24,15 @@ use Rattle.my_grammar.specs.declared.spot.Kind.TheVariants as kinds
 use Rattle.my_grammar.specs.declared.spot.Spot.{Spot}
 use Rattle.my_grammar.specs.declared.spot.Spot.TheVariants as spots
 use Rattle.my_grammar.specs.FitSets.{AreColumns}
-use Rattle.my_grammar.specs.Kinds.{or_else, is_caching, good_kind, failed_kind, count_kind, greets_kind, described_kind, done_kind, ended_kind, eof_kind, cells_kind, end_kind, kind_by}
+use Rattle.my_grammar.specs.Kinds.{or_else, is_caching, good_kind, failed_kind, count_kind, greets_kind, described_kind, prepared_kind, done_kind, ended_kind, eof_kind, cells_kind, end_kind, kind_by}
 use Rattle.my_grammar.specs.Sets.{NoSets, Lone, Failed, Heading, Headed, Begun, Ended, Broken}
-use Rattle.my_grammar.specs.Talk.{Talk, Start, Unwelcome, Greeted, Settled, Asked, Replied, Queried, Silent, context_of, packets_of, Fits}
+use Rattle.my_grammar.specs.Talk.{Talk, Start, Unwelcome, Greeted, Settled, Asked, Replied, Queried, Preparing, Silent, context_of, packets_of, Fits}
 use Rattle.my_reading.specs.declared.facts.Facts.{Facts}
 use Rattle.my_reading.specs.Facts.{facts_by}
 use Rattle.my_session.specs.Groups.{columns_in_order, column_list}
 use Rattle.my_session.specs.Machine.{is_greeting}
 use Rattle.my_reading.specs.Rows.{row_with, row_at}
-use Rattle.my_session.proofs.Stands.Views.{column_there, row_columns, not_rows}
+use Rattle.my_session.proofs.Stands.Views.{column_there, row_columns, not_rows, reply_not_rows}
 
 -- forms that are no ERR
 abbrev NotFailed : Kind → Type 0
@@ -53,9 +55,13 @@ count_not : (o : Option ColumnCount) → NotFailed (count_kind o)
 count_not None e = cc
 count_not (Some n) e = cc
 
-described_not : (o : Option AnyColumn) → NotFailed (described_kind o)
-described_not None e = cc
-described_not (Some c) e = cc
+described_not : (k : Kind) (o : Option AnyColumn) → NotFailed k → NotFailed (described_kind k o)
+described_not k None not e = cc
+described_not k (Some c) not e = not e
+
+prepared_not : (o : Option PrepareOk) → NotFailed (prepared_kind o)
+prepared_not None e = cc
+prepared_not (Some head) e = cc
 
 done_not : (o : Option EofPacket) → NotFailed (done_kind o)
 done_not None e = cc
@@ -87,6 +93,9 @@ second kinds.Column l x e not = absurd (not e)
 second kinds.ColumnsDone l x e not = absurd (not e)
 second kinds.Row l x e not = absurd (not e)
 second (kinds.End status) l x e not = absurd (not e)
+second (kinds.Prepared params columns) l x e not = absurd (not e)
+second kinds.Parameter l x e not = absurd (not e)
+second kinds.Field l x e not = absurd (not e)
 second kinds.Bad l x e not = e
 
 -- an ERR that is read
@@ -112,9 +121,14 @@ failed_reads spots.Authentication d n p e = failed_there (err_at false p) (secon
 failed_reads spots.Single d n p e = failed_there (err_at false p) (second (good_kind (ok_at p)) _ kinds.Failed e (good_not (ok_at p)))
 failed_reads spots.Head d n p e = head_reads p e
 failed_reads spots.Further d n p e = head_reads p e
-failed_reads (spots.Columns left) d n p e = absurd (described_not (column_at p) e)
+failed_reads (spots.Columns left) d n p e = absurd (described_not kinds.Column (column_at p) (λ no. cc) e)
 failed_reads spots.ColumnsEnd d n p e = absurd (done_not (eof_at p) e)
 failed_reads spots.Rows d n p e = failed_first (err_at false p) _ (second (end_kind d p) _ kinds.Failed e (end_not d p)) (cells_not (text_row_at n p))
+failed_reads spots.Prepare d n p e = failed_there (err_at false p) (second (prepared_kind (prepare_ok_at p)) _ kinds.Failed e (prepared_not (prepare_ok_at p)))
+failed_reads (spots.Parameters left columns) d n p e = absurd (described_not kinds.Parameter (column_at p) (λ no. cc) e)
+failed_reads (spots.ParametersEnd columns) d n p e = absurd (done_not (eof_at p) e)
+failed_reads (spots.Fields left) d n p e = absurd (described_not kinds.Field (column_at p) (λ no. cc) e)
+failed_reads spots.FieldsEnd d n p e = absurd (done_not (eof_at p) e)
 
 ended_row : (o : Option OkPacket) → ended_kind o ≡ kinds.Row → ⊥
 ended_row None e = cc
@@ -170,6 +184,7 @@ told_columns (Queried terms c (Begun older head rows)) f fits e =
     omega arith
 told_columns (Queried terms c (Ended older head rows last s)) f fits e = absurd (not_rows (has_more_results s) e)
 told_columns (Queried terms c (Broken older head rows last)) f fits e = cc
+told_columns (Preparing terms c reply) f fits e = absurd (reply_not_rows reply e)
 told_columns (Silent terms c) f fits e = cc
 
 with_cells : (columns : List AnyColumn) (o : Option (List Value)) (cells : List Value) → o ≡ Some cells → (row : RowParts) × (row_with columns o ≡ Some row)

@@ -167,6 +167,9 @@ grow_front gs d kinds.Column x p f = column_front gs d x p f
 grow_front gs d kinds.ColumnsDone x p f = close_front gs x p f
 grow_front gs d kinds.Row x p f = row_front gs x p f
 grow_front gs d (kinds.End status) x p f = end_front gs x p status f
+grow_front gs d (kinds.Prepared params columns) x p f = f
+grow_front gs d kinds.Parameter x p f = f
+grow_front gs d kinds.Field x p f = f
 grow_front gs d kinds.Bad x p f = f
 
 grown_front : (gs : List Group) (d : Bool) (y : Sets) (ps : List Packet) → IsFront gs (sets_in y) → IsFront gs (sets_in (grown d y ps))

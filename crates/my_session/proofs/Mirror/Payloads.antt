@@ -67,6 +67,11 @@ greeting_spot spots.Further c e = cc
 greeting_spot (spots.Columns left) c e = cc
 greeting_spot spots.ColumnsEnd c e = cc
 greeting_spot spots.Rows c e = cc
+greeting_spot spots.Prepare c e = cc
+greeting_spot (spots.Parameters left columns) c e = cc
+greeting_spot (spots.ParametersEnd columns) c e = cc
+greeting_spot (spots.Fields left) c e = cc
+greeting_spot spots.FieldsEnd c e = cc
 
 -- what may come in a handshake, or as a single answer
 is_simple : Kind → Bool
@@ -91,10 +96,16 @@ simple_shaking spots.Authentication (kinds.End status) e f g = cc
 simple_shaking spots.Greeting (kinds.Greets c) e f g = cc
 simple_shaking spots.Greeting (kinds.Good status) e f g = cc
 simple_shaking spots.Greeting kinds.Failed e f g = cc
+simple_shaking spots.Greeting (kinds.Prepared params columns) e f g = cc
+simple_shaking spots.Greeting kinds.Parameter e f g = cc
+simple_shaking spots.Greeting kinds.Field e f g = cc
 simple_shaking spots.Greeting kinds.Bad e f g = cc
 simple_shaking spots.Authentication (kinds.Greets c) e f g = cc
 simple_shaking spots.Authentication (kinds.Good status) e f g = cc
 simple_shaking spots.Authentication kinds.Failed e f g = cc
+simple_shaking spots.Authentication (kinds.Prepared params columns) e f g = cc
+simple_shaking spots.Authentication kinds.Parameter e f g = cc
+simple_shaking spots.Authentication kinds.Field e f g = cc
 simple_shaking spots.Authentication kinds.Bad e f g = cc
 simple_shaking spots.Idle k e f g = cc
 simple_shaking spots.Single k e f g = cc
@@ -103,6 +114,11 @@ simple_shaking spots.Further k e f g = cc
 simple_shaking (spots.Columns left) k e f g = cc
 simple_shaking spots.ColumnsEnd k e f g = cc
 simple_shaking spots.Rows k e f g = cc
+simple_shaking spots.Prepare k e f g = cc
+simple_shaking (spots.Parameters left columns) k e f g = cc
+simple_shaking (spots.ParametersEnd columns) k e f g = cc
+simple_shaking (spots.Fields left) k e f g = cc
+simple_shaking spots.FieldsEnd k e f g = cc
 
 simple_single : (k : Kind) → is_simple k ≡ false → is_known spots.Single k ≡ true → ⊥
 unfolding is_simple
@@ -114,6 +130,9 @@ simple_single kinds.Column f g = cc
 simple_single kinds.ColumnsDone f g = cc
 simple_single kinds.Row f g = cc
 simple_single (kinds.End status) f g = cc
+simple_single (kinds.Prepared params columns) f g = cc
+simple_single kinds.Parameter f g = cc
+simple_single kinds.Field f g = cc
 simple_single kinds.Bad f g = cc
 
 no_rows : (b : Bool) (x : Spot) → x ≡ spots.Rows → is_rows x ≡ b → b ≡ false → ⊥
@@ -260,6 +279,9 @@ module _ (s : Seen) (call : Call) (p : Place) (m : Mirrors s.context s.number s.
     whole_reads t left same sound past stands b on c kinds.ColumnsDone e = all_goes t kinds.ColumnsDone left e refl refl same sound (stands _) (all_is kinds.ColumnsDone e)
     whole_reads t left same sound past stands b on c kinds.Row e = all_goes t kinds.Row left e refl refl same sound (stands _) (all_is kinds.Row e)
     whole_reads t left same sound past stands b on c (kinds.End status) e = all_goes t (kinds.End status) left e refl refl same sound (stands _) (all_is (kinds.End status) e)
+    whole_reads t left same sound past stands b on c (kinds.Prepared params columns) e = all_goes t (kinds.Prepared params columns) left e refl refl same sound (stands _) (all_is (kinds.Prepared params columns) e)
+    whole_reads t left same sound past stands b on c kinds.Parameter e = all_goes t kinds.Parameter left e refl refl same sound (stands _) (all_is kinds.Parameter e)
+    whole_reads t left same sound past stands b on c kinds.Field e = all_goes t kinds.Field left e refl refl same sound (stands _) (all_is kinds.Field e)
     whole_reads t left same sound past stands b on c kinds.Bad e = unfits (All ∷ parts) (all_is kinds.Bad e)
 
     -- a drop passes over rows and ends
@@ -303,6 +325,9 @@ module _ (s : Seen) (call : Call) (p : Place) (m : Mirrors s.context s.number s.
     dropping_reads kinds.ColumnsDone e = drop_goes kinds.ColumnsDone e refl refl (all_is [] reading kinds.ColumnsDone e)
     dropping_reads kinds.Row e = passes_row (row_at s.facts.columns payload) refl e
     dropping_reads (kinds.End status) e = passes [] reading (kinds.End status) ToldEnd task refl e refl refl (all_is [] reading (kinds.End status) e)
+    dropping_reads (kinds.Prepared params columns) e = drop_goes (kinds.Prepared params columns) e refl refl (all_is [] reading (kinds.Prepared params columns) e)
+    dropping_reads kinds.Parameter e = drop_goes kinds.Parameter e refl refl (all_is [] reading kinds.Parameter e)
+    dropping_reads kinds.Field e = drop_goes kinds.Field e refl refl (all_is [] reading kinds.Field e)
     dropping_reads kinds.Bad e = unfits (All ∷ []) (all_is [] reading kinds.Bad e)
 
   -- the handshake
@@ -339,6 +364,11 @@ module _ (s : Seen) (call : Call) (p : Place) (m : Mirrors s.context s.number s.
             authenticates (spots.Columns left) k = cc
             authenticates spots.ColumnsEnd k = cc
             authenticates spots.Rows k = cc
+            authenticates spots.Prepare k = cc
+            authenticates (spots.Parameters left columns) k = cc
+            authenticates (spots.ParametersEnd columns) k = cc
+            authenticates (spots.Fields left) k = cc
+            authenticates spots.FieldsEnd k = cc
 
     pub connect_reads : (k : Kind) → kind_there s.context payload ≡ k → MoveReads s call (own_parts s.login Connect) p (move_at (tasks.Own Connect) k)
     unfolding is_simple
@@ -351,6 +381,9 @@ module _ (s : Seen) (call : Call) (p : Place) (m : Mirrors s.context s.number s.
     connect_reads kinds.ColumnsDone e = absurd (simple_shaking s.context.spot kinds.ColumnsDone shaking refl (knows kinds.ColumnsDone e))
     connect_reads kinds.Row e = absurd (simple_shaking s.context.spot kinds.Row shaking refl (knows kinds.Row e))
     connect_reads (kinds.End status) e = absurd (simple_shaking s.context.spot (kinds.End status) shaking refl (knows (kinds.End status) e))
+    connect_reads (kinds.Prepared params columns) e = absurd (simple_shaking s.context.spot (kinds.Prepared params columns) shaking refl (knows (kinds.Prepared params columns) e))
+    connect_reads kinds.Parameter e = absurd (simple_shaking s.context.spot kinds.Parameter shaking refl (knows kinds.Parameter e))
+    connect_reads kinds.Field e = absurd (simple_shaking s.context.spot kinds.Field shaking refl (knows kinds.Field e))
     connect_reads kinds.Bad e = unfits (own_parts s.login Connect) (all_is setting_up reading kinds.Bad e)
 
   -- the answer to a ping
@@ -384,6 +417,9 @@ module _ (s : Seen) (call : Call) (p : Place) (m : Mirrors s.context s.number s.
     ping_reads kinds.ColumnsDone e = absurd (simple_single kinds.ColumnsDone refl (subst (λ x. is_known x kinds.ColumnsDone ≡ true) single (knows kinds.ColumnsDone e)))
     ping_reads kinds.Row e = absurd (simple_single kinds.Row refl (subst (λ x. is_known x kinds.Row ≡ true) single (knows kinds.Row e)))
     ping_reads (kinds.End status) e = absurd (simple_single (kinds.End status) refl (subst (λ x. is_known x (kinds.End status) ≡ true) single (knows (kinds.End status) e)))
+    ping_reads (kinds.Prepared params columns) e = absurd (simple_single (kinds.Prepared params columns) refl (subst (λ x. is_known x (kinds.Prepared params columns) ≡ true) single (knows (kinds.Prepared params columns) e)))
+    ping_reads kinds.Parameter e = absurd (simple_single kinds.Parameter refl (subst (λ x. is_known x kinds.Parameter ≡ true) single (knows kinds.Parameter e)))
+    ping_reads kinds.Field e = absurd (simple_single kinds.Field refl (subst (λ x. is_known x kinds.Field ≡ true) single (knows kinds.Field e)))
     ping_reads kinds.Bad e = unfits (All ∷ []) (all_is [] reading kinds.Bad e)
 
   -- the head of a query's first set
@@ -429,6 +465,9 @@ module _ (s : Seen) (call : Call) (p : Place) (m : Mirrors s.context s.number s.
     query_reads kinds.ColumnsDone e = head_goes kinds.ColumnsDone e refl refl (head_is kinds.ColumnsDone e)
     query_reads kinds.Row e = absurd (no_rows _ s.context.spot (row_spot s.context.spot (knows kinds.Row e)) refl before)
     query_reads (kinds.End status) e = absurd (no_rows _ s.context.spot (end_spot s.context.spot status (knows (kinds.End status) e)) refl before)
+    query_reads (kinds.Prepared params columns) e = head_goes (kinds.Prepared params columns) e refl refl (head_is (kinds.Prepared params columns) e)
+    query_reads kinds.Parameter e = head_goes kinds.Parameter e refl refl (head_is kinds.Parameter e)
+    query_reads kinds.Field e = head_goes kinds.Field e refl refl (head_is kinds.Field e)
     query_reads kinds.Bad e = unfits (Head ∷ []) (head_is kinds.Bad e)
 
   -- the next row or end
@@ -465,6 +504,9 @@ module _ (s : Seen) (call : Call) (p : Place) (m : Mirrors s.context s.number s.
     reading_reads kinds.ColumnsDone e = item_goes kinds.ColumnsDone e refl refl (item_is kinds.ColumnsDone e)
     reading_reads kinds.Row e = gives (row_at s.facts.columns payload) refl e
     reading_reads (kinds.End status) e = ends (kinds.End status) e refl refl (item_is (kinds.End status) e)
+    reading_reads (kinds.Prepared params columns) e = item_goes (kinds.Prepared params columns) e refl refl (item_is (kinds.Prepared params columns) e)
+    reading_reads kinds.Parameter e = item_goes kinds.Parameter e refl refl (item_is kinds.Parameter e)
+    reading_reads kinds.Field e = item_goes kinds.Field e refl refl (item_is kinds.Field e)
     reading_reads kinds.Bad e = unfits (Item ∷ []) (item_is kinds.Bad e)
 
   -- the head of the next set, which a stream takes
@@ -501,6 +543,9 @@ module _ (s : Seen) (call : Call) (p : Place) (m : Mirrors s.context s.number s.
     taking_reads kinds.ColumnsDone e = set_goes kinds.ColumnsDone e refl refl (set_is kinds.ColumnsDone e)
     taking_reads kinds.Row e = absurd (no_rows _ s.context.spot (row_spot s.context.spot (knows kinds.Row e)) refl before)
     taking_reads (kinds.End status) e = absurd (no_rows _ s.context.spot (end_spot s.context.spot status (knows (kinds.End status) e)) refl before)
+    taking_reads (kinds.Prepared params columns) e = set_goes (kinds.Prepared params columns) e refl refl (set_is (kinds.Prepared params columns) e)
+    taking_reads kinds.Parameter e = set_goes kinds.Parameter e refl refl (set_is kinds.Parameter e)
+    taking_reads kinds.Field e = set_goes kinds.Field e refl refl (set_is kinds.Field e)
     taking_reads kinds.Bad e = unfits (Set ∷ []) (set_is kinds.Bad e)
 
   -- the rest of a set, which is passed over
@@ -534,6 +579,9 @@ module _ (s : Seen) (call : Call) (p : Place) (m : Mirrors s.context s.number s.
     skipping_reads kinds.ColumnsDone e = let no = among_rows kinds.ColumnsDone e in cc
     skipping_reads kinds.Row e = skips_row (row_at s.facts.columns payload) refl e
     skipping_reads (kinds.End status) e = passes_rest (kinds.End status) ToldEnd e refl refl (rest_is (kinds.End status) e)
+    skipping_reads (kinds.Prepared params columns) e = let no = among_rows (kinds.Prepared params columns) e in cc
+    skipping_reads kinds.Parameter e = let no = among_rows kinds.Parameter e in cc
+    skipping_reads kinds.Field e = let no = among_rows kinds.Field e in cc
     skipping_reads kinds.Bad e = unfits (Rest ∷ []) (rest_is kinds.Bad e)
 
   pub whole_reads_all : (parts : List Part) → step s.login call (All ∷ parts) p ≡ reads s.login All parts p → (t : Task) → All ∷ parts ≡ parts_left s.login t → kind_in t ≡ kind_in s.task → fault_in t ≡ None

@@ -8,7 +8,7 @@ use Rattle.my_grammar.specs.declared.spot.Kind.TheVariants as kinds
 use Rattle.my_grammar.specs.declared.spot.Spot.TheVariants as spots
 use Rattle.my_grammar.specs.Growth.{grow}
 use Rattle.my_grammar.specs.Sets.{SetHead, Sets, NoSets, Lone, Failed, Heading, Headed, Begun, Ended, Broken, grow_sets, with_column, with_column_of, with_close, spot_in}
-use Rattle.my_grammar.specs.Talk.{Talk, Start, Unwelcome, Greeted, Settled, Asked, Replied, Queried, Silent, context_of, Fits, origin}
+use Rattle.my_grammar.specs.Talk.{Talk, Start, Unwelcome, Greeted, Settled, Asked, Replied, Queried, Preparing, Silent, context_of, Fits, origin}
 use Rattle.my_grammar.specs.declared.spot.Terms.{Terms}
 use Rattle.my_reading.specs.declared.call.Call.TheVariants as calls
 use Rattle.my_reading.specs.Commands.{opening}
@@ -110,6 +110,9 @@ first_sets kinds.Column d x p e i part = first_column d x p e
 first_sets kinds.ColumnsDone d x p e i part = first_close x p e
 first_sets kinds.Row d x p e i part = cc
 first_sets (kinds.End status) d x p e i part = cc
+first_sets (kinds.Prepared params columns) d x p e i part = e
+first_sets kinds.Parameter d x p e i part = e
+first_sets kinds.Field d x p e i part = e
 first_sets kinds.Bad d x p e i part = cc
 
 abbrev pub is_queried : Talk → Bool
@@ -120,6 +123,7 @@ is_queried (Greeted login q c) = false
 is_queried (Settled login q c last kind) = false
 is_queried (Asked terms c) = false
 is_queried (Replied terms c last kind) = false
+is_queried (Preparing terms c reply) = false
 is_queried (Silent terms c) = false
 
 -- a query's exchange is one of sets
@@ -131,6 +135,7 @@ query_talk login terms_is n text (Settled l q c last kind) e = cc
 query_talk login terms_is n text (Asked terms c) e = cc
 query_talk login terms_is n text (Replied terms c last kind) e = cc
 query_talk login terms_is n text (Queried terms c x) e = refl
+query_talk login terms_is n text (Preparing terms c reply) e = cc
 query_talk login terms_is n text (Silent terms c) e = cc
 
 pub first_on : (k : Kind) (t : Talk) (p : List ℕ) → is_queried t ≡ true → is_first (sets_of t) ≡ true → is_known (context_of t).spot k ≡ true → is_part k ≡ true → is_first (sets_of (grow k t p)) ≡ true
@@ -141,6 +146,7 @@ first_on k (Settled l x c last kind) p q e i part = cc
 first_on k (Asked terms c) p q e i part = cc
 first_on k (Replied terms c last kind) p q e i part = cc
 first_on k (Queried terms c x) p q e i part = first_sets k (deprecates_eof terms.kept) x p e i part
+first_on k (Preparing terms c reply) p q e i part = cc
 first_on k (Silent terms c) p q e i part = cc
 
 -- A lone OK as the first head: it is the head's place, and nothing but its end is left.
@@ -167,4 +173,5 @@ ready_on status (Settled l x c last kind) p q e i = cc
 ready_on status (Asked terms c) p q e i = cc
 ready_on status (Replied terms c last kind) p q e i = cc
 ready_on status (Queried terms c x) p q e i = ready_sets status terms c x p e i
+ready_on status (Preparing terms c reply) p q e i = cc
 ready_on status (Silent terms c) p q e i = cc

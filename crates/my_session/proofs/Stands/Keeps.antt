@@ -109,6 +109,9 @@ module _ (s : Seen) (h : History) (st : Stands s h) (open_still : s.closed ≡ f
     whole_keeps kinds.ColumnsDone e b = whole_goes kinds.ColumnsDone e refl refl refl
     whole_keeps kinds.Row e b = whole_goes kinds.Row e refl refl refl
     whole_keeps (kinds.End status) e b = whole_goes (kinds.End status) e refl refl refl
+    whole_keeps (kinds.Prepared params columns) e b = whole_goes (kinds.Prepared params columns) e refl refl refl
+    whole_keeps kinds.Parameter e b = whole_goes kinds.Parameter e refl refl refl
+    whole_keeps kinds.Field e b = whole_goes kinds.Field e refl refl refl
     whole_keeps kinds.Bad e b = cc
 
   cleaning_keeps : (c : CallKind) (k : Kind) → HeardAs (Cleaning c) → is_connecting s.task ≡ false → kind_there s.context p ≡ k → is_breaking (react_whole (Cleaning c) k) ≡ false → Keeps (reacted s (after k) p (react_whole (Cleaning c) k)) h
@@ -136,6 +139,9 @@ module _ (s : Seen) (h : History) (st : Stands s h) (open_still : s.closed ≡ f
   connect_keeps kinds.ColumnsDone hd on e b = cc
   connect_keeps kinds.Row hd on e b = cc
   connect_keeps (kinds.End status) hd on e b = cc
+  connect_keeps (kinds.Prepared params columns) hd on e b = cc
+  connect_keeps kinds.Parameter hd on e b = cc
+  connect_keeps kinds.Field hd on e b = cc
   connect_keeps kinds.Bad hd on e b = cc
 
   query_keeps : (k : Kind) → HeardAs (Own Query) → is_connecting s.task ≡ false → kind_there s.context p ≡ k → is_breaking (react_query k) ≡ false → Keeps (reacted s (after k) p (react_query k)) h
@@ -147,6 +153,9 @@ module _ (s : Seen) (h : History) (st : Stands s h) (open_still : s.closed ≡ f
   query_keeps kinds.ColumnsDone hd off e b = first_parts s h st open_still nothing p rest next whole kinds.ColumnsDone e refl refl refl hd
   query_keeps kinds.Row hd off e b = cc
   query_keeps (kinds.End status) hd off e b = cc
+  query_keeps (kinds.Prepared params columns) hd off e b = first_parts s h st open_still nothing p rest next whole (kinds.Prepared params columns) e refl refl refl hd
+  query_keeps kinds.Parameter hd off e b = first_parts s h st open_still nothing p rest next whole kinds.Parameter e refl refl refl hd
+  query_keeps kinds.Field hd off e b = first_parts s h st open_still nothing p rest next whole kinds.Field e refl refl refl hd
   query_keeps kinds.Bad hd off e b = cc
 
   ping_keeps : (k : Kind) → HeardAs (Own Ping) → is_connecting s.task ≡ false → kind_there s.context p ≡ k → is_breaking (react_ping k) ≡ false → Keeps (reacted s (after k) p (react_ping k)) h
@@ -158,6 +167,9 @@ module _ (s : Seen) (h : History) (st : Stands s h) (open_still : s.closed ≡ f
   ping_keeps kinds.ColumnsDone hd off e b = cc
   ping_keeps kinds.Row hd off e b = cc
   ping_keeps (kinds.End status) hd off e b = cc
+  ping_keeps (kinds.Prepared params columns) hd off e b = cc
+  ping_keeps kinds.Parameter hd off e b = cc
+  ping_keeps kinds.Field hd off e b = cc
   ping_keeps kinds.Bad hd off e b = cc
 
   own_keeps : (c : CallKind) (k : Kind) → s.task ≡ Own c → HeardAs (Own c) → kind_there s.context p ≡ k → is_breaking (react_own c k) ≡ false → Keeps (reacted s (after k) p (react_own c k)) h
@@ -211,6 +223,9 @@ module _ (s : Seen) (h : History) (st : Stands s h) (open_still : s.closed ≡ f
         (shows s h st open_still nothing told p rest next whole Reading NextRow refl refl hd.at.1 hd.at.0 hd hd.tie Nothing (kinds.End status) ToldEnd e refl refl refl refl refl refl refl hd.at.0
         (ap (λ gs. gs ∷ givens st.older) (sym (end_gives s h st open_still nothing told p rest next whole Reading NextRow refl refl hd.at.1 hd.at.0 hd hd.tie status e)))
         (λ m made. rests (kinds.End status) m made (end_rests status e)) (λ m t. t))
+    reading_keeps (kinds.Prepared params columns) e b = read_head (kinds.Prepared params columns) e refl refl refl
+    reading_keeps kinds.Parameter e b = read_head kinds.Parameter e refl refl refl
+    reading_keeps kinds.Field e b = read_head kinds.Field e refl refl refl
     reading_keeps kinds.Bad e b = cc
 
   -- a passing over what is left
@@ -245,6 +260,9 @@ module _ (s : Seen) (h : History) (st : Stands s h) (open_still : s.closed ≡ f
         (shows s h st open_still nothing told p rest next whole Dropping DropResult refl refl hd.at.1 hd.at.0 hd hd.tie Dropping (kinds.End status) ToldEnd e refl refl refl refl refl refl refl hd.at.0
         (ap (λ gs. gs ∷ givens st.older) (sym (end_gives s h st open_still nothing told p rest next whole Dropping DropResult refl refl hd.at.1 hd.at.0 hd hd.tie status e)))
         (λ m made. (made, reading_after s.context.spot (deprecates_eof s.context.terms.kept) (kinds.End status) hd.at.1)) (λ m t. t)))
+    dropping_keeps (kinds.Prepared params columns) e b = drop_head (kinds.Prepared params columns) e refl refl refl
+    dropping_keeps kinds.Parameter e b = drop_head kinds.Parameter e refl refl refl
+    dropping_keeps kinds.Field e b = drop_head kinds.Field e refl refl refl
     dropping_keeps kinds.Bad e b = cc
 
   -- a stream that takes the next set
@@ -265,6 +283,9 @@ module _ (s : Seen) (h : History) (st : Stands s h) (open_still : s.closed ≡ f
     taking_keeps kinds.ColumnsDone e b = take_head kinds.ColumnsDone e refl refl refl
     taking_keeps kinds.Row e b = cc
     taking_keeps (kinds.End status) e b = cc
+    taking_keeps (kinds.Prepared params columns) e b = take_head (kinds.Prepared params columns) e refl refl refl
+    taking_keeps kinds.Parameter e b = take_head kinds.Parameter e refl refl refl
+    taking_keeps kinds.Field e b = take_head kinds.Field e refl refl refl
     taking_keeps kinds.Bad e b = cc
 
   -- a passing over the rest of a set
@@ -294,6 +315,9 @@ module _ (s : Seen) (h : History) (st : Stands s h) (open_still : s.closed ≡ f
         (shows s h st open_still nothing told p rest next whole Skipping SkipTaken refl refl reads_still hd.at.0 hd hd.tie Skipping (kinds.End status) ToldEnd e refl refl refl refl refl refl refl hd.at.0
         (ap (λ gs. gs ∷ givens st.older) (sym (end_gives s h st open_still nothing told p rest next whole Skipping SkipTaken refl refl reads_still hd.at.0 hd hd.tie status e)))
         (λ m made. (made, end_rests status e)) (λ m t. t)))
+    skipping_keeps (kinds.Prepared params columns) e b = cc
+    skipping_keeps kinds.Parameter e b = cc
+    skipping_keeps kinds.Field e b = cc
     skipping_keeps kinds.Bad e b = cc
 
   pub react_keeps : (t : Task) → s.task ≡ t → HeardAs t → (is_reader t ≡ true → s.untold ≡ false) → (k : Kind) → kind_there s.context p ≡ k → is_breaking (react t k) ≡ false → Keeps (reacted s (after k) p (react t k)) h

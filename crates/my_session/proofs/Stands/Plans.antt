@@ -11,7 +11,7 @@ use Rattle.my_grammar.specs.Kinds.{kind_there}
 use Rattle.my_grammar.specs.Sets.{context_in, Sets, NoSets, Lone, Failed, Heading, Headed, Ended, Broken as BrokenSet, Begun as BegunSet}
 use Rattle.my_grammar.specs.declared.spot.Context.{Context}
 use Rattle.my_grammar.specs.declared.spot.Terms.{Terms}
-use Rattle.my_grammar.specs.Talk.{Talk, Start, Unwelcome, Greeted, Settled, Asked, Replied, Queried, Silent, context_of}
+use Rattle.my_grammar.specs.Talk.{Talk, Start, Unwelcome, Greeted, Settled, Asked, Replied, Queried, Preparing, Silent, context_of}
 use Rattle.my_reading.specs.declared.call.Call.TheVariants as calls
 use Rattle.my_reading.specs.declared.call.CallKind.{CallKind}
 use Rattle.my_reading.specs.declared.call.CallKind.TheVariants.{Connect, Query, NextRow, DropResult, TakeSet, SkipTaken, Ping, Quit}
@@ -77,6 +77,7 @@ lone_settled (Settled login q c last kind) e = cc
 lone_settled (Asked terms c) e = cc
 lone_settled (Replied terms c last kind) e = cc
 lone_settled (Queried terms c x) e = lone_sets terms x e
+lone_settled (Preparing terms c reply) e = cc
 lone_settled (Silent terms c) e = cc
 
 link_closes : (fault : LinkFault) (place : ℕ) (c : CallKind) → closes_by (link_error fault place) c ≡ true
@@ -184,6 +185,11 @@ module _ (s : Seen) (h : History) (st : Stands s h) (open_still : s.closed ≡ f
   cleans bytes t task off lost p go (spots.Columns left) at untold e = reads bytes (not_reader t task off)
   cleans bytes t task off lost p go spots.ColumnsEnd at untold e = reads bytes (not_reader t task off)
   cleans bytes t task off lost p go spots.Rows at untold e = reads bytes (not_reader t task off)
+  cleans bytes t task off lost p go spots.Prepare at untold e = reads bytes (not_reader t task off)
+  cleans bytes t task off lost p go (spots.Parameters left columns) at untold e = reads bytes (not_reader t task off)
+  cleans bytes t task off lost p go (spots.ParametersEnd columns) at untold e = reads bytes (not_reader t task off)
+  cleans bytes t task off lost p go (spots.Fields left) at untold e = reads bytes (not_reader t task off)
+  cleans bytes t task off lost p go spots.FieldsEnd at untold e = reads bytes (not_reader t task off)
 
   rest_at : has_connected h.calls ≡ true → is_settled s.context.spot ≡ true → s.closed ≡ false → cond (has_connected h.calls) (is_settled s.context.spot) (is_greeting s.context.spot) ≡ true
   rest_at made e _ = subst (λ b. cond b (is_settled s.context.spot) (is_greeting s.context.spot) ≡ true) (sym made) e
@@ -222,6 +228,11 @@ module _ (s : Seen) (h : History) (st : Stands s h) (open_still : s.closed ≡ f
   queries bytes task hd (spots.Columns left) at = reads bytes (not_reader (Own Query) task refl)
   queries bytes task hd spots.ColumnsEnd at = reads bytes (not_reader (Own Query) task refl)
   queries bytes task hd spots.Rows at = readied hd at
+  queries bytes task hd spots.Prepare at = reads bytes (not_reader (Own Query) task refl)
+  queries bytes task hd (spots.Parameters left columns) at = reads bytes (not_reader (Own Query) task refl)
+  queries bytes task hd (spots.ParametersEnd columns) at = reads bytes (not_reader (Own Query) task refl)
+  queries bytes task hd (spots.Fields left) at = reads bytes (not_reader (Own Query) task refl)
+  queries bytes task hd spots.FieldsEnd at = reads bytes (not_reader (Own Query) task refl)
 
   owns : AreBytes s.unread → (c : CallKind) → s.task ≡ Own c → HeardAs (Own c) → Keeps (planned s (own_plan c s.context.spot)) h
   owns bytes Connect task hd = reads bytes (not_reader (Own Connect) task refl)
@@ -298,6 +309,11 @@ module _ (s : Seen) (h : History) (st : Stands s h) (open_still : s.closed ≡ f
   reads_rest bytes task hd told (spots.Columns left) at = reads bytes (λ _. told)
   reads_rest bytes task hd told spots.ColumnsEnd at = reads bytes (λ _. told)
   reads_rest bytes task hd told spots.Rows at = reads bytes (λ _. told)
+  reads_rest bytes task hd told spots.Prepare at = reads bytes (λ _. told)
+  reads_rest bytes task hd told (spots.Parameters left columns) at = reads bytes (λ _. told)
+  reads_rest bytes task hd told (spots.ParametersEnd columns) at = reads bytes (λ _. told)
+  reads_rest bytes task hd told (spots.Fields left) at = reads bytes (λ _. told)
+  reads_rest bytes task hd told spots.FieldsEnd at = reads bytes (λ _. told)
 
   drops_rest : AreBytes s.unread → s.task ≡ Dropping → HeardAs Dropping → s.untold ≡ false → (spot : Spot) → s.context.spot ≡ spot → Keeps (planned s (drop_plan spot)) h
   drops_rest bytes task hd told spots.Idle at = quiet Dropping DropResult ToldReady hd refl refl refl refl refl refl refl hd.at.0 (ap is_settled at) hd.tie
@@ -309,6 +325,11 @@ module _ (s : Seen) (h : History) (st : Stands s h) (open_still : s.closed ≡ f
   drops_rest bytes task hd told (spots.Columns left) at = reads bytes (λ _. told)
   drops_rest bytes task hd told spots.ColumnsEnd at = reads bytes (λ _. told)
   drops_rest bytes task hd told spots.Rows at = reads bytes (λ _. told)
+  drops_rest bytes task hd told spots.Prepare at = reads bytes (λ _. told)
+  drops_rest bytes task hd told (spots.Parameters left columns) at = reads bytes (λ _. told)
+  drops_rest bytes task hd told (spots.ParametersEnd columns) at = reads bytes (λ _. told)
+  drops_rest bytes task hd told (spots.Fields left) at = reads bytes (λ _. told)
+  drops_rest bytes task hd told spots.FieldsEnd at = reads bytes (λ _. told)
 
   -- a stream takes what is there
   takes : HeardAs Taking → is_settled s.context.spot ≡ true → Keeps (planned s plans.Takes) h
@@ -324,6 +345,11 @@ module _ (s : Seen) (h : History) (st : Stands s h) (open_still : s.closed ≡ f
   takes_rest bytes task hd told (spots.Columns left) at = reads bytes (λ _. told)
   takes_rest bytes task hd told spots.ColumnsEnd at = reads bytes (λ _. told)
   takes_rest bytes task hd told spots.Rows at = takes hd (ap is_settled at)
+  takes_rest bytes task hd told spots.Prepare at = reads bytes (λ _. told)
+  takes_rest bytes task hd told (spots.Parameters left columns) at = reads bytes (λ _. told)
+  takes_rest bytes task hd told (spots.ParametersEnd columns) at = reads bytes (λ _. told)
+  takes_rest bytes task hd told (spots.Fields left) at = reads bytes (λ _. told)
+  takes_rest bytes task hd told spots.FieldsEnd at = reads bytes (λ _. told)
 
   skips_rest : AreBytes s.unread → s.task ≡ Skipping → HeardAs Skipping → s.untold ≡ false → (spot : Spot) → s.context.spot ≡ spot → Keeps (planned s (skip_plan spot)) h
   skips_rest bytes task hd told spots.Idle at = quiet Skipping SkipTaken ToldReady hd refl refl refl refl refl refl refl hd.at.0 hd.at.1 hd.tie
@@ -335,6 +361,11 @@ module _ (s : Seen) (h : History) (st : Stands s h) (open_still : s.closed ≡ f
   skips_rest bytes task hd told (spots.Columns left) at = quiet Skipping SkipTaken ToldReady hd refl refl refl refl refl refl refl hd.at.0 hd.at.1 hd.tie
   skips_rest bytes task hd told spots.ColumnsEnd at = quiet Skipping SkipTaken ToldReady hd refl refl refl refl refl refl refl hd.at.0 hd.at.1 hd.tie
   skips_rest bytes task hd told spots.Rows at = reads bytes (λ _. told)
+  skips_rest bytes task hd told spots.Prepare at = quiet Skipping SkipTaken ToldReady hd refl refl refl refl refl refl refl hd.at.0 hd.at.1 hd.tie
+  skips_rest bytes task hd told (spots.Parameters left columns) at = quiet Skipping SkipTaken ToldReady hd refl refl refl refl refl refl refl hd.at.0 hd.at.1 hd.tie
+  skips_rest bytes task hd told (spots.ParametersEnd columns) at = quiet Skipping SkipTaken ToldReady hd refl refl refl refl refl refl refl hd.at.0 hd.at.1 hd.tie
+  skips_rest bytes task hd told (spots.Fields left) at = quiet Skipping SkipTaken ToldReady hd refl refl refl refl refl refl refl hd.at.0 hd.at.1 hd.tie
+  skips_rest bytes task hd told spots.FieldsEnd at = quiet Skipping SkipTaken ToldReady hd refl refl refl refl refl refl refl hd.at.0 hd.at.1 hd.tie
 
   reading_plan : AreBytes s.unread → s.task ≡ Reading → HeardAs Reading → (untold : Bool) → s.untold ≡ untold → Keeps (planned s (cond untold plans.Ends (read_plan s.context.spot))) h
   reading_plan bytes task hd true e = answered_stands (with_task s Nothing false) h calls.NextRow ToldEnd hd.pending_is

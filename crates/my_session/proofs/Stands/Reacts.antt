@@ -6,7 +6,7 @@ use Rattle.my_frame.specs.FrontLaws.{IsWhole}
 use Rattle.my_value.specs.RowParts.{RowParts}
 use Rattle.my_grammar.specs.declared.spot.Context.{Context}
 use Rattle.my_grammar.specs.declared.spot.Kind.{Kind}
-use Rattle.my_grammar.specs.declared.spot.Kind.TheVariants.{Greets, Good, Failed, Count, Column, ColumnsDone, Row, End, Bad}
+use Rattle.my_grammar.specs.declared.spot.Kind.TheVariants.{Greets, Good, Failed, Count, Column, ColumnsDone, Row, End, Prepared, Parameter, Field, Bad}
 use Rattle.my_grammar.specs.declared.spot.Spot.{Spot}
 use Rattle.my_grammar.specs.declared.spot.Spot.TheVariants as spots
 use Rattle.my_grammar.specs.Contexts.{is_bad, spot_after}
@@ -95,6 +95,9 @@ part_calm Column e = refl
 part_calm ColumnsDone e = refl
 part_calm Row e = refl
 part_calm (End status) e = refl
+part_calm (Prepared params columns) e = refl
+part_calm Parameter e = refl
+part_calm Field e = refl
 part_calm Bad e = refl
 
 -- after a payload

@@ -14,7 +14,8 @@ use Rattle.my_grammar.specs.Growth.{grow}
 use Rattle.my_grammar.specs.Kinds.{head_kind, described_kind}
 use Rattle.my_grammar.specs.declared.packet.Packet.{Packet}
 use Rattle.my_grammar.specs.Sets.{SetHead, Sets, NoSets, Lone, Failed, Heading, Headed, Begun, Ended, Broken, each, at_most_one, head_packets, packets_in, grow_sets, with_column, with_column_of, with_close}
-use Rattle.my_grammar.specs.Talk.{Talk, Start, Unwelcome, Greeted, Settled, Asked, Replied, Queried, Silent, packets_of, context_of, Fits}
+use Rattle.my_grammar.specs.Prepares.{Reply, Unanswered, Refused, InParameters, AfterParameters, InFields, AfterFields, Complete, spot_in_reply}
+use Rattle.my_grammar.specs.Talk.{Talk, Start, Unwelcome, Greeted, Settled, Asked, Replied, Queried, Preparing, Silent, packets_of, context_of, Fits}
 use Rattle.my_grammar.proofs.Growth.Known.{is_head_kind, known_head, is_then}
 use Rattle.my_value.specs.RowParts.{RowParts}
 use Rattle.my_reading.specs.declared.facts.Facts.{Facts}
@@ -33,6 +34,9 @@ same_terms kinds.Column (Start login) p y e = e
 same_terms kinds.ColumnsDone (Start login) p y e = e
 same_terms kinds.Row (Start login) p y e = e
 same_terms (kinds.End status) (Start login) p y e = e
+same_terms (kinds.Prepared params columns) (Start login) p y e = e
+same_terms kinds.Parameter (Start login) p y e = e
+same_terms kinds.Field (Start login) p y e = e
 same_terms kinds.Bad (Start login) p y e = e
 same_terms k (Unwelcome login q) p y e = e
 same_terms k (Greeted login q c) p y e = e
@@ -40,6 +44,7 @@ same_terms k (Settled login q c last kind) p y e = e
 same_terms k (Asked terms c) p y e = e
 same_terms k (Replied terms c last kind) p y e = e
 same_terms k (Queried terms c x) p y e = (record { kind = k; payload = p } ∷ e.0, ap (λ z. grow_sets (deprecates_eof terms.kept) k z p) e.1)
+same_terms k (Preparing terms c reply) p y e = e
 same_terms k (Silent terms c) p y e = e
 
 pub given_on : (g : Option (List Group)) (k : Kind) (t : Talk) (p : List ℕ) → IsGiven g t → IsGiven g (grow k t p)
@@ -55,6 +60,9 @@ given_on (Some g) k t p i = (i.0, same_terms k t p i.0 i.1, i.2, given_fits k t 
     given_fits kinds.ColumnsDone (Start login) p y f = f
     given_fits kinds.Row (Start login) p y f = f
     given_fits (kinds.End status) (Start login) p y f = f
+    given_fits (kinds.Prepared params columns) (Start login) p y f = f
+    given_fits kinds.Parameter (Start login) p y f = f
+    given_fits kinds.Field (Start login) p y f = f
     given_fits kinds.Bad (Start login) p y f = f
     given_fits k (Unwelcome login q) p y f = f
     given_fits k (Greeted login q c) p y f = f
@@ -62,6 +70,7 @@ given_on (Some g) k t p i = (i.0, same_terms k t p i.0 i.1, i.2, given_fits k t 
     given_fits k (Asked terms c) p y f = f
     given_fits k (Replied terms c last kind) p y f = f
     given_fits k (Queried terms c x) p y f = f
+    given_fits k (Preparing terms c reply) p y f = f
     given_fits k (Silent terms c) p y f = f
 
 pub fit_sets : (t : Talk) → Fits t → FitSets (ends_with_ok t) (sets_of t)
@@ -72,6 +81,7 @@ fit_sets (Settled login q c last kind) f = tt
 fit_sets (Asked terms c) f = tt
 fit_sets (Replied terms c last kind) f = tt
 fit_sets (Queried terms c x) f = f.kinds
+fit_sets (Preparing terms c reply) f = tt
 fit_sets (Silent terms c) f = tt
 
 -- all that was received was given
@@ -85,6 +95,25 @@ not_head false e = cc
 pub not_rows : (t : Bool) → cond t spots.Further spots.Idle ≡ spots.Rows → ⊥
 not_rows true e = cc
 not_rows false e = cc
+
+-- in a reply to a statement to prepare no row and no further set is awaited
+pub reply_not_rows : (r : Reply) → spot_in_reply r ≡ spots.Rows → ⊥
+reply_not_rows Unanswered e = cc
+reply_not_rows (Refused p) e = cc
+reply_not_rows (InParameters head ps left) e = cc
+reply_not_rows (AfterParameters head ps) e = cc
+reply_not_rows (InFields head w ps left) e = cc
+reply_not_rows (AfterFields head w ps) e = cc
+reply_not_rows (Complete head w v) e = cc
+
+reply_not_further : (r : Reply) → spot_in_reply r ≡ spots.Further → ⊥
+reply_not_further Unanswered e = cc
+reply_not_further (Refused p) e = cc
+reply_not_further (InParameters head ps left) e = cc
+reply_not_further (AfterParameters head ps) e = cc
+reply_not_further (InFields head w ps left) e = cc
+reply_not_further (AfterFields head w ps) e = cc
+reply_not_further (Complete head w v) e = cc
 
 -- a head, or a part of it, gives nothing
 column_groups_if : (d last : Bool) (older : Sets) (head : SetHead) (left : ℕ) (p : List ℕ) → groups (cond last (cond d (Begun older (with_column_of head p) []) (Headed older (with_column_of head p))) (Heading older (with_column_of head p) left)) ≡ groups older
@@ -112,11 +141,14 @@ close_groups (Begun older head rows) p = refl
 close_groups (Ended older head rows last status) p = refl
 close_groups (Broken older head rows last) p = refl
 
--- the kinds that a head is made of
+-- the kinds that give nothing: those of a set's head, and those of a prepare reply
 abbrev pub is_part : Kind → Bool
 is_part (kinds.Count n) = true
 is_part kinds.Column = true
 is_part kinds.ColumnsDone = true
+is_part (kinds.Prepared params columns) = true
+is_part kinds.Parameter = true
+is_part kinds.Field = true
 is_part k = false
 
 part_sets : (k : Kind) (d : Bool) (x : Sets) (p : List ℕ) → is_part k ≡ true → groups (grow_sets d k x p) ≡ groups x
@@ -128,6 +160,9 @@ part_sets kinds.Column d x p e = column_groups d x p
 part_sets kinds.ColumnsDone d x p e = close_groups x p
 part_sets kinds.Row d x p e = cc
 part_sets (kinds.End status) d x p e = cc
+part_sets (kinds.Prepared params columns) d x p e = refl
+part_sets kinds.Parameter d x p e = refl
+part_sets kinds.Field d x p e = refl
 part_sets kinds.Bad d x p e = cc
 
 part_start : (k : Kind) (login : Login) (p : List ℕ) → is_part k ≡ true → groups (sets_of (grow k (Start login) p)) ≡ []
@@ -139,6 +174,9 @@ part_start kinds.Column login p e = refl
 part_start kinds.ColumnsDone login p e = refl
 part_start kinds.Row login p e = cc
 part_start (kinds.End status) login p e = cc
+part_start (kinds.Prepared params columns) login p e = refl
+part_start kinds.Parameter login p e = refl
+part_start kinds.Field login p e = refl
 part_start kinds.Bad login p e = cc
 
 pub part_groups : (k : Kind) (t : Talk) (p : List ℕ) → is_part k ≡ true → groups (sets_of (grow k t p)) ≡ groups (sets_of t)
@@ -149,6 +187,7 @@ part_groups k (Settled login q c last kind) p e = refl
 part_groups k (Asked terms c) p e = refl
 part_groups k (Replied terms c last kind) p e = refl
 part_groups k (Queried terms c x) p e = part_sets k (deprecates_eof terms.kept) x p e
+part_groups k (Preparing terms c reply) p e = refl
 part_groups k (Silent terms c) p e = refl
 
 -- an end among rows, and a lone OK
@@ -167,6 +206,7 @@ end_groups (Queried terms c (Headed older head)) p status e = cc
 end_groups (Queried terms c (Begun older head rows)) p status e = refl
 end_groups (Queried terms c (Ended older head rows last s)) p status e = absurd (not_rows (has_more_results s) e)
 end_groups (Queried terms c (Broken older head rows last)) p status e = cc
+end_groups (Preparing terms c reply) p status e = absurd (reply_not_rows reply e)
 end_groups (Silent terms c) p status e = cc
 
 pub good_groups : (t : Talk) (p : List ℕ) (status : StatusFlags) → (context_of t).spot ≡ spots.Further → groups (sets_of (grow (kinds.Good status) t p)) ≡ with_stop (groups (sets_of t))
@@ -177,6 +217,7 @@ good_groups (Settled login q c last kind) p status e = cc
 good_groups (Asked terms c) p status e = cc
 good_groups (Replied terms c last kind) p status e = cc
 good_groups (Queried terms c x) p status e = refl
+good_groups (Preparing terms c reply) p status e = absurd (reply_not_further reply e)
 good_groups (Silent terms c) p status e = cc
 
 -- a lone OK after another set, and what is known before its end is returned
@@ -188,6 +229,7 @@ lone_further (Settled login q c last kind) p status e = cc
 lone_further (Asked terms c) p status e = cc
 lone_further (Replied terms c last kind) p status e = cc
 lone_further (Queried terms c x) p status e = refl
+lone_further (Preparing terms c reply) p status e = absurd (reply_not_further reply e)
 lone_further (Silent terms c) p status e = cc
 
 pub known_further : (t : Talk) (p : List ℕ) (status : StatusFlags) → (context_of t).spot ≡ spots.Further → groups (known_part true (sets_of (grow (kinds.Good status) t p))) ≡ groups (sets_of t)
@@ -198,10 +240,11 @@ known_further (Settled login q c last kind) p status e = cc
 known_further (Asked terms c) p status e = cc
 known_further (Replied terms c last kind) p status e = cc
 known_further (Queried terms c x) p status e = refl
+known_further (Preparing terms c reply) p status e = absurd (reply_not_further reply e)
 known_further (Silent terms c) p status e = cc
 
 -- the columns that are known are those of the head
-pub column_there : (o : Option AnyColumn) → described_kind o ≡ kinds.Column → (c : AnyColumn) × (o ≡ Some c)
+pub column_there : (o : Option AnyColumn) → described_kind kinds.Column o ≡ kinds.Column → (c : AnyColumn) × (o ≡ Some c)
 column_there None e = cc
 column_there (Some c) e = (c, refl)
 
@@ -293,4 +336,5 @@ row_groups (Queried terms c (Begun older head rows)) f p row fits e is =
     ap (λ o. with_item (row_or (head_columns head) o) (with_items (head_columns head) rows (groups older))) here
 row_groups (Queried terms c (Ended older head rows last s)) f p row fits e is = absurd (not_rows (has_more_results s) e)
 row_groups (Queried terms c (Broken older head rows last)) f p row fits e is = cc
+row_groups (Preparing terms c reply) f p row fits e is = absurd (reply_not_rows reply e)
 row_groups (Silent terms c) f p row fits e is = cc

@@ -7,13 +7,13 @@ use Rattle.my_frame.specs.FrontLaws.{IsWhole}
 use Rattle.my_grammar.specs.declared.login.Login.{Login}
 use Rattle.my_grammar.specs.declared.spot.Context.{Context}
 use Rattle.my_grammar.specs.declared.spot.Kind.{Kind}
-use Rattle.my_grammar.specs.declared.spot.Kind.TheVariants.{Greets, Good, Failed, Count, Column, ColumnsDone, Row, End, Bad}
+use Rattle.my_grammar.specs.declared.spot.Kind.TheVariants.{Greets, Good, Failed, Count, Column, ColumnsDone, Row, End, Prepared, Parameter, Field, Bad}
 use Rattle.my_grammar.specs.declared.spot.Spot.TheVariants as spots
 use Rattle.my_grammar.specs.declared.spot.Terms.{Terms}
 use Rattle.my_grammar.specs.Contexts.{context_after, is_bad}
 use Rattle.my_grammar.specs.Growth.{grow, replies, not_greets, Grows, Reads, number_next, said}
 use Rattle.my_grammar.specs.Kinds.{kind_there}
-use Rattle.my_grammar.specs.Talk.{Talk, Start, Unwelcome, Greeted, Settled, Asked, Replied, Queried, Silent, Server, turns, number_of, server_bytes, client_bytes, context_of, packets_of, Fits, origin, login_in, limit_of}
+use Rattle.my_grammar.specs.Talk.{Talk, Start, Unwelcome, Greeted, Settled, Asked, Replied, Queried, Preparing, Silent, Server, turns, number_of, server_bytes, client_bytes, context_of, packets_of, Fits, origin, login_in, limit_of}
 use Rattle.my_grammar.proofs.Growth.{grows, reads}
 use Rattle.my_reading.specs.declared.call.Call.{Call}
 use Rattle.my_reading.specs.declared.facts.Facts.{Facts}
@@ -33,6 +33,9 @@ reply_is login Column p n = refl
 reply_is login ColumnsDone p n = refl
 reply_is login Row p n = refl
 reply_is login (End status) p n = refl
+reply_is login (Prepared params columns) p n = refl
+reply_is login Parameter p n = refl
+reply_is login Field p n = refl
 reply_is login Bad p n = refl
 
 pub next_is : (login : Login) (k : Kind) (p : List ℕ) (n : ℕ) → number_next login k p n ≡ reply_number (reply_to login k p) (number_after_payload p n)
@@ -44,6 +47,9 @@ next_is login Column p n = refl
 next_is login ColumnsDone p n = refl
 next_is login Row p n = refl
 next_is login (End status) p n = refl
+next_is login (Prepared params columns) p n = refl
+next_is login Parameter p n = refl
+next_is login Field p n = refl
 next_is login Bad p n = refl
 
 -- after another payload than a greeting the client says nothing
@@ -56,6 +62,9 @@ silent login Column p n e = refl
 silent login ColumnsDone p n e = refl
 silent login Row p n e = refl
 silent login (End status) p n e = refl
+silent login (Prepared params columns) p n e = refl
+silent login Parameter p n e = refl
+silent login Field p n e = refl
 silent login Bad p n e = refl
 
 pub limit_is : (t : Talk) → (context_of t).terms.limit ≡ limit_of t
@@ -66,6 +75,7 @@ limit_is (Settled login p c last kind) = refl
 limit_is (Asked terms c) = refl
 limit_is (Replied terms c last kind) = refl
 limit_is (Queried terms c sets) = refl
+limit_is (Preparing terms c reply) = refl
 limit_is (Silent terms c) = refl
 
 module _ (login : Login) (taken sent : List ℕ) (call : Call) (talk : Talk) (older : List Entry) where

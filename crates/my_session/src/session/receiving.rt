@@ -80,6 +80,9 @@ impl Session {
             | Kind::ColumnsDone
             | Kind::Row
             | Kind::End(_)
+            | Kind::Prepared { .. }
+            | Kind::Parameter
+            | Kind::Field
             | Kind::Bad => Ok(None),
         }
     }
