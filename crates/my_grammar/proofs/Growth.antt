@@ -17,7 +17,7 @@ use Rattle.my_grammar.specs.declared.spot.Terms.{Terms}
 use Rattle.my_grammar.specs.declared.spot.Context.{Context}
 use Rattle.my_grammar.specs.Contexts.{is_bad}
 use Rattle.my_grammar.specs.Kinds.{greeting_kind, single_kind, kind_by, kind_there}
-use Rattle.my_grammar.specs.Sets.{Sets, NoSets, Packet, packets_in, spot_in, columns_in, rows_in, format_of, described_in, grow_sets}
+use Rattle.my_grammar.specs.Sets.{Sets, NoSets, Packet, packets_in, spot_in, columns_in, format_in, format_of, described_in, grow_sets}
 use Rattle.my_grammar.specs.Prepares.{Reply, packets_in_reply, spot_in_reply, grow_reply}
 use Rattle.my_grammar.specs.Talk.{Talk, Start, Unwelcome, Greeted, Settled, Asked, Replied, Queried, Preparing, Silent, Turn, Client, Server, served, packets_of, context_of, described, Fits, limit_of}
 use Rattle.my_grammar.specs.Growth.{Grows, Reads}
@@ -92,7 +92,7 @@ same_context : (s s' : Spot) (rows rows' : RowFormat) (n n' : ℕ) (kept kept' :
     → (let c : Context = record { spot = s; rows = rows; columns = n; terms = record { kept = kept; limit = limit } } in c) ≡ record { spot = s'; rows = rows'; columns = n'; terms = record { kept = kept'; limit = limit } }
 same_context s s' rows rows' n n' kept kept' limit e r f g = cc
 
-grows_queried : (terms : Terms) (c : List ℕ) (x : Sets) (k : Kind) (p : List ℕ) → kind_by (spot_in x) (rows_in x) (deprecates_eof terms.kept) (columns_in x) (described_in x) p ≡ k → is_bad k ≡ false → length p ≤ terms.limit → Fits (Queried terms c x) → Grows (Queried terms c x) k p
+grows_queried : (terms : Terms) (c : List ℕ) (x : Sets) (k : Kind) (p : List ℕ) → kind_by (spot_in x) (format_in x) (deprecates_eof terms.kept) (columns_in x) (described_in x) p ≡ k → is_bad k ≡ false → length p ≤ terms.limit → Fits (Queried terms c x) → Grows (Queried terms c x) k p
 grows_queried terms c x k p e b short f =
     let d = deprecates_eof terms.kept in
     let g = (grows_sets d x k p e b f.kinds).grown in

@@ -7,7 +7,7 @@ use Rattle.my_grammar.specs.declared.spot.Spot.TheVariants as spots
 use Rattle.my_grammar.specs.declared.spot.Kind.{Kind}
 use Rattle.my_grammar.specs.declared.spot.Kind.TheVariants as kinds
 use Rattle.my_grammar.specs.Kinds.{head_kind, column_kind, columns_end_kind, row_kind}
-use Rattle.my_grammar.specs.Sets.{SetHead, Sets, NoSets, Lone, Failed, Heading, Headed, Begun, Ended, Broken, spot_in, rows_in, head_columns}
+use Rattle.my_grammar.specs.Sets.{SetHead, Sets, NoSets, Lone, Failed, Heading, Headed, Begun, Ended, Broken, spot_in, format_in, head_columns}
 
 -- a place for a set's head
 abbrev pub is_head : Spot → Bool
@@ -27,7 +27,7 @@ AreRows format deprecates n columns (p ∷ ps) = (row_kind format deprecates n c
 
 -- the payload is of this kind in the place of a row under the head
 abbrev pub IsInRows : Bool → Sets → SetHead → List ℕ → Kind → Type 0
-IsInRows deprecates older head p k = row_kind (rows_in older) deprecates head.number (head_columns head) p ≡ k
+IsInRows deprecates older head p k = row_kind (format_in older) deprecates head.number (head_columns head) p ≡ k
 
 -- an EOF follows the columns exactly where the server doesn't deprecate it
 abbrev pub IsClose : Bool → Option (List ℕ) → Type 0
@@ -47,7 +47,7 @@ pub record IsHeading (older : Sets) (head : SetHead) (left : ℕ) : Type 0 where
 pub record IsBegun (deprecates : Bool) (older : Sets) (head : SetHead) (rows : List (List ℕ)) : Type 0 where
   pub heading : IsHeading older head 0
   pub close : IsClose deprecates head.close
-  pub filled : AreRows (rows_in older) deprecates head.number (head_columns head) rows
+  pub filled : AreRows (format_in older) deprecates head.number (head_columns head) rows
 
 -- Each set is one that may follow the older ones.
 abbrev pub FitSets : Bool → Sets → Type 0

@@ -97,11 +97,11 @@ abbrev pub format_of : Asking → RowFormat
 format_of ByText = Text
 format_of (ByStatement known) = Binary
 
-abbrev pub rows_in : Sets → RowFormat
-rows_in x = format_of (asking_in x)
+abbrev pub format_in : Sets → RowFormat
+format_in x = format_of (asking_in x)
 
 abbrev pub context_in : Terms → Sets → Context
-context_in terms x = record { spot = spot_in x; rows = rows_in x; columns = columns_in x; terms = terms }
+context_in terms x = record { spot = spot_in x; rows = format_in x; columns = columns_in x; terms = terms }
 
 -- the columns of a head, in order, of its packets, which are newest first
 abbrev pub column_list : Option Column → List Column

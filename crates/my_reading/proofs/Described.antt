@@ -5,6 +5,7 @@ use Rattle.my_flags.specs.Sets.{deprecates_eof, has_more_results}
 use Rattle.my_reply.specs.declared.column.Column.{Column}
 use Rattle.my_reply.specs.Column.{column_at}
 use Rattle.my_grammar.specs.declared.packet.Packet.{Packet}
+use Rattle.my_grammar.specs.declared.spot.Context.{Context}
 use Rattle.my_grammar.specs.declared.spot.Kind.TheVariants as kinds
 use Rattle.my_grammar.specs.declared.spot.RowFormat.{RowFormat}
 use Rattle.my_grammar.specs.declared.spot.Spot.{Spot}
@@ -12,14 +13,14 @@ use Rattle.my_grammar.specs.declared.spot.Spot.TheVariants as spots
 use Rattle.my_grammar.specs.Cut.{kind_of}
 use Rattle.my_grammar.specs.FitSets.{AreColumns, IsBegun}
 use Rattle.my_grammar.specs.Kinds.{head_kind, described_kind, kind_by, kind_there}
-use Rattle.my_grammar.specs.Prepares.{Reply, Unanswered, Refused, InParameters, AfterParameters, InFields, AfterFields, Complete}
+use Rattle.my_grammar.specs.Prepares.{Reply, Unanswered, Refused, InParameters, AfterParameters, InFields, AfterFields, Complete, spot_in_reply}
 use Rattle.my_grammar.specs.Sets.{SetHead, Sets, NoSets, Lone, Failed, Heading, Headed, Begun, Ended, Broken, each, at_most_one, head_packets, packets_in, column_list, columns_in_order, head_columns}
 use Rattle.my_grammar.specs.Talk.{Talk, Start, Unwelcome, Greeted, Settled, Asked, Replied, Queried, Preparing, Silent, packets_of, context_of, described, Fits}
 use Rattle.my_grammar.proofs.Growth.Known.{is_head_kind, known_head, is_then}
 use Rattle.my_reading.specs.declared.facts.Facts.{Facts}
 use Rattle.my_reading.specs.Facts.{counted, with_column, facts_by}
 
-pub column_there : (o : Option Column) → described_kind kinds.Column o ≡ kinds.Column → (c : Column) × (o ≡ Some c)
+column_there : (o : Option Column) → described_kind kinds.Column o ≡ kinds.Column → (c : Column) × (o ≡ Some c)
 column_there None e = cc
 column_there (Some c) e = (c, refl)
 
@@ -86,7 +87,7 @@ some_columns : (count : List ℕ) (n : ℕ) → head_kind count ≡ kinds.Count 
 some_columns count n e = let t : leb 1 n ≡ true = is_then is_head_kind (head_kind count) (kinds.Count n) (known_head count) e in grind (arith, nat_tests)
 
 -- while rows are read, the columns that are known are those of the head
-pub row_columns : (d : Bool) (f : Facts) (older : Sets) (head : SetHead) (rows : List (List ℕ)) → IsBegun d older head rows → (facts_by (packets_in (Begun older head rows)) f).columns ≡ head_columns head
+row_columns : (d : Bool) (f : Facts) (older : Sets) (head : SetHead) (rows : List (List ℕ)) → IsBegun d older head rows → (facts_by (packets_in (Begun older head rows)) f).columns ≡ head_columns head
 row_columns d f older head rows b =
     let all = b.heading.all in
     rows_keep f rows (head_packets head (packets_in older))
@@ -106,9 +107,19 @@ pub record AtRows (t : Talk) : Type 0 where
   pub known : (f : Facts) → (facts_by (packets_of t) f).columns ≡ described t
   pub all : (context_of t).columns ≡ length (described t)
 
+-- after an OK or an end, and in a reply to a statement to prepare, no row is awaited
 pub not_rows : (t : Bool) → cond t spots.Further spots.Idle ≡ spots.Rows → ⊥
 not_rows true e = cc
 not_rows false e = cc
+
+pub reply_not_rows : (r : Reply) → spot_in_reply r ≡ spots.Rows → ⊥
+reply_not_rows Unanswered e = cc
+reply_not_rows (Refused p) e = cc
+reply_not_rows (InParameters head ps left) e = cc
+reply_not_rows (AfterParameters head ps) e = cc
+reply_not_rows (InFields head w ps left) e = cc
+reply_not_rows (AfterFields head w ps) e = cc
+reply_not_rows (Complete head w v) e = cc
 
 pub at_rows : (t : Talk) → Fits t → (context_of t).spot ≡ spots.Rows → AtRows t
 at_rows (Start login) fits e = cc
@@ -129,13 +140,7 @@ at_rows (Queried terms c (Begun older head rows)) fits e =
     record { known = λ f. row_columns (deprecates_eof terms.kept) f older head rows begun; all = omega arith }
 at_rows (Queried terms c (Ended older head rows last s)) fits e = absurd (not_rows (has_more_results s) e)
 at_rows (Queried terms c (Broken older head rows last)) fits e = cc
-at_rows (Preparing terms c Unanswered) fits e = cc
-at_rows (Preparing terms c (Refused p)) fits e = cc
-at_rows (Preparing terms c (InParameters h ps left)) fits e = cc
-at_rows (Preparing terms c (AfterParameters h ps)) fits e = cc
-at_rows (Preparing terms c (InFields h w ps left)) fits e = cc
-at_rows (Preparing terms c (AfterFields h w ps)) fits e = cc
-at_rows (Preparing terms c (Complete h w v)) fits e = cc
+at_rows (Preparing terms c reply) fits e = absurd (reply_not_rows reply e)
 at_rows (Silent terms c) fits e = cc
 
 -- only in the place of a row does it matter which columns they are
@@ -159,3 +164,12 @@ kind_same spots.FieldsEnd rows d n cs ds p e = refl
 pub kind_known : (t : Talk) (f : Facts) (p : List ℕ) → Fits t → kind_there (context_of t) (facts_by (packets_of t) f).columns p ≡ kind_of t p
 kind_known t f p fits =
     kind_same (context_of t).spot (context_of t).rows (deprecates_eof (context_of t).terms.kept) (context_of t).columns (facts_by (packets_of t) f).columns (described t) p (λ e. (at_rows t fits e).known f)
+
+-- the same of a client that has this context and knows these facts
+pub kind_is : (t : Talk) (f : Facts) (c : Context) (known : Facts) (p : List ℕ) → Fits t → c ≡ context_of t → known ≡ facts_by (packets_of t) f → kind_there c known.columns p ≡ kind_of t p
+kind_is t f c known p fits context facts =
+    ap (λ (c : Context). kind_there c known.columns p) context ∙ ap (λ (k : Facts). kind_there (context_of t) k.columns p) facts ∙ kind_known t f p fits
+
+-- as many columns as its context counts
+pub told_columns : (t : Talk) (f : Facts) → Fits t → (context_of t).spot ≡ spots.Rows → (context_of t).columns ≡ length (facts_by (packets_of t) f).columns
+told_columns t f fits e = let w = at_rows t fits e in w.all ∙ ap length (sym (w.known f))

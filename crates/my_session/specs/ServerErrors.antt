@@ -28,7 +28,7 @@ error_of _ p = []
 
 -- the ERRs among sets
 abbrev pub errors_in_sets : Sets → List ServerError
-errors_in_sets NoSets = []
+errors_in_sets (NoSets asking) = []
 errors_in_sets (Lone older p status) = errors_in_sets older
 errors_in_sets (Failed older p) = error_onto (err_at false p) (errors_in_sets older)
 errors_in_sets (Heading older head left) = errors_in_sets older

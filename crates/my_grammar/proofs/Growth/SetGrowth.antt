@@ -11,7 +11,7 @@ use Rattle.my_grammar.specs.declared.login.Login.{Login}
 use Rattle.my_grammar.specs.Contexts.{more, spot_after, columns_after, kept_after, is_bad}
 use Rattle.my_grammar.specs.Growth.{replies, not_greets, described_after}
 use Rattle.my_grammar.specs.Kinds.{head_kind, column_kind, columns_end_kind, row_kind, kind_by}
-use Rattle.my_grammar.specs.Sets.{SetHead, Sets, NoSets, Lone, Failed as FailedSet, Heading, Headed, Begun, Ended, Broken, Packet, each, at_most_one, head_packets, packets_in, spot_in, columns_in, asking_in, rows_in, head_columns, described_in, with_column_of, with_error, grow_sets}
+use Rattle.my_grammar.specs.Sets.{SetHead, Sets, NoSets, Lone, Failed as FailedSet, Heading, Headed, Begun, Ended, Broken, Packet, each, at_most_one, head_packets, packets_in, spot_in, columns_in, asking_in, format_in, head_columns, described_in, with_column_of, with_error, grow_sets}
 use Rattle.my_grammar.specs.FitSets.{is_head, IsClose, IsHeading, FitSets}
 use Rattle.my_grammar.proofs.Growth.Known.{is_head_kind, is_column_kind, is_close_kind, is_row_kind, known_head, known_column, known_close, known_row, is_then, head_kind_is, after_head_is, more_cases, idle_bad}
 
@@ -120,7 +120,7 @@ at_close d older head Parameter p e i b f = cc
 at_close d older head Field p e i b f = cc
 at_close d older head Bad p e i b f = cc
 
-at_row : (d : Bool) (older : Sets) (head : SetHead) (rows : List (List ℕ)) (k : Kind) (p : List ℕ) → row_kind (rows_in older) d head.number (head_columns head) p ≡ k → is_row_kind k ≡ true → is_bad k ≡ false → FitSets d (Begun older head rows) → GrowsSets d (Begun older head rows) k p
+at_row : (d : Bool) (older : Sets) (head : SetHead) (rows : List (List ℕ)) (k : Kind) (p : List ℕ) → row_kind (format_in older) d head.number (head_columns head) p ≡ k → is_row_kind k ≡ true → is_bad k ≡ false → FitSets d (Begun older head rows) → GrowsSets d (Begun older head rows) k p
 at_row d older head rows (Greets c) p e i b f = cc
 at_row d older head rows (Good status) p e i b f = cc
 at_row d older head rows Failed p e i b f = record { grown = record { other = refl; spot = refl; columns = refl; asking = refl; described = refl; packets_are = refl; fits = (f.0, e, f.1) } }
@@ -137,14 +137,14 @@ at_row d older head rows Field p e i b f = cc
 at_row d older head rows Bad p e i b f = cc
 
 -- after a set that another may follow
-at_more : (d : Bool) (x : Sets) (status : StatusFlags) (k : Kind) (p : List ℕ) → spot_in x ≡ more status → kind_by (spot_in x) (rows_in x) d (columns_in x) (described_in x) p ≡ k → is_bad k ≡ false → FitSets d x → GrowsSets d x k p
+at_more : (d : Bool) (x : Sets) (status : StatusFlags) (k : Kind) (p : List ℕ) → spot_in x ≡ more status → kind_by (spot_in x) (format_in x) d (columns_in x) (described_in x) p ≡ k → is_bad k ≡ false → FitSets d x → GrowsSets d x k p
 at_more d x status k p is e b f =
     elim (more_cases status) [
       | inl further ↦
           let h : is_head (spot_in x) ≡ true = subst (λ s. is_head s ≡ true) (sym (is ∙ further)) refl in
-          let e' = sym (head_kind_is (spot_in x) (rows_in x) d (columns_in x) (described_in x) p h) ∙ e in
+          let e' = sym (head_kind_is (spot_in x) (format_in x) d (columns_in x) (described_in x) p h) ∙ e in
           at_head d x k p h e' (is_then is_head_kind (head_kind p) k (known_head p) e') b f
-      | inr idle ↦ let bad = idle_bad (spot_in x) (rows_in x) d (columns_in x) (described_in x) p k (is ∙ idle) e in absurd (never k bad b)
+      | inr idle ↦ let bad = idle_bad (spot_in x) (format_in x) d (columns_in x) (described_in x) p k (is ∙ idle) e in absurd (never k bad b)
     ]
   where
     never : (k : Kind) → k ≡ Bad → is_bad k ≡ false → ⊥
@@ -154,13 +154,13 @@ at_more d x status k p is e b f =
 pub none : (k : Kind) → Bad ≡ k → is_bad k ≡ false → ⊥
 none k bad b = let h : is_bad Bad ≡ false = subst (λ k. is_bad k ≡ false) (sym bad) b in cc
 
-pub grows_sets : (d : Bool) (x : Sets) (k : Kind) (p : List ℕ) → kind_by (spot_in x) (rows_in x) d (columns_in x) (described_in x) p ≡ k → is_bad k ≡ false → FitSets d x → GrowsSets d x k p
+pub grows_sets : (d : Bool) (x : Sets) (k : Kind) (p : List ℕ) → kind_by (spot_in x) (format_in x) d (columns_in x) (described_in x) p ≡ k → is_bad k ≡ false → FitSets d x → GrowsSets d x k p
 grows_sets d (NoSets asking) k p e b f = at_head d (NoSets asking) k p refl e (is_then is_head_kind (head_kind p) k (known_head p) e) b f
 grows_sets d (Lone older q status) k p e b f = at_more d (Lone older q status) status k p refl e b f
 grows_sets d (FailedSet older q) k p e b f = absurd (none k e b)
 grows_sets d (Heading older head left) k p e b f = at_column d older head left k p e (is_then is_column_kind (column_kind p) k (known_column p) e) b f
 grows_sets d (Headed older head) k p e b f = at_close d older head k p e (is_then is_close_kind (columns_end_kind p) k (known_close p) e) b f
-grows_sets d (Begun older head rows) k p e b f = at_row d older head rows k p e (is_then is_row_kind (row_kind (rows_in older) d head.number (head_columns head) p) k (known_row (rows_in older) d head.number (head_columns head) p) e) b f
+grows_sets d (Begun older head rows) k p e b f = at_row d older head rows k p e (is_then is_row_kind (row_kind (format_in older) d head.number (head_columns head) p) k (known_row (format_in older) d head.number (head_columns head) p) e) b f
 grows_sets d (Ended older head rows last status) k p e b f = at_more d (Ended older head rows last status) status k p refl e b f
 grows_sets d (Broken older head rows last) k p e b f = absurd (none k e b)
 

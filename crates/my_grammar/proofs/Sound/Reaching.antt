@@ -10,7 +10,7 @@ use Rattle.my_grammar.specs.declared.spot.Kind.{Kind}
 use Rattle.my_grammar.specs.declared.spot.Kind.TheVariants.{Greets, Good, Failed, Count, Column, ColumnsDone, Row, End}
 use Rattle.my_grammar.specs.declared.spot.Terms.{Terms}
 use Rattle.my_grammar.specs.Kinds.{head_kind, columns_end_kind, kind_by}
-use Rattle.my_grammar.specs.Sets.{SetHead, Sets, NoSets, Lone, Failed as FailedSet, Heading, Headed, Begun, Ended, Broken, Packet, each, at_most_one, head_packets, packets_in, spot_in, columns_in, rows_in, described_in}
+use Rattle.my_grammar.specs.Sets.{SetHead, Sets, NoSets, Lone, Failed as FailedSet, Heading, Headed, Begun, Ended, Broken, Packet, each, at_most_one, head_packets, packets_in, spot_in, columns_in, format_in, described_in}
 use Rattle.my_grammar.specs.FitSets.{is_head, IsClose, IsHeading, IsBegun, FitSets}
 use Rattle.my_grammar.specs.Talk.{Talk, Start, Unwelcome, Greeted, Settled, Asked, Replied, Queried, Preparing, Silent, Fits}
 use Rattle.my_grammar.proofs.Growth.Known.{is_head_kind, known_head, is_then, head_kind_is}
@@ -33,8 +33,8 @@ queried_fits : {terms : Terms} {c : List ℕ} {x : Sets} → Stands terms c x �
 queried_fits w = record { kinds = w.fits; within = w.within }
 
 -- a head's payload is known by its place
-in_place : (x : Sets) (d : Bool) (p : List ℕ) (k : Kind) → is_head (spot_in x) ≡ true → head_kind p ≡ k → kind_by (spot_in x) (rows_in x) d (columns_in x) (described_in x) p ≡ k
-in_place x d p k h e = head_kind_is (spot_in x) (rows_in x) d (columns_in x) (described_in x) p h ∙ e
+in_place : (x : Sets) (d : Bool) (p : List ℕ) (k : Kind) → is_head (spot_in x) ≡ true → head_kind p ≡ k → kind_by (spot_in x) (format_in x) d (columns_in x) (described_in x) p ≡ k
+in_place x d p k h e = head_kind_is (spot_in x) (format_in x) d (columns_in x) (described_in x) p h ∙ e
 
 lone_stands : (terms : Terms) (c : List ℕ) (older : Sets) (p : List ℕ) (status : StatusFlags) → Stands terms c older → is_head (spot_in older) ≡ true → head_kind p ≡ Good status → length p ≤ terms.limit → Stands terms c (Lone older p status)
 lone_stands terms c older p status w h e short = record {

@@ -376,7 +376,7 @@ is_heading spots.Rows = true
 is_heading s = false
 
 heading_sets : (x : Sets) → is_first x ≡ true → is_heading (spot_in x) ≡ true
-heading_sets NoSets e = refl
+heading_sets (NoSets asking) e = refl
 heading_sets (Lone older p status) e = cc
 heading_sets (Failed older p) e = cc
 heading_sets (Heading older head left) e = refl

@@ -6,7 +6,7 @@ use Rattle.my_command.specs.Client.Packet.{client_bytes as packet_bytes}
 use Rattle.my_grammar.specs.declared.spot.Spot.{Spot}
 use Rattle.my_grammar.specs.declared.spot.Spot.TheVariants as spots
 use Rattle.my_grammar.specs.Talk.{Talk, Queried, Asked, Silent}
-use Rattle.my_grammar.specs.Sets.{NoSets}
+use Rattle.my_grammar.specs.Sets.{ByText, NoSets}
 use Rattle.my_reading.specs.declared.call.CallKind.{CallKind}
 use Rattle.my_reading.specs.declared.call.CallKind.TheVariants.{Connect, Query, NextRow, DropResult, TakeSet, SkipTaken, Ping, Quit}
 use Rattle.my_session.specs.declared.task.Task.{Task}
@@ -30,7 +30,7 @@ begins_if s c u talk false n e = record { fits = (n, e); is_on = record { login 
 
 asked_fits : (s : Seen) (c : CallKind) → asks c ≡ true → MoveFits (Some c) s (asked s c (command_of (next_terms s) (call_of c s.text)))
 asked_fits s Connect a = cc
-asked_fits s Query a = begins_if s (Some Query) (Own Query) (Queried (next_terms s) (packet_bytes (packets.Query s.text)) NoSets) _ refl refl
+asked_fits s Query a = begins_if s (Some Query) (Own Query) (Queried (next_terms s) (packet_bytes (packets.Query s.text)) (NoSets ByText)) _ refl refl
 asked_fits s NextRow a = cc
 asked_fits s DropResult a = cc
 asked_fits s TakeSet a = cc

@@ -196,9 +196,9 @@ reacted_fits : (s n : Seen) (p : List ℕ) (r : Reaction) → IsOn s n → n.tas
 reacted_fits s n p (reactions.Goes t) l e a f = record { fits = f; is_on = on_task s n t n.untold l; own = λ _. tt }
 reacted_fits s n p (reactions.Readies untold) l e a f = record { fits = f; is_on = on_task s n Nothing untold l; own = λ _. tt }
 reacted_fits s n p reactions.Takes l e a f = record { fits = f; is_on = on_taken s (with_task n Nothing true) (on_task s n Nothing true l); own = λ _. tt }
-reacted_fits s n p reactions.Gives l e a f = gave_fits s n (kind_in s.task) (row_at s.facts.columns p) l f
+reacted_fits s n p reactions.Gives l e a f = gave_fits s n (kind_in s.task) (row_at s.context.rows s.facts.columns p) l f
 reacted_fits s n p reactions.Ends l e a f = record { fits = f; is_on = on_task s n Nothing n.untold l; own = λ _. tt }
-reacted_fits s n p reactions.PassesRow l e a f = passed_fits s n (row_at s.facts.columns p) l e a f
+reacted_fits s n p reactions.PassesRow l e a f = passed_fits s n (row_at s.context.rows s.facts.columns p) l e a f
 reacted_fits s n p reactions.PassesEnd l e a f = record { fits = same_task s n e a f; is_on = l; own = λ _. tt }
 reacted_fits s n p reactions.Refuses l e a f = refused_fits s n (kind_in s.task) (err_at _ p) l
 reacted_fits s n p reactions.Breaks l e a f = failed_fits s (invalid_data s.facts.place) (kind_in s.task) (λ _. tt)
@@ -218,4 +218,4 @@ waiting_fits s false c ended n e = record { fits = (n, e); is_on = on_here s; ow
 pub reading_fits : (s : Seen) (f : Front) → is_proper s.task ≡ true → is_begun s.task ≡ false → fault_in s.task ≡ None → MoveFits (kind_in s.task) s (reading s f)
 reading_fits s Waiting a n e = waiting_fits s s.ended (kind_in s.task) refl n e
 reading_fits s (Broken fault) a n e = failed_fits s _ (kind_in s.task) (λ _. tt)
-reading_fits s (Whole p rest next) a n e = kind_fits s p rest next (kind_there s.context p) (is_breaking (react s.task (kind_there s.context p))) a
+reading_fits s (Whole p rest next) a n e = kind_fits s p rest next (kind_there s.context s.facts.columns p) (is_breaking (react s.task (kind_there s.context s.facts.columns p))) a

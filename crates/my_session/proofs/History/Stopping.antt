@@ -78,7 +78,7 @@ stopped t bytes f at e open_still =
 
 -- an ERR ends an exchange
 error_ends : (x : Sets) (p : List ℕ) → is_idle (spot_in (with_error x p)) ≡ true
-error_ends NoSets p = refl
+error_ends (NoSets asking) p = refl
 error_ends (Lone older q status) p = refl
 error_ends (sets.Failed older q) p = refl
 error_ends (Heading older head left) p = refl

@@ -121,7 +121,7 @@ module _ (s : Seen) (call : Call) (p : Place) (o : OpenAt s call (parts_left s.l
   -- what the machine makes of the payload in front is what the reading makes of it, where it is so for whole payloads
   module _ (part : Part) (parts : List Part) (t : Task) (task : s.task ≡ t) (it : step s.login call (part ∷ parts) p ≡ reads s.login part parts p)
       (each : (payload rest : List ℕ) (next : ℕ) → front_at s.number s.context.terms.limit s.unread ≡ Whole payload rest next → IsWhole s.number s.context.terms.limit s.unread payload rest next
-      → (k : Kind) → kind_there s.context payload ≡ k → MoveReads s call (part ∷ parts) p (cond (is_breaking (react t k)) (failed_by s (invalid_data s.facts.place))
+      → (k : Kind) → kind_there s.context s.facts.columns payload ≡ k → MoveReads s call (part ∷ parts) p (cond (is_breaking (react t k)) (failed_by s (invalid_data s.facts.place))
       (unless_above s (above s.context.terms.limit (reply_to s.login k payload)) (reacted s (advanced s k payload rest next) payload (react t k)))))
       (left : part ∷ parts ≡ parts_left s.login s.task) where
     at_front : (f : Front) → front_at s.number s.context.terms.limit s.unread ≡ f → step s.login call (part ∷ parts) p ≡ with_front s.login part parts p f
@@ -158,9 +158,9 @@ module _ (s : Seen) (call : Call) (p : Place) (o : OpenAt s call (parts_left s.l
     }
     by_front (Whole payload rest next) e =
         let whole = whole_stands s.number s.context.terms.limit s.unread payload rest next bytes e in
-        subst (λ (u : Task). MoveReads s call (part ∷ parts) p (cond (is_breaking (react u (kind_there s.context payload))) (failed_by s (invalid_data s.facts.place))
-        (unless_above s (above s.context.terms.limit (reply_to s.login (kind_there s.context payload) payload)) (reacted s (advanced s (kind_there s.context payload) payload rest next) payload (react u (kind_there s.context payload))))))
-        (sym task) (each payload rest next e whole (kind_there s.context payload) refl)
+        subst (λ (u : Task). MoveReads s call (part ∷ parts) p (cond (is_breaking (react u (kind_there s.context s.facts.columns payload))) (failed_by s (invalid_data s.facts.place))
+        (unless_above s (above s.context.terms.limit (reply_to s.login (kind_there s.context s.facts.columns payload) payload)) (reacted s (advanced s (kind_there s.context s.facts.columns payload) payload rest next) payload (react u (kind_there s.context s.facts.columns payload))))))
+        (sym task) (each payload rest next e whole (kind_there s.context s.facts.columns payload) refl)
 
     reads_front : MoveReads s call (part ∷ parts) p (planned s plans.Reads)
     reads_front = by_front (front_at s.number s.context.terms.limit s.unread) refl

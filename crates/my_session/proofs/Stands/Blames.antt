@@ -9,6 +9,7 @@ use Rattle.my_grammar.specs.declared.spot.Kind.TheVariants as kinds
 use Rattle.my_grammar.specs.declared.spot.Spot.TheVariants as spots
 use Rattle.my_grammar.specs.Cut.{kind_of}
 use Rattle.my_grammar.specs.Growth.{grow}
+use Rattle.my_grammar.specs.declared.spot.RowFormat.TheVariants.{Text}
 use Rattle.my_grammar.specs.Kinds.{kind_by}
 use Rattle.my_grammar.specs.Prepares.{PreparedHead, Described, Reply, Unanswered, Refused, InParameters, AfterParameters, InFields, AfterFields, Complete, spot_in_reply, open_part, closed_part, with_parameters, with_head, with_parameter, with_field, with_part_end, grow_reply}
 use Rattle.my_grammar.specs.Sets.{SetHead, Sets, NoSets, Lone, Failed, Heading, Headed, Begun, Ended, Broken, grow_sets, with_column, with_column_of, with_close, with_row, with_end, spot_in}
@@ -27,7 +28,7 @@ column_blames_if false true older head left p = refl
 column_blames_if d false older head left p = refl
 
 column_blames : (d : Bool) (x : Sets) (p : List ℕ) → errors_in_sets (with_column d x p) ≡ errors_in_sets x
-column_blames d NoSets p = refl
+column_blames d (NoSets asking) p = refl
 column_blames d (Lone older q status) p = refl
 column_blames d (Failed older q) p = refl
 column_blames d (Heading older head left) p = column_blames_if d (leb left 1) older head (left - 1) p
@@ -37,7 +38,7 @@ column_blames d (Ended older head rows last status) p = refl
 column_blames d (Broken older head rows last) p = refl
 
 close_blames : (x : Sets) (p : List ℕ) → errors_in_sets (with_close x p) ≡ errors_in_sets x
-close_blames NoSets p = refl
+close_blames (NoSets asking) p = refl
 close_blames (Lone older q status) p = refl
 close_blames (Failed older q) p = refl
 close_blames (Heading older head left) p = refl
@@ -47,7 +48,7 @@ close_blames (Ended older head rows last status) p = refl
 close_blames (Broken older head rows last) p = refl
 
 row_blames : (x : Sets) (p : List ℕ) → errors_in_sets (with_row x p) ≡ errors_in_sets x
-row_blames NoSets p = refl
+row_blames (NoSets asking) p = refl
 row_blames (Lone older q status) p = refl
 row_blames (Failed older q) p = refl
 row_blames (Heading older head left) p = refl
@@ -57,7 +58,7 @@ row_blames (Ended older head rows last status) p = refl
 row_blames (Broken older head rows last) p = refl
 
 end_blames : (x : Sets) (p : List ℕ) (status : StatusFlags) → errors_in_sets (with_end x p status) ≡ errors_in_sets x
-end_blames NoSets p status = refl
+end_blames (NoSets asking) p status = refl
 end_blames (Lone older q s) p status = refl
 end_blames (Failed older q) p status = refl
 end_blames (Heading older head left) p status = refl
@@ -191,7 +192,7 @@ calm_blames k (Silent terms c) p e = refl
 
 -- an ERR among sets
 failed_sets : (x : Sets) (p : List ℕ) → errors_in_sets (sets.with_error x p) ≡ error_onto (err_at false p) (errors_in_sets x)
-failed_sets NoSets p = refl
+failed_sets (NoSets asking) p = refl
 failed_sets (Lone older q status) p = refl
 failed_sets (Failed older q) p = refl
 failed_sets (Heading older head left) p = refl
@@ -205,7 +206,7 @@ not_greeting_if true = refl
 not_greeting_if false = refl
 
 sets_greet : (x : Sets) → is_greeting (spot_in x) ≡ false
-sets_greet NoSets = refl
+sets_greet (NoSets asking) = refl
 sets_greet (Lone older q status) = not_greeting_if (has_more_results status)
 sets_greet (Failed older q) = refl
 sets_greet (Heading older head left) = refl
@@ -214,7 +215,7 @@ sets_greet (Begun older head rows) = refl
 sets_greet (Ended older head rows last status) = not_greeting_if (has_more_results status)
 sets_greet (Broken older head rows last) = refl
 
-failed_reply : (d : Bool) (r : Reply) (p : List ℕ) → kind_by (spot_in_reply r) d 0 p ≡ kinds.Failed → error_onto (err_at false p) [] ≡ error_onto (err_at (is_greeting (spot_in_reply r)) p) (errors_in_reply r)
+failed_reply : (d : Bool) (r : Reply) (p : List ℕ) → kind_by (spot_in_reply r) Text d 0 [] p ≡ kinds.Failed → error_onto (err_at false p) [] ≡ error_onto (err_at (is_greeting (spot_in_reply r)) p) (errors_in_reply r)
 failed_reply d Unanswered p e = refl
 failed_reply d (Refused q) p e = cc
 failed_reply d (InParameters head ps left) p e = refl

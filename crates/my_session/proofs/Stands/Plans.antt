@@ -46,7 +46,7 @@ use Rattle.my_session.proofs.Stands.Views.{given_all}
 
 -- the end of a lone OK is all that wasn't given
 lone_groups : (x : Sets) → is_lone x ≡ true → with_stop (groups (known_part true x)) ≡ groups x
-lone_groups NoSets e = cc
+lone_groups (NoSets asking) e = cc
 lone_groups (Lone older p status) e = refl
 lone_groups (Failed older p) e = cc
 lone_groups (Heading older head left) e = cc
@@ -60,7 +60,7 @@ lone_if true = refl
 lone_if false = refl
 
 lone_sets : (terms : Terms) (x : Sets) → is_lone x ≡ true → is_settled (context_in terms x).spot ≡ true
-lone_sets terms NoSets e = cc
+lone_sets terms (NoSets asking) e = cc
 lone_sets terms (Lone older p status) e = lone_if (has_more_results status)
 lone_sets terms (Failed older p) e = cc
 lone_sets terms (Heading older head left) e = cc
@@ -101,14 +101,14 @@ module _ (s : Seen) (h : History) (st : Stands s h) (open_still : s.closed ≡ f
   by_length None m k = k
   by_length (Some len) m k = fails (codec_error _) (λ c. refl)
 
-  by_kind : (p rest : List ℕ) (n : ℕ) → IsWhole s.number s.context.terms.limit s.unread p rest n → (is_reader s.task ≡ true → s.untold ≡ false) → (k : Kind) → kind_there s.context p ≡ k → (breaks : Bool) → is_breaking (react s.task k) ≡ breaks → Keeps (cond breaks (failed_by s (invalid_data s.facts.place)) (read_by s (advanced s k p rest n) p (react s.task k) (reply_to s.login k p))) h
+  by_kind : (p rest : List ℕ) (n : ℕ) → IsWhole s.number s.context.terms.limit s.unread p rest n → (is_reader s.task ≡ true → s.untold ≡ false) → (k : Kind) → kind_there s.context s.facts.columns p ≡ k → (breaks : Bool) → is_breaking (react s.task k) ≡ breaks → Keeps (cond breaks (failed_by s (invalid_data s.facts.place)) (read_by s (advanced s k p rest n) p (react s.task k) (reply_to s.login k p))) h
   by_kind p rest n whole told k e true b = fails (invalid_data s.facts.place) (λ c. refl)
   by_kind p rest n whole told k e false b = by_length (above s.context.terms.limit (reply_to s.login k p)) (reacted s (advanced s k p rest n) p (react s.task k)) (react_keeps s h st open_still nothing op p rest n whole s.task refl st.heard told k e b)
 
   by_front : AreBytes s.unread → (is_reader s.task ≡ true → s.untold ≡ false) → (f : Front) → front_at s.number s.context.terms.limit s.unread ≡ f → Keeps (reading s f) h
   by_front bytes told Waiting e = waits s.ended
   by_front bytes told (Broken fault) e = fails (codec_error fault) (λ c. refl)
-  by_front bytes told (Whole p rest n) e = by_kind p rest n (whole_stands s.number s.context.terms.limit s.unread p rest n bytes e) told (kind_there s.context p) refl (is_breaking (react s.task (kind_there s.context p))) refl
+  by_front bytes told (Whole p rest n) e = by_kind p rest n (whole_stands s.number s.context.terms.limit s.unread p rest n bytes e) told (kind_there s.context s.facts.columns p) refl (is_breaking (react s.task (kind_there s.context s.facts.columns p))) refl
 
   reads : AreBytes s.unread → (is_reader s.task ≡ true → s.untold ≡ false) → Keeps (planned s plans.Reads) h
   reads bytes told = by_front bytes told (front_at s.number s.context.terms.limit s.unread) refl

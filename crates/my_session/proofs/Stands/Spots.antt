@@ -8,6 +8,8 @@ use Rattle.my_grammar.specs.declared.spot.Kind.TheVariants.{Greets, Good, Failed
 use Rattle.my_grammar.specs.declared.spot.Spot.{Spot}
 use Rattle.my_grammar.specs.declared.spot.Spot.TheVariants as spots
 use Rattle.my_grammar.specs.Contexts.{is_bad, more, spot_after, after_columns}
+use Rattle.my_reply.specs.declared.column.Column.{Column}
+use Rattle.my_grammar.specs.declared.spot.RowFormat.{RowFormat}
 use Rattle.my_grammar.specs.Kinds.{kind_by, greeting_kind, single_kind, head_kind, column_kind, columns_end_kind, row_kind, prepare_kind, parameter_kind, field_kind}
 use Rattle.my_grammar.proofs.Growth.Known.{is_greeting_kind, is_single_kind, is_head_kind, is_column_kind, is_close_kind, is_row_kind, is_prepare_kind, is_parameter_kind, is_field_kind, known_greeting, known_single, known_head, known_column, known_close, known_row, known_prepare, known_parameter, known_field, is_then}
 use Rattle.my_session.specs.Machine.{is_greeting}
@@ -31,21 +33,21 @@ is_known (spots.ParametersEnd columns) k = is_close_kind k
 is_known (spots.Fields left) k = is_field_kind k
 is_known spots.FieldsEnd k = is_close_kind k
 
-pub known : (s : Spot) (d : Bool) (n : ℕ) (p : List ℕ) (k : Kind) → kind_by s d n p ≡ k → is_known s k ≡ true
-known spots.Idle d n p k e = ap is_bad (sym e)
-known spots.Greeting d n p k e = is_then is_greeting_kind (greeting_kind p) k (known_greeting p) e
-known spots.Authentication d n p k e = is_then is_single_kind (single_kind p) k (known_single p) e
-known spots.Single d n p k e = is_then is_single_kind (single_kind p) k (known_single p) e
-known spots.Head d n p k e = is_then is_head_kind (head_kind p) k (known_head p) e
-known spots.Further d n p k e = is_then is_head_kind (head_kind p) k (known_head p) e
-known (spots.Columns left) d n p k e = is_then is_column_kind (column_kind p) k (known_column p) e
-known spots.ColumnsEnd d n p k e = is_then is_close_kind (columns_end_kind p) k (known_close p) e
-known spots.Rows d n p k e = is_then is_row_kind (row_kind d n p) k (known_row d n p) e
-known spots.Prepare d n p k e = is_then is_prepare_kind (prepare_kind p) k (known_prepare p) e
-known (spots.Parameters left columns) d n p k e = is_then is_parameter_kind (parameter_kind p) k (known_parameter p) e
-known (spots.ParametersEnd columns) d n p k e = is_then is_close_kind (columns_end_kind p) k (known_close p) e
-known (spots.Fields left) d n p k e = is_then is_field_kind (field_kind p) k (known_field p) e
-known spots.FieldsEnd d n p k e = is_then is_close_kind (columns_end_kind p) k (known_close p) e
+pub known : (s : Spot) (f : RowFormat) (d : Bool) (n : ℕ) (cs : List Column) (p : List ℕ) (k : Kind) → kind_by s f d n cs p ≡ k → is_known s k ≡ true
+known spots.Idle f d n cs p k e = ap is_bad (sym e)
+known spots.Greeting f d n cs p k e = is_then is_greeting_kind (greeting_kind p) k (known_greeting p) e
+known spots.Authentication f d n cs p k e = is_then is_single_kind (single_kind p) k (known_single p) e
+known spots.Single f d n cs p k e = is_then is_single_kind (single_kind p) k (known_single p) e
+known spots.Head f d n cs p k e = is_then is_head_kind (head_kind p) k (known_head p) e
+known spots.Further f d n cs p k e = is_then is_head_kind (head_kind p) k (known_head p) e
+known (spots.Columns left) f d n cs p k e = is_then is_column_kind (column_kind p) k (known_column p) e
+known spots.ColumnsEnd f d n cs p k e = is_then is_close_kind (columns_end_kind p) k (known_close p) e
+known spots.Rows f d n cs p k e = is_then is_row_kind (row_kind f d n cs p) k (known_row f d n cs p) e
+known spots.Prepare f d n cs p k e = is_then is_prepare_kind (prepare_kind p) k (known_prepare p) e
+known (spots.Parameters left columns) f d n cs p k e = is_then is_parameter_kind (parameter_kind p) k (known_parameter p) e
+known (spots.ParametersEnd columns) f d n cs p k e = is_then is_close_kind (columns_end_kind p) k (known_close p) e
+known (spots.Fields left) f d n cs p k e = is_then is_field_kind (field_kind p) k (known_field p) e
+known spots.FieldsEnd f d n cs p k e = is_then is_close_kind (columns_end_kind p) k (known_close p) e
 
 -- a row, or a set's end, comes among rows
 pub row_spot : (s : Spot) → is_known s Row ≡ true → s ≡ spots.Rows

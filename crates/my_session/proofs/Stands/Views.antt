@@ -13,7 +13,7 @@ use Rattle.my_grammar.specs.FitSets.{FitSets, AreColumns, IsBegun}
 use Rattle.my_grammar.specs.Growth.{grow}
 use Rattle.my_grammar.specs.Kinds.{head_kind, described_kind}
 use Rattle.my_grammar.specs.declared.packet.Packet.{Packet}
-use Rattle.my_grammar.specs.Sets.{SetHead, Sets, NoSets, Lone, Failed, Heading, Headed, Begun, Ended, Broken, each, at_most_one, head_packets, packets_in, grow_sets, with_column, with_column_of, with_close}
+use Rattle.my_grammar.specs.Sets.{SetHead, Sets, NoSets, Lone, Failed, Heading, Headed, Begun, Ended, Broken, format_in, head_columns, grow_sets, with_column, with_column_of, with_close}
 use Rattle.my_grammar.specs.Prepares.{Reply, Unanswered, Refused, InParameters, AfterParameters, InFields, AfterFields, Complete, spot_in_reply}
 use Rattle.my_grammar.specs.Talk.{Talk, Start, Unwelcome, Greeted, Settled, Asked, Replied, Queried, Preparing, Silent, packets_of, context_of, Fits}
 use Rattle.my_grammar.proofs.Growth.Known.{is_head_kind, known_head, is_then}
@@ -21,8 +21,9 @@ use Rattle.my_value.specs.RowParts.{RowParts}
 use Rattle.my_reading.specs.declared.facts.Facts.{Facts}
 use Rattle.my_session.specs.Entries.{sets_of, ends_with_ok, IsGiven}
 use Rattle.my_reading.specs.Facts.{counted, with_column as column_told, facts_by}
-use Rattle.my_session.specs.Groups.{Group, groups, with_item, with_items, with_stop, columns_in_order, column_list, head_columns, IsEarlier}
+use Rattle.my_session.specs.Groups.{Group, groups, with_item, with_items, with_stop, IsEarlier}
 use Rattle.my_reading.specs.Rows.{row_at, row_or}
+use Rattle.my_reading.proofs.Described.{at_rows, not_rows, reply_not_rows}
 use Rattle.my_session.specs.Stands.{is_lone, known_part}
 
 same_terms : (k : Kind) (t : Talk) (p : List ℕ) (y : Sets) → IsEarlier (ends_with_ok t) y (sets_of t) → IsEarlier (ends_with_ok (grow k t p)) y (sets_of (grow k t p))
@@ -92,20 +93,7 @@ not_head : (t : Bool) → cond t spots.Further spots.Idle ≡ spots.Head → ⊥
 not_head true e = cc
 not_head false e = cc
 
-pub not_rows : (t : Bool) → cond t spots.Further spots.Idle ≡ spots.Rows → ⊥
-not_rows true e = cc
-not_rows false e = cc
-
--- in a reply to a statement to prepare no row and no further set is awaited
-pub reply_not_rows : (r : Reply) → spot_in_reply r ≡ spots.Rows → ⊥
-reply_not_rows Unanswered e = cc
-reply_not_rows (Refused p) e = cc
-reply_not_rows (InParameters head ps left) e = cc
-reply_not_rows (AfterParameters head ps) e = cc
-reply_not_rows (InFields head w ps left) e = cc
-reply_not_rows (AfterFields head w ps) e = cc
-reply_not_rows (Complete head w v) e = cc
-
+-- in a reply to a statement to prepare no further set is awaited
 reply_not_further : (r : Reply) → spot_in_reply r ≡ spots.Further → ⊥
 reply_not_further Unanswered e = cc
 reply_not_further (Refused p) e = cc
@@ -122,7 +110,7 @@ column_groups_if false true older head left p = refl
 column_groups_if d false older head left p = refl
 
 column_groups : (d : Bool) (x : Sets) (p : List ℕ) → groups (with_column d x p) ≡ groups x
-column_groups d NoSets p = refl
+column_groups d (NoSets asking) p = refl
 column_groups d (Lone older q status) p = refl
 column_groups d (Failed older q) p = refl
 column_groups d (Heading older head left) p = column_groups_if d (leb left 1) older head (left - 1) p
@@ -132,7 +120,7 @@ column_groups d (Ended older head rows last status) p = refl
 column_groups d (Broken older head rows last) p = refl
 
 close_groups : (x : Sets) (p : List ℕ) → groups (with_close x p) ≡ groups x
-close_groups NoSets p = refl
+close_groups (NoSets asking) p = refl
 close_groups (Lone older q status) p = refl
 close_groups (Failed older q) p = refl
 close_groups (Heading older head left) p = refl
@@ -198,7 +186,7 @@ end_groups (Greeted login q c) p status e = cc
 end_groups (Settled login q c last kind) p status e = cc
 end_groups (Asked terms c) p status e = cc
 end_groups (Replied terms c last kind) p status e = cc
-end_groups (Queried terms c NoSets) p status e = cc
+end_groups (Queried terms c (NoSets asking)) p status e = cc
 end_groups (Queried terms c (Lone older q s)) p status e = absurd (not_rows (has_more_results s) e)
 end_groups (Queried terms c (Failed older q)) p status e = cc
 end_groups (Queried terms c (Heading older head left)) p status e = cc
@@ -243,97 +231,23 @@ known_further (Queried terms c x) p status e = refl
 known_further (Preparing terms c reply) p status e = absurd (reply_not_further reply e)
 known_further (Silent terms c) p status e = cc
 
--- the columns that are known are those of the head
-pub column_there : (o : Option AnyColumn) → described_kind kinds.Column o ≡ kinds.Column → (c : AnyColumn) × (o ≡ Some c)
-column_there None e = cc
-column_there (Some c) e = (c, refl)
-
--- what is known of the columns while a head is read: left of them are awaited, and these were gathered
-record Gathers (f : Facts) (left : ℕ) (columns : List AnyColumn) : Type 0 where
-  left_is : f.left ≡ left
-  gathered_is : f.gathered ≡ columns
-
--- a head with this column, whole or not
-abbrev whole_by : Facts → AnyColumn → Facts
-whole_by f c = record { version = f.version; connection = f.connection; status = f.status; ok = f.ok; left = 0; gathered = []; columns = f.gathered ++ c ∷ []; settings = f.settings; place = f.place }
-
-abbrev part_by : Facts → AnyColumn → Facts
-part_by f c = record { version = f.version; connection = f.connection; status = f.status; ok = f.ok; left = f.left - 1; gathered = f.gathered ++ c ∷ []; columns = f.columns; settings = f.settings; place = f.place }
-
-joined : (f : Facts) (c : AnyColumn) (ps : List (List ℕ)) (p : List ℕ) → column_at p ≡ Some c → f.gathered ≡ columns_in_order ps → f.gathered ++ c ∷ [] ≡ columns_in_order (p ∷ ps)
-joined f c ps p is g = ap (λ cs. cs ++ c ∷ []) g ∙ ap (λ o. columns_in_order ps ++ column_list o) (sym is)
-
-gathers_if : (last : Bool) (f : Facts) (c : AnyColumn) (ps : List (List ℕ)) (p : List ℕ) (left : ℕ) → column_at p ≡ Some c → leb f.left 1 ≡ last → f.left ≡ left + 1 → 0 < left → f.gathered ≡ columns_in_order ps → Gathers (cond last (whole_by f c) (part_by f c)) left (columns_in_order (p ∷ ps))
-gathers_if true f c ps p left is last l some g = absurd (grind (arith, nat_tests))
-gathers_if false f c ps p left is last l some g = record { left_is = omega arith; gathered_is = joined f c ps p is g }
-
-last_if : (last : Bool) (f : Facts) (c : AnyColumn) (ps : List (List ℕ)) (p : List ℕ) → column_at p ≡ Some c → leb f.left 1 ≡ last → f.left ≡ 1 → f.gathered ≡ columns_in_order ps → (cond {A = Facts} last (whole_by f c) (part_by f c)).columns ≡ columns_in_order (p ∷ ps)
-last_if true f c ps p is last l g = joined f c ps p is g
-last_if false f c ps p is last l g = absurd (grind (arith, nat_tests))
-
-module _ (f : Facts) (count : List ℕ) (number : ℕ) (others : List Packet) where
-  -- the facts after a head's count and some columns
-  abbrev following : List (List ℕ) → Facts
-  following ps = facts_by (each kinds.Column ps (record { kind = kinds.Count number; payload = count } ∷ others)) f
-
-  gathers : (ps : List (List ℕ)) → AreColumns ps → length ps < number → Gathers (following ps) (number - length ps) (columns_in_order ps)
-  gathers [] a less = record { left_is = omega arith; gathered_is = refl }
-  gathers (p ∷ ps) a less =
-      let old = gathers ps a.1 (omega arith) in
-      let c = column_there (column_at p) a.0 in
-      let l = old.left_is in
-      subst (λ (o : Option AnyColumn). Gathers (counted (column_told o (following ps))) (number - length (p ∷ ps)) (columns_in_order (p ∷ ps))) (sym c.1)
-      (counts _ _ _ (gathers_if (leb (following ps).left 1) (following ps) c.0 ps p (number - length (p ∷ ps)) c.1 refl (omega arith) (omega arith) old.gathered_is))
-    where
-      counts : (g : Facts) (left : ℕ) (columns : List AnyColumn) → Gathers g left columns → Gathers (counted g) left columns
-      counts g left columns w = record { left_is = w.left_is; gathered_is = w.gathered_is }
-
-  -- after the last column the set's columns are those of the head
-  all_columns : (ps : List (List ℕ)) → AreColumns ps → length ps ≡ number → 0 < number → (following ps).columns ≡ columns_in_order ps
-  all_columns [] a all some = absurd (omega arith)
-  all_columns (p ∷ ps) a all some =
-      let old = gathers ps a.1 (omega arith) in
-      let c = column_there (column_at p) a.0 in
-      let l = old.left_is in
-      subst (λ (o : Option AnyColumn). (counted (column_told o (following ps))).columns ≡ columns_in_order (p ∷ ps)) (sym c.1)
-      (last_if (leb (following ps).left 1) (following ps) c.0 ps p c.1 refl (omega arith) old.gathered_is)
-
-  -- and stay so while its rows are read
-  closed_columns : (ps : List (List ℕ)) (close : Option (List ℕ)) → AreColumns ps → length ps ≡ number → 0 < number → (facts_by (at_most_one kinds.ColumnsDone close (each kinds.Column ps (record { kind = kinds.Count number; payload = count } ∷ others))) f).columns ≡ columns_in_order ps
-  closed_columns ps None a all some = all_columns ps a all some
-  closed_columns ps (Some q) a all some = all_columns ps a all some
-
-rows_keep : (f : Facts) (rows : List (List ℕ)) (others : List Packet) → (facts_by (each kinds.Row rows others) f).columns ≡ (facts_by others f).columns
-rows_keep f [] others = refl
-rows_keep f (p ∷ ps) others = rows_keep f ps others
-
-some_columns : (count : List ℕ) (n : ℕ) → head_kind count ≡ kinds.Count n → 0 < n
-some_columns count n e = let t : leb 1 n ≡ true = is_then is_head_kind (head_kind count) (kinds.Count n) (known_head count) e in grind (arith, nat_tests)
-
--- while rows are read, the columns that are known are those of the head
-pub row_columns : (d : Bool) (f : Facts) (older : Sets) (head : SetHead) (rows : List (List ℕ)) → IsBegun d older head rows → (facts_by (packets_in (Begun older head rows)) f).columns ≡ head_columns head
-row_columns d f older head rows b =
-    let all = b.heading.all in
-    rows_keep f rows (head_packets head (packets_in older))
-    ∙ closed_columns f head.count head.number (packets_in older) head.columns head.close b.heading.columns (omega arith) (some_columns head.count head.number b.heading.count)
-
 -- a row among rows
-pub row_groups : (t : Talk) (f : Facts) (p : List ℕ) (row : RowParts) → Fits t → (context_of t).spot ≡ spots.Rows → row_at (facts_by (packets_of t) f).columns p ≡ Some row → groups (sets_of (grow kinds.Row t p)) ≡ with_item row (groups (sets_of t))
+pub row_groups : (t : Talk) (f : Facts) (p : List ℕ) (row : RowParts) → Fits t → (context_of t).spot ≡ spots.Rows → row_at (context_of t).rows (facts_by (packets_of t) f).columns p ≡ Some row → groups (sets_of (grow kinds.Row t p)) ≡ with_item row (groups (sets_of t))
 row_groups (Start login) f p row fits e is = cc
 row_groups (Unwelcome login q) f p row fits e is = cc
 row_groups (Greeted login q c) f p row fits e is = cc
 row_groups (Settled login q c last kind) f p row fits e is = cc
 row_groups (Asked terms c) f p row fits e is = cc
 row_groups (Replied terms c last kind) f p row fits e is = cc
-row_groups (Queried terms c NoSets) f p row fits e is = cc
+row_groups (Queried terms c (NoSets asking)) f p row fits e is = cc
 row_groups (Queried terms c (Lone older q s)) f p row fits e is = absurd (not_rows (has_more_results s) e)
 row_groups (Queried terms c (Failed older q)) f p row fits e is = cc
 row_groups (Queried terms c (Heading older head left)) f p row fits e is = cc
 row_groups (Queried terms c (Headed older head)) f p row fits e is = cc
 row_groups (Queried terms c (Begun older head rows)) f p row fits e is =
-    let columns = row_columns (deprecates_eof terms.kept) f older head rows fits.kinds.0 in
-    let here : row_at (head_columns head) p ≡ Some row = ap (λ cs. row_at cs p) (sym columns) ∙ is in
-    ap (λ o. with_item (row_or (head_columns head) o) (with_items (head_columns head) rows (groups older))) here
+    let columns = (at_rows (Queried terms c (Begun older head rows)) fits e).known f in
+    let here : row_at (format_in older) (head_columns head) p ≡ Some row = ap (λ cs. row_at (format_in older) cs p) (sym columns) ∙ is in
+    ap (λ o. with_item (row_or (head_columns head) o) (with_items (format_in older) (head_columns head) rows (groups older))) here
 row_groups (Queried terms c (Ended older head rows last s)) f p row fits e is = absurd (not_rows (has_more_results s) e)
 row_groups (Queried terms c (Broken older head rows last)) f p row fits e is = cc
 row_groups (Preparing terms c reply) f p row fits e is = absurd (reply_not_rows reply e)

@@ -12,6 +12,7 @@ use Rattle.my_grammar.specs.declared.spot.Spot.TheVariants as spots
 use Rattle.my_grammar.specs.declared.spot.Terms.{Terms}
 use Rattle.my_grammar.specs.Contexts.{context_after, is_bad}
 use Rattle.my_grammar.specs.Growth.{grow, replies, not_greets, Grows, Reads, number_next, said}
+use Rattle.my_reading.proofs.Described.{kind_is}
 use Rattle.my_grammar.specs.Kinds.{kind_there}
 use Rattle.my_grammar.specs.Talk.{Talk, Start, Unwelcome, Greeted, Settled, Asked, Replied, Queried, Preparing, Silent, Server, turns, number_of, server_bytes, client_bytes, context_of, packets_of, Fits, origin, login_in, limit_of}
 use Rattle.my_grammar.proofs.Growth.{grows, reads}
@@ -164,13 +165,13 @@ module _ (login : Login) (taken sent : List ℕ) (call : Call) (talk : Talk) (ol
   }
 
   -- a payload within the limit that fits there is one more of the exchange
-  pub talk_grows : (context : Context) (number : ℕ) (unread owed : List ℕ) (closed : Bool) (facts : Facts) (k : Kind) (p rest : List ℕ) (next : ℕ) → kind_there context p ≡ k → is_bad k ≡ false → IsWhole number context.terms.limit unread p rest next → Wire context number unread owed closed facts login taken sent call talk older → Grows talk k p
+  pub talk_grows : (context : Context) (number : ℕ) (unread owed : List ℕ) (closed : Bool) (facts : Facts) (k : Kind) (p rest : List ℕ) (next : ℕ) → kind_there context facts.columns p ≡ k → is_bad k ≡ false → IsWhole number context.terms.limit unread p rest next → Wire context number unread owed closed facts login taken sent call talk older → Grows talk k p
   talk_grows context number unread owed closed facts k p rest next kind good whole w =
       let within : length p ≤ limit_of talk = subst (λ m. length p ≤ m) (ap (λ (c : Context). c.terms.limit) w.context_is ∙ limit_is talk) whole.within in
-      grows talk k p (subst (λ (c : Context). kind_there c p ≡ k) w.context_is kind) good within w.fits
+      grows talk k p (sym (kind_is talk (facts_of login older) context facts p w.fits w.context_is w.facts_are) ∙ kind) good within w.fits
 
   -- a payload is read
-  pub wire_read : (context : Context) (number : ℕ) (unread owed : List ℕ) (closed : Bool) (facts : Facts) (k : Kind) (p rest : List ℕ) (next : ℕ) → closed ≡ false → owed ≡ [] → kind_there context p ≡ k → is_bad k ≡ false → IsWhole number context.terms.limit unread p rest next → Wire context number unread owed closed facts login taken sent call talk older → Wire (context_after context k) (reply_number (reply_to login k p) next) rest (owed ++ reply_bytes (reply_to login k p) next) closed (facts_after k p facts) login taken sent call (grow k talk p) older
+  pub wire_read : (context : Context) (number : ℕ) (unread owed : List ℕ) (closed : Bool) (facts : Facts) (k : Kind) (p rest : List ℕ) (next : ℕ) → closed ≡ false → owed ≡ [] → kind_there context facts.columns p ≡ k → is_bad k ≡ false → IsWhole number context.terms.limit unread p rest next → Wire context number unread owed closed facts login taken sent call talk older → Wire (context_after context k) (reply_number (reply_to login k p) next) rest (owed ++ reply_bytes (reply_to login k p) next) closed (facts_after k p facts) login taken sent call (grow k talk p) older
   wire_read context number unread owed closed facts k p rest next alive nothing kind good whole w =
       let n = number_of (turns talk) in
       let g : Grows talk k p = talk_grows context number unread owed closed facts k p rest next kind good whole w in

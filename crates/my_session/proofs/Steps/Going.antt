@@ -12,7 +12,7 @@ use Rattle.my_grammar.specs.declared.spot.Spot.TheVariants as spots
 use Rattle.my_grammar.specs.declared.spot.Kind.{Kind}
 use Rattle.my_grammar.specs.declared.spot.Kind.TheVariants as kinds
 use Rattle.my_grammar.specs.Kinds.{kind_there}
-use Rattle.my_grammar.specs.Sets.{NoSets}
+use Rattle.my_grammar.specs.Sets.{ByText, NoSets}
 use Rattle.my_grammar.specs.Talk.{Talk, Asked, Queried, Silent, turns, client_bytes}
 use Rattle.my_grammar.proofs.Cutting.Fronts.{takes_whole}
 use Rattle.my_reading.specs.declared.call.CallKind.{CallKind}
@@ -225,9 +225,9 @@ reacted_is s n p (reactions.Goes u) op b g =
     (g.0, omega arith)
 reacted_is s n p (reactions.Readies untold) op b g = refl
 reacted_is s n p reactions.Takes op b g = refl
-reacted_is s n p reactions.Gives op b g = gave_is s n (row_at s.facts.columns p)
+reacted_is s n p reactions.Gives op b g = gave_is s n (row_at s.context.rows s.facts.columns p)
 reacted_is s n p reactions.Ends op b g = refl
-reacted_is s n p reactions.PassesRow op b g = passed_is s n (row_at s.facts.columns p) op b
+reacted_is s n p reactions.PassesRow op b g = passed_is s n (row_at s.context.rows s.facts.columns p) op b
 reacted_is s n p reactions.PassesEnd op b g = same_task s n op b
 reacted_is s n p reactions.Refuses op b g = refused_is s n _
 reacted_is s n p reactions.Breaks op b g = refl
@@ -249,7 +249,7 @@ waiting_is s false e op none at = (op, none, e, at)
 front_is : (s : Seen) (f : Front) → is_open s.task ≡ true → s.owed ≡ [] → front_at s.number s.context.terms.limit s.unread ≡ f → MoveIs s (reading s f).seen (reading s f).does
 front_is s Waiting op none at = waiting_is s s.ended refl op none at
 front_is s (Broken fault) op none at = refl
-front_is s (Whole p rest next) op none at = kind_is s p rest next (kind_there s.context p) (is_breaking (react s.task (kind_there s.context p))) op (takes_whole s.number s.context.terms.limit s.unread p rest next at).shorter
+front_is s (Whole p rest next) op none at = kind_is s p rest next (kind_there s.context s.facts.columns p) (is_breaking (react s.task (kind_there s.context s.facts.columns p))) op (takes_whole s.number s.context.terms.limit s.unread p rest next at).shorter
 
 -- the plans that fit a task
 abbrev FitsTask : Task → Bool → Plan → Type 0
@@ -273,7 +273,7 @@ begins_if s u talk false none op some = (op, λ e. some (sym (ap (λ bs. bs ++ c
 
 asked_is : (s : Seen) (c : CallKind) (text : List ℕ) → s.owed ≡ [] → MoveIs s (asked s c (command_of (next_terms s) (call_of c text))).seen (asked s c (command_of (next_terms s) (call_of c text))).does
 asked_is s Connect text none = refl
-asked_is s Query text none = begins_if s (Own Query) (Queried (next_terms s) (packet_bytes (packets.Query text)) NoSets) _ none refl (some_bytes (packet_bytes (packets.Query text)) 0)
+asked_is s Query text none = begins_if s (Own Query) (Queried (next_terms s) (packet_bytes (packets.Query text)) (NoSets ByText)) _ none refl (some_bytes (packet_bytes (packets.Query text)) 0)
 asked_is s NextRow text none = refl
 asked_is s DropResult text none = refl
 asked_is s TakeSet text none = refl
@@ -283,7 +283,7 @@ asked_is s Quit text none = begins_if s (Own Quit) (Silent (next_terms s) (packe
 
 arranged_is : (s : Seen) (n : ℕ) (text : Option (List ℕ)) → s.owed ≡ [] → MoveIs s (arranged s n (query_of (next_terms s) text)).seen (arranged s n (query_of (next_terms s) text)).does
 arranged_is s n None none = refl
-arranged_is s n (Some text) none = begins_if s (Arranging (suc n)) (Queried (next_terms s) (packet_bytes (packets.Query text)) NoSets) _ none refl (some_bytes (packet_bytes (packets.Query text)) 0)
+arranged_is s n (Some text) none = begins_if s (Arranging (suc n)) (Queried (next_terms s) (packet_bytes (packets.Query text)) (NoSets ByText)) _ none refl (some_bytes (packet_bytes (packets.Query text)) 0)
 
 plan_is : (s : Seen) (plan : Plan) → is_open s.task ≡ true → s.owed ≡ [] → FitsTask s.task s.untold plan → MoveIs s (planned s plan).seen (planned s plan).does
 plan_is s plans.Reads op none f = front_is s _ op none refl

@@ -341,9 +341,9 @@ module _ (s : Seen) (sound : fault_in s.task ≡ None) where
   reacted_stays n p (reactions.Goes u) same i = (i, same.login_is)
   reacted_stays n p (reactions.Readies untold) same i = (tt, same.login_is)
   reacted_stays n p reactions.Takes same i = (tt, same.login_is)
-  reacted_stays n p reactions.Gives same i = gave_stays n (row_at s.facts.columns p) same.login_is
+  reacted_stays n p reactions.Gives same i = gave_stays n (row_at s.context.rows s.facts.columns p) same.login_is
   reacted_stays n p reactions.Ends same i = (tt, same.login_is)
-  reacted_stays n p reactions.PassesRow same i = passed_stays n (row_at s.facts.columns p) same i
+  reacted_stays n p reactions.PassesRow same i = passed_stays n (row_at s.context.rows s.facts.columns p) same i
   reacted_stays n p reactions.PassesEnd same i = ((ap kind_in same.task_is, ap fault_in same.task_is ∙ sound, i, tt), same.login_is)
   reacted_stays n p reactions.Refuses same i = refused_stays n _ same.login_is
   reacted_stays n p reactions.Breaks same i = (tt, refl)
@@ -365,7 +365,7 @@ module _ (s : Seen) (sound : fault_in s.task ≡ None) where
   front_stays : (f : Front) → Stays (reading s f)
   front_stays Waiting = waiting_stays s.ended
   front_stays (Broken fault) = (tt, refl)
-  front_stays (Whole p rest next) = kind_stays p rest next (kind_there s.context p) (is_breaking (react s.task (kind_there s.context p)))
+  front_stays (Whole p rest next) = kind_stays p rest next (kind_there s.context s.facts.columns p) (is_breaking (react s.task (kind_there s.context s.facts.columns p)))
 
   begins_if : (u : Task) (talk : Talk) (long : Bool) → Stays (cond long (machine.too_large s s.facts.settings.limit (length (command_in talk))) (record { seen = machine.queued s u talk; does = Sends }))
   begins_if u talk true = (tt, refl)
