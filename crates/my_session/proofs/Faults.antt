@@ -137,7 +137,7 @@ module _ (s : Seen) (h : History) (st : Stands s h) (op : is_open s.task ≡ tru
 
     refused_told : (n : Seen) (x : Option ErrPacket) → kind_there s.context s.facts.columns p ≡ kinds.Failed → err_at (is_greeting s.context.spot) p ≡ x → Explained (refused s n x)
     refused_told n None k is =
-        let some = failed_reads s.context.spot (deprecates_eof s.context.terms.kept) s.context.columns p k in
+        let some = failed_reads s.context.spot s.context.rows (deprecates_eof s.context.terms.kept) s.context.columns s.facts.columns p k in
         let no : None ≡ Some some.0 = sym is ∙ some.1 in cc
     refused_told n (Some x) k is = record {
       payload = p;

@@ -23,7 +23,7 @@ use Rattle.my_session.specs.declared.task.Task.TheVariants.{Nothing, Begun, Clea
 use Rattle.my_reading.specs.declared.error.Error.TheVariants as errors
 use Rattle.my_reading.specs.Calls.{kind_of, call_of, is_connect}
 use Rattle.my_session.specs.Tasks.{kind_in, is_open}
-use Rattle.my_session.specs.Entries.{calls_in, connecting_in, givens, may_lack, has_connected, IsTied}
+use Rattle.my_session.specs.Entries.{calls_in, connecting_in, facts_of, givens, may_lack, has_connected, IsTied}
 use Rattle.my_reading.specs.Errors.{invalid_data, server_error}
 use Rattle.my_reading.specs.Told.{Told, ToldReady, ToldRow, ToldEnd, ToldError}
 use Rattle.my_session.specs.History.{History, Made, answered, noted}

@@ -8,7 +8,7 @@ use Rattle.my_grammar.specs.declared.spot.Kind.TheVariants.{Greets, Good, Failed
 use Rattle.my_grammar.specs.declared.spot.Spot.{Spot}
 use Rattle.my_grammar.specs.declared.spot.Spot.TheVariants as spots
 use Rattle.my_grammar.specs.Contexts.{is_bad, more, spot_after, after_columns}
-use Rattle.my_reply.specs.declared.column.Column.{Column}
+use Rattle.my_reply.specs.declared.column.Column.{Column as AnyColumn}
 use Rattle.my_grammar.specs.declared.spot.RowFormat.{RowFormat}
 use Rattle.my_grammar.specs.Kinds.{kind_by, greeting_kind, single_kind, head_kind, column_kind, columns_end_kind, row_kind, prepare_kind, parameter_kind, field_kind}
 use Rattle.my_grammar.proofs.Growth.Known.{is_greeting_kind, is_single_kind, is_head_kind, is_column_kind, is_close_kind, is_row_kind, is_prepare_kind, is_parameter_kind, is_field_kind, known_greeting, known_single, known_head, known_column, known_close, known_row, known_prepare, known_parameter, known_field, is_then}
@@ -33,7 +33,7 @@ is_known (spots.ParametersEnd columns) k = is_close_kind k
 is_known (spots.Fields left) k = is_field_kind k
 is_known spots.FieldsEnd k = is_close_kind k
 
-pub known : (s : Spot) (f : RowFormat) (d : Bool) (n : ℕ) (cs : List Column) (p : List ℕ) (k : Kind) → kind_by s f d n cs p ≡ k → is_known s k ≡ true
+pub known : (s : Spot) (f : RowFormat) (d : Bool) (n : ℕ) (cs : List AnyColumn) (p : List ℕ) (k : Kind) → kind_by s f d n cs p ≡ k → is_known s k ≡ true
 known spots.Idle f d n cs p k e = ap is_bad (sym e)
 known spots.Greeting f d n cs p k e = is_then is_greeting_kind (greeting_kind p) k (known_greeting p) e
 known spots.Authentication f d n cs p k e = is_then is_single_kind (single_kind p) k (known_single p) e

@@ -313,10 +313,10 @@ impl Session {
     }
 
     // What the payload is.
-    fn kind_of(&self, found: FoundPayload) -> Kind
-        requires { IsPlaced self.now.seen.unread found }
+    fn kind_of(&self, found: &FoundPayload) -> Kind
+        requires { IsPlaced self.now.seen.unread found.now }
         ensures { let s = self.now.seen in
-            result ≡ kind_there s.context s.facts.columns (payload_in s.unread found) }
+            result ≡ kind_there s.context s.facts.columns (payload_in s.unread found.now) }
     {
         let payload = found.in_bytes(self.unread.as_slice());
         kind_at(self.context, self.facts.columns.as_slice(), payload)
@@ -330,7 +330,7 @@ impl Session {
             Does (read_kind s payload rest found.span.next (kind_there s.context s.facts.columns payload)) s self.new.seen result }
         ensures lifetime { self.new.lifetime ≡ self.old.lifetime }
     {
-        let kind = self.kind_of(found);
+        let kind = self.kind_of(&found);
         let reaction = react_to(self.task, kind);
         if is_breaking(reaction) {
             return self.io_fault(IoKind::InvalidData);
