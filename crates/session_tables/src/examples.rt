@@ -32,8 +32,9 @@ pub enum Look {
 #[derive(Clone, Copy)]
 pub struct Example<'a> {
     pub name: &'a str,
-    /// How many statements are prepared after the login, and how many queries follow.
+    /// How many statements are prepared after the login, how many are executed then, and how many queries follow.
     pub prepares: u8,
+    pub executes: u8,
     pub queries: u8,
     pub kept: CapabilityFlags,
     pub limit: u64,
@@ -48,6 +49,7 @@ pub struct Example<'a> {
 pub const USUAL: Example<'static> = Example {
     name: "",
     prepares: 0,
+    executes: 0,
     queries: 1,
     kept: KEPT,
     limit: DEFAULT_MAX_ALLOWED_PACKET,

@@ -7,6 +7,8 @@ mod connects;
 #[cfg(test)]
 mod examples;
 #[cfg(test)]
+mod executes;
+#[cfg(test)]
 mod hex;
 #[cfg(test)]
 mod library;

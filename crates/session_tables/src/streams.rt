@@ -43,11 +43,27 @@ fn add_prepares(
     Ok(())
 }
 
-// A connection, then the statements to prepare, then the queries.
+fn add_executes(
+    alloc: Global,
+    openings: &mut Vec<Opening>,
+    executes: u8,
+    kept: CapabilityFlags,
+    limit: u64,
+) -> Result<(), NoMemory> {
+    for _ in 0..executes {
+        let command = Blob::from_slice(alloc, b"\x17\x01\x00\x00\x00\x00\x01\x00\x00\x00")?;
+        let terms = Terms { kept, limit };
+        openings.push(Opening::Execute { terms, command })?;
+    }
+    Ok(())
+}
+
+// A connection, then the statements to prepare, those that are executed, and the queries.
 fn openings(alloc: Global, case: &Example) -> Result<Vec<Opening>, NoMemory> {
     let mut openings = Vec::new(alloc);
     openings.push(Opening::Connect)?;
     add_prepares(alloc, &mut openings, case.prepares, case.kept, case.limit)?;
+    add_executes(alloc, &mut openings, case.executes, case.kept, case.limit)?;
     add_queries(alloc, &mut openings, case.queries, case.kept, case.limit)?;
     Ok(openings)
 }
