@@ -55,7 +55,7 @@ module _ (login : Login) (call : Call) where
   payload_keeps part parts p new payload kinds.Failed same = err_keeps p new (err_at (is_greeting (context_of p.talk).spot) payload) same
   payload_keeps part parts p new payload (kinds.Greets capabilities) same = either_keeps p.sent (nat_lt (limit_of p.talk) (length (response login payload))) _ _ refl same
   payload_keeps part parts p new payload k same =
-      rw (sym same) (kind_keeps part parts k new (ToldRow (row_of (facts_at login p).columns payload)))
+      rw (sym same) (kind_keeps part parts k new (ToldRow (row_of (context_of p.talk).rows (facts_at login p).columns payload)))
 
   front_keeps : (part : Part) (parts : List Part) (p : Place) (f : Front) → Keeps p.sent (with_front login part parts p f)
   front_keeps part parts p Waiting = refl

@@ -9,7 +9,7 @@ use Rattle.my_frame.proofs.Fronts.{found}
 use Rattle.my_grammar.specs.declared.spot.Kind.{Kind}
 use Rattle.my_grammar.specs.Contexts.{is_bad}
 use Rattle.my_grammar.specs.Kinds.{kind_there}
-use Rattle.my_grammar.specs.Talk.{Talk, Fits, turns, number_of, server_bytes, context_of, limit_of, origin, login_in}
+use Rattle.my_grammar.specs.Talk.{Talk, Fits, turns, number_of, server_bytes, context_of, described, limit_of, origin, login_in}
 use Rattle.my_grammar.specs.Growth.{grow, Grows}
 use Rattle.my_grammar.specs.Cut.{Read, front_of, kind_of, read_payload, read_front, read_within, read_from}
 use Rattle.my_grammar.specs.CutLaws.{StopsAt}
@@ -63,7 +63,7 @@ pub at_origin : (t : Talk) → origin t ≡ t → server_bytes (turns t) ≡ [] 
 at_origin t o none = record { reaches = λ rest. ap (λ (u : Talk). read_from u (server_bytes (turns t) ++ rest)) o ∙ ap (λ (bs : List ℕ). read_from t (bs ++ rest)) none }
 
 -- a payload more
-pub goes_on : (t : Talk) (k : Kind) (p : List ℕ) → kind_there (context_of t) p ≡ k → is_bad k ≡ false → length p ≤ limit_of t → Fits t → Reaches t → Reaches (grow k t p)
+pub goes_on : (t : Talk) (k : Kind) (p : List ℕ) → kind_there (context_of t) (described t) p ≡ k → is_bad k ≡ false → length p ≤ limit_of t → Fits t → Reaches t → Reaches (grow k t p)
 goes_on t k p e good short fits r =
     let gr : Grows t k p = grows t k p e good short fits in
     let n = number_of (turns t) in

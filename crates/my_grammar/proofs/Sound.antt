@@ -1,5 +1,7 @@
 -- What is read from bytes is in them.
 pub mod Reaching
+pub mod Replies
+pub mod WholeReplies
 use Rattle.std.proofs.Common.{◌≡◌, ℕ, suc, zero, ◌+◌, ◌^◌, ◌≤◌, ◌<◌, List, [], ◌∷◌, ◌++◌, map, length, Bool, true, false, cond, get_or, refl, sym, ap, ◌∙◌, subst, arith, append_assoc}
 use Rattle.std.proofs.Math.Seq.{get_or-append_right}
 use Rattle.my_flags.specs.Sets.{deprecates_eof}
@@ -7,13 +9,15 @@ use Rattle.my_frame.specs.Chunks.{chunks}
 use Rattle.my_frame.specs.Front.{Front, Waiting, Broken, Whole}
 use Rattle.my_frame.specs.FrontLaws.{AreBytes}
 use Rattle.my_frame.proofs.Meanings.{whole_stands}
+use Rattle.my_reply.specs.declared.column.Column.{Column as ColumnPacket}
+use Rattle.my_grammar.specs.declared.spot.RowFormat.{RowFormat}
 use Rattle.my_grammar.specs.declared.spot.Spot.{Spot}
 use Rattle.my_grammar.specs.declared.spot.Spot.TheVariants as spots
 use Rattle.my_grammar.specs.declared.spot.Kind.{Kind}
 use Rattle.my_grammar.specs.declared.spot.Kind.TheVariants.{Bad}
 use Rattle.my_grammar.specs.Contexts.{is_bad}
 use Rattle.my_grammar.specs.Kinds.{kind_by}
-use Rattle.my_grammar.specs.Talk.{Talk, Start, Unwelcome, Greeted, Settled, Asked, Replied, Queried, Silent, Fits, turns, number_of, server_bytes, packets_of, context_of, limit_of, origin, login_in}
+use Rattle.my_grammar.specs.Talk.{Talk, Start, Unwelcome, Greeted, Settled, Asked, Replied, Queried, Preparing, Silent, Fits, turns, number_of, server_bytes, packets_of, context_of, described, limit_of, origin, login_in}
 use Rattle.my_grammar.specs.Growth.{grow, Grows}
 use Rattle.my_grammar.specs.Cut.{Read, Trailing, Cut, front_of, kind_of, read_payload, read_front, read_within, read_from, rest_in_front, is_idle, is_over, rest_of, onto, cut_after, cut}
 use Rattle.my_grammar.specs.CutLaws.{StopsAt, IsRead, bytes_of, AreOver, IsCut}
@@ -85,6 +89,7 @@ origin_fits (Settled login p c last kind) = record { kinds = tt; within = tt }
 origin_fits (Asked terms c) = record { kinds = tt; within = tt }
 origin_fits (Replied terms c last kind) = record { kinds = tt; within = tt }
 origin_fits (Queried terms c sets) = record { kinds = tt; within = tt }
+origin_fits (Preparing terms c r) = record { kinds = tt; within = tt }
 origin_fits (Silent terms c) = record { kinds = tt; within = tt }
 
 -- an exchange as it began holds nothing of the server's
@@ -100,6 +105,7 @@ begins (Settled login p c last kind) = record { bytes = refl; again = refl }
 begins (Asked terms c) = record { bytes = refl; again = refl }
 begins (Replied terms c last kind) = record { bytes = refl; again = refl }
 begins (Queried terms c sets) = record { bytes = refl; again = refl }
+begins (Preparing terms c r) = record { bytes = refl; again = refl }
 begins (Silent terms c) = record { bytes = refl; again = refl }
 
 over_more : (t : Talk) (ts : List Talk) → is_over t ≡ true → AreOver ts → AreOver (t ∷ ts)
@@ -148,21 +154,26 @@ cut_is_sound (t ∷ ts) bytes are = cut_more t ts bytes (read_from (origin t) by
 pub exchange_is_cut : (t : Talk) (ts : List Talk) (rest : List ℕ) → Fits t → cut (origin t ∷ ts) (server_bytes (turns t) ++ rest) ≡ cut_after (read_from t rest) (cut ts)
 exchange_is_cut t ts rest fits = ap (λ (r : Read). cut_after r (cut ts)) ((reaches t fits).reaches rest)
 
-idle_kind : (s : Spot) (d : Bool) (n : ℕ) (p : List ℕ) → is_idle s ≡ true → kind_by s d n p ≡ Bad
-idle_kind spots.Idle d n p e = refl
-idle_kind spots.Greeting d n p e = cc
-idle_kind spots.Authentication d n p e = cc
-idle_kind spots.Single d n p e = cc
-idle_kind spots.Head d n p e = cc
-idle_kind spots.Further d n p e = cc
-idle_kind (spots.Columns left) d n p e = cc
-idle_kind spots.ColumnsEnd d n p e = cc
-idle_kind spots.Rows d n p e = cc
+idle_kind : (s : Spot) (f : RowFormat) (d : Bool) (n : ℕ) (cs : List ColumnPacket) (p : List ℕ) → is_idle s ≡ true → kind_by s f d n cs p ≡ Bad
+idle_kind spots.Idle f d n cs p e = refl
+idle_kind spots.Greeting f d n cs p e = cc
+idle_kind spots.Authentication f d n cs p e = cc
+idle_kind spots.Single f d n cs p e = cc
+idle_kind spots.Head f d n cs p e = cc
+idle_kind spots.Further f d n cs p e = cc
+idle_kind (spots.Columns left) f d n cs p e = cc
+idle_kind spots.ColumnsEnd f d n cs p e = cc
+idle_kind spots.Rows f d n cs p e = cc
+idle_kind spots.Prepare f d n cs p e = cc
+idle_kind (spots.Parameters left columns) f d n cs p e = cc
+idle_kind (spots.ParametersEnd columns) f d n cs p e = cc
+idle_kind (spots.Fields left) f d n cs p e = cc
+idle_kind spots.FieldsEnd f d n cs p e = cc
 
 stops_over : (t : Talk) (bytes : List ℕ) (x : Front) (go : Talk → List ℕ → Read) → is_over t ≡ true → read_front t bytes x go ≡ record { talk = t; rest = bytes }
 stops_over t bytes Waiting go e = refl
 stops_over t bytes (Broken fault) go e = refl
-stops_over t bytes (Whole p rest next) go e = ap (λ k. read_payload t bytes p rest k go) (idle_kind (context_of t).spot (deprecates_eof (context_of t).terms.kept) (context_of t).columns p e)
+stops_over t bytes (Whole p rest next) go e = ap (λ k. read_payload t bytes p rest k go) (idle_kind (context_of t).spot (context_of t).rows (deprecates_eof (context_of t).terms.kept) (context_of t).columns (described t) p e)
 
 over_within : (f : ℕ) (t : Talk) (bytes : List ℕ) → is_over t ≡ true → read_within f t bytes ≡ record { talk = t; rest = bytes }
 unfolding read_within

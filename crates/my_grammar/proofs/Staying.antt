@@ -4,11 +4,13 @@ use Rattle.my_flags.specs.Sets.{deprecates_eof}
 use Rattle.my_frame.specs.Front.{Front, Waiting, Broken, Whole}
 use Rattle.my_frame.specs.FrontLaws.{FrontGrows}
 use Rattle.my_frame.proofs.Growing.{front_grows}
+use Rattle.my_reply.specs.declared.column.Column.{Column as ColumnPacket}
+use Rattle.my_grammar.specs.declared.spot.RowFormat.{RowFormat}
 use Rattle.my_grammar.specs.declared.spot.Spot.{Spot}
 use Rattle.my_grammar.specs.declared.spot.Spot.TheVariants as spots
 use Rattle.my_grammar.specs.Contexts.{is_bad}
 use Rattle.my_grammar.specs.Kinds.{kind_by}
-use Rattle.my_grammar.specs.Talk.{Talk, turns, number_of, context_of, limit_of}
+use Rattle.my_grammar.specs.Talk.{Talk, turns, number_of, context_of, described, limit_of}
 use Rattle.my_grammar.specs.Growth.{grow}
 use Rattle.my_grammar.specs.Cut.{Read, Rest, Trailing, Unfinished, Unfit, Blamed, Cut, front_of, kind_of, read_front, read_within, read_from, rest_in_front, is_idle, is_over, onto, cut_after, cut}
 use Rattle.my_grammar.specs.CutLaws.{StopsAt, RestStays, RestGoesOn}
@@ -59,21 +61,26 @@ unfolding read_from
 ends_from t bytes = ends_within (length bytes) t bytes (omega arith)
 
 -- after an exchange that is over nothing may be read
-idle_bad : (s : Spot) (deprecates : Bool) (columns : ℕ) (p : List ℕ) → is_idle s ≡ true → is_bad (kind_by s deprecates columns p) ≡ true
-idle_bad spots.Idle deprecates columns p e = refl
-idle_bad spots.Greeting deprecates columns p e = cc
-idle_bad spots.Authentication deprecates columns p e = cc
-idle_bad spots.Single deprecates columns p e = cc
-idle_bad spots.Head deprecates columns p e = cc
-idle_bad spots.Further deprecates columns p e = cc
-idle_bad (spots.Columns left) deprecates columns p e = cc
-idle_bad spots.ColumnsEnd deprecates columns p e = cc
-idle_bad spots.Rows deprecates columns p e = cc
+idle_bad : (s : Spot) (rows : RowFormat) (deprecates : Bool) (n : ℕ) (columns : List ColumnPacket) (p : List ℕ) → is_idle s ≡ true → is_bad (kind_by s rows deprecates n columns p) ≡ true
+idle_bad spots.Idle rows deprecates n columns p e = refl
+idle_bad spots.Greeting rows deprecates n columns p e = cc
+idle_bad spots.Authentication rows deprecates n columns p e = cc
+idle_bad spots.Single rows deprecates n columns p e = cc
+idle_bad spots.Head rows deprecates n columns p e = cc
+idle_bad spots.Further rows deprecates n columns p e = cc
+idle_bad (spots.Columns left) rows deprecates n columns p e = cc
+idle_bad spots.ColumnsEnd rows deprecates n columns p e = cc
+idle_bad spots.Rows rows deprecates n columns p e = cc
+idle_bad spots.Prepare rows deprecates n columns p e = cc
+idle_bad (spots.Parameters left fields) rows deprecates n columns p e = cc
+idle_bad (spots.ParametersEnd fields) rows deprecates n columns p e = cc
+idle_bad (spots.Fields left) rows deprecates n columns p e = cc
+idle_bad spots.FieldsEnd rows deprecates n columns p e = cc
 
 pub over_stops : (t : Talk) (x : Front) → is_over t ≡ true → StopsAt t x
 over_stops t Waiting e = tt
 over_stops t (Broken fault) e = tt
-over_stops t (Whole p rest next) e = idle_bad (context_of t).spot (deprecates_eof (context_of t).terms.kept) (context_of t).columns p e
+over_stops t (Whole p rest next) e = idle_bad (context_of t).spot (context_of t).rows (deprecates_eof (context_of t).terms.kept) (context_of t).columns (described t) p e
 
 -- the first exchange with more bytes, where it is over, and where it stops at what can't be read
 over_more : (t : Talk) (bytes more : List ℕ) → is_over (read_from t bytes).talk ≡ true → read_from t (bytes ++ more) ≡ record { talk = (read_from t bytes).talk; rest = (read_from t bytes).rest ++ more }

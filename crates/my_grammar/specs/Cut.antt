@@ -8,7 +8,7 @@ use Rattle.my_grammar.specs.declared.spot.Spot.TheVariants as spots
 use Rattle.my_grammar.specs.declared.spot.Kind.{Kind}
 use Rattle.my_grammar.specs.Contexts.{is_bad}
 use Rattle.my_grammar.specs.Kinds.{kind_there}
-use Rattle.my_grammar.specs.Talk.{Talk, turns, number_of, context_of, limit_of, packets_of}
+use Rattle.my_grammar.specs.Talk.{Talk, turns, number_of, context_of, described, limit_of, packets_of}
 use Rattle.my_grammar.specs.Growth.{grow}
 
 -- an exchange as far as the bytes hold it, and the bytes after
@@ -22,7 +22,7 @@ front_of t bytes = front_at (number_of (turns t)) (limit_of t) bytes
 
 -- what the payload in front is there
 abbrev pub kind_of : Talk → List ℕ → Kind
-kind_of t p = kind_there (context_of t) p
+kind_of t p = kind_there (context_of t) (described t) p
 
 -- a payload that fits is read, and the reading goes on after it
 abbrev pub read_payload : Talk → List ℕ → List ℕ → List ℕ → Kind → (Talk → List ℕ → Read) → Read

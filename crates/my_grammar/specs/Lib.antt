@@ -2,6 +2,8 @@ pub mod Contexts
 pub mod Kinds
 pub mod Sets
 pub mod FitSets
+pub mod Prepares
+pub mod FitReplies
 pub mod Scramble
 pub mod Response
 pub mod Talk

@@ -8,20 +8,24 @@ use Rattle.my_grammar.specs.declared.progress.Progress.{Progress}
 use Rattle.my_grammar.specs.declared.cut.CutRest.{CutRest}
 use Rattle.my_grammar.specs.declared.cut.CutRest.TheVariants as rests
 use Rattle.my_grammar.specs.declared.cut.Found.{Found}
-use Rattle.my_grammar.specs.Sets.{NoSets}
-use Rattle.my_grammar.specs.Talk.{Talk, Start, Asked, Queried, Silent, turns, number_of, client_bytes, packets_of, context_of}
+use Rattle.my_grammar.specs.Sets.{ByText, ByStatement, NoSets}
+use Rattle.my_grammar.specs.Prepares.{Unanswered}
+use Rattle.my_grammar.specs.Talk.{Talk, Start, Asked, Queried, Preparing, Silent, turns, number_of, client_bytes, packets_of, context_of, described}
 use Rattle.my_grammar.specs.Cut.{Read, Rest, Trailing, Unfinished, Unfit, Blamed, Cut}
 
 -- the exchange that begins so
 abbrev pub talk_of : Login → Opening → Talk
 talk_of login openings.Connect = Start login
 talk_of login (openings.Simple terms command) = Asked terms command
-talk_of login (openings.Query terms command) = Queried terms command NoSets
+talk_of login (openings.Query terms command) = Queried terms command (NoSets ByText)
+talk_of login (openings.Execute terms command) = Queried terms command (NoSets (ByStatement []))
+talk_of login (openings.Prepare terms command) = Preparing terms command Unanswered
 talk_of login (openings.Silent terms command) = Silent terms command
 
 -- The program is where the exchange is, with its payloads in order and what the client sent.
 pub record IsAt (t : Talk) (p : Progress) : Type 0 where
   pub context : p.context ≡ context_of t
+  pub columns : p.columns.items ≡ described t
   pub number : p.number ≡ number_of (turns t)
   pub packets : p.packets.items ≡ reverse (packets_of t)
   pub sent : p.sent ≡ client_bytes (turns t)

@@ -3,17 +3,19 @@ use Rattle.std.specs.Prelude.{◌≡◌, ℕ, ◌<◌, ◌≤◌, List, [], ◌�
 use Rattle.my_frame.specs.declared.front.FramedPayload.{FramedPayload}
 use Rattle.my_frame.specs.Chunks.{number_after_payload}
 use Rattle.my_frame.specs.Front.{Front, Waiting, Broken, Whole, front_at}
+use Rattle.my_reply.specs.declared.column.Column.{Column}
 use Rattle.my_grammar.specs.declared.spot.Context.{Context}
 use Rattle.my_grammar.specs.Kinds.{kind_there}
 use Rattle.my_grammar.specs.declared.login.Login.{Login}
 use Rattle.my_grammar.specs.declared.spot.Kind.{Kind}
 use Rattle.my_grammar.specs.declared.progress.Progress.{Progress}
 use Rattle.my_grammar.specs.Contexts.{context_after, is_bad}
-use Rattle.my_grammar.specs.Growth.{number_next, said}
+use Rattle.my_grammar.specs.Growth.{described_after, number_next, said}
 
 -- A payload of this kind is read, and answered.
 pub record Hears (login : Login) (k : Kind) (p : List ℕ) (old new : Progress) : Type 0 where
   pub context : new.context ≡ context_after old.context k
+  pub columns : new.columns.items ≡ described_after old.columns.items k p
   pub number : new.number ≡ number_next login k p old.number
   pub packets : new.packets.items ≡ old.packets.items ++ record { kind = k; payload = p } ∷ []
   pub sent : new.sent ≡ old.sent ++ said login k p old.number
@@ -34,10 +36,10 @@ NoneInFront (Broken fault) = Unit {0}
 NoneInFront (Whole p rest next) = ⊥
 
 -- the bytes begin with nothing that fits there
-abbrev pub StopsHere : Context → Front → Type 0
-StopsHere c Waiting = Unit {0}
-StopsHere c (Broken fault) = Unit {0}
-StopsHere c (Whole p rest next) = is_bad (kind_there c p) ≡ true
+abbrev pub StopsHere : Context → List Column → Front → Type 0
+StopsHere c columns Waiting = Unit {0}
+StopsHere c columns (Broken fault) = Unit {0}
+StopsHere c columns (Whole p rest next) = is_bad (kind_there c columns p) ≡ true
 
 -- The payload in front was read, and its packets take len bytes.
 pub record HeardOne (login : Login) (bytes : List ℕ) (old new : Progress) (len : ℕ) : Type 0 where
@@ -45,16 +47,17 @@ pub record HeardOne (login : Login) (bytes : List ℕ) (old new : Progress) (len
   pub rest : List ℕ
   pub next : ℕ
   pub front : front_at old.number old.context.terms.limit bytes ≡ Whole payload rest next
-  pub good : is_bad (kind_there old.context payload) ≡ false
-  pub heard : Hears login (kind_there old.context payload) payload old new
+  pub good : is_bad (kind_there old.context old.columns.items payload) ≡ false
+  pub heard : Hears login (kind_there old.context old.columns.items payload) payload old new
   pub rest_is : drop len bytes ≡ rest
   pub fits : len ≤ length bytes
   pub some : 0 < len
 
 -- Nothing was read, and nothing changed.
 pub record HeardNone (bytes : List ℕ) (old new : Progress) : Type 0 where
-  pub stops : StopsHere old.context (front_at old.number old.context.terms.limit bytes)
+  pub stops : StopsHere old.context old.columns.items (front_at old.number old.context.terms.limit bytes)
   pub context : new.context ≡ old.context
+  pub columns : new.columns.items ≡ old.columns.items
   pub number : new.number ≡ old.number
   pub packets : new.packets.items ≡ old.packets.items
   pub sent : new.sent ≡ old.sent

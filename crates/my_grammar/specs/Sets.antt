@@ -1,7 +1,11 @@
 -- A response as a list of sets, newest first inside, so that each payload more is one constructor. MySQL client/server protocol,
--- "COM_QUERY Response", "Text Resultset" and "Multi-Resultset".
-use Rattle.std.specs.Prelude.{ℕ, ◌-◌, nat_le, List, [], ◌∷◌, Option, Some, None, Bool, if◌then◌else◌}
+-- "COM_QUERY Response", "COM_STMT_EXECUTE Response", "Text Resultset", "Binary Protocol Resultset" and "Multi-Resultset".
+use Rattle.std.specs.Prelude.{ℕ, ◌-◌, nat_le, List, [], ◌∷◌, ◌++◌, Option, Some, None, Bool, if◌then◌else◌}
 use Rattle.my_flags.specs.declared.flags.StatusFlags.{StatusFlags}
+use Rattle.my_reply.specs.declared.column.Column.{Column}
+use Rattle.my_reply.specs.Column.{column_at}
+use Rattle.my_grammar.specs.declared.spot.RowFormat.{RowFormat}
+use Rattle.my_grammar.specs.declared.spot.RowFormat.TheVariants.{Text, Binary}
 use Rattle.my_grammar.specs.declared.spot.Spot.{Spot}
 use Rattle.my_grammar.specs.declared.spot.Spot.TheVariants as spots
 use Rattle.my_grammar.specs.declared.spot.Kind.{Kind}
@@ -18,10 +22,16 @@ pub record SetHead : Type 0 where
   pub columns : List (List ℕ)
   pub close : Option (List ℕ)
 
--- No set; or after the older ones a lone OK, an ERR in a head's place, a head of which left columns are awaited, a head whose EOF is
+-- How sets are asked for: by a query, or by executing a statement of which these columns are known. They will be the columns of a set that
+-- the server sends without describing them again. No server may do so yet, and nothing reads them.
+pub data Asking : Type 0 where
+  ByText : Asking
+  ByStatement : (known : List Column) → Asking
+
+-- No set of a response that was asked for so; or after the older ones a lone OK, an ERR in a head's place, a head of which left columns are awaited, a head whose EOF is
 -- left, rows under a whole head, rows with their end, or rows that an ERR broke off.
 pub data Sets : Type 0 where
-  NoSets : Sets
+  NoSets : (asking : Asking) → Sets
   Lone : (older : Sets) (p : List ℕ) (status : StatusFlags) → Sets
   Failed : (older : Sets) (p : List ℕ) → Sets
   Heading : (older : Sets) (head : SetHead) (left : ℕ) → Sets
@@ -44,7 +54,7 @@ head_packets h others = at_most_one kinds.ColumnsDone h.close (each kinds.Column
 
 -- the payloads of the sets with what they are, the newest first
 abbrev pub packets_in : Sets → List Packet
-packets_in NoSets = []
+packets_in (NoSets asking) = []
 packets_in (Lone older p status) = record { kind = kinds.Good status; payload = p } ∷ packets_in older
 packets_in (Failed older p) = record { kind = kinds.Failed; payload = p } ∷ packets_in older
 packets_in (Heading older head left) = head_packets head (packets_in older)
@@ -55,7 +65,7 @@ packets_in (Broken older head rows last) = record { kind = kinds.Failed; payload
 
 -- what is awaited after them
 abbrev pub spot_in : Sets → Spot
-spot_in NoSets = spots.Head
+spot_in (NoSets asking) = spots.Head
 spot_in (Lone older p status) = more status
 spot_in (Failed older p) = spots.Idle
 spot_in (Heading older head left) = spots.Columns left
@@ -71,8 +81,46 @@ columns_in (Headed older head) = head.number
 columns_in (Begun older head rows) = head.number
 columns_in _ = 0
 
+-- how they were asked for
+abbrev pub asking_in : Sets → Asking
+asking_in (NoSets asking) = asking
+asking_in (Lone older p status) = asking_in older
+asking_in (Failed older p) = asking_in older
+asking_in (Heading older head left) = asking_in older
+asking_in (Headed older head) = asking_in older
+asking_in (Begun older head rows) = asking_in older
+asking_in (Ended older head rows last status) = asking_in older
+asking_in (Broken older head rows last) = asking_in older
+
+-- a statement's rows are of the binary protocol
+abbrev pub format_of : Asking → RowFormat
+format_of ByText = Text
+format_of (ByStatement known) = Binary
+
+abbrev pub format_in : Sets → RowFormat
+format_in x = format_of (asking_in x)
+
 abbrev pub context_in : Terms → Sets → Context
-context_in terms x = record { spot = spot_in x; columns = columns_in x; terms = terms }
+context_in terms x = record { spot = spot_in x; rows = format_in x; columns = columns_in x; terms = terms }
+
+-- the columns of a head, in order, of its packets, which are newest first
+abbrev pub column_list : Option Column → List Column
+column_list None = []
+column_list (Some c) = c ∷ []
+
+abbrev pub columns_in_order : List (List ℕ) → List Column
+columns_in_order [] = []
+columns_in_order (p ∷ ps) = columns_in_order ps ++ column_list (column_at p)
+
+abbrev pub head_columns : SetHead → List Column
+head_columns head = columns_in_order head.columns
+
+-- the columns of the set that is being read, as far as they are described
+abbrev pub described_in : Sets → List Column
+described_in (Heading older head left) = head_columns head
+described_in (Headed older head) = head_columns head
+described_in (Begun older head rows) = head_columns head
+described_in _ = []
 
 -- one payload more, of each kind
 abbrev pub with_column_of : SetHead → List ℕ → SetHead
@@ -113,4 +161,7 @@ grow_sets deprecates kinds.Column x p = with_column deprecates x p
 grow_sets deprecates kinds.ColumnsDone x p = with_close x p
 grow_sets deprecates kinds.Row x p = with_row x p
 grow_sets deprecates (kinds.End status) x p = with_end x p status
+grow_sets deprecates (kinds.Prepared params columns) x p = x
+grow_sets deprecates kinds.Parameter x p = x
+grow_sets deprecates kinds.Field x p = x
 grow_sets deprecates kinds.Bad x p = x

@@ -8,6 +8,8 @@ use Rattle.my_flags.specs.Sets.{deprecates_eof, intersection}
 use Rattle.my_frame.specs.declared.limits.TheConstants.{DEFAULT_MAX_ALLOWED_PACKET}
 use Rattle.my_frame.specs.Chunks.{chunks, number_after_payload}
 use Rattle.my_grammar.specs.declared.login.Login.{Login}
+use Rattle.my_reply.specs.declared.column.Column.{Column}
+use Rattle.my_grammar.specs.declared.spot.RowFormat.TheVariants.{Text}
 use Rattle.my_grammar.specs.declared.spot.Spot.TheVariants as spots
 use Rattle.my_grammar.specs.declared.spot.Kind.{Kind}
 use Rattle.my_grammar.specs.declared.spot.Kind.TheVariants as kinds
@@ -15,13 +17,15 @@ use Rattle.my_grammar.specs.declared.spot.Terms.{Terms}
 use Rattle.my_grammar.specs.declared.spot.Context.{Context}
 use Rattle.my_grammar.specs.Contexts.{is_bad}
 use Rattle.my_grammar.specs.Kinds.{greeting_kind, single_kind}
-use Rattle.my_grammar.specs.Sets.{Sets, NoSets, Packet, packets_in, context_in}
+use Rattle.my_grammar.specs.Sets.{Sets, NoSets, Packet, asking_in, packets_in, context_in, described_in}
 use Rattle.my_grammar.specs.FitSets.{FitSets}
+use Rattle.my_grammar.specs.Prepares.{Reply, Unanswered, packets_in_reply, context_in_reply}
+use Rattle.my_grammar.specs.FitReplies.{FitReply}
 use Rattle.my_grammar.specs.Response.{response}
 
 -- Start: a connection before the greeting; Unwelcome: an ERR in its place; Greeted: the greeting and the client's response;
--- Settled: what the server said to that. Asked: a simple command; Replied: with its OK or ERR. Queried: a query with its sets.
--- Silent: a command without a reply.
+-- Settled: what the server said to that. Asked: a simple command; Replied: with its OK or ERR. Queried: a query, or a statement
+-- that is executed, with its sets. Preparing: a statement to prepare with its reply. Silent: a command without a reply.
 pub data Talk : Type 0 where
   Start : (login : Login) → Talk
   Unwelcome : (login : Login) (p : List ℕ) → Talk
@@ -30,6 +34,7 @@ pub data Talk : Type 0 where
   Asked : (terms : Terms) (command : List ℕ) → Talk
   Replied : (terms : Terms) (command : List ℕ) (last : List ℕ) (kind : Kind) → Talk
   Queried : (terms : Terms) (command : List ℕ) (sets : Sets) → Talk
+  Preparing : (terms : Terms) (command : List ℕ) (reply : Reply) → Talk
   Silent : (terms : Terms) (command : List ℕ) → Talk
 
 -- the longest payload that is read until the settings are known
@@ -50,6 +55,7 @@ packets_of (Greeted login p capabilities) = record { kind = kinds.Greets capabil
 packets_of (Settled login p capabilities last kind) = record { kind = kind; payload = last } ∷ record { kind = kinds.Greets capabilities; payload = p } ∷ []
 packets_of (Replied terms c last kind) = record { kind = kind; payload = last } ∷ []
 packets_of (Queried terms c sets) = packets_in sets
+packets_of (Preparing terms c reply) = packets_in_reply reply
 packets_of _ = []
 
 -- whose payload it is
@@ -71,6 +77,7 @@ turns (Settled login p capabilities last kind) = Server last ∷ Client (respons
 turns (Asked terms c) = Client c ∷ []
 turns (Replied terms c last kind) = Server last ∷ Client c ∷ []
 turns (Queried terms c sets) = served (packets_in sets) (Client c ∷ [])
+turns (Preparing terms c reply) = served (packets_in_reply reply) (Client c ∷ [])
 turns (Silent terms c) = Client c ∷ []
 
 -- the sequence id of the next packet, of either side
@@ -92,14 +99,20 @@ client_bytes (Server p ∷ ts) = client_bytes ts
 
 -- the context of the next payload
 abbrev pub context_of : Talk → Context
-context_of (Start login) = record { spot = spots.Greeting; columns = 0; terms = start_terms login }
-context_of (Unwelcome login p) = record { spot = spots.Idle; columns = 0; terms = start_terms login }
-context_of (Greeted login p capabilities) = record { spot = spots.Authentication; columns = 0; terms = greeted_terms login capabilities }
-context_of (Settled login p capabilities last kind) = record { spot = spots.Idle; columns = 0; terms = greeted_terms login capabilities }
-context_of (Asked terms c) = record { spot = spots.Single; columns = 0; terms = terms }
-context_of (Replied terms c last kind) = record { spot = spots.Idle; columns = 0; terms = terms }
+context_of (Start login) = record { spot = spots.Greeting; rows = Text; columns = 0; terms = start_terms login }
+context_of (Unwelcome login p) = record { spot = spots.Idle; rows = Text; columns = 0; terms = start_terms login }
+context_of (Greeted login p capabilities) = record { spot = spots.Authentication; rows = Text; columns = 0; terms = greeted_terms login capabilities }
+context_of (Settled login p capabilities last kind) = record { spot = spots.Idle; rows = Text; columns = 0; terms = greeted_terms login capabilities }
+context_of (Asked terms c) = record { spot = spots.Single; rows = Text; columns = 0; terms = terms }
+context_of (Replied terms c last kind) = record { spot = spots.Idle; rows = Text; columns = 0; terms = terms }
 context_of (Queried terms c sets) = context_in terms sets
-context_of (Silent terms c) = record { spot = spots.Idle; columns = 0; terms = terms }
+context_of (Preparing terms c reply) = context_in_reply terms reply
+context_of (Silent terms c) = record { spot = spots.Idle; rows = Text; columns = 0; terms = terms }
+
+-- the columns of the set that is being read, in order, as far as its packets describe them; none between sets and in other exchanges
+abbrev pub described : Talk → List Column
+described (Queried terms c sets) = described_in sets
+described _ = []
 
 -- each payload is one that fits in its place
 abbrev pub FitKinds : Talk → Type 0
@@ -108,6 +121,7 @@ FitKinds (Greeted login p capabilities) = greeting_kind p ≡ kinds.Greets capab
 FitKinds (Settled login p capabilities last kind) = (greeting_kind p ≡ kinds.Greets capabilities) × (single_kind last ≡ kind) × (is_bad kind ≡ false)
 FitKinds (Replied terms c last kind) = (single_kind last ≡ kind) × (is_bad kind ≡ false)
 FitKinds (Queried terms c sets) = FitSets (deprecates_eof terms.kept) sets
+FitKinds (Preparing terms c reply) = FitReply (deprecates_eof terms.kept) reply
 FitKinds _ = Unit {0}
 
 -- the longest payload that is read in the exchange
@@ -115,6 +129,7 @@ abbrev pub limit_of : Talk → ℕ
 limit_of (Asked terms c) = terms.limit
 limit_of (Replied terms c last kind) = terms.limit
 limit_of (Queried terms c sets) = terms.limit
+limit_of (Preparing terms c reply) = terms.limit
 limit_of (Silent terms c) = terms.limit
 limit_of _ = default_limit
 
@@ -131,7 +146,8 @@ origin (Greeted login p capabilities) = Start login
 origin (Settled login p capabilities last kind) = Start login
 origin (Asked terms c) = Asked terms c
 origin (Replied terms c last kind) = Asked terms c
-origin (Queried terms c sets) = Queried terms c NoSets
+origin (Queried terms c sets) = Queried terms c (NoSets (asking_in sets))
+origin (Preparing terms c reply) = Preparing terms c Unanswered
 origin (Silent terms c) = Silent terms c
 
 -- the login of a connecting exchange; for others the default any

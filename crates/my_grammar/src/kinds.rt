@@ -1,19 +1,23 @@
 //! What a payload is in its context. No call allocates.
 
-ghost use Rattle.std.specs.Prelude.{◌≡◌, true, false};
-ghost use Rattle.my_grammar.specs.Kinds.{cells_kind, column_kind, columns_end_kind, count_kind, end_kind, failed_kind, good_kind, greeting_kind, greets_kind, head_kind, is_caching, kind_there, offer_kind, or_else, row_kind, single_kind};
+ghost use Rattle.std.specs.Prelude.{◌≡◌, is_some, true, false};
+ghost use Rattle.my_flags.specs.Sets.{deprecates_eof};
+ghost use Rattle.my_grammar.specs.Kinds.{cells_at, cells_kind, columns_end_kind, count_kind, described_kind, end_kind, failed_kind, good_kind, greeting_kind, greets_kind, head_kind, is_caching, kind_there, offer_kind, or_else, prepare_kind, prepared_kind, row_kind, single_kind};
 ghost use Rattle.my_reply.specs.ColumnCount.{column_count_at};
+ghost use Rattle.my_reply.specs.Column.{column_at};
 ghost use Rattle.my_reply.specs.ErrPacket.{err_at};
 ghost use Rattle.my_handshake.specs.Greeting.{greeting_at};
 ghost use Rattle.my_reply.specs.OkPacket.{ok_at};
+ghost use Rattle.my_reply.specs.Replies.{prepare_ok_at};
 ghost use Rattle.my_value.specs.TextRow.{text_row_at};
+ghost use Rattle.my_value.specs.BinaryRow.{binary_row_at};
 
-use crate::spot::{Context, Kind, Spot};
+use crate::spot::{Context, Kind, RowFormat, Spot};
 use my_flags::CapabilityFlags;
 use my_handshake::greeting_offer;
 use my_reply::glance::{end_ok_status, is_column, is_err, ok_status};
-use my_reply::{read_column_count, read_eof};
-use my_value::is_text_row;
+use my_reply::{Column, read_column_count, read_eof, read_prepare_ok};
+use my_value::{is_binary_row, is_text_row};
 
 // An ERR, or else what the payload was found to be.
 fn failed(payload: &[u8], before_response: bool) -> Kind
@@ -78,14 +82,11 @@ fn counts(payload: &[u8]) -> Kind
     }
 }
 
-fn described(payload: &[u8]) -> Kind
-    ensures { result ≡ column_kind payload.now }
+// A column packet is of this kind.
+fn described(kind: Kind, payload: &[u8]) -> Kind
+    ensures { result ≡ described_kind kind (column_at payload.now) }
 {
-    if is_column(payload) {
-        Kind::Column
-    } else {
-        Kind::Bad
-    }
+    if is_column(payload) { kind } else { Kind::Bad }
 }
 
 fn done(payload: &[u8]) -> Kind
@@ -125,10 +126,19 @@ fn ended(with_ok: bool, payload: &[u8]) -> Kind
     }
 }
 
-fn cells(columns: u16, payload: &[u8]) -> Kind
-    ensures { result ≡ cells_kind (text_row_at columns payload.now) }
+fn has_cells(rows: RowFormat, count: u16, columns: &[Column], payload: &[u8]) -> bool
+    ensures { result ≡ is_some (cells_at rows count columns.now payload.now) }
 {
-    if is_text_row(columns as usize, payload) {
+    match rows {
+        RowFormat::Text => is_text_row(count as usize, payload),
+        RowFormat::Binary => is_binary_row(columns, payload),
+    }
+}
+
+fn cells(rows: RowFormat, count: u16, columns: &[Column], payload: &[u8]) -> Kind
+    ensures { result ≡ cells_kind (cells_at rows count columns.now payload.now) }
+{
+    if has_cells(rows, count, columns, payload) {
         Kind::Row
     } else {
         Kind::Bad
@@ -150,12 +160,13 @@ fn head(payload: &[u8]) -> Kind
     )
 }
 
-fn row(with_ok: bool, columns: u16, payload: &[u8]) -> Kind
-    ensures { result ≡ row_kind with_ok columns payload.now }
+fn row(context: Context, columns: &[Column], payload: &[u8]) -> Kind
+    ensures { result ≡ row_kind context.rows (deprecates_eof context.terms.kept) context.columns columns.now payload.now }
 {
+    let cells = cells(context.rows, context.columns, columns, payload);
     first_of(
-        ended(with_ok, payload),
-        first_of(failed(payload, false), cells(columns, payload)),
+        ended(context.terms.kept.deprecates_eof(), payload),
+        first_of(failed(payload, false), cells),
     )
 }
 
@@ -165,21 +176,38 @@ fn greeting(payload: &[u8]) -> Kind
     first_of(greets(payload), failed(payload, true))
 }
 
-/// What the payload is in this context.
-pub fn kind_at(context: Context, payload: &[u8]) -> Kind
-    ensures { result ≡ kind_there context payload.now }
+fn prepared(payload: &[u8]) -> Kind
+    ensures { result ≡ prepared_kind (prepare_ok_at payload.now) }
+{
+    match read_prepare_ok(payload) {
+        Ok(head) => Kind::Prepared {
+            params: head.params,
+            columns: head.columns,
+        },
+        Err(_) => Kind::Bad,
+    }
+}
+
+fn prepare(payload: &[u8]) -> Kind
+    ensures { result ≡ prepare_kind payload.now }
+{
+    first_of(prepared(payload), failed(payload, false))
+}
+
+/// What the payload is in this context, where the columns of the set that is being read are these.
+pub fn kind_at(context: Context, columns: &[Column], payload: &[u8]) -> Kind
+    ensures { result ≡ kind_there context columns.now payload.now }
 {
     match context.spot {
         Spot::Idle => Kind::Bad,
         Spot::Greeting => greeting(payload),
         Spot::Authentication | Spot::Single => single(payload),
         Spot::Head | Spot::Further => head(payload),
-        Spot::Columns(_) => described(payload),
-        Spot::ColumnsEnd => done(payload),
-        Spot::Rows => row(
-            context.terms.kept.deprecates_eof(),
-            context.columns,
-            payload,
-        ),
+        Spot::Columns(_) => described(Kind::Column, payload),
+        Spot::ColumnsEnd | Spot::ParametersEnd(_) | Spot::FieldsEnd => done(payload),
+        Spot::Rows => row(context, columns, payload),
+        Spot::Prepare => prepare(payload),
+        Spot::Parameters { .. } => described(Kind::Parameter, payload),
+        Spot::Fields(_) => described(Kind::Field, payload),
     }
 }

@@ -1,11 +1,15 @@
 //! Laws of exchanges and of the bytes that hold them. Each function's clause is the law; it does nothing.
 
-ghost use Rattle.std.specs.Prelude.{◌≡◌, ◌≤◌, ℕ, List, ◌∷◌, ◌++◌, length, map, true, false};
+ghost use Rattle.std.specs.Prelude.{◌≡◌, ◌≤◌, ◌⊎◌, ℕ, List, ◌∷◌, ◌++◌, length, map, true, false};
+ghost use Rattle.my_flags.specs.Sets.{deprecates_eof};
 ghost use Rattle.my_frame.specs.FrontLaws.{AreBytes};
 ghost use Rattle.my_grammar.specs.declared.login.Login.{Login as AnyLogin};
 ghost use Rattle.my_grammar.specs.declared.spot.Kind.{Kind as AnyKind};
+ghost use Rattle.my_grammar.specs.declared.spot.Terms.{Terms as AnyTerms};
 ghost use Rattle.my_grammar.specs.Contexts.{is_bad};
-ghost use Rattle.my_grammar.specs.Talk.{Fits, Talk, Turn, limit_of, origin, server_bytes, turns};
+ghost use Rattle.my_grammar.specs.FitReplies.{IsRefusal, IsWholeReply};
+ghost use Rattle.my_grammar.specs.Prepares.{Unanswered};
+ghost use Rattle.my_grammar.specs.Talk.{Fits, Preparing, Talk, Turn, limit_of, origin, packets_of, server_bytes, turns};
 ghost use Rattle.my_grammar.specs.Growth.{Grows, Reads};
 ghost use Rattle.my_grammar.specs.Cut.{cut, is_over, kind_of, onto, read_from};
 ghost use Rattle.my_grammar.specs.CutLaws.{IsCut, IsRead, RestGoesOn, RestStays};
@@ -51,4 +55,12 @@ pub fn cutting_stays()
         → RestStays more (cut ts bytes).talks (cut ts bytes).rest (cut ts (bytes ++ more)) }
     ensures goes_on { (ts us : List Talk) (bytes : List ℕ)
         → RestGoesOn us (cut ts bytes).talks (cut ts bytes).rest (cut (ts ++ us) bytes) }
+{}
+
+/// The reply to a statement to prepare, once it is over, is an ERR alone, or a head with exactly as many parameters and columns as it
+/// says, each part with its EOF where the server doesn't deprecate it.
+pub fn prepare_is_whole()
+    ensures whole { (terms : AnyTerms) (command : List ℕ) (t : Talk) → origin t ≡ Preparing terms command Unanswered
+        → Fits t → is_over t ≡ true
+        → IsRefusal (packets_of t) ⊎ IsWholeReply (deprecates_eof terms.kept) (packets_of t) }
 {}

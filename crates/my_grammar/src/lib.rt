@@ -19,4 +19,4 @@ pub use packet::Packet;
 pub use progress::{Opening, Progress};
 pub use queue::Queue;
 pub use scramble::native_answer;
-pub use spot::{Context, Kind, Spot, Terms};
+pub use spot::{Context, Kind, RowFormat, Spot, Terms};

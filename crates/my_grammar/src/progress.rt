@@ -2,18 +2,21 @@
 
 ghost use Rattle.std.specs.Prelude.{◌≡◌, [], ◌++◌, OnOk, IfOk, MatchOption};
 ghost use Rattle.my_frame.specs.Chunks.{chunks, number_after_payload};
-ghost use Rattle.my_grammar.specs.Growth.{number_next, said};
+ghost use Rattle.my_grammar.specs.Growth.{described_after, number_next, said};
 ghost use Rattle.my_grammar.specs.Progress.{IsAt, talk_of};
 ghost use Rattle.my_grammar.specs.Reading.{HeardNone, HeardOne, Hears, InFront, NoneInFront};
 ghost use Rattle.my_grammar.specs.Contexts.{is_bad};
 ghost use Rattle.my_frame.specs.Front.{front_at};
+ghost use Rattle.my_grammar.specs.Sets.{column_list};
+ghost use Rattle.my_reply.specs.Column.{column_at};
 
 use crate::kinds::kind_at;
 use crate::login::{Login, login_response};
 use crate::packet::Packet;
 use crate::queue::Queue;
-use crate::spot::{Context, Kind, Spot, Terms};
-use my_frame::{Blob, CodecError, FramedPayload, NoMemory, payload_in_front};
+use crate::spot::{Context, Kind, RowFormat, Spot, Terms};
+use my_frame::{Blob, CodecError, FramedPayload, NoMemory, ReadError, payload_in_front};
+use my_reply::{Column, read_column};
 use std::alloc::Global;
 
 /// How an exchange begins: with the server's greeting, or with a command.
@@ -24,6 +27,10 @@ pub enum Opening {
     Simple { terms: Terms, command: Blob },
     /// A command that sets answer.
     Query { terms: Terms, command: Blob },
+    /// A prepared statement to execute, which sets with binary rows answer.
+    Execute { terms: Terms, command: Blob },
+    /// A statement to prepare.
+    Prepare { terms: Terms, command: Blob },
     /// A command without a reply.
     Silent { terms: Terms, command: Blob },
 }
@@ -43,6 +50,14 @@ impl Opening {
                 terms: *terms,
                 command: command.copy(alloc)?,
             }),
+            Opening::Execute { terms, command } => Ok(Opening::Execute {
+                terms: *terms,
+                command: command.copy(alloc)?,
+            }),
+            Opening::Prepare { terms, command } => Ok(Opening::Prepare {
+                terms: *terms,
+                command: command.copy(alloc)?,
+            }),
             Opening::Silent { terms, command } => Ok(Opening::Silent {
                 terms: *terms,
                 command: command.copy(alloc)?,
@@ -55,6 +70,8 @@ impl Opening {
 #[derive(Drop)]
 pub struct Progress {
     pub context: Context,
+    /// The columns of the set that is being read, as far as they are described; none between sets.
+    pub columns: Vec<Column>,
     /// The sequence id of the next packet.
     pub number: u8,
     /// The server's payloads in order.
@@ -63,20 +80,29 @@ pub struct Progress {
     pub sent: Queue,
 }
 
-fn asked(alloc: Global, spot: Spot, terms: Terms, command: &[u8]) -> Result<Progress, NoMemory>
-    ensures { IfOk result (λ p. (p.context ≡ record { spot = spot; columns = 0; terms = terms })
-        × (p.number ≡ number_after_payload command.now 0) × (p.packets.items ≡ [])
+// An exchange that begins with a command.
+fn asked(
+    alloc: Global,
+    spot: Spot,
+    rows: RowFormat,
+    terms: Terms,
+    command: &[u8],
+) -> Result<Progress, NoMemory>
+    ensures { IfOk result (λ p. (p.context ≡ record { spot = spot; rows = rows; columns = 0; terms = terms })
+        × (p.columns.items ≡ []) × (p.number ≡ number_after_payload command.now 0) × (p.packets.items ≡ [])
         × (p.sent ≡ [] ++ chunks command.now 0)) }
 {
     let mut sent = Queue::new(alloc);
     let number = sent.push_payload(command, 0)?;
     let context = Context {
         spot,
+        rows,
         columns: 0,
         terms,
     };
     Ok(Progress {
         context,
+        columns: Vec::new(alloc),
         number,
         packets: Vec::new(alloc),
         sent,
@@ -100,6 +126,17 @@ fn whole_in_front(
     }
 }
 
+// The column joins the others, where the payload is one.
+fn add_column(alloc: Global, columns: &mut Vec<Column>, payload: &[u8]) -> Result<(), NoMemory>
+    ensures { OnOk result (columns.new.items ≡ columns.old.items ++ column_list (column_at payload.now)) }
+{
+    match read_column(alloc, payload) {
+        Ok(column) => columns.push(column).map_err(|_| NoMemory),
+        Err(ReadError::Malformed) => Ok(()),
+        Err(ReadError::NoMemory) => Err(NoMemory),
+    }
+}
+
 fn is_bad(kind: Kind) -> bool
     ensures { result ≡ is_bad kind }
 {
@@ -118,21 +155,30 @@ impl Progress {
     ) -> Result<Progress, NoMemory>
         ensures { IfOk result (λ p. IsAt (talk_of login.now opening.now) p) }
     {
+        let text = RowFormat::Text;
         match opening {
             Opening::Connect => Ok(Progress {
                 context: Context::start(login),
+                columns: Vec::new(alloc),
                 number: 0,
                 packets: Vec::new(alloc),
                 sent: Queue::new(alloc),
             }),
             Opening::Simple { terms, command } => {
-                asked(alloc, Spot::Single, *terms, command.as_slice())
+                asked(alloc, Spot::Single, text, *terms, command.as_slice())
             }
             Opening::Query { terms, command } => {
-                asked(alloc, Spot::Head, *terms, command.as_slice())
+                asked(alloc, Spot::Head, text, *terms, command.as_slice())
+            }
+            Opening::Execute { terms, command } => {
+                let binary = RowFormat::Binary;
+                asked(alloc, Spot::Head, binary, *terms, command.as_slice())
+            }
+            Opening::Prepare { terms, command } => {
+                asked(alloc, Spot::Prepare, text, *terms, command.as_slice())
             }
             Opening::Silent { terms, command } => {
-                asked(alloc, Spot::Idle, *terms, command.as_slice())
+                asked(alloc, Spot::Idle, text, *terms, command.as_slice())
             }
         }
     }
@@ -149,7 +195,9 @@ impl Progress {
         requires { next ≡ number_after_payload payload.now self.old.number }
         ensures sent { OnOk result (self.new.sent ≡ self.old.sent ++ said login.now kind payload.now self.old.number) }
         ensures number { OnOk result (self.new.number ≡ number_next login.now kind payload.now self.old.number) }
-        ensures others { (self.new.context ≡ self.old.context) × (self.new.packets.items ≡ self.old.packets.items) }
+        ensures context { self.new.context ≡ self.old.context }
+        ensures columns { self.new.columns.items ≡ self.old.columns.items }
+        ensures packets { self.new.packets.items ≡ self.old.packets.items }
     {
         match kind {
             Kind::Greets(_) => {
@@ -157,6 +205,22 @@ impl Progress {
                 self.number = self.sent.push_payload(response.as_slice(), next)?;
             }
             _ => self.number = next,
+        }
+        Ok(())
+    }
+
+    // What a payload of this kind says of the columns of a set.
+    fn describe(&mut self, alloc: Global, kind: Kind, payload: &[u8]) -> Result<(), NoMemory>
+        ensures columns { OnOk result (self.new.columns.items ≡ described_after self.old.columns.items kind payload.now) }
+        ensures context { self.new.context ≡ self.old.context }
+        ensures number { self.new.number ≡ self.old.number }
+        ensures packets { self.new.packets.items ≡ self.old.packets.items }
+        ensures sent { self.new.sent ≡ self.old.sent }
+    {
+        match kind {
+            Kind::Column => add_column(alloc, &mut self.columns, payload)?,
+            Kind::ColumnsDone | Kind::Row => {}
+            _ => self.columns.clear(),
         }
         Ok(())
     }
@@ -174,6 +238,7 @@ impl Progress {
         ensures { OnOk result (Hears login.now kind payload self.old self.new) }
     {
         self.say(alloc, login, kind, payload.as_slice(), next)?;
+        self.describe(alloc, kind, payload.as_slice())?;
         self.context = self.context.after(kind);
         self.packets
             .push(Packet { kind, payload })
@@ -197,7 +262,7 @@ impl Progress {
             return Ok(None);
         };
         let FramedPayload { payload, span } = framed;
-        let kind = kind_at(self.context, payload.as_slice());
+        let kind = kind_at(self.context, self.columns.as_slice(), payload.as_slice());
         if is_bad(kind) {
             return Ok(None);
         }

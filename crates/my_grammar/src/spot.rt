@@ -1,7 +1,7 @@
 //! The place of the reading in an exchange, and how it moves on with each payload.
 
 ghost use Rattle.std.specs.Prelude.{◌≡◌};
-ghost use Rattle.my_grammar.specs.Contexts.{after_column, after_columns, after_greeting, after_head, after_row, columns_after, context_after, more, spot_after, kept_after};
+ghost use Rattle.my_grammar.specs.Contexts.{after_column, after_columns, after_field, after_greeting, after_head, after_parameter, after_parameters, after_prepare, after_prepared, after_row, columns_after, context_after, more, spot_after, kept_after};
 
 use crate::login::Login;
 use my_flags::{CapabilityFlags, StatusFlags};
@@ -28,6 +28,25 @@ pub enum Spot {
     ColumnsEnd,
     /// A row, or the set's end.
     Rows,
+    /// The head of the reply to a statement to prepare.
+    Prepare,
+    /// This many parameters of a statement, at least one, and then its columns.
+    Parameters { left: u16, columns: u16 },
+    /// The EOF after the parameters, and then this many columns.
+    ParametersEnd(u16),
+    /// This many columns of a statement, at least one.
+    Fields(u16),
+    /// The EOF after them.
+    FieldsEnd,
+}
+
+/// How the rows of an exchange's sets are written.
+#[derive(Clone, Copy, Debug, PartialEq, Eq)]
+pub enum RowFormat {
+    /// Each cell is `NULL` or bytes.
+    Text,
+    /// Each cell is what its column's type and flags say.
+    Binary,
 }
 
 /// What a payload is in its context.
@@ -43,12 +62,18 @@ pub enum Kind {
     Count(u16),
     /// A column.
     Column,
-    /// The EOF after the columns.
+    /// The EOF after the columns, or after the parameters of a statement.
     ColumnsDone,
     /// A row.
     Row,
     /// A set's end with this status.
     End(StatusFlags),
+    /// The head of the reply to a statement to prepare, with the numbers of its parameters and of its columns.
+    Prepared { params: u16, columns: u16 },
+    /// A parameter of a statement.
+    Parameter,
+    /// A column of a statement.
+    Field,
     /// Nothing that fits there.
     Bad,
 }
@@ -62,10 +87,11 @@ pub struct Terms {
     pub limit: u64,
 }
 
-/// All that the reading of the next payload needs to know of those before.
+/// All that the reading of the next payload needs to know of those before, but for the columns of its set.
 #[derive(Clone, Copy, Debug, PartialEq, Eq)]
 pub struct Context {
     pub spot: Spot,
+    pub rows: RowFormat,
     /// The number of columns of the set that is being read, 0 between sets.
     pub columns: u16,
     pub terms: Terms,
@@ -130,16 +156,79 @@ fn at_row(kind: Kind) -> Spot
     }
 }
 
+fn at_parameters_end(columns: u16) -> Spot
+    ensures { result ≡ after_parameters columns }
+{
+    if columns == 0 {
+        Spot::Idle
+    } else {
+        Spot::Fields(columns)
+    }
+}
+
+fn at_prepared(params: u16, columns: u16) -> Spot
+    ensures { result ≡ after_prepared params columns }
+{
+    if params == 0 {
+        at_parameters_end(columns)
+    } else {
+        Spot::Parameters {
+            left: params,
+            columns,
+        }
+    }
+}
+
+fn at_prepare(kind: Kind) -> Spot
+    ensures { result ≡ after_prepare kind }
+{
+    match kind {
+        Kind::Prepared { params, columns } => at_prepared(params, columns),
+        _ => Spot::Idle,
+    }
+}
+
+fn at_parameter(ends_with_ok: bool, left: u16, columns: u16) -> Spot
+    ensures { result ≡ after_parameter ends_with_ok left columns }
+{
+    if left > 1 {
+        Spot::Parameters {
+            left: left - 1,
+            columns,
+        }
+    } else if ends_with_ok {
+        at_parameters_end(columns)
+    } else {
+        Spot::ParametersEnd(columns)
+    }
+}
+
+fn at_field(ends_with_ok: bool, left: u16) -> Spot
+    ensures { result ≡ after_field ends_with_ok left }
+{
+    if left > 1 {
+        Spot::Fields(left - 1)
+    } else if ends_with_ok {
+        Spot::Idle
+    } else {
+        Spot::FieldsEnd
+    }
+}
+
 fn next_spot(ends_with_ok: bool, spot: Spot, kind: Kind) -> Spot
     ensures { result ≡ spot_after ends_with_ok spot kind }
 {
     match spot {
-        Spot::Idle | Spot::Authentication | Spot::Single => Spot::Idle,
+        Spot::Idle | Spot::Authentication | Spot::Single | Spot::FieldsEnd => Spot::Idle,
         Spot::Greeting => at_greeting(kind),
         Spot::Head | Spot::Further => at_head(kind),
         Spot::Columns(left) => at_column(ends_with_ok, left),
         Spot::ColumnsEnd => Spot::Rows,
         Spot::Rows => at_row(kind),
+        Spot::Prepare => at_prepare(kind),
+        Spot::Parameters { left, columns } => at_parameter(ends_with_ok, left, columns),
+        Spot::ParametersEnd(columns) => at_parameters_end(columns),
+        Spot::Fields(left) => at_field(ends_with_ok, left),
     }
 }
 
@@ -149,7 +238,7 @@ fn next_columns(columns: u16, kind: Kind) -> u16
     match kind {
         Kind::Count(columns) => columns,
         Kind::Column | Kind::ColumnsDone | Kind::Row => columns,
-        Kind::Greets(_) | Kind::Good(_) | Kind::Failed | Kind::End(_) | Kind::Bad => 0,
+        _ => 0,
     }
 }
 
@@ -171,6 +260,7 @@ impl Context {
     {
         Context {
             spot: Spot::Greeting,
+            rows: RowFormat::Text,
             columns: 0,
             terms: Terms {
                 kept: login.capabilities,
@@ -185,6 +275,7 @@ impl Context {
     {
         Context {
             spot: next_spot(self.terms.kept.deprecates_eof(), self.spot, kind),
+            rows: self.rows,
             columns: next_columns(self.columns, kind),
             terms: Terms {
                 kept: next_kept(self.terms.kept, kind),

@@ -17,14 +17,15 @@ use Rattle.my_grammar.specs.Contexts.{is_bad}
 use Rattle.my_grammar.specs.Cut.{front_of, kind_of, is_over}
 use Rattle.my_grammar.specs.Growth.{grow}
 use Rattle.my_grammar.specs.Response.{response}
-use Rattle.my_grammar.specs.Sets.{NoSets}
+use Rattle.my_grammar.specs.Sets.{ByText, NoSets}
 use Rattle.my_grammar.specs.Talk.{Talk, Asked, Queried, Silent, turns, number_of, context_of, limit_of, Fits, login_in}
 use Rattle.my_reading.specs.declared.call.Call.{Call}
 use Rattle.my_reading.specs.declared.call.Call.TheVariants as calls
 use Rattle.my_reading.specs.Commands.{arranging_texts, connecting, query_of, command_in}
 use Rattle.my_reading.specs.Course.{Step, Goes, Stops, step, step_of, unless_owed, reads, with_front, after_payload, after_kind, after_err, with_command, failure, is_greeting, is_rows}
 use Rattle.my_reading.specs.Errors.{codec_error}
-use Rattle.my_reading.specs.Place.{Place, exchanges, facts_at, client_side, connects_in, terms_of, owed, next_exchange, with_end, with_taken, with_talk, with_exchange}
+use Rattle.my_reading.proofs.Described.{kind_known}
+use Rattle.my_reading.specs.Place.{Place, exchanges, facts_at, facts_of, client_side, connects_in, terms_of, owed, next_exchange, with_end, with_taken, with_talk, with_exchange}
 use Rattle.my_reading.specs.Rows.{row_of}
 use Rattle.my_reading.specs.Told.{ToldRow}
 use Rattle.my_judge.specs.declared.part.Part.{Part as CodePart}
@@ -85,6 +86,9 @@ module _ (login : Login) (part : CodePart) (more : List CodePart) (new : Place) 
       by_part parts.Head kinds.ColumnsDone = (refl, at)
       by_part parts.Head kinds.Row = (refl, at)
       by_part parts.Head (kinds.End status) = (refl, at)
+      by_part parts.Head (kinds.Prepared params columns) = (refl, at)
+      by_part parts.Head kinds.Parameter = (refl, at)
+      by_part parts.Head kinds.Field = (refl, at)
       by_part parts.Head kinds.Bad = (refl, at)
       by_part parts.Item (kinds.Good status) = (refl, at)
       by_part parts.Item (kinds.Greets c) = (refl, at)
@@ -94,6 +98,9 @@ module _ (login : Login) (part : CodePart) (more : List CodePart) (new : Place) 
       by_part parts.Item kinds.ColumnsDone = (refl, at)
       by_part parts.Item kinds.Row = (refl, at)
       by_part parts.Item (kinds.End status) = (refl, at)
+      by_part parts.Item (kinds.Prepared params columns) = (refl, at)
+      by_part parts.Item kinds.Parameter = (refl, at)
+      by_part parts.Item kinds.Field = (refl, at)
       by_part parts.Item kinds.Bad = (refl, at)
       by_part parts.Set (kinds.Good status) = (refl, subst (λ (x : Stand). IsAt login (with_taken (with_end new)) (with_mark (with_left true x))) (sym is) (at_end_taken login new n arranged fits same))
       by_part parts.Set (kinds.Greets c) = (refl, at)
@@ -103,6 +110,9 @@ module _ (login : Login) (part : CodePart) (more : List CodePart) (new : Place) 
       by_part parts.Set kinds.ColumnsDone = (refl, at)
       by_part parts.Set kinds.Row = (refl, at)
       by_part parts.Set (kinds.End status) = (refl, at)
+      by_part parts.Set (kinds.Prepared params columns) = (refl, at)
+      by_part parts.Set kinds.Parameter = (refl, at)
+      by_part parts.Set kinds.Field = (refl, at)
       by_part parts.Set kinds.Bad = (refl, at)
       by_part parts.Rest k = (refl, at)
 
@@ -118,7 +128,7 @@ module _ (login : Login) (p : Place) (n : ℕ) (arranged : connects_in (exchange
     new k = with_talk p (grow k p.talk payload) rest
 
     abbrev row : RowParts
-    row = row_of (facts_at login p).columns payload
+    row = row_of (context_of p.talk).rows (facts_at login p).columns payload
 
     -- after a payload of this kind
     abbrev Reads : Kind → Type 0
@@ -153,6 +163,9 @@ module _ (login : Login) (p : Place) (n : ℕ) (arranged : connects_in (exchange
     payload_follows kinds.ColumnsDone e = plain_follows kinds.ColumnsDone e refl
     payload_follows kinds.Row e = plain_follows kinds.Row e refl
     payload_follows (kinds.End status) e = plain_follows (kinds.End status) e refl
+    payload_follows (kinds.Prepared params columns) e = plain_follows (kinds.Prepared params columns) e refl
+    payload_follows kinds.Parameter e = plain_follows kinds.Parameter e refl
+    payload_follows kinds.Field e = plain_follows kinds.Field e refl
 
   reads_follow : (part : CodePart) (more : List CodePart) → TurnIs login (part ∷ more) (code_reads login part s) (reads login (part_of part) (map part_of more) p)
   reads_follow part more = subst (λ l. TurnIs login (part ∷ more) (code_front login part s (front_at (number_of (turns p.talk)) l p.unread)) (reads login (part_of part) (map part_of more) p)) (sym (limit_is p.talk))
@@ -161,7 +174,9 @@ module _ (login : Login) (p : Place) (n : ℕ) (arranged : connects_in (exchange
       by_front : (x : Front) → front_of p.talk p.unread ≡ x → TurnIs login (part ∷ more) (code_front login part s x) (with_front login (part_of part) (map part_of more) p x)
       by_front Waiting e = (refl, here)
       by_front (Broken fault) e = (refl, here)
-      by_front (Whole payload rest next) e = payload_follows part more payload rest next e (kind_of p.talk payload) refl
+      by_front (Whole payload rest next) e =
+          subst (λ k. TurnIs login (part ∷ more) (code_payload login part payload s (heard login k payload rest s) k) (after_payload login (part_of part) (map part_of more) p (with_talk p (grow (kind_of p.talk payload) p.talk payload) rest) payload (kind_of p.talk payload)))
+          (sym (kind_known p.talk (facts_of login p.older) payload fits)) (payload_follows part more payload rest next e (kind_of p.talk payload) refl)
 
   -- a command of this exchange
   asks_follows : (call : Call) (more : List CodePart) (talk : Talk) (t : Turn) (m : ℕ) → IsAt login (with_exchange p call talk) t.stand → t.does ≡ steps.Passes
@@ -182,7 +197,7 @@ module _ (login : Login) (p : Place) (n : ℕ) (arranged : connects_in (exchange
   arranges_follow : (more : List CodePart) (x : Option (List ℕ)) → TurnIs login (parts.Command ∷ more) (arranges x s) (with_command calls.Connect (map part_of more) p (query_of terms x))
   arranges_follow more None = (refl, here)
   arranges_follow more (Some text) =
-      let talk : Talk = Queried terms (packet_bytes (packets.Query text)) NoSets in
+      let talk : Talk = Queried terms (packet_bytes (packets.Query text)) (NoSets ByText) in
       asks_follows calls.Connect more talk (turn steps.Passes (asked spots.Head (packet_bytes (packets.Query text)) (suc n) s)) (suc n)
       (asked_at calls.Connect talk _ (suc n) refl refl (ap suc arranged) (record { kinds = tt; within = tt }) refl) refl
 
@@ -190,7 +205,7 @@ module _ (login : Login) (p : Place) (n : ℕ) (arranged : connects_in (exchange
   commands_follow calls.Connect more = subst (λ k. TurnIs login (parts.Command ∷ more) (commands calls.Connect s) (with_command calls.Connect (map part_of more) p (connecting login terms k))) (sym arranged)
       (arranges_follow more (slice_get (arranging_texts login) n))
   commands_follow (calls.Query text) more =
-      let talk : Talk = Queried terms (packet_bytes (packets.Query text)) NoSets in
+      let talk : Talk = Queried terms (packet_bytes (packets.Query text)) (NoSets ByText) in
       asks_follows (calls.Query text) more talk (turn steps.Passes (asked spots.Head (packet_bytes (packets.Query text)) n s)) n
       (asked_at (calls.Query text) talk _ n refl refl arranged (record { kinds = tt; within = tt }) refl) refl
   commands_follow calls.NextRow more = (refl, here)

@@ -9,7 +9,7 @@ use Rattle.my_grammar.specs.declared.spot.Context.{Context}
 use Rattle.my_grammar.specs.Contexts.{is_bad}
 use Rattle.my_grammar.specs.Cut.{front_of, kind_of}
 use Rattle.my_grammar.specs.Growth.{grow, replies, said, Grows, Reads}
-use Rattle.my_grammar.specs.Talk.{Talk, Start, Unwelcome, Greeted, Settled, Asked, Replied, Queried, Silent, Server, turns, number_of, client_bytes, context_of, limit_of, Fits, login_in}
+use Rattle.my_grammar.specs.Talk.{Talk, Start, Unwelcome, Greeted, Settled, Asked, Replied, Queried, Preparing, Silent, Server, turns, number_of, client_bytes, context_of, limit_of, Fits, login_in}
 use Rattle.my_reading.specs.Commands.{arranging_texts}
 use Rattle.my_reading.specs.declared.facts.Facts.{Facts}
 use Rattle.my_reading.specs.Facts.{facts_by}
@@ -25,6 +25,7 @@ limit_is (Settled login p c last kind) = refl
 limit_is (Asked terms c) = refl
 limit_is (Replied terms c last kind) = refl
 limit_is (Queried terms c sets) = refl
+limit_is (Preparing terms c reply) = refl
 limit_is (Silent terms c) = refl
 
 -- a stand whose fields are these

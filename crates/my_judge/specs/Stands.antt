@@ -16,6 +16,7 @@ use Rattle.my_grammar.specs.declared.spot.Spot.TheVariants as spots
 use Rattle.my_grammar.specs.Contexts.{context_after}
 use Rattle.my_grammar.specs.Cut.{is_idle}
 use Rattle.my_grammar.specs.Growth.{number_next, said}
+use Rattle.my_grammar.specs.declared.spot.RowFormat.TheVariants.{Text}
 use Rattle.my_grammar.specs.Kinds.{kind_there}
 use Rattle.my_grammar.specs.Response.{response}
 use Rattle.my_grammar.specs.Talk.{turns, number_of, context_of, Fits, login_in}
@@ -123,7 +124,7 @@ heard login k payload rest s = record {
 -- the exchange of a command begins
 abbrev pub asked : Spot → List ℕ → ℕ → Stand → Stand
 asked spot command arranged s = record {
-  context = record { spot = spot; columns = 0; terms = record { kept = s.context.terms.kept; limit = s.facts.settings.limit } };
+  context = record { spot = spot; rows = Text; columns = 0; terms = record { kept = s.context.terms.kept; limit = s.facts.settings.limit } };
   number = number_after_payload command 0;
   facts = s.facts;
   texts = s.texts;
@@ -180,12 +181,12 @@ abbrev pub after_payload : Login → Part → List ℕ → Stand → Stand → K
 after_payload login part payload s new kinds.Bad = turn (unfit s) s
 after_payload login part payload s new kinds.Failed = after_err (err_at (is_greeting s.context.spot) payload) s new
 after_payload login part payload s new (kinds.Greets capabilities) = after_greeting (length (response login payload)) s new
-after_payload login part payload s new k = after_kind part k (row_of s.facts.columns payload) new
+after_payload login part payload s new k = after_kind part k (row_of s.context.rows s.facts.columns payload) new
 
 -- a payload with the bytes that follow it
 abbrev pub read_payload : Login → Part → List ℕ → List ℕ → Stand → Turn
 read_payload login part payload rest s =
-    after_payload login part payload s (heard login (kind_there s.context payload) payload rest s) (kind_there s.context payload)
+    after_payload login part payload s (heard login (kind_there s.context s.facts.columns payload) payload rest s) (kind_there s.context s.facts.columns payload)
 
 abbrev pub with_front : Login → Part → Stand → Front → Turn
 with_front login part s Waiting = turn (Stops Awaits) s

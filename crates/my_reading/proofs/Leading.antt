@@ -60,6 +60,9 @@ module _ (part : Part) (parts : List Part) (p : Place) (t : Talk) (rest : List â
       by_part Head kinds.ColumnsDone = omega arith
       by_part Head kinds.Row = omega arith
       by_part Head (kinds.End status) = omega arith
+      by_part Head (kinds.Prepared params columns) = omega arith
+      by_part Head kinds.Parameter = omega arith
+      by_part Head kinds.Field = omega arith
       by_part Head kinds.Bad = omega arith
       by_part Item (kinds.Good status) = omega arith
       by_part Item (kinds.Greets n) = omega arith
@@ -69,6 +72,9 @@ module _ (part : Part) (parts : List Part) (p : Place) (t : Talk) (rest : List â
       by_part Item kinds.ColumnsDone = omega arith
       by_part Item kinds.Row = omega arith
       by_part Item (kinds.End status) = omega arith
+      by_part Item (kinds.Prepared params columns) = omega arith
+      by_part Item kinds.Parameter = omega arith
+      by_part Item kinds.Field = omega arith
       by_part Item kinds.Bad = omega arith
       by_part Set (kinds.Good status) = omega arith
       by_part Set (kinds.Greets n) = omega arith
@@ -78,6 +84,9 @@ module _ (part : Part) (parts : List Part) (p : Place) (t : Talk) (rest : List â
       by_part Set kinds.ColumnsDone = omega arith
       by_part Set kinds.Row = omega arith
       by_part Set (kinds.End status) = omega arith
+      by_part Set (kinds.Prepared params columns) = omega arith
+      by_part Set kinds.Parameter = omega arith
+      by_part Set kinds.Field = omega arith
       by_part Set kinds.Bad = omega arith
 
   err_size : (login : Login) (x : Option ErrPacket) â†’ size_of (after_err login p new x) â‰¤ left
@@ -96,12 +105,15 @@ module _ (part : Part) (parts : List Part) (p : Place) (t : Talk) (rest : List â
   payload_size login payload kinds.Bad = omega arith
   payload_size login payload kinds.Failed = err_size login (err_at (is_greeting (context_of p.talk).spot) payload)
   payload_size login payload (kinds.Greets n) = long_size login payload (nat_lt (limit_of p.talk) (length (response login payload))) refl
-  payload_size login payload (kinds.Good status) = kind_size (ToldRow (row_of (facts_at login p).columns payload)) (kinds.Good status)
-  payload_size login payload (kinds.Count n) = kind_size (ToldRow (row_of (facts_at login p).columns payload)) (kinds.Count n)
-  payload_size login payload kinds.Column = kind_size (ToldRow (row_of (facts_at login p).columns payload)) kinds.Column
-  payload_size login payload kinds.ColumnsDone = kind_size (ToldRow (row_of (facts_at login p).columns payload)) kinds.ColumnsDone
-  payload_size login payload kinds.Row = kind_size (ToldRow (row_of (facts_at login p).columns payload)) kinds.Row
-  payload_size login payload (kinds.End status) = kind_size (ToldRow (row_of (facts_at login p).columns payload)) (kinds.End status)
+  payload_size login payload (kinds.Good status) = kind_size (ToldRow (row_of (context_of p.talk).rows (facts_at login p).columns payload)) (kinds.Good status)
+  payload_size login payload (kinds.Count n) = kind_size (ToldRow (row_of (context_of p.talk).rows (facts_at login p).columns payload)) (kinds.Count n)
+  payload_size login payload kinds.Column = kind_size (ToldRow (row_of (context_of p.talk).rows (facts_at login p).columns payload)) kinds.Column
+  payload_size login payload kinds.ColumnsDone = kind_size (ToldRow (row_of (context_of p.talk).rows (facts_at login p).columns payload)) kinds.ColumnsDone
+  payload_size login payload kinds.Row = kind_size (ToldRow (row_of (context_of p.talk).rows (facts_at login p).columns payload)) kinds.Row
+  payload_size login payload (kinds.End status) = kind_size (ToldRow (row_of (context_of p.talk).rows (facts_at login p).columns payload)) (kinds.End status)
+  payload_size login payload (kinds.Prepared params columns) = kind_size (ToldRow (row_of (context_of p.talk).rows (facts_at login p).columns payload)) (kinds.Prepared params columns)
+  payload_size login payload kinds.Parameter = kind_size (ToldRow (row_of (context_of p.talk).rows (facts_at login p).columns payload)) kinds.Parameter
+  payload_size login payload kinds.Field = kind_size (ToldRow (row_of (context_of p.talk).rows (facts_at login p).columns payload)) kinds.Field
 
 -- a payload that is read is not empty of bytes
 reads_size : (login : Login) (part : Part) (parts : List Part) (p : Place) â†’ size_of (reads login part parts p) < suc (length p.unread + 2 * suc (length parts))

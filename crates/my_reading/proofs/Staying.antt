@@ -62,6 +62,9 @@ module _ (login : Login) (sent taken : List ℕ) where
   kind_more Head parts kinds.ColumnsDone new row = refl
   kind_more Head parts kinds.Row new row = refl
   kind_more Head parts (kinds.End status) new row = refl
+  kind_more Head parts (kinds.Prepared params columns) new row = refl
+  kind_more Head parts kinds.Parameter new row = refl
+  kind_more Head parts kinds.Field new row = refl
   kind_more Head parts kinds.Bad new row = refl
   kind_more Item parts (kinds.Good status) new row = refl
   kind_more Item parts (kinds.Greets n) new row = refl
@@ -71,6 +74,9 @@ module _ (login : Login) (sent taken : List ℕ) where
   kind_more Item parts kinds.ColumnsDone new row = refl
   kind_more Item parts kinds.Row new row = refl
   kind_more Item parts (kinds.End status) new row = refl
+  kind_more Item parts (kinds.Prepared params columns) new row = refl
+  kind_more Item parts kinds.Parameter new row = refl
+  kind_more Item parts kinds.Field new row = refl
   kind_more Item parts kinds.Bad new row = refl
   kind_more Set parts (kinds.Good status) new row = refl
   kind_more Set parts (kinds.Greets n) new row = refl
@@ -80,11 +86,14 @@ module _ (login : Login) (sent taken : List ℕ) where
   kind_more Set parts kinds.ColumnsDone new row = refl
   kind_more Set parts kinds.Row new row = refl
   kind_more Set parts (kinds.End status) new row = refl
+  kind_more Set parts (kinds.Prepared params columns) new row = refl
+  kind_more Set parts kinds.Parameter new row = refl
+  kind_more Set parts kinds.Field new row = refl
   kind_more Set parts kinds.Bad new row = refl
 
   module _ (part : Part) (parts : List Part) (p : Place) where
     abbrev row : List ℕ → Told
-    row payload = ToldRow (row_of (facts_at login p).columns payload)
+    row payload = ToldRow (row_of (context_of p.talk).rows (facts_at login p).columns payload)
 
     err_more : (new : Place) (x : Option ErrPacket)
         → after_err login (more p) (more new) x ≡ lift sent taken (after_err login p new x)
@@ -113,6 +122,9 @@ module _ (login : Login) (sent taken : List ℕ) where
     payload_more new payload kinds.ColumnsDone = kind_more part parts kinds.ColumnsDone new (row payload)
     payload_more new payload kinds.Row = kind_more part parts kinds.Row new (row payload)
     payload_more new payload (kinds.End status) = kind_more part parts (kinds.End status) new (row payload)
+    payload_more new payload (kinds.Prepared params columns) = kind_more part parts (kinds.Prepared params columns) new (row payload)
+    payload_more new payload kinds.Parameter = kind_more part parts kinds.Parameter new (row payload)
+    payload_more new payload kinds.Field = kind_more part parts kinds.Field new (row payload)
 
     front_more : (rest : List Part) (q : Place) (x : Front) → FrontGrows taken x (front_of p.talk (p.unread ++ taken))
         → with_front login part parts p x ≡ Goes rest q → reads login part parts (more p) ≡ Goes rest (more q)

@@ -5,14 +5,14 @@ use Rattle.my_command.specs.declared.client.ClientPacket.TheVariants as packets
 use Rattle.my_command.specs.Client.Packet.{client_bytes as packet_bytes}
 use Rattle.my_grammar.specs.declared.login.Login.{Login}
 use Rattle.my_grammar.specs.declared.spot.Terms.{Terms}
-use Rattle.my_grammar.specs.Sets.{NoSets}
-use Rattle.my_grammar.specs.Talk.{Talk, Start, Asked, Replied, Queried, Silent}
+use Rattle.my_grammar.specs.Sets.{ByText, NoSets}
+use Rattle.my_grammar.specs.Talk.{Talk, Start, Asked, Replied, Queried, Preparing, Silent}
 use Rattle.my_reading.specs.declared.call.Call.{Call}
 use Rattle.my_reading.specs.declared.call.Call.TheVariants.{Connect, Query, NextRow, DropResult, TakeSet, SkipTaken, Ping, Quit}
 
 -- the exchange of the command of a call that sends one, between client and server that keep to these terms
 abbrev pub command_of : Terms → Call → Option Talk
-command_of terms (Query text) = Some (Queried terms (packet_bytes (packets.Query text)) NoSets)
+command_of terms (Query text) = Some (Queried terms (packet_bytes (packets.Query text)) (NoSets ByText))
 command_of terms Ping = Some (Asked terms (packet_bytes packets.Ping))
 command_of terms Quit = Some (Silent terms (packet_bytes packets.Quit))
 command_of terms _ = None
@@ -58,5 +58,6 @@ abbrev pub command_in : Talk → List ℕ
 command_in (Asked terms c) = c
 command_in (Replied terms c last kind) = c
 command_in (Queried terms c sets) = c
+command_in (Preparing terms c reply) = c
 command_in (Silent terms c) = c
 command_in _ = []

@@ -102,7 +102,7 @@ abbrev pub after_payload : Login → Part → List Part → Place → Place → 
 after_payload login part parts p new payload kinds.Bad = unfit login p
 after_payload login part parts p new payload kinds.Failed = after_err login p new (err_at (is_greeting (context_of p.talk).spot) payload)
 after_payload login part parts p new payload (kinds.Greets capabilities) = unless_long_response login p payload (Goes (part ∷ parts) new)
-after_payload login part parts p new payload k = after_kind part parts k new (ToldRow (row_of (facts_at login p).columns payload))
+after_payload login part parts p new payload k = after_kind part parts k new (ToldRow (row_of (context_of p.talk).rows (facts_at login p).columns payload))
 
 -- what the unread bytes begin with
 abbrev pub with_front : Login → Part → List Part → Place → Front → Step

@@ -1,5 +1,6 @@
 -- What a client learns from the server's payloads, as a fold over them.
--- MySQL internals, "Protocol::Handshake" (version and connection id), "OK_Packet", "ERR_Packet" and "Text Resultset".
+-- MySQL internals, "Protocol::Handshake" (version and connection id), "OK_Packet", "ERR_Packet" and "Text Resultset"; a reply to a
+-- statement to prepare ("COM_STMT_PREPARE Response") tells nothing of these.
 use Rattle.std.specs.Prelude.{ℕ, ◌+◌, ◌-◌, ◌^◌, min, List, [], ◌∷◌, ◌++◌, nat_le, Option, Some, None, if◌then◌else◌}
 use Rattle.my_flags.specs.declared.flags.StatusFlags.{StatusFlags}
 use Rattle.my_reply.specs.declared.ok.OkPacket.{OkPacket}
@@ -8,8 +9,9 @@ use Rattle.my_reply.specs.declared.column.Column.{Column}
 use Rattle.my_reply.specs.OkPacket.{ok_at, end_ok_at}
 use Rattle.my_handshake.specs.Greeting.{greeting_at}
 use Rattle.my_reply.specs.Column.{column_at}
+use Rattle.my_grammar.specs.declared.spot.RowFormat.TheVariants.{Text}
 use Rattle.my_grammar.specs.declared.spot.Kind.{Kind}
-use Rattle.my_grammar.specs.declared.spot.Kind.TheVariants.{Greets, Good, Failed, Count, Column as ColumnKind, ColumnsDone, Row, End, Bad}
+use Rattle.my_grammar.specs.declared.spot.Kind.TheVariants.{Greets, Good, Failed, Count, Column as ColumnKind, ColumnsDone, Row, End, Prepared, Parameter, Field, Bad}
 use Rattle.my_grammar.specs.declared.login.Login.{Login}
 use Rattle.my_grammar.specs.declared.packet.Packet.{Packet}
 use Rattle.my_reading.specs.declared.facts.Facts.{Facts}
@@ -54,7 +56,7 @@ with_column (Some c) f =
 abbrev pub with_settings : Settings → Facts → Facts
 with_settings settings f = record { version = f.version; connection = f.connection; status = f.status; ok = f.ok; left = f.left; gathered = f.gathered; columns = f.columns; settings = settings; place = f.place }
 
--- what a payload of this kind adds; an ERR empties the status and leaves no last OK
+-- what a payload of this kind adds: the settings are asked for by a query, whose rows are of the text protocol; an ERR empties the status and leaves no last OK
 abbrev pub told_after : Kind → List ℕ → Facts → Facts
 told_after (Greets capabilities) p f = with_greeting (greeting_at p) f
 told_after (Good status) p f = with_settings (good_settings f.settings.stage f.settings) (with_ok (ok_at p) status f)
@@ -62,8 +64,11 @@ told_after Failed p f = with_ok None no_status f
 told_after (Count n) p f = with_count n f
 told_after ColumnKind p f = with_column (column_at p) f
 told_after ColumnsDone p f = f
-told_after Row p f = with_settings (row_settings (row_at f.columns p) f.settings) f
+told_after Row p f = with_settings (row_settings (row_at Text f.columns p) f.settings) f
 told_after (End status) p f = with_settings (end_settings f.settings.stage f.settings) (with_ok (end_ok_at p) status f)
+told_after (Prepared params columns) p f = f
+told_after Parameter p f = f
+told_after Field p f = f
 told_after Bad p f = f
 
 abbrev pub facts_after : Kind → List ℕ → Facts → Facts

@@ -61,6 +61,13 @@ impl SetColumns {
         }
     }
 
+    /// The columns in order.
+    pub fn as_slice(&self) -> &[Column]
+        ensures { result.now ≡ self.now }
+    {
+        self.columns.as_slice()
+    }
+
     /// The columns, as rows share them.
     pub fn shared(&self) -> &Columns
         ensures { columns_of result.now ≡ self.now }

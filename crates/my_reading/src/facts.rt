@@ -6,13 +6,14 @@ ghost use Rattle.my_reply.specs.OkPacket.{ok_at, end_ok_at};
 ghost use Rattle.my_reply.specs.Column.{column_at};
 
 use crate::columns::SetColumns;
+use crate::row::read_row;
 use crate::settings::Settings;
 use my_flags::StatusFlags;
 use my_frame::{Blob, Listed, NoMemory, ReadError};
-use my_grammar::{Kind, Login};
+use my_grammar::{Kind, Login, RowFormat};
 use my_handshake::{Greeting, read_greeting};
 use my_reply::{Column, OkPacket, read_column, read_end_ok, read_ok};
-use my_value::{Row, read_text_row};
+use my_value::Row;
 use std::alloc::Global;
 
 /// What the server's payloads said so far.
@@ -153,9 +154,9 @@ impl Facts {
 
     // The row, where it is one.
     fn row_in(&self, alloc: Global, payload: &[u8]) -> Result<Option<Row>, NoMemory>
-        ensures { IfOk result (λ o. o ≡ row_at self.now.columns payload.now) }
+        ensures { IfOk result (λ o. o ≡ row_at RowFormat.Text self.now.columns payload.now) }
     {
-        match read_text_row(alloc, payload, self.columns.shared()) {
+        match read_row(alloc, RowFormat::Text, &self.columns, payload) {
             Ok(row) => Ok(Some(row)),
             Err(ReadError::Malformed) => Ok(None),
             Err(ReadError::NoMemory) => Err(NoMemory),
@@ -164,7 +165,7 @@ impl Facts {
 
     // A row with the settings.
     fn learn_row(&mut self, alloc: Global, payload: &[u8]) -> Result<(), NoMemory>
-        ensures ok { let row = row_at self.old.columns payload.now in
+        ensures ok { let row = row_at RowFormat.Text self.old.columns payload.now in
             OnOk result (self.new ≡ with_settings (row_settings row self.old.settings) self.old) }
         ensures err { OnErr result (self.new ≡ self.old) }
     {
@@ -206,7 +207,8 @@ impl Facts {
                 self.learn_column(alloc, column)?;
             }
             Kind::Row => self.learn_row(alloc, payload)?,
-            Kind::ColumnsDone | Kind::Bad => {}
+            Kind::ColumnsDone | Kind::Prepared { .. } | Kind::Parameter | Kind::Field | Kind::Bad =>
+                {}
         }
         self.count();
         Ok(())

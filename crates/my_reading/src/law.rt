@@ -1,5 +1,12 @@
 //! Laws of what calls come to. Each function's clause is the law; it does nothing.
 
+ghost use Rattle.std.specs.Prelude.{◌≡◌, ℕ, List, length};
+ghost use Rattle.my_grammar.specs.Cut.{kind_of};
+ghost use Rattle.my_grammar.specs.Kinds.{kind_there};
+ghost use Rattle.my_grammar.specs.Talk.{Fits, Talk, context_of, described, packets_of};
+ghost use Rattle.my_grammar.specs.declared.spot.Spot.TheVariants.{Rows};
+ghost use Rattle.my_reading.specs.Facts.{facts_by};
+ghost use Rattle.my_reading.specs.declared.facts.Facts.{Facts as AnyFacts};
 ghost use Rattle.my_reading.specs.Leads.{LeadingStays, LeadsToCourse, StepStays};
 
 /// A step of a call that goes on does the same once more bytes were sent or received, and so do the steps that lead
@@ -12,4 +19,14 @@ pub fn steps_stay()
 /// Where the steps of a call lead to a stop, that is what the call comes to.
 pub fn steps_lead_to_course()
     ensures { LeadsToCourse }
+{}
+
+/// While rows are read, the columns that a client knows are those that the exchange describes, as many as its context
+/// counts. So to a client a payload is what it is in the exchange.
+pub fn columns_are_known()
+    ensures known { (t : Talk) (f : AnyFacts) → Fits t → (context_of t).spot ≡ Rows
+        → (facts_by (packets_of t) f).columns ≡ described t }
+    ensures all { (t : Talk) → Fits t → (context_of t).spot ≡ Rows → (context_of t).columns ≡ length (described t) }
+    ensures kind { (t : Talk) (f : AnyFacts) (p : List ℕ) → Fits t
+        → kind_there (context_of t) (facts_by (packets_of t) f).columns p ≡ kind_of t p }
 {}

@@ -7,6 +7,7 @@ mod columns;
 mod error;
 mod facts;
 mod law;
+mod row;
 mod settings;
 
 pub use answer::Answer;
@@ -14,5 +15,6 @@ pub use call::{Call, CallKind};
 pub use columns::SetColumns;
 pub use error::{DriverError, Error, IoError, IoFault, IoKind, OtherError, ServerError};
 pub use facts::Facts;
-pub use law::{steps_lead_to_course, steps_stay};
+pub use law::{columns_are_known, steps_lead_to_course, steps_stay};
+pub use row::read_row;
 pub use settings::{Settings, Stage};

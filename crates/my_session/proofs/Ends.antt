@@ -62,9 +62,9 @@ unfolding needs
 reacted_needs s n p (reactions.Goes t) = refl
 reacted_needs s n p (reactions.Readies untold) = refl
 reacted_needs s n p reactions.Takes = refl
-reacted_needs s n p reactions.Gives = gave_needs s n (row_at s.facts.columns p)
+reacted_needs s n p reactions.Gives = gave_needs s n (row_at s.context.rows s.facts.columns p)
 reacted_needs s n p reactions.Ends = refl
-reacted_needs s n p reactions.PassesRow = passed_needs s n (row_at s.facts.columns p)
+reacted_needs s n p reactions.PassesRow = passed_needs s n (row_at s.context.rows s.facts.columns p)
 reacted_needs s n p reactions.PassesEnd = refl
 reacted_needs s n p reactions.Refuses = refused_needs s n (err_at _ p)
 reacted_needs s n p reactions.Breaks = refl
@@ -114,7 +114,7 @@ reading_rests : (s : Seen) (f : Front) → needs (reading s f).does ≡ true →
 unfolding needs RestsAt
 reading_rests s Waiting e = (waiting_rests s s.ended e, refl)
 reading_rests s (Broken fault) e = cc
-reading_rests s (Whole p rest next) e = absurd (no_need _ (kind_needs s p rest next (kind_there s.context p) (is_breaking (react s.task (kind_there s.context p)))) e)
+reading_rests s (Whole p rest next) e = absurd (no_need _ (kind_needs s p rest next (kind_there s.context s.facts.columns p) (is_breaking (react s.task (kind_there s.context s.facts.columns p)))) e)
 
 planned_rests : (s : Seen) (p : Plan) → needs (planned s p).does ≡ true → RestsAt s (planned s p) (planned (with_end s) p)
 unfolding needs

@@ -56,7 +56,8 @@ use Rattle.my_reading.specs.Rows.{row_at}
 use Rattle.my_session.specs.Seen.{Seen}
 use Rattle.my_session.specs.Stands.{Stands, Heard, call_with, is_reading}
 use Rattle.my_session.specs.Tables.{plan_of, clean_plan, own_plan, query_plan, read_plan, drop_plan, take_plan, skip_plan, react, is_breaking}
-use Rattle.my_session.proofs.Faults.Payloads.{failed_reads, told_columns, row_reads}
+use Rattle.my_session.proofs.Faults.Payloads.{failed_reads, row_reads}
+use Rattle.my_reading.proofs.Described.{kind_is, told_columns}
 use Rattle.my_session.proofs.Faults.Places.{place_is}
 use Rattle.my_session.proofs.Faults.Misfits.{Awaits, FitsKind, react_fits, is_heading, heading_spot, cleaning_awaits, arranging_awaits, reading_awaits, dropping_awaits, connect_awaits, ping_awaits, head_awaits, column_awaits, close_awaits, further_awaits, next_column_awaits, next_close_awaits, skipping_awaits}
 use Rattle.my_session.proofs.History.{each_history}
@@ -103,8 +104,8 @@ module _ (s : Seen) (h : History) (st : Stands s h) (op : is_open s.task ≡ tru
       ap (λ n. front_at n (limit_of talk) s.unread) (sym st.wire.number_is)
       ∙ ap (λ l. front_at s.number l s.unread) (sym (limit_is talk) ∙ ap (λ (c : Context). c.terms.limit) (sym st.wire.context_is))
 
-  kind_here : (p : List ℕ) → kind_of talk p ≡ kind_there s.context p
-  kind_here p = ap (λ (c : Context). kind_there c p) (sym st.wire.context_is)
+  kind_here : (p : List ℕ) → kind_of talk p ≡ kind_there s.context s.facts.columns p
+  kind_here p = sym (kind_is talk (facts_of s.login st.older) s.context s.facts p st.wire.fits st.wire.context_is st.wire.facts_are)
 
   -- nothing more is read
   stops : (f : Front) → front_at s.number s.context.terms.limit s.unread ≡ f → StopsAt talk f → is_idle s.context.spot ≡ false → Stops entries h.taken (rest_in_front s.unread f)
@@ -131,12 +132,12 @@ module _ (s : Seen) (h : History) (st : Stands s h) (op : is_open s.task ≡ tru
 
   -- the payload in front
   module _ (waits : is_idle s.context.spot ≡ false) (p rest : List ℕ) (next : ℕ) (at : front_at s.number s.context.terms.limit s.unread ≡ Whole p rest next) where
-    unfit : is_bad (kind_there s.context p) ≡ true → Cause s.login (fault_in s.task) s.unread h st.newest st.older (invalid_data s.facts.place)
+    unfit : is_bad (kind_there s.context s.facts.columns p) ≡ true → Cause s.login (fault_in s.task) s.unread h st.newest st.older (invalid_data s.facts.place)
     unfit bad = (place, record { payload = p; stops = stops (Whole p rest next) at (ap is_bad (kind_here p) ∙ bad) waits })
 
-    refused_told : (n : Seen) (x : Option ErrPacket) → kind_there s.context p ≡ kinds.Failed → err_at (is_greeting s.context.spot) p ≡ x → Explained (refused s n x)
+    refused_told : (n : Seen) (x : Option ErrPacket) → kind_there s.context s.facts.columns p ≡ kinds.Failed → err_at (is_greeting s.context.spot) p ≡ x → Explained (refused s n x)
     refused_told n None k is =
-        let some = failed_reads s.context.spot (deprecates_eof s.context.terms.kept) s.context.columns p k in
+        let some = failed_reads s.context.spot s.context.rows (deprecates_eof s.context.terms.kept) s.context.columns s.facts.columns p k in
         let no : None ≡ Some some.0 = sym is ∙ some.1 in cc
     refused_told n (Some x) k is = record {
       payload = p;
@@ -156,35 +157,35 @@ module _ (s : Seen) (h : History) (st : Stands s h) (op : is_open s.task ≡ tru
     }
 
     -- a payload that is a row reads as one
-    row_there : kind_there s.context p ≡ kinds.Row → (row : RowParts) × (row_at s.facts.columns p ≡ Some row)
+    row_there : kind_there s.context s.facts.columns p ≡ kinds.Row → (row : RowParts) × (row_at s.context.rows s.facts.columns p ≡ Some row)
     row_there k =
-        let rows : s.context.spot ≡ spots.Rows = row_spot s.context.spot (known s.context.spot (deprecates_eof s.context.terms.kept) s.context.columns p kinds.Row k) in
+        let rows : s.context.spot ≡ spots.Rows = row_spot s.context.spot (known s.context.spot s.context.rows (deprecates_eof s.context.terms.kept) s.context.columns s.facts.columns p kinds.Row k) in
         let there : (context_of talk).spot ≡ spots.Rows = ap (λ (c : Context). c.spot) (sym st.wire.context_is) ∙ rows in
         let same : s.context.columns ≡ length s.facts.columns =
         ap (λ (c : Context). c.columns) st.wire.context_is ∙ told_columns talk (facts_of s.login st.older) st.wire.fits there ∙ ap (λ (f : Facts). length f.columns) (sym st.wire.facts_are) in
-        row_reads s.facts.columns (deprecates_eof s.context.terms.kept) s.context.columns p same (ap (λ (x : Spot). kind_there (record { spot = x; columns = s.context.columns; terms = s.context.terms }) p) (sym rows) ∙ k)
+        row_reads s.context.rows s.facts.columns (deprecates_eof s.context.terms.kept) s.context.columns p same (ap (λ (x : Spot). kind_there (record { spot = x; rows = s.context.rows; columns = s.context.columns; terms = s.context.terms }) s.facts.columns p) (sym rows) ∙ k)
 
-    gave_told : (n : Seen) (x : Option RowParts) → kind_there s.context p ≡ kinds.Row → row_at s.facts.columns p ≡ x → Explained (gave s n x)
+    gave_told : (n : Seen) (x : Option RowParts) → kind_there s.context s.facts.columns p ≡ kinds.Row → row_at s.context.rows s.facts.columns p ≡ x → Explained (gave s n x)
     gave_told n None k is = let some = row_there k in let no : None ≡ Some some.0 = sym is ∙ some.1 in cc
     gave_told n (Some row) k is = tt
 
-    passed_told : (n : Seen) (x : Option RowParts) → kind_there s.context p ≡ kinds.Row → row_at s.facts.columns p ≡ x → Explained (passed s n x)
+    passed_told : (n : Seen) (x : Option RowParts) → kind_there s.context s.facts.columns p ≡ kinds.Row → row_at s.context.rows s.facts.columns p ≡ x → Explained (passed s n x)
     passed_told n None k is = let some = row_there k in let no : None ≡ Some some.0 = sym is ∙ some.1 in cc
     passed_told n (Some row) k is = tt
 
-    reacted_told : (n : Seen) (r : Reaction) (k : Kind) → kind_there s.context p ≡ k → FitsKind r k → is_breaking r ≡ false → Explained (reacted s n p r)
+    reacted_told : (n : Seen) (r : Reaction) (k : Kind) → kind_there s.context s.facts.columns p ≡ k → FitsKind r k → is_breaking r ≡ false → Explained (reacted s n p r)
     reacted_told n (reactions.Goes u) k e fit b = tt
     reacted_told n (reactions.Readies untold) k e fit b = tt
     reacted_told n reactions.Takes k e fit b = tt
-    reacted_told n reactions.Gives k e fit b = gave_told n (row_at s.facts.columns p) (e ∙ fit) refl
+    reacted_told n reactions.Gives k e fit b = gave_told n (row_at s.context.rows s.facts.columns p) (e ∙ fit) refl
     reacted_told n reactions.Ends k e fit b = tt
-    reacted_told n reactions.PassesRow k e fit b = passed_told n (row_at s.facts.columns p) (e ∙ fit) refl
+    reacted_told n reactions.PassesRow k e fit b = passed_told n (row_at s.context.rows s.facts.columns p) (e ∙ fit) refl
     reacted_told n reactions.PassesEnd k e fit b = tt
     reacted_told n reactions.Refuses k e fit b = refused_told n (err_at (is_greeting s.context.spot) p) (e ∙ fit) refl
     reacted_told n reactions.Breaks k e fit b = cc
 
     -- the response to a greeting may be too long
-    long_told : (n : CapabilityFlags) → kind_there s.context p ≡ kinds.Greets n → (m : Move) → Explained m → (b : Bool) → ltb s.context.terms.limit (length (response s.login p)) ≡ b → Explained (unless_above s (cond b (Some (length (response s.login p))) None) m)
+    long_told : (n : CapabilityFlags) → kind_there s.context s.facts.columns p ≡ kinds.Greets n → (m : Move) → Explained m → (b : Bool) → ltb s.context.terms.limit (length (response s.login p)) ≡ b → Explained (unless_above s (cond b (Some (length (response s.login p))) None) m)
     long_told n k m told false e = told
     long_told n k m told true e =
         let limit : s.context.terms.limit ≡ limit_of talk = ap (λ (c : Context). c.terms.limit) st.wire.context_is ∙ limit_is talk in
@@ -200,7 +201,7 @@ module _ (s : Seen) (h : History) (st : Stands s h) (op : is_open s.task ≡ tru
           fault_is = ap (λ l. TooLarge (length (response s.login p)) l) limit;
         }))
 
-    unless_told : (k : Kind) → kind_there s.context p ≡ k → (m : Move) → Explained m → Explained (unless_above s (above s.context.terms.limit (reply_to s.login k p)) m)
+    unless_told : (k : Kind) → kind_there s.context s.facts.columns p ≡ k → (m : Move) → Explained m → Explained (unless_above s (above s.context.terms.limit (reply_to s.login k p)) m)
     unless_told (kinds.Greets n) e m told = long_told n e m told (ltb s.context.terms.limit (length (response s.login p))) refl
     unless_told (kinds.Good status) e m told = told
     unless_told kinds.Failed e m told = told
@@ -209,10 +210,13 @@ module _ (s : Seen) (h : History) (st : Stands s h) (op : is_open s.task ≡ tru
     unless_told kinds.ColumnsDone e m told = told
     unless_told kinds.Row e m told = told
     unless_told (kinds.End status) e m told = told
+    unless_told (kinds.Prepared params columns) e m told = told
+    unless_told kinds.Parameter e m told = told
+    unless_told kinds.Field e m told = told
     unless_told kinds.Bad e m told = told
 
-    kind_told : ((k : Kind) → is_known s.context.spot k ≡ true → is_breaking (react s.task k) ≡ true → is_bad k ≡ true) → (k : Kind) → kind_there s.context p ≡ k → (b : Bool) → is_breaking (react s.task k) ≡ b → Explained (cond b (machine.failed_by s (invalid_data s.facts.place)) (read_by s (advanced s k p rest next) p (react s.task k) (reply_to s.login k p)))
-    kind_told breaks k e true b = unfit (ap is_bad e ∙ breaks k (known s.context.spot (deprecates_eof s.context.terms.kept) s.context.columns p k e) b)
+    kind_told : ((k : Kind) → is_known s.context.spot k ≡ true → is_breaking (react s.task k) ≡ true → is_bad k ≡ true) → (k : Kind) → kind_there s.context s.facts.columns p ≡ k → (b : Bool) → is_breaking (react s.task k) ≡ b → Explained (cond b (machine.failed_by s (invalid_data s.facts.place)) (read_by s (advanced s k p rest next) p (react s.task k) (reply_to s.login k p)))
+    kind_told breaks k e true b = unfit (ap is_bad e ∙ breaks k (known s.context.spot s.context.rows (deprecates_eof s.context.terms.kept) s.context.columns s.facts.columns p k e) b)
     kind_told breaks k e false b = unless_told k e (reacted s (advanced s k p rest next) p (react s.task k)) (reacted_told (advanced s k p rest next) (react s.task k) k e (react_fits s.task k) b)
 
   waiting_told : is_idle s.context.spot ≡ false → front_at s.number s.context.terms.limit s.unread ≡ Waiting → (b : Bool) → s.ended ≡ b → Explained (cond b (machine.failed_by s (unexpected_eof s.facts.place)) (record { seen = s; does = Needs }))
@@ -222,7 +226,7 @@ module _ (s : Seen) (h : History) (st : Stands s h) (op : is_open s.task ≡ tru
   front_told : Awaits s.task s.context.spot → (f : Front) → front_at s.number s.context.terms.limit s.unread ≡ f → Explained (reading s f)
   front_told a Waiting at = waiting_told a.waits at s.ended refl
   front_told a (Broken fault) at = inl (stops (Broken fault) at tt a.waits)
-  front_told a (Whole p rest next) at = kind_told a.waits p rest next at a.breaks (kind_there s.context p) refl (is_breaking (react s.task (kind_there s.context p))) refl
+  front_told a (Whole p rest next) at = kind_told a.waits p rest next at a.breaks (kind_there s.context s.facts.columns p) refl (is_breaking (react s.task (kind_there s.context s.facts.columns p))) refl
 
   -- what holds in the next exchange is what the exchanges say
   terms_here : terms_by s.login entries ≡ next_terms s
@@ -311,6 +315,11 @@ module _ (s : Seen) (h : History) (st : Stands s h) (op : is_open s.task ≡ tru
   clean_suits t e waits p suit (spots.Columns left) at past untold = awaits_as t e (waits s.context.spot (ap is_idle at) (ap is_greeting at))
   clean_suits t e waits p suit spots.ColumnsEnd at past untold = awaits_as t e (waits s.context.spot (ap is_idle at) (ap is_greeting at))
   clean_suits t e waits p suit spots.Rows at past untold = awaits_as t e (waits s.context.spot (ap is_idle at) (ap is_greeting at))
+  clean_suits t e waits p suit spots.Prepare at past untold = awaits_as t e (waits s.context.spot (ap is_idle at) (ap is_greeting at))
+  clean_suits t e waits p suit (spots.Parameters left columns) at past untold = awaits_as t e (waits s.context.spot (ap is_idle at) (ap is_greeting at))
+  clean_suits t e waits p suit (spots.ParametersEnd columns) at past untold = awaits_as t e (waits s.context.spot (ap is_idle at) (ap is_greeting at))
+  clean_suits t e waits p suit (spots.Fields left) at past untold = awaits_as t e (waits s.context.spot (ap is_idle at) (ap is_greeting at))
+  clean_suits t e waits p suit spots.FieldsEnd at past untold = awaits_as t e (waits s.context.spot (ap is_idle at) (ap is_greeting at))
 
   query_suits : s.task ≡ Own Query → (spot : Spot) → s.context.spot ≡ spot → is_heading spot ≡ true → Suits (query_plan spot)
   query_suits e spots.Idle at heads = cc
@@ -322,6 +331,11 @@ module _ (s : Seen) (h : History) (st : Stands s h) (op : is_open s.task ≡ tru
   query_suits e (spots.Columns left) at heads = awaits_as (Own Query) e (subst (λ (x : Spot). Awaits (Own Query) x) (sym at) (column_awaits left))
   query_suits e spots.ColumnsEnd at heads = awaits_as (Own Query) e (subst (λ (x : Spot). Awaits (Own Query) x) (sym at) close_awaits)
   query_suits e spots.Rows at heads = tt
+  query_suits e spots.Prepare at heads = cc
+  query_suits e (spots.Parameters left columns) at heads = cc
+  query_suits e (spots.ParametersEnd columns) at heads = cc
+  query_suits e (spots.Fields left) at heads = cc
+  query_suits e spots.FieldsEnd at heads = cc
 
   own_suits : (c : CallKind) → s.task ≡ Own c → HeardAs (Own c) → Suits (own_plan c s.context.spot)
   own_suits Connect e hd = awaits_as (Own Connect) e (connect_awaits s.context.spot hd.at.1)
@@ -345,6 +359,11 @@ module _ (s : Seen) (h : History) (st : Stands s h) (op : is_open s.task ≡ tru
   read_suits e told (spots.Columns left) at reads = awaits_as Reading e (reading_awaits s.context.spot (ap is_idle at) (ap is_greeting at))
   read_suits e told spots.ColumnsEnd at reads = awaits_as Reading e (reading_awaits s.context.spot (ap is_idle at) (ap is_greeting at))
   read_suits e told spots.Rows at reads = awaits_as Reading e (reading_awaits s.context.spot (ap is_idle at) (ap is_greeting at))
+  read_suits e told spots.Prepare at reads = cc
+  read_suits e told (spots.Parameters left columns) at reads = cc
+  read_suits e told (spots.ParametersEnd columns) at reads = cc
+  read_suits e told (spots.Fields left) at reads = cc
+  read_suits e told spots.FieldsEnd at reads = cc
 
   drop_suits : s.task ≡ Dropping → (spot : Spot) → s.context.spot ≡ spot → is_reading spot ≡ true → Suits (drop_plan spot)
   drop_suits e spots.Idle at reads = tt
@@ -356,6 +375,11 @@ module _ (s : Seen) (h : History) (st : Stands s h) (op : is_open s.task ≡ tru
   drop_suits e (spots.Columns left) at reads = awaits_as Dropping e (dropping_awaits s.context.spot (ap is_idle at) (ap is_greeting at))
   drop_suits e spots.ColumnsEnd at reads = awaits_as Dropping e (dropping_awaits s.context.spot (ap is_idle at) (ap is_greeting at))
   drop_suits e spots.Rows at reads = awaits_as Dropping e (dropping_awaits s.context.spot (ap is_idle at) (ap is_greeting at))
+  drop_suits e spots.Prepare at reads = cc
+  drop_suits e (spots.Parameters left columns) at reads = cc
+  drop_suits e (spots.ParametersEnd columns) at reads = cc
+  drop_suits e (spots.Fields left) at reads = cc
+  drop_suits e spots.FieldsEnd at reads = cc
 
   take_suits : s.task ≡ Taking → s.untold ≡ false → (spot : Spot) → s.context.spot ≡ spot → is_reading spot ≡ true → Suits (take_plan spot)
   take_suits e told spots.Idle at reads = (ap is_idle at, told)
@@ -367,6 +391,11 @@ module _ (s : Seen) (h : History) (st : Stands s h) (op : is_open s.task ≡ tru
   take_suits e told (spots.Columns left) at reads = awaits_as Taking e (subst (λ (x : Spot). Awaits Taking x) (sym at) (next_column_awaits left))
   take_suits e told spots.ColumnsEnd at reads = awaits_as Taking e (subst (λ (x : Spot). Awaits Taking x) (sym at) next_close_awaits)
   take_suits e told spots.Rows at reads = tt
+  take_suits e told spots.Prepare at reads = cc
+  take_suits e told (spots.Parameters left columns) at reads = cc
+  take_suits e told (spots.ParametersEnd columns) at reads = cc
+  take_suits e told (spots.Fields left) at reads = cc
+  take_suits e told spots.FieldsEnd at reads = cc
 
   skip_suits : s.task ≡ Skipping → (spot : Spot) → s.context.spot ≡ spot → Suits (skip_plan spot)
   skip_suits e spots.Idle at = tt
@@ -378,6 +407,11 @@ module _ (s : Seen) (h : History) (st : Stands s h) (op : is_open s.task ≡ tru
   skip_suits e (spots.Columns left) at = tt
   skip_suits e spots.ColumnsEnd at = tt
   skip_suits e spots.Rows at = awaits_as Skipping e (subst (λ (x : Spot). Awaits Skipping x) (sym at) skipping_awaits)
+  skip_suits e spots.Prepare at = tt
+  skip_suits e (spots.Parameters left columns) at = tt
+  skip_suits e (spots.ParametersEnd columns) at = tt
+  skip_suits e (spots.Fields left) at = tt
+  skip_suits e spots.FieldsEnd at = tt
 
   suits : (t : Task) → s.task ≡ t → fault_in t ≡ None → HeardAs t → (untold : Bool) → s.untold ≡ untold → Suits (plan_of t s.context.spot untold)
   suits Nothing e sound hd untold told = let no : false ≡ true = sym (ap is_open e) ∙ op in cc

@@ -14,6 +14,7 @@ use Rattle.my_reading.specs.declared.settings.Settings.{Settings}
 use Rattle.my_reading.specs.declared.settings.Stage.{Stage}
 use Rattle.my_reading.specs.declared.settings.Stage.TheVariants.{Unasked, Asked, Known}
 use Rattle.my_reading.specs.Facts.{with_greeting, with_column, facts_after, facts_by}
+use Rattle.my_grammar.specs.declared.spot.RowFormat.TheVariants.{Text}
 use Rattle.my_reading.specs.Rows.{row_at}
 use Rattle.my_reading.specs.Settings.{in_force, settled, good_settings, end_settings, awaits_row, row_settings, told_by}
 use Rattle.my_session.specs.SettingsLaw.{EachSetting, or_older, last_row}
@@ -77,10 +78,10 @@ rows_told f (p ∷ ps) e =
     let older = last_row f.columns ps in
     let before : g.settings ≡ told_by older f.settings = rows_told f ps e in
     let asked : g.settings.stage ≡ Asked = ap (λ (s : Settings). s.stage) before ∙ told_stage older f.settings ∙ e in
-    row_asked (row_at g.columns p) g.settings asked
-    ∙ ap (λ (columns : List Column). told_by (row_at columns p) g.settings) (rows_columns f ps)
-    ∙ ap (told_by (row_at f.columns p)) before
-    ∙ told_again (row_at f.columns p) older f.settings
+    row_asked (row_at Text g.columns p) g.settings asked
+    ∙ ap (λ (columns : List Column). told_by (row_at Text columns p) g.settings) (rows_columns f ps)
+    ∙ ap (told_by (row_at Text f.columns p)) before
+    ∙ told_again (row_at Text f.columns p) older f.settings
 
 -- a greeting and a column say nothing of the settings
 greeting_says_none : (g : Option Greeting) (f : Facts) → (with_greeting g f).settings ≡ f.settings
@@ -103,8 +104,11 @@ payload_known kinds.Failed p f e = refl
 payload_known (kinds.Count n) p f e = refl
 payload_known kinds.Column p f e = column_says_none (column_at p) f
 payload_known kinds.ColumnsDone p f e = refl
-payload_known kinds.Row p f e = row_known (row_at f.columns p) f.settings e
+payload_known kinds.Row p f e = row_known (row_at Text f.columns p) f.settings e
 payload_known (kinds.End status) p f e = end_known f.settings.stage f.settings e
+payload_known (kinds.Prepared params columns) p f e = refl
+payload_known kinds.Parameter p f e = refl
+payload_known kinds.Field p f e = refl
 payload_known kinds.Bad p f e = refl
 
 all_known : (f : Facts) (packets : List Packet) → f.settings.stage ≡ Known → (facts_by packets f).settings ≡ f.settings

@@ -8,7 +8,7 @@ use Rattle.my_grammar.specs.declared.spot.Spot.TheVariants.{Idle}
 use Rattle.my_grammar.specs.declared.spot.Terms.{Terms}
 use Rattle.my_grammar.specs.FitSets.{FitSets}
 use Rattle.my_grammar.specs.Growth.{not_greets}
-use Rattle.my_grammar.specs.Sets.{Sets, NoSets}
+use Rattle.my_grammar.specs.Sets.{Sets, ByText, NoSets}
 use Rattle.my_grammar.specs.Talk.{Talk, Queried, turns, server_bytes, client_bytes, context_of, packets_of, Fits, origin}
 use Rattle.my_reading.specs.declared.call.Call.{Call}
 use Rattle.my_reading.specs.declared.call.CallKind.{CallKind}
@@ -75,7 +75,7 @@ is_answered t = ends_answered (packets_of t)
 
 abbrev pub sets_of : Talk → Sets
 sets_of (Queried terms c sets) = sets
-sets_of _ = NoSets
+sets_of _ = NoSets ByText
 
 -- whether the server ends the sets by an OK; where there are none, it doesn't matter
 abbrev pub ends_with_ok : Talk → Bool

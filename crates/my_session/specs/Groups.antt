@@ -1,10 +1,10 @@
 -- The items that callers were given, in one group for each set, the newest first.
-use Rattle.std.specs.Prelude.{◌≡◌, ℕ, List, [], ◌∷◌, ◌++◌, Option, Some, None, Bool, true, false, if◌then◌else◌}
+use Rattle.std.specs.Prelude.{◌≡◌, ℕ, List, [], ◌∷◌, ◌++◌, Bool, true, false, if◌then◌else◌}
 use Rattle.my_reply.specs.declared.column.Column.{Column}
-use Rattle.my_reply.specs.Column.{column_at}
+use Rattle.my_grammar.specs.declared.spot.RowFormat.{RowFormat}
 use Rattle.my_value.specs.RowParts.{RowParts}
 use Rattle.my_grammar.specs.declared.packet.Packet.{Packet}
-use Rattle.my_grammar.specs.Sets.{SetHead, Sets, NoSets, Lone, Failed, Heading, Headed, Begun, Ended, Broken, grow_sets}
+use Rattle.my_grammar.specs.Sets.{Sets, NoSets, Lone, Failed, Heading, Headed, Begun, Ended, Broken, format_in, head_columns, grow_sets}
 use Rattle.my_reading.specs.declared.call.CallKind.{CallKind}
 use Rattle.my_reading.specs.declared.call.CallKind.TheVariants.{Query}
 use Rattle.my_reading.specs.Calls.{kind_of}
@@ -50,32 +50,20 @@ abbrev pub given : List Made → List (List Group)
 given [] = []
 given (m ∷ ms) = given_after m.what (kind_of m.call) (given ms)
 
--- the columns of a head, in order, of its packets, which are newest first
-abbrev pub column_list : Option Column → List Column
-column_list None = []
-column_list (Some c) = c ∷ []
-
-abbrev pub columns_in_order : List (List ℕ) → List Column
-columns_in_order [] = []
-columns_in_order (p ∷ ps) = columns_in_order ps ++ column_list (column_at p)
-
-abbrev pub head_columns : SetHead → List Column
-head_columns head = columns_in_order head.columns
-
 -- all of a response, given by the same steps
-abbrev pub with_items : List Column → List (List ℕ) → List Group → List Group
-with_items columns [] gs = gs
-with_items columns (p ∷ ps) gs = with_item (row_of columns p) (with_items columns ps gs)
+abbrev pub with_items : RowFormat → List Column → List (List ℕ) → List Group → List Group
+with_items format columns [] gs = gs
+with_items format columns (p ∷ ps) gs = with_item (row_of format columns p) (with_items format columns ps gs)
 
 abbrev pub groups : Sets → List Group
-groups NoSets = []
+groups (NoSets asking) = []
 groups (Lone older p status) = with_stop (groups older)
 groups (Failed older p) = groups older
 groups (Heading older head left) = groups older
 groups (Headed older head) = groups older
-groups (Begun older head rows) = with_items (head_columns head) rows (groups older)
-groups (Ended older head rows last status) = with_stop (with_items (head_columns head) rows (groups older))
-groups (Broken older head rows last) = with_items (head_columns head) rows (groups older)
+groups (Begun older head rows) = with_items (format_in older) (head_columns head) rows (groups older)
+groups (Ended older head rows last status) = with_stop (with_items (format_in older) (head_columns head) rows (groups older))
+groups (Broken older head rows last) = with_items (format_in older) (head_columns head) rows (groups older)
 
 -- a response at a later moment, by the packets in between, the newest first
 abbrev pub grown : Bool → Sets → List Packet → Sets

@@ -14,6 +14,7 @@ use Rattle.my_grammar.specs.declared.spot.Terms.{Terms}
 use Rattle.my_grammar.specs.declared.spot.Kind.{Kind}
 use Rattle.my_grammar.specs.declared.spot.Kind.TheVariants.{Greets}
 use Rattle.my_grammar.specs.Contexts.{context_after}
+use Rattle.my_grammar.specs.declared.spot.RowFormat.TheVariants.{Text}
 use Rattle.my_grammar.specs.Kinds.{kind_there}
 use Rattle.my_grammar.specs.Response.{response}
 use Rattle.my_grammar.specs.Talk.{Talk, turns, number_of, client_bytes, context_of}
@@ -124,9 +125,9 @@ abbrev pub reacted : Seen → Seen → List ℕ → Reaction → Move
 reacted s n p (reactions.Goes t) = record { seen = with_task n t n.untold; does = Goes }
 reacted s n p (reactions.Readies untold) = record { seen = with_task n tasks.Nothing untold; does = Tells ToldReady }
 reacted s n p reactions.Takes = record { seen = with_taken (with_task n tasks.Nothing true); does = Tells ToldReady }
-reacted s n p reactions.Gives = gave s n (row_at s.facts.columns p)
+reacted s n p reactions.Gives = gave s n (row_at s.context.rows s.facts.columns p)
 reacted s n p reactions.Ends = record { seen = with_task n tasks.Nothing n.untold; does = Tells ToldEnd }
-reacted s n p reactions.PassesRow = passed s n (row_at s.facts.columns p)
+reacted s n p reactions.PassesRow = passed s n (row_at s.context.rows s.facts.columns p)
 reacted s n p reactions.PassesEnd = record { seen = n; does = Passes ToldEnd }
 reacted s n p reactions.Refuses = refused s n (err_at (is_greeting s.context.spot) p)
 reacted s n p reactions.Breaks = failed_by s (invalid_data s.facts.place)
@@ -158,7 +159,7 @@ read_kind s p rest next k =
 abbrev pub reading : Seen → Front → Move
 reading s Waiting = if s.ended then failed_by s (unexpected_eof s.facts.place) else record { seen = s; does = Needs }
 reading s (Broken fault) = failed_by s (codec_error fault)
-reading s (Whole p rest next) = read_kind s p rest next (kind_there s.context p)
+reading s (Whole p rest next) = read_kind s p rest next (kind_there s.context s.facts.columns p)
 
 -- what holds in the next command's exchange: the capabilities of both, and the longest payload by the settings
 abbrev pub next_terms : Seen → Terms
@@ -171,7 +172,7 @@ commanded s t spot command =
     then too_large s s.facts.settings.limit (length command)
     else record {
       seen = record {
-        context = record { spot = spot; columns = 0; terms = next_terms s };
+        context = record { spot = spot; rows = Text; columns = 0; terms = next_terms s };
         task = t;
         text = s.text;
         untold = s.untold;

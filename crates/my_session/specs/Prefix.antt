@@ -2,10 +2,11 @@
 use Rattle.std.specs.Prelude.{◌≡◌, ℕ, List, [], ◌∷◌, ◌++◌, Option, Some, None, Bool, true, false}
 use Rattle.my_reply.specs.declared.column.Column.{Column}
 use Rattle.my_value.specs.RowParts.{RowParts}
-use Rattle.my_grammar.specs.Sets.{Sets, NoSets, Lone, Failed, Heading, Headed, Begun, Ended, Broken}
+use Rattle.my_grammar.specs.declared.spot.RowFormat.{RowFormat}
+use Rattle.my_grammar.specs.Sets.{Sets, NoSets, Lone, Failed, Heading, Headed, Begun, Ended, Broken, format_in, head_columns}
 use Rattle.my_grammar.specs.Talk.{Talk}
 use Rattle.my_session.specs.Entries.{sets_of}
-use Rattle.my_session.specs.Groups.{Group, head_columns}
+use Rattle.my_session.specs.Groups.{Group}
 use Rattle.my_reading.specs.Rows.{row_of}
 
 -- a set's rows, the newest first, and whether its end was read
@@ -13,20 +14,20 @@ pub record Set : Type 0 where
   pub rows : List RowParts
   pub done : Bool
 
-abbrev pub rows_in : List Column → List (List ℕ) → List RowParts
-rows_in columns [] = []
-rows_in columns (p ∷ ps) = row_of columns p ∷ rows_in columns ps
+abbrev pub rows_in : RowFormat → List Column → List (List ℕ) → List RowParts
+rows_in format columns [] = []
+rows_in format columns (p ∷ ps) = row_of format columns p ∷ rows_in format columns ps
 
 -- the sets of a response, the newest first
 abbrev pub sets_in : Sets → List Set
-sets_in NoSets = []
+sets_in (NoSets asking) = []
 sets_in (Lone older p status) = record { rows = []; done = true } ∷ sets_in older
 sets_in (Failed older p) = record { rows = []; done = false } ∷ sets_in older
 sets_in (Heading older head left) = record { rows = []; done = false } ∷ sets_in older
 sets_in (Headed older head) = record { rows = []; done = false } ∷ sets_in older
-sets_in (Begun older head rows) = record { rows = rows_in (head_columns head) rows; done = false } ∷ sets_in older
-sets_in (Ended older head rows last status) = record { rows = rows_in (head_columns head) rows; done = true } ∷ sets_in older
-sets_in (Broken older head rows last) = record { rows = rows_in (head_columns head) rows; done = false } ∷ sets_in older
+sets_in (Begun older head rows) = record { rows = rows_in (format_in older) (head_columns head) rows; done = false } ∷ sets_in older
+sets_in (Ended older head rows last status) = record { rows = rows_in (format_in older) (head_columns head) rows; done = true } ∷ sets_in older
+sets_in (Broken older head rows last) = record { rows = rows_in (format_in older) (head_columns head) rows; done = false } ∷ sets_in older
 
 -- each of these was given whole
 abbrev pub AreWhole : List Group → List Set → Type 0

@@ -6,7 +6,8 @@ use Rattle.my_reply.specs.ErrPacket.{err_at}
 use Rattle.my_grammar.specs.declared.spot.Kind.{Kind}
 use Rattle.my_grammar.specs.declared.spot.Kind.TheVariants as kinds
 use Rattle.my_grammar.specs.Sets.{Sets, NoSets, Lone, Failed, Heading, Headed, Begun, Ended, Broken}
-use Rattle.my_grammar.specs.Talk.{Talk, Unwelcome, Settled, Replied, Queried}
+use Rattle.my_grammar.specs.Prepares.{Reply, Refused}
+use Rattle.my_grammar.specs.Talk.{Talk, Unwelcome, Settled, Replied, Queried, Preparing}
 use Rattle.my_reading.specs.declared.error.Error.{Error}
 use Rattle.my_reading.specs.declared.error.Error.TheVariants as errors
 use Rattle.my_reading.specs.declared.error.ServerError.{ServerError}
@@ -27,7 +28,7 @@ error_of _ p = []
 
 -- the ERRs among sets
 abbrev pub errors_in_sets : Sets → List ServerError
-errors_in_sets NoSets = []
+errors_in_sets (NoSets asking) = []
 errors_in_sets (Lone older p status) = errors_in_sets older
 errors_in_sets (Failed older p) = error_onto (err_at false p) (errors_in_sets older)
 errors_in_sets (Heading older head left) = errors_in_sets older
@@ -36,12 +37,18 @@ errors_in_sets (Begun older head rows) = errors_in_sets older
 errors_in_sets (Ended older head rows last status) = errors_in_sets older
 errors_in_sets (Broken older head rows last) = error_onto (err_at false last) (errors_in_sets older)
 
+-- the ERR that answers a statement to prepare
+abbrev pub errors_in_reply : Reply → List ServerError
+errors_in_reply (Refused p) = error_onto (err_at false p) []
+errors_in_reply _ = []
+
 -- the ERRs of an exchange; one in place of the greeting has no state
 abbrev pub errors_in : Talk → List ServerError
 errors_in (Unwelcome login p) = error_onto (err_at true p) []
 errors_in (Settled login p capabilities last kind) = error_of kind last
 errors_in (Replied terms c last kind) = error_of kind last
 errors_in (Queried terms c sets) = errors_in_sets sets
+errors_in (Preparing terms c reply) = errors_in_reply reply
 errors_in _ = []
 
 abbrev pub errors_of : List Entry → List ServerError

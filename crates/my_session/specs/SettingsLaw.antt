@@ -7,6 +7,7 @@ use Rattle.my_value.specs.RowParts.{RowParts}
 use Rattle.my_grammar.specs.declared.packet.Packet.{Packet}
 use Rattle.my_grammar.specs.declared.spot.Kind.TheVariants.{Good, Row, End}
 use Rattle.my_grammar.specs.Sets.{each}
+use Rattle.my_grammar.specs.declared.spot.RowFormat.TheVariants.{Text}
 use Rattle.my_reading.specs.declared.facts.Facts.{Facts}
 use Rattle.my_reading.specs.declared.settings.Stage.TheVariants.{Unasked, Asked, Known}
 use Rattle.my_reading.specs.Facts.{facts_after, facts_by}
@@ -20,7 +21,7 @@ or_older (Some row) older = Some row
 -- the last row of those that were read, which are newest first
 abbrev pub last_row : List Column → List (List ℕ) → Option RowParts
 last_row columns [] = None
-last_row columns (p ∷ ps) = or_older (row_at columns p) (last_row columns ps)
+last_row columns (p ∷ ps) = or_older (row_at Text columns p) (last_row columns ps)
 
 -- Where both options are set, they hold once the login is settled. Else the server is asked: of the rows of its first set the last one
 -- says what will hold, the set's end puts that in force, as an OK without rows does, and no later payload of the connection changes it.

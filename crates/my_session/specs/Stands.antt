@@ -95,7 +95,7 @@ owes _ = false
 -- what callers know: all but the end of a lone OK that is still to be returned
 abbrev pub known_part : Bool → Sets → Sets
 known_part false x = x
-known_part true NoSets = NoSets
+known_part true (NoSets asking) = (NoSets asking)
 known_part true (Lone older p status) = older
 known_part true (Failed older p) = Failed older p
 known_part true (Heading older head left) = Heading older head left
@@ -109,7 +109,7 @@ is_lone (Lone older p status) = true
 is_lone _ = false
 
 abbrev pub is_none : Sets → Bool
-is_none NoSets = true
+is_none (NoSets asking) = true
 is_none _ = false
 
 abbrev pub is_empty : List (List ℕ) → Bool
@@ -118,7 +118,7 @@ is_empty (p ∷ ps) = false
 
 -- the head of the first set, or a part of it
 abbrev pub is_first : Sets → Bool
-is_first NoSets = true
+is_first (NoSets asking) = true
 is_first (Heading older head left) = is_none older
 is_first (Headed older head) = is_none older
 is_first (Begun older head rows) = is_none older && is_empty rows

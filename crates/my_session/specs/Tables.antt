@@ -84,6 +84,9 @@ react_whole t kinds.Column = reactions.Goes t
 react_whole t kinds.ColumnsDone = reactions.Goes t
 react_whole t kinds.Row = reactions.Goes t
 react_whole t (kinds.End status) = reactions.Goes t
+react_whole t (kinds.Prepared params columns) = reactions.Goes t
+react_whole t kinds.Parameter = reactions.Goes t
+react_whole t kinds.Field = reactions.Goes t
 react_whole t kinds.Bad = reactions.Breaks
 
 -- after the login the connection is set up
@@ -99,6 +102,9 @@ react_query kinds.Failed = reactions.Refuses
 react_query (kinds.Count n) = reactions.Goes (Own Query)
 react_query kinds.Column = reactions.Goes (Own Query)
 react_query kinds.ColumnsDone = reactions.Goes (Own Query)
+react_query (kinds.Prepared params columns) = reactions.Goes (Own Query)
+react_query kinds.Parameter = reactions.Goes (Own Query)
+react_query kinds.Field = reactions.Goes (Own Query)
 react_query k = reactions.Breaks
 
 abbrev pub react_ping : Kind → Reaction
@@ -121,6 +127,9 @@ react_reading kinds.Column = reactions.Goes Reading
 react_reading kinds.ColumnsDone = reactions.Goes Reading
 react_reading kinds.Row = reactions.Gives
 react_reading (kinds.End status) = reactions.Ends
+react_reading (kinds.Prepared params columns) = reactions.Goes Reading
+react_reading kinds.Parameter = reactions.Goes Reading
+react_reading kinds.Field = reactions.Goes Reading
 react_reading kinds.Bad = reactions.Breaks
 
 abbrev pub react_dropping : Kind → Reaction
@@ -132,6 +141,9 @@ react_dropping kinds.Column = reactions.Goes Dropping
 react_dropping kinds.ColumnsDone = reactions.Goes Dropping
 react_dropping kinds.Row = reactions.PassesRow
 react_dropping (kinds.End status) = reactions.PassesEnd
+react_dropping (kinds.Prepared params columns) = reactions.Goes Dropping
+react_dropping kinds.Parameter = reactions.Goes Dropping
+react_dropping kinds.Field = reactions.Goes Dropping
 react_dropping kinds.Bad = reactions.Breaks
 
 -- the head of the next set, which a stream takes
@@ -141,6 +153,9 @@ react_taking kinds.Failed = reactions.Refuses
 react_taking (kinds.Count n) = reactions.Goes Taking
 react_taking kinds.Column = reactions.Goes Taking
 react_taking kinds.ColumnsDone = reactions.Goes Taking
+react_taking (kinds.Prepared params columns) = reactions.Goes Taking
+react_taking kinds.Parameter = reactions.Goes Taking
+react_taking kinds.Field = reactions.Goes Taking
 react_taking k = reactions.Breaks
 
 -- the rest of a set

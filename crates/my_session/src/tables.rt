@@ -183,7 +183,10 @@ fn react_whole(task: Task, kind: Kind) -> Reaction
         | Kind::Column
         | Kind::ColumnsDone
         | Kind::Row
-        | Kind::End(_) => Reaction::Goes(task),
+        | Kind::End(_)
+        | Kind::Prepared { .. }
+        | Kind::Parameter
+        | Kind::Field => Reaction::Goes(task),
         Kind::Failed => Reaction::Refuses,
         Kind::Greets(_) | Kind::Bad => Reaction::Breaks,
     }
@@ -205,11 +208,14 @@ fn react_query(kind: Kind) -> Reaction
 {
     match kind {
         Kind::Good(_) => Reaction::Readies(true),
-        Kind::Count(_) | Kind::Column | Kind::ColumnsDone => {
-            Reaction::Goes(Task::Own(CallKind::Query))
-        }
+        Kind::Count(_)
+        | Kind::Column
+        | Kind::ColumnsDone
+        | Kind::Prepared { .. }
+        | Kind::Parameter
+        | Kind::Field => Reaction::Goes(Task::Own(CallKind::Query)),
         Kind::Failed => Reaction::Refuses,
-        _ => Reaction::Breaks,
+        Kind::Greets(_) | Kind::Row | Kind::End(_) | Kind::Bad => Reaction::Breaks,
     }
 }
 
@@ -243,7 +249,12 @@ fn react_reading(kind: Kind) -> Reaction
 {
     match kind {
         Kind::Good(_) | Kind::End(_) => Reaction::Ends,
-        Kind::Count(_) | Kind::Column | Kind::ColumnsDone => Reaction::Goes(Task::Reading),
+        Kind::Count(_)
+        | Kind::Column
+        | Kind::ColumnsDone
+        | Kind::Prepared { .. }
+        | Kind::Parameter
+        | Kind::Field => Reaction::Goes(Task::Reading),
         Kind::Row => Reaction::Gives,
         Kind::Failed => Reaction::Refuses,
         Kind::Greets(_) | Kind::Bad => Reaction::Breaks,
@@ -255,7 +266,12 @@ fn react_dropping(kind: Kind) -> Reaction
 {
     match kind {
         Kind::Good(_) | Kind::End(_) => Reaction::PassesEnd,
-        Kind::Count(_) | Kind::Column | Kind::ColumnsDone => Reaction::Goes(Task::Dropping),
+        Kind::Count(_)
+        | Kind::Column
+        | Kind::ColumnsDone
+        | Kind::Prepared { .. }
+        | Kind::Parameter
+        | Kind::Field => Reaction::Goes(Task::Dropping),
         Kind::Row => Reaction::PassesRow,
         Kind::Failed => Reaction::Refuses,
         Kind::Greets(_) | Kind::Bad => Reaction::Breaks,
@@ -267,7 +283,12 @@ fn react_taking(kind: Kind) -> Reaction
 {
     match kind {
         Kind::Good(_) => Reaction::Takes,
-        Kind::Count(_) | Kind::Column | Kind::ColumnsDone => Reaction::Goes(Task::Taking),
+        Kind::Count(_)
+        | Kind::Column
+        | Kind::ColumnsDone
+        | Kind::Prepared { .. }
+        | Kind::Parameter
+        | Kind::Field => Reaction::Goes(Task::Taking),
         Kind::Failed => Reaction::Refuses,
         Kind::Greets(_) | Kind::Row | Kind::End(_) | Kind::Bad => Reaction::Breaks,
     }

@@ -19,7 +19,7 @@ use Rattle.my_grammar.specs.declared.spot.Terms.{Terms}
 use Rattle.my_grammar.specs.Contexts.{more}
 use Rattle.my_grammar.specs.Kinds.{single_kind}
 use Rattle.my_grammar.specs.Cut.{is_idle, is_over}
-use Rattle.my_grammar.specs.Sets.{Sets, NoSets, Lone, Failed, spot_in}
+use Rattle.my_grammar.specs.Sets.{Sets, ByText, NoSets, Lone, Failed, spot_in}
 use Rattle.my_grammar.specs.Talk.{Talk, Asked, Replied, Queried, Fits, turns, number_of, server_bytes, origin}
 use Rattle.my_server.specs.declared.answer.TheConstants.{DONE}
 use Rattle.my_server.specs.declared.command.CommandKind.{CommandKind}
@@ -75,7 +75,7 @@ fine_back laws = laws.ok (ok_of DONE) typed_done
 asked_fits : (terms : Terms) (c : List ℕ) → Fits (Asked terms c)
 asked_fits terms c = record { kinds = tt; within = tt }
 
-query_fits : (terms : Terms) (c : List ℕ) → Fits (Queried terms c NoSets)
+query_fits : (terms : Terms) (c : List ℕ) → Fits (Queried terms c (NoSets ByText))
 query_fits terms c = record { kinds = tt; within = tt }
 
 -- the answer of one payload, by what the command is
@@ -122,7 +122,7 @@ badly laws script terms c e within =
 -- A query's answer, heard as sets that say it.
 record IsAnswered (terms : Terms) (c : List ℕ) (ps : List (List ℕ)) (SaysIt : Sets → Type 0) : Type 0 where
   pub sets : Sets
-  pub heard : Heard (Queried terms c NoSets) ps (Queried terms c sets)
+  pub heard : Heard (Queried terms c (NoSets ByText)) ps (Queried terms c sets)
   pub over : spot_in sets ≡ spots.Idle
   pub says : SaysIt sets
 
@@ -130,8 +130,8 @@ lone_err : (laws : PacketLaws) (terms : Terms) (c : List ℕ) (err : ErrPacket) 
 lone_err laws terms c err typed within =
     let p = refusal_payload err in
     record {
-      sets = Failed NoSets p;
-      heard = heard_one (Queried terms c NoSets) kinds.Failed p (head_err laws err typed) refl refl within.0 (query_fits terms c);
+      sets = Failed (NoSets ByText) p;
+      heard = heard_one (Queried terms c (NoSets ByText)) kinds.Failed p (head_err laws err typed) refl refl within.0 (query_fits terms c);
       over = refl;
       says = record { payload = p; sets = refl; packet = laws.err err typed };
     }
@@ -143,8 +143,8 @@ lone_ok : (laws : PacketLaws) (terms : Terms) (c : List ℕ) (ok : OkPacket) →
 lone_ok laws terms c ok typed done within =
     let p = payload_of (packets.Fine ok) in
     record {
-      sets = Lone NoSets p ok.status;
-      heard = heard_one (Queried terms c NoSets) (kinds.Good ok.status) p (head_ok laws ok typed) refl refl within.0 (query_fits terms c);
+      sets = Lone (NoSets ByText) p ok.status;
+      heard = heard_one (Queried terms c (NoSets ByText)) (kinds.Good ok.status) p (head_ok laws ok typed) refl refl within.0 (query_fits terms c);
       over = ap more (same_status ok done);
       says = record { payload = p; sets = refl; packet = laws.ok ok typed };
     }
@@ -158,9 +158,9 @@ by_answer laws terms c (answers.Sets (set ∷ sets)) d fine sent typed within =
     let tested = (both (nat_lt 0 (length (set ∷ sets))) (list_all is_set (set ∷ sets)) fine).1 in
     let good = sets_are_good terms.limit (set ∷ sets) tested (all_within terms.limit (sets_payloads true (set ∷ sets)) sent within) in
     record {
-      sets = sets_from NoSets (set ∷ sets);
-      heard = sets_heard laws terms c NoSets set sets d refl good (query_fits terms c);
-      over = sets_are_over NoSets set sets;
+      sets = sets_from (NoSets ByText) (set ∷ sets);
+      heard = sets_heard laws terms c (NoSets ByText) set sets d refl refl good (query_fits terms c);
+      over = sets_are_over (NoSets ByText) set sets;
       says = sets_are_read laws terms.limit (set ∷ sets) good;
     }
 
@@ -189,7 +189,7 @@ queried laws script terms c e d served typed within =
     let w = by_found laws script terms c o refl d served typed short in
     let u = Queried terms c w.sets in
     let said : EndsQuery script terms c u = record { sets = w.sets; talk = refl; says = w.says } in
-    (u, from_heard script terms c (Queried terms c NoSets) u (found_payloads true o) (ap (exchange_by terms c) (sym e)) refl refl refl answers w.heard (ap is_idle w.over) (subst (λ k. EndsBy script terms c k u) (sym e) said))
+    (u, from_heard script terms c (Queried terms c (NoSets ByText)) u (found_payloads true o) (ap (exchange_by terms c) (sym e)) refl refl refl answers w.heard (ap is_idle w.over) (subst (λ k. EndsBy script terms c k u) (sym e) said))
 
 pub exchange : (laws : PacketLaws) (script : ServerScript) (terms : Terms) (c : List ℕ) → deprecates_eof terms.kept ≡ true → is_served script ≡ true → IsTyped script → command_kind c ≢ commands.Quit
     → EachWithin terms.limit (answer_payloads script true c) → (t : Talk) × IsExchange script terms c t

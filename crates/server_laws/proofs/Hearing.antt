@@ -7,7 +7,7 @@ use Rattle.my_grammar.specs.declared.spot.Kind.{Kind}
 use Rattle.my_grammar.specs.declared.spot.Kind.TheVariants as kinds
 use Rattle.my_grammar.specs.Contexts.{is_bad}
 use Rattle.my_grammar.specs.Kinds.{kind_there}
-use Rattle.my_grammar.specs.Talk.{Talk, Fits, turns, number_of, server_bytes, context_of, limit_of, login_in, origin}
+use Rattle.my_grammar.specs.Talk.{Talk, Fits, turns, number_of, server_bytes, context_of, described, limit_of, login_in, origin}
 use Rattle.my_grammar.specs.Growth.{grow, not_greets, number_next}
 use Rattle.my_grammar.proofs.Growth.{any_login, grows, reads}
 use Rattle.my_server.specs.Machine.{all_chunks}
@@ -45,9 +45,12 @@ quiet_number login kinds.Column p n i = refl
 quiet_number login kinds.ColumnsDone p n i = refl
 quiet_number login kinds.Row p n i = refl
 quiet_number login (kinds.End status) p n i = refl
+quiet_number login (kinds.Prepared params columns) p n i = refl
+quiet_number login kinds.Parameter p n i = refl
+quiet_number login kinds.Field p n i = refl
 quiet_number login kinds.Bad p n i = refl
 
-pub heard_one : (t : Talk) (k : Kind) (p : List ℕ) → kind_there (context_of t) p ≡ k → is_bad k ≡ false → not_greets k ≡ true → length p ≤ limit_of t → Fits t → Heard t (p ∷ []) (grow k t p)
+pub heard_one : (t : Talk) (k : Kind) (p : List ℕ) → kind_there (context_of t) (described t) p ≡ k → is_bad k ≡ false → not_greets k ≡ true → length p ≤ limit_of t → Fits t → Heard t (p ∷ []) (grow k t p)
 heard_one t k p is good quiet short fits =
     let w = grows t k p is good short fits in
     let r = reads (login_in any_login t) k p (turns t) in

@@ -9,6 +9,9 @@ use Rattle.my_frame.specs.Writing.{le_bytes, len_bytes}
 use Rattle.my_handshake.specs.Greeting.{greeting_at}
 use Rattle.my_reply.specs.declared.ok.OkPacket.{OkPacket}
 use Rattle.my_reply.specs.declared.err.ErrPacket.{ErrPacket}
+use Rattle.my_reply.specs.declared.column.Column.{Column}
+use Rattle.my_grammar.specs.declared.spot.RowFormat.{RowFormat}
+use Rattle.my_grammar.specs.declared.spot.RowFormat.TheVariants.{Text}
 use Rattle.my_reply.specs.declared.column_count.ColumnCount.{ColumnCount}
 use Rattle.my_reply.specs.declared.server.ServerPacket.TheVariants as packets
 use Rattle.my_reply.specs.Column.{column_at}
@@ -21,7 +24,7 @@ use Rattle.my_value.specs.TextRow.{text_row_at}
 use Rattle.my_value.specs.WrittenRow.{TextsFit, sent_value}
 use Rattle.my_value.proofs.Rows.WrittenRows.{text_row_read_back}
 use Rattle.my_grammar.specs.declared.spot.Kind.TheVariants as kinds
-use Rattle.my_grammar.specs.Kinds.{cells_kind, column_kind, count_kind, ended_kind, failed_kind, good_kind, head_kind, or_else, row_kind, single_kind, described_kind}
+use Rattle.my_grammar.specs.Kinds.{cells_at, cells_kind, column_kind, count_kind, ended_kind, failed_kind, good_kind, head_kind, or_else, row_kind, single_kind, described_kind}
 use Rattle.my_server.specs.Answer.{column_of, column_payload, ok_of, row_payload}
 use Rattle.server_laws.proofs.Heads.{BeginsCell, length_head, no_head, reads_none, row_head}
 
@@ -91,7 +94,7 @@ column_back laws name short = laws.column (column_of name) (record {
 })
 
 pub column_is : (laws : PacketLaws) (name : List ℕ) → length name < 2 ^ 64 → column_kind (column_payload name) ≡ kinds.Column
-column_is laws name short = ap described_kind (column_back laws name short)
+column_is laws name short = ap (described_kind kinds.Column) (column_back laws name short)
 
 begins_no_end : (p : List ℕ) → (w : BeginsCell p) → end_ok_at p ≡ None
 begins_no_end p w =
@@ -107,8 +110,8 @@ begins_no_end p w =
 pub row_back : (cells : List (Option (List ℕ))) → 0 < length cells → TextsFit cells → text_row_at (length cells) (row_payload cells) ≡ Some (map sent_value cells)
 row_back cells some fit = text_row_read_back cells some fit
 
-pub row_is : (cells : List (Option (List ℕ))) → 0 < length cells → TextsFit cells → row_kind true (length cells) (row_payload cells) ≡ kinds.Row
-row_is cells some fit =
+pub row_is : (cells : List (Option (List ℕ))) (columns : List Column) → 0 < length cells → TextsFit cells → row_kind Text true (length cells) columns (row_payload cells) ≡ kinds.Row
+row_is cells columns some fit =
     let p = row_payload cells in
     let w = row_head cells some in
     ap (λ o. or_else (ended_kind o) (or_else (failed_kind (err_at false p)) (cells_kind (text_row_at (length cells) p)))) (begins_no_end p w)
@@ -119,7 +122,7 @@ short_end : (status : StatusFlags) → length (server_bytes (packets.End (ok_of 
 unfolding le_bytes len_bytes
 short_end status = lit< tt
 
-pub end_is : (laws : PacketLaws) (n : ℕ) (status : StatusFlags) → status.0 < 2 ^ 16 → row_kind true n (server_bytes (packets.End (ok_of status))) ≡ kinds.End status
-end_is laws n status small =
+pub end_is : (laws : PacketLaws) (format : RowFormat) (n : ℕ) (columns : List Column) (status : StatusFlags) → status.0 < 2 ^ 16 → row_kind format true n columns (server_bytes (packets.End (ok_of status))) ≡ kinds.End status
+end_is laws format n columns status small =
     let p = server_bytes (packets.End (ok_of status)) in
-    ap (λ o. or_else (ended_kind o) (or_else (failed_kind (err_at false p)) (cells_kind (text_row_at n p)))) (laws.end_ok (ok_of status) (record { fields = typed_ok status small; short = short_end status }))
+    ap (λ o. or_else (ended_kind o) (or_else (failed_kind (err_at false p)) (cells_kind (cells_at format n columns p)))) (laws.end_ok (ok_of status) (record { fields = typed_ok status small; short = short_end status }))

@@ -14,8 +14,10 @@ use Rattle.my_grammar.specs.declared.spot.Spot.TheVariants as spots
 use Rattle.my_grammar.specs.declared.spot.Kind.TheVariants as kinds
 use Rattle.my_grammar.specs.declared.spot.Terms.{Terms}
 use Rattle.my_grammar.specs.FitSets.{is_head}
+use Rattle.my_grammar.specs.declared.spot.RowFormat.{RowFormat}
+use Rattle.my_grammar.specs.declared.spot.RowFormat.TheVariants.{Text}
 use Rattle.my_grammar.specs.Kinds.{row_kind}
-use Rattle.my_grammar.specs.Sets.{SetHead, Sets, NoSets, Heading, Headed, Begun, Ended, spot_in, with_column_of}
+use Rattle.my_grammar.specs.Sets.{SetHead, Sets, ByText, NoSets, Heading, Headed, Begun, Ended, format_in, head_columns, spot_in, with_column_of}
 use Rattle.my_grammar.specs.Talk.{Talk, Queried, Fits}
 use Rattle.my_grammar.specs.Growth.{grow}
 use Rattle.my_grammar.proofs.Growth.Known.{head_kind_is}
@@ -89,27 +91,28 @@ columns_heard laws terms c older head name (second ∷ names) d good fits =
     let w = columns_heard laws terms c older (with_column_of head (column_payload name)) second names d good.1 one.fits in
     heard_then t u _ (column_payload name ∷ []) (map column_payload (second ∷ names)) one w
 
-rows_heard : (laws : PacketLaws) (terms : Terms) (c : List ℕ) (older : Sets) (head : SetHead) (rows : List (List ℕ)) (more : List (List (Option (List ℕ)))) → deprecates_eof terms.kept ≡ true
+rows_heard : (laws : PacketLaws) (terms : Terms) (c : List ℕ) (older : Sets) (head : SetHead) (rows : List (List ℕ)) (more : List (List (Option (List ℕ)))) → deprecates_eof terms.kept ≡ true → format_in older ≡ Text
     → 0 < head.number → AllByRecursion (IsRow terms.limit head.number) more → Fits (Queried terms c (Begun older head rows))
     → Heard (Queried terms c (Begun older head rows)) (map row_payload more) (Queried terms c (Begun older head (with_rows rows more)))
-rows_heard laws terms c older head rows [] d some good fits = heard_none (Queried terms c (Begun older head rows)) fits
-rows_heard laws terms c older head rows (row ∷ more) d some good fits =
+rows_heard laws terms c older head rows [] d text some good fits = heard_none (Queried terms c (Begun older head rows)) fits
+rows_heard laws terms c older head rows (row ∷ more) d text some good fits =
     let t = Queried terms c (Begun older head rows) in
     let u = Queried terms c (Begun older head (row_payload row ∷ rows)) in
     let e = good.0.0 in
-    let is = subst (λ n. row_kind true n (row_payload row) ≡ kinds.Row) e (row_is row (omega arith) good.0.1) in
-    let there = subst (λ (b : Bool). row_kind b head.number (row_payload row) ≡ kinds.Row) (sym d) is in
+    let is = subst (λ n. row_kind Text true n (head_columns head) (row_payload row) ≡ kinds.Row) e (row_is row (head_columns head) (omega arith) good.0.1) in
+    let there = subst (λ (b : Bool). row_kind (format_in older) b head.number (head_columns head) (row_payload row) ≡ kinds.Row) (sym d)
+    (subst (λ (f : RowFormat). row_kind f true head.number (head_columns head) (row_payload row) ≡ kinds.Row) (sym text) is) in
     let one = heard_one t kinds.Row (row_payload row) there refl refl good.0.2 fits in
-    heard_then t u _ (row_payload row ∷ []) (map row_payload more) one (rows_heard laws terms c older head (row_payload row ∷ rows) more d some good.1 one.fits)
+    heard_then t u _ (row_payload row ∷ []) (map row_payload more) one (rows_heard laws terms c older head (row_payload row ∷ rows) more d text some good.1 one.fits)
 
 number_stays : (head : SetHead) (names : List (List ℕ)) → (with_columns head names).number ≡ head.number
 number_stays head [] = refl
 number_stays head (name ∷ names) = number_stays (with_column_of head (column_payload name)) names
 
-set_heard : (laws : PacketLaws) (terms : Terms) (c : List ℕ) (older : Sets) (status : StatusFlags) (set : ServerSet) → deprecates_eof terms.kept ≡ true
+set_heard : (laws : PacketLaws) (terms : Terms) (c : List ℕ) (older : Sets) (status : StatusFlags) (set : ServerSet) → deprecates_eof terms.kept ≡ true → format_in older ≡ Text
     → status.0 < 2 ^ 16 → is_head (spot_in older) ≡ true → IsGoodSet terms.limit status set → Fits (Queried terms c older)
     → Heard (Queried terms c older) (set_payloads true status set) (Queried terms c (ended_set older status set))
-set_heard laws terms c older status set d small place good fits = by_names set.names refl
+set_heard laws terms c older status set d text small place good fits = by_names set.names refl
   where
     by_names : (names : List (List ℕ)) → set.names ≡ names → Heard (Queried terms c older) (set_payloads true status set) (Queried terms c (ended_set older status set))
     by_names [] e = let some = good.some in let l : length set.names ≡ 0 = ap length e in absurd (omega arith)
@@ -119,17 +122,17 @@ set_heard laws terms c older status set d small place good fits = by_names set.n
         let head : SetHead = record { count = count; number = n; columns = []; close = None } in
         let t = Queried terms c older in
         let begun = Queried terms c (Heading older head n) in
-        let one : Heard t (count ∷ []) begun = heard_one t (kinds.Count n) count (head_kind_is (spot_in older) (deprecates_eof terms.kept) _ count place ∙ head_count laws n good.some good.few) refl refl good.count fits in
+        let one : Heard t (count ∷ []) begun = heard_one t (kinds.Count n) count (head_kind_is (spot_in older) _ (deprecates_eof terms.kept) _ _ count place ∙ head_count laws n good.some good.few) refl refl good.count fits in
         let columns : Heard begun (map column_payload set.names) (Queried terms c (Begun older (with_columns head set.names) [])) =
         subst (λ (ns : List (List ℕ)). AllByRecursion (IsName terms.limit) ns → Fits (Queried terms c (Heading older head (length ns))) → Heard (Queried terms c (Heading older head (length ns))) (map column_payload ns) (Queried terms c (Begun older (with_columns head ns) []))) (sym e) (columns_heard laws terms c older head name names d) good.names one.fits in
         let whole = with_columns head set.names in
         let number : whole.number ≡ n = number_stays head set.names in
         let some = good.some in
-        let rows = rows_heard laws terms c older whole [] set.rows d (omega arith) (subst (λ k. AllByRecursion (IsRow terms.limit k) set.rows) (sym number) good.rows) columns.fits in
+        let rows = rows_heard laws terms c older whole [] set.rows d text (omega arith) (subst (λ k. AllByRecursion (IsRow terms.limit k) set.rows) (sym number) good.rows) columns.fits in
         let filled = with_rows [] set.rows in
         let u = Queried terms c (Begun older whole filled) in
         let last = end_payload true status in
-        let end = heard_one u (kinds.End status) last (subst (λ (b : Bool). row_kind b whole.number last ≡ kinds.End status) (sym d) (end_is laws whole.number status small)) refl refl good.ended rows.fits in
+        let end = heard_one u (kinds.End status) last (subst (λ (b : Bool). row_kind (format_in older) b whole.number (head_columns whole) last ≡ kinds.End status) (sym d) (end_is laws (format_in older) whole.number (head_columns whole) status small)) refl refl good.ended rows.fits in
         let headed = heard_then t begun _ (count ∷ []) (map column_payload set.names) one columns in
         let closed = subst (λ ps. Heard t ps (Queried terms c (Begun older whole []))) (sym (append-nil (count ∷ map column_payload set.names))) headed in
         let with_all = heard_then t _ u _ (map row_payload set.rows) closed rows in
@@ -150,18 +153,18 @@ abbrev pub AreGood : ℕ → List ServerSet → Type 0
 AreGood limit [] = Unit {0}
 AreGood limit (set ∷ sets) = IsGoodSet limit (set_status (length sets)) set × AreGood limit sets
 
-pub sets_heard : (laws : PacketLaws) (terms : Terms) (c : List ℕ) (older : Sets) (set : ServerSet) (sets : List ServerSet) → deprecates_eof terms.kept ≡ true
+pub sets_heard : (laws : PacketLaws) (terms : Terms) (c : List ℕ) (older : Sets) (set : ServerSet) (sets : List ServerSet) → deprecates_eof terms.kept ≡ true → format_in older ≡ Text
     → is_head (spot_in older) ≡ true → AreGood terms.limit (set ∷ sets) → Fits (Queried terms c older)
     → Heard (Queried terms c older) (sets_payloads true (set ∷ sets)) (Queried terms c (sets_from older (set ∷ sets)))
-sets_heard laws terms c older set [] d place good fits =
+sets_heard laws terms c older set [] d text place good fits =
     let status = set_status 0 in
-    subst (λ ps. Heard (Queried terms c older) ps (Queried terms c (ended_set older status set))) (sym (append-nil (set_payloads true status set))) (set_heard laws terms c older status set d (status_small 0) place good.0 fits)
-sets_heard laws terms c older set (second ∷ sets) d place good fits =
+    subst (λ ps. Heard (Queried terms c older) ps (Queried terms c (ended_set older status set))) (sym (append-nil (set_payloads true status set))) (set_heard laws terms c older status set d text (status_small 0) place good.0 fits)
+sets_heard laws terms c older set (second ∷ sets) d text place good fits =
     let n = suc (length sets) in
     let status = set_status n in
-    let one = set_heard laws terms c older status set d (status_small n) place good.0 fits in
+    let one = set_heard laws terms c older status set d text (status_small n) place good.0 fits in
     let next : is_head (spot_in (ended_set older status set)) ≡ true = ap (λ (s : StatusFlags). is_head (spot_in (ended_set older s set))) (status_more (length sets)) in
-    let all = sets_heard laws terms c (ended_set older status set) second sets d next good.1 one.fits in
+    let all = sets_heard laws terms c (ended_set older status set) second sets d text next good.1 one.fits in
     heard_then (Queried terms c older) (Queried terms c (ended_set older status set)) _ (set_payloads true status set) (sets_payloads true (second ∷ sets)) one all
 
 pub sets_are_over : (older : Sets) (set : ServerSet) (sets : List ServerSet) → spot_in (sets_from older (set ∷ sets)) ≡ spots.Idle
@@ -217,5 +220,5 @@ sets_read laws limit older before (set ∷ sets) good are =
     let e : reverse sets ++ (set ∷ before) ≡ reverse (set ∷ sets) ++ before = sym (append_assoc (reverse sets) (set ∷ []) before) ∙ ap (λ x. x ++ before) (sym (reverse-append (set ∷ []) sets)) in
     subst (λ x. AreSets x (sets_from older (set ∷ sets))) e rest
 
-pub sets_are_read : (laws : PacketLaws) (limit : ℕ) (sets : List ServerSet) → AreGood limit sets → AreSets (reverse sets) (sets_from NoSets sets)
-sets_are_read laws limit sets good = subst (λ x. AreSets x (sets_from NoSets sets)) (append-nil (reverse sets)) (sets_read laws limit NoSets [] sets good tt)
+pub sets_are_read : (laws : PacketLaws) (limit : ℕ) (sets : List ServerSet) → AreGood limit sets → AreSets (reverse sets) (sets_from (NoSets ByText) sets)
+sets_are_read laws limit sets good = subst (λ x. AreSets x (sets_from (NoSets ByText) sets)) (append-nil (reverse sets)) (sets_read laws limit (NoSets ByText) [] sets good refl)

@@ -14,7 +14,7 @@ use Rattle.my_grammar.specs.declared.login.Login.{Login}
 use Rattle.my_grammar.specs.declared.spot.Kind.TheVariants as kinds
 use Rattle.my_grammar.specs.declared.spot.Terms.{Terms}
 use Rattle.my_grammar.specs.Response.{response}
-use Rattle.my_grammar.specs.Sets.{SetHead, Sets, NoSets, Lone, Failed, Ended}
+use Rattle.my_grammar.specs.Sets.{SetHead, Sets, ByText, NoSets, Lone, Failed, Ended}
 use Rattle.my_grammar.specs.Talk.{Talk, Start, Greeted, Settled, Asked, Replied, Queried, Silent}
 use Rattle.my_grammar.specs.Cut.{Trailing, Unfinished, cut}
 use Rattle.my_server.specs.declared.answer.TheConstants.{DONE}
@@ -51,7 +51,7 @@ client_terms login limit = record { kept = intersection login.capabilities OFFER
 -- the exchange that a command begins
 abbrev pub exchange_by : Terms → List ℕ → CommandKind → Talk
 exchange_by terms c commands.Quit = Silent terms c
-exchange_by terms c commands.Query = Queried terms c NoSets
+exchange_by terms c commands.Query = Queried terms c (NoSets ByText)
 exchange_by terms c kind = Asked terms c
 
 abbrev pub exchange_of : Terms → List ℕ → Talk
@@ -73,19 +73,19 @@ pub record IsSet (set : ServerSet) (head : SetHead) (rows : List (List ℕ)) : T
 
 -- Sets were read, the newest first.
 abbrev pub AreSets : List ServerSet → Sets → Type 0
-AreSets [] NoSets = Unit {0}
+AreSets [] (NoSets asking) = asking ≡ ByText
 AreSets (set ∷ sets) (Ended older head rows last status) = IsSet set head rows × AreSets sets older
 AreSets _ _ = ⊥
 
 -- One OK was read, or one ERR.
 pub record IsLoneOk (ok : OkPacket) (x : Sets) : Type 0 where
   pub payload : List ℕ
-  pub sets : x ≡ Lone NoSets payload ok.status
+  pub sets : x ≡ Lone (NoSets ByText) payload ok.status
   pub packet : ok_at payload ≡ Some ok
 
 pub record IsLoneErr (err : ErrPacket) (x : Sets) : Type 0 where
   pub payload : List ℕ
-  pub sets : x ≡ Failed NoSets payload
+  pub sets : x ≡ Failed (NoSets ByText) payload
   pub packet : err_at false payload ≡ Some err
 
 -- what was read is the answer of the script

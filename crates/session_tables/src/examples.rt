@@ -4,7 +4,7 @@ use crate::play::KEPT;
 use my_flags::CapabilityFlags;
 use my_frame::limits::DEFAULT_MAX_ALLOWED_PACKET;
 
-const GREETING: &str = "0a 382e302e333600 07000000 6162636465666768 00 8ba2 2d 0200 1f01 15 \
+pub const GREETING: &str = "0a 382e302e333600 07000000 6162636465666768 00 8ba2 2d 0200 1f01 15 \
     00000000000000000000 696a6b6c6d6e6f707172737400 6d7973716c5f6e61746976655f70617373776f726400";
 
 const CACHING: &str = "0a 382e302e333600 07000000 6162636465666768 00 8ba2 2d 0200 1f01 15 \
@@ -13,12 +13,12 @@ const CACHING: &str = "0a 382e302e333600 07000000 6162636465666768 00 8ba2 2d 02
 const OLD: &str = "0a 382e302e333600 07000000 6162636465666768 00 8ba2 2d 0200 1f00 15 \
     00000000000000000000 696a6b6c6d6e6f707172737400 6d7973716c5f6e61746976655f70617373776f726400";
 
-const OK: &str = "00000002000000";
+pub const OK: &str = "00000002000000";
 
-const COLUMN: &str = "0364656600000001 31 000c3f0001000000088100000000";
+pub const COLUMN: &str = "0364656600000001 31 000c3f0001000000088100000000";
 
-// What both sides can do where sets end with an EOF.
-const KEPT_OLD: CapabilityFlags = CapabilityFlags(0x0f_a281);
+/// What both sides can do where sets end with an EOF.
+pub const KEPT_OLD: CapabilityFlags = CapabilityFlags(0x0f_a281);
 
 /// What is shown of a stream.
 #[derive(Clone, Copy)]
@@ -32,6 +32,9 @@ pub enum Look {
 #[derive(Clone, Copy)]
 pub struct Example<'a> {
     pub name: &'a str,
+    /// How many statements are prepared after the login, how many are executed then, and how many queries follow.
+    pub prepares: u8,
+    pub executes: u8,
     pub queries: u8,
     pub kept: CapabilityFlags,
     pub limit: u64,
@@ -42,9 +45,11 @@ pub struct Example<'a> {
     pub shows: &'a str,
 }
 
-// One query after a login, in a connection with the usual terms.
-const USUAL: Example<'static> = Example {
+/// One query after a login, in a connection with the usual terms.
+pub const USUAL: Example<'static> = Example {
     name: "",
+    prepares: 0,
+    executes: 0,
     queries: 1,
     kept: KEPT,
     limit: DEFAULT_MAX_ALLOWED_PACKET,

@@ -7,11 +7,15 @@ mod connects;
 #[cfg(test)]
 mod examples;
 #[cfg(test)]
+mod executes;
+#[cfg(test)]
 mod hex;
 #[cfg(test)]
 mod library;
 #[cfg(test)]
 mod play;
+#[cfg(test)]
+mod prepares;
 #[cfg(test)]
 mod streams;
 #[cfg(test)]

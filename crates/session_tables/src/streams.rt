@@ -28,16 +28,43 @@ fn add_queries(
     Ok(())
 }
 
-// A connection, and then `queries` queries.
-fn openings(
+fn add_prepares(
     alloc: Global,
-    queries: u8,
+    openings: &mut Vec<Opening>,
+    prepares: u8,
     kept: CapabilityFlags,
     limit: u64,
-) -> Result<Vec<Opening>, NoMemory> {
+) -> Result<(), NoMemory> {
+    for _ in 0..prepares {
+        let command = Blob::from_slice(alloc, b"\x16SELECT CONCAT(?, ?) AS col1")?;
+        let terms = Terms { kept, limit };
+        openings.push(Opening::Prepare { terms, command })?;
+    }
+    Ok(())
+}
+
+fn add_executes(
+    alloc: Global,
+    openings: &mut Vec<Opening>,
+    executes: u8,
+    kept: CapabilityFlags,
+    limit: u64,
+) -> Result<(), NoMemory> {
+    for _ in 0..executes {
+        let command = Blob::from_slice(alloc, b"\x17\x01\x00\x00\x00\x00\x01\x00\x00\x00")?;
+        let terms = Terms { kept, limit };
+        openings.push(Opening::Execute { terms, command })?;
+    }
+    Ok(())
+}
+
+// A connection, then the statements to prepare, those that are executed, and the queries.
+fn openings(alloc: Global, case: &Example) -> Result<Vec<Opening>, NoMemory> {
     let mut openings = Vec::new(alloc);
     openings.push(Opening::Connect)?;
-    add_queries(alloc, &mut openings, queries, kept, limit)?;
+    add_prepares(alloc, &mut openings, case.prepares, case.kept, case.limit)?;
+    add_executes(alloc, &mut openings, case.executes, case.kept, case.limit)?;
+    add_queries(alloc, &mut openings, case.queries, case.kept, case.limit)?;
     Ok(openings)
 }
 
@@ -51,6 +78,9 @@ fn show_packet(text: &mut String, packet: &Packet) -> Result<(), AllocError> {
         Kind::ColumnsDone => text.push_str("eof "),
         Kind::Row => show_row(text, packet.payload.as_slice()),
         Kind::End(status) => write!(text, "end:{} ", status.0),
+        Kind::Prepared { params, columns } => write!(text, "prepared:{params}:{columns} "),
+        Kind::Parameter => text.push_str("parameter "),
+        Kind::Field => text.push_str("field "),
         Kind::Bad => text.push_str("bad "),
     }
 }
@@ -183,7 +213,7 @@ fn show_case(
     case: &Example,
     text: &mut String,
 ) -> Result<(), NoMemory> {
-    let openings = openings(alloc, case.queries, case.kept, case.limit)?;
+    let openings = openings(alloc, case)?;
     show_stream(alloc, login, openings.as_slice(), case, text)
 }
 
@@ -201,8 +231,8 @@ fn show_example(alloc: Global, case: &Example, text: &mut String) -> Result<(), 
     shown
 }
 
-// Whether the stream is read as it should be.
-fn is_cut(alloc: Global, case: &Example) -> Result<bool, NoMemory> {
+/// Whether the stream is read as it should be.
+pub fn is_cut(alloc: Global, case: &Example) -> Result<bool, NoMemory> {
     let mut text = String::new(alloc);
     show_example(alloc, case, &mut text)?;
     Ok(text.as_str() == case.shows)
@@ -215,6 +245,83 @@ fn streams_are_cut(rt: HostRuntime) -> Result<(), Fail> {
         assert!(rt; is_cut(alloc, case)?, "{}", case.name);
     }
     Ok(())
+}
+
+// The stream, and where each of its payloads ends.
+fn add_ends(
+    alloc: Global,
+    bytes: &mut Queue,
+    ends: &mut Vec<usize>,
+    case: &Example,
+) -> Result<(), NoMemory> {
+    for (number, payload) in case.packets {
+        add_payload(alloc, bytes, *number, payload)?;
+        ends.push(bytes.len())?;
+    }
+    Ok(())
+}
+
+// How many payloads were found.
+fn count_found(found: &Found) -> usize {
+    let mut count = 0usize;
+    for exchange in &found.exchanges {
+        count = count.saturating_add(exchange.packets.len());
+    }
+    count
+}
+
+// Whether these bytes hold `whole` payloads, and then a part of one.
+fn is_part(
+    alloc: Global,
+    login: &Login,
+    openings: &[Opening],
+    bytes: &[u8],
+    whole: usize,
+) -> Result<bool, NoMemory> {
+    let found = cut_bytes(alloc, login, openings, bytes)?;
+    let fits = found.rest == CutRest::Unfinished && count_found(&found) == whole;
+    drop(found);
+    Ok(fits)
+}
+
+// Whether each part of the bytes holds the payloads that end there.
+fn are_parts(
+    alloc: Global,
+    login: &Login,
+    openings: &[Opening],
+    bytes: &[u8],
+    ends: &[usize],
+) -> Result<bool, NoMemory> {
+    for len in 0..bytes.len() {
+        let whole = ends.iter().filter(|end| **end <= len).count();
+        let (part, _) = bytes.split_at(len);
+        if !is_part(alloc, login, openings, part, whole)? {
+            return Ok(false);
+        }
+    }
+    Ok(true)
+}
+
+fn is_cut_by(alloc: Global, login: &Login, case: &Example) -> Result<bool, NoMemory> {
+    let openings = openings(alloc, case)?;
+    let mut bytes = Queue::new(alloc);
+    let mut ends = Vec::new(alloc);
+    add_ends(alloc, &mut bytes, &mut ends, case)?;
+    are_parts(
+        alloc,
+        login,
+        openings.as_slice(),
+        bytes.as_slice(),
+        ends.as_slice(),
+    )
+}
+
+/// Whether the stream that is cut off at each byte but the last is read to the payloads that are whole.
+pub fn is_cut_everywhere(alloc: Global, case: &Example) -> Result<bool, NoMemory> {
+    let login = login(alloc)?;
+    let cut = is_cut_by(alloc, &login, case);
+    drop(login);
+    cut
 }
 
 #[test]

@@ -3,6 +3,7 @@ use Rattle.std.proofs.Common.{◌≡◌, ℕ, suc, ◌+◌, ◌<◌, ◌≤◌, 
 use Rattle.std.proofs.lemmas.List.{append-nil, drop_all, reverse-append}
 use Rattle.std.proofs.Math.Seq.{drop-cons}
 use Rattle.my_frame.specs.Front.{Front, Waiting, Broken, Whole, front_at}
+use Rattle.my_reply.specs.declared.column.Column.{Column}
 use Rattle.my_grammar.specs.declared.login.Login.{Login}
 use Rattle.my_grammar.specs.declared.spot.Kind.{Kind}
 use Rattle.my_grammar.specs.declared.progress.Opening.{Opening}
@@ -12,9 +13,9 @@ use Rattle.my_grammar.specs.declared.cut.CutRest.TheVariants as rests
 use Rattle.my_grammar.specs.declared.cut.Found.{Found}
 use Rattle.my_grammar.specs.Contexts.{context_after, is_bad}
 use Rattle.my_grammar.specs.Kinds.{kind_there}
-use Rattle.my_grammar.specs.Talk.{Talk, Start, Unwelcome, Greeted, Settled, Asked, Replied, Queried, Silent, Fits, Server, turns, number_of, client_bytes, packets_of, context_of, limit_of, login_in}
+use Rattle.my_grammar.specs.Talk.{Talk, Start, Unwelcome, Greeted, Settled, Asked, Replied, Queried, Preparing, Silent, Fits, Server, turns, number_of, client_bytes, packets_of, context_of, described, limit_of, login_in}
 use Rattle.my_grammar.specs.declared.spot.Context.{Context}
-use Rattle.my_grammar.specs.Growth.{grow, replies, number_next, said, Grows, Reads}
+use Rattle.my_grammar.specs.Growth.{grow, replies, number_next, said, described_after, Grows, Reads}
 use Rattle.my_grammar.specs.Cut.{Read, Trailing, Cut, front_of, kind_of, read_from, is_idle, is_over, onto, cut, rest_of, rest_in_front}
 use Rattle.my_grammar.specs.CutLaws.{StopsAt}
 use Rattle.my_grammar.specs.Reading.{Hears, HeardOne, HeardNone, StopsHere}
@@ -32,6 +33,7 @@ limit_is (Settled login p c last kind) = refl
 limit_is (Asked terms c) = refl
 limit_is (Replied terms c last kind) = refl
 limit_is (Queried terms c sets) = refl
+limit_is (Preparing terms c r) = refl
 limit_is (Silent terms c) = refl
 
 -- An exchange that began so is read up to the rest of the bytes.
@@ -46,12 +48,16 @@ opening_fits : (login : Login) (opening : Opening) → Fits (talk_of login openi
 opening_fits login openings.Connect = record { kinds = tt; within = tt }
 opening_fits login (openings.Simple terms c) = record { kinds = tt; within = tt }
 opening_fits login (openings.Query terms c) = record { kinds = tt; within = tt }
+opening_fits login (openings.Execute terms c) = record { kinds = tt; within = tt }
+opening_fits login (openings.Prepare terms c) = record { kinds = tt; within = tt }
 opening_fits login (openings.Silent terms c) = record { kinds = tt; within = tt }
 
 opening_login : (login : Login) (opening : Opening) → login_in login (talk_of login opening) ≡ login
 opening_login login openings.Connect = refl
 opening_login login (openings.Simple terms c) = refl
 opening_login login (openings.Query terms c) = refl
+opening_login login (openings.Execute terms c) = refl
+opening_login login (openings.Prepare terms c) = refl
 opening_login login (openings.Silent terms c) = refl
 
 pub read_none : (login : Login) (opening : Opening) (bytes : List ℕ) (p : Progress) → IsAt (talk_of login opening) p → ReadSoFar login opening bytes p bytes
@@ -74,6 +80,7 @@ grown_at login t k q old new at h is g =
     let ts = g.turns_are login ∙ ap (λ l. replies l k q ++ Server q ∷ turns t) is in
     record {
       context = h.context ∙ ap (λ c. context_after c k) at.context ∙ sym g.context;
+      columns = h.columns ∙ ap (λ cs. described_after cs k q) at.columns ∙ sym g.described_is;
       number = h.number ∙ ap (λ n. number_next login k q n) at.number ∙ sym (ap number_of ts ∙ r.number);
       packets = h.packets ∙ ap (λ ps. ps ++ record { kind = k; payload = q } ∷ []) at.packets ∙ sym (ap reverse g.packets_are ∙ reverse-append (record { kind = k; payload = q } ∷ []) (packets_of t));
       sent = h.sent ∙ ap (λ bs. bs ++ said login k q old.number) at.sent ∙ ap (λ n. client_bytes (turns t) ++ said login k q n) at.number ∙ sym (ap client_bytes ts ∙ r.client);
@@ -83,7 +90,7 @@ pub read_one_more : (login : Login) (opening : Opening) (bytes rest after : List
 read_one_more login opening bytes rest after old new len w h is =
     let t = w.talk in
     let front : front_of t rest ≡ Whole h.payload h.rest h.next = sym (front_is t old rest w.at) ∙ h.front in
-    let kind : kind_there old.context h.payload ≡ kind_of t h.payload = ap (λ c. kind_there c h.payload) w.at.context in
+    let kind : kind_there old.context old.columns.items h.payload ≡ kind_of t h.payload = ap (λ c. kind_there c old.columns.items h.payload) w.at.context ∙ ap (λ cs. kind_there (context_of t) cs h.payload) w.at.columns in
     let good : is_bad (kind_of t h.payload) ≡ false = ap is_bad (sym kind) ∙ h.good in
     let bound = (takes_whole (number_of (turns t)) (limit_of t) rest h.payload h.rest h.next front).within in
     let small : length h.payload ≤ limit_of t = omega arith in
@@ -97,18 +104,18 @@ read_one_more login opening bytes rest after old new len w h is =
       reached = w.reached ∙ reads_one t rest h.payload h.rest h.next (kind_of t h.payload) front refl good ∙ ap (λ bs. read_from (grow (kind_of t h.payload) t h.payload) bs) (sym (is ∙ h.rest_is));
     }
 
-stops_at : (t : Talk) (c : Context) (x : Front) → c ≡ context_of t → StopsHere c x → StopsAt t x
-stops_at t c Waiting e s = tt
-stops_at t c (Broken fault) e s = tt
-stops_at t c (Whole p rest next) e s = ap (λ c. is_bad (kind_there c p)) (sym e) ∙ s
+stops_at : (t : Talk) (c : Context) (columns : List Column) (x : Front) → c ≡ context_of t → columns ≡ described t → StopsHere c columns x → StopsAt t x
+stops_at t c columns Waiting e d s = tt
+stops_at t c columns (Broken fault) e d s = tt
+stops_at t c columns (Whole p rest next) e d s = ap (λ c. is_bad (kind_there c (described t) p)) (sym e) ∙ ap (λ cs. is_bad (kind_there c cs p)) (sym d) ∙ s
 
 -- nothing more
 pub read_all : (login : Login) (opening : Opening) (bytes rest : List ℕ) (old new : Progress) → ReadSoFar login opening bytes old rest → HeardNone rest old new → IsReadTo (read_from (talk_of login opening) bytes) new rest
 read_all login opening bytes rest old new w h =
     let t = w.talk in
-    let stops : StopsAt t (front_of t rest) = stops_at t old.context (front_of t rest) w.at.context (subst (λ x. StopsHere old.context x) (front_is t old rest w.at) h.stops) in
+    let stops : StopsAt t (front_of t rest) = stops_at t old.context old.columns.items (front_of t rest) w.at.context w.at.columns (subst (λ x. StopsHere old.context old.columns.items x) (front_is t old rest w.at) h.stops) in
     let whole : read_from (talk_of login opening) bytes ≡ record { talk = t; rest = rest } = w.reached ∙ stops_reads_none t rest stops in
-    let at : IsAt t new = record { context = h.context ∙ w.at.context; number = h.number ∙ w.at.number; packets = h.packets ∙ w.at.packets; sent = h.sent ∙ w.at.sent } in
+    let at : IsAt t new = record { context = h.context ∙ w.at.context; columns = h.columns ∙ w.at.columns; number = h.number ∙ w.at.number; packets = h.packets ∙ w.at.packets; sent = h.sent ∙ w.at.sent } in
     subst (λ (r : Read). IsReadTo r new rest) (sym whole) (record { at = at; rest_is = refl })
 
 -- exchanges in front of a cut

@@ -7,19 +7,21 @@ use Rattle.my_flags.specs.Sets.{deprecates_eof, has_more_results}
 use Rattle.my_reply.specs.OkPacket.{ok_at, end_ok_at}
 use Rattle.my_reply.specs.ErrPacket.{err_at}
 use Rattle.my_reply.specs.EofPacket.{eof_at}
+use Rattle.my_reply.specs.Replies.{prepare_ok_at}
 use Rattle.my_frame.specs.Numbers.{len_at}
 use Rattle.my_handshake.specs.Greeting.{greeting_at}
 use Rattle.my_reply.specs.declared.column_count.ColumnCount.{ColumnCount}
 use Rattle.my_reply.specs.ColumnCount.{column_count_at, skipped_at}
 use Rattle.my_reply.specs.Column.{column_at}
 use Rattle.my_frame.proofs.NumberLaws.{bind_then, passed}
-use Rattle.my_value.specs.TextRow.{text_row_at}
+use Rattle.my_reply.specs.declared.column.Column.{Column as ColumnPacket}
+use Rattle.my_grammar.specs.declared.spot.RowFormat.{RowFormat}
 use Rattle.my_grammar.specs.declared.spot.Spot.{Spot}
 use Rattle.my_grammar.specs.declared.spot.Spot.TheVariants as spots
 use Rattle.my_grammar.specs.declared.spot.Kind.{Kind}
-use Rattle.my_grammar.specs.declared.spot.Kind.TheVariants.{Greets, Good, Failed, Count, Column, ColumnsDone, Row, End, Bad}
+use Rattle.my_grammar.specs.declared.spot.Kind.TheVariants.{Greets, Good, Failed, Count, Column, ColumnsDone, Row, End, Prepared, Parameter, Field, Bad}
 use Rattle.my_grammar.specs.Contexts.{more, after_head, spot_after}
-use Rattle.my_grammar.specs.Kinds.{or_else, is_caching, good_kind, failed_kind, count_kind, greets_kind, described_kind, done_kind, ended_kind, eof_kind, cells_kind, greeting_kind, single_kind, head_kind, column_kind, columns_end_kind, end_kind, row_kind, kind_by}
+use Rattle.my_grammar.specs.Kinds.{or_else, is_caching, good_kind, failed_kind, count_kind, greets_kind, described_kind, prepared_kind, done_kind, ended_kind, eof_kind, cells_at, cells_kind, greeting_kind, single_kind, head_kind, column_kind, columns_end_kind, end_kind, row_kind, prepare_kind, parameter_kind, field_kind, kind_by}
 use Rattle.my_grammar.specs.FitSets.{is_head}
 
 -- what may come in a place, as tests
@@ -59,6 +61,22 @@ is_row_kind Failed = true
 is_row_kind Bad = true
 is_row_kind k = false
 
+abbrev pub is_prepare_kind : Kind → Bool
+is_prepare_kind (Prepared params columns) = true
+is_prepare_kind Failed = true
+is_prepare_kind Bad = true
+is_prepare_kind k = false
+
+abbrev pub is_parameter_kind : Kind → Bool
+is_parameter_kind Parameter = true
+is_parameter_kind Bad = true
+is_parameter_kind k = false
+
+abbrev pub is_field_kind : Kind → Bool
+is_field_kind Field = true
+is_field_kind Bad = true
+is_field_kind k = false
+
 -- what holds of both forms holds of the one that the payload has
 either : (P : Kind → Bool) (k l : Kind) → P k ≡ true → P l ≡ true → P (or_else k l) ≡ true
 either P (Greets capabilities) l a b = a
@@ -69,6 +87,9 @@ either P Column l a b = a
 either P ColumnsDone l a b = a
 either P Row l a b = a
 either P (End status) l a b = a
+either P (Prepared params columns) l a b = a
+either P Parameter l a b = a
+either P Field l a b = a
 either P Bad l a b = b
 
 failed : (P : Kind → Bool) → P Bad ≡ true → P Failed ≡ true → (b : Bool) (p : List ℕ) → P (failed_kind (err_at b p)) ≡ true
@@ -110,7 +131,7 @@ pub known_head : (p : List ℕ) → is_head_kind (head_kind p) ≡ true
 known_head p = either is_head_kind (good_kind (ok_at p)) (or_else (failed_kind (err_at false p)) (count_kind (column_count_at false p))) (good is_head_kind refl (λ s. refl) p) (either is_head_kind (failed_kind (err_at false p)) (count_kind (column_count_at false p)) (failed is_head_kind refl refl false p) (counted p (column_count_at false p) refl))
 
 pub known_column : (p : List ℕ) → is_column_kind (column_kind p) ≡ true
-known_column p = elim (column_at p) as (λ o. is_column_kind (described_kind o) ≡ true) [ None ↦ refl | Some c ↦ refl ]
+known_column p = elim (column_at p) as (λ o. is_column_kind (described_kind Column o) ≡ true) [ None ↦ refl | Some c ↦ refl ]
 
 pub known_close : (p : List ℕ) → is_close_kind (columns_end_kind p) ≡ true
 known_close p = elim (eof_at p) as (λ o. is_close_kind (done_kind o) ≡ true) [ None ↦ refl | Some c ↦ refl ]
@@ -119,27 +140,44 @@ known_end : (d : Bool) (p : List ℕ) → is_row_kind (end_kind d p) ≡ true
 known_end true p = elim (end_ok_at p) as (λ o. is_row_kind (ended_kind o) ≡ true) [ None ↦ refl | Some c ↦ refl ]
 known_end false p = elim (eof_at p) as (λ o. is_row_kind (eof_kind o) ≡ true) [ None ↦ refl | Some c ↦ refl ]
 
-pub known_row : (d : Bool) (n : ℕ) (p : List ℕ) → is_row_kind (row_kind d n p) ≡ true
-known_row d n p =
-    either is_row_kind (end_kind d p) (or_else (failed_kind (err_at false p)) (cells_kind (text_row_at n p))) (known_end d p)
-    (either is_row_kind (failed_kind (err_at false p)) (cells_kind (text_row_at n p)) (failed is_row_kind refl refl false p)
-    (elim (text_row_at n p) as (λ o. is_row_kind (cells_kind o) ≡ true) [ None ↦ refl | Some c ↦ refl ]))
+pub known_row : (f : RowFormat) (d : Bool) (n : ℕ) (cs : List ColumnPacket) (p : List ℕ) → is_row_kind (row_kind f d n cs p) ≡ true
+known_row f d n cs p =
+    either is_row_kind (end_kind d p) (or_else (failed_kind (err_at false p)) (cells_kind (cells_at f n cs p))) (known_end d p)
+    (either is_row_kind (failed_kind (err_at false p)) (cells_kind (cells_at f n cs p)) (failed is_row_kind refl refl false p)
+    (elim (cells_at f n cs p) as (λ o. is_row_kind (cells_kind o) ≡ true) [ None ↦ refl | Some c ↦ refl ]))
+
+pub known_prepare : (p : List ℕ) → is_prepare_kind (prepare_kind p) ≡ true
+known_prepare p =
+    either is_prepare_kind (prepared_kind (prepare_ok_at p)) (failed_kind (err_at false p))
+    (elim (prepare_ok_at p) as (λ o. is_prepare_kind (prepared_kind o) ≡ true) [ None ↦ refl | Some head ↦ refl ])
+    (failed is_prepare_kind refl refl false p)
+
+pub known_parameter : (p : List ℕ) → is_parameter_kind (parameter_kind p) ≡ true
+known_parameter p = elim (column_at p) as (λ o. is_parameter_kind (described_kind Parameter o) ≡ true) [ None ↦ refl | Some c ↦ refl ]
+
+pub known_field : (p : List ℕ) → is_field_kind (field_kind p) ≡ true
+known_field p = elim (column_at p) as (λ o. is_field_kind (described_kind Field o) ≡ true) [ None ↦ refl | Some c ↦ refl ]
 
 -- what a kind is that comes in a place
 pub is_then : (P : Kind → Bool) (k l : Kind) → P k ≡ true → k ≡ l → P l ≡ true
 is_then P k l a e = subst (λ x. P x ≡ true) e a
 
 -- a head's place
-pub head_kind_is : (s : Spot) (d : Bool) (n : ℕ) (p : List ℕ) → is_head s ≡ true → kind_by s d n p ≡ head_kind p
-head_kind_is spots.Idle d n p h = cc
-head_kind_is spots.Greeting d n p h = cc
-head_kind_is spots.Authentication d n p h = cc
-head_kind_is spots.Single d n p h = cc
-head_kind_is spots.Head d n p h = refl
-head_kind_is spots.Further d n p h = refl
-head_kind_is (spots.Columns left) d n p h = cc
-head_kind_is spots.ColumnsEnd d n p h = cc
-head_kind_is spots.Rows d n p h = cc
+pub head_kind_is : (s : Spot) (f : RowFormat) (d : Bool) (n : ℕ) (cs : List ColumnPacket) (p : List ℕ) → is_head s ≡ true → kind_by s f d n cs p ≡ head_kind p
+head_kind_is spots.Idle f d n cs p h = cc
+head_kind_is spots.Greeting f d n cs p h = cc
+head_kind_is spots.Authentication f d n cs p h = cc
+head_kind_is spots.Single f d n cs p h = cc
+head_kind_is spots.Head f d n cs p h = refl
+head_kind_is spots.Further f d n cs p h = refl
+head_kind_is (spots.Columns left) f d n cs p h = cc
+head_kind_is spots.ColumnsEnd f d n cs p h = cc
+head_kind_is spots.Rows f d n cs p h = cc
+head_kind_is spots.Prepare f d n cs p h = cc
+head_kind_is (spots.Parameters left columns) f d n cs p h = cc
+head_kind_is (spots.ParametersEnd columns) f d n cs p h = cc
+head_kind_is (spots.Fields left) f d n cs p h = cc
+head_kind_is spots.FieldsEnd f d n cs p h = cc
 
 pub after_head_is : (s : Spot) (d : Bool) (k : Kind) → is_head s ≡ true → after_head k ≡ spot_after d s k
 after_head_is spots.Idle d k h = cc
@@ -151,6 +189,11 @@ after_head_is spots.Further d k h = refl
 after_head_is (spots.Columns left) d k h = cc
 after_head_is spots.ColumnsEnd d k h = cc
 after_head_is spots.Rows d k h = cc
+after_head_is spots.Prepare d k h = cc
+after_head_is (spots.Parameters left columns) d k h = cc
+after_head_is (spots.ParametersEnd columns) d k h = cc
+after_head_is (spots.Fields left) d k h = cc
+after_head_is spots.FieldsEnd d k h = cc
 
 more_if : (t : Bool) → (cond t spots.Further spots.Idle ≡ spots.Further) ⊎ (cond t spots.Further spots.Idle ≡ spots.Idle)
 more_if true = inl refl
@@ -161,5 +204,5 @@ pub more_cases : (status : StatusFlags) → (more status ≡ spots.Further) ⊎ 
 more_cases status = more_if (has_more_results status)
 
 -- nothing is known where nothing is awaited
-pub idle_bad : (s : Spot) (d : Bool) (n : ℕ) (p : List ℕ) (k : Kind) → s ≡ spots.Idle → kind_by s d n p ≡ k → k ≡ Bad
-idle_bad s d n p k i e = sym (subst (λ s. kind_by s d n p ≡ k) i e)
+pub idle_bad : (s : Spot) (f : RowFormat) (d : Bool) (n : ℕ) (cs : List ColumnPacket) (p : List ℕ) (k : Kind) → s ≡ spots.Idle → kind_by s f d n cs p ≡ k → k ≡ Bad
+idle_bad s f d n cs p k i e = sym (subst (λ s. kind_by s f d n cs p ≡ k) i e)

@@ -10,12 +10,13 @@ use Rattle.my_grammar.specs.declared.spot.Kind.{Kind}
 use Rattle.my_grammar.specs.declared.spot.Kind.TheVariants.{Greets, Good, Failed, Count, Column, ColumnsDone, Row, End}
 use Rattle.my_grammar.specs.declared.spot.Terms.{Terms}
 use Rattle.my_grammar.specs.Kinds.{head_kind, columns_end_kind, kind_by}
-use Rattle.my_grammar.specs.Sets.{SetHead, Sets, NoSets, Lone, Failed as FailedSet, Heading, Headed, Begun, Ended, Broken, Packet, each, at_most_one, head_packets, packets_in, spot_in, columns_in}
+use Rattle.my_grammar.specs.Sets.{SetHead, Sets, NoSets, Lone, Failed as FailedSet, Heading, Headed, Begun, Ended, Broken, Packet, each, at_most_one, head_packets, packets_in, spot_in, columns_in, format_in, described_in}
 use Rattle.my_grammar.specs.FitSets.{is_head, IsClose, IsHeading, IsBegun, FitSets}
-use Rattle.my_grammar.specs.Talk.{Talk, Start, Unwelcome, Greeted, Settled, Asked, Replied, Queried, Silent, Fits}
+use Rattle.my_grammar.specs.Talk.{Talk, Start, Unwelcome, Greeted, Settled, Asked, Replied, Queried, Preparing, Silent, Fits}
 use Rattle.my_grammar.proofs.Growth.Known.{is_head_kind, known_head, is_then, head_kind_is}
 use Rattle.my_grammar.proofs.Growth.SetGrowth.{error_is}
 use Rattle.my_grammar.proofs.Cutting.{Reaches, at_origin, goes_on}
+use Rattle.my_grammar.proofs.Sound.Replies.{reply_reaches}
 
 -- each is within the limit
 AllWithin : ℕ → List Packet → Type 0
@@ -32,8 +33,8 @@ queried_fits : {terms : Terms} {c : List ℕ} {x : Sets} → Stands terms c x �
 queried_fits w = record { kinds = w.fits; within = w.within }
 
 -- a head's payload is known by its place
-in_place : (x : Sets) (d : Bool) (p : List ℕ) (k : Kind) → is_head (spot_in x) ≡ true → head_kind p ≡ k → kind_by (spot_in x) d (columns_in x) p ≡ k
-in_place x d p k h e = head_kind_is (spot_in x) d (columns_in x) p h ∙ e
+in_place : (x : Sets) (d : Bool) (p : List ℕ) (k : Kind) → is_head (spot_in x) ≡ true → head_kind p ≡ k → kind_by (spot_in x) (format_in x) d (columns_in x) (described_in x) p ≡ k
+in_place x d p k h e = head_kind_is (spot_in x) (format_in x) d (columns_in x) (described_in x) p h ∙ e
 
 lone_stands : (terms : Terms) (c : List ℕ) (older : Sets) (p : List ℕ) (status : StatusFlags) → Stands terms c older → is_head (spot_in older) ≡ true → head_kind p ≡ Good status → length p ≤ terms.limit → Stands terms c (Lone older p status)
 lone_stands terms c older p status w h e short = record {
@@ -158,7 +159,7 @@ in_heading : (limit : ℕ) (older : Sets) (head : SetHead) → head.close ≡ No
 in_heading limit older head none all = subst (λ (close : Option (List ℕ)). AllByRecursion (λ packet. length packet.payload ≤ limit) (head_packets (head_of head.count head.number head.columns close) (packets_in older))) none all
 
 sets_stand : (terms : Terms) (c : List ℕ) (x : Sets) → FitSets (deprecates_eof terms.kept) x → AllByRecursion (λ packet. length packet.payload ≤ terms.limit) (packets_in x) → Stands terms c x
-sets_stand terms c NoSets f all = record { fits = tt; within = tt; reached = at_origin (Queried terms c NoSets) refl refl }
+sets_stand terms c (NoSets asking) f all = record { fits = tt; within = tt; reached = at_origin (Queried terms c (NoSets asking)) refl refl }
 sets_stand terms c (Lone older p status) f all = lone_stands terms c older p status (sets_stand terms c older f.2 all.1) f.0 f.1 all.0
 sets_stand terms c (FailedSet older p) f all = failed_stands terms c older p (sets_stand terms c older f.2 all.1) f.0 f.1 all.0
 sets_stand terms c (Heading older head left) f all =
@@ -196,4 +197,5 @@ reaches (Settled login p capabilities last kind) f =
 reaches (Asked terms c) f = at_origin (Asked terms c) refl refl
 reaches (Replied terms c last kind) f = goes_on (Asked terms c) kind last f.kinds.0 f.kinds.1 f.within.0 (record { kinds = tt; within = tt }) (at_origin (Asked terms c) refl refl)
 reaches (Queried terms c x) f = (sets_stand terms c x f.kinds f.within).reached
+reaches (Preparing terms c r) f = reply_reaches terms c r f.kinds f.within
 reaches (Silent terms c) f = at_origin (Silent terms c) refl refl

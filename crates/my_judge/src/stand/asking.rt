@@ -9,7 +9,7 @@ use super::reading::codec_failure;
 use crate::step::Step;
 use my_command::{ClientPacket, write_client};
 use my_frame::{Blob, CodecFault, NoMemory};
-use my_grammar::{Context, Spot, Terms};
+use my_grammar::{Context, RowFormat, Spot, Terms};
 use my_reading::Call;
 use std::alloc::Global;
 
@@ -34,6 +34,7 @@ impl Stand {
         self.number = self.said.push_payload(command, 0)?;
         self.context = Context {
             spot,
+            rows: RowFormat::Text,
             columns: 0,
             terms: Terms {
                 kept: self.context.terms.kept,

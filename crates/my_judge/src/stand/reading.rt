@@ -20,9 +20,9 @@ use my_frame::{
     CodecError, CodecFault, FramedPayload, NoMemory, ReadError, Text, payload_in_front,
 };
 use my_grammar::{Kind, Login, Spot, kind_at, login_response};
-use my_reading::{Answer, Error, IoError, IoFault, IoKind, ServerError};
+use my_reading::{Answer, Error, IoError, IoFault, IoKind, ServerError, read_row};
 use my_reply::{ErrPacket, read_err};
-use my_value::{Row, read_text_row};
+use my_value::Row;
 use std::alloc::Global;
 use std::sync::Arc;
 
@@ -148,9 +148,9 @@ impl Stand {
 
     // The payload as a row.
     fn row(&self, alloc: Global, payload: &[u8]) -> Result<Row, NoMemory>
-        ensures { IfOk result (λ row. row ≡ row_of self.now.facts.columns payload.now) }
+        ensures { IfOk result (λ row. row ≡ row_of self.now.context.rows self.now.facts.columns payload.now) }
     {
-        match read_text_row(alloc, payload, self.facts.columns.shared()) {
+        match read_row(alloc, self.context.rows, &self.facts.columns, payload) {
             Ok(row) => Ok(row),
             Err(ReadError::Malformed) => self.empty_row(alloc),
             Err(ReadError::NoMemory) => Err(NoMemory),
@@ -240,13 +240,20 @@ impl Stand {
         requires next { found.now.span.next ≡ number_after_payload found.now.payload self.old.number }
         requires fits { found.now.span.len ≤ length self.old.unread }
         ensures { let s = self.old in
-            let row = row_of s.facts.columns found.now.payload in
+            let row = row_of s.context.rows s.facts.columns found.now.payload in
             let new = heard login.now kind found.now.payload (drop found.now.span.len s.unread) s in
             IfOk result (λ step. Comes (after_kind part kind row new) step self.new) }
     {
         let row = self.row(alloc, found.payload.as_slice())?;
         self.hear(alloc, login, kind, found)?;
         Ok(self.after_kind(part, kind, row))
+    }
+
+    // What the payload is.
+    fn kind_here(&self, payload: &[u8]) -> Kind
+        ensures { result ≡ kind_there self.now.context self.now.facts.columns payload.now }
+    {
+        kind_at(self.context, self.facts.columns.as_slice(), payload)
     }
 
     // The payload that was found is read.
@@ -263,7 +270,7 @@ impl Stand {
             let rest = drop found.now.span.len s.unread in
             IfOk result (λ step. Comes (read_payload login.now part found.now.payload rest s) step self.new) }
     {
-        let kind = kind_at(self.context, found.payload.as_slice());
+        let kind = self.kind_here(found.payload.as_slice());
         match kind {
             Kind::Bad => Ok(self.unfit()),
             Kind::Failed => self.refuse(alloc, login, found),

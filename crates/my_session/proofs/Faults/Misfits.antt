@@ -8,7 +8,7 @@ use Rattle.my_grammar.specs.declared.spot.Spot.TheVariants as spots
 use Rattle.my_grammar.specs.Contexts.{is_bad}
 use Rattle.my_grammar.specs.Cut.{is_idle}
 use Rattle.my_grammar.specs.Sets.{Sets, NoSets, Lone, Failed, Heading, Headed, Begun as BegunSet, Ended, Broken, spot_in}
-use Rattle.my_grammar.specs.Talk.{Talk, Start, Unwelcome, Greeted, Settled, Asked, Replied, Queried, Silent, context_of}
+use Rattle.my_grammar.specs.Talk.{Talk, Start, Unwelcome, Greeted, Settled, Asked, Replied, Queried, Preparing, Silent, context_of}
 use Rattle.my_grammar.proofs.Growth.Known.{is_greeting_kind, is_single_kind, is_head_kind, is_column_kind, is_close_kind, is_row_kind}
 use Rattle.my_reading.specs.declared.call.CallKind.{CallKind}
 use Rattle.my_reading.specs.declared.call.CallKind.TheVariants.{Connect, Query, NextRow, DropResult, TakeSet, SkipTaken, Ping, Quit}
@@ -39,6 +39,9 @@ connect_fits kinds.Column = tt
 connect_fits kinds.ColumnsDone = tt
 connect_fits kinds.Row = tt
 connect_fits (kinds.End status) = tt
+connect_fits (kinds.Prepared params columns) = tt
+connect_fits kinds.Parameter = tt
+connect_fits kinds.Field = tt
 connect_fits kinds.Bad = tt
 
 query_fits : (k : Kind) → FitsKind (react_query k) k
@@ -50,6 +53,9 @@ query_fits kinds.Column = tt
 query_fits kinds.ColumnsDone = tt
 query_fits kinds.Row = tt
 query_fits (kinds.End status) = tt
+query_fits (kinds.Prepared params columns) = tt
+query_fits kinds.Parameter = tt
+query_fits kinds.Field = tt
 query_fits kinds.Bad = tt
 
 ping_fits : (k : Kind) → FitsKind (react_ping k) k
@@ -61,6 +67,9 @@ ping_fits kinds.Column = tt
 ping_fits kinds.ColumnsDone = tt
 ping_fits kinds.Row = tt
 ping_fits (kinds.End status) = tt
+ping_fits (kinds.Prepared params columns) = tt
+ping_fits kinds.Parameter = tt
+ping_fits kinds.Field = tt
 ping_fits kinds.Bad = tt
 
 own_fits : (c : CallKind) (k : Kind) → FitsKind (react_own c k) k
@@ -82,6 +91,9 @@ whole_fits t kinds.Column = tt
 whole_fits t kinds.ColumnsDone = tt
 whole_fits t kinds.Row = tt
 whole_fits t (kinds.End status) = tt
+whole_fits t (kinds.Prepared params columns) = tt
+whole_fits t kinds.Parameter = tt
+whole_fits t kinds.Field = tt
 whole_fits t kinds.Bad = tt
 
 pub react_fits : (t : Task) (k : Kind) → FitsKind (react t k) k
@@ -98,6 +110,9 @@ react_fits Reading kinds.Column = tt
 react_fits Reading kinds.ColumnsDone = tt
 react_fits Reading kinds.Row = refl
 react_fits Reading (kinds.End status) = tt
+react_fits Reading (kinds.Prepared params columns) = tt
+react_fits Reading kinds.Parameter = tt
+react_fits Reading kinds.Field = tt
 react_fits Reading kinds.Bad = tt
 react_fits Dropping (kinds.Greets n) = tt
 react_fits Dropping (kinds.Good status) = tt
@@ -107,6 +122,9 @@ react_fits Dropping kinds.Column = tt
 react_fits Dropping kinds.ColumnsDone = tt
 react_fits Dropping kinds.Row = refl
 react_fits Dropping (kinds.End status) = tt
+react_fits Dropping (kinds.Prepared params columns) = tt
+react_fits Dropping kinds.Parameter = tt
+react_fits Dropping kinds.Field = tt
 react_fits Dropping kinds.Bad = tt
 react_fits Taking (kinds.Greets n) = tt
 react_fits Taking (kinds.Good status) = tt
@@ -116,6 +134,9 @@ react_fits Taking kinds.Column = tt
 react_fits Taking kinds.ColumnsDone = tt
 react_fits Taking kinds.Row = tt
 react_fits Taking (kinds.End status) = tt
+react_fits Taking (kinds.Prepared params columns) = tt
+react_fits Taking kinds.Parameter = tt
+react_fits Taking kinds.Field = tt
 react_fits Taking kinds.Bad = tt
 react_fits Skipping (kinds.Greets n) = tt
 react_fits Skipping (kinds.Good status) = tt
@@ -125,6 +146,9 @@ react_fits Skipping kinds.Column = tt
 react_fits Skipping kinds.ColumnsDone = tt
 react_fits Skipping kinds.Row = refl
 react_fits Skipping (kinds.End status) = tt
+react_fits Skipping (kinds.Prepared params columns) = tt
+react_fits Skipping kinds.Parameter = tt
+react_fits Skipping kinds.Field = tt
 react_fits Skipping kinds.Bad = tt
 react_fits Leaving k = tt
 react_fits (Failing c fault) k = tt
@@ -145,6 +169,11 @@ greets_first spots.Further n e = cc
 greets_first (spots.Columns left) n e = cc
 greets_first spots.ColumnsEnd n e = cc
 greets_first spots.Rows n e = cc
+greets_first spots.Prepare n e = cc
+greets_first (spots.Parameters left columns) n e = cc
+greets_first (spots.ParametersEnd columns) n e = cc
+greets_first (spots.Fields left) n e = cc
+greets_first spots.FieldsEnd n e = cc
 
 no_greets : (spot : Spot) (n : CapabilityFlags) {A : Type 0} → is_greeting spot ≡ false → is_known spot (kinds.Greets n) ≡ true → A
 no_greets spot n past e = let no : true ≡ false = sym (greets_first spot n e) ∙ past in cc
@@ -158,6 +187,9 @@ whole_breaks t spot past kinds.Column e b = cc
 whole_breaks t spot past kinds.ColumnsDone e b = cc
 whole_breaks t spot past kinds.Row e b = cc
 whole_breaks t spot past (kinds.End status) e b = cc
+whole_breaks t spot past (kinds.Prepared params columns) e b = cc
+whole_breaks t spot past kinds.Parameter e b = cc
+whole_breaks t spot past kinds.Field e b = cc
 whole_breaks t spot past kinds.Bad e b = refl
 
 reading_breaks : (spot : Spot) → is_greeting spot ≡ false → (k : Kind) → is_known spot k ≡ true → is_breaking (react Reading k) ≡ true → is_bad k ≡ true
@@ -169,6 +201,9 @@ reading_breaks spot past kinds.Column e b = cc
 reading_breaks spot past kinds.ColumnsDone e b = cc
 reading_breaks spot past kinds.Row e b = cc
 reading_breaks spot past (kinds.End status) e b = cc
+reading_breaks spot past (kinds.Prepared params columns) e b = cc
+reading_breaks spot past kinds.Parameter e b = cc
+reading_breaks spot past kinds.Field e b = cc
 reading_breaks spot past kinds.Bad e b = refl
 
 dropping_breaks : (spot : Spot) → is_greeting spot ≡ false → (k : Kind) → is_known spot k ≡ true → is_breaking (react Dropping k) ≡ true → is_bad k ≡ true
@@ -180,6 +215,9 @@ dropping_breaks spot past kinds.Column e b = cc
 dropping_breaks spot past kinds.ColumnsDone e b = cc
 dropping_breaks spot past kinds.Row e b = cc
 dropping_breaks spot past (kinds.End status) e b = cc
+dropping_breaks spot past (kinds.Prepared params columns) e b = cc
+dropping_breaks spot past kinds.Parameter e b = cc
+dropping_breaks spot past kinds.Field e b = cc
 dropping_breaks spot past kinds.Bad e b = refl
 
 greeting_breaks : (k : Kind) → is_greeting_kind k ≡ true → is_breaking (react_connect k) ≡ true → is_bad k ≡ true
@@ -191,6 +229,9 @@ greeting_breaks kinds.Column e b = cc
 greeting_breaks kinds.ColumnsDone e b = cc
 greeting_breaks kinds.Row e b = cc
 greeting_breaks (kinds.End status) e b = cc
+greeting_breaks (kinds.Prepared params columns) e b = cc
+greeting_breaks kinds.Parameter e b = cc
+greeting_breaks kinds.Field e b = cc
 greeting_breaks kinds.Bad e b = refl
 
 -- one OK or ERR is awaited
@@ -203,6 +244,9 @@ single_breaks kinds.Column e b = cc
 single_breaks kinds.ColumnsDone e b = cc
 single_breaks kinds.Row e b = cc
 single_breaks (kinds.End status) e b = cc
+single_breaks (kinds.Prepared params columns) e b = cc
+single_breaks kinds.Parameter e b = cc
+single_breaks kinds.Field e b = cc
 single_breaks kinds.Bad e b = refl
 
 ping_breaks : (k : Kind) → is_single_kind k ≡ true → is_breaking (react_ping k) ≡ true → is_bad k ≡ true
@@ -214,6 +258,9 @@ ping_breaks kinds.Column e b = cc
 ping_breaks kinds.ColumnsDone e b = cc
 ping_breaks kinds.Row e b = cc
 ping_breaks (kinds.End status) e b = cc
+ping_breaks (kinds.Prepared params columns) e b = cc
+ping_breaks kinds.Parameter e b = cc
+ping_breaks kinds.Field e b = cc
 ping_breaks kinds.Bad e b = refl
 
 -- a set's head is awaited, or a part of it
@@ -226,6 +273,9 @@ head_breaks kinds.Column e b = cc
 head_breaks kinds.ColumnsDone e b = cc
 head_breaks kinds.Row e b = cc
 head_breaks (kinds.End status) e b = cc
+head_breaks (kinds.Prepared params columns) e b = cc
+head_breaks kinds.Parameter e b = cc
+head_breaks kinds.Field e b = cc
 head_breaks kinds.Bad e b = refl
 
 column_breaks : (k : Kind) → is_column_kind k ≡ true → is_breaking (react_query k) ≡ true → is_bad k ≡ true
@@ -237,6 +287,9 @@ column_breaks kinds.Column e b = cc
 column_breaks kinds.ColumnsDone e b = cc
 column_breaks kinds.Row e b = cc
 column_breaks (kinds.End status) e b = cc
+column_breaks (kinds.Prepared params columns) e b = cc
+column_breaks kinds.Parameter e b = cc
+column_breaks kinds.Field e b = cc
 column_breaks kinds.Bad e b = refl
 
 close_breaks : (k : Kind) → is_close_kind k ≡ true → is_breaking (react_query k) ≡ true → is_bad k ≡ true
@@ -248,6 +301,9 @@ close_breaks kinds.Column e b = cc
 close_breaks kinds.ColumnsDone e b = cc
 close_breaks kinds.Row e b = cc
 close_breaks (kinds.End status) e b = cc
+close_breaks (kinds.Prepared params columns) e b = cc
+close_breaks kinds.Parameter e b = cc
+close_breaks kinds.Field e b = cc
 close_breaks kinds.Bad e b = refl
 
 -- a stream takes what a query does
@@ -260,6 +316,9 @@ taking_breaks kinds.Column = refl
 taking_breaks kinds.ColumnsDone = refl
 taking_breaks kinds.Row = refl
 taking_breaks (kinds.End status) = refl
+taking_breaks (kinds.Prepared params columns) = refl
+taking_breaks kinds.Parameter = refl
+taking_breaks kinds.Field = refl
 taking_breaks kinds.Bad = refl
 
 -- rows, or their end, are passed over
@@ -272,6 +331,9 @@ skipping_breaks kinds.Column e b = cc
 skipping_breaks kinds.ColumnsDone e b = cc
 skipping_breaks kinds.Row e b = cc
 skipping_breaks (kinds.End status) e b = cc
+skipping_breaks (kinds.Prepared params columns) e b = cc
+skipping_breaks kinds.Parameter e b = cc
+skipping_breaks kinds.Field e b = cc
 skipping_breaks kinds.Bad e b = refl
 
 pub cleaning_awaits : (c : CallKind) (spot : Spot) → is_idle spot ≡ false → is_greeting spot ≡ false → Awaits (Cleaning c) spot
@@ -299,6 +361,11 @@ connect_awaits spots.Further e = cc
 connect_awaits (spots.Columns left) e = cc
 connect_awaits spots.ColumnsEnd e = cc
 connect_awaits spots.Rows e = cc
+connect_awaits spots.Prepare e = cc
+connect_awaits (spots.Parameters left columns) e = cc
+connect_awaits (spots.ParametersEnd columns) e = cc
+connect_awaits (spots.Fields left) e = cc
+connect_awaits spots.FieldsEnd e = cc
 
 -- where the head of a query's first set is awaited, or is whole
 abbrev pub is_heading : Spot → Bool
@@ -309,7 +376,7 @@ is_heading spots.Rows = true
 is_heading s = false
 
 heading_sets : (x : Sets) → is_first x ≡ true → is_heading (spot_in x) ≡ true
-heading_sets NoSets e = refl
+heading_sets (NoSets asking) e = refl
 heading_sets (Lone older p status) e = cc
 heading_sets (Failed older p) e = cc
 heading_sets (Heading older head left) e = refl
@@ -326,6 +393,7 @@ heading_spot (Settled login p c last kind) q e = cc
 heading_spot (Asked terms c) q e = cc
 heading_spot (Replied terms c last kind) q e = cc
 heading_spot (Queried terms c x) q e = heading_sets x e
+heading_spot (Preparing terms c reply) q e = cc
 heading_spot (Silent terms c) q e = cc
 
 pub head_awaits : Awaits (Own Query) spots.Head

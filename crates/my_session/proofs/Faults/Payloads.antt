@@ -14,23 +14,23 @@ use Rattle.my_reply.specs.EofPacket.{eof_at}
 use Rattle.my_reply.specs.ErrPacket.{err_at}
 use Rattle.my_handshake.specs.Greeting.{greeting_at}
 use Rattle.my_reply.specs.OkPacket.{ok_at, end_ok_at}
+use Rattle.my_reply.specs.declared.replies.PrepareOk.{PrepareOk}
+use Rattle.my_reply.specs.Replies.{prepare_ok_at}
 use Rattle.my_value.specs.declared.value.Value.{Value}
-use Rattle.my_value.specs.TextRow.{text_row_at}
+use Rattle.my_grammar.specs.declared.spot.RowFormat.{RowFormat}
 use Rattle.my_value.specs.RowParts.{RowParts}
 use Rattle.my_grammar.specs.declared.spot.Kind.{Kind}
 use Rattle.my_grammar.specs.declared.spot.Kind.TheVariants as kinds
 use Rattle.my_grammar.specs.declared.spot.Spot.{Spot}
 use Rattle.my_grammar.specs.declared.spot.Spot.TheVariants as spots
 use Rattle.my_grammar.specs.FitSets.{AreColumns}
-use Rattle.my_grammar.specs.Kinds.{or_else, is_caching, good_kind, failed_kind, count_kind, greets_kind, described_kind, done_kind, ended_kind, eof_kind, cells_kind, end_kind, kind_by}
+use Rattle.my_grammar.specs.Kinds.{or_else, is_caching, good_kind, failed_kind, count_kind, greets_kind, described_kind, prepared_kind, done_kind, ended_kind, eof_kind, cells_at, cells_kind, end_kind, kind_by}
 use Rattle.my_grammar.specs.Sets.{NoSets, Lone, Failed, Heading, Headed, Begun, Ended, Broken}
-use Rattle.my_grammar.specs.Talk.{Talk, Start, Unwelcome, Greeted, Settled, Asked, Replied, Queried, Silent, context_of, packets_of, Fits}
+use Rattle.my_grammar.specs.Talk.{Talk, Start, Unwelcome, Greeted, Settled, Asked, Replied, Queried, Preparing, Silent, context_of, packets_of, Fits}
 use Rattle.my_reading.specs.declared.facts.Facts.{Facts}
 use Rattle.my_reading.specs.Facts.{facts_by}
-use Rattle.my_session.specs.Groups.{columns_in_order, column_list}
 use Rattle.my_session.specs.Machine.{is_greeting}
 use Rattle.my_reading.specs.Rows.{row_with, row_at}
-use Rattle.my_session.proofs.Stands.Views.{column_there, row_columns, not_rows}
 
 -- forms that are no ERR
 abbrev NotFailed : Kind → Type 0
@@ -53,9 +53,13 @@ count_not : (o : Option ColumnCount) → NotFailed (count_kind o)
 count_not None e = cc
 count_not (Some n) e = cc
 
-described_not : (o : Option AnyColumn) → NotFailed (described_kind o)
-described_not None e = cc
-described_not (Some c) e = cc
+described_not : (k : Kind) (o : Option AnyColumn) → NotFailed k → NotFailed (described_kind k o)
+described_not k None not e = cc
+described_not k (Some c) not e = not e
+
+prepared_not : (o : Option PrepareOk) → NotFailed (prepared_kind o)
+prepared_not None e = cc
+prepared_not (Some head) e = cc
 
 done_not : (o : Option EofPacket) → NotFailed (done_kind o)
 done_not None e = cc
@@ -87,6 +91,9 @@ second kinds.Column l x e not = absurd (not e)
 second kinds.ColumnsDone l x e not = absurd (not e)
 second kinds.Row l x e not = absurd (not e)
 second (kinds.End status) l x e not = absurd (not e)
+second (kinds.Prepared params columns) l x e not = absurd (not e)
+second kinds.Parameter l x e not = absurd (not e)
+second kinds.Field l x e not = absurd (not e)
 second kinds.Bad l x e not = e
 
 -- an ERR that is read
@@ -105,16 +112,21 @@ head_reads : (p : List ℕ) → or_else (good_kind (ok_at p)) (or_else (failed_k
 head_reads p e = failed_first (err_at false p) _ (second (good_kind (ok_at p)) _ kinds.Failed e (good_not (ok_at p))) (count_not (column_count_at false p))
 
 -- a payload that is an ERR in its place reads as one
-pub failed_reads : (s : Spot) (d : Bool) (n : ℕ) (p : List ℕ) → kind_by s d n p ≡ kinds.Failed → (x : ErrPacket) × (err_at (is_greeting s) p ≡ Some x)
-failed_reads spots.Idle d n p e = cc
-failed_reads spots.Greeting d n p e = failed_there (err_at true p) (second (greets_kind (greeting_at p)) _ kinds.Failed e (greets_not (greeting_at p)))
-failed_reads spots.Authentication d n p e = failed_there (err_at false p) (second (good_kind (ok_at p)) _ kinds.Failed e (good_not (ok_at p)))
-failed_reads spots.Single d n p e = failed_there (err_at false p) (second (good_kind (ok_at p)) _ kinds.Failed e (good_not (ok_at p)))
-failed_reads spots.Head d n p e = head_reads p e
-failed_reads spots.Further d n p e = head_reads p e
-failed_reads (spots.Columns left) d n p e = absurd (described_not (column_at p) e)
-failed_reads spots.ColumnsEnd d n p e = absurd (done_not (eof_at p) e)
-failed_reads spots.Rows d n p e = failed_first (err_at false p) _ (second (end_kind d p) _ kinds.Failed e (end_not d p)) (cells_not (text_row_at n p))
+pub failed_reads : (s : Spot) (f : RowFormat) (d : Bool) (n : ℕ) (cs : List AnyColumn) (p : List ℕ) → kind_by s f d n cs p ≡ kinds.Failed → (x : ErrPacket) × (err_at (is_greeting s) p ≡ Some x)
+failed_reads spots.Idle f d n cs p e = cc
+failed_reads spots.Greeting f d n cs p e = failed_there (err_at true p) (second (greets_kind (greeting_at p)) _ kinds.Failed e (greets_not (greeting_at p)))
+failed_reads spots.Authentication f d n cs p e = failed_there (err_at false p) (second (good_kind (ok_at p)) _ kinds.Failed e (good_not (ok_at p)))
+failed_reads spots.Single f d n cs p e = failed_there (err_at false p) (second (good_kind (ok_at p)) _ kinds.Failed e (good_not (ok_at p)))
+failed_reads spots.Head f d n cs p e = head_reads p e
+failed_reads spots.Further f d n cs p e = head_reads p e
+failed_reads (spots.Columns left) f d n cs p e = absurd (described_not kinds.Column (column_at p) (λ no. cc) e)
+failed_reads spots.ColumnsEnd f d n cs p e = absurd (done_not (eof_at p) e)
+failed_reads spots.Rows f d n cs p e = failed_first (err_at false p) _ (second (end_kind d p) _ kinds.Failed e (end_not d p)) (cells_not (cells_at f n cs p))
+failed_reads spots.Prepare f d n cs p e = failed_there (err_at false p) (second (prepared_kind (prepare_ok_at p)) _ kinds.Failed e (prepared_not (prepare_ok_at p)))
+failed_reads (spots.Parameters left columns) f d n cs p e = absurd (described_not kinds.Parameter (column_at p) (λ no. cc) e)
+failed_reads (spots.ParametersEnd columns) f d n cs p e = absurd (done_not (eof_at p) e)
+failed_reads (spots.Fields left) f d n cs p e = absurd (described_not kinds.Field (column_at p) (λ no. cc) e)
+failed_reads spots.FieldsEnd f d n cs p e = absurd (done_not (eof_at p) e)
 
 ended_row : (o : Option OkPacket) → ended_kind o ≡ kinds.Row → ⊥
 ended_row None e = cc
@@ -137,47 +149,15 @@ cells_there None e = cc
 cells_there (Some cells) e = (cells, refl)
 
 -- a payload that is a row in its place has a cell for each column
-row_cells : (d : Bool) (n : ℕ) (p : List ℕ) → kind_by spots.Rows d n p ≡ kinds.Row → (cells : List Value) × (text_row_at n p ≡ Some cells)
-row_cells d n p e = cells_there (text_row_at n p) (second (failed_kind (err_at false p)) _ kinds.Row (second (end_kind d p) _ kinds.Row e (end_row d p)) (failed_row (err_at false p)))
-
-columns_length : (ps : List (List ℕ)) → AreColumns ps → length (columns_in_order ps) ≡ length ps
-columns_length [] a = refl
-columns_length (p ∷ ps) a =
-    let c = column_there (column_at p) a.0 in
-    let older = columns_length ps a.1 in
-    let one : length (column_list (column_at p)) ≡ 1 = ap (λ (o : Option AnyColumn). length (column_list o)) c.1 in
-    let both = length-append (columns_in_order ps) (column_list (column_at p)) in
-    omega arith
-
--- while rows are read, as many columns are known as the head counts
-pub told_columns : (t : Talk) (f : Facts) → Fits t → (context_of t).spot ≡ spots.Rows → (context_of t).columns ≡ length (facts_by (packets_of t) f).columns
-told_columns (Start login) f fits e = cc
-told_columns (Unwelcome login q) f fits e = cc
-told_columns (Greeted login q c) f fits e = cc
-told_columns (Settled login q c last kind) f fits e = cc
-told_columns (Asked terms c) f fits e = cc
-told_columns (Replied terms c last kind) f fits e = cc
-told_columns (Queried terms c NoSets) f fits e = cc
-told_columns (Queried terms c (Lone older q s)) f fits e = absurd (not_rows (has_more_results s) e)
-told_columns (Queried terms c (Failed older q)) f fits e = cc
-told_columns (Queried terms c (Heading older head left)) f fits e = cc
-told_columns (Queried terms c (Headed older head)) f fits e = cc
-told_columns (Queried terms c (Begun older head rows)) f fits e =
-    let begun = fits.kinds.0 in
-    let all = begun.heading.all in
-    let told : length (facts_by (packets_of (Queried terms c (Begun older head rows))) f).columns ≡ length (columns_in_order head.columns) = ap length (row_columns (deprecates_eof terms.kept) f older head rows begun) in
-    let each = columns_length head.columns begun.heading.columns in
-    omega arith
-told_columns (Queried terms c (Ended older head rows last s)) f fits e = absurd (not_rows (has_more_results s) e)
-told_columns (Queried terms c (Broken older head rows last)) f fits e = cc
-told_columns (Silent terms c) f fits e = cc
+row_cells : (f : RowFormat) (d : Bool) (n : ℕ) (cs : List AnyColumn) (p : List ℕ) → kind_by spots.Rows f d n cs p ≡ kinds.Row → (cells : List Value) × (cells_at f n cs p ≡ Some cells)
+row_cells f d n cs p e = cells_there (cells_at f n cs p) (second (failed_kind (err_at false p)) _ kinds.Row (second (end_kind d p) _ kinds.Row e (end_row d p)) (failed_row (err_at false p)))
 
 with_cells : (columns : List AnyColumn) (o : Option (List Value)) (cells : List Value) → o ≡ Some cells → (row : RowParts) × (row_with columns o ≡ Some row)
 with_cells columns None cells e = cc
 with_cells columns (Some cells) other e = (record { cells = cells; columns = columns }, refl)
 
 -- a payload that is a row in its place reads as a row of the columns that are known
-pub row_reads : (columns : List AnyColumn) (d : Bool) (n : ℕ) (p : List ℕ) → n ≡ length columns → kind_by spots.Rows d n p ≡ kinds.Row → (row : RowParts) × (row_at columns p ≡ Some row)
-row_reads columns d n p same e =
-    let cells = row_cells d n p e in
-    with_cells columns (text_row_at (length columns) p) cells.0 (ap (λ k. text_row_at k p) (sym same) ∙ cells.1)
+pub row_reads : (f : RowFormat) (columns : List AnyColumn) (d : Bool) (n : ℕ) (p : List ℕ) → n ≡ length columns → kind_by spots.Rows f d n columns p ≡ kinds.Row → (row : RowParts) × (row_at f columns p ≡ Some row)
+row_reads f columns d n p same e =
+    let cells = row_cells f d n columns p e in
+    with_cells columns (cells_at f (length columns) columns p) cells.0 (ap (λ k. cells_at f k columns p) (sym same) ∙ cells.1)

@@ -37,6 +37,9 @@ told_place kinds.Column p f = column_place (column_at p) f
 told_place kinds.ColumnsDone p f = refl
 told_place kinds.Row p f = refl
 told_place (kinds.End status) p f = refl
+told_place (kinds.Prepared params columns) p f = refl
+told_place kinds.Parameter p f = refl
+told_place kinds.Field p f = refl
 told_place kinds.Bad p f = refl
 
 one_more : (n most : ℕ) → min (min n most + 1) most ≡ min (n + 1) most

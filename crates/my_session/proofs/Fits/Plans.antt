@@ -6,7 +6,7 @@ use Rattle.my_command.specs.Client.Packet.{client_bytes as packet_bytes}
 use Rattle.my_grammar.specs.declared.spot.Spot.{Spot}
 use Rattle.my_grammar.specs.declared.spot.Spot.TheVariants as spots
 use Rattle.my_grammar.specs.Talk.{Talk, Queried, Asked, Silent}
-use Rattle.my_grammar.specs.Sets.{NoSets}
+use Rattle.my_grammar.specs.Sets.{ByText, NoSets}
 use Rattle.my_reading.specs.declared.call.CallKind.{CallKind}
 use Rattle.my_reading.specs.declared.call.CallKind.TheVariants.{Connect, Query, NextRow, DropResult, TakeSet, SkipTaken, Ping, Quit}
 use Rattle.my_session.specs.declared.task.Task.{Task}
@@ -30,7 +30,7 @@ begins_if s c u talk false n e = record { fits = (n, e); is_on = record { login 
 
 asked_fits : (s : Seen) (c : CallKind) → asks c ≡ true → MoveFits (Some c) s (asked s c (command_of (next_terms s) (call_of c s.text)))
 asked_fits s Connect a = cc
-asked_fits s Query a = begins_if s (Some Query) (Own Query) (Queried (next_terms s) (packet_bytes (packets.Query s.text)) NoSets) _ refl refl
+asked_fits s Query a = begins_if s (Some Query) (Own Query) (Queried (next_terms s) (packet_bytes (packets.Query s.text)) (NoSets ByText)) _ refl refl
 asked_fits s NextRow a = cc
 asked_fits s DropResult a = cc
 asked_fits s TakeSet a = cc
@@ -92,6 +92,11 @@ clean_plan_fits t c p n f spots.Further untold = n
 clean_plan_fits t c p n f (spots.Columns left) untold = n
 clean_plan_fits t c p n f spots.ColumnsEnd untold = n
 clean_plan_fits t c p n f spots.Rows untold = n
+clean_plan_fits t c p n f spots.Prepare untold = n
+clean_plan_fits t c p n f (spots.Parameters left columns) untold = n
+clean_plan_fits t c p n f (spots.ParametersEnd columns) untold = n
+clean_plan_fits t c p n f (spots.Fields left) untold = n
+clean_plan_fits t c p n f spots.FieldsEnd untold = n
 
 query_plan_fits : (spot : Spot) → PlanFits (Own Query) (Some Query) (query_plan spot)
 query_plan_fits spots.Idle = refl
@@ -103,6 +108,11 @@ query_plan_fits spots.Further = refl
 query_plan_fits (spots.Columns left) = refl
 query_plan_fits spots.ColumnsEnd = refl
 query_plan_fits spots.Rows = refl
+query_plan_fits spots.Prepare = refl
+query_plan_fits (spots.Parameters left columns) = refl
+query_plan_fits (spots.ParametersEnd columns) = refl
+query_plan_fits (spots.Fields left) = refl
+query_plan_fits spots.FieldsEnd = refl
 
 own_plan_fits : (c : CallKind) (spot : Spot) → PlanFits (Own c) (Some c) (own_plan c spot)
 own_plan_fits Connect spot = refl
@@ -124,6 +134,11 @@ read_plan_fits spots.Further = refl
 read_plan_fits (spots.Columns left) = refl
 read_plan_fits spots.ColumnsEnd = refl
 read_plan_fits spots.Rows = refl
+read_plan_fits spots.Prepare = refl
+read_plan_fits (spots.Parameters left columns) = refl
+read_plan_fits (spots.ParametersEnd columns) = refl
+read_plan_fits (spots.Fields left) = refl
+read_plan_fits spots.FieldsEnd = refl
 
 drop_plan_fits : (spot : Spot) → PlanFits Dropping (Some DropResult) (drop_plan spot)
 drop_plan_fits spots.Idle = refl
@@ -135,6 +150,11 @@ drop_plan_fits spots.Further = refl
 drop_plan_fits (spots.Columns left) = refl
 drop_plan_fits spots.ColumnsEnd = refl
 drop_plan_fits spots.Rows = refl
+drop_plan_fits spots.Prepare = refl
+drop_plan_fits (spots.Parameters left columns) = refl
+drop_plan_fits (spots.ParametersEnd columns) = refl
+drop_plan_fits (spots.Fields left) = refl
+drop_plan_fits spots.FieldsEnd = refl
 
 take_plan_fits : (spot : Spot) → PlanFits Taking (Some TakeSet) (take_plan spot)
 take_plan_fits spots.Idle = refl
@@ -146,6 +166,11 @@ take_plan_fits spots.Further = refl
 take_plan_fits (spots.Columns left) = refl
 take_plan_fits spots.ColumnsEnd = refl
 take_plan_fits spots.Rows = refl
+take_plan_fits spots.Prepare = refl
+take_plan_fits (spots.Parameters left columns) = refl
+take_plan_fits (spots.ParametersEnd columns) = refl
+take_plan_fits (spots.Fields left) = refl
+take_plan_fits spots.FieldsEnd = refl
 
 skip_plan_fits : (spot : Spot) → PlanFits Skipping (Some SkipTaken) (skip_plan spot)
 skip_plan_fits spots.Idle = refl
@@ -157,6 +182,11 @@ skip_plan_fits spots.Further = refl
 skip_plan_fits (spots.Columns left) = refl
 skip_plan_fits spots.ColumnsEnd = refl
 skip_plan_fits spots.Rows = refl
+skip_plan_fits spots.Prepare = refl
+skip_plan_fits (spots.Parameters left columns) = refl
+skip_plan_fits (spots.ParametersEnd columns) = refl
+skip_plan_fits (spots.Fields left) = refl
+skip_plan_fits spots.FieldsEnd = refl
 
 pub plan_fits : (t : Task) (spot : Spot) (untold : Bool) → is_proper t ≡ true → fault_in t ≡ None → PlanFits t (kind_in t) (plan_of t spot untold)
 plan_fits Nothing spot untold a e = refl

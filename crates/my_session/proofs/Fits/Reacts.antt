@@ -44,6 +44,9 @@ whole_react t kinds.Column a b f = going (kind_in t) t a refl b f
 whole_react t kinds.ColumnsDone a b f = going (kind_in t) t a refl b f
 whole_react t kinds.Row a b f = going (kind_in t) t a refl b f
 whole_react t (kinds.End status) a b f = going (kind_in t) t a refl b f
+whole_react t (kinds.Prepared params columns) a b f = going (kind_in t) t a refl b f
+whole_react t kinds.Parameter a b f = going (kind_in t) t a refl b f
+whole_react t kinds.Field a b f = going (kind_in t) t a refl b f
 whole_react t kinds.Bad a b f = tt
 
 connect_react : (k : Kind) → ReactionFits (Own Connect) (Some Connect) (react (Own Connect) k)
@@ -55,6 +58,9 @@ connect_react kinds.Column = tt
 connect_react kinds.ColumnsDone = tt
 connect_react kinds.Row = tt
 connect_react (kinds.End status) = tt
+connect_react (kinds.Prepared params columns) = tt
+connect_react kinds.Parameter = tt
+connect_react kinds.Field = tt
 connect_react kinds.Bad = tt
 
 query_react : (k : Kind) → ReactionFits (Own Query) (Some Query) (react (Own Query) k)
@@ -66,6 +72,9 @@ query_react kinds.Column = going (Some Query) (Own Query) refl refl refl refl
 query_react kinds.ColumnsDone = going (Some Query) (Own Query) refl refl refl refl
 query_react kinds.Row = tt
 query_react (kinds.End status) = tt
+query_react (kinds.Prepared params columns) = going (Some Query) (Own Query) refl refl refl refl
+query_react kinds.Parameter = going (Some Query) (Own Query) refl refl refl refl
+query_react kinds.Field = going (Some Query) (Own Query) refl refl refl refl
 query_react kinds.Bad = tt
 
 ping_react : (k : Kind) → ReactionFits (Own Ping) (Some Ping) (react (Own Ping) k)
@@ -77,6 +86,9 @@ ping_react kinds.Column = tt
 ping_react kinds.ColumnsDone = tt
 ping_react kinds.Row = tt
 ping_react (kinds.End status) = tt
+ping_react (kinds.Prepared params columns) = tt
+ping_react kinds.Parameter = tt
+ping_react kinds.Field = tt
 ping_react kinds.Bad = tt
 
 reading_react : (k : Kind) → ReactionFits Reading (Some NextRow) (react Reading k)
@@ -88,6 +100,9 @@ reading_react kinds.Column = going (Some NextRow) Reading refl refl refl refl
 reading_react kinds.ColumnsDone = going (Some NextRow) Reading refl refl refl refl
 reading_react kinds.Row = λ row. refl
 reading_react (kinds.End status) = refl
+reading_react (kinds.Prepared params columns) = going (Some NextRow) Reading refl refl refl refl
+reading_react kinds.Parameter = going (Some NextRow) Reading refl refl refl refl
+reading_react kinds.Field = going (Some NextRow) Reading refl refl refl refl
 reading_react kinds.Bad = tt
 
 dropping_react : (k : Kind) → ReactionFits Dropping (Some DropResult) (react Dropping k)
@@ -99,6 +114,9 @@ dropping_react kinds.Column = going (Some DropResult) Dropping refl refl refl re
 dropping_react kinds.ColumnsDone = going (Some DropResult) Dropping refl refl refl refl
 dropping_react kinds.Row = (refl, refl)
 dropping_react (kinds.End status) = (refl, refl)
+dropping_react (kinds.Prepared params columns) = going (Some DropResult) Dropping refl refl refl refl
+dropping_react kinds.Parameter = going (Some DropResult) Dropping refl refl refl refl
+dropping_react kinds.Field = going (Some DropResult) Dropping refl refl refl refl
 dropping_react kinds.Bad = tt
 
 taking_react : (k : Kind) → ReactionFits Taking (Some TakeSet) (react Taking k)
@@ -110,6 +128,9 @@ taking_react kinds.Column = going (Some TakeSet) Taking refl refl refl refl
 taking_react kinds.ColumnsDone = going (Some TakeSet) Taking refl refl refl refl
 taking_react kinds.Row = tt
 taking_react (kinds.End status) = tt
+taking_react (kinds.Prepared params columns) = going (Some TakeSet) Taking refl refl refl refl
+taking_react kinds.Parameter = going (Some TakeSet) Taking refl refl refl refl
+taking_react kinds.Field = going (Some TakeSet) Taking refl refl refl refl
 taking_react kinds.Bad = tt
 
 skipping_react : (k : Kind) → ReactionFits Skipping (Some SkipTaken) (react Skipping k)
@@ -121,6 +142,9 @@ skipping_react kinds.Column = tt
 skipping_react kinds.ColumnsDone = tt
 skipping_react kinds.Row = (refl, refl)
 skipping_react (kinds.End status) = (refl, refl)
+skipping_react (kinds.Prepared params columns) = tt
+skipping_react kinds.Parameter = tt
+skipping_react kinds.Field = tt
 skipping_react kinds.Bad = tt
 
 own_react : (c : CallKind) (k : Kind) → ReactionFits (Own c) (Some c) (react (Own c) k)
@@ -172,9 +196,9 @@ reacted_fits : (s n : Seen) (p : List ℕ) (r : Reaction) → IsOn s n → n.tas
 reacted_fits s n p (reactions.Goes t) l e a f = record { fits = f; is_on = on_task s n t n.untold l; own = λ _. tt }
 reacted_fits s n p (reactions.Readies untold) l e a f = record { fits = f; is_on = on_task s n Nothing untold l; own = λ _. tt }
 reacted_fits s n p reactions.Takes l e a f = record { fits = f; is_on = on_taken s (with_task n Nothing true) (on_task s n Nothing true l); own = λ _. tt }
-reacted_fits s n p reactions.Gives l e a f = gave_fits s n (kind_in s.task) (row_at s.facts.columns p) l f
+reacted_fits s n p reactions.Gives l e a f = gave_fits s n (kind_in s.task) (row_at s.context.rows s.facts.columns p) l f
 reacted_fits s n p reactions.Ends l e a f = record { fits = f; is_on = on_task s n Nothing n.untold l; own = λ _. tt }
-reacted_fits s n p reactions.PassesRow l e a f = passed_fits s n (row_at s.facts.columns p) l e a f
+reacted_fits s n p reactions.PassesRow l e a f = passed_fits s n (row_at s.context.rows s.facts.columns p) l e a f
 reacted_fits s n p reactions.PassesEnd l e a f = record { fits = same_task s n e a f; is_on = l; own = λ _. tt }
 reacted_fits s n p reactions.Refuses l e a f = refused_fits s n (kind_in s.task) (err_at _ p) l
 reacted_fits s n p reactions.Breaks l e a f = failed_fits s (invalid_data s.facts.place) (kind_in s.task) (λ _. tt)
@@ -194,4 +218,4 @@ waiting_fits s false c ended n e = record { fits = (n, e); is_on = on_here s; ow
 pub reading_fits : (s : Seen) (f : Front) → is_proper s.task ≡ true → is_begun s.task ≡ false → fault_in s.task ≡ None → MoveFits (kind_in s.task) s (reading s f)
 reading_fits s Waiting a n e = waiting_fits s s.ended (kind_in s.task) refl n e
 reading_fits s (Broken fault) a n e = failed_fits s _ (kind_in s.task) (λ _. tt)
-reading_fits s (Whole p rest next) a n e = kind_fits s p rest next (kind_there s.context p) (is_breaking (react s.task (kind_there s.context p))) a
+reading_fits s (Whole p rest next) a n e = kind_fits s p rest next (kind_there s.context s.facts.columns p) (is_breaking (react s.task (kind_there s.context s.facts.columns p))) a

@@ -9,7 +9,7 @@ use Rattle.my_grammar.specs.CutLaws.{StopsAt}
 use Rattle.my_grammar.specs.Growth.{grow}
 use Rattle.my_grammar.specs.Sets.{Sets, NoSets, Lone, Heading, Headed, Begun, Ended, with_error, spot_in}
 use Rattle.my_grammar.specs.Sets as sets
-use Rattle.my_grammar.specs.Talk.{Talk, Start, Unwelcome, Greeted, Settled, Asked, Replied, Queried, Silent, Fits, turns, number_of, server_bytes, limit_of, origin}
+use Rattle.my_grammar.specs.Talk.{Talk, Start, Unwelcome, Greeted, Settled, Asked, Replied, Queried, Preparing, Silent, Fits, turns, number_of, server_bytes, limit_of, origin}
 use Rattle.my_grammar.proofs.Cutting.{stopped_within, stops_reads_none}
 use Rattle.my_grammar.proofs.Cutting.Fronts.{takes_whole}
 use Rattle.my_grammar.proofs.Sound.{exchange_is_cut, over_is_cut}
@@ -78,7 +78,7 @@ stopped t bytes f at e open_still =
 
 -- an ERR ends an exchange
 error_ends : (x : Sets) (p : List ℕ) → is_idle (spot_in (with_error x p)) ≡ true
-error_ends NoSets p = refl
+error_ends (NoSets asking) p = refl
 error_ends (Lone older q status) p = refl
 error_ends (sets.Failed older q) p = refl
 error_ends (Heading older head left) p = refl
@@ -95,6 +95,7 @@ failed_over (Settled login q c last kind) p = refl
 failed_over (Asked terms c) p = refl
 failed_over (Replied terms c last kind) p = refl
 failed_over (Queried terms c x) p = error_ends x p
+failed_over (Preparing terms c reply) p = refl
 failed_over (Silent terms c) p = refl
 
 -- nothing is found after an exchange that is over

@@ -55,6 +55,9 @@ later_within (suc most) t bytes = by_front (λ u bs. later_within most u bs) (fr
     by_kind go p rest kinds.ColumnsDone e = calm go p rest kinds.ColumnsDone refl
     by_kind go p rest kinds.Row e = calm go p rest kinds.Row refl
     by_kind go p rest (kinds.End status) e = calm go p rest (kinds.End status) refl
+    by_kind go p rest (kinds.Prepared params columns) e = calm go p rest (kinds.Prepared params columns) refl
+    by_kind go p rest kinds.Parameter e = calm go p rest kinds.Parameter refl
+    by_kind go p rest kinds.Field e = calm go p rest kinds.Field refl
     by_kind go p rest kinds.Bad e = none_new t
 
     by_front : ((u : Talk) (bs : List ℕ) → Adds u (read_within most u bs).talk) → (f : Front) → Adds t (read_front t bytes f (read_within most)).talk

@@ -7,7 +7,7 @@ use Rattle.my_command.specs.Client.Packet.{client_bytes as packet_bytes}
 use Rattle.my_grammar.specs.declared.spot.Context.{Context}
 use Rattle.my_grammar.specs.declared.spot.Terms.{Terms}
 use Rattle.my_grammar.specs.Cut.{is_over, is_idle}
-use Rattle.my_grammar.specs.Sets.{NoSets}
+use Rattle.my_grammar.specs.Sets.{ByText, NoSets}
 use Rattle.my_grammar.specs.Talk.{Talk, Asked, Queried, Silent, turns, client_bytes, packets_of, context_of, limit_of, Fits, login_in}
 use Rattle.my_reading.specs.declared.call.Call.{Call}
 use Rattle.my_reading.specs.declared.call.Call.TheVariants as calls
@@ -114,7 +114,7 @@ module _ (s : Seen) (call : Call) (p : Place) (m : Mirrors s.context s.number s.
   pub asks_reads : (c : CallKind) → s.task ≡ tasks.Cleaning c → asks c ≡ true → call ≡ call_of c s.text → MoveReads s call (All ∷ Command ∷ own_parts s.login c) p (planned s (plans.Asks c))
   asks_reads Connect task sends is = cc
   asks_reads Query task sends is =
-      let talk : Talk = Queried (next_terms s) (packet_bytes (packets.Query s.text)) NoSets in
+      let talk : Talk = Queried (next_terms s) (packet_bytes (packets.Query s.text)) (NoSets ByText) in
       begun (tasks.Own Query) (Head ∷ []) talk (opens_own Query talk is (λ _ _. refl) refl) (ap kind_in (sym task)) refl refl refl refl refl (record { kinds = tt; within = tt }) refl refl refl
       (some_bytes (packet_bytes (packets.Query s.text)) 0) refl _ refl
   asks_reads NextRow task sends is = cc
@@ -145,7 +145,7 @@ module _ (s : Seen) (call : Call) (p : Place) (m : Mirrors s.context s.number s.
       });
     })
     arranges (Some text) e =
-        let talk : Talk = Queried (next_terms s) (packet_bytes (packets.Query text)) NoSets in
+        let talk : Talk = Queried (next_terms s) (packet_bytes (packets.Query text)) (NoSets ByText) in
         let opens : next_exchange s.login call p ≡ Some talk =
         ap (λ x. opening s.login (terms_of s.login (exchanges p)) x (connects_in (exchanges p))) is
         ∙ ap (λ k. connecting s.login (terms_of s.login (exchanges p)) k) count

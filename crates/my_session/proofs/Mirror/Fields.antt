@@ -11,6 +11,7 @@ use Rattle.my_grammar.specs.declared.spot.Terms.{Terms}
 use Rattle.my_grammar.specs.Contexts.{context_after, is_bad}
 use Rattle.my_grammar.specs.Cut.{front_of, kind_of}
 use Rattle.my_grammar.specs.Growth.{grow, replies, Grows, Reads}
+use Rattle.my_reading.proofs.Described.{kind_is}
 use Rattle.my_grammar.specs.Kinds.{kind_there}
 use Rattle.my_grammar.specs.Talk.{Talk, Server, turns, number_of, client_bytes, context_of, packets_of, Fits, login_in, limit_of}
 use Rattle.my_grammar.proofs.Growth.{grows, reads}
@@ -138,8 +139,8 @@ module _ (context : Context) (number : ℕ) (unread bytes_owed : List ℕ) (clos
       ∙ ap (λ n. front_at n (limit_of p.talk) unread) (sym m.number_is)
       ∙ ap (λ l. front_at number l unread) (sym (limit_is p.talk) ∙ ap (λ (c : Context). c.terms.limit) (sym m.context_is))
 
-  pub kind_here : (payload : List ℕ) → Mirrors context number unread bytes_owed closed facts login p → kind_of p.talk payload ≡ kind_there context payload
-  kind_here payload m = ap (λ (c : Context). kind_there c payload) (sym m.context_is)
+  pub kind_here : (payload : List ℕ) → Mirrors context number unread bytes_owed closed facts login p → kind_of p.talk payload ≡ kind_there context facts.columns payload
+  kind_here payload m = sym (kind_is p.talk (facts_of login p.older) context facts payload m.fits m.context_is m.facts_are)
 
   pub place_here : Mirrors context number unread bytes_owed closed facts login p → (facts_at login p).place ≡ facts.place
   place_here m = ap (λ (f : Facts). f.place) (sym m.facts_are)
@@ -151,13 +152,13 @@ module _ (context : Context) (number : ℕ) (unread bytes_owed : List ℕ) (clos
       ∙ ap (λ (x : Facts). let t : Terms = record { kept = context.terms.kept; limit = x.settings.limit } in t) (sym m.facts_are)
 
   -- a payload that fits is read
-  pub mirrors_read : (k : Kind) (payload rest : List ℕ) (next : ℕ) → closed ≡ false → bytes_owed ≡ [] → kind_there context payload ≡ k → is_bad k ≡ false → IsWhole number context.terms.limit unread payload rest next
+  pub mirrors_read : (k : Kind) (payload rest : List ℕ) (next : ℕ) → closed ≡ false → bytes_owed ≡ [] → kind_there context facts.columns payload ≡ k → is_bad k ≡ false → IsWhole number context.terms.limit unread payload rest next
       → Mirrors context number unread bytes_owed closed facts login p
       → Mirrors (context_after context k) (reply_number (reply_to login k payload) next) rest (bytes_owed ++ reply_bytes (reply_to login k payload) next) closed (facts_after k payload facts) login (with_talk p (grow k p.talk payload) rest)
   mirrors_read k payload rest next alive nothing kind good whole m =
       let n = number_of (turns p.talk) in
       let within : length payload ≤ limit_of p.talk = subst (λ l. length payload ≤ l) (ap (λ (c : Context). c.terms.limit) m.context_is ∙ limit_is p.talk) whole.within in
-      let g : Grows p.talk k payload = grows p.talk k payload (subst (λ (c : Context). kind_there c payload ≡ k) m.context_is kind) good within m.fits in
+      let g : Grows p.talk k payload = grows p.talk k payload (kind_here payload m ∙ kind) good within m.fits in
       let r : Reads login k payload (turns p.talk) = reads login k payload (turns p.talk) in
       let following : number_after_payload payload n ≡ next = ap (number_after_payload payload) (sym m.number_is) ∙ sym whole.next_is in
       let turned = g.turns_are login ∙ ap (λ l. replies l k payload ++ Server payload ∷ turns p.talk) m.login_is in

@@ -40,7 +40,8 @@ use Rattle.my_session.specs.Seen.{Seen}
 use Rattle.my_session.specs.Stands.{owes, call_with, is_shaking}
 use Rattle.my_session.specs.Tables.{react, react_whole, is_breaking, is_connecting}
 use Rattle.my_session.specs.Tasks.{kind_in, fault_in}
-use Rattle.my_session.proofs.Faults.Payloads.{told_columns, row_reads}
+use Rattle.my_session.proofs.Faults.Payloads.{row_reads}
+use Rattle.my_reading.proofs.Described.{told_columns}
 use Rattle.my_session.proofs.Mirror.Fields.{mirrors_fallen, mirrors_read, mirrors_with_end, mirrors_with_taken, step_here, front_here, kind_here, place_here}
 use Rattle.my_session.proofs.Stands.Spots.{is_known, known, row_spot, end_spot, not_greeting}
 use Rattle.my_session.proofs.Stands.Wired.{silent, limit_is}
@@ -67,6 +68,11 @@ greeting_spot spots.Further c e = cc
 greeting_spot (spots.Columns left) c e = cc
 greeting_spot spots.ColumnsEnd c e = cc
 greeting_spot spots.Rows c e = cc
+greeting_spot spots.Prepare c e = cc
+greeting_spot (spots.Parameters left columns) c e = cc
+greeting_spot (spots.ParametersEnd columns) c e = cc
+greeting_spot (spots.Fields left) c e = cc
+greeting_spot spots.FieldsEnd c e = cc
 
 -- what may come in a handshake, or as a single answer
 is_simple : Kind → Bool
@@ -91,10 +97,16 @@ simple_shaking spots.Authentication (kinds.End status) e f g = cc
 simple_shaking spots.Greeting (kinds.Greets c) e f g = cc
 simple_shaking spots.Greeting (kinds.Good status) e f g = cc
 simple_shaking spots.Greeting kinds.Failed e f g = cc
+simple_shaking spots.Greeting (kinds.Prepared params columns) e f g = cc
+simple_shaking spots.Greeting kinds.Parameter e f g = cc
+simple_shaking spots.Greeting kinds.Field e f g = cc
 simple_shaking spots.Greeting kinds.Bad e f g = cc
 simple_shaking spots.Authentication (kinds.Greets c) e f g = cc
 simple_shaking spots.Authentication (kinds.Good status) e f g = cc
 simple_shaking spots.Authentication kinds.Failed e f g = cc
+simple_shaking spots.Authentication (kinds.Prepared params columns) e f g = cc
+simple_shaking spots.Authentication kinds.Parameter e f g = cc
+simple_shaking spots.Authentication kinds.Field e f g = cc
 simple_shaking spots.Authentication kinds.Bad e f g = cc
 simple_shaking spots.Idle k e f g = cc
 simple_shaking spots.Single k e f g = cc
@@ -103,6 +115,11 @@ simple_shaking spots.Further k e f g = cc
 simple_shaking (spots.Columns left) k e f g = cc
 simple_shaking spots.ColumnsEnd k e f g = cc
 simple_shaking spots.Rows k e f g = cc
+simple_shaking spots.Prepare k e f g = cc
+simple_shaking (spots.Parameters left columns) k e f g = cc
+simple_shaking (spots.ParametersEnd columns) k e f g = cc
+simple_shaking (spots.Fields left) k e f g = cc
+simple_shaking spots.FieldsEnd k e f g = cc
 
 simple_single : (k : Kind) → is_simple k ≡ false → is_known spots.Single k ≡ true → ⊥
 unfolding is_simple
@@ -114,6 +131,9 @@ simple_single kinds.Column f g = cc
 simple_single kinds.ColumnsDone f g = cc
 simple_single kinds.Row f g = cc
 simple_single (kinds.End status) f g = cc
+simple_single (kinds.Prepared params columns) f g = cc
+simple_single kinds.Parameter f g = cc
+simple_single kinds.Field f g = cc
 simple_single kinds.Bad f g = cc
 
 no_rows : (b : Bool) (x : Spot) → x ≡ spots.Rows → is_rows x ≡ b → b ≡ false → ⊥
@@ -133,14 +153,14 @@ module _ (s : Seen) (call : Call) (p : Place) (m : Mirrors s.context s.number s.
   abbrev spot_by : Kind → Spot
   spot_by k = spot_after (deprecates_eof s.context.terms.kept) s.context.spot k
 
-  knows : (k : Kind) → kind_there s.context payload ≡ k → is_known s.context.spot k ≡ true
-  knows k e = known s.context.spot (deprecates_eof s.context.terms.kept) s.context.columns payload k e
+  knows : (k : Kind) → kind_there s.context s.facts.columns payload ≡ k → is_known s.context.spot k ≡ true
+  knows k e = known s.context.spot s.context.rows (deprecates_eof s.context.terms.kept) s.context.columns s.facts.columns payload k e
 
-  mirrors_new : (k : Kind) → kind_there s.context payload ≡ k → is_bad k ≡ false
+  mirrors_new : (k : Kind) → kind_there s.context s.facts.columns payload ≡ k → is_bad k ≡ false
       → Mirrors (following k).context (following k).number rest (following k).owed s.closed (following k).facts s.login (new k)
   mirrors_new k e good = mirrors_read s.context s.number s.unread s.owed s.closed s.facts s.login p k payload rest next alive nothing e good whole m
 
-  taken_new : (k : Kind) → kind_there s.context payload ≡ k → is_bad k ≡ false → (new k).taken ≡ (following k).taken
+  taken_new : (k : Kind) → kind_there s.context s.facts.columns payload ≡ k → is_bad k ≡ false → (new k).taken ≡ (following k).taken
   taken_new k e good =
       ap (λ b. b && is_rows (context_of (new k).talk).spot) marked
       ∙ ap (λ (c : Context). s.taken && is_rows c.spot) (sym (mirrors_new k e good).context_is)
@@ -149,7 +169,7 @@ module _ (s : Seen) (call : Call) (p : Place) (m : Mirrors s.context s.number s.
   none_owed k quiet = ap (λ bs. bs ++ reply_bytes (reply_to s.login k payload) next) nothing ∙ silent s.login k payload next quiet
 
   -- the step of a part that reads
-  reads_it : (part : Part) (parts : List Part) (k : Kind) → kind_there s.context payload ≡ k
+  reads_it : (part : Part) (parts : List Part) (k : Kind) → kind_there s.context s.facts.columns payload ≡ k
       → reads s.login part parts p ≡ after_payload s.login part parts p (new k) payload k
   reads_it part parts k e =
       ap (with_front s.login part parts p) (front_here s.context s.number s.unread s.owed s.closed s.facts s.login p m ∙ at)
@@ -157,7 +177,7 @@ module _ (s : Seen) (call : Call) (p : Place) (m : Mirrors s.context s.number s.
       (kind_here s.context s.number s.unread s.owed s.closed s.facts s.login p payload m ∙ e)
 
   -- the session goes on with this task
-  goes_to : (t : Task) (k : Kind) → kind_there s.context payload ≡ k → is_bad k ≡ false → kind_in t ≡ kind_in s.task → fault_in t ≡ None
+  goes_to : (t : Task) (k : Kind) → kind_there s.context s.facts.columns payload ≡ k → is_bad k ≡ false → kind_in t ≡ kind_in s.task → fault_in t ≡ None
       → TaskStandsAt t (spot_by k) (connects_in (exchanges p)) → (owes t ≡ false → not_greets k ≡ true)
       → OpenAt (with_task (following k) t false) call (parts_left s.login t) (new k)
   goes_to t k e good same sound stands quiet = record {
@@ -169,7 +189,7 @@ module _ (s : Seen) (call : Call) (p : Place) (m : Mirrors s.context s.number s.
   }
 
   -- the session goes on with its task
-  stays : (t : Task) (k : Kind) → s.task ≡ t → kind_there s.context payload ≡ k → is_bad k ≡ false → fault_in t ≡ None
+  stays : (t : Task) (k : Kind) → s.task ≡ t → kind_there s.context s.facts.columns payload ≡ k → is_bad k ≡ false → fault_in t ≡ None
       → TaskStandsAt t (spot_by k) (connects_in (exchanges p)) → (owes t ≡ false → not_greets k ≡ true)
       → OpenAt (following k) call (parts_left s.login t) (new k)
   stays t k task e good sound stands quiet =
@@ -177,7 +197,7 @@ module _ (s : Seen) (call : Call) (p : Place) (m : Mirrors s.context s.number s.
       (goes_to t k e good (ap kind_in (sym task)) sound stands quiet)
 
   -- the call ends, and the session rests
-  rests_at : (k : Kind) → kind_there s.context payload ≡ k → is_bad k ≡ false → not_greets k ≡ true → StandsAt (with_task (following k) tasks.Nothing false) (new k)
+  rests_at : (k : Kind) → kind_there s.context s.facts.columns payload ≡ k → is_bad k ≡ false → not_greets k ≡ true → StandsAt (with_task (following k) tasks.Nothing false) (new k)
   rests_at k e good quiet = record { mirrors = mirrors_new k e good; end_is = λ _ _. refl; taken_is = taken_new k e good; own_end = λ _. refl; task_at = tt; settled = λ _. none_owed k quiet }
 
   one : (parts more : List Part) (q : Place) → step s.login call parts p ≡ Goes more q → Leads s.login call parts p more q
@@ -204,7 +224,7 @@ module _ (s : Seen) (call : Call) (p : Place) (m : Mirrors s.context s.number s.
     returns t n q e stands closing = record { rest = parts; place = p; leads = Here parts p; comes = inl (record { place = q; stops = e; at = stands; closed_is = closing }) }
 
     -- an ERR
-    errs : (x : Option ErrPacket) → err_at (is_greeting s.context.spot) payload ≡ x → kind_there s.context payload ≡ kinds.Failed
+    errs : (x : Option ErrPacket) → err_at (is_greeting s.context.spot) payload ≡ x → kind_there s.context s.facts.columns payload ≡ kinds.Failed
         → (b : Bool) → is_connecting s.task ≡ b → is_connect (call_kind call) ≡ b
         → step s.login call parts p ≡ after_payload s.login All [] p (new kinds.Failed) payload kinds.Failed
         → MoveReads s call parts p (refused s (following kinds.Failed) x)
@@ -223,7 +243,7 @@ module _ (s : Seen) (call : Call) (p : Place) (m : Mirrors s.context s.number s.
                 (rests_at kinds.Failed k refl refl) (alive ∙ sym c))
 
     -- a greeting where none may come
-    no_greeting : (c : CapabilityFlags) → is_greeting s.context.spot ≡ false → kind_there s.context payload ≡ kinds.Greets c → ⊥
+    no_greeting : (c : CapabilityFlags) → is_greeting s.context.spot ≡ false → kind_there s.context s.facts.columns payload ≡ kinds.Greets c → ⊥
     no_greeting c past k = let no : true ≡ false = sym (greeting_spot s.context.spot c (knows (kinds.Greets c) k)) ∙ past in cc
 
   -- what the machine makes of a payload of this kind, at this task
@@ -232,10 +252,10 @@ module _ (s : Seen) (call : Call) (p : Place) (m : Mirrors s.context s.number s.
       (unless_above s (above s.context.terms.limit (reply_to s.login k payload)) (reacted s (following k) payload (react t k)))
 
   module _ (parts : List Part) (reading : step s.login call (All ∷ parts) p ≡ reads s.login All parts p) where
-    all_is : (k : Kind) → kind_there s.context payload ≡ k → step s.login call (All ∷ parts) p ≡ after_payload s.login All parts p (new k) payload k
+    all_is : (k : Kind) → kind_there s.context s.facts.columns payload ≡ k → step s.login call (All ∷ parts) p ≡ after_payload s.login All parts p (new k) payload k
     all_is k e = reading ∙ reads_it All parts k e
 
-    all_goes : (t : Task) (k : Kind) → All ∷ parts ≡ parts_left s.login t → kind_there s.context payload ≡ k → is_bad k ≡ false → not_greets k ≡ true → kind_in t ≡ kind_in s.task → fault_in t ≡ None
+    all_goes : (t : Task) (k : Kind) → All ∷ parts ≡ parts_left s.login t → kind_there s.context s.facts.columns payload ≡ k → is_bad k ≡ false → not_greets k ≡ true → kind_in t ≡ kind_in s.task → fault_in t ≡ None
         → TaskStandsAt t (spot_by k) (connects_in (exchanges p)) → step s.login call (All ∷ parts) p ≡ Goes (All ∷ parts) (new k)
         → MoveReads s call (All ∷ parts) p (record { seen = with_task (following k) t false; does = MachineGoes })
     all_goes t k left e good quiet same sound stands stepped = record {
@@ -249,7 +269,7 @@ module _ (s : Seen) (call : Call) (p : Place) (m : Mirrors s.context s.number s.
     whole_reads : (t : Task) → All ∷ parts ≡ parts_left s.login t → kind_in t ≡ kind_in s.task → fault_in t ≡ None → is_greeting s.context.spot ≡ false
         → ((k : Kind) → TaskStandsAt t (spot_by k) (connects_in (exchanges p)))
         → (b : Bool) → is_connecting s.task ≡ b → is_connect (call_kind call) ≡ b
-        → (k : Kind) → kind_there s.context payload ≡ k
+        → (k : Kind) → kind_there s.context s.facts.columns payload ≡ k
         → MoveReads s call (All ∷ parts) p (cond (is_breaking (react_whole t k)) (failed_by s (invalid_data s.facts.place))
         (unless_above s (above s.context.terms.limit (reply_to s.login k payload)) (reacted s (following k) payload (react_whole t k))))
     whole_reads t left same sound past stands b on c (kinds.Greets n) e = absurd (no_greeting (All ∷ parts) n past e)
@@ -260,10 +280,13 @@ module _ (s : Seen) (call : Call) (p : Place) (m : Mirrors s.context s.number s.
     whole_reads t left same sound past stands b on c kinds.ColumnsDone e = all_goes t kinds.ColumnsDone left e refl refl same sound (stands _) (all_is kinds.ColumnsDone e)
     whole_reads t left same sound past stands b on c kinds.Row e = all_goes t kinds.Row left e refl refl same sound (stands _) (all_is kinds.Row e)
     whole_reads t left same sound past stands b on c (kinds.End status) e = all_goes t (kinds.End status) left e refl refl same sound (stands _) (all_is (kinds.End status) e)
+    whole_reads t left same sound past stands b on c (kinds.Prepared params columns) e = all_goes t (kinds.Prepared params columns) left e refl refl same sound (stands _) (all_is (kinds.Prepared params columns) e)
+    whole_reads t left same sound past stands b on c kinds.Parameter e = all_goes t kinds.Parameter left e refl refl same sound (stands _) (all_is kinds.Parameter e)
+    whole_reads t left same sound past stands b on c kinds.Field e = all_goes t kinds.Field left e refl refl same sound (stands _) (all_is kinds.Field e)
     whole_reads t left same sound past stands b on c kinds.Bad e = unfits (All ∷ parts) (all_is kinds.Bad e)
 
     -- a drop passes over rows and ends
-    passes : (k : Kind) (t : Told) → s.task ≡ tasks.Dropping → parts ≡ [] → kind_there s.context payload ≡ k → is_bad k ≡ false → not_greets k ≡ true
+    passes : (k : Kind) (t : Told) → s.task ≡ tasks.Dropping → parts ≡ [] → kind_there s.context s.facts.columns payload ≡ k → is_bad k ≡ false → not_greets k ≡ true
         → step s.login call (All ∷ parts) p ≡ Goes (All ∷ parts) (new k)
         → MoveReads s call (All ∷ parts) p (record { seen = following k; does = Passes t })
     passes k t task none e good quiet stepped = record {
@@ -275,34 +298,37 @@ module _ (s : Seen) (call : Call) (p : Place) (m : Mirrors s.context s.number s.
     }
 
   -- a payload that is a row reads as one
-  row_there : kind_there s.context payload ≡ kinds.Row → (row : RowParts) × (row_at s.facts.columns payload ≡ Some row)
+  row_there : kind_there s.context s.facts.columns payload ≡ kinds.Row → (row : RowParts) × (row_at s.context.rows s.facts.columns payload ≡ Some row)
   row_there e =
       let rows : s.context.spot ≡ spots.Rows = row_spot s.context.spot (knows kinds.Row e) in
       let there : (context_of p.talk).spot ≡ spots.Rows = ap (λ (c : Context). c.spot) (sym m.context_is) ∙ rows in
       let same : s.context.columns ≡ length s.facts.columns =
       ap (λ (c : Context). c.columns) m.context_is ∙ told_columns p.talk (facts_of s.login p.older) m.fits there ∙ ap (λ (f : Facts). length f.columns) (sym m.facts_are) in
-      row_reads s.facts.columns (deprecates_eof s.context.terms.kept) s.context.columns payload same
-      (ap (λ (x : Spot). kind_there (record { spot = x; columns = s.context.columns; terms = s.context.terms }) payload) (sym rows) ∙ e)
+      row_reads s.context.rows s.facts.columns (deprecates_eof s.context.terms.kept) s.context.columns payload same
+      (ap (λ (x : Spot). kind_there (record { spot = x; rows = s.context.rows; columns = s.context.columns; terms = s.context.terms }) s.facts.columns payload) (sym rows) ∙ e)
 
   module _ (reading : step s.login call (All ∷ []) p ≡ reads s.login All [] p) (task : s.task ≡ tasks.Dropping)
       (past : is_greeting s.context.spot ≡ false) (other : is_connect (call_kind call) ≡ false) where
-    passes_row : (x : Option RowParts) → row_at s.facts.columns payload ≡ x → kind_there s.context payload ≡ kinds.Row → MoveReads s call (All ∷ []) p (passed s (following kinds.Row) x)
+    passes_row : (x : Option RowParts) → row_at s.context.rows s.facts.columns payload ≡ x → kind_there s.context s.facts.columns payload ≡ kinds.Row → MoveReads s call (All ∷ []) p (passed s (following kinds.Row) x)
     passes_row None is e = let some = row_there e in let no : None ≡ Some some.0 = sym is ∙ some.1 in cc
     passes_row (Some row) is e = passes [] reading kinds.Row (ToldRow row) task refl e refl refl (all_is [] reading kinds.Row e)
 
-    drop_goes : (k : Kind) → kind_there s.context payload ≡ k → is_bad k ≡ false → not_greets k ≡ true → step s.login call (All ∷ []) p ≡ Goes (All ∷ []) (new k)
+    drop_goes : (k : Kind) → kind_there s.context s.facts.columns payload ≡ k → is_bad k ≡ false → not_greets k ≡ true → step s.login call (All ∷ []) p ≡ Goes (All ∷ []) (new k)
         → MoveReads s call (All ∷ []) p (record { seen = with_task (following k) tasks.Dropping false; does = MachineGoes })
     drop_goes k e good quiet stepped = all_goes [] reading tasks.Dropping k refl e good quiet (ap kind_in (sym task)) refl (not_greeting s.context.spot (deprecates_eof s.context.terms.kept) k) stepped
 
-    pub dropping_reads : (k : Kind) → kind_there s.context payload ≡ k → MoveReads s call (All ∷ []) p (move_at tasks.Dropping k)
+    pub dropping_reads : (k : Kind) → kind_there s.context s.facts.columns payload ≡ k → MoveReads s call (All ∷ []) p (move_at tasks.Dropping k)
     dropping_reads (kinds.Greets n) e = absurd (no_greeting [] n past e)
     dropping_reads (kinds.Good status) e = passes [] reading (kinds.Good status) ToldEnd task refl e refl refl (all_is [] reading (kinds.Good status) e)
     dropping_reads kinds.Failed e = errs (All ∷ []) (err_at (is_greeting s.context.spot) payload) refl e false (ap is_connecting task) other (all_is [] reading kinds.Failed e)
     dropping_reads (kinds.Count n) e = drop_goes (kinds.Count n) e refl refl (all_is [] reading (kinds.Count n) e)
     dropping_reads kinds.Column e = drop_goes kinds.Column e refl refl (all_is [] reading kinds.Column e)
     dropping_reads kinds.ColumnsDone e = drop_goes kinds.ColumnsDone e refl refl (all_is [] reading kinds.ColumnsDone e)
-    dropping_reads kinds.Row e = passes_row (row_at s.facts.columns payload) refl e
+    dropping_reads kinds.Row e = passes_row (row_at s.context.rows s.facts.columns payload) refl e
     dropping_reads (kinds.End status) e = passes [] reading (kinds.End status) ToldEnd task refl e refl refl (all_is [] reading (kinds.End status) e)
+    dropping_reads (kinds.Prepared params columns) e = drop_goes (kinds.Prepared params columns) e refl refl (all_is [] reading (kinds.Prepared params columns) e)
+    dropping_reads kinds.Parameter e = drop_goes kinds.Parameter e refl refl (all_is [] reading kinds.Parameter e)
+    dropping_reads kinds.Field e = drop_goes kinds.Field e refl refl (all_is [] reading kinds.Field e)
     dropping_reads kinds.Bad e = unfits (All ∷ []) (all_is [] reading kinds.Bad e)
 
   -- the handshake
@@ -311,7 +337,7 @@ module _ (s : Seen) (call : Call) (p : Place) (m : Mirrors s.context s.number s.
     abbrev setting_up : List Part
     setting_up = parts_of_texts (arranging_texts s.login)
 
-    greets : (n : CapabilityFlags) → kind_there s.context payload ≡ kinds.Greets n → (b : Bool) → nat_lt s.context.terms.limit (length (response s.login payload)) ≡ b
+    greets : (n : CapabilityFlags) → kind_there s.context s.facts.columns payload ≡ kinds.Greets n → (b : Bool) → nat_lt s.context.terms.limit (length (response s.login payload)) ≡ b
         → MoveReads s call (own_parts s.login Connect) p (move_at (tasks.Own Connect) (kinds.Greets n))
     greets n e b is = by_length b is
         (reading ∙ reads_it All setting_up (kinds.Greets n) e
@@ -339,8 +365,13 @@ module _ (s : Seen) (call : Call) (p : Place) (m : Mirrors s.context s.number s.
             authenticates (spots.Columns left) k = cc
             authenticates spots.ColumnsEnd k = cc
             authenticates spots.Rows k = cc
+            authenticates spots.Prepare k = cc
+            authenticates (spots.Parameters left columns) k = cc
+            authenticates (spots.ParametersEnd columns) k = cc
+            authenticates (spots.Fields left) k = cc
+            authenticates spots.FieldsEnd k = cc
 
-    pub connect_reads : (k : Kind) → kind_there s.context payload ≡ k → MoveReads s call (own_parts s.login Connect) p (move_at (tasks.Own Connect) k)
+    pub connect_reads : (k : Kind) → kind_there s.context s.facts.columns payload ≡ k → MoveReads s call (own_parts s.login Connect) p (move_at (tasks.Own Connect) k)
     unfolding is_simple
     connect_reads (kinds.Greets n) e = greets n e (nat_lt s.context.terms.limit (length (response s.login payload))) refl
     connect_reads (kinds.Good status) e = all_goes setting_up reading (tasks.Arranging 0) (kinds.Good status) refl e refl refl (ap kind_in (sym task)) refl
@@ -351,11 +382,14 @@ module _ (s : Seen) (call : Call) (p : Place) (m : Mirrors s.context s.number s.
     connect_reads kinds.ColumnsDone e = absurd (simple_shaking s.context.spot kinds.ColumnsDone shaking refl (knows kinds.ColumnsDone e))
     connect_reads kinds.Row e = absurd (simple_shaking s.context.spot kinds.Row shaking refl (knows kinds.Row e))
     connect_reads (kinds.End status) e = absurd (simple_shaking s.context.spot (kinds.End status) shaking refl (knows (kinds.End status) e))
+    connect_reads (kinds.Prepared params columns) e = absurd (simple_shaking s.context.spot (kinds.Prepared params columns) shaking refl (knows (kinds.Prepared params columns) e))
+    connect_reads kinds.Parameter e = absurd (simple_shaking s.context.spot kinds.Parameter shaking refl (knows kinds.Parameter e))
+    connect_reads kinds.Field e = absurd (simple_shaking s.context.spot kinds.Field shaking refl (knows kinds.Field e))
     connect_reads kinds.Bad e = unfits (own_parts s.login Connect) (all_is setting_up reading kinds.Bad e)
 
   -- the answer to a ping
   module _ (reading : step s.login call (All ∷ []) p ≡ reads s.login All [] p) (task : s.task ≡ tasks.Own Ping) (single : s.context.spot ≡ spots.Single) (ping : call_kind call ≡ Ping) where
-    pongs : (status : StatusFlags) → kind_there s.context payload ≡ kinds.Good status → MoveReads s call (All ∷ []) p (move_at (tasks.Own Ping) (kinds.Good status))
+    pongs : (status : StatusFlags) → kind_there s.context s.facts.columns payload ≡ kinds.Good status → MoveReads s call (All ∷ []) p (move_at (tasks.Own Ping) (kinds.Good status))
     pongs status e =
         let k : Kind = kinds.Good status in
         let w = mirrors_new k e refl in
@@ -374,7 +408,7 @@ module _ (s : Seen) (call : Call) (p : Place) (m : Mirrors s.context s.number s.
           comes = inl (record { place = new k; stops = third; at = rests_at k e refl refl; closed_is = alive ∙ ap (closes ToldReady) (sym ping) });
         }
 
-    pub ping_reads : (k : Kind) → kind_there s.context payload ≡ k → MoveReads s call (All ∷ []) p (move_at (tasks.Own Ping) k)
+    pub ping_reads : (k : Kind) → kind_there s.context s.facts.columns payload ≡ k → MoveReads s call (All ∷ []) p (move_at (tasks.Own Ping) k)
     unfolding is_simple
     ping_reads (kinds.Greets n) e = absurd (no_greeting [] n (ap is_greeting single) e)
     ping_reads (kinds.Good status) e = pongs status e
@@ -384,15 +418,18 @@ module _ (s : Seen) (call : Call) (p : Place) (m : Mirrors s.context s.number s.
     ping_reads kinds.ColumnsDone e = absurd (simple_single kinds.ColumnsDone refl (subst (λ x. is_known x kinds.ColumnsDone ≡ true) single (knows kinds.ColumnsDone e)))
     ping_reads kinds.Row e = absurd (simple_single kinds.Row refl (subst (λ x. is_known x kinds.Row ≡ true) single (knows kinds.Row e)))
     ping_reads (kinds.End status) e = absurd (simple_single (kinds.End status) refl (subst (λ x. is_known x (kinds.End status) ≡ true) single (knows (kinds.End status) e)))
+    ping_reads (kinds.Prepared params columns) e = absurd (simple_single (kinds.Prepared params columns) refl (subst (λ x. is_known x (kinds.Prepared params columns) ≡ true) single (knows (kinds.Prepared params columns) e)))
+    ping_reads kinds.Parameter e = absurd (simple_single kinds.Parameter refl (subst (λ x. is_known x kinds.Parameter ≡ true) single (knows kinds.Parameter e)))
+    ping_reads kinds.Field e = absurd (simple_single kinds.Field refl (subst (λ x. is_known x kinds.Field ≡ true) single (knows kinds.Field e)))
     ping_reads kinds.Bad e = unfits (All ∷ []) (all_is [] reading kinds.Bad e)
 
   -- the head of a query's first set
   module _ (reading : step s.login call (Head ∷ []) p ≡ reads s.login Head [] p) (task : s.task ≡ tasks.Own Query) (past : is_greeting s.context.spot ≡ false)
       (before : is_rows s.context.spot ≡ false) (query : call_kind call ≡ Query) where
-    head_is : (k : Kind) → kind_there s.context payload ≡ k → step s.login call (Head ∷ []) p ≡ after_payload s.login Head [] p (new k) payload k
+    head_is : (k : Kind) → kind_there s.context s.facts.columns payload ≡ k → step s.login call (Head ∷ []) p ≡ after_payload s.login Head [] p (new k) payload k
     head_is k e = reading ∙ reads_it Head [] k e
 
-    readies : (status : StatusFlags) → kind_there s.context payload ≡ kinds.Good status → MoveReads s call (Head ∷ []) p (move_at (tasks.Own Query) (kinds.Good status))
+    readies : (status : StatusFlags) → kind_there s.context s.facts.columns payload ≡ kinds.Good status → MoveReads s call (Head ∷ []) p (move_at (tasks.Own Query) (kinds.Good status))
     readies status e =
         let k : Kind = kinds.Good status in
         let n = following k in
@@ -411,7 +448,7 @@ module _ (s : Seen) (call : Call) (p : Place) (m : Mirrors s.context s.number s.
           });
         }
 
-    head_goes : (k : Kind) → kind_there s.context payload ≡ k → is_bad k ≡ false → not_greets k ≡ true → step s.login call (Head ∷ []) p ≡ Goes (Head ∷ []) (new k)
+    head_goes : (k : Kind) → kind_there s.context s.facts.columns payload ≡ k → is_bad k ≡ false → not_greets k ≡ true → step s.login call (Head ∷ []) p ≡ Goes (Head ∷ []) (new k)
         → MoveReads s call (Head ∷ []) p (record { seen = with_task (following k) (tasks.Own Query) false; does = MachineGoes })
     head_goes k e good quiet stepped = record {
       rest = Head ∷ [];
@@ -420,7 +457,7 @@ module _ (s : Seen) (call : Call) (p : Place) (m : Mirrors s.context s.number s.
       comes = goes_to (tasks.Own Query) k e good (ap kind_in (sym task)) refl (not_greeting s.context.spot (deprecates_eof s.context.terms.kept) k) (λ _. quiet);
     }
 
-    pub query_reads : (k : Kind) → kind_there s.context payload ≡ k → MoveReads s call (Head ∷ []) p (move_at (tasks.Own Query) k)
+    pub query_reads : (k : Kind) → kind_there s.context s.facts.columns payload ≡ k → MoveReads s call (Head ∷ []) p (move_at (tasks.Own Query) k)
     query_reads (kinds.Greets n) e = absurd (no_greeting [] n past e)
     query_reads (kinds.Good status) e = readies status e
     query_reads kinds.Failed e = errs (Head ∷ []) (err_at (is_greeting s.context.spot) payload) refl e false (ap is_connecting task) (ap is_connect query) (head_is kinds.Failed e)
@@ -429,14 +466,17 @@ module _ (s : Seen) (call : Call) (p : Place) (m : Mirrors s.context s.number s.
     query_reads kinds.ColumnsDone e = head_goes kinds.ColumnsDone e refl refl (head_is kinds.ColumnsDone e)
     query_reads kinds.Row e = absurd (no_rows _ s.context.spot (row_spot s.context.spot (knows kinds.Row e)) refl before)
     query_reads (kinds.End status) e = absurd (no_rows _ s.context.spot (end_spot s.context.spot status (knows (kinds.End status) e)) refl before)
+    query_reads (kinds.Prepared params columns) e = head_goes (kinds.Prepared params columns) e refl refl (head_is (kinds.Prepared params columns) e)
+    query_reads kinds.Parameter e = head_goes kinds.Parameter e refl refl (head_is kinds.Parameter e)
+    query_reads kinds.Field e = head_goes kinds.Field e refl refl (head_is kinds.Field e)
     query_reads kinds.Bad e = unfits (Head ∷ []) (head_is kinds.Bad e)
 
   -- the next row or end
   module _ (reading : step s.login call (Item ∷ []) p ≡ reads s.login Item [] p) (task : s.task ≡ tasks.Reading) (past : is_greeting s.context.spot ≡ false) (next_row : call_kind call ≡ NextRow) where
-    item_is : (k : Kind) → kind_there s.context payload ≡ k → step s.login call (Item ∷ []) p ≡ after_payload s.login Item [] p (new k) payload k
+    item_is : (k : Kind) → kind_there s.context s.facts.columns payload ≡ k → step s.login call (Item ∷ []) p ≡ after_payload s.login Item [] p (new k) payload k
     item_is k e = reading ∙ reads_it Item [] k e
 
-    item_goes : (k : Kind) → kind_there s.context payload ≡ k → is_bad k ≡ false → not_greets k ≡ true → step s.login call (Item ∷ []) p ≡ Goes (Item ∷ []) (new k)
+    item_goes : (k : Kind) → kind_there s.context s.facts.columns payload ≡ k → is_bad k ≡ false → not_greets k ≡ true → step s.login call (Item ∷ []) p ≡ Goes (Item ∷ []) (new k)
         → MoveReads s call (Item ∷ []) p (record { seen = with_task (following k) tasks.Reading false; does = MachineGoes })
     item_goes k e good quiet stepped = record {
       rest = Item ∷ [];
@@ -445,35 +485,38 @@ module _ (s : Seen) (call : Call) (p : Place) (m : Mirrors s.context s.number s.
       comes = goes_to tasks.Reading k e good (ap kind_in (sym task)) refl (not_greeting s.context.spot (deprecates_eof s.context.terms.kept) k) (λ _. quiet);
     }
 
-    ends : (k : Kind) → kind_there s.context payload ≡ k → is_bad k ≡ false → not_greets k ≡ true → step s.login call (Item ∷ []) p ≡ return (new k) ToldEnd
+    ends : (k : Kind) → kind_there s.context s.facts.columns payload ≡ k → is_bad k ≡ false → not_greets k ≡ true → step s.login call (Item ∷ []) p ≡ return (new k) ToldEnd
         → MoveReads s call (Item ∷ []) p (record { seen = with_task (following k) tasks.Nothing false; does = Tells ToldEnd })
     ends k e good quiet stepped = returns (Item ∷ []) ToldEnd (with_task (following k) tasks.Nothing false) (new k) stepped (rests_at k e good quiet) alive
 
-    gives : (x : Option RowParts) → row_at s.facts.columns payload ≡ x → kind_there s.context payload ≡ kinds.Row → MoveReads s call (Item ∷ []) p (gave s (following kinds.Row) x)
+    gives : (x : Option RowParts) → row_at s.context.rows s.facts.columns payload ≡ x → kind_there s.context s.facts.columns payload ≡ kinds.Row → MoveReads s call (Item ∷ []) p (gave s (following kinds.Row) x)
     gives None is e = let some = row_there e in let no : None ≡ Some some.0 = sym is ∙ some.1 in cc
     gives (Some row) is e =
-        let there : row_at (facts_at s.login p).columns payload ≡ Some row = ap (λ (f : Facts). row_at f.columns payload) (sym m.facts_are) ∙ is in
+        let there : row_at (context_of p.talk).rows (facts_at s.login p).columns payload ≡ Some row = ap (λ (f : Facts). row_at (context_of p.talk).rows f.columns payload) (sym m.facts_are) ∙ ap (λ (c : Context). row_at c.rows s.facts.columns payload) (sym m.context_is) ∙ is in
         returns (Item ∷ []) (ToldRow row) (with_task (following kinds.Row) tasks.Nothing false) (new kinds.Row)
         (item_is kinds.Row e ∙ ap (λ o. return (new kinds.Row) (ToldRow (row_or (facts_at s.login p).columns o))) there) (rests_at kinds.Row e refl refl) alive
 
-    pub reading_reads : (k : Kind) → kind_there s.context payload ≡ k → MoveReads s call (Item ∷ []) p (move_at tasks.Reading k)
+    pub reading_reads : (k : Kind) → kind_there s.context s.facts.columns payload ≡ k → MoveReads s call (Item ∷ []) p (move_at tasks.Reading k)
     reading_reads (kinds.Greets n) e = absurd (no_greeting [] n past e)
     reading_reads (kinds.Good status) e = ends (kinds.Good status) e refl refl (item_is (kinds.Good status) e)
     reading_reads kinds.Failed e = errs (Item ∷ []) (err_at (is_greeting s.context.spot) payload) refl e false (ap is_connecting task) (ap is_connect next_row) (item_is kinds.Failed e)
     reading_reads (kinds.Count n) e = item_goes (kinds.Count n) e refl refl (item_is (kinds.Count n) e)
     reading_reads kinds.Column e = item_goes kinds.Column e refl refl (item_is kinds.Column e)
     reading_reads kinds.ColumnsDone e = item_goes kinds.ColumnsDone e refl refl (item_is kinds.ColumnsDone e)
-    reading_reads kinds.Row e = gives (row_at s.facts.columns payload) refl e
+    reading_reads kinds.Row e = gives (row_at s.context.rows s.facts.columns payload) refl e
     reading_reads (kinds.End status) e = ends (kinds.End status) e refl refl (item_is (kinds.End status) e)
+    reading_reads (kinds.Prepared params columns) e = item_goes (kinds.Prepared params columns) e refl refl (item_is (kinds.Prepared params columns) e)
+    reading_reads kinds.Parameter e = item_goes kinds.Parameter e refl refl (item_is kinds.Parameter e)
+    reading_reads kinds.Field e = item_goes kinds.Field e refl refl (item_is kinds.Field e)
     reading_reads kinds.Bad e = unfits (Item ∷ []) (item_is kinds.Bad e)
 
   -- the head of the next set, which a stream takes
   module _ (reading : step s.login call (Set ∷ []) p ≡ reads s.login Set [] p) (task : s.task ≡ tasks.Taking) (past : is_greeting s.context.spot ≡ false)
       (before : is_rows s.context.spot ≡ false) (take : call_kind call ≡ TakeSet) where
-    set_is : (k : Kind) → kind_there s.context payload ≡ k → step s.login call (Set ∷ []) p ≡ after_payload s.login Set [] p (new k) payload k
+    set_is : (k : Kind) → kind_there s.context s.facts.columns payload ≡ k → step s.login call (Set ∷ []) p ≡ after_payload s.login Set [] p (new k) payload k
     set_is k e = reading ∙ reads_it Set [] k e
 
-    set_goes : (k : Kind) → kind_there s.context payload ≡ k → is_bad k ≡ false → not_greets k ≡ true → step s.login call (Set ∷ []) p ≡ Goes (Set ∷ []) (new k)
+    set_goes : (k : Kind) → kind_there s.context s.facts.columns payload ≡ k → is_bad k ≡ false → not_greets k ≡ true → step s.login call (Set ∷ []) p ≡ Goes (Set ∷ []) (new k)
         → MoveReads s call (Set ∷ []) p (record { seen = with_task (following k) tasks.Taking false; does = MachineGoes })
     set_goes k e good quiet stepped = record {
       rest = Set ∷ [];
@@ -482,7 +525,7 @@ module _ (s : Seen) (call : Call) (p : Place) (m : Mirrors s.context s.number s.
       comes = goes_to tasks.Taking k e good (ap kind_in (sym task)) refl (not_greeting s.context.spot (deprecates_eof s.context.terms.kept) k) (λ _. quiet);
     }
 
-    takes_lone : (status : StatusFlags) → kind_there s.context payload ≡ kinds.Good status → MoveReads s call (Set ∷ []) p (move_at tasks.Taking (kinds.Good status))
+    takes_lone : (status : StatusFlags) → kind_there s.context s.facts.columns payload ≡ kinds.Good status → MoveReads s call (Set ∷ []) p (move_at tasks.Taking (kinds.Good status))
     takes_lone status e =
         let k : Kind = kinds.Good status in
         let n = following k in
@@ -492,7 +535,7 @@ module _ (s : Seen) (call : Call) (p : Place) (m : Mirrors s.context s.number s.
         (record { mirrors = v; end_is = λ _ _. refl; taken_is = refl; own_end = λ no. cc; task_at = tt; settled = λ _. none_owed k refl })
         (alive ∙ ap (closes ToldReady) (sym take))
 
-    pub taking_reads : (k : Kind) → kind_there s.context payload ≡ k → MoveReads s call (Set ∷ []) p (move_at tasks.Taking k)
+    pub taking_reads : (k : Kind) → kind_there s.context s.facts.columns payload ≡ k → MoveReads s call (Set ∷ []) p (move_at tasks.Taking k)
     taking_reads (kinds.Greets n) e = absurd (no_greeting [] n past e)
     taking_reads (kinds.Good status) e = takes_lone status e
     taking_reads kinds.Failed e = errs (Set ∷ []) (err_at (is_greeting s.context.spot) payload) refl e false (ap is_connecting task) (ap is_connect take) (set_is kinds.Failed e)
@@ -501,15 +544,18 @@ module _ (s : Seen) (call : Call) (p : Place) (m : Mirrors s.context s.number s.
     taking_reads kinds.ColumnsDone e = set_goes kinds.ColumnsDone e refl refl (set_is kinds.ColumnsDone e)
     taking_reads kinds.Row e = absurd (no_rows _ s.context.spot (row_spot s.context.spot (knows kinds.Row e)) refl before)
     taking_reads (kinds.End status) e = absurd (no_rows _ s.context.spot (end_spot s.context.spot status (knows (kinds.End status) e)) refl before)
+    taking_reads (kinds.Prepared params columns) e = set_goes (kinds.Prepared params columns) e refl refl (set_is (kinds.Prepared params columns) e)
+    taking_reads kinds.Parameter e = set_goes kinds.Parameter e refl refl (set_is kinds.Parameter e)
+    taking_reads kinds.Field e = set_goes kinds.Field e refl refl (set_is kinds.Field e)
     taking_reads kinds.Bad e = unfits (Set ∷ []) (set_is kinds.Bad e)
 
   -- the rest of a set, which is passed over
   module _ (reading : step s.login call (Rest ∷ []) p ≡ reads s.login Rest [] p) (task : s.task ≡ tasks.Skipping) (past : is_greeting s.context.spot ≡ false)
       (rows : s.context.spot ≡ spots.Rows) (skip : call_kind call ≡ SkipTaken) where
-    rest_is : (k : Kind) → kind_there s.context payload ≡ k → step s.login call (Rest ∷ []) p ≡ after_payload s.login Rest [] p (new k) payload k
+    rest_is : (k : Kind) → kind_there s.context s.facts.columns payload ≡ k → step s.login call (Rest ∷ []) p ≡ after_payload s.login Rest [] p (new k) payload k
     rest_is k e = reading ∙ reads_it Rest [] k e
 
-    passes_rest : (k : Kind) (t : Told) → kind_there s.context payload ≡ k → is_bad k ≡ false → not_greets k ≡ true → step s.login call (Rest ∷ []) p ≡ Goes (Rest ∷ []) (new k)
+    passes_rest : (k : Kind) (t : Told) → kind_there s.context s.facts.columns payload ≡ k → is_bad k ≡ false → not_greets k ≡ true → step s.login call (Rest ∷ []) p ≡ Goes (Rest ∷ []) (new k)
         → MoveReads s call (Rest ∷ []) p (record { seen = following k; does = Passes t })
     passes_rest k t e good quiet stepped = record {
       rest = Rest ∷ [];
@@ -518,27 +564,30 @@ module _ (s : Seen) (call : Call) (p : Place) (m : Mirrors s.context s.number s.
       comes = stays tasks.Skipping k task e good refl (not_greeting s.context.spot (deprecates_eof s.context.terms.kept) k) (λ _. quiet);
     }
 
-    skips_row : (x : Option RowParts) → row_at s.facts.columns payload ≡ x → kind_there s.context payload ≡ kinds.Row → MoveReads s call (Rest ∷ []) p (passed s (following kinds.Row) x)
+    skips_row : (x : Option RowParts) → row_at s.context.rows s.facts.columns payload ≡ x → kind_there s.context s.facts.columns payload ≡ kinds.Row → MoveReads s call (Rest ∷ []) p (passed s (following kinds.Row) x)
     skips_row None is e = let some = row_there e in let no : None ≡ Some some.0 = sym is ∙ some.1 in cc
     skips_row (Some row) is e = passes_rest kinds.Row (ToldRow row) e refl refl (rest_is kinds.Row e)
 
-    among_rows : (k : Kind) → kind_there s.context payload ≡ k → is_known spots.Rows k ≡ true
+    among_rows : (k : Kind) → kind_there s.context s.facts.columns payload ≡ k → is_known spots.Rows k ≡ true
     among_rows k e = subst (λ (x : Spot). is_known x k ≡ true) rows (knows k e)
 
-    pub skipping_reads : (k : Kind) → kind_there s.context payload ≡ k → MoveReads s call (Rest ∷ []) p (move_at tasks.Skipping k)
+    pub skipping_reads : (k : Kind) → kind_there s.context s.facts.columns payload ≡ k → MoveReads s call (Rest ∷ []) p (move_at tasks.Skipping k)
     skipping_reads (kinds.Greets n) e = absurd (no_greeting [] n past e)
     skipping_reads (kinds.Good status) e = let no = among_rows (kinds.Good status) e in cc
     skipping_reads kinds.Failed e = errs (Rest ∷ []) (err_at (is_greeting s.context.spot) payload) refl e false (ap is_connecting task) (ap is_connect skip) (rest_is kinds.Failed e)
     skipping_reads (kinds.Count n) e = let no = among_rows (kinds.Count n) e in cc
     skipping_reads kinds.Column e = let no = among_rows kinds.Column e in cc
     skipping_reads kinds.ColumnsDone e = let no = among_rows kinds.ColumnsDone e in cc
-    skipping_reads kinds.Row e = skips_row (row_at s.facts.columns payload) refl e
+    skipping_reads kinds.Row e = skips_row (row_at s.context.rows s.facts.columns payload) refl e
     skipping_reads (kinds.End status) e = passes_rest (kinds.End status) ToldEnd e refl refl (rest_is (kinds.End status) e)
+    skipping_reads (kinds.Prepared params columns) e = let no = among_rows (kinds.Prepared params columns) e in cc
+    skipping_reads kinds.Parameter e = let no = among_rows kinds.Parameter e in cc
+    skipping_reads kinds.Field e = let no = among_rows kinds.Field e in cc
     skipping_reads kinds.Bad e = unfits (Rest ∷ []) (rest_is kinds.Bad e)
 
   pub whole_reads_all : (parts : List Part) → step s.login call (All ∷ parts) p ≡ reads s.login All parts p → (t : Task) → All ∷ parts ≡ parts_left s.login t → kind_in t ≡ kind_in s.task → fault_in t ≡ None
       → is_greeting s.context.spot ≡ false → ((k : Kind) → TaskStandsAt t (spot_by k) (connects_in (exchanges p))) → (b : Bool) → is_connecting s.task ≡ b → is_connect (call_kind call) ≡ b
-      → (k : Kind) → kind_there s.context payload ≡ k
+      → (k : Kind) → kind_there s.context s.facts.columns payload ≡ k
       → MoveReads s call (All ∷ parts) p (cond (is_breaking (react_whole t k)) (failed_by s (invalid_data s.facts.place))
       (unless_above s (above s.context.terms.limit (reply_to s.login k payload)) (reacted s (following k) payload (react_whole t k))))
   whole_reads_all parts reading = whole_reads parts reading

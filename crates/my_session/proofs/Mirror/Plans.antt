@@ -121,7 +121,7 @@ module _ (s : Seen) (call : Call) (p : Place) (o : OpenAt s call (parts_left s.l
   -- what the machine makes of the payload in front is what the reading makes of it, where it is so for whole payloads
   module _ (part : Part) (parts : List Part) (t : Task) (task : s.task ≡ t) (it : step s.login call (part ∷ parts) p ≡ reads s.login part parts p)
       (each : (payload rest : List ℕ) (next : ℕ) → front_at s.number s.context.terms.limit s.unread ≡ Whole payload rest next → IsWhole s.number s.context.terms.limit s.unread payload rest next
-      → (k : Kind) → kind_there s.context payload ≡ k → MoveReads s call (part ∷ parts) p (cond (is_breaking (react t k)) (failed_by s (invalid_data s.facts.place))
+      → (k : Kind) → kind_there s.context s.facts.columns payload ≡ k → MoveReads s call (part ∷ parts) p (cond (is_breaking (react t k)) (failed_by s (invalid_data s.facts.place))
       (unless_above s (above s.context.terms.limit (reply_to s.login k payload)) (reacted s (advanced s k payload rest next) payload (react t k)))))
       (left : part ∷ parts ≡ parts_left s.login s.task) where
     at_front : (f : Front) → front_at s.number s.context.terms.limit s.unread ≡ f → step s.login call (part ∷ parts) p ≡ with_front s.login part parts p f
@@ -158,9 +158,9 @@ module _ (s : Seen) (call : Call) (p : Place) (o : OpenAt s call (parts_left s.l
     }
     by_front (Whole payload rest next) e =
         let whole = whole_stands s.number s.context.terms.limit s.unread payload rest next bytes e in
-        subst (λ (u : Task). MoveReads s call (part ∷ parts) p (cond (is_breaking (react u (kind_there s.context payload))) (failed_by s (invalid_data s.facts.place))
-        (unless_above s (above s.context.terms.limit (reply_to s.login (kind_there s.context payload) payload)) (reacted s (advanced s (kind_there s.context payload) payload rest next) payload (react u (kind_there s.context payload))))))
-        (sym task) (each payload rest next e whole (kind_there s.context payload) refl)
+        subst (λ (u : Task). MoveReads s call (part ∷ parts) p (cond (is_breaking (react u (kind_there s.context s.facts.columns payload))) (failed_by s (invalid_data s.facts.place))
+        (unless_above s (above s.context.terms.limit (reply_to s.login (kind_there s.context s.facts.columns payload) payload)) (reacted s (advanced s (kind_there s.context s.facts.columns payload) payload rest next) payload (react u (kind_there s.context s.facts.columns payload))))))
+        (sym task) (each payload rest next e whole (kind_there s.context s.facts.columns payload) refl)
 
     reads_front : MoveReads s call (part ∷ parts) p (planned s plans.Reads)
     reads_front = by_front (front_at s.number s.context.terms.limit s.unread) refl
@@ -254,6 +254,11 @@ module _ (s : Seen) (call : Call) (p : Place) (o : OpenAt s call (parts_left s.l
     cleans (spots.Columns n) e = cleans_on (ap is_idle e)
     cleans spots.ColumnsEnd e = cleans_on (ap is_idle e)
     cleans spots.Rows e = cleans_on (ap is_idle e)
+    cleans spots.Prepare e = cleans_on (ap is_idle e)
+    cleans (spots.Parameters left columns) e = cleans_on (ap is_idle e)
+    cleans (spots.ParametersEnd columns) e = cleans_on (ap is_idle e)
+    cleans (spots.Fields left) e = cleans_on (ap is_idle e)
+    cleans spots.FieldsEnd e = cleans_on (ap is_idle e)
 
   -- a read
   module _ (task : s.task ≡ tasks.Reading) (past : is_greeting s.context.spot ≡ false) where
@@ -287,6 +292,11 @@ module _ (s : Seen) (call : Call) (p : Place) (o : OpenAt s call (parts_left s.l
     item_by told (spots.Columns n) e = item_on told (ap is_idle e)
     item_by told spots.ColumnsEnd e = item_on told (ap is_idle e)
     item_by told spots.Rows e = item_on told (ap is_idle e)
+    item_by told spots.Prepare e = item_on told (ap is_idle e)
+    item_by told (spots.Parameters left columns) e = item_on told (ap is_idle e)
+    item_by told (spots.ParametersEnd columns) e = item_on told (ap is_idle e)
+    item_by told (spots.Fields left) e = item_on told (ap is_idle e)
+    item_by told spots.FieldsEnd e = item_on told (ap is_idle e)
 
     items : (u : Bool) → s.untold ≡ u → MoveReads s call (Item ∷ []) p (planned s (cond u plans.Ends (read_plan s.context.spot)))
     items true e = record {
@@ -332,6 +342,11 @@ module _ (s : Seen) (call : Call) (p : Place) (o : OpenAt s call (parts_left s.l
     drop_by told (spots.Columns n) e = drop_on told (ap is_idle e)
     drop_by told spots.ColumnsEnd e = drop_on told (ap is_idle e)
     drop_by told spots.Rows e = drop_on told (ap is_idle e)
+    drop_by told spots.Prepare e = drop_on told (ap is_idle e)
+    drop_by told (spots.Parameters left columns) e = drop_on told (ap is_idle e)
+    drop_by told (spots.ParametersEnd columns) e = drop_on told (ap is_idle e)
+    drop_by told (spots.Fields left) e = drop_on told (ap is_idle e)
+    drop_by told spots.FieldsEnd e = drop_on told (ap is_idle e)
 
     drops : (u : Bool) → s.untold ≡ u → MoveReads s call (All ∷ []) p (planned s (cond u plans.Passes (drop_plan s.context.spot)))
     drops true e = record {
@@ -403,6 +418,11 @@ module _ (s : Seen) (call : Call) (p : Place) (o : OpenAt s call (parts_left s.l
     set_by told spots.Further e = set_on told (ap is_rows e) (ap is_idle e)
     set_by told (spots.Columns n) e = set_on told (ap is_rows e) (ap is_idle e)
     set_by told spots.ColumnsEnd e = set_on told (ap is_rows e) (ap is_idle e)
+    set_by told spots.Prepare e = set_on told (ap is_rows e) (ap is_idle e)
+    set_by told (spots.Parameters left columns) e = set_on told (ap is_rows e) (ap is_idle e)
+    set_by told (spots.ParametersEnd columns) e = set_on told (ap is_rows e) (ap is_idle e)
+    set_by told (spots.Fields left) e = set_on told (ap is_rows e) (ap is_idle e)
+    set_by told spots.FieldsEnd e = set_on told (ap is_rows e) (ap is_idle e)
 
     takes : (u : Bool) → s.untold ≡ u → MoveReads s call (Set ∷ []) p (planned s (cond u plans.Takes (take_plan s.context.spot)))
     takes true e = takes_it (ap (λ x. x || is_rows (context_of p.talk).spot) (end_there ∙ e))
@@ -449,6 +469,11 @@ module _ (s : Seen) (call : Call) (p : Place) (o : OpenAt s call (parts_left s.l
     skip_by told spots.Further e = rest_over told (ap is_rows e)
     skip_by told (spots.Columns n) e = rest_over told (ap is_rows e)
     skip_by told spots.ColumnsEnd e = rest_over told (ap is_rows e)
+    skip_by told spots.Prepare e = rest_over told (ap is_rows e)
+    skip_by told (spots.Parameters left columns) e = rest_over told (ap is_rows e)
+    skip_by told (spots.ParametersEnd columns) e = rest_over told (ap is_rows e)
+    skip_by told (spots.Fields left) e = rest_over told (ap is_rows e)
+    skip_by told spots.FieldsEnd e = rest_over told (ap is_rows e)
 
     skips : (u : Bool) → s.untold ≡ u → MoveReads s call (Rest ∷ []) p (planned s (cond u plans.Passes (skip_plan s.context.spot)))
     skips true e = record {
@@ -485,6 +510,11 @@ module _ (s : Seen) (call : Call) (p : Place) (o : OpenAt s call (parts_left s.l
   query_by task past spots.Further e = query_on task past (ap is_rows e)
   query_by task past (spots.Columns n) e = query_on task past (ap is_rows e)
   query_by task past spots.ColumnsEnd e = query_on task past (ap is_rows e)
+  query_by task past spots.Prepare e = query_on task past (ap is_rows e)
+  query_by task past (spots.Parameters left columns) e = query_on task past (ap is_rows e)
+  query_by task past (spots.ParametersEnd columns) e = query_on task past (ap is_rows e)
+  query_by task past (spots.Fields left) e = query_on task past (ap is_rows e)
+  query_by task past spots.FieldsEnd e = query_on task past (ap is_rows e)
 
   shaking_on : (x : Spot) → is_shaking x ≡ true → is_idle x ≡ false
   shaking_on spots.Greeting e = refl
@@ -496,6 +526,11 @@ module _ (s : Seen) (call : Call) (p : Place) (o : OpenAt s call (parts_left s.l
   shaking_on (spots.Columns n) e = cc
   shaking_on spots.ColumnsEnd e = cc
   shaking_on spots.Rows e = cc
+  shaking_on spots.Prepare e = cc
+  shaking_on (spots.Parameters left columns) e = cc
+  shaking_on (spots.ParametersEnd columns) e = cc
+  shaking_on (spots.Fields left) e = cc
+  shaking_on spots.FieldsEnd e = cc
 
   -- nothing is left to be passed over where the own exchange of connecting, or of a ping, is read
   own_reads : (c : CallKind) → s.task ≡ tasks.Own c → OwnStandsAt c s.context.spot (connects_in (exchanges p)) → p.end_left ≡ false → MoveReads s call (own_parts s.login c) p (planned s (own_plan c s.context.spot))

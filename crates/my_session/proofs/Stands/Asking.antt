@@ -5,7 +5,7 @@ use Rattle.my_command.specs.declared.client.ClientPacket.TheVariants as packets
 use Rattle.my_command.specs.Client.Packet.{client_bytes as packet_bytes}
 use Rattle.my_grammar.specs.declared.spot.Spot.TheVariants as spots
 use Rattle.my_grammar.specs.Cut.{is_idle}
-use Rattle.my_grammar.specs.Sets.{NoSets}
+use Rattle.my_grammar.specs.Sets.{ByText, NoSets}
 use Rattle.my_grammar.specs.Talk.{Talk, Asked, Queried, Silent, turns, context_of, packets_of, server_bytes, Fits, origin, login_in}
 use Rattle.my_reading.specs.declared.call.Call.{Call}
 use Rattle.my_reading.specs.declared.call.Call.TheVariants as calls
@@ -77,7 +77,7 @@ module _ (s : Seen) (h : History) (st : Stands s h) (open_still : s.closed ≡ f
 
   pub asks_keep : (c : CallKind) → HeardAs (Cleaning c) → s.untold ≡ false → s.context.spot ≡ spots.Idle → Keeps (planned s (plans.Asks c)) h
   asks_keep Connect hd told idle = let no : asks Connect ≡ true = hd.at.0 in cc
-  asks_keep Query hd told idle = commands Query (Queried (next_terms s) (packet_bytes (packets.Query s.text)) NoSets) hd told idle refl refl refl (record { kinds = tt; within = tt }) refl refl refl refl refl (hd.at.1, refl, refl)
+  asks_keep Query hd told idle = commands Query (Queried (next_terms s) (packet_bytes (packets.Query s.text)) (NoSets ByText)) hd told idle refl refl refl (record { kinds = tt; within = tt }) refl refl refl refl refl (hd.at.1, refl, refl)
   asks_keep NextRow hd told idle = let no : asks NextRow ≡ true = hd.at.0 in cc
   asks_keep DropResult hd told idle = let no : asks DropResult ≡ true = hd.at.0 in cc
   asks_keep TakeSet hd told idle = let no : asks TakeSet ≡ true = hd.at.0 in cc
@@ -121,7 +121,7 @@ module _ (s : Seen) (h : History) (st : Stands s h) (open_still : s.closed ≡ f
   arranges_by : (n : ℕ) → HeardAs (Arranging n) → s.untold ≡ false → s.context.spot ≡ spots.Idle → (x : Option (List ℕ)) → slice_get (arranging_texts s.login) n ≡ x → Keeps (arranged s n (query_of (next_terms s) x)) h
   arranges_by n hd told idle None is = arranged_all n hd told idle is
   arranges_by n hd told idle (Some text) is =
-      let talk : Talk = Queried (next_terms s) (packet_bytes (packets.Query text)) NoSets in
+      let talk : Talk = Queried (next_terms s) (packet_bytes (packets.Query text)) (NoSets ByText) in
       let opens : opening s.login (next_terms s) calls.Connect (connecting_in (st.newest ∷ st.older)) ≡ Some talk = ap (connecting s.login (next_terms s)) hd.at.1 ∙ ap (query_of (next_terms s)) is in
       unless_long (Arranging (suc n)) talk _ (queues (Arranging n) (Arranging (suc n)) calls.Connect talk hd refl refl refl told idle opens refl (record { kinds = tt; within = tt }) refl refl refl refl refl
       (hd.at.0, ap suc hd.at.1, refl, λ no. cc) (refl, inr (refl, hd.tie)) (λ made. let no : true ≡ false = sym made ∙ hd.at.0 in cc))

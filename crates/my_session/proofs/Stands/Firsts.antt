@@ -8,7 +8,7 @@ use Rattle.my_grammar.specs.declared.spot.Kind.TheVariants as kinds
 use Rattle.my_grammar.specs.declared.spot.Spot.TheVariants as spots
 use Rattle.my_grammar.specs.Growth.{grow}
 use Rattle.my_grammar.specs.Sets.{SetHead, Sets, NoSets, Lone, Failed, Heading, Headed, Begun, Ended, Broken, grow_sets, with_column, with_column_of, with_close, spot_in}
-use Rattle.my_grammar.specs.Talk.{Talk, Start, Unwelcome, Greeted, Settled, Asked, Replied, Queried, Silent, context_of, Fits, origin}
+use Rattle.my_grammar.specs.Talk.{Talk, Start, Unwelcome, Greeted, Settled, Asked, Replied, Queried, Preparing, Silent, context_of, Fits, origin}
 use Rattle.my_grammar.specs.declared.spot.Terms.{Terms}
 use Rattle.my_reading.specs.declared.call.Call.TheVariants as calls
 use Rattle.my_reading.specs.Commands.{opening}
@@ -20,7 +20,7 @@ use Rattle.my_session.proofs.Stands.Views.{fit_sets, is_part}
 
 -- of the first set's head nothing was given
 none_groups : (x : Sets) → is_none x ≡ true → groups x ≡ []
-none_groups NoSets e = refl
+none_groups (NoSets asking) e = refl
 none_groups (Lone older q s) e = cc
 none_groups (Failed older q) e = cc
 none_groups (Heading older head left) e = cc
@@ -40,7 +40,7 @@ begun_groups older head [] none empty = none_groups older none
 begun_groups older head (r ∷ rows) none empty = cc
 
 first_part_groups : (x : Sets) → is_first x ≡ true → groups x ≡ []
-first_part_groups NoSets e = refl
+first_part_groups (NoSets asking) e = refl
 first_part_groups (Lone older q s) e = cc
 first_part_groups (Failed older q) e = cc
 first_part_groups (Heading older head left) e = none_groups older e
@@ -51,7 +51,7 @@ first_part_groups (Broken older head rows last) e = cc
 
 first_known : (b : Bool) (x : Sets) → is_first x ≡ true → known_part b x ≡ x
 first_known false x e = refl
-first_known true NoSets e = refl
+first_known true (NoSets asking) e = refl
 first_known true (Lone older q s) e = cc
 first_known true (Failed older q) e = refl
 first_known true (Heading older head left) e = refl
@@ -72,7 +72,7 @@ first_column_if false true older head left p e = e
 first_column_if d false older head left p e = e
 
 first_column : (d : Bool) (x : Sets) (p : List ℕ) → is_first x ≡ true → is_first (with_column d x p) ≡ true
-first_column d NoSets p e = refl
+first_column d (NoSets asking) p e = refl
 first_column d (Lone older q s) p e = e
 first_column d (Failed older q) p e = e
 first_column d (Heading older head left) p e = first_column_if d (leb left 1) older head (left - 1) p e
@@ -82,7 +82,7 @@ first_column d (Ended older head rows last s) p e = e
 first_column d (Broken older head rows last) p e = e
 
 first_close : (x : Sets) (p : List ℕ) → is_first x ≡ true → is_first (with_close x p) ≡ true
-first_close NoSets p e = refl
+first_close (NoSets asking) p e = refl
 first_close (Lone older q s) p e = e
 first_close (Failed older q) p e = e
 first_close (Heading older head left) p e = e
@@ -92,7 +92,7 @@ first_close (Ended older head rows last s) p e = e
 first_close (Broken older head rows last) p e = e
 
 first_count : (x : Sets) (n : ℕ) → is_first x ≡ true → is_known (spot_in x) (kinds.Count n) ≡ true → is_none x ≡ true
-first_count NoSets n e i = refl
+first_count (NoSets asking) n e i = refl
 first_count (Lone older q s) n e i = cc
 first_count (Failed older q) n e i = cc
 first_count (Heading older head left) n e i = cc
@@ -110,6 +110,9 @@ first_sets kinds.Column d x p e i part = first_column d x p e
 first_sets kinds.ColumnsDone d x p e i part = first_close x p e
 first_sets kinds.Row d x p e i part = cc
 first_sets (kinds.End status) d x p e i part = cc
+first_sets (kinds.Prepared params columns) d x p e i part = e
+first_sets kinds.Parameter d x p e i part = e
+first_sets kinds.Field d x p e i part = e
 first_sets kinds.Bad d x p e i part = cc
 
 abbrev pub is_queried : Talk → Bool
@@ -120,6 +123,7 @@ is_queried (Greeted login q c) = false
 is_queried (Settled login q c last kind) = false
 is_queried (Asked terms c) = false
 is_queried (Replied terms c last kind) = false
+is_queried (Preparing terms c reply) = false
 is_queried (Silent terms c) = false
 
 -- a query's exchange is one of sets
@@ -131,6 +135,7 @@ query_talk login terms_is n text (Settled l q c last kind) e = cc
 query_talk login terms_is n text (Asked terms c) e = cc
 query_talk login terms_is n text (Replied terms c last kind) e = cc
 query_talk login terms_is n text (Queried terms c x) e = refl
+query_talk login terms_is n text (Preparing terms c reply) e = cc
 query_talk login terms_is n text (Silent terms c) e = cc
 
 pub first_on : (k : Kind) (t : Talk) (p : List ℕ) → is_queried t ≡ true → is_first (sets_of t) ≡ true → is_known (context_of t).spot k ≡ true → is_part k ≡ true → is_first (sets_of (grow k t p)) ≡ true
@@ -141,6 +146,7 @@ first_on k (Settled l x c last kind) p q e i part = cc
 first_on k (Asked terms c) p q e i part = cc
 first_on k (Replied terms c last kind) p q e i part = cc
 first_on k (Queried terms c x) p q e i part = first_sets k (deprecates_eof terms.kept) x p e i part
+first_on k (Preparing terms c reply) p q e i part = cc
 first_on k (Silent terms c) p q e i part = cc
 
 -- A lone OK as the first head: it is the head's place, and nothing but its end is left.
@@ -150,7 +156,7 @@ pub record IsReady (status : StatusFlags) (t : Talk) (p : List ℕ) : Type 0 whe
   pub none : groups (known_part true (sets_of (grow (kinds.Good status) t p))) ≡ []
 
 ready_sets : (status : StatusFlags) (terms : Terms) (c : List ℕ) (x : Sets) (p : List ℕ) → is_first x ≡ true → is_known (spot_in x) (kinds.Good status) ≡ true → IsReady status (Queried terms c x) p
-ready_sets status terms c NoSets p e i = record { spot = refl; lone = refl; none = refl }
+ready_sets status terms c (NoSets asking) p e i = record { spot = refl; lone = refl; none = refl }
 ready_sets status terms c (Lone older q s) p e i = cc
 ready_sets status terms c (Failed older q) p e i = cc
 ready_sets status terms c (Heading older head left) p e i = cc
@@ -167,4 +173,5 @@ ready_on status (Settled l x c last kind) p q e i = cc
 ready_on status (Asked terms c) p q e i = cc
 ready_on status (Replied terms c last kind) p q e i = cc
 ready_on status (Queried terms c x) p q e i = ready_sets status terms c x p e i
+ready_on status (Preparing terms c reply) p q e i = cc
 ready_on status (Silent terms c) p q e i = cc

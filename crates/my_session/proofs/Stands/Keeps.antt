@@ -13,6 +13,7 @@ use Rattle.my_grammar.specs.declared.spot.Spot.{Spot}
 use Rattle.my_grammar.specs.declared.spot.Spot.TheVariants as spots
 use Rattle.my_grammar.specs.Contexts.{is_bad, spot_after}
 use Rattle.my_grammar.specs.Growth.{grow, not_greets}
+use Rattle.my_reading.proofs.Described.{kind_is}
 use Rattle.my_grammar.specs.Kinds.{kind_there}
 use Rattle.my_reading.specs.declared.call.Call.TheVariants as calls
 use Rattle.my_reading.specs.declared.call.CallKind.{CallKind}
@@ -22,7 +23,7 @@ use Rattle.my_session.specs.declared.task.Task.TheVariants.{Nothing, Begun, Clea
 use Rattle.my_reading.specs.declared.error.Error.TheVariants as errors
 use Rattle.my_reading.specs.Calls.{kind_of, call_of, is_connect}
 use Rattle.my_session.specs.Tasks.{kind_in, is_open}
-use Rattle.my_session.specs.Entries.{calls_in, connecting_in, givens, may_lack, has_connected, IsTied}
+use Rattle.my_session.specs.Entries.{calls_in, connecting_in, facts_of, givens, may_lack, has_connected, IsTied}
 use Rattle.my_reading.specs.Errors.{invalid_data, server_error}
 use Rattle.my_reading.specs.Told.{Told, ToldReady, ToldRow, ToldEnd, ToldError}
 use Rattle.my_session.specs.History.{History, Made, answered, noted}
@@ -68,19 +69,19 @@ module _ (s : Seen) (h : History) (st : Stands s h) (open_still : s.closed ≡ f
   invalid = fell_stands s h (invalid_data s.facts.place) (λ c. refl) op st
 
   -- the ERR in front is one more of the server's errors
-  blames : (x : ErrPacket) → kind_there s.context p ≡ kinds.Failed → err_at (is_greeting s.context.spot) p ≡ Some x → server_error x ∷ errors_in st.newest.talk ≡ errors_in (grow kinds.Failed st.newest.talk p)
+  blames : (x : ErrPacket) → kind_there s.context s.facts.columns p ≡ kinds.Failed → err_at (is_greeting s.context.spot) p ≡ Some x → server_error x ∷ errors_in st.newest.talk ≡ errors_in (grow kinds.Failed st.newest.talk p)
   blames x e is =
       ap (λ o. error_onto o (errors_in st.newest.talk)) (sym is)
       ∙ ap (λ (c : Context). error_onto (err_at (is_greeting c.spot) p) (errors_in st.newest.talk)) st.wire.context_is
-      ∙ sym (failed_blames st.newest.talk p (ap (λ (c : Context). kind_there c p) (sym st.wire.context_is) ∙ e))
+      ∙ sym (failed_blames st.newest.talk p (sym (kind_is st.newest.talk (facts_of s.login st.older) s.context s.facts p st.wire.fits st.wire.context_is st.wire.facts_are) ∙ e))
 
-  refuse : (t : Task) (c : CallKind) (x : Option ErrPacket) → err_at (is_greeting s.context.spot) p ≡ x → HeardAs t → kind_there s.context p ≡ kinds.Failed → kind_in t ≡ Some c → is_connecting s.task ≡ false → is_connect (kind_of (call_of c s.text)) ≡ false → has_connected h.calls ≡ true → ((y : Told) → may_lack y (kind_of (call_of c s.text)) ≡ true → IsTied (record { call = call_of c s.text; what = y } ∷ h.calls) (begun_of (spot_after (deprecates_eof s.context.terms.kept) s.context.spot kinds.Failed) st.newest.call st.older)) → Keeps (refused s (after kinds.Failed) x) h
+  refuse : (t : Task) (c : CallKind) (x : Option ErrPacket) → err_at (is_greeting s.context.spot) p ≡ x → HeardAs t → kind_there s.context s.facts.columns p ≡ kinds.Failed → kind_in t ≡ Some c → is_connecting s.task ≡ false → is_connect (kind_of (call_of c s.text)) ≡ false → has_connected h.calls ≡ true → ((y : Told) → may_lack y (kind_of (call_of c s.text)) ≡ true → IsTied (record { call = call_of c s.text; what = y } ∷ h.calls) (begun_of (spot_after (deprecates_eof s.context.terms.kept) s.context.spot kinds.Failed) st.newest.call st.older)) → Keeps (refused s (after kinds.Failed) x) h
   refuse t c None is hd e call off not made tie = invalid
   refuse t c (Some x) is hd e call off not made tie =
       subst (λ (b : Bool). Stands (cond b (fell (after kinds.Failed)) (with_task (after kinds.Failed) Nothing false)) (answered h (ToldError (errors.Server (server_error x))))) (sym off)
       (refuses s h st open_still nothing p rest next whole t c (server_error x) e (blames x e is) call not made hd (tie (ToldError (errors.Server (server_error x))) refl))
 
-  refuse_connect : (t : Task) (x : Option ErrPacket) → err_at (is_greeting s.context.spot) p ≡ x → HeardAs t → kind_there s.context p ≡ kinds.Failed → kind_in t ≡ Some Connect → is_connecting s.task ≡ true → ((y : Told) → may_lack y Connect ≡ true → IsTied (record { call = calls.Connect; what = y } ∷ h.calls) (begun_of (spot_after (deprecates_eof s.context.terms.kept) s.context.spot kinds.Failed) st.newest.call st.older)) → Keeps (refused s (after kinds.Failed) x) h
+  refuse_connect : (t : Task) (x : Option ErrPacket) → err_at (is_greeting s.context.spot) p ≡ x → HeardAs t → kind_there s.context s.facts.columns p ≡ kinds.Failed → kind_in t ≡ Some Connect → is_connecting s.task ≡ true → ((y : Told) → may_lack y Connect ≡ true → IsTied (record { call = calls.Connect; what = y } ∷ h.calls) (begun_of (spot_after (deprecates_eof s.context.terms.kept) s.context.spot kinds.Failed) st.newest.call st.older)) → Keeps (refused s (after kinds.Failed) x) h
   refuse_connect t None is hd e call on tie = invalid
   refuse_connect t (Some x) is hd e call on tie =
       subst (λ (b : Bool). Stands (cond b (fell (after kinds.Failed)) (with_task (after kinds.Failed) Nothing false)) (answered h (ToldError (errors.Server (server_error x))))) (sym on)
@@ -96,11 +97,11 @@ module _ (s : Seen) (h : History) (st : Stands s h) (open_still : s.closed ≡ f
   tied_own k t c call tie y lack = closed_tie t c s.text (spot_after (deprecates_eof s.context.terms.kept) s.context.spot k) h.calls st.newest.call st.older (record { call = call_of c s.text; what = y }) call refl lack tie
 
   -- a response that is read whole
-  module _ (t : Task) (lost : keeps t ≡ false) (hd : HeardAs t) (at : (k : Kind) → kind_there s.context p ≡ k → is_bad k ≡ false → not_greets k ≡ true → TaskIs t (spot_after (deprecates_eof s.context.terms.kept) s.context.spot k) s.closed (has_connected h.calls) (connecting_in (st.newest ∷ st.older)) (newest_by s h st open_still nothing p rest next whole k st.newest.given)) (tie : (k : Kind) → TieIs t s.text (spot_after (deprecates_eof s.context.terms.kept) s.context.spot k) h.calls st.newest.call st.older) (fails : kind_there s.context p ≡ kinds.Failed → Keeps (refused s (after kinds.Failed) (err_at (is_greeting s.context.spot) p)) h) where
-    whole_goes : (k : Kind) → kind_there s.context p ≡ k → is_bad k ≡ false → is_failed k ≡ false → not_greets k ≡ true → Stands (with_task (after k) t false) h
+  module _ (t : Task) (lost : keeps t ≡ false) (hd : HeardAs t) (at : (k : Kind) → kind_there s.context s.facts.columns p ≡ k → is_bad k ≡ false → not_greets k ≡ true → TaskIs t (spot_after (deprecates_eof s.context.terms.kept) s.context.spot k) s.closed (has_connected h.calls) (connecting_in (st.newest ∷ st.older)) (newest_by s h st open_still nothing p rest next whole k st.newest.given)) (tie : (k : Kind) → TieIs t s.text (spot_after (deprecates_eof s.context.terms.kept) s.context.spot k) h.calls st.newest.call st.older) (fails : kind_there s.context s.facts.columns p ≡ kinds.Failed → Keeps (refused s (after kinds.Failed) (err_at (is_greeting s.context.spot) p)) h) where
+    whole_goes : (k : Kind) → kind_there s.context s.facts.columns p ≡ k → is_bad k ≡ false → is_failed k ≡ false → not_greets k ≡ true → Stands (with_task (after k) t false) h
     whole_goes k e good calm quiet = goes s h st open_still nothing p rest next whole t t k e good calm lost refl hd (at k e good quiet) (tie k) (λ _. quiet) (λ _. quiet)
 
-    whole_keeps : (k : Kind) → kind_there s.context p ≡ k → is_breaking (react_whole t k) ≡ false → Keeps (reacted s (after k) p (react_whole t k)) h
+    whole_keeps : (k : Kind) → kind_there s.context s.facts.columns p ≡ k → is_breaking (react_whole t k) ≡ false → Keeps (reacted s (after k) p (react_whole t k)) h
     whole_keeps (kinds.Greets n) e b = cc
     whole_keeps (kinds.Good status) e b = whole_goes (kinds.Good status) e refl refl refl
     whole_keeps kinds.Failed e b = fails e
@@ -109,21 +110,24 @@ module _ (s : Seen) (h : History) (st : Stands s h) (open_still : s.closed ≡ f
     whole_keeps kinds.ColumnsDone e b = whole_goes kinds.ColumnsDone e refl refl refl
     whole_keeps kinds.Row e b = whole_goes kinds.Row e refl refl refl
     whole_keeps (kinds.End status) e b = whole_goes (kinds.End status) e refl refl refl
+    whole_keeps (kinds.Prepared params columns) e b = whole_goes (kinds.Prepared params columns) e refl refl refl
+    whole_keeps kinds.Parameter e b = whole_goes kinds.Parameter e refl refl refl
+    whole_keeps kinds.Field e b = whole_goes kinds.Field e refl refl refl
     whole_keeps kinds.Bad e b = cc
 
-  cleaning_keeps : (c : CallKind) (k : Kind) → HeardAs (Cleaning c) → is_connecting s.task ≡ false → kind_there s.context p ≡ k → is_breaking (react_whole (Cleaning c) k) ≡ false → Keeps (reacted s (after k) p (react_whole (Cleaning c) k)) h
+  cleaning_keeps : (c : CallKind) (k : Kind) → HeardAs (Cleaning c) → is_connecting s.task ≡ false → kind_there s.context s.facts.columns p ≡ k → is_breaking (react_whole (Cleaning c) k) ≡ false → Keeps (reacted s (after k) p (react_whole (Cleaning c) k)) h
   cleaning_keeps c k hd off e b =
       let following = λ (x : Kind). not_greeting s.context.spot (deprecates_eof s.context.terms.kept) x in
       whole_keeps (Cleaning c) refl hd (λ x _ _ _. (hd.at.0, hd.at.1, following x))
       (λ x. none_waits (spot_after (deprecates_eof s.context.terms.kept) s.context.spot x) h.calls st.newest.call st.older (following x) (all_begun s.context.spot h.calls st.newest.call st.older hd.at.2 hd.tie))
       (λ f. refuse (Cleaning c) c (err_at (is_greeting s.context.spot) p) refl hd f refl off (asks_not c s.text hd.at.0) hd.at.1 (tied_after kinds.Failed c hd.at.2 hd.tie)) k e b
 
-  arranging_keeps : (n : ℕ) (k : Kind) → HeardAs (Arranging n) → is_connecting s.task ≡ true → kind_there s.context p ≡ k → is_breaking (react_whole (Arranging n) k) ≡ false → Keeps (reacted s (after k) p (react_whole (Arranging n) k)) h
+  arranging_keeps : (n : ℕ) (k : Kind) → HeardAs (Arranging n) → is_connecting s.task ≡ true → kind_there s.context s.facts.columns p ≡ k → is_breaking (react_whole (Arranging n) k) ≡ false → Keeps (reacted s (after k) p (react_whole (Arranging n) k)) h
   arranging_keeps n k hd on e b =
       whole_keeps (Arranging n) refl hd (λ x is good quiet. (hd.at.0, hd.at.1, not_greeting s.context.spot (deprecates_eof s.context.terms.kept) x, λ _. answers s h st open_still nothing p rest next whole x is good quiet)) (λ x. hd.tie)
       (λ f. refuse_connect (Arranging n) (err_at (is_greeting s.context.spot) p) refl hd f refl on (tied_own kinds.Failed (Arranging n) Connect refl hd.tie)) k e b
 
-  connect_keeps : (k : Kind) → HeardAs (Own Connect) → is_connecting s.task ≡ true → kind_there s.context p ≡ k → is_breaking (react_connect k) ≡ false → Keeps (reacted s (after k) p (react_connect k)) h
+  connect_keeps : (k : Kind) → HeardAs (Own Connect) → is_connecting s.task ≡ true → kind_there s.context s.facts.columns p ≡ k → is_breaking (react_connect k) ≡ false → Keeps (reacted s (after k) p (react_connect k)) h
   connect_keeps (kinds.Greets n) hd on e b =
       let spot : spot_after (deprecates_eof s.context.terms.kept) s.context.spot (kinds.Greets n) ≡ spots.Authentication = greets_on s.context.spot (deprecates_eof s.context.terms.kept) n (knows s h st open_still nothing p rest next whole (kinds.Greets n) e) in
       goes s h st open_still nothing p rest next whole (Own Connect) (Own Connect) (kinds.Greets n) e refl refl refl refl hd (hd.at.0, ap is_shaking spot, hd.at.2) hd.tie (λ made. let no : true ≡ false = sym made ∙ hd.at.0 in cc) (λ no. cc)
@@ -136,9 +140,12 @@ module _ (s : Seen) (h : History) (st : Stands s h) (open_still : s.closed ≡ f
   connect_keeps kinds.ColumnsDone hd on e b = cc
   connect_keeps kinds.Row hd on e b = cc
   connect_keeps (kinds.End status) hd on e b = cc
+  connect_keeps (kinds.Prepared params columns) hd on e b = cc
+  connect_keeps kinds.Parameter hd on e b = cc
+  connect_keeps kinds.Field hd on e b = cc
   connect_keeps kinds.Bad hd on e b = cc
 
-  query_keeps : (k : Kind) → HeardAs (Own Query) → is_connecting s.task ≡ false → kind_there s.context p ≡ k → is_breaking (react_query k) ≡ false → Keeps (reacted s (after k) p (react_query k)) h
+  query_keeps : (k : Kind) → HeardAs (Own Query) → is_connecting s.task ≡ false → kind_there s.context s.facts.columns p ≡ k → is_breaking (react_query k) ≡ false → Keeps (reacted s (after k) p (react_query k)) h
   query_keeps (kinds.Greets n) hd off e b = cc
   query_keeps (kinds.Good status) hd off e b = readies s h st open_still nothing p rest next whole status e hd
   query_keeps kinds.Failed hd off e b = refuse (Own Query) Query (err_at (is_greeting s.context.spot) p) refl hd e refl off refl hd.at.0 (tied_own kinds.Failed (Own Query) Query refl hd.tie)
@@ -147,9 +154,12 @@ module _ (s : Seen) (h : History) (st : Stands s h) (open_still : s.closed ≡ f
   query_keeps kinds.ColumnsDone hd off e b = first_parts s h st open_still nothing p rest next whole kinds.ColumnsDone e refl refl refl hd
   query_keeps kinds.Row hd off e b = cc
   query_keeps (kinds.End status) hd off e b = cc
+  query_keeps (kinds.Prepared params columns) hd off e b = first_parts s h st open_still nothing p rest next whole (kinds.Prepared params columns) e refl refl refl hd
+  query_keeps kinds.Parameter hd off e b = first_parts s h st open_still nothing p rest next whole kinds.Parameter e refl refl refl hd
+  query_keeps kinds.Field hd off e b = first_parts s h st open_still nothing p rest next whole kinds.Field e refl refl refl hd
   query_keeps kinds.Bad hd off e b = cc
 
-  ping_keeps : (k : Kind) → HeardAs (Own Ping) → is_connecting s.task ≡ false → kind_there s.context p ≡ k → is_breaking (react_ping k) ≡ false → Keeps (reacted s (after k) p (react_ping k)) h
+  ping_keeps : (k : Kind) → HeardAs (Own Ping) → is_connecting s.task ≡ false → kind_there s.context s.facts.columns p ≡ k → is_breaking (react_ping k) ≡ false → Keeps (reacted s (after k) p (react_ping k)) h
   ping_keeps (kinds.Greets n) hd off e b = cc
   ping_keeps (kinds.Good status) hd off e b = pongs s h st open_still nothing p rest next whole status e hd
   ping_keeps kinds.Failed hd off e b = refuse (Own Ping) Ping (err_at (is_greeting s.context.spot) p) refl hd e refl off refl hd.at.0 (tied_own kinds.Failed (Own Ping) Ping refl hd.tie)
@@ -158,9 +168,12 @@ module _ (s : Seen) (h : History) (st : Stands s h) (open_still : s.closed ≡ f
   ping_keeps kinds.ColumnsDone hd off e b = cc
   ping_keeps kinds.Row hd off e b = cc
   ping_keeps (kinds.End status) hd off e b = cc
+  ping_keeps (kinds.Prepared params columns) hd off e b = cc
+  ping_keeps kinds.Parameter hd off e b = cc
+  ping_keeps kinds.Field hd off e b = cc
   ping_keeps kinds.Bad hd off e b = cc
 
-  own_keeps : (c : CallKind) (k : Kind) → s.task ≡ Own c → HeardAs (Own c) → kind_there s.context p ≡ k → is_breaking (react_own c k) ≡ false → Keeps (reacted s (after k) p (react_own c k)) h
+  own_keeps : (c : CallKind) (k : Kind) → s.task ≡ Own c → HeardAs (Own c) → kind_there s.context s.facts.columns p ≡ k → is_breaking (react_own c k) ≡ false → Keeps (reacted s (after k) p (react_own c k)) h
   own_keeps Connect k task hd e b = connect_keeps k hd (ap is_connecting task) e b
   own_keeps Query k task hd e b = query_keeps k hd (ap is_connecting task) e b
   own_keeps NextRow k task hd e b = cc
@@ -173,30 +186,30 @@ module _ (s : Seen) (h : History) (st : Stands s h) (open_still : s.closed ≡ f
   rests : (k : Kind) (m : List Made) → has_connected m ≡ true → is_settled (spot_after (deprecates_eof s.context.terms.kept) s.context.spot k) ≡ true → s.closed ≡ false → cond (has_connected m) (is_settled (spot_after (deprecates_eof s.context.terms.kept) s.context.spot k)) (is_greeting (spot_after (deprecates_eof s.context.terms.kept) s.context.spot k)) ≡ true
   rests k m made e _ = subst (λ b. cond b (is_settled (spot_after (deprecates_eof s.context.terms.kept) s.context.spot k)) (is_greeting (spot_after (deprecates_eof s.context.terms.kept) s.context.spot k)) ≡ true) (sym made) e
 
-  row_rests : kind_there s.context p ≡ kinds.Row → is_settled (spot_after (deprecates_eof s.context.terms.kept) s.context.spot kinds.Row) ≡ true
+  row_rests : kind_there s.context s.facts.columns p ≡ kinds.Row → is_settled (spot_after (deprecates_eof s.context.terms.kept) s.context.spot kinds.Row) ≡ true
   row_rests e = ap (λ (x : Spot). is_settled (spot_after (deprecates_eof s.context.terms.kept) x kinds.Row)) (row_spot s.context.spot (knows s h st open_still nothing p rest next whole kinds.Row e))
 
-  end_rests : (status : StatusFlags) → kind_there s.context p ≡ kinds.End status → is_settled (spot_after (deprecates_eof s.context.terms.kept) s.context.spot (kinds.End status)) ≡ true
+  end_rests : (status : StatusFlags) → kind_there s.context s.facts.columns p ≡ kinds.End status → is_settled (spot_after (deprecates_eof s.context.terms.kept) s.context.spot (kinds.End status)) ≡ true
   end_rests status e = ap (λ (x : Spot). is_settled (spot_after (deprecates_eof s.context.terms.kept) x (kinds.End status))) (end_spot s.context.spot status (knows s h st open_still nothing p rest next whole (kinds.End status) e)) ∙ settled_more status
 
-  good_rests : (status : StatusFlags) → is_reading s.context.spot ≡ true → kind_there s.context p ≡ kinds.Good status → is_settled (spot_after (deprecates_eof s.context.terms.kept) s.context.spot (kinds.Good status)) ≡ true
+  good_rests : (status : StatusFlags) → is_reading s.context.spot ≡ true → kind_there s.context s.facts.columns p ≡ kinds.Good status → is_settled (spot_after (deprecates_eof s.context.terms.kept) s.context.spot (kinds.Good status)) ≡ true
   good_rests status reads e = ap (λ (x : Spot). is_settled (spot_after (deprecates_eof s.context.terms.kept) x (kinds.Good status))) (good_spot s.context.spot status reads (knows s h st open_still nothing p rest next whole (kinds.Good status) e)) ∙ settled_more status
 
   -- a read
   module _ (told : s.untold ≡ false) (task : s.task ≡ Reading) (hd : HeardAs Reading) where
-    give : (x : Option RowParts) → kind_there s.context p ≡ kinds.Row → row_at s.facts.columns p ≡ x → Keeps (gave s (after kinds.Row) x) h
+    give : (x : Option RowParts) → kind_there s.context s.facts.columns p ≡ kinds.Row → row_at s.context.rows s.facts.columns p ≡ x → Keeps (gave s (after kinds.Row) x) h
     give None e is = invalid
     give (Some row) e is = answered_stands (with_task (after kinds.Row) Nothing false) h calls.NextRow (ToldRow row) hd.pending_is
         (shows s h st open_still nothing told p rest next whole Reading NextRow refl refl hd.at.1 hd.at.0 hd hd.tie Nothing kinds.Row (ToldRow row) e refl refl refl refl refl refl refl hd.at.0
         (ap (λ gs. gs ∷ givens st.older) (sym (row_gives s h st open_still nothing told p rest next whole Reading NextRow refl refl hd.at.1 hd.at.0 hd hd.tie row e is)))
         (λ m made. rests kinds.Row m made (row_rests e)) (λ m t. t))
 
-    read_head : (k : Kind) → kind_there s.context p ≡ k → is_part k ≡ true → is_bad k ≡ false → not_greets k ≡ true → Stands (with_task (after k) Reading false) h
+    read_head : (k : Kind) → kind_there s.context s.facts.columns p ≡ k → is_part k ≡ true → is_bad k ≡ false → not_greets k ≡ true → Stands (with_task (after k) Reading false) h
     read_head k e part good quiet = heads s h st open_still nothing told p rest next whole Reading NextRow refl refl hd.at.1 hd.at.0 hd hd.tie k e part good quiet refl
         (hd.at.0, reading_after s.context.spot (deprecates_eof s.context.terms.kept) k hd.at.1)
         (tied_on s h st open_still nothing told p rest next whole Reading NextRow refl refl hd.at.1 hd.at.0 hd hd.tie k h.calls (tied_now s h st open_still nothing told p rest next whole Reading NextRow refl refl hd.at.1 hd.at.0 hd hd.tie))
 
-    reading_keeps : (k : Kind) → kind_there s.context p ≡ k → is_breaking (react_reading k) ≡ false → Keeps (reacted s (after k) p (react_reading k)) h
+    reading_keeps : (k : Kind) → kind_there s.context s.facts.columns p ≡ k → is_breaking (react_reading k) ≡ false → Keeps (reacted s (after k) p (react_reading k)) h
     reading_keeps (kinds.Greets n) e b = cc
     reading_keeps (kinds.Good status) e b = answered_stands (with_task (after (kinds.Good status)) Nothing false) h calls.NextRow ToldEnd hd.pending_is
         (shows s h st open_still nothing told p rest next whole Reading NextRow refl refl hd.at.1 hd.at.0 hd hd.tie Nothing (kinds.Good status) ToldEnd e refl refl refl refl refl refl refl hd.at.0
@@ -206,11 +219,14 @@ module _ (s : Seen) (h : History) (st : Stands s h) (open_still : s.closed ≡ f
     reading_keeps (kinds.Count n) e b = read_head (kinds.Count n) e refl refl refl
     reading_keeps kinds.Column e b = read_head kinds.Column e refl refl refl
     reading_keeps kinds.ColumnsDone e b = read_head kinds.ColumnsDone e refl refl refl
-    reading_keeps kinds.Row e b = give (row_at s.facts.columns p) e refl
+    reading_keeps kinds.Row e b = give (row_at s.context.rows s.facts.columns p) e refl
     reading_keeps (kinds.End status) e b = answered_stands (with_task (after (kinds.End status)) Nothing false) h calls.NextRow ToldEnd hd.pending_is
         (shows s h st open_still nothing told p rest next whole Reading NextRow refl refl hd.at.1 hd.at.0 hd hd.tie Nothing (kinds.End status) ToldEnd e refl refl refl refl refl refl refl hd.at.0
         (ap (λ gs. gs ∷ givens st.older) (sym (end_gives s h st open_still nothing told p rest next whole Reading NextRow refl refl hd.at.1 hd.at.0 hd hd.tie status e)))
         (λ m made. rests (kinds.End status) m made (end_rests status e)) (λ m t. t))
+    reading_keeps (kinds.Prepared params columns) e b = read_head (kinds.Prepared params columns) e refl refl refl
+    reading_keeps kinds.Parameter e b = read_head kinds.Parameter e refl refl refl
+    reading_keeps kinds.Field e b = read_head kinds.Field e refl refl refl
     reading_keeps kinds.Bad e b = cc
 
   -- a passing over what is left
@@ -218,19 +234,19 @@ module _ (s : Seen) (h : History) (st : Stands s h) (open_still : s.closed ≡ f
     same_task : (k : Kind) (g : History) → Stands (with_task (after k) Dropping false) g → Stands (after k) g
     same_task k g w = subst (λ (t : Task). Stands (with_task (after k) t false) g) (sym task) w
 
-    pass : (x : Option RowParts) → kind_there s.context p ≡ kinds.Row → row_at s.facts.columns p ≡ x → Keeps (passed s (after kinds.Row) x) h
+    pass : (x : Option RowParts) → kind_there s.context s.facts.columns p ≡ kinds.Row → row_at s.context.rows s.facts.columns p ≡ x → Keeps (passed s (after kinds.Row) x) h
     pass None e is = invalid
     pass (Some row) e is = same_task kinds.Row (noted h (ToldRow row)) (noted_stands (with_task (after kinds.Row) Dropping false) h calls.DropResult (ToldRow row) hd.pending_is
         (shows s h st open_still nothing told p rest next whole Dropping DropResult refl refl hd.at.1 hd.at.0 hd hd.tie Dropping kinds.Row (ToldRow row) e refl refl refl refl refl refl refl hd.at.0
         (ap (λ gs. gs ∷ givens st.older) (sym (row_gives s h st open_still nothing told p rest next whole Dropping DropResult refl refl hd.at.1 hd.at.0 hd hd.tie row e is)))
         (λ m made. (made, reading_after s.context.spot (deprecates_eof s.context.terms.kept) kinds.Row hd.at.1)) (λ m t. t)))
 
-    drop_head : (k : Kind) → kind_there s.context p ≡ k → is_part k ≡ true → is_bad k ≡ false → not_greets k ≡ true → Stands (with_task (after k) Dropping false) h
+    drop_head : (k : Kind) → kind_there s.context s.facts.columns p ≡ k → is_part k ≡ true → is_bad k ≡ false → not_greets k ≡ true → Stands (with_task (after k) Dropping false) h
     drop_head k e part good quiet = heads s h st open_still nothing told p rest next whole Dropping DropResult refl refl hd.at.1 hd.at.0 hd hd.tie k e part good quiet refl
         (hd.at.0, reading_after s.context.spot (deprecates_eof s.context.terms.kept) k hd.at.1)
         (tied_on s h st open_still nothing told p rest next whole Dropping DropResult refl refl hd.at.1 hd.at.0 hd hd.tie k h.calls (tied_now s h st open_still nothing told p rest next whole Dropping DropResult refl refl hd.at.1 hd.at.0 hd hd.tie))
 
-    dropping_keeps : (k : Kind) → kind_there s.context p ≡ k → is_breaking (react_dropping k) ≡ false → Keeps (reacted s (after k) p (react_dropping k)) h
+    dropping_keeps : (k : Kind) → kind_there s.context s.facts.columns p ≡ k → is_breaking (react_dropping k) ≡ false → Keeps (reacted s (after k) p (react_dropping k)) h
     dropping_keeps (kinds.Greets n) e b = cc
     dropping_keeps (kinds.Good status) e b = same_task (kinds.Good status) (noted h ToldEnd) (noted_stands (with_task (after (kinds.Good status)) Dropping false) h calls.DropResult ToldEnd hd.pending_is
         (shows s h st open_still nothing told p rest next whole Dropping DropResult refl refl hd.at.1 hd.at.0 hd hd.tie Dropping (kinds.Good status) ToldEnd e refl refl refl refl refl refl refl hd.at.0
@@ -240,21 +256,24 @@ module _ (s : Seen) (h : History) (st : Stands s h) (open_still : s.closed ≡ f
     dropping_keeps (kinds.Count n) e b = drop_head (kinds.Count n) e refl refl refl
     dropping_keeps kinds.Column e b = drop_head kinds.Column e refl refl refl
     dropping_keeps kinds.ColumnsDone e b = drop_head kinds.ColumnsDone e refl refl refl
-    dropping_keeps kinds.Row e b = pass (row_at s.facts.columns p) e refl
+    dropping_keeps kinds.Row e b = pass (row_at s.context.rows s.facts.columns p) e refl
     dropping_keeps (kinds.End status) e b = same_task (kinds.End status) (noted h ToldEnd) (noted_stands (with_task (after (kinds.End status)) Dropping false) h calls.DropResult ToldEnd hd.pending_is
         (shows s h st open_still nothing told p rest next whole Dropping DropResult refl refl hd.at.1 hd.at.0 hd hd.tie Dropping (kinds.End status) ToldEnd e refl refl refl refl refl refl refl hd.at.0
         (ap (λ gs. gs ∷ givens st.older) (sym (end_gives s h st open_still nothing told p rest next whole Dropping DropResult refl refl hd.at.1 hd.at.0 hd hd.tie status e)))
         (λ m made. (made, reading_after s.context.spot (deprecates_eof s.context.terms.kept) (kinds.End status) hd.at.1)) (λ m t. t)))
+    dropping_keeps (kinds.Prepared params columns) e b = drop_head (kinds.Prepared params columns) e refl refl refl
+    dropping_keeps kinds.Parameter e b = drop_head kinds.Parameter e refl refl refl
+    dropping_keeps kinds.Field e b = drop_head kinds.Field e refl refl refl
     dropping_keeps kinds.Bad e b = cc
 
   -- a stream that takes the next set
   module _ (told : s.untold ≡ false) (task : s.task ≡ Taking) (hd : HeardAs Taking) where
-    take_head : (k : Kind) → kind_there s.context p ≡ k → is_part k ≡ true → is_bad k ≡ false → not_greets k ≡ true → Stands (with_task (after k) Taking false) h
+    take_head : (k : Kind) → kind_there s.context s.facts.columns p ≡ k → is_part k ≡ true → is_bad k ≡ false → not_greets k ≡ true → Stands (with_task (after k) Taking false) h
     take_head k e part good quiet = heads s h st open_still nothing told p rest next whole Taking TakeSet refl refl hd.at.1 hd.at.0 hd hd.tie k e part good quiet refl
         (hd.at.0, reading_after s.context.spot (deprecates_eof s.context.terms.kept) k hd.at.1)
         (tied_on s h st open_still nothing told p rest next whole Taking TakeSet refl refl hd.at.1 hd.at.0 hd hd.tie k h.calls (tied_now s h st open_still nothing told p rest next whole Taking TakeSet refl refl hd.at.1 hd.at.0 hd hd.tie))
 
-    taking_keeps : (k : Kind) → kind_there s.context p ≡ k → is_breaking (react_taking k) ≡ false → Keeps (reacted s (after k) p (react_taking k)) h
+    taking_keeps : (k : Kind) → kind_there s.context s.facts.columns p ≡ k → is_breaking (react_taking k) ≡ false → Keeps (reacted s (after k) p (react_taking k)) h
     taking_keeps (kinds.Greets n) e b = cc
     taking_keeps (kinds.Good status) e b = taken_stands (with_task (after (kinds.Good status)) Nothing true) (answered h ToldReady)
         (answered_stands (with_task (after (kinds.Good status)) Nothing true) h calls.TakeSet ToldReady hd.pending_is
@@ -265,6 +284,9 @@ module _ (s : Seen) (h : History) (st : Stands s h) (open_still : s.closed ≡ f
     taking_keeps kinds.ColumnsDone e b = take_head kinds.ColumnsDone e refl refl refl
     taking_keeps kinds.Row e b = cc
     taking_keeps (kinds.End status) e b = cc
+    taking_keeps (kinds.Prepared params columns) e b = take_head (kinds.Prepared params columns) e refl refl refl
+    taking_keeps kinds.Parameter e b = take_head kinds.Parameter e refl refl refl
+    taking_keeps kinds.Field e b = take_head kinds.Field e refl refl refl
     taking_keeps kinds.Bad e b = cc
 
   -- a passing over the rest of a set
@@ -275,28 +297,31 @@ module _ (s : Seen) (h : History) (st : Stands s h) (open_still : s.closed ≡ f
     reads_still : is_reading s.context.spot ≡ true
     reads_still = settled_reads s.context.spot hd.at.1
 
-    skip : (x : Option RowParts) → kind_there s.context p ≡ kinds.Row → row_at s.facts.columns p ≡ x → Keeps (passed s (after kinds.Row) x) h
+    skip : (x : Option RowParts) → kind_there s.context s.facts.columns p ≡ kinds.Row → row_at s.context.rows s.facts.columns p ≡ x → Keeps (passed s (after kinds.Row) x) h
     skip None e is = invalid
     skip (Some row) e is = skips_on kinds.Row (noted h (ToldRow row)) (noted_stands (with_task (after kinds.Row) Skipping false) h calls.SkipTaken (ToldRow row) hd.pending_is
         (shows s h st open_still nothing told p rest next whole Skipping SkipTaken refl refl reads_still hd.at.0 hd hd.tie Skipping kinds.Row (ToldRow row) e refl refl refl refl refl refl refl hd.at.0
         (ap (λ gs. gs ∷ givens st.older) (sym (row_gives s h st open_still nothing told p rest next whole Skipping SkipTaken refl refl reads_still hd.at.0 hd hd.tie row e is)))
         (λ m made. (made, row_rests e)) (λ m t. t)))
 
-    skipping_keeps : (k : Kind) → kind_there s.context p ≡ k → is_breaking (react_skipping k) ≡ false → Keeps (reacted s (after k) p (react_skipping k)) h
+    skipping_keeps : (k : Kind) → kind_there s.context s.facts.columns p ≡ k → is_breaking (react_skipping k) ≡ false → Keeps (reacted s (after k) p (react_skipping k)) h
     skipping_keeps (kinds.Greets n) e b = cc
     skipping_keeps (kinds.Good status) e b = cc
     skipping_keeps kinds.Failed e b = refuse Skipping SkipTaken (err_at (is_greeting s.context.spot) p) refl hd e refl (ap is_connecting task) refl hd.at.0 (tied_after kinds.Failed SkipTaken (settled_not_greeting s.context.spot reads_still) hd.tie)
     skipping_keeps (kinds.Count n) e b = cc
     skipping_keeps kinds.Column e b = cc
     skipping_keeps kinds.ColumnsDone e b = cc
-    skipping_keeps kinds.Row e b = skip (row_at s.facts.columns p) e refl
+    skipping_keeps kinds.Row e b = skip (row_at s.context.rows s.facts.columns p) e refl
     skipping_keeps (kinds.End status) e b = skips_on (kinds.End status) (noted h ToldEnd) (noted_stands (with_task (after (kinds.End status)) Skipping false) h calls.SkipTaken ToldEnd hd.pending_is
         (shows s h st open_still nothing told p rest next whole Skipping SkipTaken refl refl reads_still hd.at.0 hd hd.tie Skipping (kinds.End status) ToldEnd e refl refl refl refl refl refl refl hd.at.0
         (ap (λ gs. gs ∷ givens st.older) (sym (end_gives s h st open_still nothing told p rest next whole Skipping SkipTaken refl refl reads_still hd.at.0 hd hd.tie status e)))
         (λ m made. (made, end_rests status e)) (λ m t. t)))
+    skipping_keeps (kinds.Prepared params columns) e b = cc
+    skipping_keeps kinds.Parameter e b = cc
+    skipping_keeps kinds.Field e b = cc
     skipping_keeps kinds.Bad e b = cc
 
-  pub react_keeps : (t : Task) → s.task ≡ t → HeardAs t → (is_reader t ≡ true → s.untold ≡ false) → (k : Kind) → kind_there s.context p ≡ k → is_breaking (react t k) ≡ false → Keeps (reacted s (after k) p (react t k)) h
+  pub react_keeps : (t : Task) → s.task ≡ t → HeardAs t → (is_reader t ≡ true → s.untold ≡ false) → (k : Kind) → kind_there s.context s.facts.columns p ≡ k → is_breaking (react t k) ≡ false → Keeps (reacted s (after k) p (react t k)) h
   react_keeps Nothing task hd told k e b = cc
   react_keeps (Begun c) task hd told k e b = cc
   react_keeps (Cleaning c) task hd told k e b = cleaning_keeps c k hd (ap is_connecting task) e b

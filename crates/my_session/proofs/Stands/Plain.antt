@@ -307,6 +307,11 @@ settled_by spots.Further e a = cc
 settled_by (spots.Columns left) e a = cc
 settled_by spots.ColumnsEnd e a = cc
 settled_by spots.Rows e a = refl
+settled_by spots.Prepare e a = cc
+settled_by (spots.Parameters left columns) e a = cc
+settled_by (spots.ParametersEnd columns) e a = cc
+settled_by (spots.Fields left) e a = cc
+settled_by spots.FieldsEnd e a = cc
 
 rest_as : (spot : Spot) (connected : Bool) → connected ≡ true → is_settled spot ≡ true → cond connected (is_settled spot) (is_greeting spot) ≡ true
 rest_as spot connected e f = subst (λ b. cond b (is_settled spot) (is_greeting spot) ≡ true) (sym e) f

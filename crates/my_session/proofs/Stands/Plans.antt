@@ -11,7 +11,7 @@ use Rattle.my_grammar.specs.Kinds.{kind_there}
 use Rattle.my_grammar.specs.Sets.{context_in, Sets, NoSets, Lone, Failed, Heading, Headed, Ended, Broken as BrokenSet, Begun as BegunSet}
 use Rattle.my_grammar.specs.declared.spot.Context.{Context}
 use Rattle.my_grammar.specs.declared.spot.Terms.{Terms}
-use Rattle.my_grammar.specs.Talk.{Talk, Start, Unwelcome, Greeted, Settled, Asked, Replied, Queried, Silent, context_of}
+use Rattle.my_grammar.specs.Talk.{Talk, Start, Unwelcome, Greeted, Settled, Asked, Replied, Queried, Preparing, Silent, context_of}
 use Rattle.my_reading.specs.declared.call.Call.TheVariants as calls
 use Rattle.my_reading.specs.declared.call.CallKind.{CallKind}
 use Rattle.my_reading.specs.declared.call.CallKind.TheVariants.{Connect, Query, NextRow, DropResult, TakeSet, SkipTaken, Ping, Quit}
@@ -46,7 +46,7 @@ use Rattle.my_session.proofs.Stands.Views.{given_all}
 
 -- the end of a lone OK is all that wasn't given
 lone_groups : (x : Sets) → is_lone x ≡ true → with_stop (groups (known_part true x)) ≡ groups x
-lone_groups NoSets e = cc
+lone_groups (NoSets asking) e = cc
 lone_groups (Lone older p status) e = refl
 lone_groups (Failed older p) e = cc
 lone_groups (Heading older head left) e = cc
@@ -60,7 +60,7 @@ lone_if true = refl
 lone_if false = refl
 
 lone_sets : (terms : Terms) (x : Sets) → is_lone x ≡ true → is_settled (context_in terms x).spot ≡ true
-lone_sets terms NoSets e = cc
+lone_sets terms (NoSets asking) e = cc
 lone_sets terms (Lone older p status) e = lone_if (has_more_results status)
 lone_sets terms (Failed older p) e = cc
 lone_sets terms (Heading older head left) e = cc
@@ -77,6 +77,7 @@ lone_settled (Settled login q c last kind) e = cc
 lone_settled (Asked terms c) e = cc
 lone_settled (Replied terms c last kind) e = cc
 lone_settled (Queried terms c x) e = lone_sets terms x e
+lone_settled (Preparing terms c reply) e = cc
 lone_settled (Silent terms c) e = cc
 
 link_closes : (fault : LinkFault) (place : ℕ) (c : CallKind) → closes_by (link_error fault place) c ≡ true
@@ -100,14 +101,14 @@ module _ (s : Seen) (h : History) (st : Stands s h) (open_still : s.closed ≡ f
   by_length None m k = k
   by_length (Some len) m k = fails (codec_error _) (λ c. refl)
 
-  by_kind : (p rest : List ℕ) (n : ℕ) → IsWhole s.number s.context.terms.limit s.unread p rest n → (is_reader s.task ≡ true → s.untold ≡ false) → (k : Kind) → kind_there s.context p ≡ k → (breaks : Bool) → is_breaking (react s.task k) ≡ breaks → Keeps (cond breaks (failed_by s (invalid_data s.facts.place)) (read_by s (advanced s k p rest n) p (react s.task k) (reply_to s.login k p))) h
+  by_kind : (p rest : List ℕ) (n : ℕ) → IsWhole s.number s.context.terms.limit s.unread p rest n → (is_reader s.task ≡ true → s.untold ≡ false) → (k : Kind) → kind_there s.context s.facts.columns p ≡ k → (breaks : Bool) → is_breaking (react s.task k) ≡ breaks → Keeps (cond breaks (failed_by s (invalid_data s.facts.place)) (read_by s (advanced s k p rest n) p (react s.task k) (reply_to s.login k p))) h
   by_kind p rest n whole told k e true b = fails (invalid_data s.facts.place) (λ c. refl)
   by_kind p rest n whole told k e false b = by_length (above s.context.terms.limit (reply_to s.login k p)) (reacted s (advanced s k p rest n) p (react s.task k)) (react_keeps s h st open_still nothing op p rest n whole s.task refl st.heard told k e b)
 
   by_front : AreBytes s.unread → (is_reader s.task ≡ true → s.untold ≡ false) → (f : Front) → front_at s.number s.context.terms.limit s.unread ≡ f → Keeps (reading s f) h
   by_front bytes told Waiting e = waits s.ended
   by_front bytes told (Broken fault) e = fails (codec_error fault) (λ c. refl)
-  by_front bytes told (Whole p rest n) e = by_kind p rest n (whole_stands s.number s.context.terms.limit s.unread p rest n bytes e) told (kind_there s.context p) refl (is_breaking (react s.task (kind_there s.context p))) refl
+  by_front bytes told (Whole p rest n) e = by_kind p rest n (whole_stands s.number s.context.terms.limit s.unread p rest n bytes e) told (kind_there s.context s.facts.columns p) refl (is_breaking (react s.task (kind_there s.context s.facts.columns p))) refl
 
   reads : AreBytes s.unread → (is_reader s.task ≡ true → s.untold ≡ false) → Keeps (planned s plans.Reads) h
   reads bytes told = by_front bytes told (front_at s.number s.context.terms.limit s.unread) refl
@@ -184,6 +185,11 @@ module _ (s : Seen) (h : History) (st : Stands s h) (open_still : s.closed ≡ f
   cleans bytes t task off lost p go (spots.Columns left) at untold e = reads bytes (not_reader t task off)
   cleans bytes t task off lost p go spots.ColumnsEnd at untold e = reads bytes (not_reader t task off)
   cleans bytes t task off lost p go spots.Rows at untold e = reads bytes (not_reader t task off)
+  cleans bytes t task off lost p go spots.Prepare at untold e = reads bytes (not_reader t task off)
+  cleans bytes t task off lost p go (spots.Parameters left columns) at untold e = reads bytes (not_reader t task off)
+  cleans bytes t task off lost p go (spots.ParametersEnd columns) at untold e = reads bytes (not_reader t task off)
+  cleans bytes t task off lost p go (spots.Fields left) at untold e = reads bytes (not_reader t task off)
+  cleans bytes t task off lost p go spots.FieldsEnd at untold e = reads bytes (not_reader t task off)
 
   rest_at : has_connected h.calls ≡ true → is_settled s.context.spot ≡ true → s.closed ≡ false → cond (has_connected h.calls) (is_settled s.context.spot) (is_greeting s.context.spot) ≡ true
   rest_at made e _ = subst (λ b. cond b (is_settled s.context.spot) (is_greeting s.context.spot) ≡ true) (sym made) e
@@ -222,6 +228,11 @@ module _ (s : Seen) (h : History) (st : Stands s h) (open_still : s.closed ≡ f
   queries bytes task hd (spots.Columns left) at = reads bytes (not_reader (Own Query) task refl)
   queries bytes task hd spots.ColumnsEnd at = reads bytes (not_reader (Own Query) task refl)
   queries bytes task hd spots.Rows at = readied hd at
+  queries bytes task hd spots.Prepare at = reads bytes (not_reader (Own Query) task refl)
+  queries bytes task hd (spots.Parameters left columns) at = reads bytes (not_reader (Own Query) task refl)
+  queries bytes task hd (spots.ParametersEnd columns) at = reads bytes (not_reader (Own Query) task refl)
+  queries bytes task hd (spots.Fields left) at = reads bytes (not_reader (Own Query) task refl)
+  queries bytes task hd spots.FieldsEnd at = reads bytes (not_reader (Own Query) task refl)
 
   owns : AreBytes s.unread → (c : CallKind) → s.task ≡ Own c → HeardAs (Own c) → Keeps (planned s (own_plan c s.context.spot)) h
   owns bytes Connect task hd = reads bytes (not_reader (Own Connect) task refl)
@@ -298,6 +309,11 @@ module _ (s : Seen) (h : History) (st : Stands s h) (open_still : s.closed ≡ f
   reads_rest bytes task hd told (spots.Columns left) at = reads bytes (λ _. told)
   reads_rest bytes task hd told spots.ColumnsEnd at = reads bytes (λ _. told)
   reads_rest bytes task hd told spots.Rows at = reads bytes (λ _. told)
+  reads_rest bytes task hd told spots.Prepare at = reads bytes (λ _. told)
+  reads_rest bytes task hd told (spots.Parameters left columns) at = reads bytes (λ _. told)
+  reads_rest bytes task hd told (spots.ParametersEnd columns) at = reads bytes (λ _. told)
+  reads_rest bytes task hd told (spots.Fields left) at = reads bytes (λ _. told)
+  reads_rest bytes task hd told spots.FieldsEnd at = reads bytes (λ _. told)
 
   drops_rest : AreBytes s.unread → s.task ≡ Dropping → HeardAs Dropping → s.untold ≡ false → (spot : Spot) → s.context.spot ≡ spot → Keeps (planned s (drop_plan spot)) h
   drops_rest bytes task hd told spots.Idle at = quiet Dropping DropResult ToldReady hd refl refl refl refl refl refl refl hd.at.0 (ap is_settled at) hd.tie
@@ -309,6 +325,11 @@ module _ (s : Seen) (h : History) (st : Stands s h) (open_still : s.closed ≡ f
   drops_rest bytes task hd told (spots.Columns left) at = reads bytes (λ _. told)
   drops_rest bytes task hd told spots.ColumnsEnd at = reads bytes (λ _. told)
   drops_rest bytes task hd told spots.Rows at = reads bytes (λ _. told)
+  drops_rest bytes task hd told spots.Prepare at = reads bytes (λ _. told)
+  drops_rest bytes task hd told (spots.Parameters left columns) at = reads bytes (λ _. told)
+  drops_rest bytes task hd told (spots.ParametersEnd columns) at = reads bytes (λ _. told)
+  drops_rest bytes task hd told (spots.Fields left) at = reads bytes (λ _. told)
+  drops_rest bytes task hd told spots.FieldsEnd at = reads bytes (λ _. told)
 
   -- a stream takes what is there
   takes : HeardAs Taking → is_settled s.context.spot ≡ true → Keeps (planned s plans.Takes) h
@@ -324,6 +345,11 @@ module _ (s : Seen) (h : History) (st : Stands s h) (open_still : s.closed ≡ f
   takes_rest bytes task hd told (spots.Columns left) at = reads bytes (λ _. told)
   takes_rest bytes task hd told spots.ColumnsEnd at = reads bytes (λ _. told)
   takes_rest bytes task hd told spots.Rows at = takes hd (ap is_settled at)
+  takes_rest bytes task hd told spots.Prepare at = reads bytes (λ _. told)
+  takes_rest bytes task hd told (spots.Parameters left columns) at = reads bytes (λ _. told)
+  takes_rest bytes task hd told (spots.ParametersEnd columns) at = reads bytes (λ _. told)
+  takes_rest bytes task hd told (spots.Fields left) at = reads bytes (λ _. told)
+  takes_rest bytes task hd told spots.FieldsEnd at = reads bytes (λ _. told)
 
   skips_rest : AreBytes s.unread → s.task ≡ Skipping → HeardAs Skipping → s.untold ≡ false → (spot : Spot) → s.context.spot ≡ spot → Keeps (planned s (skip_plan spot)) h
   skips_rest bytes task hd told spots.Idle at = quiet Skipping SkipTaken ToldReady hd refl refl refl refl refl refl refl hd.at.0 hd.at.1 hd.tie
@@ -335,6 +361,11 @@ module _ (s : Seen) (h : History) (st : Stands s h) (open_still : s.closed ≡ f
   skips_rest bytes task hd told (spots.Columns left) at = quiet Skipping SkipTaken ToldReady hd refl refl refl refl refl refl refl hd.at.0 hd.at.1 hd.tie
   skips_rest bytes task hd told spots.ColumnsEnd at = quiet Skipping SkipTaken ToldReady hd refl refl refl refl refl refl refl hd.at.0 hd.at.1 hd.tie
   skips_rest bytes task hd told spots.Rows at = reads bytes (λ _. told)
+  skips_rest bytes task hd told spots.Prepare at = quiet Skipping SkipTaken ToldReady hd refl refl refl refl refl refl refl hd.at.0 hd.at.1 hd.tie
+  skips_rest bytes task hd told (spots.Parameters left columns) at = quiet Skipping SkipTaken ToldReady hd refl refl refl refl refl refl refl hd.at.0 hd.at.1 hd.tie
+  skips_rest bytes task hd told (spots.ParametersEnd columns) at = quiet Skipping SkipTaken ToldReady hd refl refl refl refl refl refl refl hd.at.0 hd.at.1 hd.tie
+  skips_rest bytes task hd told (spots.Fields left) at = quiet Skipping SkipTaken ToldReady hd refl refl refl refl refl refl refl hd.at.0 hd.at.1 hd.tie
+  skips_rest bytes task hd told spots.FieldsEnd at = quiet Skipping SkipTaken ToldReady hd refl refl refl refl refl refl refl hd.at.0 hd.at.1 hd.tie
 
   reading_plan : AreBytes s.unread → s.task ≡ Reading → HeardAs Reading → (untold : Bool) → s.untold ≡ untold → Keeps (planned s (cond untold plans.Ends (read_plan s.context.spot))) h
   reading_plan bytes task hd true e = answered_stands (with_task s Nothing false) h calls.NextRow ToldEnd hd.pending_is

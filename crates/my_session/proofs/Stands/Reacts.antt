@@ -6,7 +6,7 @@ use Rattle.my_frame.specs.FrontLaws.{IsWhole}
 use Rattle.my_value.specs.RowParts.{RowParts}
 use Rattle.my_grammar.specs.declared.spot.Context.{Context}
 use Rattle.my_grammar.specs.declared.spot.Kind.{Kind}
-use Rattle.my_grammar.specs.declared.spot.Kind.TheVariants.{Greets, Good, Failed, Count, Column, ColumnsDone, Row, End, Bad}
+use Rattle.my_grammar.specs.declared.spot.Kind.TheVariants.{Greets, Good, Failed, Count, Column, ColumnsDone, Row, End, Prepared, Parameter, Field, Bad}
 use Rattle.my_grammar.specs.declared.spot.Spot.{Spot}
 use Rattle.my_grammar.specs.declared.spot.Spot.TheVariants as spots
 use Rattle.my_grammar.specs.Contexts.{is_bad, spot_after}
@@ -95,6 +95,9 @@ part_calm Column e = refl
 part_calm ColumnsDone e = refl
 part_calm Row e = refl
 part_calm (End status) e = refl
+part_calm (Prepared params columns) e = refl
+part_calm Parameter e = refl
+part_calm Field e = refl
 part_calm Bad e = refl
 
 -- after a payload
@@ -108,10 +111,10 @@ module _ (s : Seen) (h : History) (st : Stands s h) (open_still : s.closed ≡ f
   abbrev pub spot_by : Kind → Spot
   spot_by k = spot_after (deprecates_eof s.context.terms.kept) s.context.spot k
 
-  pub knows : (k : Kind) → kind_there s.context p ≡ k → is_known s.context.spot k ≡ true
-  knows k e = known s.context.spot (deprecates_eof s.context.terms.kept) s.context.columns p k e
+  pub knows : (k : Kind) → kind_there s.context s.facts.columns p ≡ k → is_known s.context.spot k ≡ true
+  knows k e = known s.context.spot s.context.rows (deprecates_eof s.context.terms.kept) s.context.columns s.facts.columns p k e
 
-  talk_knows : (k : Kind) → kind_there s.context p ≡ k → is_known (context_of st.newest.talk).spot k ≡ true
+  talk_knows : (k : Kind) → kind_there s.context s.facts.columns p ≡ k → is_known (context_of st.newest.talk).spot k ≡ true
   talk_knows k e = subst (λ (c : Context). is_known c.spot k ≡ true) st.wire.context_is (knows k e)
 
   -- a reading payload that isn't a greeting lets nothing be owed
@@ -119,15 +122,15 @@ module _ (s : Seen) (h : History) (st : Stands s h) (open_still : s.closed ≡ f
   none_owed k g = ap (λ bs. bs ++ reply_bytes (reply_to s.login k p) next) nothing ∙ silent s.login k p next g
 
   -- another payload than a greeting answers what the client said
-  pub answers : (k : Kind) → kind_there s.context p ≡ k → is_bad k ≡ false → not_greets k ≡ true → is_answered (grow k st.newest.talk p) ≡ true
+  pub answers : (k : Kind) → kind_there s.context s.facts.columns p ≡ k → is_bad k ≡ false → not_greets k ≡ true → is_answered (grow k st.newest.talk p) ≡ true
   answers k e good quiet = ap ends_answered (talk_grows s.login h.taken h.sent st.newest.call st.newest.talk st.older s.context s.number s.unread s.owed s.closed s.facts k p rest next e good whole st.wire).packets_are ∙ quiet
 
   -- so a connection that was made stays set up
-  arranged_on : (k : Kind) (g : Option (List Group)) (made : List Made) → kind_there s.context p ≡ k → is_bad k ≡ false → (has_connected made ≡ true → not_greets k ≡ true) → IsArranged s.login made st.newest st.older → IsArranged s.login made (newest_by k g) st.older
+  arranged_on : (k : Kind) (g : Option (List Group)) (made : List Made) → kind_there s.context s.facts.columns p ≡ k → is_bad k ≡ false → (has_connected made ≡ true → not_greets k ≡ true) → IsArranged s.login made st.newest st.older → IsArranged s.login made (newest_by k g) st.older
   arranged_on k g made e good quiet a = λ m. ((a m).0, λ _. answers k e good (quiet m))
 
   -- the wire goes on, and this is what callers got
-  lands : (k : Kind) (u : Task) (untold : Bool) (g : Option (List Group)) (made : List Made) (pending : Option Call) → kind_there s.context p ≡ k → is_bad k ≡ false → Heard u s.text (spot_by k) untold s.closed h.lost made pending (newest_by k g) st.older → IsArranged s.login made (newest_by k g) st.older → (owes u ≡ false → not_greets k ≡ true) → Stands (with_task (advanced s k p rest next) u untold) (record { sent = h.sent; taken = h.taken; calls = made; pending = pending; ended = h.ended; lost = h.lost })
+  lands : (k : Kind) (u : Task) (untold : Bool) (g : Option (List Group)) (made : List Made) (pending : Option Call) → kind_there s.context s.facts.columns p ≡ k → is_bad k ≡ false → Heard u s.text (spot_by k) untold s.closed h.lost made pending (newest_by k g) st.older → IsArranged s.login made (newest_by k g) st.older → (owes u ≡ false → not_greets k ≡ true) → Stands (with_task (advanced s k p rest next) u untold) (record { sent = h.sent; taken = h.taken; calls = made; pending = pending; ended = h.ended; lost = h.lost })
   lands k u untold g made pending e good hd arr quiet = record {
     newest = newest_by k g;
     older = st.older;
@@ -142,7 +145,7 @@ module _ (s : Seen) (h : History) (st : Stands s h) (open_still : s.closed ≡ f
   no_greeting k waits = let stop : true ≡ false = sym waits ∙ not_greeting s.context.spot (deprecates_eof s.context.terms.kept) k in cc
 
   -- the call goes on, and callers are given nothing
-  pub goes : (t u : Task) (k : Kind) → kind_there s.context p ≡ k → is_bad k ≡ false → is_failed k ≡ false → keeps u ≡ false → kind_in u ≡ kind_in t → Heard t s.text s.context.spot s.untold s.closed h.lost h.calls h.pending st.newest st.older → TaskIs u (spot_by k) s.closed (has_connected h.calls) (connecting_in (st.newest ∷ st.older)) (newest_by k st.newest.given) → TieIs u s.text (spot_by k) h.calls st.newest.call st.older → (has_connected h.calls ≡ true → not_greets k ≡ true) → (owes u ≡ false → not_greets k ≡ true) → Stands (with_task (advanced s k p rest next) u false) h
+  pub goes : (t u : Task) (k : Kind) → kind_there s.context s.facts.columns p ≡ k → is_bad k ≡ false → is_failed k ≡ false → keeps u ≡ false → kind_in u ≡ kind_in t → Heard t s.text s.context.spot s.untold s.closed h.lost h.calls h.pending st.newest st.older → TaskIs u (spot_by k) s.closed (has_connected h.calls) (connecting_in (st.newest ∷ st.older)) (newest_by k st.newest.given) → TieIs u s.text (spot_by k) h.calls st.newest.call st.older → (has_connected h.calls ≡ true → not_greets k ≡ true) → (owes u ≡ false → not_greets k ≡ true) → Stands (with_task (advanced s k p rest next) u false) h
   goes t u k e good calm lost same hd at tie greeted quiet = lands k u false st.newest.given h.calls h.pending e good (record {
     pending_is = hd.pending_is ∙ ap (λ c. call_with c s.text) (sym same);
     closed_is = hd.closed_is;
@@ -158,7 +161,7 @@ module _ (s : Seen) (h : History) (st : Stands s h) (open_still : s.closed ≡ f
   }) (arranged_on k st.newest.given h.calls e good greeted st.arranged) quiet
 
   -- a server's error ends the call
-  pub refuses : (t : Task) (c : CallKind) (x : ServerError) → kind_there s.context p ≡ Failed → x ∷ errors_in st.newest.talk ≡ errors_in (grow Failed st.newest.talk p) → kind_in t ≡ Some c → is_connect (kind_of (call_of c s.text)) ≡ false → has_connected h.calls ≡ true → Heard t s.text s.context.spot s.untold s.closed h.lost h.calls h.pending st.newest st.older → IsTied (record { call = call_of c s.text; what = ToldError (errors.Server x) } ∷ h.calls) (begun_of (spot_by Failed) st.newest.call st.older) → Stands (with_task (advanced s Failed p rest next) tasks.Nothing false) (answered h (ToldError (errors.Server x)))
+  pub refuses : (t : Task) (c : CallKind) (x : ServerError) → kind_there s.context s.facts.columns p ≡ Failed → x ∷ errors_in st.newest.talk ≡ errors_in (grow Failed st.newest.talk p) → kind_in t ≡ Some c → is_connect (kind_of (call_of c s.text)) ≡ false → has_connected h.calls ≡ true → Heard t s.text s.context.spot s.untold s.closed h.lost h.calls h.pending st.newest st.older → IsTied (record { call = call_of c s.text; what = ToldError (errors.Server x) } ∷ h.calls) (begun_of (spot_by Failed) st.newest.call st.older) → Stands (with_task (advanced s Failed p rest next) tasks.Nothing false) (answered h (ToldError (errors.Server x)))
   refuses t c x e blame call not made hd tie =
       let idle : spot_by Failed ≡ spots.Idle = failed_idle s.context.spot (deprecates_eof s.context.terms.kept) (knows Failed e) in
       answered_stands _ h (call_of c s.text) (ToldError (errors.Server x)) (hd.pending_is ∙ ap (λ k. call_with k s.text) call) (lands Failed tasks.Nothing false st.newest.given _ None e refl (record {
@@ -176,7 +179,7 @@ module _ (s : Seen) (h : History) (st : Stands s h) (open_still : s.closed ≡ f
       }) (arranged_on Failed st.newest.given (record { call = call_of c s.text; what = ToldError (errors.Server x) } ∷ h.calls) e refl (λ _. refl) (arranged_more s.login (record { call = call_of c s.text; what = ToldError (errors.Server x) }) h.calls st.newest st.older refl st.arranged)) (λ _. refl))
 
   -- while it isn't connected, it closes the session
-  pub refuses_connect : (t : Task) (x : ServerError) → kind_there s.context p ≡ Failed → x ∷ errors_in st.newest.talk ≡ errors_in (grow Failed st.newest.talk p) → kind_in t ≡ Some Connect → Heard t s.text s.context.spot s.untold s.closed h.lost h.calls h.pending st.newest st.older → IsTied (record { call = call_of Connect s.text; what = ToldError (errors.Server x) } ∷ h.calls) (begun_of (spot_by Failed) st.newest.call st.older) → Stands (fell (advanced s Failed p rest next)) (answered h (ToldError (errors.Server x)))
+  pub refuses_connect : (t : Task) (x : ServerError) → kind_there s.context s.facts.columns p ≡ Failed → x ∷ errors_in st.newest.talk ≡ errors_in (grow Failed st.newest.talk p) → kind_in t ≡ Some Connect → Heard t s.text s.context.spot s.untold s.closed h.lost h.calls h.pending st.newest st.older → IsTied (record { call = call_of Connect s.text; what = ToldError (errors.Server x) } ∷ h.calls) (begun_of (spot_by Failed) st.newest.call st.older) → Stands (fell (advanced s Failed p rest next)) (answered h (ToldError (errors.Server x)))
   refuses_connect t x e blame call hd tie = answered_stands (fell (advanced s Failed p rest next)) h (call_of Connect s.text) (ToldError (errors.Server x)) (hd.pending_is ∙ ap (λ k. call_with k s.text) call) (record {
     newest = newest_by Failed st.newest.given;
     older = st.older;
@@ -200,7 +203,7 @@ module _ (s : Seen) (h : History) (st : Stands s h) (open_still : s.closed ≡ f
   })
 
   -- a ping is answered: callers are given nothing
-  pub pongs : (status : StatusFlags) → kind_there s.context p ≡ Good status → Heard (tasks.Own Ping) s.text s.context.spot s.untold s.closed h.lost h.calls h.pending st.newest st.older → Stands (with_task (advanced s (Good status) p rest next) tasks.Nothing false) (answered h ToldReady)
+  pub pongs : (status : StatusFlags) → kind_there s.context s.facts.columns p ≡ Good status → Heard (tasks.Own Ping) s.text s.context.spot s.untold s.closed h.lost h.calls h.pending st.newest st.older → Stands (with_task (advanced s (Good status) p rest next) tasks.Nothing false) (answered h ToldReady)
   pongs status e hd =
       let idle : spot_by (Good status) ≡ spots.Idle = ap (λ (x : Spot). spot_after (deprecates_eof s.context.terms.kept) x (Good status)) hd.at.1 in
       answered_stands _ h (call_of Ping s.text) ToldReady hd.pending_is (lands (Good status) tasks.Nothing false st.newest.given _ None e refl (record {
@@ -221,7 +224,7 @@ module _ (s : Seen) (h : History) (st : Stands s h) (open_still : s.closed ≡ f
   is_query hd = query_talk s.login (terms_by s.login st.older) (connecting_in st.older) s.text st.newest.talk (subst (λ (c : Call). opening s.login (terms_by s.login st.older) c (connecting_in st.older) ≡ Some (origin st.newest.talk)) hd.tie.0 st.wire.table.0)
 
   -- a query is answered by a lone OK, whose end is left to be returned
-  pub readies : (status : StatusFlags) → kind_there s.context p ≡ Good status → Heard (tasks.Own Query) s.text s.context.spot s.untold s.closed h.lost h.calls h.pending st.newest st.older → Stands (with_task (advanced s (Good status) p rest next) tasks.Nothing true) (answered h ToldReady)
+  pub readies : (status : StatusFlags) → kind_there s.context s.facts.columns p ≡ Good status → Heard (tasks.Own Query) s.text s.context.spot s.untold s.closed h.lost h.calls h.pending st.newest st.older → Stands (with_task (advanced s (Good status) p rest next) tasks.Nothing true) (answered h ToldReady)
   readies status e hd =
       let queried = is_query hd in
       let ready : IsReady status st.newest.talk p = ready_on status st.newest.talk p queried hd.at.2 (talk_knows (Good status) e) in
@@ -242,7 +245,7 @@ module _ (s : Seen) (h : History) (st : Stands s h) (open_still : s.closed ≡ f
       }) (arranged_on (Good status) (Some []) (record { call = call_of Query s.text; what = ToldReady } ∷ h.calls) e refl (λ _. refl) (arranged_more s.login (record { call = call_of Query s.text; what = ToldReady }) h.calls st.newest st.older refl st.arranged)) (λ _. refl))
 
   -- a part of the first head of a query's answer
-  pub first_parts : (k : Kind) → kind_there s.context p ≡ k → is_part k ≡ true → is_bad k ≡ false → not_greets k ≡ true → Heard (tasks.Own Query) s.text s.context.spot s.untold s.closed h.lost h.calls h.pending st.newest st.older → Stands (with_task (advanced s k p rest next) (tasks.Own Query) false) h
+  pub first_parts : (k : Kind) → kind_there s.context s.facts.columns p ≡ k → is_part k ≡ true → is_bad k ≡ false → not_greets k ≡ true → Heard (tasks.Own Query) s.text s.context.spot s.untold s.closed h.lost h.calls h.pending st.newest st.older → Stands (with_task (advanced s k p rest next) (tasks.Own Query) false) h
   first_parts k e part good quiet hd =
       let queried = is_query hd in
       goes (tasks.Own Query) (tasks.Own Query) k e good (part_calm k part) refl refl hd (hd.at.0, hd.at.1, first_on k st.newest.talk p queried hd.at.2 (talk_knows k e) part) hd.tie (λ _. quiet) (λ _. quiet)
@@ -256,7 +259,7 @@ module _ (s : Seen) (h : History) (st : Stands s h) (open_still : s.closed ≡ f
   given_now : is_left s.context.spot ≡ true → given h.calls ≡ groups (sets_of st.newest.talk) ∷ givens st.older
   given_now left = hd.given_is ∙ ap (λ o. onto o (givens st.older)) (fresh_now left)
 
-  is_left_now : (k : Kind) → kind_there s.context p ≡ k → is_bad k ≡ false → is_left s.context.spot ≡ true
+  is_left_now : (k : Kind) → kind_there s.context s.facts.columns p ≡ k → is_bad k ≡ false → is_left s.context.spot ≡ true
   is_left_now k e good = left_here s.context.spot k reads (knows s h st open_still nothing p rest next whole k e) good
 
   pub reads_on : (k : Kind) → is_reading (spot_by s h st open_still nothing p rest next whole k) ≡ true
@@ -270,7 +273,7 @@ module _ (s : Seen) (h : History) (st : Stands s h) (open_still : s.closed ≡ f
   tied_now = all_begun s.context.spot h.calls st.newest.call st.older (settled_not_greeting s.context.spot reads) tied
 
   -- an item or an end is returned, or passed over
-  pub shows : (u : Task) (k : Kind) (w : Told) → kind_there s.context p ≡ k → is_bad k ≡ false → owes u ≡ false → not_greets k ≡ true → closes w (kind_of (call_of c s.text)) ≡ false → may_lack w (kind_of (call_of c s.text)) ≡ true → is_failed k ≡ false → with_told w (errors_told h.calls) ≡ errors_told h.calls → connects w (kind_of (call_of c s.text)) || has_connected h.calls ≡ true → given_after w (kind_of (call_of c s.text)) (groups (sets_of st.newest.talk) ∷ givens st.older) ≡ groups (sets_of (grow k st.newest.talk p)) ∷ givens st.older → ((m : List Made) → has_connected m ≡ true → TaskIs u (spot_by s h st open_still nothing p rest next whole k) s.closed (has_connected m) (connecting_in (st.newest ∷ st.older)) (newest_by s h st open_still nothing p rest next whole k (Some (groups (sets_of (grow k st.newest.talk p)))))) → ((m : List Made) → IsTied m (begun_of (spot_by s h st open_still nothing p rest next whole k) st.newest.call st.older) → TieIs u s.text (spot_by s h st open_still nothing p rest next whole k) m st.newest.call st.older) → Stands (with_task (advanced s k p rest next) u false) (record { sent = h.sent; taken = h.taken; calls = record { call = call_of c s.text; what = w } ∷ h.calls; pending = call_with (kind_in u) s.text; ended = h.ended; lost = h.lost })
+  pub shows : (u : Task) (k : Kind) (w : Told) → kind_there s.context s.facts.columns p ≡ k → is_bad k ≡ false → owes u ≡ false → not_greets k ≡ true → closes w (kind_of (call_of c s.text)) ≡ false → may_lack w (kind_of (call_of c s.text)) ≡ true → is_failed k ≡ false → with_told w (errors_told h.calls) ≡ errors_told h.calls → connects w (kind_of (call_of c s.text)) || has_connected h.calls ≡ true → given_after w (kind_of (call_of c s.text)) (groups (sets_of st.newest.talk) ∷ givens st.older) ≡ groups (sets_of (grow k st.newest.talk p)) ∷ givens st.older → ((m : List Made) → has_connected m ≡ true → TaskIs u (spot_by s h st open_still nothing p rest next whole k) s.closed (has_connected m) (connecting_in (st.newest ∷ st.older)) (newest_by s h st open_still nothing p rest next whole k (Some (groups (sets_of (grow k st.newest.talk p)))))) → ((m : List Made) → IsTied m (begun_of (spot_by s h st open_still nothing p rest next whole k) st.newest.call st.older) → TieIs u s.text (spot_by s h st open_still nothing p rest next whole k) m st.newest.call st.older) → Stands (with_task (advanced s k p rest next) u false) (record { sent = h.sent; taken = h.taken; calls = record { call = call_of c s.text; what = w } ∷ h.calls; pending = call_with (kind_in u) s.text; ended = h.ended; lost = h.lost })
   shows u k w e good owe quiet still lack calm silent con gave at tie = lands s h st open_still nothing p rest next whole k u false (Some (groups (sets_of (grow k st.newest.talk p)))) _ (call_with (kind_in u) s.text) e good (record {
     pending_is = refl;
     closed_is = hd.closed_is ∙ ap (λ b. (b || has_closed h.calls) || h.lost) (sym still);
@@ -286,7 +289,7 @@ module _ (s : Seen) (h : History) (st : Stands s h) (open_still : s.closed ≡ f
   }) (arranged_on s h st open_still nothing p rest next whole k (Some (groups (sets_of (grow k st.newest.talk p)))) (record { call = call_of c s.text; what = w } ∷ h.calls) e good (λ _. quiet) (λ _. st.arranged made)) (λ _. quiet)
 
   -- a part of the head of a further set
-  pub heads : (k : Kind) → kind_there s.context p ≡ k → is_part k ≡ true → is_bad k ≡ false → not_greets k ≡ true → owes t ≡ false → TaskIs t (spot_by s h st open_still nothing p rest next whole k) s.closed (has_connected h.calls) (connecting_in (st.newest ∷ st.older)) (newest_by s h st open_still nothing p rest next whole k st.newest.given) → TieIs t s.text (spot_by s h st open_still nothing p rest next whole k) h.calls st.newest.call st.older → Stands (with_task (advanced s k p rest next) t false) h
+  pub heads : (k : Kind) → kind_there s.context s.facts.columns p ≡ k → is_part k ≡ true → is_bad k ≡ false → not_greets k ≡ true → owes t ≡ false → TaskIs t (spot_by s h st open_still nothing p rest next whole k) s.closed (has_connected h.calls) (connecting_in (st.newest ∷ st.older)) (newest_by s h st open_still nothing p rest next whole k st.newest.given) → TieIs t s.text (spot_by s h st open_still nothing p rest next whole k) h.calls st.newest.call st.older → Stands (with_task (advanced s k p rest next) t false) h
   heads k e part good quiet owe at tie = lands s h st open_still nothing p rest next whole k t false st.newest.given h.calls h.pending e good (record {
     pending_is = hd.pending_is;
     closed_is = hd.closed_is;
@@ -304,17 +307,17 @@ module _ (s : Seen) (h : History) (st : Stands s h) (open_still : s.closed ≡ f
   talk_spot : (x : Spot) → s.context.spot ≡ x → (context_of st.newest.talk).spot ≡ x
   talk_spot x e = sym (ap (λ (y : Context). y.spot) st.wire.context_is) ∙ e
 
-  pub row_gives : (row : RowParts) → kind_there s.context p ≡ Row → row_at s.facts.columns p ≡ Some row → groups (sets_of (grow Row st.newest.talk p)) ≡ with_item row (groups (sets_of st.newest.talk))
-  row_gives row e is = row_groups st.newest.talk (facts_of s.login st.older) p row st.wire.fits (talk_spot spots.Rows (row_spot s.context.spot (knows s h st open_still nothing p rest next whole Row e))) (ap (λ (f : Facts). row_at f.columns p) (sym st.wire.facts_are) ∙ is)
+  pub row_gives : (row : RowParts) → kind_there s.context s.facts.columns p ≡ Row → row_at s.context.rows s.facts.columns p ≡ Some row → groups (sets_of (grow Row st.newest.talk p)) ≡ with_item row (groups (sets_of st.newest.talk))
+  row_gives row e is = row_groups st.newest.talk (facts_of s.login st.older) p row st.wire.fits (talk_spot spots.Rows (row_spot s.context.spot (knows s h st open_still nothing p rest next whole Row e))) (ap (λ (f : Facts). row_at (context_of st.newest.talk).rows f.columns p) (sym st.wire.facts_are) ∙ ap (λ (c : Context). row_at c.rows s.facts.columns p) (sym st.wire.context_is) ∙ is)
 
-  pub end_gives : (status : StatusFlags) → kind_there s.context p ≡ End status → groups (sets_of (grow (End status) st.newest.talk p)) ≡ with_stop (groups (sets_of st.newest.talk))
+  pub end_gives : (status : StatusFlags) → kind_there s.context s.facts.columns p ≡ End status → groups (sets_of (grow (End status) st.newest.talk p)) ≡ with_stop (groups (sets_of st.newest.talk))
   end_gives status e = end_groups st.newest.talk p status (talk_spot spots.Rows (end_spot s.context.spot status (knows s h st open_still nothing p rest next whole (End status) e)))
 
-  pub good_gives : (status : StatusFlags) → kind_there s.context p ≡ Good status → groups (sets_of (grow (Good status) st.newest.talk p)) ≡ with_stop (groups (sets_of st.newest.talk))
+  pub good_gives : (status : StatusFlags) → kind_there s.context s.facts.columns p ≡ Good status → groups (sets_of (grow (Good status) st.newest.talk p)) ≡ with_stop (groups (sets_of st.newest.talk))
   good_gives status e = good_groups st.newest.talk p status (talk_spot spots.Further (good_spot s.context.spot status reads (knows s h st open_still nothing p rest next whole (Good status) e)))
 
   -- a stream takes a lone OK, whose end is left to be returned
-  pub left_lone : (status : StatusFlags) → kind_there s.context p ≡ Good status → closes ToldReady (kind_of (call_of c s.text)) ≡ false → may_lack ToldReady (kind_of (call_of c s.text)) ≡ true → connects ToldReady (kind_of (call_of c s.text)) ≡ false → given_after ToldReady (kind_of (call_of c s.text)) (given h.calls) ≡ given h.calls → Stands (with_task (advanced s (Good status) p rest next) tasks.Nothing true) (record { sent = h.sent; taken = h.taken; calls = record { call = call_of c s.text; what = ToldReady } ∷ h.calls; pending = None; ended = h.ended; lost = h.lost })
+  pub left_lone : (status : StatusFlags) → kind_there s.context s.facts.columns p ≡ Good status → closes ToldReady (kind_of (call_of c s.text)) ≡ false → may_lack ToldReady (kind_of (call_of c s.text)) ≡ true → connects ToldReady (kind_of (call_of c s.text)) ≡ false → given_after ToldReady (kind_of (call_of c s.text)) (given h.calls) ≡ given h.calls → Stands (with_task (advanced s (Good status) p rest next) tasks.Nothing true) (record { sent = h.sent; taken = h.taken; calls = record { call = call_of c s.text; what = ToldReady } ∷ h.calls; pending = None; ended = h.ended; lost = h.lost })
   left_lone status e still lack con gave =
       let further : s.context.spot ≡ spots.Further = good_spot s.context.spot status reads (knows s h st open_still nothing p rest next whole (Good status) e) in
       let settled_here : is_settled (spot_by s h st open_still nothing p rest next whole (Good status)) ≡ true = ap (λ (x : Spot). is_settled (spot_after (deprecates_eof s.context.terms.kept) x (Good status))) further ∙ settled_more status in

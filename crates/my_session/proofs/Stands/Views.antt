@@ -13,15 +13,17 @@ use Rattle.my_grammar.specs.FitSets.{FitSets, AreColumns, IsBegun}
 use Rattle.my_grammar.specs.Growth.{grow}
 use Rattle.my_grammar.specs.Kinds.{head_kind, described_kind}
 use Rattle.my_grammar.specs.declared.packet.Packet.{Packet}
-use Rattle.my_grammar.specs.Sets.{SetHead, Sets, NoSets, Lone, Failed, Heading, Headed, Begun, Ended, Broken, each, at_most_one, head_packets, packets_in, grow_sets, with_column, with_column_of, with_close}
-use Rattle.my_grammar.specs.Talk.{Talk, Start, Unwelcome, Greeted, Settled, Asked, Replied, Queried, Silent, packets_of, context_of, Fits}
+use Rattle.my_grammar.specs.Sets.{SetHead, Sets, NoSets, Lone, Failed, Heading, Headed, Begun, Ended, Broken, format_in, head_columns, grow_sets, with_column, with_column_of, with_close}
+use Rattle.my_grammar.specs.Prepares.{Reply, Unanswered, Refused, InParameters, AfterParameters, InFields, AfterFields, Complete, spot_in_reply}
+use Rattle.my_grammar.specs.Talk.{Talk, Start, Unwelcome, Greeted, Settled, Asked, Replied, Queried, Preparing, Silent, packets_of, context_of, Fits}
 use Rattle.my_grammar.proofs.Growth.Known.{is_head_kind, known_head, is_then}
 use Rattle.my_value.specs.RowParts.{RowParts}
 use Rattle.my_reading.specs.declared.facts.Facts.{Facts}
 use Rattle.my_session.specs.Entries.{sets_of, ends_with_ok, IsGiven}
 use Rattle.my_reading.specs.Facts.{counted, with_column as column_told, facts_by}
-use Rattle.my_session.specs.Groups.{Group, groups, with_item, with_items, with_stop, columns_in_order, column_list, head_columns, IsEarlier}
+use Rattle.my_session.specs.Groups.{Group, groups, with_item, with_items, with_stop, IsEarlier}
 use Rattle.my_reading.specs.Rows.{row_at, row_or}
+use Rattle.my_reading.proofs.Described.{at_rows, not_rows, reply_not_rows}
 use Rattle.my_session.specs.Stands.{is_lone, known_part}
 
 same_terms : (k : Kind) (t : Talk) (p : List ℕ) (y : Sets) → IsEarlier (ends_with_ok t) y (sets_of t) → IsEarlier (ends_with_ok (grow k t p)) y (sets_of (grow k t p))
@@ -33,6 +35,9 @@ same_terms kinds.Column (Start login) p y e = e
 same_terms kinds.ColumnsDone (Start login) p y e = e
 same_terms kinds.Row (Start login) p y e = e
 same_terms (kinds.End status) (Start login) p y e = e
+same_terms (kinds.Prepared params columns) (Start login) p y e = e
+same_terms kinds.Parameter (Start login) p y e = e
+same_terms kinds.Field (Start login) p y e = e
 same_terms kinds.Bad (Start login) p y e = e
 same_terms k (Unwelcome login q) p y e = e
 same_terms k (Greeted login q c) p y e = e
@@ -40,6 +45,7 @@ same_terms k (Settled login q c last kind) p y e = e
 same_terms k (Asked terms c) p y e = e
 same_terms k (Replied terms c last kind) p y e = e
 same_terms k (Queried terms c x) p y e = (record { kind = k; payload = p } ∷ e.0, ap (λ z. grow_sets (deprecates_eof terms.kept) k z p) e.1)
+same_terms k (Preparing terms c reply) p y e = e
 same_terms k (Silent terms c) p y e = e
 
 pub given_on : (g : Option (List Group)) (k : Kind) (t : Talk) (p : List ℕ) → IsGiven g t → IsGiven g (grow k t p)
@@ -55,6 +61,9 @@ given_on (Some g) k t p i = (i.0, same_terms k t p i.0 i.1, i.2, given_fits k t 
     given_fits kinds.ColumnsDone (Start login) p y f = f
     given_fits kinds.Row (Start login) p y f = f
     given_fits (kinds.End status) (Start login) p y f = f
+    given_fits (kinds.Prepared params columns) (Start login) p y f = f
+    given_fits kinds.Parameter (Start login) p y f = f
+    given_fits kinds.Field (Start login) p y f = f
     given_fits kinds.Bad (Start login) p y f = f
     given_fits k (Unwelcome login q) p y f = f
     given_fits k (Greeted login q c) p y f = f
@@ -62,6 +71,7 @@ given_on (Some g) k t p i = (i.0, same_terms k t p i.0 i.1, i.2, given_fits k t 
     given_fits k (Asked terms c) p y f = f
     given_fits k (Replied terms c last kind) p y f = f
     given_fits k (Queried terms c x) p y f = f
+    given_fits k (Preparing terms c reply) p y f = f
     given_fits k (Silent terms c) p y f = f
 
 pub fit_sets : (t : Talk) → Fits t → FitSets (ends_with_ok t) (sets_of t)
@@ -72,6 +82,7 @@ fit_sets (Settled login q c last kind) f = tt
 fit_sets (Asked terms c) f = tt
 fit_sets (Replied terms c last kind) f = tt
 fit_sets (Queried terms c x) f = f.kinds
+fit_sets (Preparing terms c reply) f = tt
 fit_sets (Silent terms c) f = tt
 
 -- all that was received was given
@@ -82,9 +93,15 @@ not_head : (t : Bool) → cond t spots.Further spots.Idle ≡ spots.Head → ⊥
 not_head true e = cc
 not_head false e = cc
 
-pub not_rows : (t : Bool) → cond t spots.Further spots.Idle ≡ spots.Rows → ⊥
-not_rows true e = cc
-not_rows false e = cc
+-- in a reply to a statement to prepare no further set is awaited
+reply_not_further : (r : Reply) → spot_in_reply r ≡ spots.Further → ⊥
+reply_not_further Unanswered e = cc
+reply_not_further (Refused p) e = cc
+reply_not_further (InParameters head ps left) e = cc
+reply_not_further (AfterParameters head ps) e = cc
+reply_not_further (InFields head w ps left) e = cc
+reply_not_further (AfterFields head w ps) e = cc
+reply_not_further (Complete head w v) e = cc
 
 -- a head, or a part of it, gives nothing
 column_groups_if : (d last : Bool) (older : Sets) (head : SetHead) (left : ℕ) (p : List ℕ) → groups (cond last (cond d (Begun older (with_column_of head p) []) (Headed older (with_column_of head p))) (Heading older (with_column_of head p) left)) ≡ groups older
@@ -93,7 +110,7 @@ column_groups_if false true older head left p = refl
 column_groups_if d false older head left p = refl
 
 column_groups : (d : Bool) (x : Sets) (p : List ℕ) → groups (with_column d x p) ≡ groups x
-column_groups d NoSets p = refl
+column_groups d (NoSets asking) p = refl
 column_groups d (Lone older q status) p = refl
 column_groups d (Failed older q) p = refl
 column_groups d (Heading older head left) p = column_groups_if d (leb left 1) older head (left - 1) p
@@ -103,7 +120,7 @@ column_groups d (Ended older head rows last status) p = refl
 column_groups d (Broken older head rows last) p = refl
 
 close_groups : (x : Sets) (p : List ℕ) → groups (with_close x p) ≡ groups x
-close_groups NoSets p = refl
+close_groups (NoSets asking) p = refl
 close_groups (Lone older q status) p = refl
 close_groups (Failed older q) p = refl
 close_groups (Heading older head left) p = refl
@@ -112,11 +129,14 @@ close_groups (Begun older head rows) p = refl
 close_groups (Ended older head rows last status) p = refl
 close_groups (Broken older head rows last) p = refl
 
--- the kinds that a head is made of
+-- the kinds that give nothing: those of a set's head, and those of a prepare reply
 abbrev pub is_part : Kind → Bool
 is_part (kinds.Count n) = true
 is_part kinds.Column = true
 is_part kinds.ColumnsDone = true
+is_part (kinds.Prepared params columns) = true
+is_part kinds.Parameter = true
+is_part kinds.Field = true
 is_part k = false
 
 part_sets : (k : Kind) (d : Bool) (x : Sets) (p : List ℕ) → is_part k ≡ true → groups (grow_sets d k x p) ≡ groups x
@@ -128,6 +148,9 @@ part_sets kinds.Column d x p e = column_groups d x p
 part_sets kinds.ColumnsDone d x p e = close_groups x p
 part_sets kinds.Row d x p e = cc
 part_sets (kinds.End status) d x p e = cc
+part_sets (kinds.Prepared params columns) d x p e = refl
+part_sets kinds.Parameter d x p e = refl
+part_sets kinds.Field d x p e = refl
 part_sets kinds.Bad d x p e = cc
 
 part_start : (k : Kind) (login : Login) (p : List ℕ) → is_part k ≡ true → groups (sets_of (grow k (Start login) p)) ≡ []
@@ -139,6 +162,9 @@ part_start kinds.Column login p e = refl
 part_start kinds.ColumnsDone login p e = refl
 part_start kinds.Row login p e = cc
 part_start (kinds.End status) login p e = cc
+part_start (kinds.Prepared params columns) login p e = refl
+part_start kinds.Parameter login p e = refl
+part_start kinds.Field login p e = refl
 part_start kinds.Bad login p e = cc
 
 pub part_groups : (k : Kind) (t : Talk) (p : List ℕ) → is_part k ≡ true → groups (sets_of (grow k t p)) ≡ groups (sets_of t)
@@ -149,6 +175,7 @@ part_groups k (Settled login q c last kind) p e = refl
 part_groups k (Asked terms c) p e = refl
 part_groups k (Replied terms c last kind) p e = refl
 part_groups k (Queried terms c x) p e = part_sets k (deprecates_eof terms.kept) x p e
+part_groups k (Preparing terms c reply) p e = refl
 part_groups k (Silent terms c) p e = refl
 
 -- an end among rows, and a lone OK
@@ -159,7 +186,7 @@ end_groups (Greeted login q c) p status e = cc
 end_groups (Settled login q c last kind) p status e = cc
 end_groups (Asked terms c) p status e = cc
 end_groups (Replied terms c last kind) p status e = cc
-end_groups (Queried terms c NoSets) p status e = cc
+end_groups (Queried terms c (NoSets asking)) p status e = cc
 end_groups (Queried terms c (Lone older q s)) p status e = absurd (not_rows (has_more_results s) e)
 end_groups (Queried terms c (Failed older q)) p status e = cc
 end_groups (Queried terms c (Heading older head left)) p status e = cc
@@ -167,6 +194,7 @@ end_groups (Queried terms c (Headed older head)) p status e = cc
 end_groups (Queried terms c (Begun older head rows)) p status e = refl
 end_groups (Queried terms c (Ended older head rows last s)) p status e = absurd (not_rows (has_more_results s) e)
 end_groups (Queried terms c (Broken older head rows last)) p status e = cc
+end_groups (Preparing terms c reply) p status e = absurd (reply_not_rows reply e)
 end_groups (Silent terms c) p status e = cc
 
 pub good_groups : (t : Talk) (p : List ℕ) (status : StatusFlags) → (context_of t).spot ≡ spots.Further → groups (sets_of (grow (kinds.Good status) t p)) ≡ with_stop (groups (sets_of t))
@@ -177,6 +205,7 @@ good_groups (Settled login q c last kind) p status e = cc
 good_groups (Asked terms c) p status e = cc
 good_groups (Replied terms c last kind) p status e = cc
 good_groups (Queried terms c x) p status e = refl
+good_groups (Preparing terms c reply) p status e = absurd (reply_not_further reply e)
 good_groups (Silent terms c) p status e = cc
 
 -- a lone OK after another set, and what is known before its end is returned
@@ -188,6 +217,7 @@ lone_further (Settled login q c last kind) p status e = cc
 lone_further (Asked terms c) p status e = cc
 lone_further (Replied terms c last kind) p status e = cc
 lone_further (Queried terms c x) p status e = refl
+lone_further (Preparing terms c reply) p status e = absurd (reply_not_further reply e)
 lone_further (Silent terms c) p status e = cc
 
 pub known_further : (t : Talk) (p : List ℕ) (status : StatusFlags) → (context_of t).spot ≡ spots.Further → groups (known_part true (sets_of (grow (kinds.Good status) t p))) ≡ groups (sets_of t)
@@ -198,99 +228,27 @@ known_further (Settled login q c last kind) p status e = cc
 known_further (Asked terms c) p status e = cc
 known_further (Replied terms c last kind) p status e = cc
 known_further (Queried terms c x) p status e = refl
+known_further (Preparing terms c reply) p status e = absurd (reply_not_further reply e)
 known_further (Silent terms c) p status e = cc
 
--- the columns that are known are those of the head
-pub column_there : (o : Option AnyColumn) → described_kind o ≡ kinds.Column → (c : AnyColumn) × (o ≡ Some c)
-column_there None e = cc
-column_there (Some c) e = (c, refl)
-
--- what is known of the columns while a head is read: left of them are awaited, and these were gathered
-record Gathers (f : Facts) (left : ℕ) (columns : List AnyColumn) : Type 0 where
-  left_is : f.left ≡ left
-  gathered_is : f.gathered ≡ columns
-
--- a head with this column, whole or not
-abbrev whole_by : Facts → AnyColumn → Facts
-whole_by f c = record { version = f.version; connection = f.connection; status = f.status; ok = f.ok; left = 0; gathered = []; columns = f.gathered ++ c ∷ []; settings = f.settings; place = f.place }
-
-abbrev part_by : Facts → AnyColumn → Facts
-part_by f c = record { version = f.version; connection = f.connection; status = f.status; ok = f.ok; left = f.left - 1; gathered = f.gathered ++ c ∷ []; columns = f.columns; settings = f.settings; place = f.place }
-
-joined : (f : Facts) (c : AnyColumn) (ps : List (List ℕ)) (p : List ℕ) → column_at p ≡ Some c → f.gathered ≡ columns_in_order ps → f.gathered ++ c ∷ [] ≡ columns_in_order (p ∷ ps)
-joined f c ps p is g = ap (λ cs. cs ++ c ∷ []) g ∙ ap (λ o. columns_in_order ps ++ column_list o) (sym is)
-
-gathers_if : (last : Bool) (f : Facts) (c : AnyColumn) (ps : List (List ℕ)) (p : List ℕ) (left : ℕ) → column_at p ≡ Some c → leb f.left 1 ≡ last → f.left ≡ left + 1 → 0 < left → f.gathered ≡ columns_in_order ps → Gathers (cond last (whole_by f c) (part_by f c)) left (columns_in_order (p ∷ ps))
-gathers_if true f c ps p left is last l some g = absurd (grind (arith, nat_tests))
-gathers_if false f c ps p left is last l some g = record { left_is = omega arith; gathered_is = joined f c ps p is g }
-
-last_if : (last : Bool) (f : Facts) (c : AnyColumn) (ps : List (List ℕ)) (p : List ℕ) → column_at p ≡ Some c → leb f.left 1 ≡ last → f.left ≡ 1 → f.gathered ≡ columns_in_order ps → (cond {A = Facts} last (whole_by f c) (part_by f c)).columns ≡ columns_in_order (p ∷ ps)
-last_if true f c ps p is last l g = joined f c ps p is g
-last_if false f c ps p is last l g = absurd (grind (arith, nat_tests))
-
-module _ (f : Facts) (count : List ℕ) (number : ℕ) (others : List Packet) where
-  -- the facts after a head's count and some columns
-  abbrev following : List (List ℕ) → Facts
-  following ps = facts_by (each kinds.Column ps (record { kind = kinds.Count number; payload = count } ∷ others)) f
-
-  gathers : (ps : List (List ℕ)) → AreColumns ps → length ps < number → Gathers (following ps) (number - length ps) (columns_in_order ps)
-  gathers [] a less = record { left_is = omega arith; gathered_is = refl }
-  gathers (p ∷ ps) a less =
-      let old = gathers ps a.1 (omega arith) in
-      let c = column_there (column_at p) a.0 in
-      let l = old.left_is in
-      subst (λ (o : Option AnyColumn). Gathers (counted (column_told o (following ps))) (number - length (p ∷ ps)) (columns_in_order (p ∷ ps))) (sym c.1)
-      (counts _ _ _ (gathers_if (leb (following ps).left 1) (following ps) c.0 ps p (number - length (p ∷ ps)) c.1 refl (omega arith) (omega arith) old.gathered_is))
-    where
-      counts : (g : Facts) (left : ℕ) (columns : List AnyColumn) → Gathers g left columns → Gathers (counted g) left columns
-      counts g left columns w = record { left_is = w.left_is; gathered_is = w.gathered_is }
-
-  -- after the last column the set's columns are those of the head
-  all_columns : (ps : List (List ℕ)) → AreColumns ps → length ps ≡ number → 0 < number → (following ps).columns ≡ columns_in_order ps
-  all_columns [] a all some = absurd (omega arith)
-  all_columns (p ∷ ps) a all some =
-      let old = gathers ps a.1 (omega arith) in
-      let c = column_there (column_at p) a.0 in
-      let l = old.left_is in
-      subst (λ (o : Option AnyColumn). (counted (column_told o (following ps))).columns ≡ columns_in_order (p ∷ ps)) (sym c.1)
-      (last_if (leb (following ps).left 1) (following ps) c.0 ps p c.1 refl (omega arith) old.gathered_is)
-
-  -- and stay so while its rows are read
-  closed_columns : (ps : List (List ℕ)) (close : Option (List ℕ)) → AreColumns ps → length ps ≡ number → 0 < number → (facts_by (at_most_one kinds.ColumnsDone close (each kinds.Column ps (record { kind = kinds.Count number; payload = count } ∷ others))) f).columns ≡ columns_in_order ps
-  closed_columns ps None a all some = all_columns ps a all some
-  closed_columns ps (Some q) a all some = all_columns ps a all some
-
-rows_keep : (f : Facts) (rows : List (List ℕ)) (others : List Packet) → (facts_by (each kinds.Row rows others) f).columns ≡ (facts_by others f).columns
-rows_keep f [] others = refl
-rows_keep f (p ∷ ps) others = rows_keep f ps others
-
-some_columns : (count : List ℕ) (n : ℕ) → head_kind count ≡ kinds.Count n → 0 < n
-some_columns count n e = let t : leb 1 n ≡ true = is_then is_head_kind (head_kind count) (kinds.Count n) (known_head count) e in grind (arith, nat_tests)
-
--- while rows are read, the columns that are known are those of the head
-pub row_columns : (d : Bool) (f : Facts) (older : Sets) (head : SetHead) (rows : List (List ℕ)) → IsBegun d older head rows → (facts_by (packets_in (Begun older head rows)) f).columns ≡ head_columns head
-row_columns d f older head rows b =
-    let all = b.heading.all in
-    rows_keep f rows (head_packets head (packets_in older))
-    ∙ closed_columns f head.count head.number (packets_in older) head.columns head.close b.heading.columns (omega arith) (some_columns head.count head.number b.heading.count)
-
 -- a row among rows
-pub row_groups : (t : Talk) (f : Facts) (p : List ℕ) (row : RowParts) → Fits t → (context_of t).spot ≡ spots.Rows → row_at (facts_by (packets_of t) f).columns p ≡ Some row → groups (sets_of (grow kinds.Row t p)) ≡ with_item row (groups (sets_of t))
+pub row_groups : (t : Talk) (f : Facts) (p : List ℕ) (row : RowParts) → Fits t → (context_of t).spot ≡ spots.Rows → row_at (context_of t).rows (facts_by (packets_of t) f).columns p ≡ Some row → groups (sets_of (grow kinds.Row t p)) ≡ with_item row (groups (sets_of t))
 row_groups (Start login) f p row fits e is = cc
 row_groups (Unwelcome login q) f p row fits e is = cc
 row_groups (Greeted login q c) f p row fits e is = cc
 row_groups (Settled login q c last kind) f p row fits e is = cc
 row_groups (Asked terms c) f p row fits e is = cc
 row_groups (Replied terms c last kind) f p row fits e is = cc
-row_groups (Queried terms c NoSets) f p row fits e is = cc
+row_groups (Queried terms c (NoSets asking)) f p row fits e is = cc
 row_groups (Queried terms c (Lone older q s)) f p row fits e is = absurd (not_rows (has_more_results s) e)
 row_groups (Queried terms c (Failed older q)) f p row fits e is = cc
 row_groups (Queried terms c (Heading older head left)) f p row fits e is = cc
 row_groups (Queried terms c (Headed older head)) f p row fits e is = cc
 row_groups (Queried terms c (Begun older head rows)) f p row fits e is =
-    let columns = row_columns (deprecates_eof terms.kept) f older head rows fits.kinds.0 in
-    let here : row_at (head_columns head) p ≡ Some row = ap (λ cs. row_at cs p) (sym columns) ∙ is in
-    ap (λ o. with_item (row_or (head_columns head) o) (with_items (head_columns head) rows (groups older))) here
+    let columns = (at_rows (Queried terms c (Begun older head rows)) fits e).known f in
+    let here : row_at (format_in older) (head_columns head) p ≡ Some row = ap (λ cs. row_at (format_in older) cs p) (sym columns) ∙ is in
+    ap (λ o. with_item (row_or (head_columns head) o) (with_items (format_in older) (head_columns head) rows (groups older))) here
 row_groups (Queried terms c (Ended older head rows last s)) f p row fits e is = absurd (not_rows (has_more_results s) e)
 row_groups (Queried terms c (Broken older head rows last)) f p row fits e is = cc
+row_groups (Preparing terms c reply) f p row fits e is = absurd (reply_not_rows reply e)
 row_groups (Silent terms c) f p row fits e is = cc

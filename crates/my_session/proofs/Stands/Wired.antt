@@ -7,13 +7,14 @@ use Rattle.my_frame.specs.FrontLaws.{IsWhole}
 use Rattle.my_grammar.specs.declared.login.Login.{Login}
 use Rattle.my_grammar.specs.declared.spot.Context.{Context}
 use Rattle.my_grammar.specs.declared.spot.Kind.{Kind}
-use Rattle.my_grammar.specs.declared.spot.Kind.TheVariants.{Greets, Good, Failed, Count, Column, ColumnsDone, Row, End, Bad}
+use Rattle.my_grammar.specs.declared.spot.Kind.TheVariants.{Greets, Good, Failed, Count, Column, ColumnsDone, Row, End, Prepared, Parameter, Field, Bad}
 use Rattle.my_grammar.specs.declared.spot.Spot.TheVariants as spots
 use Rattle.my_grammar.specs.declared.spot.Terms.{Terms}
 use Rattle.my_grammar.specs.Contexts.{context_after, is_bad}
 use Rattle.my_grammar.specs.Growth.{grow, replies, not_greets, Grows, Reads, number_next, said}
+use Rattle.my_reading.proofs.Described.{kind_is}
 use Rattle.my_grammar.specs.Kinds.{kind_there}
-use Rattle.my_grammar.specs.Talk.{Talk, Start, Unwelcome, Greeted, Settled, Asked, Replied, Queried, Silent, Server, turns, number_of, server_bytes, client_bytes, context_of, packets_of, Fits, origin, login_in, limit_of}
+use Rattle.my_grammar.specs.Talk.{Talk, Start, Unwelcome, Greeted, Settled, Asked, Replied, Queried, Preparing, Silent, Server, turns, number_of, server_bytes, client_bytes, context_of, packets_of, Fits, origin, login_in, limit_of}
 use Rattle.my_grammar.proofs.Growth.{grows, reads}
 use Rattle.my_reading.specs.declared.call.Call.{Call}
 use Rattle.my_reading.specs.declared.facts.Facts.{Facts}
@@ -33,6 +34,9 @@ reply_is login Column p n = refl
 reply_is login ColumnsDone p n = refl
 reply_is login Row p n = refl
 reply_is login (End status) p n = refl
+reply_is login (Prepared params columns) p n = refl
+reply_is login Parameter p n = refl
+reply_is login Field p n = refl
 reply_is login Bad p n = refl
 
 pub next_is : (login : Login) (k : Kind) (p : List ℕ) (n : ℕ) → number_next login k p n ≡ reply_number (reply_to login k p) (number_after_payload p n)
@@ -44,6 +48,9 @@ next_is login Column p n = refl
 next_is login ColumnsDone p n = refl
 next_is login Row p n = refl
 next_is login (End status) p n = refl
+next_is login (Prepared params columns) p n = refl
+next_is login Parameter p n = refl
+next_is login Field p n = refl
 next_is login Bad p n = refl
 
 -- after another payload than a greeting the client says nothing
@@ -56,6 +63,9 @@ silent login Column p n e = refl
 silent login ColumnsDone p n e = refl
 silent login Row p n e = refl
 silent login (End status) p n e = refl
+silent login (Prepared params columns) p n e = refl
+silent login Parameter p n e = refl
+silent login Field p n e = refl
 silent login Bad p n e = refl
 
 pub limit_is : (t : Talk) → (context_of t).terms.limit ≡ limit_of t
@@ -66,6 +76,7 @@ limit_is (Settled login p c last kind) = refl
 limit_is (Asked terms c) = refl
 limit_is (Replied terms c last kind) = refl
 limit_is (Queried terms c sets) = refl
+limit_is (Preparing terms c reply) = refl
 limit_is (Silent terms c) = refl
 
 module _ (login : Login) (taken sent : List ℕ) (call : Call) (talk : Talk) (older : List Entry) where
@@ -154,13 +165,13 @@ module _ (login : Login) (taken sent : List ℕ) (call : Call) (talk : Talk) (ol
   }
 
   -- a payload within the limit that fits there is one more of the exchange
-  pub talk_grows : (context : Context) (number : ℕ) (unread owed : List ℕ) (closed : Bool) (facts : Facts) (k : Kind) (p rest : List ℕ) (next : ℕ) → kind_there context p ≡ k → is_bad k ≡ false → IsWhole number context.terms.limit unread p rest next → Wire context number unread owed closed facts login taken sent call talk older → Grows talk k p
+  pub talk_grows : (context : Context) (number : ℕ) (unread owed : List ℕ) (closed : Bool) (facts : Facts) (k : Kind) (p rest : List ℕ) (next : ℕ) → kind_there context facts.columns p ≡ k → is_bad k ≡ false → IsWhole number context.terms.limit unread p rest next → Wire context number unread owed closed facts login taken sent call talk older → Grows talk k p
   talk_grows context number unread owed closed facts k p rest next kind good whole w =
       let within : length p ≤ limit_of talk = subst (λ m. length p ≤ m) (ap (λ (c : Context). c.terms.limit) w.context_is ∙ limit_is talk) whole.within in
-      grows talk k p (subst (λ (c : Context). kind_there c p ≡ k) w.context_is kind) good within w.fits
+      grows talk k p (sym (kind_is talk (facts_of login older) context facts p w.fits w.context_is w.facts_are) ∙ kind) good within w.fits
 
   -- a payload is read
-  pub wire_read : (context : Context) (number : ℕ) (unread owed : List ℕ) (closed : Bool) (facts : Facts) (k : Kind) (p rest : List ℕ) (next : ℕ) → closed ≡ false → owed ≡ [] → kind_there context p ≡ k → is_bad k ≡ false → IsWhole number context.terms.limit unread p rest next → Wire context number unread owed closed facts login taken sent call talk older → Wire (context_after context k) (reply_number (reply_to login k p) next) rest (owed ++ reply_bytes (reply_to login k p) next) closed (facts_after k p facts) login taken sent call (grow k talk p) older
+  pub wire_read : (context : Context) (number : ℕ) (unread owed : List ℕ) (closed : Bool) (facts : Facts) (k : Kind) (p rest : List ℕ) (next : ℕ) → closed ≡ false → owed ≡ [] → kind_there context facts.columns p ≡ k → is_bad k ≡ false → IsWhole number context.terms.limit unread p rest next → Wire context number unread owed closed facts login taken sent call talk older → Wire (context_after context k) (reply_number (reply_to login k p) next) rest (owed ++ reply_bytes (reply_to login k p) next) closed (facts_after k p facts) login taken sent call (grow k talk p) older
   wire_read context number unread owed closed facts k p rest next alive nothing kind good whole w =
       let n = number_of (turns talk) in
       let g : Grows talk k p = talk_grows context number unread owed closed facts k p rest next kind good whole w in

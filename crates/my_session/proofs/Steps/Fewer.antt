@@ -52,9 +52,9 @@ module _ (s : Seen) where
   reacted_fewer n p (reactions.Goes t) few = few
   reacted_fewer n p (reactions.Readies untold) few = few
   reacted_fewer n p reactions.Takes few = few
-  reacted_fewer n p reactions.Gives few = gave_fewer n (row_at s.facts.columns p) few
+  reacted_fewer n p reactions.Gives few = gave_fewer n (row_at s.context.rows s.facts.columns p) few
   reacted_fewer n p reactions.Ends few = few
-  reacted_fewer n p reactions.PassesRow few = passed_fewer n (row_at s.facts.columns p) few
+  reacted_fewer n p reactions.PassesRow few = passed_fewer n (row_at s.context.rows s.facts.columns p) few
   reacted_fewer n p reactions.PassesEnd few = few
   reacted_fewer n p reactions.Refuses few = refused_fewer n _ few
   reacted_fewer n p reactions.Breaks few = omega arith
@@ -77,7 +77,7 @@ module _ (s : Seen) where
   front_fewer Waiting at = waiting_fewer s.ended
   front_fewer (Broken fault) at = omega arith
   front_fewer (Whole p rest next) at =
-      kind_fewer p rest next (kind_there s.context p) (is_breaking (react s.task (kind_there s.context p)))
+      kind_fewer p rest next (kind_there s.context s.facts.columns p) (is_breaking (react s.task (kind_there s.context s.facts.columns p)))
       (takes_whole s.number s.context.terms.limit s.unread p rest next at).shorter
 
   begins_if : (u : Task) (talk : Talk) (long : Bool) → Fewer (cond long (machine.too_large s s.facts.settings.limit (length (command_in talk))) (record { seen = machine.queued s u talk; does = Sends }))

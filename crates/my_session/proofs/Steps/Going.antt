@@ -12,7 +12,7 @@ use Rattle.my_grammar.specs.declared.spot.Spot.TheVariants as spots
 use Rattle.my_grammar.specs.declared.spot.Kind.{Kind}
 use Rattle.my_grammar.specs.declared.spot.Kind.TheVariants as kinds
 use Rattle.my_grammar.specs.Kinds.{kind_there}
-use Rattle.my_grammar.specs.Sets.{NoSets}
+use Rattle.my_grammar.specs.Sets.{ByText, NoSets}
 use Rattle.my_grammar.specs.Talk.{Talk, Asked, Queried, Silent, turns, client_bytes}
 use Rattle.my_grammar.proofs.Cutting.Fronts.{takes_whole}
 use Rattle.my_reading.specs.declared.call.CallKind.{CallKind}
@@ -61,6 +61,9 @@ connect_goes kinds.Column = tt
 connect_goes kinds.ColumnsDone = tt
 connect_goes kinds.Row = tt
 connect_goes (kinds.End status) = tt
+connect_goes (kinds.Prepared params columns) = tt
+connect_goes kinds.Parameter = tt
+connect_goes kinds.Field = tt
 connect_goes kinds.Bad = tt
 
 query_goes : (k : Kind) → GoesOn (react_query k)
@@ -72,6 +75,9 @@ query_goes kinds.Column = (refl, omega arith)
 query_goes kinds.ColumnsDone = (refl, omega arith)
 query_goes kinds.Row = tt
 query_goes (kinds.End status) = tt
+query_goes (kinds.Prepared params columns) = (refl, omega arith)
+query_goes kinds.Parameter = (refl, omega arith)
+query_goes kinds.Field = (refl, omega arith)
 query_goes kinds.Bad = tt
 
 ping_goes : (k : Kind) → GoesOn (react_ping k)
@@ -83,6 +89,9 @@ ping_goes kinds.Column = tt
 ping_goes kinds.ColumnsDone = tt
 ping_goes kinds.Row = tt
 ping_goes (kinds.End status) = tt
+ping_goes (kinds.Prepared params columns) = tt
+ping_goes kinds.Parameter = tt
+ping_goes kinds.Field = tt
 ping_goes kinds.Bad = tt
 
 own_goes : (c : CallKind) (k : Kind) → GoesOn (react_own c k)
@@ -104,6 +113,9 @@ whole_goes t op low kinds.Column = (op, low)
 whole_goes t op low kinds.ColumnsDone = (op, low)
 whole_goes t op low kinds.Row = (op, low)
 whole_goes t op low (kinds.End status) = (op, low)
+whole_goes t op low (kinds.Prepared params columns) = (op, low)
+whole_goes t op low kinds.Parameter = (op, low)
+whole_goes t op low kinds.Field = (op, low)
 whole_goes t op low kinds.Bad = tt
 
 react_goes : (t : Task) (k : Kind) → GoesOn (react t k)
@@ -120,6 +132,9 @@ react_goes Reading kinds.Column = (refl, omega arith)
 react_goes Reading kinds.ColumnsDone = (refl, omega arith)
 react_goes Reading kinds.Row = tt
 react_goes Reading (kinds.End status) = tt
+react_goes Reading (kinds.Prepared params columns) = (refl, omega arith)
+react_goes Reading kinds.Parameter = (refl, omega arith)
+react_goes Reading kinds.Field = (refl, omega arith)
 react_goes Reading kinds.Bad = tt
 react_goes Dropping (kinds.Greets n) = tt
 react_goes Dropping (kinds.Good status) = tt
@@ -129,6 +144,9 @@ react_goes Dropping kinds.Column = (refl, omega arith)
 react_goes Dropping kinds.ColumnsDone = (refl, omega arith)
 react_goes Dropping kinds.Row = tt
 react_goes Dropping (kinds.End status) = tt
+react_goes Dropping (kinds.Prepared params columns) = (refl, omega arith)
+react_goes Dropping kinds.Parameter = (refl, omega arith)
+react_goes Dropping kinds.Field = (refl, omega arith)
 react_goes Dropping kinds.Bad = tt
 react_goes Taking (kinds.Greets n) = tt
 react_goes Taking (kinds.Good status) = tt
@@ -138,6 +156,9 @@ react_goes Taking kinds.Column = (refl, omega arith)
 react_goes Taking kinds.ColumnsDone = (refl, omega arith)
 react_goes Taking kinds.Row = tt
 react_goes Taking (kinds.End status) = tt
+react_goes Taking (kinds.Prepared params columns) = (refl, omega arith)
+react_goes Taking kinds.Parameter = (refl, omega arith)
+react_goes Taking kinds.Field = (refl, omega arith)
 react_goes Taking kinds.Bad = tt
 react_goes Skipping (kinds.Greets n) = tt
 react_goes Skipping (kinds.Good status) = tt
@@ -147,6 +168,9 @@ react_goes Skipping kinds.Column = tt
 react_goes Skipping kinds.ColumnsDone = tt
 react_goes Skipping kinds.Row = tt
 react_goes Skipping (kinds.End status) = tt
+react_goes Skipping (kinds.Prepared params columns) = tt
+react_goes Skipping kinds.Parameter = tt
+react_goes Skipping kinds.Field = tt
 react_goes Skipping kinds.Bad = tt
 react_goes Leaving k = tt
 react_goes (Failing c fault) k = tt
@@ -201,9 +225,9 @@ reacted_is s n p (reactions.Goes u) op b g =
     (g.0, omega arith)
 reacted_is s n p (reactions.Readies untold) op b g = refl
 reacted_is s n p reactions.Takes op b g = refl
-reacted_is s n p reactions.Gives op b g = gave_is s n (row_at s.facts.columns p)
+reacted_is s n p reactions.Gives op b g = gave_is s n (row_at s.context.rows s.facts.columns p)
 reacted_is s n p reactions.Ends op b g = refl
-reacted_is s n p reactions.PassesRow op b g = passed_is s n (row_at s.facts.columns p) op b
+reacted_is s n p reactions.PassesRow op b g = passed_is s n (row_at s.context.rows s.facts.columns p) op b
 reacted_is s n p reactions.PassesEnd op b g = same_task s n op b
 reacted_is s n p reactions.Refuses op b g = refused_is s n _
 reacted_is s n p reactions.Breaks op b g = refl
@@ -225,7 +249,7 @@ waiting_is s false e op none at = (op, none, e, at)
 front_is : (s : Seen) (f : Front) → is_open s.task ≡ true → s.owed ≡ [] → front_at s.number s.context.terms.limit s.unread ≡ f → MoveIs s (reading s f).seen (reading s f).does
 front_is s Waiting op none at = waiting_is s s.ended refl op none at
 front_is s (Broken fault) op none at = refl
-front_is s (Whole p rest next) op none at = kind_is s p rest next (kind_there s.context p) (is_breaking (react s.task (kind_there s.context p))) op (takes_whole s.number s.context.terms.limit s.unread p rest next at).shorter
+front_is s (Whole p rest next) op none at = kind_is s p rest next (kind_there s.context s.facts.columns p) (is_breaking (react s.task (kind_there s.context s.facts.columns p))) op (takes_whole s.number s.context.terms.limit s.unread p rest next at).shorter
 
 -- the plans that fit a task
 abbrev FitsTask : Task → Bool → Plan → Type 0
@@ -249,7 +273,7 @@ begins_if s u talk false none op some = (op, λ e. some (sym (ap (λ bs. bs ++ c
 
 asked_is : (s : Seen) (c : CallKind) (text : List ℕ) → s.owed ≡ [] → MoveIs s (asked s c (command_of (next_terms s) (call_of c text))).seen (asked s c (command_of (next_terms s) (call_of c text))).does
 asked_is s Connect text none = refl
-asked_is s Query text none = begins_if s (Own Query) (Queried (next_terms s) (packet_bytes (packets.Query text)) NoSets) _ none refl (some_bytes (packet_bytes (packets.Query text)) 0)
+asked_is s Query text none = begins_if s (Own Query) (Queried (next_terms s) (packet_bytes (packets.Query text)) (NoSets ByText)) _ none refl (some_bytes (packet_bytes (packets.Query text)) 0)
 asked_is s NextRow text none = refl
 asked_is s DropResult text none = refl
 asked_is s TakeSet text none = refl
@@ -259,7 +283,7 @@ asked_is s Quit text none = begins_if s (Own Quit) (Silent (next_terms s) (packe
 
 arranged_is : (s : Seen) (n : ℕ) (text : Option (List ℕ)) → s.owed ≡ [] → MoveIs s (arranged s n (query_of (next_terms s) text)).seen (arranged s n (query_of (next_terms s) text)).does
 arranged_is s n None none = refl
-arranged_is s n (Some text) none = begins_if s (Arranging (suc n)) (Queried (next_terms s) (packet_bytes (packets.Query text)) NoSets) _ none refl (some_bytes (packet_bytes (packets.Query text)) 0)
+arranged_is s n (Some text) none = begins_if s (Arranging (suc n)) (Queried (next_terms s) (packet_bytes (packets.Query text)) (NoSets ByText)) _ none refl (some_bytes (packet_bytes (packets.Query text)) 0)
 
 plan_is : (s : Seen) (plan : Plan) → is_open s.task ≡ true → s.owed ≡ [] → FitsTask s.task s.untold plan → MoveIs s (planned s plan).seen (planned s plan).does
 plan_is s plans.Reads op none f = front_is s _ op none refl
@@ -286,6 +310,11 @@ cleaning_fits t p less f spots.Further untold = tt
 cleaning_fits t p less f (spots.Columns left) untold = tt
 cleaning_fits t p less f spots.ColumnsEnd untold = tt
 cleaning_fits t p less f spots.Rows untold = tt
+cleaning_fits t p less f spots.Prepare untold = tt
+cleaning_fits t p less f (spots.Parameters left columns) untold = tt
+cleaning_fits t p less f (spots.ParametersEnd columns) untold = tt
+cleaning_fits t p less f (spots.Fields left) untold = tt
+cleaning_fits t p less f spots.FieldsEnd untold = tt
 
 rank_cleaning : (c : CallKind) (untold : Bool) → rank (Cleaning c) untold < 3
 rank_cleaning c true = omega arith
@@ -319,6 +348,11 @@ query_fits spots.Further untold = tt
 query_fits (spots.Columns left) untold = tt
 query_fits spots.ColumnsEnd untold = tt
 query_fits spots.Rows untold = tt
+query_fits spots.Prepare untold = tt
+query_fits (spots.Parameters left columns) untold = tt
+query_fits (spots.ParametersEnd columns) untold = tt
+query_fits (spots.Fields left) untold = tt
+query_fits spots.FieldsEnd untold = tt
 
 own_fits : (c : CallKind) (spot : Spot) (untold : Bool) → FitsTask (Own c) untold (own_plan c spot)
 own_fits Connect spot untold = tt
@@ -340,6 +374,11 @@ read_fits spots.Further = tt
 read_fits (spots.Columns left) = tt
 read_fits spots.ColumnsEnd = tt
 read_fits spots.Rows = tt
+read_fits spots.Prepare = tt
+read_fits (spots.Parameters left columns) = tt
+read_fits (spots.ParametersEnd columns) = tt
+read_fits (spots.Fields left) = tt
+read_fits spots.FieldsEnd = tt
 
 drop_fits : (spot : Spot) → FitsTask Dropping false (drop_plan spot)
 drop_fits spots.Idle = tt
@@ -351,6 +390,11 @@ drop_fits spots.Further = tt
 drop_fits (spots.Columns left) = tt
 drop_fits spots.ColumnsEnd = tt
 drop_fits spots.Rows = tt
+drop_fits spots.Prepare = tt
+drop_fits (spots.Parameters left columns) = tt
+drop_fits (spots.ParametersEnd columns) = tt
+drop_fits (spots.Fields left) = tt
+drop_fits spots.FieldsEnd = tt
 
 take_fits : (spot : Spot) → FitsTask Taking false (take_plan spot)
 take_fits spots.Idle = tt
@@ -362,6 +406,11 @@ take_fits spots.Further = tt
 take_fits (spots.Columns left) = tt
 take_fits spots.ColumnsEnd = tt
 take_fits spots.Rows = tt
+take_fits spots.Prepare = tt
+take_fits (spots.Parameters left columns) = tt
+take_fits (spots.ParametersEnd columns) = tt
+take_fits (spots.Fields left) = tt
+take_fits spots.FieldsEnd = tt
 
 skip_fits : (spot : Spot) → FitsTask Skipping false (skip_plan spot)
 skip_fits spots.Idle = tt
@@ -373,6 +422,11 @@ skip_fits spots.Further = tt
 skip_fits (spots.Columns left) = tt
 skip_fits spots.ColumnsEnd = tt
 skip_fits spots.Rows = tt
+skip_fits spots.Prepare = tt
+skip_fits (spots.Parameters left columns) = tt
+skip_fits (spots.ParametersEnd columns) = tt
+skip_fits (spots.Fields left) = tt
+skip_fits spots.FieldsEnd = tt
 
 plan_fits : (t : Task) (spot : Spot) (untold : Bool) → FitsTask t untold (plan_of t spot untold)
 plan_fits Nothing spot untold = tt

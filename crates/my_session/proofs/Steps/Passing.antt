@@ -57,6 +57,9 @@ connect_stays kinds.Column = tt
 connect_stays kinds.ColumnsDone = tt
 connect_stays kinds.Row = tt
 connect_stays (kinds.End status) = tt
+connect_stays (kinds.Prepared params columns) = tt
+connect_stays kinds.Parameter = tt
+connect_stays kinds.Field = tt
 connect_stays kinds.Bad = tt
 
 query_stays : (k : Kind) → StaysIn (Some Query) (react_query k)
@@ -68,6 +71,9 @@ query_stays kinds.Column = (refl, refl)
 query_stays kinds.ColumnsDone = (refl, refl)
 query_stays kinds.Row = tt
 query_stays (kinds.End status) = tt
+query_stays (kinds.Prepared params columns) = (refl, refl)
+query_stays kinds.Parameter = (refl, refl)
+query_stays kinds.Field = (refl, refl)
 query_stays kinds.Bad = tt
 
 ping_stays : (k : Kind) → StaysIn (Some Ping) (react_ping k)
@@ -79,6 +85,9 @@ ping_stays kinds.Column = tt
 ping_stays kinds.ColumnsDone = tt
 ping_stays kinds.Row = tt
 ping_stays (kinds.End status) = tt
+ping_stays (kinds.Prepared params columns) = tt
+ping_stays kinds.Parameter = tt
+ping_stays kinds.Field = tt
 ping_stays kinds.Bad = tt
 
 own_stays : (c : CallKind) (k : Kind) → StaysIn (Some c) (react_own c k)
@@ -100,6 +109,9 @@ whole_stays t sound kinds.Column = (refl, sound)
 whole_stays t sound kinds.ColumnsDone = (refl, sound)
 whole_stays t sound kinds.Row = (refl, sound)
 whole_stays t sound (kinds.End status) = (refl, sound)
+whole_stays t sound (kinds.Prepared params columns) = (refl, sound)
+whole_stays t sound kinds.Parameter = (refl, sound)
+whole_stays t sound kinds.Field = (refl, sound)
 whole_stays t sound kinds.Bad = tt
 
 react_stays : (t : Task) (k : Kind) → StaysIn (kind_in t) (react t k)
@@ -116,6 +128,9 @@ react_stays Reading kinds.Column = (refl, refl)
 react_stays Reading kinds.ColumnsDone = (refl, refl)
 react_stays Reading kinds.Row = tt
 react_stays Reading (kinds.End status) = tt
+react_stays Reading (kinds.Prepared params columns) = (refl, refl)
+react_stays Reading kinds.Parameter = (refl, refl)
+react_stays Reading kinds.Field = (refl, refl)
 react_stays Reading kinds.Bad = tt
 react_stays Dropping (kinds.Greets n) = tt
 react_stays Dropping (kinds.Good status) = refl
@@ -125,6 +140,9 @@ react_stays Dropping kinds.Column = (refl, refl)
 react_stays Dropping kinds.ColumnsDone = (refl, refl)
 react_stays Dropping kinds.Row = refl
 react_stays Dropping (kinds.End status) = refl
+react_stays Dropping (kinds.Prepared params columns) = (refl, refl)
+react_stays Dropping kinds.Parameter = (refl, refl)
+react_stays Dropping kinds.Field = (refl, refl)
 react_stays Dropping kinds.Bad = tt
 react_stays Taking (kinds.Greets n) = tt
 react_stays Taking (kinds.Good status) = tt
@@ -134,6 +152,9 @@ react_stays Taking kinds.Column = (refl, refl)
 react_stays Taking kinds.ColumnsDone = (refl, refl)
 react_stays Taking kinds.Row = tt
 react_stays Taking (kinds.End status) = tt
+react_stays Taking (kinds.Prepared params columns) = (refl, refl)
+react_stays Taking kinds.Parameter = (refl, refl)
+react_stays Taking kinds.Field = (refl, refl)
 react_stays Taking kinds.Bad = tt
 react_stays Skipping (kinds.Greets n) = tt
 react_stays Skipping (kinds.Good status) = tt
@@ -143,6 +164,9 @@ react_stays Skipping kinds.Column = tt
 react_stays Skipping kinds.ColumnsDone = tt
 react_stays Skipping kinds.Row = refl
 react_stays Skipping (kinds.End status) = refl
+react_stays Skipping (kinds.Prepared params columns) = tt
+react_stays Skipping kinds.Parameter = tt
+react_stays Skipping kinds.Field = tt
 react_stays Skipping kinds.Bad = tt
 react_stays Leaving k = tt
 react_stays (Failing c fault) k = tt
@@ -174,6 +198,11 @@ cleaning_suits kind p suit spots.Further untold = tt
 cleaning_suits kind p suit (spots.Columns left) untold = tt
 cleaning_suits kind p suit spots.ColumnsEnd untold = tt
 cleaning_suits kind p suit spots.Rows untold = tt
+cleaning_suits kind p suit spots.Prepare untold = tt
+cleaning_suits kind p suit (spots.Parameters left columns) untold = tt
+cleaning_suits kind p suit (spots.ParametersEnd columns) untold = tt
+cleaning_suits kind p suit (spots.Fields left) untold = tt
+cleaning_suits kind p suit spots.FieldsEnd untold = tt
 
 query_suits : (spot : Spot) → Suits (Some Query) (query_plan spot)
 query_suits spots.Idle = tt
@@ -185,6 +214,11 @@ query_suits spots.Further = tt
 query_suits (spots.Columns left) = tt
 query_suits spots.ColumnsEnd = tt
 query_suits spots.Rows = tt
+query_suits spots.Prepare = tt
+query_suits (spots.Parameters left columns) = tt
+query_suits (spots.ParametersEnd columns) = tt
+query_suits (spots.Fields left) = tt
+query_suits spots.FieldsEnd = tt
 
 own_suits : (c : CallKind) (spot : Spot) → Suits (Some c) (own_plan c spot)
 own_suits Connect spot = tt
@@ -206,6 +240,11 @@ read_suits spots.Further = tt
 read_suits (spots.Columns left) = tt
 read_suits spots.ColumnsEnd = tt
 read_suits spots.Rows = tt
+read_suits spots.Prepare = tt
+read_suits (spots.Parameters left columns) = tt
+read_suits (spots.ParametersEnd columns) = tt
+read_suits (spots.Fields left) = tt
+read_suits spots.FieldsEnd = tt
 
 drop_suits : (spot : Spot) → Suits (Some DropResult) (drop_plan spot)
 drop_suits spots.Idle = tt
@@ -217,6 +256,11 @@ drop_suits spots.Further = tt
 drop_suits (spots.Columns left) = tt
 drop_suits spots.ColumnsEnd = tt
 drop_suits spots.Rows = tt
+drop_suits spots.Prepare = tt
+drop_suits (spots.Parameters left columns) = tt
+drop_suits (spots.ParametersEnd columns) = tt
+drop_suits (spots.Fields left) = tt
+drop_suits spots.FieldsEnd = tt
 
 take_suits : (spot : Spot) → Suits (Some TakeSet) (take_plan spot)
 take_suits spots.Idle = tt
@@ -228,6 +272,11 @@ take_suits spots.Further = tt
 take_suits (spots.Columns left) = tt
 take_suits spots.ColumnsEnd = tt
 take_suits spots.Rows = tt
+take_suits spots.Prepare = tt
+take_suits (spots.Parameters left columns) = tt
+take_suits (spots.ParametersEnd columns) = tt
+take_suits (spots.Fields left) = tt
+take_suits spots.FieldsEnd = tt
 
 skip_suits : (spot : Spot) → Suits (Some SkipTaken) (skip_plan spot)
 skip_suits spots.Idle = tt
@@ -239,6 +288,11 @@ skip_suits spots.Further = tt
 skip_suits (spots.Columns left) = tt
 skip_suits spots.ColumnsEnd = tt
 skip_suits spots.Rows = tt
+skip_suits spots.Prepare = tt
+skip_suits (spots.Parameters left columns) = tt
+skip_suits (spots.ParametersEnd columns) = tt
+skip_suits (spots.Fields left) = tt
+skip_suits spots.FieldsEnd = tt
 
 plan_suits : (t : Task) (spot : Spot) (untold : Bool) → Suits (kind_in t) (plan_of t spot untold)
 plan_suits Nothing spot untold = tt
@@ -287,9 +341,9 @@ module _ (s : Seen) (sound : fault_in s.task ≡ None) where
   reacted_stays n p (reactions.Goes u) same i = (i, same.login_is)
   reacted_stays n p (reactions.Readies untold) same i = (tt, same.login_is)
   reacted_stays n p reactions.Takes same i = (tt, same.login_is)
-  reacted_stays n p reactions.Gives same i = gave_stays n (row_at s.facts.columns p) same.login_is
+  reacted_stays n p reactions.Gives same i = gave_stays n (row_at s.context.rows s.facts.columns p) same.login_is
   reacted_stays n p reactions.Ends same i = (tt, same.login_is)
-  reacted_stays n p reactions.PassesRow same i = passed_stays n (row_at s.facts.columns p) same i
+  reacted_stays n p reactions.PassesRow same i = passed_stays n (row_at s.context.rows s.facts.columns p) same i
   reacted_stays n p reactions.PassesEnd same i = ((ap kind_in same.task_is, ap fault_in same.task_is ∙ sound, i, tt), same.login_is)
   reacted_stays n p reactions.Refuses same i = refused_stays n _ same.login_is
   reacted_stays n p reactions.Breaks same i = (tt, refl)
@@ -311,7 +365,7 @@ module _ (s : Seen) (sound : fault_in s.task ≡ None) where
   front_stays : (f : Front) → Stays (reading s f)
   front_stays Waiting = waiting_stays s.ended
   front_stays (Broken fault) = (tt, refl)
-  front_stays (Whole p rest next) = kind_stays p rest next (kind_there s.context p) (is_breaking (react s.task (kind_there s.context p)))
+  front_stays (Whole p rest next) = kind_stays p rest next (kind_there s.context s.facts.columns p) (is_breaking (react s.task (kind_there s.context s.facts.columns p)))
 
   begins_if : (u : Task) (talk : Talk) (long : Bool) → Stays (cond long (machine.too_large s s.facts.settings.limit (length (command_in talk))) (record { seen = machine.queued s u talk; does = Sends }))
   begins_if u talk true = (tt, refl)

@@ -12,9 +12,9 @@ use crate::tables::{Reaction, is_breaking, is_connecting, react_to};
 use crate::task::Task;
 use my_frame::{Blob, CodecError, CodecFault, NoMemory, ReadError, Text};
 use my_grammar::{Kind, Spot, kind_at, login_response};
-use my_reading::{Answer, Error, IoKind, ServerError};
+use my_reading::{Answer, Error, IoKind, ServerError, read_row};
 use my_reply::{ErrPacket, read_err};
-use my_value::{Row, read_text_row};
+use my_value::Row;
 use std::alloc::Global;
 
 /// A payload with its place in the bytes, its kind, and what the client sends at once after it.
@@ -80,6 +80,9 @@ impl Session {
             | Kind::ColumnsDone
             | Kind::Row
             | Kind::End(_)
+            | Kind::Prepared { .. }
+            | Kind::Parameter
+            | Kind::Field
             | Kind::Bad => Ok(None),
         }
     }
@@ -218,16 +221,16 @@ impl Session {
     // The row that the payload is.
     fn row(&self, alloc: Global, arrival: &Arrival) -> Result<Row, ReadError>
         requires { IsPlaced self.now.seen.unread arrival.now.found }
-        ensures { let s = self.now.seen in ReadsRow (row_at s.facts.columns (brought s arrival.now)) result }
+        ensures { let s = self.now.seen in ReadsRow (row_at s.context.rows s.facts.columns (brought s arrival.now)) result }
     {
         let payload = arrival.found.in_bytes(self.unread.as_slice());
-        read_text_row(alloc, payload, self.facts.columns.shared())
+        read_row(alloc, self.context.rows, &self.facts.columns, payload)
     }
 
     fn give(&mut self, alloc: Global, arrival: &Arrival) -> Tick
         requires { IsArrival self.old.seen arrival.now }
         ensures does { let s = self.old.seen in
-            let row = row_at s.facts.columns (brought s arrival.now) in
+            let row = row_at s.context.rows s.facts.columns (brought s arrival.now) in
             Does (gave s (following s arrival.now) row) s self.new.seen result }
         ensures lifetime { self.new.lifetime ≡ self.old.lifetime }
     {
@@ -247,7 +250,7 @@ impl Session {
     fn pass(&mut self, alloc: Global, arrival: &Arrival) -> Tick
         requires { IsArrival self.old.seen arrival.now }
         ensures does { let s = self.old.seen in
-            let row = row_at s.facts.columns (brought s arrival.now) in
+            let row = row_at s.context.rows s.facts.columns (brought s arrival.now) in
             Does (passed s (following s arrival.now) row) s self.new.seen result }
         ensures lifetime { self.new.lifetime ≡ self.old.lifetime }
     {
@@ -309,15 +312,25 @@ impl Session {
         }
     }
 
+    // What the payload is.
+    fn kind_of(&self, found: &FoundPayload) -> Kind
+        requires { IsPlaced self.now.seen.unread found.now }
+        ensures { let s = self.now.seen in
+            result ≡ kind_there s.context s.facts.columns (payload_in s.unread found.now) }
+    {
+        let payload = found.in_bytes(self.unread.as_slice());
+        kind_at(self.context, self.facts.columns.as_slice(), payload)
+    }
+
     fn read_payload(&mut self, alloc: Global, found: FoundPayload) -> Tick
         requires { IsPlaced self.old.seen.unread found }
         ensures does { let s = self.old.seen in
             let payload = payload_in s.unread found in
             let rest = drop found.span.len s.unread in
-            Does (read_kind s payload rest found.span.next (kind_there s.context payload)) s self.new.seen result }
+            Does (read_kind s payload rest found.span.next (kind_there s.context s.facts.columns payload)) s self.new.seen result }
         ensures lifetime { self.new.lifetime ≡ self.old.lifetime }
     {
-        let kind = kind_at(self.context, found.in_bytes(self.unread.as_slice()));
+        let kind = self.kind_of(&found);
         let reaction = react_to(self.task, kind);
         if is_breaking(reaction) {
             return self.io_fault(IoKind::InvalidData);

@@ -10,7 +10,7 @@ use crate::answer::Tick;
 use crate::task::Task;
 use my_command::{ClientPacket, write_client};
 use my_frame::{Blob, CodecFault, NoMemory};
-use my_grammar::{Context, Login, Spot, Terms};
+use my_grammar::{Context, Login, RowFormat, Spot, Terms};
 use my_reading::{Answer, CallKind, Error};
 use std::alloc::Global;
 
@@ -79,6 +79,7 @@ impl Session {
                 self.number = number;
                 self.context = Context {
                     spot,
+                    rows: RowFormat::Text,
                     columns: 0,
                     terms: Terms {
                         kept: self.context.terms.kept,
