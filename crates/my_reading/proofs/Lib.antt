@@ -1,3 +1,4 @@
 pub mod Described
 pub mod Staying
 pub mod Leading
+pub mod Quieting

@@ -5,6 +5,7 @@ pub mod Told
 pub mod Rows
 pub mod Settings
 pub mod Facts
+pub mod Quiet
 pub mod Tape
 pub mod Place
 pub mod Course

@@ -1,13 +1,17 @@
 //! Laws of what calls come to. Each function's clause is the law; it does nothing.
 
-ghost use Rattle.std.specs.Prelude.{◌≡◌, ℕ, List, length};
+ghost use Rattle.std.specs.Prelude.{◌≡◌, ◌⊎◌, ℕ, List, length};
+ghost use Rattle.my_grammar.specs.declared.spot.Terms.{Terms as AnyTerms};
 ghost use Rattle.my_grammar.specs.Cut.{kind_of};
 ghost use Rattle.my_grammar.specs.Kinds.{kind_there};
-ghost use Rattle.my_grammar.specs.Talk.{Fits, Talk, context_of, described, packets_of};
+ghost use Rattle.my_grammar.specs.FitReplies.{IsRefusal};
+ghost use Rattle.my_grammar.specs.Prepares.{Unanswered};
+ghost use Rattle.my_grammar.specs.Talk.{Fits, Preparing, Talk, context_of, described, origin, packets_of};
 ghost use Rattle.my_grammar.specs.declared.spot.Spot.TheVariants.{Rows};
 ghost use Rattle.my_reading.specs.Facts.{facts_by};
 ghost use Rattle.my_reading.specs.declared.facts.Facts.{Facts as AnyFacts};
 ghost use Rattle.my_reading.specs.Leads.{LeadingStays, LeadsToCourse, StepStays};
+ghost use Rattle.my_reading.specs.Quiet.{TellsNothing};
 
 /// A step of a call that goes on does the same once more bytes were sent or received, and so do the steps that lead
 /// somewhere.
@@ -29,4 +33,10 @@ pub fn columns_are_known()
     ensures all { (t : Talk) → Fits t → (context_of t).spot ≡ Rows → (context_of t).columns ≡ length (described t) }
     ensures kind { (t : Talk) (f : AnyFacts) (p : List ℕ) → Fits t
         → kind_there (context_of t) (facts_by (packets_of t) f).columns p ≡ kind_of t p }
+{}
+
+/// The reply to a statement to prepare leaves all facts as they were but the count of payloads, unless it is an ERR.
+pub fn prepare_tells_nothing()
+    ensures told { (terms : AnyTerms) (command : List ℕ) (t : Talk) → origin t ≡ Preparing terms command Unanswered
+        → IsRefusal (packets_of t) ⊎ TellsNothing (packets_of t) }
 {}

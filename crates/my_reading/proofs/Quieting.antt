@@ -1,0 +1,63 @@
+-- The reply to a statement to prepare tells nothing of the facts, unless it is an ERR.
+use Rattle.std.proofs.Common.{◌≡◌, ℕ, List, [], ◌∷◌, Option, Some, None, ◌⊎◌, inl, inr, refl, ap, ◌∙◌}
+use Rattle.my_grammar.specs.declared.spot.Kind.{Kind}
+use Rattle.my_grammar.specs.declared.spot.Kind.TheVariants as kinds
+use Rattle.my_grammar.specs.declared.spot.Terms.{Terms}
+use Rattle.my_grammar.specs.declared.packet.Packet.{Packet}
+use Rattle.my_grammar.specs.FitReplies.{IsRefusal}
+use Rattle.my_grammar.specs.Prepares.{PreparedHead, Described, Reply, Unanswered, Refused, InParameters, AfterParameters, InFields, AfterFields, Complete, described_packets, head_packet, packets_in_reply}
+use Rattle.my_grammar.specs.Sets.{each, at_most_one}
+use Rattle.my_grammar.specs.Talk.{Talk, Start, Unwelcome, Greeted, Settled, Asked, Replied, Queried, Preparing, Silent, packets_of, origin}
+use Rattle.my_reading.specs.declared.facts.Facts.{Facts}
+use Rattle.my_reading.specs.Facts.{told_after, counted, facts_by}
+use Rattle.my_reading.specs.Quiet.{at_place, TellsNothing}
+
+-- a kind of payload that tells nothing
+IsQuiet : Kind → Type 0
+IsQuiet k = (p : List ℕ) (f : Facts) → told_after k p f ≡ f
+
+none_tells : TellsNothing []
+none_tells f = (f.place, refl)
+
+one_tells : (k : Kind) (p : List ℕ) (packets : List Packet) → IsQuiet k → TellsNothing packets → TellsNothing (record { kind = k; payload = p } ∷ packets)
+unfolding IsQuiet
+one_tells k p packets quiet older f =
+    let w = older f in
+    ((counted (at_place w.0 f)).place, ap counted (quiet p (facts_by packets f) ∙ w.1))
+
+each_tells : (k : Kind) (ps : List (List ℕ)) (packets : List Packet) → IsQuiet k → TellsNothing packets → TellsNothing (each k ps packets)
+each_tells k [] packets quiet older = older
+each_tells k (p ∷ ps) packets quiet older = one_tells k p (each k ps packets) quiet (each_tells k ps packets quiet older)
+
+close_tells : (close : Option (List ℕ)) (packets : List Packet) → TellsNothing packets → TellsNothing (at_most_one kinds.ColumnsDone close packets)
+unfolding IsQuiet
+close_tells None packets older = older
+close_tells (Some p) packets older = one_tells kinds.ColumnsDone p packets (λ q f. refl) older
+
+parameters_tell : (ps : List (List ℕ)) (h : PreparedHead) → TellsNothing (each kinds.Parameter ps (head_packet h))
+unfolding IsQuiet
+parameters_tell ps h = each_tells kinds.Parameter ps (head_packet h) (λ q f. refl) (one_tells (kinds.Prepared h.params h.columns) h.payload [] (λ q f. refl) none_tells)
+
+fields_tell : (ps : List (List ℕ)) (h : PreparedHead) (w : Described) → TellsNothing (each kinds.Field ps (described_packets kinds.Parameter w (head_packet h)))
+unfolding IsQuiet
+fields_tell ps h w = each_tells kinds.Field ps _ (λ q f. refl) (close_tells w.close _ (parameters_tell w.packets h))
+
+reply_tells : (r : Reply) → IsRefusal (packets_in_reply r) ⊎ TellsNothing (packets_in_reply r)
+reply_tells Unanswered = inr none_tells
+reply_tells (Refused p) = inl (record { payload = p; packets_are = refl })
+reply_tells (InParameters h ps left) = inr (parameters_tell ps h)
+reply_tells (AfterParameters h ps) = inr (parameters_tell ps h)
+reply_tells (InFields h w ps left) = inr (fields_tell ps h w)
+reply_tells (AfterFields h w ps) = inr (fields_tell ps h w)
+reply_tells (Complete h w v) = inr (close_tells v.close _ (fields_tell v.packets h w))
+
+pub prepare_tells_nothing : (terms : Terms) (c : List ℕ) (t : Talk) → origin t ≡ Preparing terms c Unanswered → IsRefusal (packets_of t) ⊎ TellsNothing (packets_of t)
+prepare_tells_nothing terms c (Start login) o = cc
+prepare_tells_nothing terms c (Unwelcome login p) o = cc
+prepare_tells_nothing terms c (Greeted login p n) o = cc
+prepare_tells_nothing terms c (Settled login p n last kind) o = cc
+prepare_tells_nothing terms c (Asked own d) o = cc
+prepare_tells_nothing terms c (Replied own d last kind) o = cc
+prepare_tells_nothing terms c (Queried own d sets) o = cc
+prepare_tells_nothing terms c (Preparing own d r) o = reply_tells r
+prepare_tells_nothing terms c (Silent own d) o = cc

@@ -1,0 +1,14 @@
+-- Payloads that tell a client nothing of the facts. MySQL client/server protocol, "COM_STMT_PREPARE Response": it has neither a status nor
+-- the fields of an OK, and describes no set.
+use Rattle.std.specs.Prelude.{◌≡◌, ℕ, List}
+use Rattle.my_grammar.specs.declared.packet.Packet.{Packet}
+use Rattle.my_reading.specs.declared.facts.Facts.{Facts}
+use Rattle.my_reading.specs.Facts.{facts_by}
+
+-- the same facts after another number of payloads
+abbrev pub at_place : ℕ → Facts → Facts
+at_place place f = record { version = f.version; connection = f.connection; status = f.status; ok = f.ok; left = f.left; gathered = f.gathered; columns = f.columns; settings = f.settings; place = place }
+
+-- After these payloads all facts are as they were, but for the count of payloads.
+abbrev pub TellsNothing : List Packet → Type 0
+TellsNothing packets = (f : Facts) → (place : ℕ) × (facts_by packets f ≡ at_place place f)
