@@ -162,7 +162,8 @@ impl Turns {
         }
     }
 
-    /// A number that stands in the queue, if it does, leaves it. The first and the last one of a part are found at once.
+    /// A number that stands in the queue, if it does, leaves it. The first one, and the last one of a part, are found at
+    /// once.
     pub(crate) fn leave(&mut self, stands: bool, number: u64)
         requires { how_many (λ m. m == number) self.old.items ≤ 1 }
         ensures items { self.new.items
