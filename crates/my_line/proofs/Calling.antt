@@ -1,6 +1,5 @@
 -- A call over a session, for all that may have been done before it.
 use Rattle.std.proofs.Common.{ℕ, ◌≡◌, length, inl, inr, Option, Some, None, false, true, is_some, refl, sym, ap, ◌∙◌, subst, arith}
-use Rattle.my_frame.specs.declared.limits.TheConstants.{MOST_TAKEN}
 use Rattle.my_grammar.specs.declared.login.Login.{Login}
 use Rattle.my_link.specs.Looks.{Looks}
 use Rattle.my_link.specs.Met.{nothing_met}
