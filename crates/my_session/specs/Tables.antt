@@ -96,6 +96,8 @@ react_connect (kinds.Good status) = reactions.Goes (Arranging 0)
 react_connect kinds.Failed = reactions.Refuses
 react_connect k = reactions.Breaks
 
+-- No payload of a prepare reply comes where a query's head, a row, a set's rest or its next set is awaited. The reading of a tape goes on
+-- at such a payload (`after_kind`), and so do these tables.
 abbrev pub react_query : Kind → Reaction
 react_query (kinds.Good status) = reactions.Readies true
 react_query kinds.Failed = reactions.Refuses
