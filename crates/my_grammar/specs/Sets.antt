@@ -28,8 +28,8 @@ pub data Asking : Type 0 where
   ByText : Asking
   ByStatement : (known : List Column) → Asking
 
--- No set of a response that was asked for so; or after the older ones a lone OK, an ERR in a head's place, a head of which left columns are awaited, a head whose EOF is
--- left, rows under a whole head, rows with their end, or rows that an ERR broke off.
+-- No set of a response that was asked for so; or after the older ones a lone OK, an ERR in a head's place, a head of which left columns
+-- are awaited, a head whose EOF is left, rows under a whole head, rows with their end, or rows that an ERR broke off.
 pub data Sets : Type 0 where
   NoSets : (asking : Asking) → Sets
   Lone : (older : Sets) (p : List ℕ) (status : StatusFlags) → Sets

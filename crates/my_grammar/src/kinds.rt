@@ -161,7 +161,8 @@ fn head(payload: &[u8]) -> Kind
 }
 
 fn row(context: Context, columns: &[Column], payload: &[u8]) -> Kind
-    ensures { result ≡ row_kind context.rows (deprecates_eof context.terms.kept) context.columns columns.now payload.now }
+    ensures { result ≡ row_kind context.rows (deprecates_eof context.terms.kept)
+        context.columns columns.now payload.now }
 {
     let cells = cells(context.rows, context.columns, columns, payload);
     first_of(

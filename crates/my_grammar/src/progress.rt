@@ -211,7 +211,8 @@ impl Progress {
 
     // What a payload of this kind says of the columns of a set.
     fn describe(&mut self, alloc: Global, kind: Kind, payload: &[u8]) -> Result<(), NoMemory>
-        ensures columns { OnOk result (self.new.columns.items ≡ described_after self.old.columns.items kind payload.now) }
+        ensures columns { OnOk result
+            (self.new.columns.items ≡ described_after self.old.columns.items kind payload.now) }
         ensures context { self.new.context ≡ self.old.context }
         ensures number { self.new.number ≡ self.old.number }
         ensures packets { self.new.packets.items ≡ self.old.packets.items }

@@ -95,7 +95,7 @@ owes _ = false
 -- what callers know: all but the end of a lone OK that is still to be returned
 abbrev pub known_part : Bool → Sets → Sets
 known_part false x = x
-known_part true (NoSets asking) = (NoSets asking)
+known_part true (NoSets asking) = NoSets asking
 known_part true (Lone older p status) = older
 known_part true (Failed older p) = Failed older p
 known_part true (Heading older head left) = Heading older head left

@@ -221,7 +221,8 @@ impl Session {
     // The row that the payload is.
     fn row(&self, alloc: Global, arrival: &Arrival) -> Result<Row, ReadError>
         requires { IsPlaced self.now.seen.unread arrival.now.found }
-        ensures { let s = self.now.seen in ReadsRow (row_at s.context.rows s.facts.columns (brought s arrival.now)) result }
+        ensures { let s = self.now.seen in
+            ReadsRow (row_at s.context.rows s.facts.columns (brought s arrival.now)) result }
     {
         let payload = arrival.found.in_bytes(self.unread.as_slice());
         read_row(alloc, self.context.rows, &self.facts.columns, payload)
@@ -327,7 +328,8 @@ impl Session {
         ensures does { let s = self.old.seen in
             let payload = payload_in s.unread found in
             let rest = drop found.span.len s.unread in
-            Does (read_kind s payload rest found.span.next (kind_there s.context s.facts.columns payload)) s self.new.seen result }
+            let kind = kind_there s.context s.facts.columns payload in
+            Does (read_kind s payload rest found.span.next kind) s self.new.seen result }
         ensures lifetime { self.new.lifetime ≡ self.old.lifetime }
     {
         let kind = self.kind_of(&found);
