@@ -168,6 +168,25 @@ fn a_link_over_a_local_socket(rt: HostRuntime) -> Result<(), Fail> {
     Ok(())
 }
 
+// After a check a read waits again, here for a byte that is sent a while after it began.
+#[test]
+fn a_read_waits_after_a_check(rt: HostRuntime) -> Result<(), Fail> {
+    let listener = TcpListener::bind(&rt, "127.0.0.1:0")?;
+    let port = listener.local_addr()?.port();
+    let target = target(rt.alloc(), "localhost", port, None)?;
+    let step = TcpWorld::new(&rt).dial(0, &target);
+    let mut link = linked(step).ok_or("no link")?;
+    let (mut peer, _) = listener.accept()?;
+    let is_alive = link.check() == CheckStep::Alive;
+    let sender = thread::spawn(&rt, move || {
+        thread::sleep(&rt, Duration::from_millis(50));
+        peer.write_all(b"a").is_ok()
+    })?;
+    let is_read = link.read(&mut [0u8; 1]) == ReadStep::Got(1);
+    assert!(rt; sender.join(&rt) && is_alive && is_read);
+    Ok(())
+}
+
 #[test]
 fn a_stream_that_fails(rt: HostRuntime) {
     let mut link = StreamLink::new(Broken);
