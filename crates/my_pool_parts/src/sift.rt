@@ -83,7 +83,8 @@ impl Tree {
         ensures ordered { IsOrdered (length self.new.entries.items) (age_at self.new.entries.items) }
         ensures ages { self.new.ages ≡ self.old.ages }
         ensures capacity { self.old.entries.room ≤ self.new.entries.room }
-        ensures cost { (d : ℕ) → length self.old.entries.items < 2 ^ d → C.noted steps.new ≤ C.noted steps.old + 2 * d + 1 }
+        ensures cost { (d : ℕ) → length self.old.entries.items < 2 ^ d
+            → C.noted steps.new ≤ C.noted steps.old + 2 * d + 1 }
     {
         if i > 0 && self.is_older(i, (i - 1) / 2, steps) {
             self.sift_up(i, steps);
@@ -102,7 +103,8 @@ impl Tree {
         ensures ordered { IsOrdered (length self.new.entries.items) (age_at self.new.entries.items) }
         ensures ages { self.new.ages.items ≡ slice_set self.old.ages.items (slot_at self.old.entries.items i) None }
         ensures capacity { self.old.entries.room ≤ self.new.entries.room }
-        ensures cost { (d : ℕ) → length self.old.entries.items < 2 ^ d → C.noted steps.new ≤ C.noted steps.old + 2 * d + 1 }
+        ensures cost { (d : ℕ) → length self.old.entries.items < 2 ^ d
+            → C.noted steps.new ≤ C.noted steps.old + 2 * d + 1 }
     {
         let removed = self.entries.get(i);
         let last = self.entries.len() - 1;

@@ -1,7 +1,7 @@
 //! Streams of a server that executes prepared statements: sets whose rows are of the binary protocol.
 
 use crate::examples::{COLUMN, Example, GREETING, KEPT_OLD, OK, USUAL};
-use crate::streams::{is_cut, is_cut_everywhere};
+use crate::streams::{first_wrong, is_cut_everywhere};
 use std::test::Fail;
 
 const EOF: &str = "fe00000200";
@@ -298,19 +298,15 @@ const BITMAPS: &[Example] = &[
 
 #[test]
 fn executes_are_cut(rt: HostRuntime) -> Result<(), Fail> {
-    let alloc = rt.alloc();
-    for case in EXECUTES {
-        assert!(rt; is_cut(alloc, case)?, "{}", case.name);
-    }
+    let wrong = first_wrong(rt.alloc(), EXECUTES)?;
+    assert!(rt; wrong.is_none(), "{}", wrong.unwrap_or(""));
     Ok(())
 }
 
 #[test]
 fn bitmaps_are_read(rt: HostRuntime) -> Result<(), Fail> {
-    let alloc = rt.alloc();
-    for case in BITMAPS {
-        assert!(rt; is_cut(alloc, case)?, "{}", case.name);
-    }
+    let wrong = first_wrong(rt.alloc(), BITMAPS)?;
+    assert!(rt; wrong.is_none(), "{}", wrong.unwrap_or(""));
     Ok(())
 }
 

@@ -1,7 +1,7 @@
 //! Streams of a server that is asked to prepare statements.
 
 use crate::examples::{COLUMN, Example, GREETING, KEPT_OLD, OK, USUAL};
-use crate::streams::{is_cut, is_cut_everywhere};
+use crate::streams::{first_wrong, is_cut_everywhere};
 use std::test::Fail;
 
 // Of the public pages of the protocol: what answers `SELECT CONCAT(?, ?) AS col1`.
@@ -250,10 +250,8 @@ const PREPARES: &[Example] = &[
 
 #[test]
 fn prepares_are_cut(rt: HostRuntime) -> Result<(), Fail> {
-    let alloc = rt.alloc();
-    for case in PREPARES {
-        assert!(rt; is_cut(alloc, case)?, "{}", case.name);
-    }
+    let wrong = first_wrong(rt.alloc(), PREPARES)?;
+    assert!(rt; wrong.is_none(), "{}", wrong.unwrap_or(""));
     Ok(())
 }
 
