@@ -1,3 +1,4 @@
 mod Bodies
 pub mod Filling
+mod Pieces
 mod Texts

@@ -1,4 +1,5 @@
 pub mod BulkBody
+pub mod LongData
 pub mod NamedParams
 pub mod ParamValues
 pub mod Parameters

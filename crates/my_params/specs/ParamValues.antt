@@ -13,13 +13,6 @@ use Rattle.my_params.specs.declared.params.Params.TheVariants.{Empty, Positional
 use Rattle.my_params.specs.declared.params.ParamsError.{ParamsError}
 use Rattle.my_params.specs.declared.params.ParamsError.TheVariants.{Missing, Kind, NoMemory}
 
--- The second parameters have the values of the first.
-abbrev pub HasValuesOf : Params → Params → Type 0
-HasValuesOf Empty Empty = Unit {0}
-HasValuesOf (Positional values) (Positional copies) = copies.items ≡ values.items
-HasValuesOf (Named pairs) (Named copies) = copies.items ≡ pairs.items
-HasValuesOf params copy = ⊥
-
 -- the first that is there
 abbrev pub first_of : {T : Type 0} → Option T → Option T → Option T
 first_of None o = o
@@ -67,10 +60,10 @@ sendable_if_filled (Err name) = Err (Missing name)
 abbrev pub resolved : Params → List (List ℕ) → Result (List Value) ParamsError
 resolved Empty [] = Ok []
 resolved Empty (name ∷ names) = Err (Missing name)
-resolved (Positional values) [] = sendable values.items
+resolved (Positional values) [] = sendable values
 resolved (Positional values) (name ∷ names) = Err Kind
-resolved (Named pairs) [] = if length pairs.items == 0 then Ok [] else Err Kind
-resolved (Named pairs) (name ∷ names) = sendable_if_filled (filled (name ∷ names) pairs.items)
+resolved (Named pairs) [] = if length pairs == 0 then Ok [] else Err Kind
+resolved (Named pairs) (name ∷ names) = sendable_if_filled (filled (name ∷ names) pairs)
 
 -- The result is that one, unless memory ran out.
 abbrev pub ResolvesTo : {A : Type 0} → Result (Vec Value A) ParamsError → Result (List Value) ParamsError → Type 0

@@ -68,7 +68,7 @@ pub fn parameter_of(alloc: Global, value: &Value, ahead: bool) -> Result<Paramet
 }
 
 // Whether the payload with all values in it is longer than a chunk.
-fn is_long(values: &[Value]) -> bool
+pub(crate) fn is_long(values: &[Value]) -> bool
     requires { length values.now ≤ 65535 }
     ensures { result ≡ needs_long values.now }
 {

@@ -2,6 +2,7 @@
 //! these.
 #![tactic(auto)]
 
+mod ahead;
 pub mod bulk;
 mod execute;
 pub mod laws;
@@ -10,6 +11,7 @@ mod params;
 pub mod sending;
 mod sql_text;
 
+pub use ahead::ahead_of;
 pub use execute::{execute_body, parameter_of};
 pub use named::{ParseFault, ParsedNamedParams};
-pub use params::{Params, ParamsError, into_values};
+pub use params::{Params, ParamsError, into_values, values_for};

@@ -111,6 +111,18 @@ impl ParsedNamedParams {
         })
     }
 
+    /// The text with `?` in the place of each name and its names, whether it has a `?` of its own or not.
+    pub fn replaced(alloc: Global, text: &[u8]) -> Result<ParsedNamedParams, NoMemory>
+        ensures query { IfOk result (λ p. p.query ≡ all_sent (split text.now)) }
+        ensures names { IfOk result (λ p. p.names ≡ all_names (split text.now)) }
+    {
+        let gathered = gather(alloc, text)?;
+        Ok(ParsedNamedParams {
+            query: Blob::from(gathered.query),
+            params: gathered.params,
+        })
+    }
+
     /// A second value of the same text and names.
     pub fn copy(&self, alloc: Global) -> Result<ParsedNamedParams, NoMemory>
         ensures { IfOk result (λ copy. copy ≡ self.now) }

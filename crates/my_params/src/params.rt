@@ -2,9 +2,10 @@
 
 ghost use Rattle.std.specs.Prelude.{◌≡◌, [], ◌∷◌, ◌++◌, OnOk, IfOk, Option, length};
 ghost use Rattle.std.specs.List.{list_any};
-ghost use Rattle.my_params.specs.ParamValues.{FillsTo, HasLastValues, HasValuesOf, MissesOrFails, ResolvesTo, filled, is_float, resolved, sendable};
+ghost use Rattle.my_params.specs.declared.params.Params.TheVariants.{Empty, Named, Positional};
+ghost use Rattle.my_params.specs.ParamValues.{FillsTo, HasLastValues, MissesOrFails, ResolvesTo, filled, is_float, resolved, sendable};
 
-use my_frame::{Blob, NoMemory, copy_items};
+use my_frame::{Blob, Listed, NoMemory, copy_items};
 use my_value::Value;
 use my_value::shown::Lossy;
 use std::alloc::Global;
@@ -12,36 +13,36 @@ use std::collections::BTreeMap;
 use std::fmt;
 
 /// The parameters that a caller gives with a statement.
+///
+/// `Listed::from` makes a list of a `Vec` without taking memory, as `Blob::from` makes one of bytes.
 #[derive(Debug, Drop, PartialEq, Eq)]
 pub enum Params {
     Empty,
     /// One value for each `?`.
-    Positional(Vec<Value>),
+    Positional(Listed<Value>),
     /// A value for each name; of several pairs with one name the last counts.
-    Named(Vec<(Blob, Value)>),
+    Named(Listed<(Blob, Value)>),
 }
 
 // A second list of these pairs.
-fn copy_pairs(alloc: Global, pairs: &[(Blob, Value)]) -> Result<Vec<(Blob, Value)>, NoMemory>
-    ensures { IfOk result (λ copies. copies.items ≡ pairs.now) }
+fn copy_pairs(alloc: Global, pairs: &[(Blob, Value)]) -> Result<Listed<(Blob, Value)>, NoMemory>
+    ensures { IfOk result (λ copies. copies ≡ pairs.now) }
 {
     let mut copies = Vec::new(alloc);
     for (name, value) in pairs {
         copies.push((name.copy(alloc)?, value.copy(alloc)?))?;
     }
-    Ok(copies)
+    Ok(Listed::from(copies))
 }
 
 impl Params {
     /// Second parameters with the same values.
     pub fn copy(&self, alloc: Global) -> Result<Params, NoMemory>
-        ensures { IfOk result (HasValuesOf self.now) }
+        ensures { IfOk result (λ copy. copy ≡ self.now) }
     {
         match self {
             Params::Empty => Ok(Params::Empty),
-            Params::Positional(values) => {
-                Ok(Params::Positional(copy_items(alloc, values.as_slice())?))
-            }
+            Params::Positional(values) => Ok(Params::Positional(values.copy(alloc)?)),
             Params::Named(pairs) => Ok(Params::Named(copy_pairs(alloc, pairs.as_slice())?)),
         }
     }
@@ -165,33 +166,68 @@ fn push_copy(alloc: Global, values: &mut Vec<Value>, value: &Value) -> Result<()
     Ok(())
 }
 
+// Nothing is given.
+fn nothing_for(alloc: Global, names: &[Blob]) -> Result<Vec<Value>, ParamsError>
+    ensures { ResolvesTo result (resolved Empty names.now) }
+{
+    match names {
+        [] => Ok(Vec::new(alloc)),
+        [first, ..] => Err(missing(alloc, first)),
+    }
+}
+
+// Values are given by place.
+fn placed_for(values: Vec<Value>, names: &[Blob]) -> Result<Vec<Value>, ParamsError>
+    ensures { ResolvesTo result (resolved (Positional values.items) names.now) }
+{
+    if !names.is_empty() {
+        return Err(ParamsError::Kind);
+    }
+    without_floats(values)
+}
+
+// Values are given by name.
+fn named_for(
+    alloc: Global,
+    pairs: &[(Blob, Value)],
+    names: &[Blob],
+) -> Result<Vec<Value>, ParamsError>
+    ensures { ResolvesTo result (resolved (Named pairs.now) names.now) }
+{
+    if names.is_empty() {
+        if pairs.is_empty() {
+            return Ok(Vec::new(alloc));
+        }
+        return Err(ParamsError::Kind);
+    }
+    match fill(alloc, names, pairs) {
+        Ok(values) => without_floats(values),
+        Err(e) => Err(e),
+    }
+}
+
 /// The values that are sent for the parameters of a text with these names, each name's value at each of its
 /// places; `names` is empty for a text without names.
 pub fn into_values(alloc: Global, params: Params, names: &[Blob]) -> Result<Vec<Value>, ParamsError>
     ensures { ResolvesTo result (resolved params names.now) }
 {
     match params {
-        Params::Empty => match names {
-            [] => Ok(Vec::new(alloc)),
-            [first, ..] => Err(missing(alloc, first)),
+        Params::Empty => nothing_for(alloc, names),
+        Params::Positional(values) => placed_for(values.into_vec(), names),
+        Params::Named(pairs) => named_for(alloc, pairs.as_slice(), names),
+    }
+}
+
+/// The same of parameters that are kept: copies of their values.
+pub fn values_for(alloc: Global, params: &Params, names: &[Blob]) -> Result<Vec<Value>, ParamsError>
+    ensures { ResolvesTo result (resolved params.now names.now) }
+{
+    match params {
+        Params::Empty => nothing_for(alloc, names),
+        Params::Positional(values) => match copy_items(alloc, values.as_slice()) {
+            Ok(values) => placed_for(values, names),
+            Err(_) => Err(ParamsError::NoMemory),
         },
-        Params::Positional(values) => {
-            if !names.is_empty() {
-                return Err(ParamsError::Kind);
-            }
-            without_floats(values)
-        }
-        Params::Named(pairs) => {
-            if names.is_empty() {
-                if pairs.is_empty() {
-                    return Ok(Vec::new(alloc));
-                }
-                return Err(ParamsError::Kind);
-            }
-            match fill(alloc, names, pairs.as_slice()) {
-                Ok(values) => without_floats(values),
-                Err(e) => Err(e),
-            }
-        }
+        Params::Named(pairs) => named_for(alloc, pairs.as_slice(), names),
     }
 }

@@ -1,3 +1,5 @@
 mod Numbered
 mod Apart
 mod Steps
+mod Knowing
+mod Same

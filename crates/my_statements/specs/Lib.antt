@@ -1,3 +1,5 @@
 pub mod Cache
 pub mod Indexed
 pub mod Fetched
+pub mod Known
+pub mod Prepared

@@ -69,6 +69,14 @@ impl StmtCache {
         self.entries.get(&id)
     }
 
+    /// The statement of a text. It doesn't count as a use.
+    pub fn peek(&self, query: &[u8]) -> Option<&Entry>
+        ensures { option_copied result ≡ find (has_query query.now) self.now.list }
+    {
+        let id = *self.ids.get(query)?;
+        self.entries.peek(&id)
+    }
+
     /// Keeps a statement, whose text and number are not held, as the most recent one. Returns the statement that has to
     /// go for it. Out of memory, nothing changes.
     pub fn put(

@@ -1,7 +1,7 @@
 //! The cache of statements, beside a plain list.
 
 use my_frame::NoMemory;
-use my_statements::{StmtCache, StmtInner};
+use my_statements::{SetColumns, StmtCache, StmtInner};
 use std::alloc::Global;
 use std::sync::Arc;
 use std::test::Fail;
@@ -10,7 +10,7 @@ use std::test::Fail;
 const NUMBERS: u8 = 8;
 
 fn statement(alloc: Global, id: u8) -> Result<Arc<StmtInner>, NoMemory> {
-    let params = Arc::new(alloc, Vec::new(alloc))?;
+    let params = SetColumns::new(alloc)?;
     Ok(Arc::new(
         alloc,
         StmtInner {

@@ -2,9 +2,13 @@
 #![tactic(auto)]
 
 #[cfg(test)]
+mod ahead;
+#[cfg(test)]
 mod cache;
 #[cfg(test)]
 mod conversions;
+#[cfg(test)]
+mod known;
 #[cfg(test)]
 mod made;
 #[cfg(test)]
@@ -15,5 +19,7 @@ mod names;
 mod parameters;
 #[cfg(test)]
 mod rows;
+#[cfg(test)]
+mod statements;
 #[cfg(test)]
 mod texts;

@@ -1,6 +1,6 @@
 //! Many names with many pairs, which aren't compared each with each.
 
-use my_frame::{Blob, NoMemory};
+use my_frame::{Blob, Listed, NoMemory};
 use my_params::{Params, ParamsError, into_values};
 use my_value::Value;
 use std::alloc::Global;
@@ -31,7 +31,7 @@ fn pairs(alloc: Global) -> Result<Params, NoMemory> {
     for number in 0..COUNT {
         pairs.push((name_of(alloc, number)?, Value::UInt(u64::from(number))))?;
     }
-    Ok(Params::Named(pairs))
+    Ok(Params::Named(Listed::from(pairs)))
 }
 
 // Whether the values are the numbers from 0 on.

@@ -2,9 +2,9 @@
 
 use crate::made::bytes;
 use my_command::statement::{ParameterType, put_bulk_head};
-use my_frame::{Blob, NoMemory};
+use my_frame::{Blob, Listed, NoMemory};
 use my_params::bulk::{bulk_list_len, join_types, put_bulk_list, types_agree, types_of};
-use my_params::{Params, ParamsError, execute_body, into_values, parameter_of};
+use my_params::{Params, ParamsError, execute_body, into_values, parameter_of, values_for};
 use my_value::Value;
 use std::alloc::{AllocError, Global};
 use std::test::Fail;
@@ -34,7 +34,7 @@ fn three_pairs(alloc: Global) -> Result<Params, NoMemory> {
     add_pair(alloc, &mut pairs, b"foo", Value::Int(1))?;
     add_pair(alloc, &mut pairs, b"bar", Value::Int(42))?;
     add_pair(alloc, &mut pairs, b"foo", bytes(alloc, b"bar")?)?;
-    Ok(Params::Named(pairs))
+    Ok(Params::Named(Listed::from(pairs)))
 }
 
 fn one(alloc: Global, value: Value) -> Result<Vec<Value>, AllocError> {
@@ -69,6 +69,28 @@ fn are_filled(values: &[Value]) -> bool {
 const FILLED: &[u8] =
     b"\x17\x01\0\0\0\0\x01\0\0\0\0\x01\xfd\0\x08\0\xfd\0\x03bar\x2a\0\0\0\0\0\0\0\x03bar";
 
+// Whether the values of parameters that are kept are those of parameters that are given away.
+fn are_kept(alloc: Global, params: Params, names: &[Blob]) -> bool {
+    let kept = values_for(alloc, &params, names);
+    match (kept, into_values(alloc, params, names)) {
+        (Ok(kept), Ok(given)) => kept == given,
+        (Err(kept), Err(given)) => kept == given,
+        _ => false,
+    }
+}
+
+fn each_is_kept(alloc: Global, names: &[Blob]) -> Result<bool, NoMemory> {
+    Ok(
+        are_kept(alloc, three_pairs(alloc)?, names)
+            && are_kept(alloc, three_pairs(alloc)?, &[])
+            && are_kept(alloc, Params::Empty, names)
+            && are_kept(alloc, Params::Empty, &[])
+            && are_kept(alloc, placed(alloc, Value::Int(1))?, names)
+            && are_kept(alloc, placed(alloc, Value::Int(1))?, &[])
+            && are_kept(alloc, placed(alloc, Value::FloatBits(1))?, &[]),
+    )
+}
+
 fn fills(alloc: Global, names: &[Blob]) -> Result<bool, NoMemory> {
     match into_values(alloc, three_pairs(alloc)?, names) {
         Ok(values) => Ok(
@@ -86,15 +108,21 @@ fn lacks_foo(alloc: Global, names: &[Blob]) -> bool {
     }
 }
 
+// One value by place.
+fn placed(alloc: Global, value: Value) -> Result<Params, NoMemory> {
+    Ok(Params::Positional(Listed::from(one(alloc, value)?)))
+}
+
 // Whether a value by place is refused where a text has these names.
 fn is_other_kind(alloc: Global, value: Value, names: &[Blob]) -> Result<bool, NoMemory> {
-    let values = Params::Positional(one(alloc, value)?);
+    let values = placed(alloc, value)?;
     Ok(matches!(&into_values(alloc, values, names), Err(ParamsError::Kind)))
 }
 
 fn are_well(alloc: Global, names: &[Blob]) -> Result<bool, NoMemory> {
     Ok(
         fills(alloc, names)?
+            && each_is_kept(alloc, names)?
             && lacks_foo(alloc, names)
             && is_other_kind(alloc, Value::Int(1), names)?
             && is_other_kind(alloc, Value::FloatBits(1), &[])?
