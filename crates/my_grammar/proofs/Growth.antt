@@ -17,9 +17,9 @@ use Rattle.my_grammar.specs.declared.spot.Terms.{Terms}
 use Rattle.my_grammar.specs.declared.spot.Context.{Context}
 use Rattle.my_grammar.specs.Contexts.{is_bad}
 use Rattle.my_grammar.specs.Kinds.{greeting_kind, single_kind, kind_by, kind_there}
-use Rattle.my_grammar.specs.Sets.{Sets, NoSets, Packet, packets_in, spot_in, columns_in, format_in, format_of, described_in, grow_sets}
+use Rattle.my_grammar.specs.Sets.{Sets, NoSets, Packet, asking_in, packets_in, spot_in, columns_in, format_in, format_of, described_in, grow_sets}
 use Rattle.my_grammar.specs.Prepares.{Reply, packets_in_reply, spot_in_reply, grow_reply}
-use Rattle.my_grammar.specs.Talk.{Talk, Start, Unwelcome, Greeted, Settled, Asked, Replied, Queried, Preparing, Silent, Turn, Client, Server, served, packets_of, context_of, described, Fits, limit_of}
+use Rattle.my_grammar.specs.Talk.{Talk, Start, Unwelcome, Greeted, Settled, Asked, Replied, Queried, Preparing, Silent, Turn, Client, Server, served, commands_by, packets_of, context_of, described, Fits, limit_of}
 use Rattle.my_grammar.specs.Growth.{Grows, Reads}
 use Rattle.my_grammar.proofs.Growth.Known.{is_greeting_kind, is_single_kind, known_greeting, known_single, is_then}
 use Rattle.my_grammar.proofs.Growth.SetGrowth.{grows_sets, no_greeting, none}
@@ -101,7 +101,9 @@ grows_queried terms c x k p e b short f =
       context = same_context _ _ _ _ _ _ terms.kept _ terms.limit g.spot (ap format_of g.asking) g.columns (sym (n.kept terms.kept));
       described_is = g.described;
       packets_are = g.packets_are;
-      turns_are = λ login. ap (λ ps. served ps (Client c ∷ [])) g.packets_are ∙ ap (λ (rs : List Turn). rs ++ Server p ∷ served (packets_in x) (Client c ∷ [])) (sym (n.silent login));
+      turns_are = λ login.
+          let began = commands_by c (asking_in x) in
+          ap (λ a. served (packets_in (grow_sets d k x p)) (commands_by c a)) g.asking ∙ ap (λ ps. served ps began) g.packets_are ∙ ap (λ (rs : List Turn). rs ++ Server p ∷ served (packets_in x) began) (sym (n.silent login));
       login_is = λ login. refl;
       fits = record { kinds = g.fits; within = one_more (Queried terms c x) (Queried terms c (grow_sets d k x p)) k p g.packets_are refl short f.within };
       origin_is = ap (λ a. Queried terms c (NoSets a)) g.asking;
@@ -135,4 +137,4 @@ grows (Silent terms c) k p e b short f = absurd (none k e b)
 
 -- an exchange of another kind has no login, and any serves
 abbrev pub any_login : Login
-any_login = record { user = None; password = None; database = None; max_packet = 0; attributes = []; capabilities = record { 0 = 0 }; packet_limit = None; wait_timeout = None; init = []; setup = [] }
+any_login = record { user = None; password = None; database = None; max_packet = 0; attributes = []; capabilities = record { 0 = 0 }; packet_limit = None; wait_timeout = None; init = []; setup = []; statements = 0 }

@@ -22,6 +22,8 @@ use Rattle.my_grammar.specs.Growth.{grow, Grows}
 use Rattle.my_grammar.specs.Cut.{Read, Trailing, Cut, front_of, kind_of, read_payload, read_front, read_within, read_from, rest_in_front, is_idle, is_over, rest_of, onto, cut_after, cut}
 use Rattle.my_grammar.specs.CutLaws.{StopsAt, IsRead, bytes_of, AreOver, IsCut}
 use Rattle.my_grammar.proofs.Cutting.Fronts.{takes_whole}
+use Rattle.my_grammar.specs.Sets.{asking_in}
+use Rattle.my_grammar.proofs.Commands.{commands_silent}
 use Rattle.my_grammar.proofs.Growth.{grows, reads, any_login}
 use Rattle.my_grammar.proofs.Sound.Reaching.{reaches}
 
@@ -104,7 +106,7 @@ begins (Greeted login p c) = record { bytes = refl; again = refl }
 begins (Settled login p c last kind) = record { bytes = refl; again = refl }
 begins (Asked terms c) = record { bytes = refl; again = refl }
 begins (Replied terms c last kind) = record { bytes = refl; again = refl }
-begins (Queried terms c sets) = record { bytes = refl; again = refl }
+begins (Queried terms c sets) = record { bytes = commands_silent c (asking_in sets); again = refl }
 begins (Preparing terms c r) = record { bytes = refl; again = refl }
 begins (Silent terms c) = record { bytes = refl; again = refl }
 

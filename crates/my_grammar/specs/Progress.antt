@@ -18,7 +18,7 @@ abbrev pub talk_of : Login → Opening → Talk
 talk_of login openings.Connect = Start login
 talk_of login (openings.Simple terms command) = Asked terms command
 talk_of login (openings.Query terms command) = Queried terms command (NoSets ByText)
-talk_of login (openings.Execute terms command) = Queried terms command (NoSets (ByStatement []))
+talk_of login (openings.Execute terms ahead command) = Queried terms command (NoSets (ByStatement ahead []))
 talk_of login (openings.Prepare terms command) = Preparing terms command Unanswered
 talk_of login (openings.Silent terms command) = Silent terms command
 

@@ -22,11 +22,12 @@ pub record SetHead : Type 0 where
   pub columns : List (List ℕ)
   pub close : Option (List ℕ)
 
--- How sets are asked for: by a query, or by executing a statement of which these columns are known. They will be the columns of a set that
--- the server sends without describing them again. No server may do so yet, and nothing reads them.
+-- How sets are asked for: by a query, or by executing a statement. Ahead of it the client sends these payloads, in order: parts of long
+-- values (COM_STMT_SEND_LONG_DATA), which no server answers. These columns are known of the statement. They will be the columns of a set
+-- that the server sends without describing them again. No server may do so yet, and nothing reads them.
 pub data Asking : Type 0 where
   ByText : Asking
-  ByStatement : (known : List Column) → Asking
+  ByStatement : (ahead : List (List ℕ)) (known : List Column) → Asking
 
 -- No set of a response that was asked for so; or after the older ones a lone OK, an ERR in a head's place, a head of which left columns
 -- are awaited, a head whose EOF is left, rows under a whole head, rows with their end, or rows that an ERR broke off.
@@ -95,7 +96,7 @@ asking_in (Broken older head rows last) = asking_in older
 -- a statement's rows are of the binary protocol
 abbrev pub format_of : Asking → RowFormat
 format_of ByText = Text
-format_of (ByStatement known) = Binary
+format_of (ByStatement ahead known) = Binary
 
 abbrev pub format_in : Sets → RowFormat
 format_in x = format_of (asking_in x)

@@ -1,8 +1,8 @@
 -- An exchange as it was read: a client's command with the server's payloads so far, or the opening of a connection, which begins with
 -- the server. MySQL client/server protocol, "Connection Phase" and "Command Phase". One running sequence id goes over the packets of both
--- sides, from 0 in each exchange.
+-- sides, from 0 on, anew from each command of the client on.
 use Rattle.std.specs.Prelude.{◌≡◌, ℕ, ◌≤◌, List, [], ◌∷◌, ◌++◌, length, false}
-use Rattle.std.specs.List.{AllByRecursion}
+use Rattle.std.specs.List.{AllByRecursion, flat_map}
 use Rattle.my_flags.specs.declared.flags.CapabilityFlags.{CapabilityFlags}
 use Rattle.my_flags.specs.Sets.{deprecates_eof, intersection}
 use Rattle.my_frame.specs.declared.limits.TheConstants.{DEFAULT_MAX_ALLOWED_PACKET}
@@ -17,7 +17,7 @@ use Rattle.my_grammar.specs.declared.spot.Terms.{Terms}
 use Rattle.my_grammar.specs.declared.spot.Context.{Context}
 use Rattle.my_grammar.specs.Contexts.{is_bad}
 use Rattle.my_grammar.specs.Kinds.{greeting_kind, single_kind}
-use Rattle.my_grammar.specs.Sets.{Sets, NoSets, Packet, asking_in, packets_in, context_in, described_in}
+use Rattle.my_grammar.specs.Sets.{Asking, ByText, ByStatement, Sets, NoSets, Packet, asking_in, packets_in, context_in, described_in}
 use Rattle.my_grammar.specs.FitSets.{FitSets}
 use Rattle.my_grammar.specs.Prepares.{Reply, Unanswered, packets_in_reply, context_in_reply}
 use Rattle.my_grammar.specs.FitReplies.{FitReply}
@@ -58,15 +58,27 @@ packets_of (Queried terms c sets) = packets_in sets
 packets_of (Preparing terms c reply) = packets_in_reply reply
 packets_of _ = []
 
--- whose payload it is
+-- Whose payload it is. A command is the client's, and its sequence ids begin with 0 whatever was sent before: an exchange has more than
+-- one where parts of long values go ahead of a statement that is executed.
 pub data Turn : Type 0 where
   Client : (p : List ℕ) → Turn
+  Command : (p : List ℕ) → Turn
   Server : (p : List ℕ) → Turn
 
 -- the server's payloads, after other turns
 abbrev pub served : List Packet → List Turn → List Turn
 served [] others = others
 served (packet ∷ packets) others = Server packet.payload ∷ served packets others
+
+-- the payloads of long data, in the order in which they are sent, after other turns
+abbrev pub sent_ahead : List (List ℕ) → List Turn → List Turn
+sent_ahead [] others = others
+sent_ahead (p ∷ ps) others = sent_ahead ps (Command p ∷ others)
+
+-- the client's turns of a command that sets answer
+abbrev pub commands_by : List ℕ → Asking → List Turn
+commands_by c ByText = Client c ∷ []
+commands_by c (ByStatement ahead known) = Command c ∷ sent_ahead ahead []
 
 -- both sides' payloads, the newest first
 abbrev pub turns : Talk → List Turn
@@ -76,7 +88,7 @@ turns (Greeted login p capabilities) = Client (response login p) ∷ Server p �
 turns (Settled login p capabilities last kind) = Server last ∷ Client (response login p) ∷ Server p ∷ []
 turns (Asked terms c) = Client c ∷ []
 turns (Replied terms c last kind) = Server last ∷ Client c ∷ []
-turns (Queried terms c sets) = served (packets_in sets) (Client c ∷ [])
+turns (Queried terms c sets) = served (packets_in sets) (commands_by c (asking_in sets))
 turns (Preparing terms c reply) = served (packets_in_reply reply) (Client c ∷ [])
 turns (Silent terms c) = Client c ∷ []
 
@@ -84,6 +96,7 @@ turns (Silent terms c) = Client c ∷ []
 abbrev pub number_of : List Turn → ℕ
 number_of [] = 0
 number_of (Client p ∷ ts) = number_after_payload p (number_of ts)
+number_of (Command p ∷ ts) = number_after_payload p 0
 number_of (Server p ∷ ts) = number_after_payload p (number_of ts)
 
 -- the bytes of one side's payloads
@@ -91,11 +104,30 @@ abbrev pub server_bytes : List Turn → List ℕ
 server_bytes [] = []
 server_bytes (Server p ∷ ts) = server_bytes ts ++ chunks p (number_of ts)
 server_bytes (Client p ∷ ts) = server_bytes ts
+server_bytes (Command p ∷ ts) = server_bytes ts
 
 abbrev pub client_bytes : List Turn → List ℕ
 client_bytes [] = []
 client_bytes (Client p ∷ ts) = client_bytes ts ++ chunks p (number_of ts)
+client_bytes (Command p ∷ ts) = client_bytes ts ++ chunks p 0
 client_bytes (Server p ∷ ts) = client_bytes ts
+
+-- the commands that a client says in an exchange, in order; none in the opening of a connection
+abbrev pub commands_with : List ℕ → Asking → List (List ℕ)
+commands_with c ByText = c ∷ []
+commands_with c (ByStatement ahead known) = ahead ++ c ∷ []
+
+abbrev pub commands_in : Talk → List (List ℕ)
+commands_in (Asked terms c) = c ∷ []
+commands_in (Replied terms c last kind) = c ∷ []
+commands_in (Queried terms c sets) = commands_with c (asking_in sets)
+commands_in (Preparing terms c reply) = c ∷ []
+commands_in (Silent terms c) = c ∷ []
+commands_in _ = []
+
+-- the bytes of commands, of each from the sequence id 0
+abbrev pub commands_bytes : List (List ℕ) → List ℕ
+commands_bytes ps = flat_map (λ p. chunks p 0) ps
 
 -- the context of the next payload
 abbrev pub context_of : Talk → Context

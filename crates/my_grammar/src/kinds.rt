@@ -9,8 +9,6 @@ ghost use Rattle.my_reply.specs.ErrPacket.{err_at};
 ghost use Rattle.my_handshake.specs.Greeting.{greeting_at};
 ghost use Rattle.my_reply.specs.OkPacket.{ok_at};
 ghost use Rattle.my_reply.specs.Replies.{prepare_ok_at};
-ghost use Rattle.my_value.specs.TextRow.{text_row_at};
-ghost use Rattle.my_value.specs.BinaryRow.{binary_row_at};
 
 use crate::spot::{Context, Kind, RowFormat, Spot};
 use my_flags::CapabilityFlags;

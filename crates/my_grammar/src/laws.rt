@@ -3,13 +3,16 @@
 ghost use Rattle.std.specs.Prelude.{◌≡◌, ◌≤◌, ◌⊎◌, ℕ, List, ◌∷◌, ◌++◌, length, map, true, false};
 ghost use Rattle.my_flags.specs.Sets.{deprecates_eof};
 ghost use Rattle.my_frame.specs.FrontLaws.{AreBytes};
+ghost use Rattle.my_frame.specs.Chunks.{chunks, number_after_payload};
+ghost use Rattle.my_reply.specs.declared.column.Column.{Column as AnyColumn};
 ghost use Rattle.my_grammar.specs.declared.login.Login.{Login as AnyLogin};
 ghost use Rattle.my_grammar.specs.declared.spot.Kind.{Kind as AnyKind};
 ghost use Rattle.my_grammar.specs.declared.spot.Terms.{Terms as AnyTerms};
 ghost use Rattle.my_grammar.specs.Contexts.{is_bad};
 ghost use Rattle.my_grammar.specs.FitReplies.{IsRefusal, IsWholeReply};
 ghost use Rattle.my_grammar.specs.Prepares.{Unanswered};
-ghost use Rattle.my_grammar.specs.Talk.{Fits, Preparing, Talk, Turn, limit_of, origin, packets_of, server_bytes, turns};
+ghost use Rattle.my_grammar.specs.Sets.{Asking, ByStatement, NoSets, Sets};
+ghost use Rattle.my_grammar.specs.Talk.{Fits, Preparing, Queried, Talk, Turn, client_bytes, commands_bytes, commands_in, limit_of, number_of, origin, packets_of, server_bytes, turns};
 ghost use Rattle.my_grammar.specs.Growth.{Grows, Reads};
 ghost use Rattle.my_grammar.specs.Cut.{cut, is_over, kind_of, onto, read_from};
 ghost use Rattle.my_grammar.specs.CutLaws.{IsCut, IsRead, RestGoesOn, RestStays};
@@ -24,6 +27,20 @@ pub fn each_payload_grows()
 /// What a payload and the client's answer to it do to the running number and to each side's bytes.
 pub fn each_payload_counts()
     ensures { (login : AnyLogin) (k : AnyKind) (p : List ℕ) (ts : List Turn) → Reads login k p ts }
+{}
+
+/// What a client sends in an exchange that it begins: its commands, each from the sequence id 0. Before a statement that is executed go the
+/// parts of long values that are sent ahead of it, and the number of the next packet is the one after the statement.
+pub fn commands_are_sent()
+    ensures begun { (t : Talk) → client_bytes (turns (origin t)) ≡ commands_bytes (commands_in t) }
+    ensures kept { (t : Talk) → commands_in (origin t) ≡ commands_in t }
+    ensures queried { (terms : AnyTerms) (c : List ℕ) (x : Sets)
+        → client_bytes (turns (Queried terms c x)) ≡ commands_bytes (commands_in (Queried terms c x)) }
+    ensures executed { (terms : AnyTerms) (c : List ℕ) (ahead : List (List ℕ)) (known : List AnyColumn)
+        → client_bytes (turns (Queried terms c (NoSets (ByStatement ahead known))))
+        ≡ commands_bytes ahead ++ chunks c 0 }
+    ensures number { (terms : AnyTerms) (c : List ℕ) (asking : Asking)
+        → number_of (turns (Queried terms c (NoSets asking))) ≡ number_after_payload c 0 }
 {}
 
 /// What was read of an exchange is found again in its bytes: reading from its beginning comes to the same place, whatever follows.

@@ -33,6 +33,8 @@ pub struct Login {
     pub init: Listed<Blob>,
     /// Queries that set a connection up when it is made and whenever it is reset, after the others, from the last to the first.
     pub setup: Listed<Blob>,
+    /// How many prepared statements are kept, at most 65,535.
+    pub statements: u64,
 }
 
 impl Login {
@@ -51,6 +53,7 @@ impl Login {
             wait_timeout: self.wait_timeout,
             init: self.init.copy(alloc)?,
             setup: self.setup.copy(alloc)?,
+            statements: self.statements,
         })
     }
 }

@@ -7,7 +7,8 @@ ghost use Rattle.my_grammar.specs.Progress.{IsAt, talk_of};
 ghost use Rattle.my_grammar.specs.Reading.{HeardNone, HeardOne, Hears, InFront, NoneInFront};
 ghost use Rattle.my_grammar.specs.Contexts.{is_bad};
 ghost use Rattle.my_frame.specs.Front.{front_at};
-ghost use Rattle.my_grammar.specs.Sets.{column_list};
+ghost use Rattle.my_grammar.specs.Sets.{ByStatement, NoSets, column_list};
+ghost use Rattle.my_grammar.specs.Talk.{Queried, commands_bytes};
 ghost use Rattle.my_reply.specs.Column.{column_at};
 
 use crate::kinds::kind_at;
@@ -15,7 +16,7 @@ use crate::login::{Login, login_response};
 use crate::packet::Packet;
 use crate::queue::Queue;
 use crate::spot::{Context, Kind, RowFormat, Spot, Terms};
-use my_frame::{Blob, CodecError, FramedPayload, NoMemory, ReadError, payload_in_front};
+use my_frame::{Blob, CodecError, FramedPayload, Listed, NoMemory, ReadError, payload_in_front};
 use my_reply::{Column, read_column};
 use std::alloc::Global;
 
@@ -24,15 +25,31 @@ use std::alloc::Global;
 pub enum Opening {
     Connect,
     /// A command that one OK or ERR answers.
-    Simple { terms: Terms, command: Blob },
+    Simple {
+        terms: Terms,
+        command: Blob,
+    },
     /// A command that sets answer.
-    Query { terms: Terms, command: Blob },
-    /// A prepared statement to execute, which sets with binary rows answer.
-    Execute { terms: Terms, command: Blob },
+    Query {
+        terms: Terms,
+        command: Blob,
+    },
+    /// A prepared statement to execute, which sets with binary rows answer. Ahead of it parts of long values are sent.
+    Execute {
+        terms: Terms,
+        ahead: Listed<Blob>,
+        command: Blob,
+    },
     /// A statement to prepare.
-    Prepare { terms: Terms, command: Blob },
+    Prepare {
+        terms: Terms,
+        command: Blob,
+    },
     /// A command without a reply.
-    Silent { terms: Terms, command: Blob },
+    Silent {
+        terms: Terms,
+        command: Blob,
+    },
 }
 
 impl Opening {
@@ -50,8 +67,13 @@ impl Opening {
                 terms: *terms,
                 command: command.copy(alloc)?,
             }),
-            Opening::Execute { terms, command } => Ok(Opening::Execute {
+            Opening::Execute {
+                terms,
+                ahead,
+                command,
+            } => Ok(Opening::Execute {
                 terms: *terms,
+                ahead: ahead.copy(alloc)?,
                 command: command.copy(alloc)?,
             }),
             Opening::Prepare { terms, command } => Ok(Opening::Prepare {
@@ -80,9 +102,21 @@ pub struct Progress {
     pub sent: Queue,
 }
 
-// An exchange that begins with a command.
-fn asked(
+// The bytes of payloads that are sent ahead of a command, of each from the sequence id 0.
+fn sent_ahead(alloc: Global, ahead: &[Blob]) -> Result<Queue, NoMemory>
+    ensures { IfOk result (λ sent. sent ≡ commands_bytes ahead.now) }
+{
+    let mut sent = Queue::new(alloc);
+    for payload in ahead {
+        sent.push_payload(payload.as_slice(), 0)?;
+    }
+    Ok(sent)
+}
+
+// An exchange that begins with a command, after what is sent ahead of it.
+fn asked_after(
     alloc: Global,
+    mut sent: Queue,
     spot: Spot,
     rows: RowFormat,
     terms: Terms,
@@ -90,9 +124,8 @@ fn asked(
 ) -> Result<Progress, NoMemory>
     ensures { IfOk result (λ p. (p.context ≡ record { spot = spot; rows = rows; columns = 0; terms = terms })
         × (p.columns.items ≡ []) × (p.number ≡ number_after_payload command.now 0) × (p.packets.items ≡ [])
-        × (p.sent ≡ [] ++ chunks command.now 0)) }
+        × (p.sent ≡ sent ++ chunks command.now 0)) }
 {
-    let mut sent = Queue::new(alloc);
     let number = sent.push_payload(command, 0)?;
     let context = Context {
         spot,
@@ -107,6 +140,36 @@ fn asked(
         packets: Vec::new(alloc),
         sent,
     })
+}
+
+// An exchange that begins with a command.
+fn asked(alloc: Global, spot: Spot, terms: Terms, command: &[u8]) -> Result<Progress, NoMemory>
+    ensures { IfOk result (λ p. (p.context ≡ record { spot = spot; rows = RowFormat.Text; columns = 0; terms = terms })
+        × (p.columns.items ≡ []) × (p.number ≡ number_after_payload command.now 0) × (p.packets.items ≡ [])
+        × (p.sent ≡ [] ++ chunks command.now 0)) }
+{
+    asked_after(
+        alloc,
+        Queue::new(alloc),
+        spot,
+        RowFormat::Text,
+        terms,
+        command,
+    )
+}
+
+// A statement that is executed, after parts of long values.
+#[tactic(auto, using(crate::proofs::Commands::ahead_then))]
+fn executed(
+    alloc: Global,
+    terms: Terms,
+    ahead: &[Blob],
+    command: &[u8],
+) -> Result<Progress, NoMemory>
+    ensures { IfOk result (λ p. IsAt (Queried terms command.now (NoSets (ByStatement ahead.now []))) p) }
+{
+    let sent = sent_ahead(alloc, ahead)?;
+    asked_after(alloc, sent, Spot::Head, RowFormat::Binary, terms, command)
 }
 
 // The whole payload in front of the bytes.
@@ -155,7 +218,6 @@ impl Progress {
     ) -> Result<Progress, NoMemory>
         ensures { IfOk result (λ p. IsAt (talk_of login.now opening.now) p) }
     {
-        let text = RowFormat::Text;
         match opening {
             Opening::Connect => Ok(Progress {
                 context: Context::start(login),
@@ -165,20 +227,21 @@ impl Progress {
                 sent: Queue::new(alloc),
             }),
             Opening::Simple { terms, command } => {
-                asked(alloc, Spot::Single, text, *terms, command.as_slice())
+                asked(alloc, Spot::Single, *terms, command.as_slice())
             }
             Opening::Query { terms, command } => {
-                asked(alloc, Spot::Head, text, *terms, command.as_slice())
+                asked(alloc, Spot::Head, *terms, command.as_slice())
             }
-            Opening::Execute { terms, command } => {
-                let binary = RowFormat::Binary;
-                asked(alloc, Spot::Head, binary, *terms, command.as_slice())
-            }
+            Opening::Execute {
+                terms,
+                ahead,
+                command,
+            } => executed(alloc, *terms, ahead.as_slice(), command.as_slice()),
             Opening::Prepare { terms, command } => {
-                asked(alloc, Spot::Prepare, text, *terms, command.as_slice())
+                asked(alloc, Spot::Prepare, *terms, command.as_slice())
             }
             Opening::Silent { terms, command } => {
-                asked(alloc, Spot::Idle, text, *terms, command.as_slice())
+                asked(alloc, Spot::Idle, *terms, command.as_slice())
             }
         }
     }

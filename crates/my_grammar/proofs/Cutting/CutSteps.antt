@@ -48,7 +48,7 @@ opening_fits : (login : Login) (opening : Opening) → Fits (talk_of login openi
 opening_fits login openings.Connect = record { kinds = tt; within = tt }
 opening_fits login (openings.Simple terms c) = record { kinds = tt; within = tt }
 opening_fits login (openings.Query terms c) = record { kinds = tt; within = tt }
-opening_fits login (openings.Execute terms c) = record { kinds = tt; within = tt }
+opening_fits login (openings.Execute terms ahead c) = record { kinds = tt; within = tt }
 opening_fits login (openings.Prepare terms c) = record { kinds = tt; within = tt }
 opening_fits login (openings.Silent terms c) = record { kinds = tt; within = tt }
 
@@ -56,7 +56,7 @@ opening_login : (login : Login) (opening : Opening) → login_in login (talk_of 
 opening_login login openings.Connect = refl
 opening_login login (openings.Simple terms c) = refl
 opening_login login (openings.Query terms c) = refl
-opening_login login (openings.Execute terms c) = refl
+opening_login login (openings.Execute terms ahead c) = refl
 opening_login login (openings.Prepare terms c) = refl
 opening_login login (openings.Silent terms c) = refl
 

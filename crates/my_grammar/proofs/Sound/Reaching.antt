@@ -13,6 +13,7 @@ use Rattle.my_grammar.specs.Kinds.{head_kind, columns_end_kind, kind_by}
 use Rattle.my_grammar.specs.Sets.{SetHead, Sets, NoSets, Lone, Failed as FailedSet, Heading, Headed, Begun, Ended, Broken, Packet, each, at_most_one, head_packets, packets_in, spot_in, columns_in, format_in, described_in}
 use Rattle.my_grammar.specs.FitSets.{is_head, IsClose, IsHeading, IsBegun, FitSets}
 use Rattle.my_grammar.specs.Talk.{Talk, Start, Unwelcome, Greeted, Settled, Asked, Replied, Queried, Preparing, Silent, Fits}
+use Rattle.my_grammar.proofs.Commands.{commands_silent}
 use Rattle.my_grammar.proofs.Growth.Known.{is_head_kind, known_head, is_then, head_kind_is}
 use Rattle.my_grammar.proofs.Growth.SetGrowth.{error_is}
 use Rattle.my_grammar.proofs.Cutting.{Reaches, at_origin, goes_on}
@@ -159,7 +160,7 @@ in_heading : (limit : ℕ) (older : Sets) (head : SetHead) → head.close ≡ No
 in_heading limit older head none all = subst (λ (close : Option (List ℕ)). AllByRecursion (λ packet. length packet.payload ≤ limit) (head_packets (head_of head.count head.number head.columns close) (packets_in older))) none all
 
 sets_stand : (terms : Terms) (c : List ℕ) (x : Sets) → FitSets (deprecates_eof terms.kept) x → AllByRecursion (λ packet. length packet.payload ≤ terms.limit) (packets_in x) → Stands terms c x
-sets_stand terms c (NoSets asking) f all = record { fits = tt; within = tt; reached = at_origin (Queried terms c (NoSets asking)) refl refl }
+sets_stand terms c (NoSets asking) f all = record { fits = tt; within = tt; reached = at_origin (Queried terms c (NoSets asking)) refl (commands_silent c asking) }
 sets_stand terms c (Lone older p status) f all = lone_stands terms c older p status (sets_stand terms c older f.2 all.1) f.0 f.1 all.0
 sets_stand terms c (FailedSet older p) f all = failed_stands terms c older p (sets_stand terms c older f.2 all.1) f.0 f.1 all.0
 sets_stand terms c (Heading older head left) f all =
