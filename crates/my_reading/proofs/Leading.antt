@@ -10,12 +10,19 @@ use Rattle.my_grammar.specs.declared.spot.Kind.TheVariants as kinds
 use Rattle.my_grammar.specs.Cut.{front_of, kind_of, is_over}
 use Rattle.my_grammar.specs.Growth.{grow}
 use Rattle.my_grammar.specs.Response.{response}
-use Rattle.my_grammar.specs.Talk.{Talk, context_of, limit_of, turns, number_of}
+use Rattle.my_grammar.specs.Talk.{Talk, commands_in, context_of, limit_of, turns, number_of}
 use Rattle.my_reading.specs.declared.call.Call.{Call}
-use Rattle.my_reading.specs.Commands.{command_in}
-use Rattle.my_reading.specs.Course.{Part, All, Head, Item, Set, Rest, Command, Stop, Step, Goes, Stops, step, step_of, unless_owed, with_front, reads, after_payload, after_kind, after_err, unless_long_response, with_command, is_greeting, is_rows, parts_of, run, halt, enough}
+use Rattle.my_reading.specs.declared.call.Call.TheVariants.{Prepare}
+use Rattle.my_reading.specs.Calls.{params_in, statement_in, text_in}
+use Rattle.my_reading.specs.Course.{Part, All, Head, Item, Set, Rest, Command, Find, Check, Reply, Keep, Give, Learn, Forget, Stop, Step, Goes, Stops, step, step_of, unless_owed, with_front, reads, after_payload, after_kind, after_err, unless_cached, unless_long_response, with_command, first_above, found, checked, closing_of, learned, is_greeting, is_rows, parts_of, run, halt, enough}
+use Rattle.my_reading.specs.Executions.{Values, Fitting, Unfitting, values_for}
 use Rattle.my_reading.specs.Leads.{Leads, Here, Then, LeadsToCourse}
-use Rattle.my_reading.specs.Place.{Place, without_end, with_talk, owed, next_exchange, facts_at}
+use Rattle.my_reading.specs.Place.{Place, exchanges, without_end, with_statements, with_talk, owed, next_exchange, facts_at, terms_of}
+use Rattle.my_reading.specs.Statements.{held_in, is_cached, is_mixed_text, leaving, query_of, with_prepared}
+use Rattle.my_reading.specs.Facts.{prepared_by}
+use Rattle.my_reply.specs.declared.replies.PrepareOk.{PrepareOk}
+use Rattle.my_reply.specs.Replies.{prepare_ok_at}
+use Rattle.my_statements.specs.Cache.{Held}
 use Rattle.my_reading.specs.Rows.{row_of}
 use Rattle.my_reading.specs.Told.{Told, ToldRow}
 
@@ -52,6 +59,13 @@ module _ (part : Part) (parts : List Part) (p : Place) (t : Talk) (rest : List �
       by_part All k = omega arith
       by_part Command k = omega arith
       by_part Rest k = omega arith
+      by_part Find k = omega arith
+      by_part Check k = omega arith
+      by_part Reply k = omega arith
+      by_part Keep k = omega arith
+      by_part Give k = omega arith
+      by_part Learn k = omega arith
+      by_part Forget k = omega arith
       by_part Head (kinds.Good status) = omega arith
       by_part Head (kinds.Greets n) = omega arith
       by_part Head kinds.Failed = omega arith
@@ -100,6 +114,15 @@ module _ (part : Part) (parts : List Part) (p : Place) (t : Talk) (rest : List �
   long_size login payload true e = rw e (omega arith)
   long_size login payload false e = rw e (omega arith)
 
+  cached_size : (login : Login) (x : Option PrepareOk) → size_of (unless_cached login p x (Goes (part ∷ parts) new)) ≤ left
+  unfolding size_of size weight
+  cached_size login None = omega arith
+  cached_size login (Some ok) = by_id (is_cached p.statements ok.id) refl
+    where
+      by_id : (b : Bool) → is_cached p.statements ok.id ≡ b → size_of (unless_cached login p (Some ok) (Goes (part ∷ parts) new)) ≤ left
+      by_id true e = rw e (omega arith)
+      by_id false e = rw e (omega arith)
+
   payload_size : (login : Login) (payload : List ℕ) (k : Kind) → size_of (after_payload login part parts p new payload k) ≤ left
   unfolding size_of
   payload_size login payload kinds.Bad = omega arith
@@ -111,7 +134,7 @@ module _ (part : Part) (parts : List Part) (p : Place) (t : Talk) (rest : List �
   payload_size login payload kinds.ColumnsDone = kind_size (ToldRow (row_of (context_of p.talk).rows (facts_at login p).columns payload)) kinds.ColumnsDone
   payload_size login payload kinds.Row = kind_size (ToldRow (row_of (context_of p.talk).rows (facts_at login p).columns payload)) kinds.Row
   payload_size login payload (kinds.End status) = kind_size (ToldRow (row_of (context_of p.talk).rows (facts_at login p).columns payload)) (kinds.End status)
-  payload_size login payload (kinds.Prepared params columns) = kind_size (ToldRow (row_of (context_of p.talk).rows (facts_at login p).columns payload)) (kinds.Prepared params columns)
+  payload_size login payload (kinds.Prepared params columns) = cached_size login (prepare_ok_at payload)
   payload_size login payload kinds.Parameter = kind_size (ToldRow (row_of (context_of p.talk).rows (facts_at login p).columns payload)) kinds.Parameter
   payload_size login payload kinds.Field = kind_size (ToldRow (row_of (context_of p.talk).rows (facts_at login p).columns payload)) kinds.Field
 
@@ -128,10 +151,25 @@ reads_size login part parts p = by_front (front_of p.talk p.unread) refl
         let less = payload_size part parts p (grow (kind_of p.talk payload) p.talk payload) rest login payload (kind_of p.talk payload) in
         omega (arith, short, less)
 
-command_size : (call : Call) (parts : List Part) (p : Place) (x : Option Talk) → size_of (with_command call parts p x) < size (Command ∷ parts) p
+command_size : (call : Call) (parts : List Part) (p : Place) (x : Option Talk) → size_of (with_command call parts p x) ≤ size parts p
 unfolding size_of size weight
 command_size call parts p None = omega arith
-command_size call parts p (Some t) = either (nat_lt (limit_of t) (length (command_in t))) _ _ _ (λ _. omega arith) (λ _. omega arith)
+command_size call parts p (Some t) = by_length (first_above (limit_of t) (commands_in t)) refl
+  where
+    by_length : (x : Option ℕ) → first_above (limit_of t) (commands_in t) ≡ x → size_of (with_command call parts p (Some t)) ≤ size parts p
+    by_length None e = rw e (omega arith)
+    by_length (Some len) e = rw e (omega arith)
+
+-- the parts of prepared statements read nothing
+found_size : (parts : List Part) (p : Place) (text : List ℕ) (x : Option Held) → size_of (found parts p text x) ≤ size parts p
+unfolding size_of size weight
+found_size parts p text None = omega arith
+found_size parts p text (Some h) = omega arith
+
+checked_size : (parts : List Part) (p : Place) (x : Values) → size_of (checked parts p x) ≤ size parts p
+unfolding size_of size weight
+checked_size parts p (Fitting values) = omega arith
+checked_size parts p (Unfitting e) = omega arith
 
 quiet_size : (parts : List Part) (p : Place) → p.end_left ≡ true → size parts (without_end p) < size parts p
 unfolding size weight
@@ -140,7 +178,7 @@ quiet_size parts p e = let one : weight p.end_left ≡ 1 = ap weight e in omega 
 part_size : (login : Login) (call : Call) (parts : List Part) (p : Place) → size_of (step_of login call parts p) < size parts p
 unfolding size_of size weight
 part_size login call [] p = omega arith
-part_size login call (Command ∷ parts) p = command_size call parts p (next_exchange login call p)
+part_size login call (Command ∷ parts) p = let here = command_size call parts p (next_exchange login call p) in omega (arith, here)
 part_size login call (All ∷ parts) p =
     let here = reads_size login All parts p in
     either p.end_left _ _ _ (λ e. quiet_size (All ∷ parts) p e) (λ _. either (is_over p.talk) _ _ _ (λ _. omega arith) (λ _. omega (arith, here)))
@@ -156,6 +194,25 @@ part_size login call (Set ∷ parts) p =
 part_size login call (Rest ∷ parts) p =
     let here = reads_size login Rest parts p in
     either p.end_left _ _ _ (λ e. quiet_size (Rest ∷ parts) p e) (λ _. either (is_rows (context_of p.talk).spot) _ _ _ (λ _. omega (arith, here)) (λ _. omega arith))
+part_size login call (Find ∷ parts) p =
+    let here = found_size parts p (text_in call) (held_in p.statements (query_of (text_in call))) in
+    either (is_mixed_text (text_in call)) _ _ _ (λ _. omega arith) (λ _. omega (arith, here))
+part_size login call (Check ∷ parts) p = let here = checked_size parts p (values_for (statement_in call) (params_in call)) in omega (arith, here)
+part_size login call (Reply ∷ parts) p =
+    let here = reads_size login Reply parts p in
+    either (is_over p.talk) _ _ _ (λ _. omega arith) (λ _. omega (arith, here))
+part_size login call (Keep ∷ parts) p =
+    let f = facts_at login p in
+    let here = command_size (Prepare (text_in call)) parts (with_statements (with_prepared (query_of (text_in call)) (prepared_by f) f.reply.fields p.statements) p)
+    (closing_of (terms_of login (exchanges p)) (leaving (query_of (text_in call)) (prepared_by f) p.statements)) in
+    omega (arith, here)
+part_size login call (Give ∷ parts) p = omega arith
+part_size login call (Learn ∷ parts) p = by_rows (is_rows (context_of p.talk).spot) refl
+  where
+    by_rows : (b : Bool) → is_rows (context_of p.talk).spot ≡ b → size parts (learned call p (facts_at login p)) < size (Learn ∷ parts) p
+    by_rows true e = rw e (omega arith)
+    by_rows false e = rw e (omega arith)
+part_size login call (Forget ∷ parts) p = omega arith
 
 some_size : (parts : List Part) (p : Place) → 0 < size parts p
 unfolding size

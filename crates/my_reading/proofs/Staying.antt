@@ -11,12 +11,19 @@ use Rattle.my_grammar.specs.declared.spot.Kind.TheVariants as kinds
 use Rattle.my_grammar.specs.Cut.{front_of, kind_of, is_over}
 use Rattle.my_grammar.specs.Growth.{grow}
 use Rattle.my_grammar.specs.Response.{response}
-use Rattle.my_grammar.specs.Talk.{Talk, context_of, limit_of, turns, number_of}
+use Rattle.my_grammar.specs.Talk.{Talk, commands_in, context_of, limit_of, turns, number_of}
 use Rattle.my_reading.specs.declared.call.Call.{Call}
-use Rattle.my_reading.specs.Commands.{command_in}
-use Rattle.my_reading.specs.Course.{Part, All, Head, Item, Set, Rest, Command, Step, Goes, Stops, return, step, step_of, unless_owed, with_front, reads, after_payload, after_kind, after_err, unless_long_response, with_command, is_greeting, is_rows}
+use Rattle.my_reading.specs.declared.call.Call.TheVariants.{Prepare}
+use Rattle.my_reading.specs.Calls.{params_in, statement_in, text_in}
+use Rattle.my_reading.specs.Course.{Part, All, Head, Item, Set, Rest, Command, Find, Check, Reply, Keep, Give, Learn, Forget, Step, Goes, Stops, return, step, step_of, unless_owed, with_front, reads, after_payload, after_kind, after_err, unless_cached, unless_long_response, with_command, first_above, found, checked, closing_of, learned, is_greeting, is_rows}
+use Rattle.my_reading.specs.Executions.{Values, Fitting, Unfitting, values_for}
+use Rattle.my_reading.specs.Facts.{prepared_by}
 use Rattle.my_reading.specs.Leads.{Here, Then, StepStays, LeadingStays}
-use Rattle.my_reading.specs.Place.{Place, with_bytes, owed, client_side, exchanges, with_talk, next_exchange, facts_at}
+use Rattle.my_reading.specs.Place.{Place, with_bytes, owed, client_side, exchanges, with_statements, with_talk, next_exchange, facts_at, terms_of}
+use Rattle.my_reading.specs.Statements.{held_in, is_cached, is_mixed_text, leaving, query_of, with_prepared}
+use Rattle.my_reply.specs.declared.replies.PrepareOk.{PrepareOk}
+use Rattle.my_reply.specs.Replies.{prepare_ok_at}
+use Rattle.my_statements.specs.Cache.{Held}
 use Rattle.my_reading.specs.Rows.{row_of}
 use Rattle.my_reading.specs.Told.{Told, ToldRow}
 
@@ -54,6 +61,13 @@ module _ (login : Login) (sent taken : List ℕ) where
   kind_more All parts k new row = refl
   kind_more Command parts k new row = refl
   kind_more Rest parts k new row = refl
+  kind_more Find parts k new row = refl
+  kind_more Check parts k new row = refl
+  kind_more Reply parts k new row = refl
+  kind_more Keep parts k new row = refl
+  kind_more Give parts k new row = refl
+  kind_more Learn parts k new row = refl
+  kind_more Forget parts k new row = refl
   kind_more Head parts (kinds.Good status) new row = refl
   kind_more Head parts (kinds.Greets n) new row = refl
   kind_more Head parts kinds.Failed new row = refl
@@ -109,6 +123,19 @@ module _ (login : Login) (sent taken : List ℕ) where
     long_more new payload true e = rw e refl
     long_more new payload false e = rw e refl
 
+    cached_more : (new : Place) (x : Option PrepareOk)
+        → unless_cached login (more p) x (Goes (part ∷ parts) (more new))
+        ≡ lift sent taken (unless_cached login p x (Goes (part ∷ parts) new))
+    unfolding lift
+    cached_more new None = refl
+    cached_more new (Some ok) = by_id (is_cached p.statements ok.id) refl
+      where
+        by_id : (b : Bool) → is_cached p.statements ok.id ≡ b
+            → unless_cached login (more p) (Some ok) (Goes (part ∷ parts) (more new))
+            ≡ lift sent taken (unless_cached login p (Some ok) (Goes (part ∷ parts) new))
+        by_id true e = rw e refl
+        by_id false e = rw e refl
+
     payload_more : (new : Place) (payload : List ℕ) (k : Kind)
         → after_payload login part parts (more p) (more new) payload k
         ≡ lift sent taken (after_payload login part parts p new payload k)
@@ -122,7 +149,7 @@ module _ (login : Login) (sent taken : List ℕ) where
     payload_more new payload kinds.ColumnsDone = kind_more part parts kinds.ColumnsDone new (row payload)
     payload_more new payload kinds.Row = kind_more part parts kinds.Row new (row payload)
     payload_more new payload (kinds.End status) = kind_more part parts (kinds.End status) new (row payload)
-    payload_more new payload (kinds.Prepared params columns) = kind_more part parts (kinds.Prepared params columns) new (row payload)
+    payload_more new payload (kinds.Prepared params columns) = cached_more new (prepare_ok_at payload)
     payload_more new payload kinds.Parameter = kind_more part parts kinds.Parameter new (row payload)
     payload_more new payload kinds.Field = kind_more part parts kinds.Field new (row payload)
 
@@ -140,18 +167,37 @@ module _ (login : Login) (sent taken : List ℕ) where
         → reads login part parts (more p) ≡ Goes rest (more q)
     reads_more rest q e = front_more rest q (front_of p.talk p.unread) (front_grows (number_of (turns p.talk)) (limit_of p.talk) p.unread taken) e
 
-  module _ (call : Call) (p : Place) (rest : List Part) (q : Place) where
-    command_more : (parts : List Part) (x : Option Talk)
-        → with_command call parts (more p) x ≡ lift sent taken (with_command call parts p x)
-    unfolding lift
-    command_more parts None = refl
-    command_more parts (Some t) = by_length (nat_lt (limit_of t) (length (command_in t))) refl
-      where
-        by_length : (b : Bool) → nat_lt (limit_of t) (length (command_in t)) ≡ b
-            → with_command call parts (more p) (Some t) ≡ lift sent taken (with_command call parts p (Some t))
-        by_length true e = rw e refl
-        by_length false e = rw e refl
+  command_more : (call : Call) (parts : List Part) (p : Place) (x : Option Talk)
+      → with_command call parts (more p) x ≡ lift sent taken (with_command call parts p x)
+  unfolding lift
+  command_more call parts p None = refl
+  command_more call parts p (Some t) = by_length (first_above (limit_of t) (commands_in t)) refl
+    where
+      by_length : (x : Option ℕ) → first_above (limit_of t) (commands_in t) ≡ x
+          → with_command call parts (more p) (Some t) ≡ lift sent taken (with_command call parts p (Some t))
+      by_length None e = rw e refl
+      by_length (Some len) e = rw e refl
 
+  found_more : (parts : List Part) (p : Place) (text : List ℕ) (x : Option Held)
+      → found parts (more p) text x ≡ lift sent taken (found parts p text x)
+  unfolding lift
+  found_more parts p text None = refl
+  found_more parts p text (Some h) = refl
+
+  checked_more : (parts : List Part) (p : Place) (x : Values) → checked parts (more p) x ≡ lift sent taken (checked parts p x)
+  unfolding lift
+  checked_more parts p (Fitting values) = refl
+  checked_more parts p (Unfitting e) = refl
+
+  learned_more : (call : Call) (p : Place) → learned call (more p) (facts_at login (more p)) ≡ more (learned call p (facts_at login p))
+  learned_more call p = by_rows (is_rows (context_of p.talk).spot) refl
+    where
+      by_rows : (b : Bool) → is_rows (context_of p.talk).spot ≡ b
+          → learned call (more p) (facts_at login (more p)) ≡ more (learned call p (facts_at login p))
+      by_rows true e = rw e refl
+      by_rows false e = rw e refl
+
+  module _ (call : Call) (p : Place) (rest : List Part) (q : Place) where
     -- one of two steps, by a test that more bytes leave as it is
     either_more : (b : Bool) (x y x' y' : Step) → (x ≡ Goes rest q → x' ≡ Goes rest (more q))
         → (y ≡ Goes rest q → y' ≡ Goes rest (more q)) → cond b x y ≡ Goes rest q → cond b x' y' ≡ Goes rest (more q)
@@ -164,7 +210,7 @@ module _ (login : Login) (sent taken : List ℕ) where
     part_more : (parts : List Part) → step_of login call parts p ≡ Goes rest q → step_of login call parts (more p) ≡ Goes rest (more q)
     unfolding lift
     part_more [] e = cc
-    part_more (Command ∷ parts) e = command_more parts (next_exchange login call p) ∙ ap (lift sent taken) e
+    part_more (Command ∷ parts) e = command_more call parts p (next_exchange login call p) ∙ ap (lift sent taken) e
     part_more (All ∷ parts) e =
         either_more p.end_left _ _ _ _ (λ f. ap (lift sent taken) f)
         (either_more (is_over p.talk) _ _ _ _ (λ f. ap (lift sent taken) f) (reads_more All parts p rest q)) e
@@ -179,6 +225,20 @@ module _ (login : Login) (sent taken : List ℕ) where
     part_more (Rest ∷ parts) e =
         either_more p.end_left _ _ _ _ (λ f. ap (lift sent taken) f)
         (either_more (is_rows (context_of p.talk).spot) _ _ _ _ (reads_more Rest parts p rest q) (λ f. ap (lift sent taken) f)) e
+    part_more (Find ∷ parts) e =
+        either_more (is_mixed_text (text_in call)) _ _ _ _ (λ f. no_stop _ _ f)
+        (λ f. found_more parts p (text_in call) (held_in p.statements (query_of (text_in call))) ∙ ap (lift sent taken) f) e
+    part_more (Check ∷ parts) e = checked_more parts p (values_for (statement_in call) (params_in call)) ∙ ap (lift sent taken) e
+    part_more (Reply ∷ parts) e =
+        either_more (is_over p.talk) _ _ _ _ (λ f. ap (lift sent taken) f) (reads_more Reply parts p rest q) e
+    part_more (Keep ∷ parts) e =
+        let f = facts_at login p in
+        command_more (Prepare (text_in call)) parts (with_statements (with_prepared (query_of (text_in call)) (prepared_by f) f.reply.fields p.statements) p)
+        (closing_of (terms_of login (exchanges p)) (leaving (query_of (text_in call)) (prepared_by f) p.statements))
+        ∙ ap (lift sent taken) e
+    part_more (Give ∷ parts) e = cc
+    part_more (Learn ∷ parts) e = ap (Goes parts) (learned_more call p) ∙ ap (lift sent taken) e
+    part_more (Forget ∷ parts) e = ap (lift sent taken) e
 
 pub step_stays : StepStays
 unfolding step

@@ -1,13 +1,19 @@
 -- Calls: which one it is, and what it carries.
-use Rattle.std.specs.Prelude.{ℕ, List, Bool, true, false}
+use Rattle.std.specs.Prelude.{ℕ, List, [], Bool, true, false}
+use Rattle.my_params.specs.declared.params.Params.{Params}
+use Rattle.my_params.specs.declared.params.Params.TheVariants.{Empty}
+use Rattle.my_statements.specs.Prepared.{StatementView}
 use Rattle.my_reading.specs.declared.call.Call.{Call}
 use Rattle.my_reading.specs.declared.call.Call.TheVariants as calls
 use Rattle.my_reading.specs.declared.call.CallKind.{CallKind}
-use Rattle.my_reading.specs.declared.call.CallKind.TheVariants.{Connect, Query, NextRow, DropResult, TakeSet, SkipTaken, Ping, Quit}
+use Rattle.my_reading.specs.declared.call.CallKind.TheVariants.{Connect, Query, Prepare, Execute, CloseStmt, NextRow, DropResult, TakeSet, SkipTaken, Ping, Quit}
 
 abbrev pub kind_of : Call → CallKind
 kind_of calls.Connect = Connect
 kind_of (calls.Query text) = Query
+kind_of (calls.Prepare text) = Prepare
+kind_of (calls.Execute statement params) = Execute
+kind_of (calls.CloseStmt id) = CloseStmt
 kind_of calls.NextRow = NextRow
 kind_of calls.DropResult = DropResult
 kind_of calls.TakeSet = TakeSet
@@ -15,25 +21,50 @@ kind_of calls.SkipTaken = SkipTaken
 kind_of calls.Ping = Ping
 kind_of calls.Quit = Quit
 
--- the text that a call carries
-abbrev pub text_of : Call → List ℕ → List ℕ
-text_of (calls.Query text) old = text
-text_of _ old = old
+-- a statement of no text
+abbrev pub blank : StatementView
+blank = record { inner = record { id = 0; connection_id = 0; num_params = 0; num_columns = 0; params = [] }; names = [] }
 
--- the call of this kind, with the text that it carries where it carries one
-abbrev pub call_of : CallKind → List ℕ → Call
-call_of Connect text = calls.Connect
-call_of Query text = calls.Query text
-call_of NextRow text = calls.NextRow
-call_of DropResult text = calls.DropResult
-call_of TakeSet text = calls.TakeSet
-call_of SkipTaken text = calls.SkipTaken
-call_of Ping text = calls.Ping
-call_of Quit text = calls.Quit
+-- what a call carries: the text of a query or of a statement to prepare, the statement that is executed with its parameters, and the id of
+-- the one that is closed; nothing where it doesn't carry it
+abbrev pub text_in : Call → List ℕ
+text_in (calls.Query text) = text
+text_in (calls.Prepare text) = text
+text_in _ = []
+
+abbrev pub statement_in : Call → StatementView
+statement_in (calls.Execute statement params) = statement
+statement_in _ = blank
+
+abbrev pub params_in : Call → Params
+params_in (calls.Execute statement params) = params
+params_in _ = Empty
+
+abbrev pub id_in : Call → ℕ
+id_in (calls.Execute statement params) = statement.inner.id
+id_in (calls.CloseStmt id) = id
+id_in _ = 0
+
+-- the call of this kind, with what another call carries
+abbrev pub call_of : CallKind → Call → Call
+call_of Connect call = calls.Connect
+call_of Query call = calls.Query (text_in call)
+call_of Prepare call = calls.Prepare (text_in call)
+call_of Execute call = calls.Execute (statement_in call) (params_in call)
+call_of CloseStmt call = calls.CloseStmt (id_in call)
+call_of NextRow call = calls.NextRow
+call_of DropResult call = calls.DropResult
+call_of TakeSet call = calls.TakeSet
+call_of SkipTaken call = calls.SkipTaken
+call_of Ping call = calls.Ping
+call_of Quit call = calls.Quit
 
 -- the calls that send a command of their own
 abbrev pub asks : CallKind → Bool
 asks Query = true
+asks Prepare = true
+asks Execute = true
+asks CloseStmt = true
 asks Ping = true
 asks Quit = true
 asks _ = false

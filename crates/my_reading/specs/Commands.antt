@@ -1,21 +1,44 @@
 -- The command that a call sends, as the exchange that it begins with a client's packet.
--- MySQL internals, "Text Protocol" and "Utility Commands": COM_QUERY, COM_PING, COM_QUIT.
+-- MySQL internals, "Text Protocol", "Prepared Statements" and "Utility Commands": COM_QUERY, COM_STMT_PREPARE, COM_STMT_EXECUTE,
+-- COM_STMT_SEND_LONG_DATA, COM_STMT_CLOSE, COM_PING, COM_QUIT.
 use Rattle.std.specs.Prelude.{ℕ, zero, suc, List, [], ◌∷◌, ◌++◌, reverse, slice_get, codes, Option, Some, None}
 use Rattle.my_command.specs.declared.client.ClientPacket.TheVariants as packets
 use Rattle.my_command.specs.Client.Packet.{client_bytes as packet_bytes}
 use Rattle.my_grammar.specs.declared.login.Login.{Login}
 use Rattle.my_grammar.specs.declared.spot.Terms.{Terms}
-use Rattle.my_grammar.specs.Sets.{ByText, NoSets}
-use Rattle.my_grammar.specs.Talk.{Talk, Start, Asked, Replied, Queried, Preparing, Silent}
+use Rattle.my_grammar.specs.Prepares.{Unanswered}
+use Rattle.my_grammar.specs.Sets.{ByText, ByStatement, NoSets}
+use Rattle.my_grammar.specs.Talk.{Talk, Start, Queried, Preparing, Asked, Silent}
+use Rattle.my_params.specs.LongData.{ahead_of}
+use Rattle.my_params.specs.Parameters.{body_of}
 use Rattle.my_reading.specs.declared.call.Call.{Call}
-use Rattle.my_reading.specs.declared.call.Call.TheVariants.{Connect, Query, NextRow, DropResult, TakeSet, SkipTaken, Ping, Quit}
+use Rattle.my_reading.specs.declared.call.Call.TheVariants.{Connect, Query, Prepare, Execute, CloseStmt, NextRow, DropResult, TakeSet, SkipTaken, Ping, Quit}
+use Rattle.my_reading.specs.Executions.{Values, Fitting, Unfitting, values_for}
+use Rattle.my_reading.specs.Statements.{Statements, known_in, query_of}
 
--- the exchange of the command of a call that sends one, between client and server that keep to these terms
-abbrev pub command_of : Terms → Call → Option Talk
-command_of terms (Query text) = Some (Queried terms (packet_bytes (packets.Query text)) (NoSets ByText))
-command_of terms Ping = Some (Asked terms (packet_bytes packets.Ping))
-command_of terms Quit = Some (Silent terms (packet_bytes packets.Quit))
-command_of terms _ = None
+-- the exchange of a query
+abbrev pub queried : Terms → List ℕ → Talk
+queried terms text = Queried terms (packet_bytes (packets.Query text)) (NoSets ByText)
+
+-- The execution of a statement with these values: parts of long values go ahead of it.
+abbrev pub execution : Terms → Statements → ℕ → Values → Option Talk
+execution terms st id (Fitting values) =
+    Some (Queried terms (body_of id values) (NoSets (ByStatement (ahead_of id values) (known_in st id))))
+execution terms st id (Unfitting e) = None
+
+-- the exchange in which a statement is closed
+abbrev pub closing : Terms → ℕ → Talk
+closing terms id = Silent terms (packet_bytes (packets.CloseStatement id))
+
+-- The exchange of the command of a call that sends one, between client and server that keep to these terms, where these statements are known.
+abbrev pub command_of : Terms → Statements → Call → Option Talk
+command_of terms st (Query text) = Some (queried terms text)
+command_of terms st (Prepare text) = Some (Preparing terms (packet_bytes (packets.Prepare (query_of text))) Unanswered)
+command_of terms st (Execute statement params) = execution terms st statement.inner.id (values_for statement params)
+command_of terms st (CloseStmt id) = Some (closing terms id)
+command_of terms st Ping = Some (Asked terms (packet_bytes packets.Ping))
+command_of terms st Quit = Some (Silent terms (packet_bytes packets.Quit))
+command_of terms st _ = None
 
 -- what the server is asked for: the settings that the options leave open
 abbrev pub settings_text : Option ℕ → Option ℕ → Option (List ℕ)
@@ -33,31 +56,25 @@ at_most_one (Some text) = text ∷ []
 abbrev pub arranging_texts : Login → List (List ℕ)
 arranging_texts login = at_most_one (settings_text login.packet_limit login.wait_timeout) ++ (reverse login.init ++ reverse login.setup)
 
-abbrev pub query_of : Terms → Option (List ℕ) → Option Talk
-query_of terms None = None
-query_of terms (Some text) = command_of terms (Query text)
+abbrev pub arranging : Terms → Option (List ℕ) → Option Talk
+arranging terms None = None
+arranging terms (Some text) = Some (queried terms text)
 
 -- the exchange that connecting begins after n others: the login, and after it each of these queries
 abbrev pub connecting : Login → Terms → ℕ → Option Talk
 connecting login terms zero = Some (Start login)
-connecting login terms (suc n) = query_of terms (slice_get (arranging_texts login) n)
+connecting login terms (suc n) = arranging terms (slice_get (arranging_texts login) n)
 
 -- the exchange that a call begins, if it begins one: connecting begins several, and n of them came before
-abbrev pub opening : Login → Terms → Call → ℕ → Option Talk
-opening login terms Connect n = connecting login terms n
-opening login terms (Query text) n = command_of terms (Query text)
-opening login terms NextRow n = None
-opening login terms DropResult n = None
-opening login terms TakeSet n = None
-opening login terms SkipTaken n = None
-opening login terms Ping n = command_of terms Ping
-opening login terms Quit n = command_of terms Quit
-
--- the command with which an exchange began, if the client began it
-abbrev pub command_in : Talk → List ℕ
-command_in (Asked terms c) = c
-command_in (Replied terms c last kind) = c
-command_in (Queried terms c sets) = c
-command_in (Preparing terms c reply) = c
-command_in (Silent terms c) = c
-command_in _ = []
+abbrev pub opening : Login → Terms → Statements → Call → ℕ → Option Talk
+opening login terms st Connect n = connecting login terms n
+opening login terms st (Query text) n = command_of terms st (Query text)
+opening login terms st (Prepare text) n = command_of terms st (Prepare text)
+opening login terms st (Execute statement params) n = command_of terms st (Execute statement params)
+opening login terms st (CloseStmt id) n = command_of terms st (CloseStmt id)
+opening login terms st NextRow n = None
+opening login terms st DropResult n = None
+opening login terms st TakeSet n = None
+opening login terms st SkipTaken n = None
+opening login terms st Ping n = command_of terms st Ping
+opening login terms st Quit n = command_of terms st Quit

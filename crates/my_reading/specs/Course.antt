@@ -5,6 +5,8 @@ use Rattle.my_frame.specs.declared.fault.CodecFault.TheVariants.{TooLarge}
 use Rattle.my_frame.specs.Front.{Front, Waiting, Broken, Whole}
 use Rattle.my_reply.specs.declared.err.ErrPacket.{ErrPacket}
 use Rattle.my_reply.specs.ErrPacket.{err_at}
+use Rattle.my_reply.specs.declared.replies.PrepareOk.{PrepareOk}
+use Rattle.my_reply.specs.Replies.{prepare_ok_at}
 use Rattle.my_grammar.specs.declared.login.Login.{Login}
 use Rattle.my_grammar.specs.declared.spot.Kind.{Kind}
 use Rattle.my_grammar.specs.declared.spot.Kind.TheVariants as kinds
@@ -13,21 +15,30 @@ use Rattle.my_grammar.specs.declared.spot.Spot.TheVariants as spots
 use Rattle.my_grammar.specs.Cut.{front_of, kind_of, is_over}
 use Rattle.my_grammar.specs.Growth.{grow}
 use Rattle.my_grammar.specs.Response.{response}
-use Rattle.my_grammar.specs.Talk.{Talk, context_of, limit_of}
+use Rattle.my_grammar.specs.declared.spot.Terms.{Terms}
+use Rattle.my_grammar.specs.Talk.{Talk, commands_in, context_of, limit_of}
+use Rattle.my_statements.specs.Cache.{Held}
 use Rattle.my_reading.specs.declared.call.Call.{Call}
 use Rattle.my_reading.specs.declared.call.Call.TheVariants as calls
 use Rattle.my_reading.specs.declared.error.Error.{Error}
-use Rattle.my_reading.specs.declared.error.Error.TheVariants.{Server}
-use Rattle.my_reading.specs.Commands.{arranging_texts, command_in}
-use Rattle.my_reading.specs.Errors.{codec_error, invalid_data, server_error}
-use Rattle.my_reading.specs.Place.{Place, facts_at, owed, without_end, with_end, with_taken, with_talk, with_exchange, next_exchange}
+use Rattle.my_reading.specs.declared.error.Error.TheVariants.{Driver, Server}
+use Rattle.my_reading.specs.declared.facts.Facts.{Facts}
+use Rattle.my_reading.specs.Calls.{id_in, params_in, statement_in, text_in}
+use Rattle.my_reading.specs.Commands.{arranging_texts, closing}
+use Rattle.my_reading.specs.Errors.{codec_error, invalid_data, mixed_params, server_error}
+use Rattle.my_reading.specs.Executions.{Values, Fitting, Unfitting, values_for}
+use Rattle.my_reading.specs.Facts.{prepared_by}
+use Rattle.my_reading.specs.Place.{Place, exchanges, facts_at, owed, terms_of, without_end, with_end, with_statements, with_taken, with_talk, with_exchange, next_exchange}
+use Rattle.my_reading.specs.Statements.{held_in, is_cached, is_mixed_text, leaving, names_of, query_of, statement_with, with_columns, with_fetched, with_prepared, without_statement}
 pub use Rattle.my_reading.specs.Place.{is_rows}
 use Rattle.my_reading.specs.Rows.{row_of}
-use Rattle.my_reading.specs.Told.{Told, ToldReady, ToldRow, ToldEnd, ToldNone, ToldError}
+use Rattle.my_reading.specs.Told.{Told, ToldReady, ToldRow, ToldEnd, ToldNone, ToldStatement, ToldError}
 
 -- A part of a call: the rest of the newest exchange is read; it is read to the head of its first set, or to its next row or end; a stream
 -- takes the set that is read or the next one; the rest of the set that is read is passed over, and its end; or the call's next command is
--- sent.
+-- sent. Of prepared statements: the statement of the text is looked for; the parameters are looked at; the reply to a statement to prepare is
+-- read; its statement is kept, and the one that has to go for it is closed; it is returned; the columns of an execution's rows are learned; or
+-- a statement isn't kept any more.
 pub data Part : Type 0 where
   All : Part
   Head : Part
@@ -35,6 +46,13 @@ pub data Part : Type 0 where
   Set : Part
   Rest : Part
   Command : Part
+  Find : Part
+  Check : Part
+  Reply : Part
+  Keep : Part
+  Give : Part
+  Learn : Part
+  Forget : Part
 
 -- each query that sets a connection up is sent, and its response read whole
 abbrev pub parts_of_texts : List (List ℕ) → List Part
@@ -45,6 +63,9 @@ parts_of_texts (text ∷ texts) = Command ∷ All ∷ parts_of_texts texts
 abbrev pub parts_of : Login → Call → List Part
 parts_of login calls.Connect = All ∷ parts_of_texts (arranging_texts login)
 parts_of login (calls.Query text) = All ∷ Command ∷ Head ∷ []
+parts_of login (calls.Prepare text) = Find ∷ All ∷ Command ∷ Reply ∷ Keep ∷ Give ∷ []
+parts_of login (calls.Execute statement params) = Check ∷ All ∷ Command ∷ Head ∷ Learn ∷ []
+parts_of login (calls.CloseStmt id) = Forget ∷ All ∷ Command ∷ []
 parts_of login calls.NextRow = Item ∷ []
 parts_of login calls.DropResult = All ∷ []
 parts_of login calls.TakeSet = Set ∷ []
@@ -91,6 +112,11 @@ abbrev pub after_err : Login → Place → Place → Option ErrPacket → Step
 after_err login p new None = unfit login p
 after_err login p new (Some e) = failure new (Server (server_error e))
 
+-- a statement that is prepared may not have the id of one that is still cached
+abbrev pub unless_cached : Login → Place → Option PrepareOk → Step → Step
+unless_cached login p None s = s
+unless_cached login p (Some ok) s = if is_cached p.statements ok.id then unfit login p else s
+
 -- the response to a greeting may be above the limit
 abbrev pub unless_long_response : Login → Place → List ℕ → Step → Step
 unless_long_response login p payload s =
@@ -102,6 +128,7 @@ abbrev pub after_payload : Login → Part → List Part → Place → Place → 
 after_payload login part parts p new payload kinds.Bad = unfit login p
 after_payload login part parts p new payload kinds.Failed = after_err login p new (err_at (is_greeting (context_of p.talk).spot) payload)
 after_payload login part parts p new payload (kinds.Greets capabilities) = unless_long_response login p payload (Goes (part ∷ parts) new)
+after_payload login part parts p new payload (kinds.Prepared params columns) = unless_cached login p (prepare_ok_at payload) (Goes (part ∷ parts) new)
 after_payload login part parts p new payload k = after_kind part parts k new (ToldRow (row_of (context_of p.talk).rows (facts_at login p).columns payload))
 
 -- what the unread bytes begin with
@@ -115,13 +142,55 @@ with_front login part parts p (Whole payload rest next) =
 abbrev pub reads : Login → Part → List Part → Place → Step
 reads login part parts p = with_front login part parts p (front_of p.talk p.unread)
 
--- the command is above the limit, or its exchange begins
+-- the length of the first of these that is above the limit
+abbrev pub first_above : ℕ → List (List ℕ) → Option ℕ
+first_above limit [] = None
+first_above limit (c ∷ cs) = if nat_lt limit (length c) then Some (length c) else first_above limit cs
+
+-- what the client would say is above the limit, or the exchange begins
+abbrev pub unless_long : Place → ℕ → Option ℕ → Step → Step
+unless_long p limit None s = s
+unless_long p limit (Some len) s = failure p (codec_error (TooLarge len limit))
+
 abbrev pub with_command : Call → List Part → Place → Option Talk → Step
 with_command call parts p None = Goes parts p
-with_command call parts p (Some t) =
-    if nat_lt (limit_of t) (length (command_in t))
-    then failure p (codec_error (TooLarge (length (command_in t)) (limit_of t)))
-    else Goes parts (with_exchange p call t)
+with_command call parts p (Some t) = unless_long p (limit_of t) (first_above (limit_of t) (commands_in t)) (Goes parts (with_exchange p call t))
+
+-- a statement that is cached is returned at once, as the one that was used last
+abbrev pub found : List Part → Place → List ℕ → Option Held → Step
+found parts p text None = Goes parts p
+found parts p text (Some h) =
+    return (with_statements (with_fetched (query_of text) p.statements) p) (ToldStatement (statement_with h.stmt (names_of text)))
+
+-- a text with both names and marks is refused
+abbrev pub looked_for : List Part → Place → List ℕ → Step
+looked_for parts p text =
+    if is_mixed_text text
+    then failure p mixed_params
+    else found parts p text (held_in p.statements (query_of text))
+
+-- what is sent for the parameters, or why they are refused
+abbrev pub checked : List Part → Place → Values → Step
+checked parts p (Fitting values) = Goes parts p
+checked parts p (Unfitting e) = failure p (Driver e)
+
+-- the exchange in which the statement that has to go is closed
+abbrev pub closing_of : Terms → Option ℕ → Option Talk
+closing_of terms None = None
+closing_of terms (Some id) = Some (closing terms id)
+
+-- the statement is kept, and the one that has to go for it is closed
+abbrev pub kept : Login → Call → List Part → Place → Facts → Step
+kept login call parts p f =
+    with_command (calls.Prepare (text_in call)) parts (with_statements (with_prepared (query_of (text_in call)) (prepared_by f) f.reply.fields p.statements) p)
+    (closing_of (terms_of login (exchanges p)) (leaving (query_of (text_in call)) (prepared_by f) p.statements))
+
+-- where rows follow, their columns are known from now on
+abbrev pub learned : Call → Place → Facts → Place
+learned call p f =
+    if is_rows (context_of p.talk).spot
+    then with_statements (with_columns (id_in call) f.columns p.statements) p
+    else p
 
 -- what the first part comes to where nothing is owed; without a part the call is done
 abbrev pub step_of : Login → Call → List Part → Place → Step
@@ -144,6 +213,13 @@ step_of login call (Rest ∷ parts) p =
     if p.end_left
     then Goes (Rest ∷ parts) (without_end p)
     else (if is_rows (context_of p.talk).spot then reads login Rest parts p else Goes parts p)
+step_of login call (Find ∷ parts) p = looked_for parts p (text_in call)
+step_of login call (Check ∷ parts) p = checked parts p (values_for (statement_in call) (params_in call))
+step_of login call (Reply ∷ parts) p = if is_over p.talk then Goes parts p else reads login Reply parts p
+step_of login call (Keep ∷ parts) p = kept login call parts p (facts_at login p)
+step_of login call (Give ∷ parts) p = return p (ToldStatement (statement_with (prepared_by (facts_at login p)) (names_of (text_in call))))
+step_of login call (Learn ∷ parts) p = Goes parts (learned call p (facts_at login p))
+step_of login call (Forget ∷ parts) p = Goes parts (with_statements (without_statement (id_in call) p.statements) p)
 
 -- while bytes are owed nothing else is done
 abbrev pub unless_owed : List ℕ → Place → Step → Step

@@ -5,7 +5,7 @@ use Rattle.my_frame.specs.declared.fault.CodecFault.{CodecFault}
 use Rattle.my_reply.specs.declared.err.ErrPacket.{ErrPacket}
 use Rattle.my_reading.specs.declared.error.Error.{Error}
 use Rattle.my_reading.specs.declared.error.Error.TheVariants.{Driver, Io, Server}
-use Rattle.my_reading.specs.declared.error.DriverError.TheVariants.{ConnectionClosed}
+use Rattle.my_reading.specs.declared.error.DriverError.TheVariants.{ConnectionClosed, MixedParams}
 use Rattle.my_reading.specs.declared.error.IoKind.{IoKind}
 use Rattle.my_reading.specs.declared.error.IoKind.TheVariants.{UnexpectedEof, InvalidData}
 use Rattle.my_reading.specs.declared.error.IoError.TheVariants as ios
@@ -31,6 +31,10 @@ codec_error fault = Io (ios.Codec fault)
 
 abbrev pub connection_closed : Error
 connection_closed = Driver ConnectionClosed
+
+-- a text has named parameters and marks
+abbrev pub mixed_params : Error
+mixed_params = Driver MixedParams
 
 -- what an ERR says
 abbrev pub server_error : ErrPacket → ServerError

@@ -1,4 +1,6 @@
 pub mod Calls
+pub mod Statements
+pub mod Executions
 pub mod Commands
 pub mod Errors
 pub mod Told

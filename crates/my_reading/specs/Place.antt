@@ -12,6 +12,7 @@ use Rattle.my_reading.specs.declared.facts.Facts.{Facts}
 use Rattle.my_reading.specs.Calls.{kind_of, is_connect}
 use Rattle.my_reading.specs.Commands.{opening}
 use Rattle.my_reading.specs.Facts.{first_facts, facts_by}
+use Rattle.my_reading.specs.Statements.{Statements, first_statements}
 
 -- an exchange as far as it was read, and the call that began it
 pub record Exchange : Type 0 where
@@ -19,13 +20,15 @@ pub record Exchange : Type 0 where
   pub talk : Talk
 
 -- The newest exchange, and the older ones, the newest first. A lone OK has an end, which may be left for a read to return. A stream may
--- have taken the set that is read or whose end is left. Of the bytes received these are unread; and these are all bytes that were sent.
+-- have taken the set that is read or whose end is left. These prepared statements are known. Of the bytes received these are unread; and
+-- these are all bytes that were sent.
 pub record Place : Type 0 where
   pub call : Call
   pub talk : Talk
   pub older : List Exchange
   pub end_left : Bool
   pub taken : Bool
+  pub statements : Statements
   pub unread : List ℕ
   pub sent : List ℕ
 
@@ -33,7 +36,7 @@ abbrev pub exchanges : Place → List Exchange
 exchanges p = record { call = p.call; talk = p.talk } ∷ p.older
 
 abbrev pub first_place : Login → Place
-first_place login = record { call = Connect; talk = Start login; older = []; end_left = false; taken = false; unread = []; sent = [] }
+first_place login = record { call = Connect; talk = Start login; older = []; end_left = false; taken = false; statements = first_statements login; unread = []; sent = [] }
 
 -- what the server said in exchanges
 abbrev pub facts_of : Login → List Exchange → Facts
@@ -68,7 +71,7 @@ connects_in (e ∷ es) = if is_connect (kind_of e.call) then suc (connects_in es
 
 -- the exchange that the call begins next by the command table
 abbrev pub next_exchange : Login → Call → Place → Option Talk
-next_exchange login call p = opening login (terms_of login (exchanges p)) call (connects_in (exchanges p))
+next_exchange login call p = opening login (terms_of login (exchanges p)) p.statements call (connects_in (exchanges p))
 
 -- bytes are sent and received
 abbrev pub with_bytes : List ℕ → List ℕ → Place → Place
@@ -78,20 +81,25 @@ with_bytes sent taken p = record {
   older = p.older;
   end_left = p.end_left;
   taken = p.taken;
+  statements = p.statements;
   unread = p.unread ++ taken;
   sent = p.sent ++ sent;
 }
 
+-- other statements are known
+abbrev pub with_statements : Statements → Place → Place
+with_statements st p = record { call = p.call; talk = p.talk; older = p.older; end_left = p.end_left; taken = p.taken; statements = st; unread = p.unread; sent = p.sent }
+
 -- the end that was left is passed over, or is left
 abbrev pub without_end : Place → Place
-without_end p = record { call = p.call; talk = p.talk; older = p.older; end_left = false; taken = p.taken; unread = p.unread; sent = p.sent }
+without_end p = record { call = p.call; talk = p.talk; older = p.older; end_left = false; taken = p.taken; statements = p.statements; unread = p.unread; sent = p.sent }
 
 abbrev pub with_end : Place → Place
-with_end p = record { call = p.call; talk = p.talk; older = p.older; end_left = true; taken = p.taken; unread = p.unread; sent = p.sent }
+with_end p = record { call = p.call; talk = p.talk; older = p.older; end_left = true; taken = p.taken; statements = p.statements; unread = p.unread; sent = p.sent }
 
 -- a stream takes the set
 abbrev pub with_taken : Place → Place
-with_taken p = record { call = p.call; talk = p.talk; older = p.older; end_left = p.end_left; taken = true; unread = p.unread; sent = p.sent }
+with_taken p = record { call = p.call; talk = p.talk; older = p.older; end_left = p.end_left; taken = true; statements = p.statements; unread = p.unread; sent = p.sent }
 
 -- between the columns and the end of a set
 abbrev pub is_rows : Spot → Bool
@@ -106,13 +114,14 @@ with_talk p t rest = record {
   older = p.older;
   end_left = false;
   taken = p.taken && is_rows (context_of t).spot;
+  statements = p.statements;
   unread = rest;
   sent = p.sent;
 }
 
 -- an exchange begins
 abbrev pub with_exchange : Place → Call → Talk → Place
-with_exchange p call t = record { call = call; talk = t; older = exchanges p; end_left = false; taken = false; unread = p.unread; sent = p.sent }
+with_exchange p call t = record { call = call; talk = t; older = exchanges p; end_left = false; taken = false; statements = p.statements; unread = p.unread; sent = p.sent }
 
 -- whether a stream took the set that is read, or whose end is left
 abbrev pub is_taken : Place → Bool

@@ -3,12 +3,13 @@
 use Rattle.std.specs.Prelude.{◌≡◌, ℕ, List}
 use Rattle.my_grammar.specs.declared.packet.Packet.{Packet}
 use Rattle.my_reading.specs.declared.facts.Facts.{Facts}
+use Rattle.my_reading.specs.declared.facts.PreparedReply.{PreparedReply}
 use Rattle.my_reading.specs.Facts.{facts_by}
 
--- the same facts after another number of payloads
-abbrev pub at_place : ℕ → Facts → Facts
-at_place place f = record { version = f.version; connection = f.connection; status = f.status; ok = f.ok; left = f.left; gathered = f.gathered; columns = f.columns; settings = f.settings; place = place }
+-- the same facts after another number of payloads, and after another reply to a statement to prepare
+abbrev pub at_place : ℕ → PreparedReply → Facts → Facts
+at_place place reply f = record { version = f.version; connection = f.connection; status = f.status; ok = f.ok; left = f.left; gathered = f.gathered; columns = f.columns; settings = f.settings; reply = reply; place = place }
 
--- After these payloads all facts are as they were, but for the count of payloads.
+-- After these payloads all facts are as they were, but for the count of payloads and the newest reply to a statement to prepare.
 abbrev pub TellsNothing : List Packet → Type 0
-TellsNothing packets = (f : Facts) → (place : ℕ) × (facts_by packets f ≡ at_place place f)
+TellsNothing packets = (f : Facts) → (place : ℕ) × (reply : PreparedReply) × (facts_by packets f ≡ at_place place reply f)

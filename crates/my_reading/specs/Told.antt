@@ -1,8 +1,9 @@
 -- What a call returned, and whether that closes the connection.
 use Rattle.std.specs.Prelude.{Bool, true, false}
 use Rattle.my_value.specs.RowParts.{RowParts}
+use Rattle.my_statements.specs.Prepared.{StatementView}
 use Rattle.my_reading.specs.declared.answer.Answer.{Answer}
-use Rattle.my_reading.specs.declared.answer.Answer.TheVariants.{Ready, Row, SetEnd, NoSet}
+use Rattle.my_reading.specs.declared.answer.Answer.TheVariants.{Ready, Row, SetEnd, NoSet, Stmt}
 use Rattle.my_reading.specs.declared.call.CallKind.{CallKind}
 use Rattle.my_reading.specs.declared.error.DriverError.{DriverError}
 use Rattle.my_reading.specs.declared.error.DriverError.TheVariants as drivers
@@ -16,6 +17,7 @@ pub data Told : Type 0 where
   ToldRow : (row : RowParts) → Told
   ToldEnd : Told
   ToldNone : Told
+  ToldStatement : (statement : StatementView) → Told
   ToldError : (e : Error) → Told
   Dropped : (closing : Bool) → Told
 
@@ -24,10 +26,13 @@ told Ready = ToldReady
 told (Row r) = ToldRow r
 told SetEnd = ToldEnd
 told NoSet = ToldNone
+told (Stmt statement) = ToldStatement statement
 
--- the refusal of a closed session changes nothing, and all other driver's errors close it
+-- the refusal of a closed session changes nothing, and neither does that of a text with named parameters and marks; all other driver's
+-- errors close the session
 abbrev pub closes_driver : DriverError → Bool
 closes_driver drivers.ConnectionClosed = false
+closes_driver drivers.MixedParams = false
 closes_driver e = true
 
 -- a server's error closes a session that isn't connected

@@ -3,6 +3,7 @@
 ghost use Rattle.std.specs.Prelude.{◌≡◌, IfOk};
 
 use my_frame::NoMemory;
+use my_statements::Statement;
 use my_value::Row;
 use std::alloc::Global;
 
@@ -16,6 +17,8 @@ pub enum Answer {
     SetEnd,
     /// Nothing is left to be read.
     NoSet,
+    /// The statement that was prepared, or was cached.
+    Stmt(Statement),
 }
 
 impl Answer {
@@ -28,6 +31,7 @@ impl Answer {
             Answer::Row(row) => Ok(Answer::Row(row.copy(alloc)?)),
             Answer::SetEnd => Ok(Answer::SetEnd),
             Answer::NoSet => Ok(Answer::NoSet),
+            Answer::Stmt(statement) => Ok(Answer::Stmt(statement.copy(alloc)?)),
         }
     }
 }

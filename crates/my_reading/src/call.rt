@@ -3,6 +3,8 @@
 ghost use Rattle.std.specs.Prelude.{◌≡◌, IfOk};
 
 use my_frame::{Blob, NoMemory};
+use my_params::Params;
+use my_statements::Statement;
 use std::alloc::Global;
 
 /// A call, with what it carries.
@@ -12,6 +14,12 @@ pub enum Call {
     Connect,
     /// A query of this text.
     Query(Blob),
+    /// A statement of this text is prepared, unless it is cached. The text may have named parameters.
+    Prepare(Blob),
+    /// A statement is executed with these parameters.
+    Execute(Statement, Params),
+    /// The statement of this id is closed.
+    CloseStmt(u32),
     /// The next row of the set that is read, its end, or that nothing is left.
     NextRow,
     /// Reads what is left and passes over it.
@@ -29,6 +37,9 @@ pub enum Call {
 pub enum CallKind {
     Connect,
     Query,
+    Prepare,
+    Execute,
+    CloseStmt,
     NextRow,
     DropResult,
     TakeSet,
@@ -47,6 +58,9 @@ impl Call {
         match self {
             Call::Connect => CallKind::Connect,
             Call::Query(_) => CallKind::Query,
+            Call::Prepare(_) => CallKind::Prepare,
+            Call::Execute(_, _) => CallKind::Execute,
+            Call::CloseStmt(_) => CallKind::CloseStmt,
             Call::NextRow => CallKind::NextRow,
             Call::DropResult => CallKind::DropResult,
             Call::TakeSet => CallKind::TakeSet,
@@ -63,6 +77,11 @@ impl Call {
         match self {
             Call::Connect => Ok(Call::Connect),
             Call::Query(text) => Ok(Call::Query(text.copy(alloc)?)),
+            Call::Prepare(text) => Ok(Call::Prepare(text.copy(alloc)?)),
+            Call::Execute(statement, params) => {
+                Ok(Call::Execute(statement.copy(alloc)?, params.copy(alloc)?))
+            }
+            Call::CloseStmt(id) => Ok(Call::CloseStmt(*id)),
             Call::NextRow => Ok(Call::NextRow),
             Call::DropResult => Ok(Call::DropResult),
             Call::TakeSet => Ok(Call::TakeSet),

@@ -4,14 +4,26 @@ ghost use Rattle.std.specs.Prelude.{◌≡◌, IfOk};
 
 use my_frame::{CodecFault, NoMemory, Text};
 use my_opts_parts::UrlError;
+use my_params::ParamsError;
 use std::alloc::Global;
 use thiserror::Error as ThisError;
 
 /// The driver's own refusals.
-#[derive(Clone, Copy, Debug, PartialEq, Eq, ThisError)]
+#[derive(Debug, Drop, PartialEq, Eq, ThisError)]
 pub enum DriverError {
     #[error("connection is closed")]
     ConnectionClosed,
+    /// A text to prepare has both named parameters and `?`.
+    #[error("named and positional parameters in one text")]
+    MixedParams,
+    /// The parameters don't fit the statement's names, or one of them can't be sent.
+    #[error(transparent)]
+    Params(ParamsError),
+    #[error("statement takes {required} parameters but {supplied} were supplied")]
+    StmtParamsMismatch { required: u16, supplied: u64 },
+    /// More values than an execution can have: 65,535.
+    #[error("too many parameters for a statement: {supplied}")]
+    StmtParamsNumberExceedsLimit { supplied: u64 },
     #[error("the call took too many bytes without an answer")]
     TooLong,
     #[error("can't parse the server's version")]
@@ -30,6 +42,39 @@ pub enum DriverError {
     InvalidParsecSalt,
     #[error("no flag for SSL from the server")]
     NoClientSslFlagFromServer,
+}
+
+impl DriverError {
+    /// A second value of the same refusal.
+    pub fn copy(&self, alloc: Global) -> Result<DriverError, NoMemory>
+        ensures { IfOk result (λ copy. copy ≡ self.now) }
+    {
+        match self {
+            DriverError::ConnectionClosed => Ok(DriverError::ConnectionClosed),
+            DriverError::MixedParams => Ok(DriverError::MixedParams),
+            DriverError::Params(error) => Ok(DriverError::Params(error.copy(alloc)?)),
+            DriverError::StmtParamsMismatch { required, supplied } => {
+                Ok(DriverError::StmtParamsMismatch {
+                    required: *required,
+                    supplied: *supplied,
+                })
+            }
+            DriverError::StmtParamsNumberExceedsLimit { supplied } => {
+                Ok(DriverError::StmtParamsNumberExceedsLimit {
+                    supplied: *supplied,
+                })
+            }
+            DriverError::TooLong => Ok(DriverError::TooLong),
+            DriverError::CantParseServerVersion => Ok(DriverError::CantParseServerVersion),
+            DriverError::PacketOutOfOrder => Ok(DriverError::PacketOutOfOrder),
+            DriverError::PacketTooLarge => Ok(DriverError::PacketTooLarge),
+            DriverError::BadCompressedPacketHeader => Ok(DriverError::BadCompressedPacketHeader),
+            DriverError::NoKeyFound => Ok(DriverError::NoKeyFound),
+            DriverError::NamedPipesDisabled => Ok(DriverError::NamedPipesDisabled),
+            DriverError::InvalidParsecSalt => Ok(DriverError::InvalidParsecSalt),
+            DriverError::NoClientSslFlagFromServer => Ok(DriverError::NoClientSslFlagFromServer),
+        }
+    }
 }
 
 /// What failed on the way between client and server.
@@ -156,7 +201,7 @@ impl Error {
         ensures { IfOk result (λ copy. copy ≡ self.now) }
     {
         match self {
-            Error::Driver(error) => Ok(Error::Driver(*error)),
+            Error::Driver(error) => Ok(Error::Driver(error.copy(alloc)?)),
             Error::Io(error) => Ok(Error::Io(*error)),
             Error::Server(error) => Ok(Error::Server(error.copy(alloc)?)),
             Error::Url(error) => Ok(Error::Url(error.copy(alloc)?)),

@@ -4,17 +4,31 @@ ghost use Rattle.std.specs.Prelude.{◌≡◌, OnOk, OnErr, IfOk};
 ghost use Rattle.my_handshake.specs.Greeting.{greeting_at};
 ghost use Rattle.my_reply.specs.OkPacket.{ok_at, end_ok_at};
 ghost use Rattle.my_reply.specs.Column.{column_at};
+ghost use Rattle.my_reply.specs.Replies.{prepare_ok_at};
 
-use crate::columns::SetColumns;
 use crate::row::read_row;
 use crate::settings::Settings;
 use my_flags::StatusFlags;
 use my_frame::{Blob, Listed, NoMemory, ReadError};
 use my_grammar::{Kind, Login, RowFormat};
 use my_handshake::{Greeting, read_greeting};
-use my_reply::{Column, OkPacket, read_column, read_end_ok, read_ok};
+use my_reply::{Column, OkPacket, read_column, read_end_ok, read_ok, read_prepare_ok};
+use my_statements::{SetColumns, StmtInner};
 use my_value::Row;
 use std::alloc::Global;
+
+/// What the newest reply to a statement to prepare said so far.
+#[derive(Drop)]
+pub struct PreparedReply {
+    /// The server's number of the statement.
+    pub id: u32,
+    pub num_params: u16,
+    pub num_columns: u16,
+    /// The columns of its parameters.
+    pub params: Listed<Column>,
+    /// The columns of its rows.
+    pub fields: Listed<Column>,
+}
 
 /// What the server's payloads said so far.
 #[derive(Drop)]
@@ -35,6 +49,8 @@ pub struct Facts {
     pub columns: SetColumns,
     /// How long a payload may be, and how long the connection may rest.
     pub settings: Settings,
+    /// The newest reply to a statement to prepare.
+    pub reply: PreparedReply,
     /// How many whole payloads were taken.
     pub place: u64,
 }
@@ -84,7 +100,7 @@ fn column_in(alloc: Global, payload: &[u8]) -> Result<Option<Column>, NoMemory>
 }
 
 impl Facts {
-    ghost use Rattle.my_reading.specs.Facts.{first_facts, facts_after, counted, with_greeting, with_ok, with_count, with_column, with_settings};
+    ghost use Rattle.my_reading.specs.Facts.{first_facts, facts_after, counted, with_greeting, with_ok, with_count, with_column, with_field, with_head, with_parameter, with_settings, prepared_by};
     ghost use Rattle.my_reading.specs.Rows.{row_at};
     ghost use Rattle.my_reading.specs.Settings.{end_settings, good_settings, row_settings};
 
@@ -102,6 +118,13 @@ impl Facts {
             gathered: Listed::new(alloc),
             columns,
             settings: Settings::new(login),
+            reply: PreparedReply {
+                id: 0,
+                num_params: 0,
+                num_columns: 0,
+                params: Listed::new(alloc),
+                fields: Listed::new(alloc),
+            },
             place: 0,
         })
     }
@@ -150,6 +173,61 @@ impl Facts {
             None => Ok(()),
             Some(column) => self.join(alloc, column),
         }
+    }
+
+    // A statement was prepared; its parameters and columns follow.
+    fn learn_head(&mut self, alloc: Global, payload: &[u8])
+        ensures { self.new ≡ with_head (prepare_ok_at payload.now) self.old }
+    {
+        if let Ok(ok) = read_prepare_ok(payload) {
+            self.reply = PreparedReply {
+                id: ok.id,
+                num_params: ok.params,
+                num_columns: ok.columns,
+                params: Listed::new(alloc),
+                fields: Listed::new(alloc),
+            };
+        }
+    }
+
+    fn learn_parameter(&mut self, alloc: Global, payload: &[u8]) -> Result<(), NoMemory>
+        ensures ok { OnOk result (self.new ≡ with_parameter (column_at payload.now) self.old) }
+        ensures err { OnErr result (self.new ≡ self.old) }
+    {
+        match column_in(alloc, payload)? {
+            None => Ok(()),
+            Some(column) => self.reply.params.push(column),
+        }
+    }
+
+    fn learn_field(&mut self, alloc: Global, payload: &[u8]) -> Result<(), NoMemory>
+        ensures ok { OnOk result (self.new ≡ with_field (column_at payload.now) self.old) }
+        ensures err { OnErr result (self.new ≡ self.old) }
+    {
+        match column_in(alloc, payload)? {
+            None => Ok(()),
+            Some(column) => self.reply.fields.push(column),
+        }
+    }
+
+    /// The statement that was prepared last.
+    pub fn prepared(&self, alloc: Global) -> Result<StmtInner, NoMemory>
+        ensures { IfOk result (λ statement. statement ≡ prepared_by self.now) }
+    {
+        Ok(StmtInner {
+            id: self.reply.id,
+            connection_id: self.connection,
+            num_params: self.reply.num_params,
+            num_columns: self.reply.num_columns,
+            params: SetColumns::from_listed(alloc, self.reply.params.copy(alloc)?)?,
+        })
+    }
+
+    /// The columns of its rows.
+    pub fn prepared_fields(&self, alloc: Global) -> Result<SetColumns, NoMemory>
+        ensures { IfOk result (λ columns. columns ≡ self.now.reply.fields) }
+    {
+        SetColumns::from_listed(alloc, self.reply.fields.copy(alloc)?)
     }
 
     // The row, where it is one.
@@ -207,8 +285,10 @@ impl Facts {
                 self.learn_column(alloc, column)?;
             }
             Kind::Row => self.learn_row(alloc, payload)?,
-            Kind::ColumnsDone | Kind::Prepared { .. } | Kind::Parameter | Kind::Field | Kind::Bad =>
-                {}
+            Kind::Prepared { .. } => self.learn_head(alloc, payload),
+            Kind::Parameter => self.learn_parameter(alloc, payload)?,
+            Kind::Field => self.learn_field(alloc, payload)?,
+            Kind::ColumnsDone | Kind::Bad => {}
         }
         self.count();
         Ok(())

@@ -3,18 +3,24 @@
 
 mod answer;
 mod call;
-mod columns;
 mod error;
+mod executing;
 mod facts;
 mod law;
 mod row;
 mod settings;
+mod statements;
 
 pub use answer::Answer;
 pub use call::{Call, CallKind};
-pub use columns::SetColumns;
 pub use error::{DriverError, Error, IoError, IoFault, IoKind, OtherError, ServerError};
-pub use facts::Facts;
-pub use law::{columns_are_known, steps_lead_to_course, steps_stay};
+pub use executing::{MOST_VALUES, execution, values_for};
+pub use facts::{Facts, PreparedReply};
+pub use law::{
+    columns_are_known, new_statement_is_first, one_statement_leaves, prepare_tells_nothing,
+    steps_lead_to_course, steps_stay,
+};
+pub use my_statements::SetColumns;
 pub use row::read_row;
 pub use settings::{Settings, Stage};
+pub use statements::Statements;

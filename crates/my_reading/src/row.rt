@@ -6,9 +6,9 @@ ghost use Rattle.my_grammar.specs.Kinds.{cells_at};
 ghost use Rattle.my_reading.specs.Rows.{row_at};
 ghost use Rattle.my_value.specs.RowParts.{columns_of};
 
-use crate::columns::SetColumns;
 use my_frame::ReadError;
 use my_grammar::RowFormat;
+use my_statements::SetColumns;
 use my_value::{Columns, Row, read_binary_row, read_text_row};
 use std::alloc::Global;
 

@@ -3,7 +3,9 @@ use Rattle.std.proofs.Common.{refl}
 use Rattle.my_frame.specs.Writing.{le_bytes, len_bytes, text_bytes, text0_bytes, short_bytes}
 use Rattle.my_frame.specs.Front.{front_within, front_from}
 use Rattle.my_frame.specs.Chunks.{parts_of, chunks, number_after_payload}
+use Rattle.my_command.specs.Client.Statement.{null_bitmap}
 use Rattle.my_reply.specs.Column.{names_at, form_at}
+use Rattle.my_reply.specs.Replies.{prepare_ok_at}
 use Rattle.my_reply.specs.OkPacket.{fields_at}
 use Rattle.my_handshake.specs.Greeting.{settings_at}
 use Rattle.my_handshake.specs.Version.{dotted_at}
@@ -16,7 +18,7 @@ use Rattle.my_reading.specs.Reading.{read_calls, reading}
 use Rattle.wrong_tapes.specs.Right.{AreRight}
 
 pub are_right : AreRight
-unfolding le_bytes len_bytes text_bytes text0_bytes short_bytes front_within front_from parts_of chunks number_after_payload names_at form_at fields_at settings_at dotted_at response step run read_calls reading native_scramble first_words schedule rounds compress hash_after digest_bytes sha1
+unfolding le_bytes len_bytes text_bytes text0_bytes short_bytes front_within front_from parts_of chunks number_after_payload null_bitmap names_at form_at prepare_ok_at fields_at settings_at dotted_at response step run read_calls reading native_scramble first_words schedule rounds compress hash_after digest_bytes sha1
 are_right = record {
   row_read = record { first = refl; calls = (record { ends = refl; sent = refl; quiet = refl }, (record { ends = refl; sent = refl; quiet = refl }, (record { ends = refl; sent = refl; quiet = refl }, (record { ends = refl; sent = refl; quiet = refl }, (record { ends = refl; sent = refl; quiet = refl }, (record { ends = refl; sent = refl; quiet = refl }, (record { ends = refl; sent = refl; quiet = refl }, tt))))))) };
   lone_ok = record { first = refl; calls = (record { ends = refl; sent = refl; quiet = refl }, (record { ends = refl; sent = refl; quiet = refl }, (record { ends = refl; sent = refl; quiet = refl }, (record { ends = refl; sent = refl; quiet = refl }, tt)))) };
@@ -28,4 +30,7 @@ are_right = record {
   set_up = record { first = refl; calls = (record { ends = refl; sent = refl; quiet = refl }, tt) };
   limit = refl;
   password = record { first = refl; calls = (record { ends = refl; sent = refl; quiet = refl }, tt) };
+  executed = record { first = refl; calls = (record { ends = refl; sent = refl; quiet = refl }, (record { ends = refl; sent = refl; quiet = refl }, (record { ends = refl; sent = refl; quiet = refl }, (record { ends = refl; sent = refl; quiet = refl }, (record { ends = refl; sent = refl; quiet = refl }, (record { ends = refl; sent = refl; quiet = refl }, (record { ends = refl; sent = refl; quiet = refl }, tt))))))) };
+  one_cached = record { first = refl; calls = (record { ends = refl; sent = refl; quiet = refl }, (record { ends = refl; sent = refl; quiet = refl }, (record { ends = refl; sent = refl; quiet = refl }, tt))) };
+  refused = record { first = refl; calls = (record { ends = refl; sent = refl; quiet = refl }, (record { ends = refl; sent = refl; quiet = refl }, (record { ends = refl; sent = refl; quiet = refl }, (record { ends = refl; sent = refl; quiet = refl }, (record { ends = refl; sent = refl; quiet = refl }, tt))))) };
 }

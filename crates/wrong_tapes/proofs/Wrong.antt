@@ -1,5 +1,5 @@
 -- The wrong tapes: each differs from its reading.
-use Rattle.std.proofs.Common.{◌≡◌, ℕ, List, [], ◌∷◌, Option, Some, None, true, false, ap, arith}
+use Rattle.std.proofs.Common.{◌≡◌, ℕ, ◌+◌, List, [], ◌∷◌, Option, Some, None, true, false, ap, arith}
 use Rattle.std.proofs.lemmas.Bool.{false≢true}
 use Rattle.my_value.specs.declared.value.Value.{Value}
 use Rattle.my_value.specs.declared.value.Value.TheVariants.{Bytes}
@@ -12,12 +12,14 @@ use Rattle.my_reading.specs.declared.error.IoKind.{IoKind}
 use Rattle.my_reading.specs.declared.error.IoKind.TheVariants as kinds
 use Rattle.my_reading.specs.Endings.{IsCut, IsOpen, IsCancelled, IsLinkFailure, IsLinkEnd, cancelling}
 use Rattle.my_reading.specs.Reading.{ReadCall}
-use Rattle.my_reading.specs.Told.{Told, ToldReady, ToldRow, ToldEnd, ToldNone, ToldError, Dropped}
+use Rattle.my_reading.specs.Told.{Told, ToldReady, ToldRow, ToldEnd, ToldNone, ToldStatement, ToldError, Dropped}
 use Rattle.wrong_tapes.specs.Wrong.{AreWrong}
 use Rattle.my_frame.specs.Writing.{le_bytes, len_bytes, text_bytes, text0_bytes, short_bytes}
 use Rattle.my_frame.specs.Front.{front_within, front_from}
 use Rattle.my_frame.specs.Chunks.{parts_of, chunks, number_after_payload}
+use Rattle.my_command.specs.Client.Statement.{null_bitmap}
 use Rattle.my_reply.specs.Column.{names_at, form_at}
+use Rattle.my_reply.specs.Replies.{prepare_ok_at}
 use Rattle.my_reply.specs.OkPacket.{fields_at}
 use Rattle.my_handshake.specs.Greeting.{settings_at}
 use Rattle.my_handshake.specs.Version.{dotted_at}
@@ -61,6 +63,7 @@ mark (Some (Dropped true)) = 5
 mark (Some (Dropped false)) = 6
 mark (Some (ToldError e)) = error_mark e
 mark (Some (ToldRow row)) = cell row.cells
+mark (Some (ToldStatement statement)) = 21 + statement.inner.num_params
 
 differs : (x y : Option Told) → (mark x ≡ mark y → ⊥) → x ≡ y → ⊥
 differs x y apart e = apart (ap mark e)
@@ -74,7 +77,7 @@ not_cut login c a b d e (IsLinkFailure x) = d (ap mark x)
 not_cut login c a b d e (IsLinkEnd y x) = e (ap mark x)
 
 pub are_wrong : AreWrong
-unfolding le_bytes len_bytes text_bytes text0_bytes short_bytes front_within front_from parts_of chunks number_after_payload names_at form_at fields_at settings_at dotted_at response step run read_calls reading mark error_mark io_mark kind_mark cell byte
+unfolding le_bytes len_bytes text_bytes text0_bytes short_bytes front_within front_from parts_of chunks number_after_payload null_bitmap names_at form_at prepare_ok_at fields_at settings_at dotted_at response step run read_calls reading mark error_mark io_mark kind_mark cell byte
 are_wrong = record {
   other_cells = λ w. differs _ _ (λ e. absurd (omega arith)) w.calls.1.1.0.ends;
   invented_row = λ w. differs _ _ (λ e. absurd (omega arith)) w.calls.1.0.ends;
@@ -101,4 +104,11 @@ are_wrong = record {
   skipped_on = λ w. differs _ _ (λ e. absurd (omega arith)) w.calls.1.1.1.1.0.ends;
   half_set_up = λ w. not_cut _ _ (λ e. absurd (omega arith)) (λ e. absurd (omega arith)) (λ e. absurd (omega arith)) (λ e. absurd (omega arith)) w.calls.0.ends;
   unconnected = λ w. false≢true w.first;
+  prepared_again = λ w. false≢true w.calls.1.1.0.sent;
+  other_closed = λ w. false≢true w.calls.1.1.0.sent;
+  other_number = λ w. differs _ _ (λ e. absurd (omega arith)) w.calls.1.0.ends;
+  text_row = λ w. differs _ _ (λ e. absurd (omega arith)) w.calls.1.1.1.0.ends;
+  unfitting_values = λ w. false≢true w.calls.1.1.0.sent;
+  silent_close = λ w. not_cut _ _ (λ e. absurd (omega arith)) (λ e. absurd (omega arith)) (λ e. absurd (omega arith)) (λ e. absurd (omega arith)) w.calls.1.0.ends;
+  closing_text = λ w. differs _ _ (λ e. absurd (omega arith)) w.calls.1.1.0.ends;
 }

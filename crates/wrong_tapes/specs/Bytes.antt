@@ -1,12 +1,15 @@
 -- The bytes of which the tapes are made, and a tape from its calls.
 use Rattle.std.specs.Prelude.{ℕ, ◌+◌, List, [], ◌∷◌, ◌++◌, codes, length, Option, Some, None}
+use Rattle.my_reply.specs.declared.column.Column.{Column}
+use Rattle.my_value.specs.declared.value.Value.{Value}
 use Rattle.my_value.specs.declared.value.Value.TheVariants.{Bytes}
 use Rattle.my_value.specs.RowParts.{RowParts}
+use Rattle.my_statements.specs.Prepared.{StatementView}
 use Rattle.my_grammar.specs.declared.login.Login.{Login}
 use Rattle.my_reading.specs.declared.call.Call.{Call}
-use Rattle.my_reading.specs.declared.call.Call.TheVariants.{Connect, Query}
+use Rattle.my_reading.specs.declared.call.Call.TheVariants.{Connect, Query, Prepare}
 use Rattle.my_reading.specs.Tape.{Tape, TapeCall, Span}
-use Rattle.my_reading.specs.Told.{Told, ToldReady}
+use Rattle.my_reading.specs.Told.{Told, ToldReady, ToldStatement}
 
 -- a packet of a short payload
 abbrev pub packet : ℕ → List ℕ → List ℕ
@@ -43,15 +46,22 @@ one n = packet n (1 ∷ 49 ∷ [])
 abbrev pub head : List ℕ
 head = packet 1 (1 ∷ []) ++ column 2
 
-abbrev pub row : List ℕ → RowParts
-row text = record {
-  cells = Bytes text ∷ [];
-  columns = record { schema = []; table = []; org_table = []; name = codes "1"; org_name = []; charset = 63; length = 1; column_type = 8; flags = 129; decimals = 0 } ∷ [];
-}
+abbrev pub described : Column
+described = record { schema = []; table = []; org_table = []; name = codes "1"; org_name = []; charset = 63; length = 1; column_type = 8; flags = 129; decimals = 0 }
 
--- who logs in: with both settings, with neither, and with a password
-abbrev pub login_by : Option (List ℕ) → Option ℕ → Option ℕ → Login
-login_by password limit wait = record {
+abbrev pub row_with : Value → RowParts
+row_with cell = record { cells = cell ∷ []; columns = described ∷ [] }
+
+abbrev pub row : List ℕ → RowParts
+row text = row_with (Bytes text)
+
+-- the same row of an execution, whose cell has eight bytes
+abbrev pub binary_one : ℕ → List ℕ
+binary_one n = packet n (0 ∷ 0 ∷ 1 ∷ 0 ∷ 0 ∷ 0 ∷ 0 ∷ 0 ∷ 0 ∷ 0 ∷ [])
+
+-- who logs in, and how many statements are cached at most
+abbrev pub login_with : Option (List ℕ) → Option ℕ → Option ℕ → ℕ → Login
+login_with password limit wait statements = record {
   user = Some (codes "root");
   password = password;
   database = None;
@@ -62,10 +72,19 @@ login_by password limit wait = record {
   wait_timeout = wait;
   init = [];
   setup = [];
+  statements = statements;
 }
+
+-- with both settings, with neither, and with a password
+abbrev pub login_by : Option (List ℕ) → Option ℕ → Option ℕ → Login
+login_by password limit wait = login_with password limit wait 32
 
 abbrev pub root : Login
 root = login_by None (Some 4194304) (Some 28800)
+
+-- with a cache of one statement
+abbrev pub frugal : Login
+frugal = login_with None (Some 4194304) (Some 28800) 1
 
 -- the response to the greeting, with these bytes of the password
 abbrev pub response : List ℕ → List ℕ
@@ -75,6 +94,27 @@ response scramble = packet 1 (129 ∷ 162 ∷ 15 ∷ 1 ∷ 0 ∷ 0 ∷ 64 ∷ 0 
 -- the packet of a query
 abbrev pub asks : List ℕ → List ℕ
 asks text = packet 0 (3 ∷ text)
+
+-- the packet that prepares a statement, that executes statement 1 with the value 1, and that closes a statement
+abbrev pub prepares : List ℕ → List ℕ
+prepares text = packet 0 (22 ∷ text)
+
+abbrev pub executes : List ℕ
+executes = packet 0 (23 ∷ 1 ∷ 0 ∷ 0 ∷ 0 ∷ 0 ∷ 1 ∷ 0 ∷ 0 ∷ 0 ∷ 0 ∷ 1 ∷ 8 ∷ 0 ∷ 1 ∷ 0 ∷ 0 ∷ 0 ∷ 0 ∷ 0 ∷ 0 ∷ 0 ∷ [])
+
+abbrev pub closes : ℕ → List ℕ
+closes id = packet 0 (25 ∷ id ∷ 0 ∷ 0 ∷ 0 ∷ [])
+
+-- the head of the reply to a statement to prepare, with its id and as many parameters and columns
+abbrev pub prepare_ok : ℕ → ℕ → List ℕ
+prepare_ok id n = packet 1 (0 ∷ id ∷ 0 ∷ 0 ∷ 0 ∷ n ∷ 0 ∷ n ∷ 0 ∷ 0 ∷ 0 ∷ 0 ∷ [])
+
+-- statement 1, which is said to have n parameters, one column, and this for its parameter; and one that has neither parameters nor columns
+abbrev pub asking : ℕ → StatementView
+asking n = record { inner = record { id = 1; connection_id = 7; num_params = n; num_columns = 1; params = described ∷ [] }; names = [] }
+
+abbrev pub doing : ℕ → StatementView
+doing id = record { inner = record { id = id; connection_id = 7; num_params = 0; num_columns = 0; params = [] }; names = [] }
 
 -- a call with what was sent and received while it was open, and how it ended
 abbrev pub call_with : Call → List ℕ → List ℕ → Option Told → Span
@@ -92,6 +132,14 @@ asked text taken = returned (Query text) (asks text) taken ToldReady
 -- the query whose first set is begun
 abbrev pub selected : Span
 selected = asked (codes "SELECT 1") head
+
+-- the statement of one parameter and one column is prepared, and returned with n parameters
+abbrev pub prepared : ℕ → Span
+prepared n = returned (Prepare (codes "SELECT ?")) (prepares (codes "SELECT ?")) (prepare_ok 1 1 ++ column 2 ++ column 3) (ToldStatement (asking n))
+
+-- a statement without parameters is prepared, for which this is sent, too
+abbrev pub prepared_plain : List ℕ → ℕ → List ℕ → Span
+prepared_plain text id closing = returned (Prepare text) (prepares text ++ closing) (prepare_ok id 0) (ToldStatement (doing id))
 
 abbrev pub all_sent : List Span → List ℕ
 all_sent [] = []

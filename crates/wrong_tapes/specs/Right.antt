@@ -1,16 +1,19 @@
 -- Tapes that a client may have.
-use Rattle.std.specs.Prelude.{◌≡◌, ℕ, List, [], ◌∷◌, ◌++◌, codes, Some, None, true, false}
+use Rattle.std.specs.Prelude.{◌≡◌, ℕ, pos, List, [], ◌∷◌, ◌++◌, codes, Some, None, true, false}
 use Rattle.std.specs.Str.Lossy.{utf8_lossy}
+use Rattle.my_value.specs.declared.value.Value.TheVariants.{Int}
+use Rattle.my_params.specs.declared.params.Params.TheVariants.{Empty, Positional}
 use Rattle.my_grammar.specs.declared.login.Login.{Login}
-use Rattle.my_reading.specs.declared.call.Call.TheVariants.{Connect, Query, NextRow, DropResult, TakeSet, SkipTaken, Ping, Quit}
-use Rattle.my_reading.specs.declared.error.Error.TheVariants.{Server}
+use Rattle.my_reading.specs.declared.call.Call.TheVariants.{Connect, Query, Prepare, Execute, CloseStmt, NextRow, DropResult, TakeSet, SkipTaken, Ping, Quit}
+use Rattle.my_reading.specs.declared.error.DriverError.TheVariants.{StmtParamsMismatch}
+use Rattle.my_reading.specs.declared.error.Error.TheVariants.{Driver, Server}
 use Rattle.my_reading.specs.declared.error.ServerError.{ServerError}
 use Rattle.my_reading.specs.Endings.{IsTape}
-use Rattle.my_reading.specs.Errors.{connection_closed}
+use Rattle.my_reading.specs.Errors.{connection_closed, mixed_params}
 use Rattle.my_reading.specs.Place.{facts_at}
 use Rattle.my_reading.specs.Reading.{reading}
-use Rattle.my_reading.specs.Told.{ToldReady, ToldRow, ToldEnd, ToldNone, ToldError, Dropped}
-use Rattle.wrong_tapes.specs.Bytes.{root, login_by, connected, selected, asked, asks, returned, call_with, row, one, end, fine, refusal, column, packet, response, greeting, tape_of}
+use Rattle.my_reading.specs.Told.{ToldReady, ToldRow, ToldEnd, ToldNone, ToldStatement, ToldError, Dropped}
+use Rattle.wrong_tapes.specs.Bytes.{root, frugal, login_by, connected, selected, prepared, prepared_plain, asking, asked, asks, executes, closes, returned, call_with, row, row_with, one, binary_one, end, head, fine, refusal, column, packet, response, greeting, tape_of}
 
 -- what the server's ERR says
 abbrev pub error : ServerError
@@ -49,3 +52,12 @@ pub record AreRight : Type 0 where
   pub limit : (facts_at curious (reading curious (tape_of (returned Connect (response [] ++ asks (codes "SELECT @@max_allowed_packet,@@wait_timeout")) (greeting ++ fine 2 2 ++ settings) ToldReady ∷ []))).place).settings.limit ≡ 67108864
   -- a login with a password
   pub password : IsTape (login_by (Some (codes "pw")) (Some 4194304) (Some 28800)) (tape_of (returned Connect (response scramble) (greeting ++ fine 2 2) ToldReady ∷ []))
+  -- a statement is prepared, and executed with a row of the binary protocol; it is found in the cache, and closed
+  pub executed : IsTape root (tape_of (connected ∷ prepared 1 ∷ returned (Execute (asking 1) (Positional (Int (pos 1) ∷ []))) executes head ToldReady
+      ∷ returned NextRow [] (binary_one 3) (ToldRow (row_with (Int (pos 1)))) ∷ returned NextRow [] (end 4) ToldEnd
+      ∷ returned (Prepare (codes "SELECT ?")) [] [] (ToldStatement (asking 1)) ∷ returned (CloseStmt 1) (closes 1) [] ToldReady ∷ []))
+  -- where one statement is cached, the first is closed for a second one
+  pub one_cached : IsTape frugal (tape_of (connected ∷ prepared_plain (codes "DO 1") 1 [] ∷ prepared_plain (codes "DO 2") 2 (closes 1) ∷ []))
+  -- a text with named parameters and marks is refused, which leaves the connection open; values that don't fit a statement close it
+  pub refused : IsTape root (tape_of (connected ∷ returned (Prepare (codes "?:a")) [] [] (ToldError mixed_params) ∷ prepared 1
+      ∷ returned (Execute (asking 1) Empty) [] [] (ToldError (Driver (StmtParamsMismatch 1 0))) ∷ returned NextRow [] [] (ToldError connection_closed) ∷ []))

@@ -1,13 +1,15 @@
 -- Tapes that no client has.
-use Rattle.std.specs.Prelude.{List, [], ◌∷◌, ◌++◌, codes, None, false}
-use Rattle.my_reading.specs.declared.call.Call.TheVariants.{Connect, Query, NextRow, DropResult, TakeSet, SkipTaken, Ping, Quit}
+use Rattle.std.specs.Prelude.{pos, List, [], ◌∷◌, ◌++◌, codes, None, false}
+use Rattle.my_value.specs.declared.value.Value.TheVariants.{Int}
+use Rattle.my_params.specs.declared.params.Params.TheVariants.{Empty, Positional}
+use Rattle.my_reading.specs.declared.call.Call.TheVariants.{Connect, Query, Prepare, Execute, CloseStmt, NextRow, DropResult, TakeSet, SkipTaken, Ping, Quit}
 use Rattle.my_reading.specs.declared.error.Error.TheVariants.{Server}
 use Rattle.my_reading.specs.declared.error.IoKind.TheVariants.{Link}
 use Rattle.my_reading.specs.Endings.{IsTape}
-use Rattle.my_reading.specs.Errors.{io_error, unexpected_eof, invalid_data}
+use Rattle.my_reading.specs.Errors.{connection_closed, mixed_params, io_error, unexpected_eof, invalid_data}
 use Rattle.my_reading.specs.Told.{ToldReady, ToldRow, ToldEnd, ToldNone, ToldError, Dropped}
 use Rattle.my_reading.specs.Tape.{Span}
-use Rattle.wrong_tapes.specs.Bytes.{root, connected, selected, asked, asks, returned, call_with, row, one, end, fine, refusal, head, packet, response, greeting, tape_of}
+use Rattle.wrong_tapes.specs.Bytes.{root, frugal, connected, selected, prepared, prepared_plain, asking, executes, closes, asked, asks, returned, call_with, row, one, end, fine, refusal, head, packet, response, greeting, tape_of}
 use Rattle.wrong_tapes.specs.Right.{curious, error}
 
 -- the calls are on no tape of a client that logs in as root
@@ -64,3 +66,18 @@ pub record AreWrong : Type 0 where
   pub half_set_up : IsTape curious (tape_of (returned Connect (response [] ++ asks (codes "SELECT @@max_allowed_packet,@@wait_timeout")) (greeting ++ fine 2 2) ToldReady ∷ [])) → ⊥
   -- a ping before connecting
   pub unconnected : NoTape (returned Ping (packet 0 (14 ∷ [])) (fine 1 2) ToldReady ∷ [])
+  -- a statement is prepared again, though it is cached
+  pub prepared_again : NoTape (connected ∷ prepared 1 ∷ prepared 1 ∷ [])
+  -- another statement than the one that has to go is closed
+  pub other_closed : IsTape frugal (tape_of (connected ∷ prepared_plain (codes "DO 1") 1 [] ∷ prepared_plain (codes "DO 2") 2 (closes 2) ∷ [])) → ⊥
+  -- a statement with another number of parameters than the server said
+  pub other_number : NoTape (connected ∷ prepared 2 ∷ [])
+  -- a row of an execution is read as text
+  pub text_row : NoTape (connected ∷ prepared 1 ∷ returned (Execute (asking 1) (Positional (Int (pos 1) ∷ []))) executes head ToldReady
+      ∷ returned NextRow [] (one 3) (ToldRow (row (codes "1"))) ∷ [])
+  -- a statement is executed without its value
+  pub unfitting_values : NoTape (connected ∷ prepared 1 ∷ returned (Execute (asking 1) Empty) executes (fine 1 2) ToldReady ∷ [])
+  -- a statement is closed, and nothing is sent
+  pub silent_close : NoTape (connected ∷ returned (CloseStmt 1) [] [] ToldReady ∷ [])
+  -- a text with named parameters and marks closes the connection
+  pub closing_text : NoTape (connected ∷ returned (Prepare (codes "?:a")) [] [] (ToldError mixed_params) ∷ returned NextRow [] [] (ToldError connection_closed) ∷ [])

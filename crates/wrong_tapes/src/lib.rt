@@ -5,14 +5,16 @@ ghost use Rattle.wrong_tapes.specs.Right.{AreRight};
 ghost use Rattle.wrong_tapes.specs.Wrong.{AreWrong};
 
 /// Each of these tapes is one that a client may have: a query with a row, a lone OK, an earlier error that a query
-/// returns, a drop that is cancelled, sets that streams take, settings that the server is asked for, a login with a password.
+/// returns, a drop that is cancelled, sets that streams take, settings that the server is asked for, a login with a password;
+/// a statement that is prepared, executed, found in the cache and closed, one that has to go for another, and what is refused.
 pub fn right_tapes_are_accepted()
     ensures { AreRight }
 {}
 
 /// None of these tapes is one: a row, an end or an error that the bytes don't hold, an answer that comes too early, a
 /// command that wasn't sent or is another call's, a set that is taken where none is or passed over in part, bytes on a closed
-/// connection.
+/// connection; a statement that is prepared twice, returned as another or not closed, a row of an execution that is read as
+/// text, values that don't fit and are sent.
 pub fn wrong_tapes_are_refuted()
     ensures { AreWrong }
 {}
