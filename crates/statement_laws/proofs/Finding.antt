@@ -1,0 +1,109 @@
+-- A call that prepares a statement: one that is cached is returned at once, and for another an exchange begins.
+use Rattle.std.proofs.Common.{◌≡◌, ℕ, suc, zero, ◌<◌, ◌≤◌, length, true, false, cond, Option, Some, None, List, [], ◌∷◌, refl, ap, ◌∙◌, arith}
+use Rattle.my_grammar.specs.declared.login.Login.{Login}
+use Rattle.my_grammar.specs.declared.spot.Terms.{Terms}
+use Rattle.my_grammar.specs.Cut.{is_over}
+use Rattle.my_grammar.specs.Growth.{grow}
+use Rattle.my_grammar.specs.Talk.{Talk}
+use Rattle.my_statements.specs.Cache.{Held}
+use Rattle.my_reading.specs.declared.call.Call.TheVariants.{Prepare}
+use Rattle.my_reading.specs.Commands.{closing}
+use Rattle.my_reading.specs.Course.{Part, All, Command, Find, Reply, Keep, Give, Step, Goes, Stops, step, step_of, unless_owed, found, looked_for, return, failure, with_command, closing_of, enough, run}
+use Rattle.my_reading.specs.Errors.{mixed_params}
+use Rattle.my_reading.specs.Facts.{prepared_by}
+use Rattle.my_reading.specs.Leads.{Here}
+use Rattle.my_reading.specs.Place.{Place, exchanges, facts_at, next_exchange, owed, terms_of, with_exchange, with_statements, with_talk, without_end}
+use Rattle.my_reading.specs.Statements.{held_in, is_mixed_text, leaving, names_of, query_of, statement_with, with_fetched, with_prepared}
+use Rattle.my_reading.specs.Told.{ToldStatement}
+use Rattle.my_reading.proofs.Leading.{leads_to_course}
+use Rattle.statement_laws.specs.Found.{CachedIsReturned, OthersAreAskedFor}
+use Rattle.statement_laws.specs.Kept.{is_answered}
+use Rattle.statement_laws.proofs.Stepping.{answer_leaves_open}
+use Rattle.statement_laws.proofs.Having.{StopsHave, begun_has, either, reads_have}
+
+-- what follows the looking for it
+abbrev rest : List Part
+rest = All ∷ Command ∷ Reply ∷ Keep ∷ Give ∷ []
+
+found_at_once : (login : Login) (text : List ℕ) (p : Place) (h : Held) → owed p ≡ [] → is_mixed_text text ≡ false → held_in p.statements (query_of text) ≡ Some h
+    → step login (Prepare text) (Find ∷ rest) p
+    ≡ return (with_statements (with_fetched (query_of text) p.statements) p) (ToldStatement (statement_with h.stmt (names_of text)))
+unfolding step
+found_at_once login text p h none plain there =
+    ap (λ x. unless_owed x p (looked_for rest p text)) none
+    ∙ (ap (λ b. cond b (failure p mixed_params) (found rest p text (held_in p.statements (query_of text)))) plain
+    ∙ ap (λ o. found rest p text o) there)
+
+pub cached_is_returned : CachedIsReturned
+cached_is_returned login text p h none plain there =
+    leads_to_course login (Prepare text) p (Find ∷ rest) p _ _ (Here (Find ∷ rest) p) (found_at_once login text p h none plain there)
+
+-- n exchanges are there before the command, and more after it
+data Asks (text : List ℕ) (n : ℕ) : List Part → Place → Type 0 where
+  Looks : (p : Place) → held_in p.statements (query_of text) ≡ None → n ≤ length (exchanges p) → Asks text n (Find ∷ rest) p
+  Clears : (p : Place) → n ≤ length (exchanges p) → Asks text n rest p
+  Sends : (p : Place) → n ≤ length (exchanges p) → Asks text n (Command ∷ Reply ∷ Keep ∷ Give ∷ []) p
+  Hears : (p : Place) → n < length (exchanges p) → Asks text n (Reply ∷ Keep ∷ Give ∷ []) p
+  Keeps : (p : Place) → n < length (exchanges p) → Asks text n (Keep ∷ Give ∷ []) p
+  Gives : (p : Place) → n < length (exchanges p) → Asks text n (Give ∷ []) p
+
+abbrev HasAsked : List ℕ → ℕ → Step → Type 0
+HasAsked text n (Goes parts p) = Asks text n parts p
+HasAsked text n (Stops p s) = is_answered s ≡ true → n < length (exchanges p)
+
+module _ (login : Login) (text : List ℕ) (n : ℕ) where
+  abbrev Has : Step → Type 0
+  Has = HasAsked text n
+
+  stops : (p : Place) → StopsHave Has p
+  stops p s e h = let open_left = answer_leaves_open s h in absurd (cc)
+
+  found_has : (p : Place) (o : Option Held) → o ≡ None → n ≤ length (exchanges p) → Has (found rest p text o)
+  found_has p None e low = Clears p low
+  found_has p (Some h) e low = absurd (cc)
+
+  sent_has : (p : Place) (o : Option Talk) → next_exchange login (Prepare text) p ≡ o → n ≤ length (exchanges p) → Has (with_command (Prepare text) (Reply ∷ Keep ∷ Give ∷ []) p o)
+  sent_has p None e low = absurd (cc)
+  sent_has p (Some t) e low =
+      let more : n < length (exchanges (with_exchange p (Prepare text) t)) = omega (arith, low) in
+      begun_has Has p (stops p) (Prepare text) (Reply ∷ Keep ∷ Give ∷ []) t (Hears (with_exchange p (Prepare text) t) more)
+
+  closed_has : (p : Place) (terms : Terms) (o : Option ℕ) → n < length (exchanges p) → Has (with_command (Prepare text) (Give ∷ []) p (closing_of terms o))
+  closed_has p terms None low = Gives p low
+  closed_has p terms (Some id) low =
+      let more : n < length (exchanges (with_exchange p (Prepare text) (closing terms id))) = omega (arith, low) in
+      begun_has Has p (stops p) (Prepare text) (Give ∷ []) (closing terms id) (Gives (with_exchange p (Prepare text) (closing terms id)) more)
+
+  part_has : (parts : List Part) (p : Place) → Asks text n parts p → Has (step_of login (Prepare text) parts p)
+  part_has parts p (Looks q none low) = either Has (is_mixed_text text) _ _ (λ h. absurd (cc)) (found_has q (held_in q.statements (query_of text)) none low)
+  part_has parts p (Clears q low) = either Has q.end_left _ _ (Clears (without_end q) low) (either Has (is_over q.talk) _ _ (Sends q low)
+      (reads_have Has q (stops q) login All (Command ∷ Reply ∷ Keep ∷ Give ∷ [])
+      (λ k b more _ _. Clears (with_talk q (grow k q.talk b) more) low) (λ k b more row _ _. Clears (with_talk q (grow k q.talk b) more) low) (λ b more x h. absurd (cc))))
+  part_has parts p (Sends q low) = sent_has q (next_exchange login (Prepare text) q) refl low
+  part_has parts p (Hears q low) = either Has (is_over q.talk) _ _ (Keeps q low)
+      (reads_have Has q (stops q) login Reply (Keep ∷ Give ∷ [])
+      (λ k b more _ _. Hears (with_talk q (grow k q.talk b) more) low) (λ k b more row _ _. Hears (with_talk q (grow k q.talk b) more) low) (λ b more x h. absurd (cc)))
+  part_has parts p (Keeps q low) =
+      let f = facts_at login q in
+      closed_has (with_statements (with_prepared (query_of text) (prepared_by f) f.reply.fields q.statements) q) (terms_of login (exchanges q))
+      (leaving (query_of text) (prepared_by f) q.statements) low
+  part_has parts p (Gives q low) = λ _. low
+
+  step_has : (parts : List Part) (p : Place) → Asks text n parts p → Has (step login (Prepare text) parts p)
+  unfolding step
+  step_has parts p w = by_owed (owed p)
+    where
+      by_owed : (x : List ℕ) → HasAsked text n (unless_owed x p (step_of login (Prepare text) parts p))
+      by_owed (b ∷ bytes) = λ h. absurd (cc)
+      by_owed [] = part_has parts p w
+
+  run_has : (most : ℕ) (s : Step) → Has s → is_answered (run most login (Prepare text) s).stop ≡ true → n < length (exchanges (run most login (Prepare text) s).place)
+  unfolding run
+  run_has zero (Stops p s) w e = w e
+  run_has (suc most) (Stops p s) w e = w e
+  run_has zero (Goes parts p) w e = absurd (cc)
+  run_has (suc most) (Goes parts p) w e = run_has most (step login (Prepare text) parts p) (step_has parts p w) e
+
+pub others_are_asked_for : OthersAreAskedFor
+others_are_asked_for login text p none e =
+    run_has login text (length (exchanges p)) (enough login (Prepare text) p) (Goes (Find ∷ rest) p) (Looks p none (omega arith)) e

@@ -1,0 +1,90 @@
+-- Properties of steps: what begins an exchange or reads a payload has one where each of its outcomes has.
+use Rattle.std.proofs.Common.{◌≡◌, ℕ, length, nat_lt, Bool, true, false, cond, Option, Some, None, IfSome, List, ◌∷◌, refl, sym, subst}
+use Rattle.my_frame.specs.Front.{Front, Waiting, Broken, Whole}
+use Rattle.my_reply.specs.declared.err.ErrPacket.{ErrPacket}
+use Rattle.my_reply.specs.ErrPacket.{err_at}
+use Rattle.my_reply.specs.declared.replies.PrepareOk.{PrepareOk}
+use Rattle.my_reply.specs.Replies.{prepare_ok_at}
+use Rattle.my_grammar.specs.declared.login.Login.{Login}
+use Rattle.my_grammar.specs.declared.spot.Kind.{Kind}
+use Rattle.my_grammar.specs.declared.spot.Kind.TheVariants as kinds
+use Rattle.my_grammar.specs.Cut.{front_of, kind_of}
+use Rattle.my_grammar.specs.Growth.{grow}
+use Rattle.my_grammar.specs.Response.{response}
+use Rattle.my_grammar.specs.Talk.{Talk, commands_in, context_of, limit_of}
+use Rattle.my_reading.specs.declared.call.Call.{Call}
+use Rattle.my_reading.specs.Course.{failure, Part, Stop, Awaits, Step, Goes, Stops, with_front, reads, after_payload, after_kind, after_err, unfit, unless_cached, unless_long, with_command, first_above, is_greeting}
+use Rattle.my_reading.specs.declared.error.Error.TheVariants.{Server}
+use Rattle.my_reading.specs.Errors.{server_error}
+use Rattle.my_reading.specs.Place.{Place, with_exchange, with_talk}
+use Rattle.my_reading.specs.Statements.{is_cached}
+use Rattle.my_reading.specs.Told.{Told}
+use Rattle.statement_laws.specs.Kept.{leaves_open}
+use Rattle.statement_laws.proofs.Talks.{ComesFresh, is_failed}
+
+-- a property of steps that each stop at a place has by which a call that prepares a statement closes the session, or is left open
+abbrev pub StopsHave : (Step → Type 0) → Place → Type 0
+StopsHave R p = (s : Stop) → leaves_open s ≡ false → R (Stops p s)
+
+pub either : (R : Step → Type 0) (b : Bool) (x y : Step) → R x → R y → R (cond b x y)
+either R true x y v w = v
+either R false x y v w = w
+
+module _ (R : Step → Type 0) (p : Place) (stops : StopsHave R p) where
+  -- what is asked for begins, unless it is above the limit
+  long_has : (limit : ℕ) (o : Option ℕ) (s : Step) → R s → R (unless_long p limit o s)
+  long_has limit None s w = w
+  long_has limit (Some n) s w = stops _ refl
+
+  pub begun_has : (call : Call) (parts : List Part) (t : Talk) → R (Goes parts (with_exchange p call t)) → R (with_command call parts p (Some t))
+  begun_has call parts t w = long_has (limit_of t) (first_above (limit_of t) (commands_in t)) (Goes parts (with_exchange p call t)) w
+
+  pub command_has : (call : Call) (parts : List Part) (o : Option Talk) → R (Goes parts p)
+      → ((t : Talk) → o ≡ Some t → R (Goes parts (with_exchange p call t))) → R (with_command call parts p o)
+  command_has call parts None w v = w
+  command_has call parts (Some t) w v = begun_has call parts t (v t refl)
+
+  -- where each payload more has the property, reading has it
+  module _ (login : Login) (part : Part) (parts : List Part)
+      (again : (k : Kind) (q rest : List ℕ) → is_failed k ≡ false → ComesFresh (λ ok. is_cached p.statements ok.id ≡ false) k q
+      → R (Goes (part ∷ parts) (with_talk p (grow k p.talk q) rest)))
+      (other : (k : Kind) (q rest : List ℕ) (row : Told) → is_failed k ≡ false → ComesFresh (λ ok. is_cached p.statements ok.id ≡ false) k q
+      → R (after_kind part parts k (with_talk p (grow k p.talk q) rest) row))
+      (refused : (q rest : List ℕ) (e : ErrPacket) → R (failure (with_talk p (grow kinds.Failed p.talk q) rest) (Server (server_error e)))) where
+    err_has : (q : List ℕ) (rest : List ℕ) (o : Option ErrPacket) → R (after_err login p (with_talk p (grow kinds.Failed p.talk q) rest) o)
+    err_has q rest None = stops _ refl
+    err_has q rest (Some e) = refused q rest e
+
+    head_has : (q rest : List ℕ) (params columns : ℕ) (o : Option PrepareOk) → prepare_ok_at q ≡ o
+        → R (unless_cached login p o (Goes (part ∷ parts) (with_talk p (grow (kinds.Prepared params columns) p.talk q) rest)))
+    head_has q rest params columns None e = again (kinds.Prepared params columns) q rest refl (subst (λ o. IfSome o (λ ok. is_cached p.statements ok.id ≡ false)) (sym e) tt)
+    head_has q rest params columns (Some ok) e = by_id (again (kinds.Prepared params columns) q rest refl) (is_cached p.statements ok.id) refl
+      where
+        by_id : (IfSome (prepare_ok_at q) (λ ok. is_cached p.statements ok.id ≡ false) → R (Goes (part ∷ parts) (with_talk p (grow (kinds.Prepared params columns) p.talk q) rest)))
+            → (b : Bool) → is_cached p.statements ok.id ≡ b
+            → R (cond b (unfit login p) (Goes (part ∷ parts) (with_talk p (grow (kinds.Prepared params columns) p.talk q) rest)))
+        by_id go true i = stops _ refl
+        by_id go false i = go (subst (λ o. IfSome o (λ ok. is_cached p.statements ok.id ≡ false)) (sym e) i)
+
+    payload_has : (q rest : List ℕ) (k : Kind) → R (after_payload login part parts p (with_talk p (grow k p.talk q) rest) q k)
+    payload_has q rest kinds.Bad = stops _ refl
+    payload_has q rest kinds.Failed = err_has q rest (err_at (is_greeting (context_of p.talk).spot) q)
+    payload_has q rest (kinds.Greets n) =
+        either R (nat_lt (limit_of p.talk) (length (response login q))) _ _ (stops _ refl) (again (kinds.Greets n) q rest refl tt)
+    payload_has q rest (kinds.Prepared params columns) = head_has q rest params columns (prepare_ok_at q) refl
+    payload_has q rest (kinds.Good status) = other (kinds.Good status) q rest _ refl tt
+    payload_has q rest (kinds.Count n) = other (kinds.Count n) q rest _ refl tt
+    payload_has q rest kinds.Column = other kinds.Column q rest _ refl tt
+    payload_has q rest kinds.ColumnsDone = other kinds.ColumnsDone q rest _ refl tt
+    payload_has q rest kinds.Row = other kinds.Row q rest _ refl tt
+    payload_has q rest (kinds.End status) = other (kinds.End status) q rest _ refl tt
+    payload_has q rest kinds.Parameter = other kinds.Parameter q rest _ refl tt
+    payload_has q rest kinds.Field = other kinds.Field q rest _ refl tt
+
+    front_has : (x : Front) → R (with_front login part parts p x)
+    front_has Waiting = stops Awaits refl
+    front_has (Broken fault) = stops _ refl
+    front_has (Whole q rest next) = payload_has q rest (kind_of p.talk q)
+
+    pub reads_have : R (reads login part parts p)
+    reads_have = front_has (front_of p.talk p.unread)

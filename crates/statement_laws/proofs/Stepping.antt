@@ -1,0 +1,291 @@
+-- Each step of a call keeps its statements, by the parts that are left.
+use Rattle.std.proofs.Common.{◌≡◌, ℕ, suc, zero, Bool, true, false, cond, ◌&&◌, ◌||◌, Option, Some, None, IfSome, List, [], ◌∷◌, slice_get, refl, subst}
+use Rattle.my_command.specs.declared.client.ClientPacket.TheVariants as packets
+use Rattle.my_command.specs.Client.Packet.{client_bytes as packet_bytes}
+use Rattle.my_grammar.specs.declared.login.Login.{Login}
+use Rattle.my_grammar.specs.declared.spot.Kind.{Kind}
+use Rattle.my_grammar.specs.declared.spot.Kind.TheVariants as kinds
+use Rattle.my_grammar.specs.declared.spot.Terms.{Terms}
+use Rattle.my_grammar.specs.Cut.{is_over}
+use Rattle.my_grammar.specs.Growth.{grow}
+use Rattle.my_grammar.specs.Prepares.{Unanswered}
+use Rattle.my_grammar.specs.Talk.{Talk, Preparing, context_of}
+use Rattle.my_statements.specs.Cache.{Held}
+use Rattle.my_reading.specs.declared.call.Call.{Call}
+use Rattle.my_reading.specs.declared.call.Call.TheVariants.{Connect, Query, Prepare, Execute, CloseStmt, NextRow, DropResult, TakeSet, SkipTaken, Ping, Quit}
+use Rattle.my_reading.specs.Calls.{params_in, statement_in}
+use Rattle.my_reading.specs.Commands.{arranging, arranging_texts, closing, connecting, execution, opening}
+use Rattle.my_reading.specs.Course.{Part, All, Head, Item, Set, Rest, Command, Find, Check, Reply, Keep, Give, Learn, Forget, Step, Goes, Stops, step, step_of, unless_owed, reads, after_kind, with_command, found, checked, closing_of, learned, is_rows, parts_of, parts_of_texts, Stop, Owes, Awaits, Returns}
+use Rattle.my_reading.specs.Executions.{Values, Fitting, Unfitting, values_for}
+use Rattle.my_reading.specs.Facts.{prepared_by}
+use Rattle.my_reading.specs.Place.{Place, connects_in, exchanges, facts_at, facts_of, next_exchange, owed, terms_of, with_end, with_exchange, with_statements, with_talk, without_end}
+use Rattle.my_reading.specs.Statements.{Statements, held_in, is_cached, is_mixed_text, leaving, query_of, with_prepared, without_statement}
+use Rattle.my_reading.specs.Told.{Told, ToldReady, ToldRow, ToldEnd, ToldNone, ToldStatement, ToldError, Dropped}
+use Rattle.statement_laws.specs.Kept.{is_answered, is_settled, leaves_open, prepared_in}
+use Rattle.statement_laws.proofs.Having.{StopsHave, begun_has, command_has, either, reads_have}
+use Rattle.statement_laws.proofs.Holding.{Holds, HoldsBefore, HoldsBut, closing_holds, fetched_holds, forgotten_holds, grown_before, grown_holds, learned_holds, opened_before, opened_holds, prepared_holds, refused_holds, weaker_holds}
+use Rattle.statement_laws.proofs.Talks.{ComesFresh, is_failed, is_open, over_is_done, whole_talk}
+
+-- the parts that touch no statement that is cached
+abbrev is_plain_part : Part → Bool
+is_plain_part Find = false
+is_plain_part Reply = false
+is_plain_part Keep = false
+is_plain_part Give = false
+is_plain_part Forget = false
+is_plain_part _ = true
+
+abbrev is_plain : List Part → Bool
+is_plain [] = true
+is_plain (part ∷ parts) = is_plain_part part && is_plain parts
+
+abbrev prepares : Call → Bool
+prepares (Prepare text) = true
+prepares _ = false
+
+-- What holds before each of a call's parts.
+pub data Phase : Call → List Part → Place → Type 0 where
+  Steady : (call : Call) (parts : List Part) (p : Place) → is_plain parts ≡ true → prepares call ≡ false → Holds p → Phase call parts p
+  Finding : (text : List ℕ) (p : Place) → Holds p → Phase (Prepare text) (Find ∷ All ∷ Command ∷ Reply ∷ Keep ∷ Give ∷ []) p
+  Clearing : (text : List ℕ) (p : Place) → Holds p → held_in p.statements (query_of text) ≡ None → Phase (Prepare text) (All ∷ Command ∷ Reply ∷ Keep ∷ Give ∷ []) p
+  Asking : (text : List ℕ) (p : Place) → Holds p → held_in p.statements (query_of text) ≡ None → Phase (Prepare text) (Command ∷ Reply ∷ Keep ∷ Give ∷ []) p
+  Replying : (text : List ℕ) (p : Place) → HoldsBefore (query_of text) p → Phase (Prepare text) (Reply ∷ Keep ∷ Give ∷ []) p
+  Keeping : (text : List ℕ) (p : Place) → HoldsBefore (query_of text) p → is_over p.talk ≡ true → Phase (Prepare text) (Keep ∷ Give ∷ []) p
+  Giving : (text : List ℕ) (p : Place) → Holds p → Phase (Prepare text) (Give ∷ []) p
+  Forgetting : (id : ℕ) (p : Place) → Holds p → Phase (CloseStmt id) (Forget ∷ All ∷ Command ∷ []) p
+  Passing : (id : ℕ) (p : Place) → HoldsBut (λ i. i ≡ id) p → Phase (CloseStmt id) (All ∷ Command ∷ []) p
+  Closing : (id : ℕ) (p : Place) → HoldsBut (λ i. i ≡ id) p → Phase (CloseStmt id) (Command ∷ []) p
+
+-- a step leads to the next phase, or the call stops where all is kept, unless what it prepares or closes isn't settled
+abbrev pub IsFine : Call → Step → Type 0
+IsFine call (Goes parts p) = Phase call parts p
+IsFine call (Stops p s) = is_settled call s ≡ true → Holds p
+
+pub answer_leaves_open : (s : Stop) → is_answered s ≡ true → leaves_open s ≡ true
+answer_leaves_open Owes e = absurd (cc)
+answer_leaves_open Awaits e = absurd (cc)
+answer_leaves_open (Returns ToldReady) e = refl
+answer_leaves_open (Returns (ToldRow row)) e = refl
+answer_leaves_open (Returns ToldEnd) e = refl
+answer_leaves_open (Returns ToldNone) e = refl
+answer_leaves_open (Returns (ToldStatement statement)) e = refl
+answer_leaves_open (Returns (ToldError x)) e = absurd (cc)
+answer_leaves_open (Returns (Dropped closing)) e = absurd (cc)
+
+-- A call that prepares or closes a statement isn't settled where it closes the session, or is left open.
+preparing_stops : (text : List ℕ) (p : Place) → StopsHave (IsFine (Prepare text)) p
+preparing_stops text p s e h = absurd (cc)
+
+closing_stops : (id : ℕ) (p : Place) → StopsHave (IsFine (CloseStmt id)) p
+closing_stops id p s e h = let open_left = answer_leaves_open s h in absurd (cc)
+
+pub stopped_fine : (c : Call) (parts : List Part) (p : Place) → Phase c parts p → StopsHave (IsFine c) p
+stopped_fine c parts p (Steady d ps q e other w) = λ s _ _. w
+stopped_fine c parts p (Finding text q w) = preparing_stops text q
+stopped_fine c parts p (Clearing text q w e) = preparing_stops text q
+stopped_fine c parts p (Asking text q w e) = preparing_stops text q
+stopped_fine c parts p (Replying text q w) = preparing_stops text q
+stopped_fine c parts p (Keeping text q w e) = preparing_stops text q
+stopped_fine c parts p (Giving text q w) = preparing_stops text q
+stopped_fine c parts p (Forgetting id q w) = closing_stops id q
+stopped_fine c parts p (Passing id q w) = closing_stops id q
+stopped_fine c parts p (Closing id q w) = closing_stops id q
+
+-- what other calls begin prepares nothing
+PreparesNothing : Talk → Type 0
+PreparesNothing t = (prepared_in t ≡ None) × (is_open t ≡ false)
+
+connecting_plain : (login : Login) (terms : Terms) (n : ℕ) → IfSome (connecting login terms n) PreparesNothing
+unfolding PreparesNothing
+connecting_plain login terms zero = (refl, refl)
+connecting_plain login terms (suc n) = by_text (slice_get (arranging_texts login) n)
+  where
+    by_text : (o : Option (List ℕ)) → IfSome (arranging terms o) PreparesNothing
+    by_text None = tt
+    by_text (Some text) = (refl, refl)
+
+execution_plain : (terms : Terms) (st : Statements) (id : ℕ) (v : Values) → IfSome (execution terms st id v) PreparesNothing
+unfolding PreparesNothing
+execution_plain terms st id (Fitting values) = (refl, refl)
+execution_plain terms st id (Unfitting e) = tt
+
+opening_plain : (login : Login) (terms : Terms) (st : Statements) (call : Call) (n : ℕ) → prepares call ≡ false → IfSome (opening login terms st call n) PreparesNothing
+unfolding PreparesNothing
+opening_plain login terms st Connect n e = connecting_plain login terms n
+opening_plain login terms st (Query text) n e = (refl, refl)
+opening_plain login terms st (Prepare text) n e = absurd (cc)
+opening_plain login terms st (Execute statement params) n e = execution_plain terms st statement.inner.id (values_for statement params)
+opening_plain login terms st (CloseStmt id) n e = (refl, refl)
+opening_plain login terms st NextRow n e = tt
+opening_plain login terms st DropResult n e = tt
+opening_plain login terms st TakeSet n e = tt
+opening_plain login terms st SkipTaken n e = tt
+opening_plain login terms st Ping n e = (refl, refl)
+opening_plain login terms st Quit n e = (refl, refl)
+
+-- a call that prepares nothing, at each of its parts
+module _ (login : Login) (call : Call) (other : prepares call ≡ false) where
+  -- the same parts are left, or fewer
+  steady_kind : (part : Part) (parts : List Part) → is_plain (part ∷ parts) ≡ true → (k : Kind) (new : Place) (row : Told) → Holds new
+      → IsFine call (after_kind part parts k new row)
+  steady_kind All parts e k new row w = Steady call (All ∷ parts) new e other w
+  steady_kind Command parts e k new row w = Steady call (Command ∷ parts) new e other w
+  steady_kind Rest parts e k new row w = Steady call (Rest ∷ parts) new e other w
+  steady_kind Check parts e k new row w = Steady call (Check ∷ parts) new e other w
+  steady_kind Learn parts e k new row w = Steady call (Learn ∷ parts) new e other w
+  steady_kind Head parts e (kinds.Good status) new row w = Steady call parts (with_end new) e other w
+  steady_kind Head parts e _ new row w = Steady call (Head ∷ parts) new e other w
+  steady_kind Item parts e (kinds.Good status) new row w = λ _. w
+  steady_kind Item parts e (kinds.End status) new row w = λ _. w
+  steady_kind Item parts e kinds.Row new row w = λ _. w
+  steady_kind Item parts e _ new row w = Steady call (Item ∷ parts) new e other w
+  steady_kind Set parts e (kinds.Good status) new row w = λ _. w
+  steady_kind Set parts e _ new row w = Steady call (Set ∷ parts) new e other w
+  steady_kind Find parts e k new row w = absurd (cc)
+  steady_kind Reply parts e k new row w = absurd (cc)
+  steady_kind Keep parts e k new row w = absurd (cc)
+  steady_kind Give parts e k new row w = absurd (cc)
+  steady_kind Forget parts e k new row w = absurd (cc)
+
+  steady_reads : (part : Part) (parts : List Part) (p : Place) → is_plain (part ∷ parts) ≡ true → Holds p → IsFine call (reads login part parts p)
+  steady_reads part parts p e w = reads_have (IsFine call) p (λ s _ _. w) login part parts
+      (λ k q rest _ _. Steady call (part ∷ parts) (with_talk p (grow k p.talk q) rest) e other (grown_holds (λ i. ⊥) p k q rest w))
+      (λ k q rest row _ _. steady_kind part parts e k (with_talk p (grow k p.talk q) rest) row (grown_holds (λ i. ⊥) p k q rest w))
+      (λ q rest e _. grown_holds (λ i. ⊥) p kinds.Failed q rest w)
+
+  steady_checked : (parts : List Part) (p : Place) (v : Values) → is_plain parts ≡ true → Holds p → IsFine call (checked parts p v)
+  steady_checked parts p (Fitting values) e w = Steady call parts p e other w
+  steady_checked parts p (Unfitting x) e w = λ _. w
+
+  steady_begun : (t : Talk) (parts : List Part) (p : Place) (o : Option Talk) → IfSome o PreparesNothing → o ≡ Some t → is_plain parts ≡ true → Holds p
+      → IsFine call (Goes parts (with_exchange p call t))
+  unfolding PreparesNothing
+  steady_begun t parts p None v i e w = absurd (cc)
+  steady_begun t parts p (Some u) v i e w =
+      let same : u ≡ t = cc in
+      Steady call parts (with_exchange p call t) e other (opened_holds (λ i. ⊥) p call t (subst (λ x. prepared_in x ≡ None) same v.0) (subst (λ x. is_open x ≡ false) same v.1) w)
+
+  steady : (parts : List Part) (p : Place) → is_plain parts ≡ true → Holds p → IsFine call (step_of login call parts p)
+  steady [] p e w = λ _. w
+  steady (Command ∷ parts) p e w = command_has (IsFine call) p (λ s _ _. w) call parts (next_exchange login call p) (Steady call parts p e other w)
+      (λ t i. steady_begun t parts p (next_exchange login call p) (opening_plain login (terms_of login (exchanges p)) p.statements call (connects_in (exchanges p)) other) i e w)
+  steady (All ∷ parts) p e w = either (IsFine call) p.end_left _ _ (Steady call (All ∷ parts) (without_end p) e other w)
+      (either (IsFine call) (is_over p.talk) _ _ (Steady call parts p e other w) (steady_reads All parts p e w))
+  steady (Head ∷ parts) p e w = either (IsFine call) (is_rows (context_of p.talk).spot) _ _ (Steady call parts p e other w) (steady_reads Head parts p e w)
+  steady (Item ∷ parts) p e w = either (IsFine call) p.end_left _ _ (λ _. w) (either (IsFine call) (is_over p.talk) _ _ (λ _. w) (steady_reads Item parts p e w))
+  steady (Set ∷ parts) p e w = either (IsFine call) (p.end_left || is_rows (context_of p.talk).spot) _ _ (λ _. w)
+      (either (IsFine call) (is_over p.talk) _ _ (λ _. w) (steady_reads Set parts p e w))
+  steady (Rest ∷ parts) p e w = either (IsFine call) p.end_left _ _ (Steady call (Rest ∷ parts) (without_end p) e other w)
+      (either (IsFine call) (is_rows (context_of p.talk).spot) _ _ (steady_reads Rest parts p e w) (Steady call parts p e other w))
+  steady (Check ∷ parts) p e w = steady_checked parts p (values_for (statement_in call) (params_in call)) e w
+  steady (Learn ∷ parts) p e w = Steady call parts (learned call p (facts_at login p)) e other (learned_holds (λ i. ⊥) call p (facts_at login p) w)
+  steady (Find ∷ parts) p e w = absurd (cc)
+  steady (Reply ∷ parts) p e w = absurd (cc)
+  steady (Keep ∷ parts) p e w = absurd (cc)
+  steady (Give ∷ parts) p e w = absurd (cc)
+  steady (Forget ∷ parts) p e w = absurd (cc)
+
+-- a call that prepares a statement
+module _ (login : Login) (text : List ℕ) where
+  abbrev asking_call : Call
+  asking_call = Prepare text
+
+  abbrev asked : List Part
+  asked = Command ∷ Reply ∷ Keep ∷ Give ∷ []
+
+  found_fine : (p : Place) (o : Option Held) → held_in p.statements (query_of text) ≡ o → Holds p → IsFine asking_call (found (All ∷ asked) p text o)
+  found_fine p None e w = Clearing text p w e
+  found_fine p (Some h) e w = λ _. fetched_holds p (query_of text) w
+
+  finding : (p : Place) → Holds p → IsFine asking_call (step_of login asking_call (Find ∷ All ∷ asked) p)
+  finding p w = either (IsFine asking_call) (is_mixed_text text) _ _ (λ _. w) (found_fine p (held_in p.statements (query_of text)) refl w)
+
+  clearing : (p : Place) → Holds p → held_in p.statements (query_of text) ≡ None → IsFine asking_call (step_of login asking_call (All ∷ asked) p)
+  clearing p w e = either (IsFine asking_call) p.end_left _ _ (Clearing text (without_end p) w e)
+      (either (IsFine asking_call) (is_over p.talk) _ _ (Asking text p w e) (reads_have (IsFine asking_call) p (preparing_stops text p) login All asked
+      (λ k q rest _ _. Clearing text (with_talk p (grow k p.talk q) rest) (grown_holds (λ i. ⊥) p k q rest w) e)
+      (λ k q rest row _ _. Clearing text (with_talk p (grow k p.talk q) rest) (grown_holds (λ i. ⊥) p k q rest w) e)
+      (λ q rest x _. grown_holds (λ i. ⊥) p kinds.Failed q rest w)))
+
+  asking : (p : Place) → Holds p → held_in p.statements (query_of text) ≡ None → IsFine asking_call (step_of login asking_call asked p)
+  asking p w e =
+      let t = Preparing (terms_of login (exchanges p)) (packet_bytes (packets.Prepare (query_of text))) Unanswered in
+      begun_has (IsFine asking_call) p (preparing_stops text p) asking_call (Reply ∷ Keep ∷ Give ∷ []) t
+      (Replying text (with_exchange p asking_call t) (opened_before (query_of text) p asking_call t tt e w))
+
+  replying : (p : Place) → HoldsBefore (query_of text) p → IsFine asking_call (step_of login asking_call (Reply ∷ Keep ∷ Give ∷ []) p)
+  replying p w = by_over (is_over p.talk) refl
+    where
+      again : (k : Kind) (q rest : List ℕ) → is_failed k ≡ false → ComesFresh (λ ok. is_cached p.statements ok.id ≡ false) k q
+          → Phase (Prepare text) (Reply ∷ Keep ∷ Give ∷ []) (with_talk p (grow k p.talk q) rest)
+      again k q rest e fresh = Replying text (with_talk p (grow k p.talk q) rest) (grown_before (query_of text) p k q rest e fresh w)
+
+      by_over : (b : Bool) → is_over p.talk ≡ b → IsFine asking_call (cond b (Goes (Keep ∷ Give ∷ []) p) (reads login Reply (Keep ∷ Give ∷ []) p))
+      by_over true e = Keeping text p w e
+      by_over false e = reads_have (IsFine asking_call) p (preparing_stops text p) login Reply (Keep ∷ Give ∷ []) again (λ k q rest row x fresh. again k q rest x fresh)
+          (λ q rest x _. refused_holds (query_of text) p q rest w)
+
+  closed : (p : Place) (terms : Terms) (o : Option ℕ) → HoldsBut (λ i. o ≡ Some i) p → IsFine asking_call (with_command asking_call (Give ∷ []) p (closing_of terms o))
+  closed p terms None w = Giving text p (weaker_holds (λ i. None ≡ Some i) (λ i. ⊥) p (λ i e. absurd (cc)) w)
+  closed p terms (Some id) w = begun_has (IsFine asking_call) p (preparing_stops text p) asking_call (Give ∷ []) (closing terms id)
+      (Giving text (with_exchange p asking_call (closing terms id)) (closing_holds (λ i. Some id ≡ Some i) p asking_call terms id (λ i e. cc) w))
+
+  keeping : (p : Place) → HoldsBefore (query_of text) p → is_over p.talk ≡ true → IsFine asking_call (step_of login asking_call (Keep ∷ Give ∷ []) p)
+  keeping p w e =
+      let f = facts_at login p in
+      let done = over_is_done (λ ok. is_cached p.statements ok.id ≡ false) p.talk w.1 e in
+      let newest = whole_talk (λ i. is_cached p.statements i ≡ false) p.talk (facts_of login p.older) w.1 done in
+      closed (with_statements (with_prepared (query_of text) (prepared_by f) f.reply.fields p.statements) p) (terms_of login (exchanges p))
+      (leaving (query_of text) (prepared_by f) p.statements) (prepared_holds p (query_of text) (prepared_by f) f.reply.fields newest done w)
+
+-- a call that closes one
+module _ (login : Login) (id : ℕ) where
+  passing : (p : Place) → HoldsBut (λ i. i ≡ id) p → IsFine (CloseStmt id) (step_of login (CloseStmt id) (All ∷ Command ∷ []) p)
+  passing p w = either (IsFine (CloseStmt id)) p.end_left _ _ (Passing id (without_end p) w)
+      (either (IsFine (CloseStmt id)) (is_over p.talk) _ _ (Closing id p w) (reads_have (IsFine (CloseStmt id)) p (closing_stops id p) login All (Command ∷ [])
+      (λ k q rest _ _. Passing id (with_talk p (grow k p.talk q) rest) (grown_holds (λ i. i ≡ id) p k q rest w))
+      (λ k q rest row _ _. Passing id (with_talk p (grow k p.talk q) rest) (grown_holds (λ i. i ≡ id) p k q rest w))
+      (λ q rest x h. absurd (cc))))
+
+  closing_begun : (p : Place) → HoldsBut (λ i. i ≡ id) p → IsFine (CloseStmt id) (step_of login (CloseStmt id) (Command ∷ []) p)
+  closing_begun p w =
+      let t = closing (terms_of login (exchanges p)) id in
+      begun_has (IsFine (CloseStmt id)) p (closing_stops id p) (CloseStmt id) [] t
+      (Steady (CloseStmt id) [] (with_exchange p (CloseStmt id) t) refl refl (closing_holds (λ i. i ≡ id) p (CloseStmt id) (terms_of login (exchanges p)) id (λ i e. e) w))
+
+part_fine : (login : Login) (c : Call) (parts : List Part) (p : Place) → Phase c parts p → IsFine c (step_of login c parts p)
+part_fine login c parts p (Steady d ps q e other w) = steady login d other ps q e w
+part_fine login c parts p (Finding text q w) = finding login text q w
+part_fine login c parts p (Clearing text q w e) = clearing login text q w e
+part_fine login c parts p (Asking text q w e) = asking login text q w e
+part_fine login c parts p (Replying text q w) = replying login text q w
+part_fine login c parts p (Keeping text q w e) = keeping login text q w e
+part_fine login c parts p (Giving text q w) = λ _. w
+part_fine login c parts p (Forgetting id q w) = Passing id (with_statements (without_statement id q.statements) q) (forgotten_holds q id w)
+part_fine login c parts p (Passing id q w) = passing login id q w
+part_fine login c parts p (Closing id q w) = closing_begun login id q w
+
+pub step_fine : (login : Login) (call : Call) (parts : List Part) (p : Place) → Phase call parts p → IsFine call (step login call parts p)
+unfolding step
+step_fine login call parts p w = by_owed (owed p)
+  where
+    by_owed : (x : List ℕ) → IsFine call (unless_owed x p (step_of login call parts p))
+    by_owed (b ∷ bytes) = stopped_fine call parts p w Owes refl
+    by_owed [] = part_fine login call parts p w
+
+texts_plain : (texts : List (List ℕ)) → is_plain (parts_of_texts texts) ≡ true
+texts_plain [] = refl
+texts_plain (text ∷ texts) = texts_plain texts
+
+pub begins_fine : (login : Login) (call : Call) (p : Place) → Holds p → Phase call (parts_of login call) p
+begins_fine login Connect p w = Steady Connect (parts_of login Connect) p (texts_plain (arranging_texts login)) refl w
+begins_fine login (Query text) p w = Steady (Query text) (parts_of login (Query text)) p refl refl w
+begins_fine login (Prepare text) p w = Finding text p w
+begins_fine login (Execute statement params) p w = Steady (Execute statement params) (parts_of login (Execute statement params)) p refl refl w
+begins_fine login (CloseStmt id) p w = Forgetting id p w
+begins_fine login NextRow p w = Steady NextRow (parts_of login NextRow) p refl refl w
+begins_fine login DropResult p w = Steady DropResult (parts_of login DropResult) p refl refl w
+begins_fine login TakeSet p w = Steady TakeSet (parts_of login TakeSet) p refl refl w
+begins_fine login SkipTaken p w = Steady SkipTaken (parts_of login SkipTaken) p refl refl w
+begins_fine login Ping p w = Steady Ping (parts_of login Ping) p refl refl w
+begins_fine login Quit p w = Steady Quit (parts_of login Quit) p refl refl w
