@@ -46,6 +46,23 @@ const SELECT: &[u8] = b"\x09\x00\x00\x00\x03SELECT 1";
 
 pub const DO: &[u8] = b"\x05\x00\x00\x00\x03DO 1";
 
+// Statement 1 of `SELECT ?` is prepared, executed with the value 1, and closed.
+const PREPARE: &[u8] = b"\x09\x00\x00\x00\x16SELECT ?";
+
+const EXECUTE: &[u8] = b"\x16\x00\x00\x00\x17\x01\x00\x00\x00\x00\x01\x00\x00\x00\x00\x01\x08\x00\
+    \x01\x00\x00\x00\x00\x00\x00\x00";
+
+pub const CLOSE: &[u8] = b"\x05\x00\x00\x00\x19\x01\x00\x00\x00";
+
+// The reply to the statement, with the column of its parameter and that of its rows.
+const PREPARED: &[u8] = b"\x0c\x00\x00\x01\x00\x01\x00\x00\x00\x01\x00\x01\x00\x00\x00\x00\
+    \x17\x00\x00\x02\x03def\x00\x00\x00\x011\x00\x0c\x3f\x00\x01\x00\x00\x00\x08\
+    \x81\x00\x00\x00\x00\x17\x00\x00\x03\x03def\x00\x00\x00\x011\x00\x0c\x3f\x00\
+    \x01\x00\x00\x00\x08\x81\x00\x00\x00\x00";
+
+// A row of an execution, with the cell 1.
+pub const BINARY_ROW: &[u8] = b"\x0a\x00\x00\x03\x00\x00\x01\x00\x00\x00\x00\x00\x00\x00";
+
 const PING: &[u8] = b"\x01\x00\x00\x00\x0e";
 
 pub const QUIT: &[u8] = b"\x01\x00\x00\x00\x01";
@@ -55,6 +72,10 @@ pub const QUIT: &[u8] = b"\x01\x00\x00\x00\x01";
 pub enum Said<'a> {
     Connect,
     Query(&'a [u8]),
+    Prepare(&'a [u8]),
+    /// Of statement 1, with this value.
+    Execute(i64),
+    CloseStmt(u32),
     NextRow,
     DropResult,
     TakeSet,
@@ -69,6 +90,10 @@ pub enum Told<'a> {
     Ready,
     /// A row of one cell.
     Row(&'a [u8]),
+    /// The same of an execution.
+    BinaryRow(i64),
+    /// Statement 1 with as many parameters.
+    Stmt(u16),
     SetEnd,
     NoSet,
     /// ERR 1064 42000 X.
@@ -162,6 +187,26 @@ pub const DOES: Line<'static> = Line {
     call: DO_ONE,
     sent: DO,
     taken: [OK, b""],
+    ..RETURNS
+};
+
+/// The call that prepares statement 1.
+pub const PREPARE_ONE: Said<'static> = Said::Prepare(b"SELECT ?");
+
+/// A statement that is prepared.
+pub const PREPARES: Line<'static> = Line {
+    call: PREPARE_ONE,
+    sent: PREPARE,
+    taken: [PREPARED, b""],
+    ending: Told::Stmt(1),
+    ..RETURNS
+};
+
+/// Its execution, whose first set is begun.
+pub const EXECUTES: Line<'static> = Line {
+    call: Said::Execute(1),
+    sent: EXECUTE,
+    taken: [HEAD, b""],
     ..RETURNS
 };
 

@@ -2,9 +2,9 @@
 
 use crate::changes::{Table, is_right};
 use crate::rows::{
-    CONNECTS, DO, DO_ONE, DOES, DROPS, END, ERR, ERR_OF_ROW, Line, Needs, OK, OK_AND_MORE,
-    PING_REFUSED, PINGS, QUIT, QUIT_AGAIN, READ_REFUSED, READS_NONE, READS_ROW, RETURNS, SELECTS,
-    SETS_UP, Said, Told, WAITS,
+    BINARY_ROW, CLOSE, CONNECTS, DO, DO_ONE, DOES, DROPS, END, ERR, ERR_OF_ROW, EXECUTES, Line,
+    Needs, OK, OK_AND_MORE, PING_REFUSED, PINGS, PREPARE_ONE, PREPARES, QUIT, QUIT_AGAIN,
+    READ_REFUSED, READS_NONE, READS_ROW, RETURNS, SELECTS, SETS_UP, Said, Told, WAITS,
 };
 use crate::tapes::{Change, SetUp};
 use std::alloc::Global;
@@ -321,6 +321,47 @@ const TABLES: &[Table] = &[
         ],
         from: 1,
         refuted: 91,
+    },
+    // A statement is prepared and executed; it is found in the cache, and closed.
+    Table {
+        set_up: SetUp::Plain,
+        lines: &[
+            CONNECTS,
+            PREPARES,
+            EXECUTES,
+            Line {
+                call: Said::NextRow,
+                taken: [BINARY_ROW, b""],
+                ending: Told::BinaryRow(1),
+                ..RETURNS
+            },
+            Line {
+                call: Said::NextRow,
+                taken: [END, b""],
+                ending: Told::SetEnd,
+                ..RETURNS
+            },
+            Line {
+                call: PREPARE_ONE,
+                ending: Told::Stmt(1),
+                ..RETURNS
+            },
+            Line {
+                call: Said::CloseStmt(1),
+                sent: CLOSE,
+                ..RETURNS
+            },
+        ],
+        checks: &[
+            // Another number of parameters; another cell; the statement is found where it wasn't prepared, and where it was closed.
+            (1, Change::Ending(Told::Stmt(2)), Some(1)),
+            (3, Change::Ending(Told::BinaryRow(2)), Some(3)),
+            (1, Change::Missing, Some(4)),
+            (5, Change::Swapped, Some(6)),
+            (5, Change::Missing, None),
+        ],
+        from: 1,
+        refuted: 127,
     },
     // A link that fails where a row is awaited.
     Table {

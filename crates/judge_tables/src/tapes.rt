@@ -6,8 +6,10 @@ use my_frame::{Blob, CodecFault, Listed, NoMemory, Text};
 use my_grammar::Login;
 use my_handshake::Attributes;
 use my_judge::{Ending, Tape, TapeCall};
+use my_params::Params;
 use my_reading::{Answer, Call, DriverError, Error, IoError, IoFault, IoKind, ServerError};
 use my_reply::Column;
+use my_statements::{SetColumns, Statement, StmtInner};
 use my_value::{Columns, Row, Value};
 use std::alloc::{AllocError, Global};
 use std::sync::Arc;
@@ -44,6 +46,7 @@ pub fn login(alloc: Global, set_up: SetUp) -> Result<Login, NoMemory> {
         wait_timeout: Some(28_800),
         init: init_of(alloc, set_up)?,
         setup: Listed::new(alloc),
+        statements: 32,
     })
 }
 
@@ -54,19 +57,6 @@ pub struct Span {
     pub sent: Vec<u8>,
     pub taken: Vec<u8>,
     pub ending: Option<Ending>,
-}
-
-fn call_of(alloc: Global, said: Said) -> Result<Call, NoMemory> {
-    Ok(match said {
-        Said::Connect => Call::Connect,
-        Said::Query(text) => Call::Query(Blob::from_slice(alloc, text)?),
-        Said::NextRow => Call::NextRow,
-        Said::DropResult => Call::DropResult,
-        Said::TakeSet => Call::TakeSet,
-        Said::SkipTaken => Call::SkipTaken,
-        Said::Ping => Call::Ping,
-        Said::Quit => Call::Quit,
-    })
 }
 
 // The column of `SELECT 1`.
@@ -88,10 +78,44 @@ fn columns(alloc: Global) -> Result<Columns, NoMemory> {
     Ok(Arc::new(alloc, all)?)
 }
 
-fn row_of(alloc: Global, cell: &[u8]) -> Result<Answer, NoMemory> {
+fn row_of(alloc: Global, cell: Value) -> Result<Answer, NoMemory> {
     let mut cells = Vec::new(alloc);
-    cells.push(Value::Bytes(Blob::from_slice(alloc, cell)?))?;
+    cells.push(cell)?;
     Ok(Answer::Row(Row::new(cells, columns(alloc)?)))
+}
+
+// Statement 1 with as many parameters, of which one is described.
+fn statement(alloc: Global, num_params: u16) -> Result<Statement, NoMemory> {
+    let inner = StmtInner {
+        id: 1,
+        connection_id: 7,
+        num_params,
+        num_columns: 1,
+        params: SetColumns::from_columns(columns(alloc)?),
+    };
+    Ok(Statement::new(Arc::new(alloc, inner)?, Listed::new(alloc)))
+}
+
+fn params(alloc: Global, value: i64) -> Result<Params, NoMemory> {
+    let mut values = Listed::new(alloc);
+    values.push(Value::Int(value))?;
+    Ok(Params::Positional(values))
+}
+
+fn call_of(alloc: Global, said: Said) -> Result<Call, NoMemory> {
+    Ok(match said {
+        Said::Connect => Call::Connect,
+        Said::Query(text) => Call::Query(Blob::from_slice(alloc, text)?),
+        Said::Prepare(text) => Call::Prepare(Blob::from_slice(alloc, text)?),
+        Said::Execute(value) => Call::Execute(statement(alloc, 1)?, params(alloc, value)?),
+        Said::CloseStmt(id) => Call::CloseStmt(id),
+        Said::NextRow => Call::NextRow,
+        Said::DropResult => Call::DropResult,
+        Said::TakeSet => Call::TakeSet,
+        Said::SkipTaken => Call::SkipTaken,
+        Said::Ping => Call::Ping,
+        Said::Quit => Call::Quit,
+    })
 }
 
 fn server_error(alloc: Global) -> Result<Error, NoMemory> {
@@ -109,7 +133,12 @@ fn fault(kind: IoKind, place: u64) -> Option<Ending> {
 fn ending_of(alloc: Global, told: Told) -> Result<Option<Ending>, NoMemory> {
     Ok(match told {
         Told::Ready => Some(Ending::Answered(Answer::Ready)),
-        Told::Row(cell) => Some(Ending::Answered(row_of(alloc, cell)?)),
+        Told::Row(cell) => {
+            let cell = Value::Bytes(Blob::from_slice(alloc, cell)?);
+            Some(Ending::Answered(row_of(alloc, cell)?))
+        }
+        Told::BinaryRow(cell) => Some(Ending::Answered(row_of(alloc, Value::Int(cell))?)),
+        Told::Stmt(params) => Some(Ending::Answered(Answer::Stmt(statement(alloc, params)?))),
         Told::SetEnd => Some(Ending::Answered(Answer::SetEnd)),
         Told::NoSet => Some(Ending::Answered(Answer::NoSet)),
         Told::Server => Some(Ending::Failed(server_error(alloc)?)),

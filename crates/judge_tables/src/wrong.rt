@@ -1,8 +1,9 @@
-//! Wrong tapes of sets that streams take, each of which the judge refutes.
+//! Wrong tapes of sets that streams take and of prepared statements, each of which the judge refutes.
 
 use crate::changes::judged;
 use crate::rows::{
-    CONNECTS, DO, DO_ONE, END, LOGGED_IN, Line, OK_AND_MORE, RETURNS, ROW, SELECTS, Said, Told,
+    CONNECTS, DO, DO_ONE, END, EXECUTES, LOGGED_IN, Line, OK_AND_MORE, PREPARES, RETURNS, ROW,
+    SELECTS, Said, Told,
 };
 use crate::tapes::{Change, SetUp, changed};
 use my_frame::NoMemory;
@@ -11,17 +12,22 @@ use std::alloc::Global;
 use std::test::Fail;
 
 // The calls of a tape, and at last the number of the one that is refuted: a set is taken where none is; none is left where
-// a set is; a set is passed over before its end; a row that was passed over is returned; the next set is passed over, too.
+// a set is; a set is passed over before its end; a row that was passed over is returned; the next set is passed over, too;
+// a statement is prepared again, though it is cached; a row of an execution is read as text; a close isn't sent.
 //
 // A call is its name, its answer and what it received. `c` connects, `s` is a query that begins a set, `d` one that has
-// none, `t` takes a set, `k` passes over the rest of one, `r` reads. `R` is ready, `N` that no set is left, `1` a row.
+// none, `t` takes a set, `k` passes over the rest of one, `r` reads, `p` prepares a statement, `x` executes it, and `z`
+// closes it without a byte. `R` is ready, `N` that no set is left, `1` a row.
 // Received are `m` an OK that another set follows, `o` a row, `e` a set's end, `f` an OK with the next sequence id.
 const WRONG: &str = "\
 c tR 1
 c s tN 2
 c s tR kRo 3
 c s tR kRoe r1 4
-c dRm tR kRf rN 4";
+c dRm tR kRf rN 4
+c p p 2
+c p x r1o 3
+c p zR 2";
 
 fn letter(word: &str, at: usize) -> u8 {
     match word.as_bytes().get(at) {
@@ -52,6 +58,9 @@ fn line(word: &str) -> Line<'static> {
     let call = match letter(word, 0) {
         b'c' => return CONNECTS,
         b's' => return SELECTS,
+        b'p' => return PREPARES,
+        b'x' => return EXECUTES,
+        b'z' => Said::CloseStmt(1),
         b'd' => DO_ONE,
         b't' => Said::TakeSet,
         b'k' => Said::SkipTaken,

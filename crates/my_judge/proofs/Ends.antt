@@ -62,18 +62,29 @@ same_answer answers.NoSet answers.Ready e = cc
 same_answer answers.NoSet (answers.Row r) e = cc
 same_answer answers.NoSet answers.SetEnd e = cc
 same_answer answers.NoSet answers.NoSet e = refl
+same_answer answers.Ready (answers.Stmt t) e = cc
+same_answer (answers.Row r) (answers.Stmt t) e = cc
+same_answer answers.SetEnd (answers.Stmt t) e = cc
+same_answer answers.NoSet (answers.Stmt t) e = cc
+same_answer (answers.Stmt t) answers.Ready e = cc
+same_answer (answers.Stmt t) (answers.Row r) e = cc
+same_answer (answers.Stmt t) answers.SetEnd e = cc
+same_answer (answers.Stmt t) answers.NoSet e = cc
+same_answer (answers.Stmt t) (answers.Stmt u) e = cc
 
 no_error : (a : Answer) (e : Error) → told a ≡ ToldError e → ⊥
 no_error answers.Ready e h = cc
 no_error (answers.Row r) e h = cc
 no_error answers.SetEnd e h = cc
 no_error answers.NoSet e h = cc
+no_error (answers.Stmt t) e h = cc
 
 no_drop : (a : Answer) (b : Bool) → told a ≡ Dropped b → ⊥
 no_drop answers.Ready b h = cc
 no_drop (answers.Row r) b h = cc
 no_drop answers.SetEnd b h = cc
 no_drop answers.NoSet b h = cc
+no_drop (answers.Stmt t) b h = cc
 
 same_ending : (x y : Ending) → told_of x ≡ told_of y → x ≡ y
 same_ending (Answered a) (Answered b) e = ap Answered (same_answer a b e)
@@ -97,6 +108,9 @@ no_ending (Some x) e = cc
 closes_so : (kind : CallKind) (p : Place) (spot : Spot) → spot ≡ (context_of p.talk).spot → closes_at kind spot ≡ closes_cancelled kind p
 closes_so kinds.Connect p spot e = refl
 closes_so kinds.Query p spot e = refl
+closes_so kinds.Prepare p spot e = refl
+closes_so kinds.Execute p spot e = refl
+closes_so kinds.CloseStmt p spot e = refl
 closes_so kinds.NextRow p spot e = ap (closes_at kinds.NextRow) e
 closes_so kinds.DropResult p spot e = ap (closes_at kinds.DropResult) e
 closes_so kinds.TakeSet p spot e = ap (closes_at kinds.TakeSet) e
@@ -189,6 +203,7 @@ settled_so kind p spot (Some (Answered answers.Ready)) e = refl
 settled_so kind p spot (Some (Answered (answers.Row r))) e = refl
 settled_so kind p spot (Some (Answered answers.SetEnd)) e = refl
 settled_so kind p spot (Some (Answered answers.NoSet)) e = refl
+settled_so kind p spot (Some (Answered (answers.Stmt t))) e = refl
 settled_so kind p spot (Some (Failed f)) e = refl
 settled_so kind p spot (Some (Cancelled b)) e = ap (λ x. Some (Dropped x)) (sym (closes_so kind p spot e))
 

@@ -1,5 +1,5 @@
 -- A step of the program is the reading's step.
-use Rattle.std.proofs.Common.{◌≡◌, ℕ, zero, suc, ◌<◌, ◌≤◌, List, [], ◌∷◌, length, drop, map, nat_lt, slice_get, Option, Some, None, Bool, true, false, ◌||◌, cond, refl, sym, ap, ◌∙◌, subst, arith}
+use Rattle.std.proofs.Common.{◌≡◌, ℕ, zero, suc, ◌<◌, ◌≤◌, List, [], ◌∷◌, ◌++◌, length, drop, map, nat_lt, slice_get, Option, Some, None, Bool, true, false, ◌||◌, cond, refl, sym, ap, ◌∙◌, subst, arith}
 use Rattle.std.proofs.lemmas.Bool.Decides.{nat_tests}
 use Rattle.my_command.specs.declared.client.ClientPacket.TheVariants as packets
 use Rattle.my_command.specs.Client.Packet.{client_bytes as packet_bytes}
@@ -17,15 +17,33 @@ use Rattle.my_grammar.specs.Contexts.{is_bad}
 use Rattle.my_grammar.specs.Cut.{front_of, kind_of, is_over}
 use Rattle.my_grammar.specs.Growth.{grow}
 use Rattle.my_grammar.specs.Response.{response}
-use Rattle.my_grammar.specs.Sets.{ByText, NoSets}
-use Rattle.my_grammar.specs.Talk.{Talk, Asked, Queried, Silent, turns, number_of, context_of, limit_of, Fits, login_in}
+use Rattle.my_grammar.specs.Sets.{ByStatement, NoSets}
+use Rattle.my_grammar.specs.Prepares.{Unanswered}
+use Rattle.my_grammar.proofs.Commands.{ahead_then}
+use Rattle.my_frame.specs.Chunks.{chunks}
+use Rattle.my_frame.specs.Lists.{without}
+use Rattle.my_reply.specs.declared.column.Column.{Column}
+use Rattle.my_reply.specs.declared.replies.PrepareOk.{PrepareOk}
+use Rattle.my_reply.specs.Replies.{prepare_ok_at}
+use Rattle.my_params.specs.declared.params.Params.{Params}
+use Rattle.my_params.specs.LongData.{ahead_of}
+use Rattle.my_params.specs.Parameters.{body_of}
+use Rattle.my_statements.specs.Cache.{Held, cached, has_query}
+use Rattle.my_statements.specs.Prepared.{StatementView}
+use Rattle.std.specs.Option.{option_map, option_map_or}
+use Rattle.std.proofs.lemmas.List.{append_assoc}
+use Rattle.my_grammar.specs.Talk.{Talk, Asked, Preparing, Queried, Silent, commands_bytes, commands_in, turns, number_of, context_of, limit_of, Fits, login_in}
 use Rattle.my_reading.specs.declared.call.Call.{Call}
 use Rattle.my_reading.specs.declared.call.Call.TheVariants as calls
-use Rattle.my_reading.specs.Commands.{arranging_texts, connecting, query_of, command_in}
-use Rattle.my_reading.specs.Course.{Step, Goes, Stops, step, step_of, unless_owed, reads, with_front, after_payload, after_kind, after_err, with_command, failure, is_greeting, is_rows}
+use Rattle.my_reading.specs.Calls.{id_in, params_in, statement_in, text_in}
+use Rattle.my_reading.specs.Commands.{arranging, arranging_texts, closing, connecting, execution, queried}
+use Rattle.my_reading.specs.Executions.{Values, Fitting, Unfitting, values_for}
+use Rattle.my_reading.specs.Facts.{prepared_by}
+use Rattle.my_reading.specs.Statements.{Statements, held_in, is_cached, is_mixed_text, known_in, leaving, names_of, query_of, statement_with, with_columns, with_fetched, with_prepared, without_statement}
+use Rattle.my_reading.specs.Course.{Step, Goes, Stops, step, step_of, unless_owed, reads, with_front, after_payload, after_kind, after_err, checked, closing_of, first_above, found, looked_for, unless_cached, unless_long, with_command, failure, is_greeting, is_rows}
 use Rattle.my_reading.specs.Errors.{codec_error}
 use Rattle.my_reading.proofs.Described.{kind_known}
-use Rattle.my_reading.specs.Place.{Place, exchanges, facts_at, facts_of, client_side, connects_in, terms_of, owed, next_exchange, with_end, with_taken, with_talk, with_exchange}
+use Rattle.my_reading.specs.Place.{Place, exchanges, facts_at, facts_of, client_side, connects_in, terms_of, owed, next_exchange, with_end, with_statements, with_taken, with_talk, with_exchange}
 use Rattle.my_reading.specs.Rows.{row_of}
 use Rattle.my_reading.specs.Told.{ToldRow}
 use Rattle.my_judge.specs.declared.part.Part.{Part as CodePart}
@@ -34,11 +52,10 @@ use Rattle.my_judge.specs.declared.stand.Stand.{Stand}
 use Rattle.my_judge.specs.declared.step.Step.{Step as CodeStep}
 use Rattle.my_judge.specs.declared.step.Step.TheVariants as steps
 use Rattle.my_judge.specs.declared.step.Stop.TheVariants as code_stops
-use Rattle.my_judge.specs.declared.tape.Ending.TheVariants as endings
 use Rattle.my_judge.specs.Parts.{part_of}
-use Rattle.my_judge.specs.Stands.{IsAt, Turn, stand_of, heard, asked, turn, with_end as with_left, with_taken as with_mark, after_kind as code_kind, after_err as code_err, after_greeting as code_greeting, after_payload as code_payload, with_front as code_front, reads as code_reads, arranges, commands, begins, steps as code_step}
+use Rattle.my_judge.specs.Stands.{IsAt, Turn, stand_of, heard, asked, turn, with_end as with_left, with_taken as with_mark, after_kind as code_kind, after_err as code_err, after_greeting as code_greeting, after_payload as code_payload, after_prepared as code_prepared, with_front as code_front, with_known, reads as code_reads, arranges, begins, checks, closes_one, commands, executed, executes, finds, finds_so, unless_above, steps as code_step}
 use Rattle.my_judge.specs.Tapes.{stop_of}
-use Rattle.my_judge.proofs.Places.{limit_is, at_here, at_end, at_no_end, at_taken, at_end_taken, at_heard}
+use Rattle.my_judge.proofs.Places.{limit_is, at_here, at_end, at_known, at_no_end, at_taken, at_end_taken, at_heard}
 
 -- a step of a call of which these parts are left
 abbrev pub Follows : Login → List CodePart → Stand → CodeStep → Step → Type 0
@@ -115,6 +132,23 @@ module _ (login : Login) (part : CodePart) (more : List CodePart) (new : Place) 
       by_part parts.Set kinds.Field = (refl, at)
       by_part parts.Set kinds.Bad = (refl, at)
       by_part parts.Rest k = (refl, at)
+      by_part parts.Find k = (refl, at)
+      by_part parts.Check k = (refl, at)
+      by_part parts.Reply k = (refl, at)
+      by_part parts.Keep k = (refl, at)
+      by_part parts.Give k = (refl, at)
+      by_part parts.Learn k = (refl, at)
+      by_part parts.Forget k = (refl, at)
+
+-- commands are sent, unless one of them is above the limit
+unless_follows : (login : Login) (part : CodePart) (more : List CodePart) (q r : Place) (old new : Stand) → IsAt login q old → IsAt login r new → (x : Option ℕ)
+    → TurnIs login (part ∷ more) (unless_above x old new) (unless_long q old.facts.settings.limit x (Goes (map part_of more) r))
+unless_follows login part more q r old new a b None = (refl, b)
+unless_follows login part more q r old new a b (Some len) = (refl, a)
+
+-- a text that isn't found leaves the statements as they are
+unfetched : (query : List ℕ) (st : Statements) → held_in st query ≡ None → with_fetched query st ≡ st
+unfetched query st e = ap (λ (o : Option Held). let x : Statements = record { cache = cached (option_map_or (λ h. h ∷ without (has_query query) st.cache.list) o st.cache.list) st.cache.capacity; known = st.known } in x) e
 
 module _ (login : Login) (p : Place) (n : ℕ) (arranged : connects_in (exchanges p) ≡ suc n) (fits : Fits p.talk) (same : login_in login p.talk ≡ login) where
   abbrev s : Stand
@@ -149,6 +183,11 @@ module _ (login : Login) (p : Place) (n : ℕ) (arranged : connects_in (exchange
         (cond (nat_lt l (length (response login payload))) (failure p (codec_error (TooLarge (length (response login payload)) l))) (Goes (part_of part ∷ map part_of more) (new k)))) is
         (either login (part ∷ more) (nat_lt (context_of p.talk).terms.limit (length (response login payload))) _ _ _ _ (λ _. (refl, here)) (λ _. (refl, heard_at k e good)))
 
+    prepared_follows : (k : Kind) → kind_of p.talk payload ≡ k → is_bad k ≡ false → (x : Option PrepareOk)
+        → TurnIs login (part ∷ more) (code_prepared x s (heard login k payload rest s)) (unless_cached login p x (Goes (part_of part ∷ map part_of more) (new k)))
+    prepared_follows k e good None = (refl, heard_at k e good)
+    prepared_follows k e good (Some ok) = either login (part ∷ more) (is_cached p.statements ok.id) _ _ _ _ (λ _. (refl, here)) (λ _. (refl, heard_at k e good))
+
     plain_follows : (k : Kind) → kind_of p.talk payload ≡ k → is_bad k ≡ false
         → TurnIs login (part ∷ more) (code_kind part k row (heard login k payload rest s)) (after_kind (part_of part) (map part_of more) k (new k) (ToldRow row))
     plain_follows k e good = let at = heard_at k e good in kind_follows login part more (new k) row n at.arranged_is at.fits at.login_is (heard login k payload rest s) at.stand_is k
@@ -163,7 +202,7 @@ module _ (login : Login) (p : Place) (n : ℕ) (arranged : connects_in (exchange
     payload_follows kinds.ColumnsDone e = plain_follows kinds.ColumnsDone e refl
     payload_follows kinds.Row e = plain_follows kinds.Row e refl
     payload_follows (kinds.End status) e = plain_follows (kinds.End status) e refl
-    payload_follows (kinds.Prepared params columns) e = plain_follows (kinds.Prepared params columns) e refl
+    payload_follows (kinds.Prepared params columns) e = prepared_follows (kinds.Prepared params columns) e refl (prepare_ok_at payload)
     payload_follows kinds.Parameter e = plain_follows kinds.Parameter e refl
     payload_follows kinds.Field e = plain_follows kinds.Field e refl
 
@@ -178,14 +217,6 @@ module _ (login : Login) (p : Place) (n : ℕ) (arranged : connects_in (exchange
           subst (λ k. TurnIs login (part ∷ more) (code_payload login part payload s (heard login k payload rest s) k) (after_payload login (part_of part) (map part_of more) p (with_talk p (grow (kind_of p.talk payload) p.talk payload) rest) payload (kind_of p.talk payload)))
           (sym (kind_known p.talk (facts_of login p.older) payload fits)) (payload_follows part more payload rest next e (kind_of p.talk payload) refl)
 
-  -- a command of this exchange
-  asks_follows : (call : Call) (more : List CodePart) (talk : Talk) (t : Turn) (m : ℕ) → IsAt login (with_exchange p call talk) t.stand → t.does ≡ steps.Passes
-      → TurnIs login (parts.Command ∷ more)
-      (cond (nat_lt (limit_of talk) (length (command_in talk))) (turn (steps.Stops (code_stops.Returns (endings.Failed (codec_error (TooLarge (length (command_in talk)) (limit_of talk)))))) s) t)
-      (with_command call (map part_of more) p (Some talk))
-  asks_follows call more talk t m at passes = either login (parts.Command ∷ more) (nat_lt (limit_of talk) (length (command_in talk))) _ _ _ _ (λ _. (refl, here))
-      (λ _. subst (λ d. Follows login (parts.Command ∷ more) t.stand d (Goes (map part_of more) (with_exchange p call talk))) (sym passes) (refl, at))
-
   -- an exchange of a call that doesn't connect
   asked_at : (call : Call) (talk : Talk) (t : Stand) (m : ℕ) → t ≡ stand_of login (with_exchange p call talk) m → t.arranged ≡ m → connects_in (exchanges (with_exchange p call talk)) ≡ suc m → Fits talk → login_in login talk ≡ login
       → IsAt login (with_exchange p call talk) t
@@ -194,32 +225,85 @@ module _ (login : Login) (p : Place) (n : ℕ) (arranged : connects_in (exchange
   abbrev terms : Terms
   terms = terms_of login (exchanges p)
 
-  arranges_follow : (more : List CodePart) (x : Option (List ℕ)) → TurnIs login (parts.Command ∷ more) (arranges x s) (with_command calls.Connect (map part_of more) p (query_of terms x))
+  arranges_follow : (more : List CodePart) (x : Option (List ℕ)) → TurnIs login (parts.Command ∷ more) (arranges x s) (with_command calls.Connect (map part_of more) p (arranging terms x))
   arranges_follow more None = (refl, here)
   arranges_follow more (Some text) =
-      let talk : Talk = Queried terms (packet_bytes (packets.Query text)) (NoSets ByText) in
-      asks_follows calls.Connect more talk (turn steps.Passes (asked spots.Head (packet_bytes (packets.Query text)) (suc n) s)) (suc n)
-      (asked_at calls.Connect talk _ (suc n) refl refl (ap suc arranged) (record { kinds = tt; within = tt }) refl) refl
+      let talk : Talk = queried terms text in
+      unless_follows login parts.Command more p (with_exchange p calls.Connect talk) s (asked spots.Head (packet_bytes (packets.Query text)) (suc n) s) here
+      (asked_at calls.Connect talk _ (suc n) refl refl (ap suc arranged) (record { kinds = tt; within = tt }) refl) (first_above (limit_of talk) (commands_in talk))
+
+  -- the exchange of an execution
+  executed_at : (statement : StatementView) (params : Params) (ahead : List (List ℕ)) (command : List ℕ) (known : List Column)
+      → IsAt login (with_exchange p (calls.Execute statement params) (Queried terms command (NoSets (ByStatement ahead known)))) (executed ahead command s)
+  executed_at statement params ahead command known =
+      let base : Stand = executed ahead command s in
+      record {
+        stand_is = ap (λ (bytes : List ℕ). let x : Stand = record { context = base.context; number = base.number; facts = base.facts; texts = base.texts; arranged = base.arranged; end_left = base.end_left; taken = base.taken; statements = base.statements; unread = base.unread; said = bytes; sent = base.sent } in x)
+            (append_assoc (client_side (exchanges p)) (commands_bytes ahead) (chunks command 0) ∙ ap (λ bs. client_side (exchanges p) ++ bs) (sym (ahead_then ahead command)));
+        arranged_is = arranged;
+        fits = record { kinds = tt; within = tt };
+        login_is = refl;
+      }
+
+  executes_follow : (statement : StatementView) (params : Params) (more : List CodePart) (x : Values)
+      → TurnIs login (parts.Command ∷ more) (executes statement.inner.id x s) (with_command (calls.Execute statement params) (map part_of more) p (execution terms p.statements statement.inner.id x))
+  executes_follow statement params more (Unfitting e) = (refl, here)
+  executes_follow statement params more (Fitting values) =
+      let id = statement.inner.id in
+      let call : Call = calls.Execute statement params in
+      let talk : Talk = Queried terms (body_of id values) (NoSets (ByStatement (ahead_of id values) (known_in p.statements id))) in
+      unless_follows login parts.Command more p (with_exchange p call talk) s (executed (ahead_of id values) (body_of id values) s) here
+      (executed_at statement params (ahead_of id values) (body_of id values) (known_in p.statements id)) (first_above (limit_of talk) (commands_in talk))
 
   commands_follow : (call : Call) (more : List CodePart) → TurnIs login (parts.Command ∷ more) (commands call s) (with_command call (map part_of more) p (next_exchange login call p))
   commands_follow calls.Connect more = subst (λ k. TurnIs login (parts.Command ∷ more) (commands calls.Connect s) (with_command calls.Connect (map part_of more) p (connecting login terms k))) (sym arranged)
       (arranges_follow more (slice_get (arranging_texts login) n))
   commands_follow (calls.Query text) more =
-      let talk : Talk = Queried terms (packet_bytes (packets.Query text)) (NoSets ByText) in
-      asks_follows (calls.Query text) more talk (turn steps.Passes (asked spots.Head (packet_bytes (packets.Query text)) n s)) n
-      (asked_at (calls.Query text) talk _ n refl refl arranged (record { kinds = tt; within = tt }) refl) refl
+      let talk : Talk = queried terms text in
+      unless_follows login parts.Command more p (with_exchange p (calls.Query text) talk) s (asked spots.Head (packet_bytes (packets.Query text)) n s) here
+      (asked_at (calls.Query text) talk _ n refl refl arranged (record { kinds = tt; within = tt }) refl) (first_above (limit_of talk) (commands_in talk))
+  commands_follow (calls.Prepare text) more =
+      let talk : Talk = Preparing terms (packet_bytes (packets.Prepare (query_of text))) Unanswered in
+      unless_follows login parts.Command more p (with_exchange p (calls.Prepare text) talk) s (asked spots.Prepare (packet_bytes (packets.Prepare (query_of text))) n s) here
+      (asked_at (calls.Prepare text) talk _ n refl refl arranged (record { kinds = tt; within = tt }) refl) (first_above (limit_of talk) (commands_in talk))
+  commands_follow (calls.Execute statement params) more = executes_follow statement params more (values_for statement params)
+  commands_follow (calls.CloseStmt id) more =
+      let talk : Talk = closing terms id in
+      unless_follows login parts.Command more p (with_exchange p (calls.CloseStmt id) talk) s (asked spots.Idle (packet_bytes (packets.CloseStatement id)) n s) here
+      (asked_at (calls.CloseStmt id) talk _ n refl refl arranged (record { kinds = tt; within = tt }) refl) (first_above (limit_of talk) (commands_in talk))
   commands_follow calls.NextRow more = (refl, here)
   commands_follow calls.DropResult more = (refl, here)
   commands_follow calls.TakeSet more = (refl, here)
   commands_follow calls.SkipTaken more = (refl, here)
   commands_follow calls.Ping more =
       let talk : Talk = Asked terms (packet_bytes packets.Ping) in
-      asks_follows calls.Ping more talk (turn steps.Passes (asked spots.Single (packet_bytes packets.Ping) n s)) n
-      (asked_at calls.Ping talk _ n refl refl arranged (record { kinds = tt; within = tt }) refl) refl
+      unless_follows login parts.Command more p (with_exchange p calls.Ping talk) s (asked spots.Single (packet_bytes packets.Ping) n s) here
+      (asked_at calls.Ping talk _ n refl refl arranged (record { kinds = tt; within = tt }) refl) (first_above (limit_of talk) (commands_in talk))
   commands_follow calls.Quit more =
       let talk : Talk = Silent terms (packet_bytes packets.Quit) in
-      asks_follows calls.Quit more talk (turn steps.Passes (asked spots.Idle (packet_bytes packets.Quit) n s)) n
-      (asked_at calls.Quit talk _ n refl refl arranged (record { kinds = tt; within = tt }) refl) refl
+      unless_follows login parts.Command more p (with_exchange p calls.Quit talk) s (asked spots.Idle (packet_bytes packets.Quit) n s) here
+      (asked_at calls.Quit talk _ n refl refl arranged (record { kinds = tt; within = tt }) refl) (first_above (limit_of talk) (commands_in talk))
+
+  finds_follow : (more : List CodePart) (text : List ℕ) → TurnIs login (parts.Find ∷ more) (finds text s) (looked_for (map part_of more) p text)
+  finds_follow more text = either login (parts.Find ∷ more) (is_mixed_text text) _ _ _ _ (λ _. (refl, here)) (λ _. by_held (held_in p.statements (query_of text)) refl)
+    where
+      by_held : (x : Option Held) → held_in p.statements (query_of text) ≡ x
+          → TurnIs login (parts.Find ∷ more) (finds_so (option_map (λ h. statement_with h.stmt (names_of text)) x) (with_known (with_fetched (query_of text) p.statements) s)) (found (map part_of more) p text x)
+      by_held None e = (refl, subst (λ (st : Statements). IsAt login p (with_known st s)) (sym (unfetched (query_of text) p.statements e)) here)
+      by_held (Some h) e = (refl, at_known login p n arranged fits same (with_fetched (query_of text) p.statements))
+
+  checks_follow : (more : List CodePart) (x : Values) → TurnIs login (parts.Check ∷ more) (checks x s) (checked (map part_of more) p x)
+  checks_follow more (Fitting values) = (refl, here)
+  checks_follow more (Unfitting e) = (refl, here)
+
+  keeps_follow : (text : List ℕ) (more : List CodePart) (st : Statements) (x : Option ℕ)
+      → TurnIs login (parts.Keep ∷ more) (closes_one x (with_known st s)) (with_command (calls.Prepare text) (map part_of more) (with_statements st p) (closing_of terms x))
+  keeps_follow text more st None = (refl, at_known login p n arranged fits same st)
+  keeps_follow text more st (Some id) =
+      let talk : Talk = closing terms id in
+      let q : Place = with_statements st p in
+      unless_follows login parts.Keep more q (with_exchange q (calls.Prepare text) talk) (with_known st s) (asked spots.Idle (packet_bytes (packets.CloseStatement id)) n (with_known st s)) (at_known login p n arranged fits same st)
+      (record { stand_is = refl; arranged_is = arranged; fits = record { kinds = tt; within = tt }; login_is = refl }) (first_above (limit_of talk) (commands_in talk))
 
   begins_follow : (call : Call) (left : List CodePart) → TurnIs login left (begins login call left s) (step_of login call (map part_of left) p)
   begins_follow call [] = (refl, here)
@@ -233,6 +317,21 @@ module _ (login : Login) (p : Place) (n : ℕ) (arranged : connects_in (exchange
       (λ _. either login (parts.Set ∷ more) (is_over p.talk) _ _ _ _ (λ _. (refl, here)) (λ _. reads_follow parts.Set more))
   begins_follow call (parts.Rest ∷ more) = either login (parts.Rest ∷ more) p.end_left _ _ _ _ (λ _. (refl, at_no_end login p n arranged fits same))
       (λ _. either login (parts.Rest ∷ more) (is_rows (context_of p.talk).spot) _ _ _ _ (λ _. reads_follow parts.Rest more) (λ _. (refl, here)))
+  begins_follow call (parts.Find ∷ more) = finds_follow more (text_in call)
+  begins_follow call (parts.Check ∷ more) = checks_follow more (values_for (statement_in call) (params_in call))
+  begins_follow call (parts.Reply ∷ more) = either login (parts.Reply ∷ more) (is_over p.talk) _ _ _ _ (λ _. (refl, here)) (λ _. reads_follow parts.Reply more)
+  begins_follow call (parts.Keep ∷ more) =
+      let f = facts_at login p in
+      let text = text_in call in
+      keeps_follow text more (with_prepared (query_of text) (prepared_by f) f.reply.fields p.statements) (leaving (query_of text) (prepared_by f) p.statements)
+  begins_follow call (parts.Give ∷ more) = (refl, here)
+  begins_follow call (parts.Learn ∷ more) = by_rows (is_rows (context_of p.talk).spot)
+    where
+      by_rows : (b : Bool) → TurnIs login (parts.Learn ∷ more) (cond b (turn steps.Passes (with_known (with_columns (id_in call) (facts_at login p).columns p.statements) s)) (turn steps.Passes s))
+          (Goes (map part_of more) (cond b (with_statements (with_columns (id_in call) (facts_at login p).columns p.statements) p) p))
+      by_rows true = (refl, at_known login p n arranged fits same (with_columns (id_in call) (facts_at login p).columns p.statements))
+      by_rows false = (refl, here)
+  begins_follow call (parts.Forget ∷ more) = (refl, at_known login p n arranged fits same (without_statement (id_in call) p.statements))
 
   -- while bytes are owed the call waits
   owing : (left : List CodePart) (x : Step) (bytes : List ℕ) (b : ℕ) (more : List ℕ) → bytes ≡ b ∷ more → TurnIs login left (turn (steps.Stops code_stops.Owes) s) (unless_owed bytes p x)

@@ -7,6 +7,12 @@ use Rattle.my_frame.specs.Chunks.{chunks, number_after_payload}
 use Rattle.my_frame.specs.Front.{Front, Waiting, Broken, Whole, front_at}
 use Rattle.my_reply.specs.declared.err.ErrPacket.{ErrPacket}
 use Rattle.my_reply.specs.ErrPacket.{err_at}
+use Rattle.my_reply.specs.declared.replies.PrepareOk.{PrepareOk}
+use Rattle.my_reply.specs.Replies.{prepare_ok_at}
+use Rattle.my_params.specs.LongData.{ahead_of}
+use Rattle.my_params.specs.Parameters.{body_of}
+use Rattle.my_statements.specs.Prepared.{StatementView}
+use Rattle.std.specs.Option.{option_map}
 use Rattle.my_value.specs.RowParts.{RowParts}
 use Rattle.my_grammar.specs.declared.login.Login.{Login}
 use Rattle.my_grammar.specs.declared.spot.Kind.{Kind}
@@ -16,19 +22,22 @@ use Rattle.my_grammar.specs.declared.spot.Spot.TheVariants as spots
 use Rattle.my_grammar.specs.Contexts.{context_after}
 use Rattle.my_grammar.specs.Cut.{is_idle}
 use Rattle.my_grammar.specs.Growth.{number_next, said}
-use Rattle.my_grammar.specs.declared.spot.RowFormat.TheVariants.{Text}
+use Rattle.my_grammar.specs.declared.spot.RowFormat.TheVariants.{Text, Binary}
 use Rattle.my_grammar.specs.Kinds.{kind_there}
 use Rattle.my_grammar.specs.Response.{response}
-use Rattle.my_grammar.specs.Talk.{turns, number_of, context_of, Fits, login_in}
+use Rattle.my_grammar.specs.Talk.{turns, number_of, commands_bytes, context_of, Fits, login_in}
 use Rattle.my_reading.specs.declared.answer.Answer.TheVariants as answers
 use Rattle.my_reading.specs.declared.call.Call.{Call}
 use Rattle.my_reading.specs.declared.call.Call.TheVariants as calls
 use Rattle.my_reading.specs.declared.error.Error.{Error}
 use Rattle.my_reading.specs.declared.error.Error.TheVariants as errors
 use Rattle.my_reading.specs.Commands.{arranging_texts}
-use Rattle.my_reading.specs.Course.{is_greeting, is_rows}
-use Rattle.my_reading.specs.Errors.{codec_error, invalid_data, server_error}
-use Rattle.my_reading.specs.Facts.{facts_after}
+use Rattle.my_reading.specs.Calls.{id_in, params_in, statement_in, text_in}
+use Rattle.my_reading.specs.Course.{first_above, is_greeting, is_rows}
+use Rattle.my_reading.specs.Executions.{Values, Fitting, Unfitting, values_for}
+use Rattle.my_reading.specs.Statements.{Statements, held_in, is_cached, is_mixed_text, leaving, names_of, query_of, statement_with, with_columns, with_fetched, with_prepared, without_statement}
+use Rattle.my_reading.specs.Errors.{codec_error, invalid_data, mixed_params, server_error}
+use Rattle.my_reading.specs.Facts.{facts_after, prepared_by}
 use Rattle.my_reading.specs.Place.{Place, exchanges, facts_at, client_side, connects_in}
 use Rattle.my_reading.specs.Rows.{row_of}
 use Rattle.my_judge.specs.declared.part.Part.{Part}
@@ -49,6 +58,7 @@ stand_of login p n = record {
   arranged = n;
   end_left = p.end_left;
   taken = p.taken;
+  statements = p.statements;
   unread = p.unread;
   said = client_side (exchanges p);
   sent = p.sent;
@@ -71,6 +81,7 @@ with_bytes sent taken s = record {
   arranged = s.arranged;
   end_left = s.end_left;
   taken = s.taken;
+  statements = s.statements;
   unread = s.unread ++ taken;
   said = s.said;
   sent = s.sent ++ sent;
@@ -86,6 +97,7 @@ with_end left s = record {
   arranged = s.arranged;
   end_left = left;
   taken = s.taken;
+  statements = s.statements;
   unread = s.unread;
   said = s.said;
   sent = s.sent;
@@ -101,6 +113,23 @@ with_taken s = record {
   arranged = s.arranged;
   end_left = s.end_left;
   taken = true;
+  statements = s.statements;
+  unread = s.unread;
+  said = s.said;
+  sent = s.sent;
+}
+
+-- other statements are known
+abbrev pub with_known : Statements → Stand → Stand
+with_known st s = record {
+  context = s.context;
+  number = s.number;
+  facts = s.facts;
+  texts = s.texts;
+  arranged = s.arranged;
+  end_left = s.end_left;
+  taken = s.taken;
+  statements = st;
   unread = s.unread;
   said = s.said;
   sent = s.sent;
@@ -116,6 +145,7 @@ heard login k payload rest s = record {
   arranged = s.arranged;
   end_left = false;
   taken = s.taken && is_rows (context_after s.context k).spot;
+  statements = s.statements;
   unread = rest;
   said = s.said ++ said login k payload s.number;
   sent = s.sent;
@@ -131,8 +161,25 @@ asked spot command arranged s = record {
   arranged = arranged;
   end_left = false;
   taken = false;
+  statements = s.statements;
   unread = s.unread;
   said = s.said ++ chunks command 0;
+  sent = s.sent;
+}
+
+-- the exchange of an execution begins, with what goes ahead of it
+abbrev pub executed : List (List ℕ) → List ℕ → Stand → Stand
+executed ahead command s = record {
+  context = record { spot = spots.Head; rows = Binary; columns = 0; terms = record { kept = s.context.terms.kept; limit = s.facts.settings.limit } };
+  number = number_after_payload command 0;
+  facts = s.facts;
+  texts = s.texts;
+  arranged = s.arranged;
+  end_left = false;
+  taken = false;
+  statements = s.statements;
+  unread = s.unread;
+  said = (s.said ++ commands_bytes ahead) ++ chunks command 0;
   sent = s.sent;
 }
 
@@ -177,10 +224,19 @@ after_greeting len s new =
     then turn (failure (codec_error (TooLarge len s.context.terms.limit))) s
     else turn Stays new
 
+-- whether the id of a statement that was prepared is that of one that is still cached, where it may not be
+abbrev pub is_cached_by : Option PrepareOk → Statements → Bool
+is_cached_by None st = false
+is_cached_by (Some ok) st = is_cached st ok.id
+
+abbrev pub after_prepared : Option PrepareOk → Stand → Stand → Turn
+after_prepared o s new = if is_cached_by o s.statements then turn (unfit s) s else turn Stays new
+
 abbrev pub after_payload : Login → Part → List ℕ → Stand → Stand → Kind → Turn
 after_payload login part payload s new kinds.Bad = turn (unfit s) s
 after_payload login part payload s new kinds.Failed = after_err (err_at (is_greeting s.context.spot) payload) s new
 after_payload login part payload s new (kinds.Greets capabilities) = after_greeting (length (response login payload)) s new
+after_payload login part payload s new (kinds.Prepared params columns) = after_prepared (prepare_ok_at payload) s new
 after_payload login part payload s new k = after_kind part k (row_of s.context.rows s.facts.columns payload) new
 
 -- a payload with the bytes that follow it
@@ -197,12 +253,23 @@ with_front login part s (Whole payload rest next) = read_payload login part payl
 abbrev pub reads : Login → Part → Stand → Turn
 reads login part s = with_front login part s (front_at s.number s.context.terms.limit s.unread)
 
--- a command is sent, unless it is above the limit
+-- commands are sent, unless one of them, which is so long, is above the limit
+abbrev pub unless_above : Option ℕ → Stand → Stand → Turn
+unless_above None s new = turn Passes new
+unless_above (Some len) s new = turn (failure (codec_error (TooLarge len s.facts.settings.limit))) s
+
 abbrev pub asks : Spot → List ℕ → ℕ → Stand → Turn
-asks spot command arranged s =
-    if nat_lt s.facts.settings.limit (length command)
-    then turn (failure (codec_error (TooLarge (length command) s.facts.settings.limit))) s
-    else turn Passes (asked spot command arranged s)
+asks spot command arranged s = unless_above (first_above s.facts.settings.limit (command ∷ [])) s (asked spot command arranged s)
+
+abbrev pub sends : List (List ℕ) → List ℕ → Stand → Turn
+sends ahead command s = unless_above (first_above s.facts.settings.limit (ahead ++ command ∷ [])) s (executed ahead command s)
+
+abbrev pub executes : ℕ → Values → Stand → Turn
+executes id (Fitting values) s = sends (ahead_of id values) (body_of id values) s
+executes id (Unfitting e) s = turn Passes s
+
+abbrev pub closes : ℕ → Stand → Turn
+closes id s = asks spots.Idle (packet_bytes (packets.CloseStatement id)) s.arranged s
 
 abbrev pub arranges : Option (List ℕ) → Stand → Turn
 arranges None s = turn Passes s
@@ -212,12 +279,49 @@ arranges (Some text) s = asks spots.Head (packet_bytes (packets.Query text)) (su
 abbrev pub commands : Call → Stand → Turn
 commands calls.Connect s = arranges (slice_get s.texts s.arranged) s
 commands (calls.Query text) s = asks spots.Head (packet_bytes (packets.Query text)) s.arranged s
+commands (calls.Prepare text) s = asks spots.Prepare (packet_bytes (packets.Prepare (query_of text))) s.arranged s
+commands (calls.Execute statement params) s = executes statement.inner.id (values_for statement params) s
+commands (calls.CloseStmt id) s = closes id s
 commands calls.NextRow s = turn Passes s
 commands calls.DropResult s = turn Passes s
 commands calls.TakeSet s = turn Passes s
 commands calls.SkipTaken s = turn Passes s
 commands calls.Ping s = asks spots.Single (packet_bytes packets.Ping) s.arranged s
 commands calls.Quit s = asks spots.Idle (packet_bytes packets.Quit) s.arranged s
+
+-- a statement that is cached is returned
+abbrev pub finds_so : Option StatementView → Stand → Turn
+finds_so None new = turn Passes new
+finds_so (Some statement) new = turn (Stops (Returns (Answered (answers.Stmt statement)))) new
+
+abbrev pub finds : List ℕ → Stand → Turn
+finds text s =
+    if is_mixed_text text
+    then turn (failure mixed_params) s
+    else finds_so (option_map (λ h. statement_with h.stmt (names_of text)) (held_in s.statements (query_of text))) (with_known (with_fetched (query_of text) s.statements) s)
+
+abbrev pub checks : Values → Stand → Turn
+checks (Fitting values) s = turn Passes s
+checks (Unfitting e) s = turn (failure (errors.Driver e)) s
+
+-- the statement that has to go is closed
+abbrev pub closes_one : Option ℕ → Stand → Turn
+closes_one None s = turn Passes s
+closes_one (Some id) s = closes id s
+
+-- the statement that was prepared of this text is kept
+abbrev pub with_kept : List ℕ → Stand → Stand
+with_kept query s = with_known (with_prepared query (prepared_by s.facts) s.facts.reply.fields s.statements) s
+
+abbrev pub keeps : List ℕ → Stand → Turn
+keeps text s = closes_one (leaving (query_of text) (prepared_by s.facts) s.statements) (with_kept (query_of text) s)
+
+-- the statement that was prepared is returned
+abbrev pub gives : List ℕ → Stand → Turn
+gives text s = turn (Stops (Returns (Answered (answers.Stmt (statement_with (prepared_by s.facts) (names_of text)))))) s
+
+abbrev pub learns : ℕ → Stand → Turn
+learns id s = if is_rows s.context.spot then turn Passes (with_known (with_columns id s.facts.columns s.statements) s) else turn Passes s
 
 -- the first part, where nothing is owed
 abbrev pub begins : Login → Call → List Part → Stand → Turn
@@ -240,6 +344,13 @@ begins login call (parts.Rest ∷ more) s =
     if s.end_left
     then turn Stays (with_end false s)
     else (if is_rows s.context.spot then reads login parts.Rest s else turn Passes s)
+begins login call (parts.Find ∷ more) s = finds (text_in call) s
+begins login call (parts.Check ∷ more) s = checks (values_for (statement_in call) (params_in call)) s
+begins login call (parts.Reply ∷ more) s = if is_idle s.context.spot then turn Passes s else reads login parts.Reply s
+begins login call (parts.Keep ∷ more) s = keeps (text_in call) s
+begins login call (parts.Give ∷ more) s = gives (text_in call) s
+begins login call (parts.Learn ∷ more) s = learns (id_in call) s
+begins login call (parts.Forget ∷ more) s = turn Passes (with_known (without_statement (id_in call) s.statements) s)
 
 -- a step of a call with these parts
 abbrev pub steps : Login → Call → List Part → Stand → Turn

@@ -25,6 +25,20 @@ pub enum Part {
     Rest,
     /// The call's next command is sent.
     Command,
+    /// The statement of the text is looked for.
+    Find,
+    /// The parameters are looked at.
+    Check,
+    /// The reply to a statement to prepare is read.
+    Reply,
+    /// Its statement is kept, and the one that has to go for it is closed.
+    Keep,
+    /// It is returned.
+    Give,
+    /// The columns of an execution's rows are learned.
+    Learn,
+    /// A statement isn't kept any more.
+    Forget,
 }
 
 // The parts of connecting, with these queries that set the connection up.
@@ -53,6 +67,22 @@ pub fn parts_of(
     match call {
         Call::Connect => connecting_parts(alloc, texts),
         Call::Query(_) => Ok(vec![in alloc; Part::All, Part::Command, Part::Head]?),
+        Call::Prepare(_) => Ok(vec![in alloc;
+            Part::Find,
+            Part::All,
+            Part::Command,
+            Part::Reply,
+            Part::Keep,
+            Part::Give,
+        ]?),
+        Call::Execute(_, _) => Ok(vec![in alloc;
+            Part::Check,
+            Part::All,
+            Part::Command,
+            Part::Head,
+            Part::Learn,
+        ]?),
+        Call::CloseStmt(_) => Ok(vec![in alloc; Part::Forget, Part::All, Part::Command]?),
         Call::NextRow => Ok(vec![in alloc; Part::Item]?),
         Call::DropResult => Ok(vec![in alloc; Part::All]?),
         Call::TakeSet => Ok(vec![in alloc; Part::Set]?),

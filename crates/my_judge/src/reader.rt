@@ -60,7 +60,7 @@ fn closes_by(error: &Error, kind: CallKind) -> bool
     ensures { result ≡ closes_by error.now kind }
 {
     match error {
-        Error::Driver(DriverError::ConnectionClosed) => false,
+        Error::Driver(DriverError::ConnectionClosed | DriverError::MixedParams) => false,
         Error::Driver(_) | Error::Io(_) | Error::Url(_) | Error::Other(_) | Error::NoMemory => true,
         Error::Server(_) => is_connect(kind),
     }

@@ -7,6 +7,7 @@ ghost use Rattle.my_judge.specs.Stands.{IsAt, with_bytes};
 mod asking;
 mod course;
 mod ending;
+mod preparing;
 mod reading;
 mod stepping;
 
@@ -14,7 +15,7 @@ use crate::texts::arranging_texts;
 pub use ending::is_same_row;
 use my_frame::{Blob, Listed, NoMemory};
 use my_grammar::{Context, Login, Queue};
-use my_reading::Facts;
+use my_reading::{Facts, Statements};
 use std::alloc::Global;
 
 /// Where the reading stands.
@@ -34,6 +35,8 @@ pub struct Stand {
     pub end_left: bool,
     /// Whether a stream took the set that is read, or whose end is left.
     pub taken: bool,
+    /// The prepared statements that are known.
+    pub statements: Statements,
     /// Bytes that were received and not read.
     pub unread: Queue,
     /// What the client says in the exchanges.
@@ -55,6 +58,7 @@ impl Stand {
             arranged: 0,
             end_left: false,
             taken: false,
+            statements: Statements::new(alloc, login)?,
             unread: Queue::new(alloc),
             said: Queue::new(alloc),
             sent: Queue::new(alloc),

@@ -1,16 +1,22 @@
 //! The commands that calls send.
 
-ghost use Rattle.std.specs.Prelude.{◌≡◌, IfOk, slice_get};
+ghost use Rattle.std.specs.Prelude.{◌≡◌, ◌∷◌, ◌++◌, [], IfOk, slice_get};
+ghost use Rattle.my_grammar.specs.Talk.{commands_bytes};
+ghost use Rattle.my_reading.specs.Course.{first_above};
+ghost use Rattle.my_reading.specs.Executions.{values_for};
+ghost use Rattle.my_reading.specs.Statements.{query_of};
 ghost use Rattle.my_command.specs.Client.Packet.{client_bytes};
-ghost use Rattle.my_judge.specs.Stands.{Comes, arranges, asks, commands};
+ghost use Rattle.my_judge.specs.Stands.{Comes, arranges, asks, closes, commands, executes, sends};
 
 use super::Stand;
 use super::reading::codec_failure;
 use crate::step::Step;
 use my_command::{ClientPacket, write_client};
 use my_frame::{Blob, CodecFault, NoMemory};
-use my_grammar::{Context, RowFormat, Spot, Terms};
-use my_reading::Call;
+use my_grammar::{Context, Queue, RowFormat, Spot, Terms};
+use my_params::{Params, ParsedNamedParams};
+use my_reading::{Call, Error, execution, values_for};
+use my_statements::Statement;
 use std::alloc::Global;
 
 // The payload of a query with this text.
@@ -19,6 +25,45 @@ fn query_payload(alloc: Global, text: &Blob) -> Result<Vec<u8>, NoMemory>
 {
     let packet = ClientPacket::Query(text.copy(alloc)?);
     write_client(alloc, &packet)
+}
+
+// The payload that prepares a statement of this text.
+fn prepare_payload(alloc: Global, text: &Blob) -> Result<Vec<u8>, NoMemory>
+    ensures { IfOk result (λ payload. payload.items ≡ client_bytes (ClientPacket.Prepare (query_of text.now))) }
+{
+    let parsed = ParsedNamedParams::replaced(alloc, text.as_slice())?;
+    let packet = ClientPacket::Prepare(Blob::from_slice(alloc, parsed.query())?);
+    write_client(alloc, &packet)
+}
+
+// The length of the first payload above the limit.
+fn first_above(limit: u64, ahead: &[Blob], command: &[u8]) -> Option<u64>
+    ensures { result ≡ first_above limit (ahead.now ++ command.now ∷ []) }
+{
+    let mut left = ahead;
+    'payloads: while let Some((payload, after)) = left.split_first() {
+        let length = payload.len() as u64;
+        if length > limit {
+            return Some(length);
+        }
+        left = after;
+    }
+    let length = command.len() as u64;
+    if length > limit {
+        return Some(length);
+    }
+    None
+}
+
+// The bytes of payloads that go ahead of a command, of each from the sequence id 0.
+fn sent_ahead(alloc: Global, ahead: &[Blob]) -> Result<Queue, NoMemory>
+    ensures { IfOk result (λ sent. sent ≡ commands_bytes ahead.now) }
+{
+    let mut sent = Queue::new(alloc);
+    for payload in ahead {
+        sent.push_payload(payload.as_slice(), 0)?;
+    }
+    Ok(sent)
 }
 
 impl Stand {
@@ -47,6 +92,59 @@ impl Stand {
         Ok(Step::Passes)
     }
 
+    // The exchange of an execution begins, unless a payload is above the limit.
+    fn send(&mut self, alloc: Global, ahead: &[Blob], command: &[u8]) -> Result<Step, NoMemory>
+        ensures { IfOk result (λ step. Comes (sends ahead.now command.now self.old) step self.new) }
+    {
+        let limit = self.facts.settings.limit;
+        if let Some(length) = first_above(limit, ahead, command) {
+            return Ok(codec_failure(CodecFault::TooLarge { length, limit }));
+        }
+        let sent = sent_ahead(alloc, ahead)?;
+        self.said.push(sent.as_slice())?;
+        self.number = self.said.push_payload(command, 0)?;
+        self.context = Context {
+            spot: Spot::Head,
+            rows: RowFormat::Binary,
+            columns: 0,
+            terms: Terms {
+                kept: self.context.terms.kept,
+                limit,
+            },
+        };
+        self.end_left = false;
+        self.taken = false;
+        Ok(Step::Passes)
+    }
+
+    // A statement is executed, where the parameters fit.
+    fn execute(
+        &mut self,
+        alloc: Global,
+        statement: &Statement,
+        params: &Params,
+    ) -> Result<Step, NoMemory>
+        ensures { let values = values_for statement.now params.now in
+            IfOk result (λ step. Comes (executes statement.now.inner.id values self.old) step self.new) }
+    {
+        match values_for(alloc, statement, params) {
+            Ok(values) => {
+                let (ahead, command) = execution(alloc, statement.id(), values.as_slice())?;
+                self.send(alloc, ahead.as_slice(), command.as_slice())
+            }
+            Err(Error::Driver(_)) => Ok(Step::Passes),
+            Err(_) => Err(NoMemory),
+        }
+    }
+
+    /// The statement of this id is closed.
+    pub(super) fn close(&mut self, alloc: Global, id: u32) -> Result<Step, NoMemory>
+        ensures { IfOk result (λ step. Comes (closes id self.old) step self.new) }
+    {
+        let command = write_client(alloc, &ClientPacket::CloseStatement(id))?;
+        self.ask(Spot::Idle, &command, self.arranged)
+    }
+
     // The next query that sets the connection up.
     fn arrange(&mut self, alloc: Global) -> Result<Step, NoMemory>
         ensures { let s = self.old in
@@ -67,6 +165,13 @@ impl Stand {
         match call {
             Call::Connect => self.arrange(alloc),
             Call::Query(text) => self.ask(Spot::Head, &query_payload(alloc, text)?, arranged),
+            Call::Prepare(text) => self.ask(
+                Spot::Prepare,
+                &prepare_payload(alloc, text)?,
+                arranged,
+            ),
+            Call::Execute(statement, params) => self.execute(alloc, statement, params),
+            Call::CloseStmt(id) => self.close(alloc, *id),
             Call::NextRow | Call::DropResult | Call::TakeSet | Call::SkipTaken => Ok(Step::Passes),
             Call::Ping => {
                 let command = write_client(alloc, &ClientPacket::Ping)?;

@@ -12,6 +12,8 @@ use crate::step::Stop;
 use crate::tape::Ending;
 use my_grammar::Spot;
 use my_reading::{Answer, CallKind, Error, IoError, IoFault, IoKind};
+use my_statements::Statement;
+use my_statements::laws::equal_statements_are_same;
 use my_value::Row;
 
 fn awaits_head(spot: Spot) -> bool
@@ -49,6 +51,14 @@ pub fn is_same_row(a: &Row, b: &Row) -> bool
     a == b
 }
 
+// Whether both are the same to their callers.
+fn is_same_statement(a: &Statement, b: &Statement) -> bool
+    ensures { Decides result (a.now ≡ b.now) }
+{
+    equal_statements_are_same();
+    a == b
+}
+
 fn is_same_answer(a: &Answer, b: &Answer) -> bool
     ensures { Decides result (a.now ≡ b.now) }
 {
@@ -57,6 +67,7 @@ fn is_same_answer(a: &Answer, b: &Answer) -> bool
         (Answer::Ready, Answer::Ready) => true,
         (Answer::SetEnd, Answer::SetEnd) => true,
         (Answer::NoSet, Answer::NoSet) => true,
+        (Answer::Stmt(a), Answer::Stmt(b)) => is_same_statement(a, b),
         _ => false,
     }
 }

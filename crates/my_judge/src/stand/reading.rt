@@ -6,11 +6,12 @@ ghost use Rattle.my_grammar.specs.Growth.{number_next, said};
 ghost use Rattle.my_grammar.specs.Kinds.{kind_there};
 ghost use Rattle.my_grammar.specs.Response.{response};
 ghost use Rattle.my_reply.specs.ErrPacket.{err_at};
+ghost use Rattle.my_reply.specs.Replies.{prepare_ok_at};
 ghost use Rattle.my_reading.specs.Course.{is_greeting, is_rows};
 ghost use Rattle.my_reading.specs.Errors.{server_error};
 ghost use Rattle.my_reading.specs.Rows.{row_of};
 ghost use Rattle.my_judge.specs.Stands.{Comes, failure, heard, reads, read_payload, unfit};
-ghost use Rattle.my_judge.specs.Stands.{after_err, after_greeting, after_kind};
+ghost use Rattle.my_judge.specs.Stands.{after_err, after_greeting, after_kind, after_prepared, is_cached_by};
 
 use super::Stand;
 use crate::part::Part;
@@ -21,7 +22,7 @@ use my_frame::{
 };
 use my_grammar::{Kind, Login, Spot, kind_at, login_response};
 use my_reading::{Answer, Error, IoError, IoFault, IoKind, ServerError, read_row};
-use my_reply::{ErrPacket, read_err};
+use my_reply::{ErrPacket, read_err, read_prepare_ok};
 use my_value::Row;
 use std::alloc::Global;
 use std::sync::Arc;
@@ -38,8 +39,8 @@ fn server_error(alloc: Global, packet: ErrPacket) -> Result<ServerError, NoMemor
     })
 }
 
-// The call fails so.
-fn failure(error: Error) -> Step
+/// The call fails so.
+pub(super) fn failure(error: Error) -> Step
     ensures { result ≡ failure error }
 {
     Step::Stops(Stop::Returns(Ending::Failed(error)))
@@ -228,6 +229,37 @@ impl Stand {
         Ok(Step::Stays)
     }
 
+    // The id of a statement that was prepared, where it is still cached.
+    fn is_cached_in(&self, payload: &[u8]) -> bool
+        ensures { result ≡ is_cached_by (prepare_ok_at payload.now) self.now.statements }
+    {
+        match read_prepare_ok(payload) {
+            Ok(ok) => self.statements.is_cached(ok.id),
+            Err(_) => false,
+        }
+    }
+
+    // The reply to a statement to prepare begins, unless its id is that of a statement that is still cached.
+    fn prepare(
+        &mut self,
+        alloc: Global,
+        login: &Login,
+        kind: Kind,
+        found: &FramedPayload,
+    ) -> Result<Step, NoMemory>
+        requires next { found.now.span.next ≡ number_after_payload found.now.payload self.old.number }
+        requires fits { found.now.span.len ≤ length self.old.unread }
+        ensures { let s = self.old in
+            let new = heard login.now kind found.now.payload (drop found.now.span.len s.unread) s in
+            IfOk result (λ step. Comes (after_prepared (prepare_ok_at found.now.payload) s new) step self.new) }
+    {
+        if self.is_cached_in(found.payload.as_slice()) {
+            return Ok(self.unfit());
+        }
+        self.hear(alloc, login, kind, found)?;
+        Ok(Step::Stays)
+    }
+
     // A payload of another kind is read.
     fn go_on(
         &mut self,
@@ -275,6 +307,7 @@ impl Stand {
             Kind::Bad => Ok(self.unfit()),
             Kind::Failed => self.refuse(alloc, login, found),
             Kind::Greets(_) => self.greet(alloc, login, kind, found),
+            Kind::Prepared { .. } => self.prepare(alloc, login, kind, found),
             _ => self.go_on(alloc, login, part, kind, found),
         }
     }

@@ -89,6 +89,16 @@ impl Stand {
         Ok(Step::Passes)
     }
 
+    // The reply to a statement to prepare is read whole.
+    fn read_reply(&mut self, alloc: Global, login: &Login, call: &Call) -> Result<Step, NoMemory>
+        ensures { IfOk result (λ step. Comes (begins login.now call.now (Part.Reply ∷ []) self.old) step self.new) }
+    {
+        if is_idle(self.context.spot) {
+            return Ok(Step::Passes);
+        }
+        self.read(alloc, login, Part::Reply)
+    }
+
     /// One step of a call of which these parts are left.
     pub fn step(
         &mut self,
@@ -110,6 +120,13 @@ impl Stand {
             [Part::Set, ..] => self.read_set(alloc, login, call),
             [Part::Rest, ..] => self.read_rest(alloc, login, call),
             [Part::Command, ..] => self.command(alloc, call),
+            [Part::Find, ..] => self.find(alloc, call),
+            [Part::Check, ..] => self.check(alloc, call),
+            [Part::Reply, ..] => self.read_reply(alloc, login, call),
+            [Part::Keep, ..] => self.keep(alloc, call),
+            [Part::Give, ..] => self.give(alloc, call),
+            [Part::Learn, ..] => self.learn(call),
+            [Part::Forget, ..] => Ok(self.forget(call)),
         }
     }
 }
