@@ -1,5 +1,5 @@
 -- Where bytes are awaited, the link's end is an end that came too early.
-use Rattle.std.proofs.Common.{◌≡◌, ◌⊎◌, ℕ, suc, zero, List, [], ◌∷◌, length, Bool, true, false, cond, Option, Some, None, inl, inr, refl, sym, ap, ◌∙◌, subst}
+use Rattle.std.proofs.Common.{◌≡◌, ◌⊎◌, ℕ, suc, zero, List, [], ◌∷◌, ◌||◌, Bool, true, false, cond, Option, Some, None, inl, inr, refl, sym, ap, ◌∙◌, subst}
 use Rattle.my_reply.specs.declared.err.ErrPacket.{ErrPacket}
 use Rattle.my_reply.specs.ErrPacket.{err_at}
 use Rattle.my_frame.specs.Front.{Front, Waiting, Broken, Whole, front_at}
@@ -22,14 +22,19 @@ use Rattle.my_session.specs.declared.tables.Plan.{Plan}
 use Rattle.my_session.specs.declared.tables.Plan.TheVariants as plans
 use Rattle.my_session.specs.declared.tables.Reaction.{Reaction}
 use Rattle.my_session.specs.declared.tables.Reaction.TheVariants as reactions
-use Rattle.my_reading.specs.Calls.{call_of}
+use Rattle.my_reading.specs.Calls.{call_of, text_in}
+use Rattle.my_reading.specs.declared.call.CallKind.TheVariants.{Execute}
+use Rattle.my_reading.specs.declared.error.DriverError.{DriverError}
+use Rattle.my_reading.specs.Facts.{prepared_by}
+use Rattle.my_reading.specs.Statements.{held_in, is_mixed_text, leaving, query_of}
+use Rattle.my_statements.specs.Cache.{Held}
 use Rattle.my_session.specs.Tasks.{fault_in, is_open}
-use Rattle.my_reading.specs.Commands.{command_of, connecting, command_in}
+use Rattle.my_reading.specs.Commands.{closing, command_of, connecting}
 use Rattle.my_reading.specs.Errors.{invalid_data, unexpected_eof}
 use Rattle.my_session.specs.LinkErrors.{link_error}
 use Rattle.my_session.specs.Ends.{EachEnd, IsFault, Fails}
-use Rattle.my_reading.specs.Told.{ToldReady, ToldRow, ToldEnd, ToldNone, ToldError, Dropped}
-use Rattle.my_session.specs.Machine.{Doing, Goes, Passes, Sends, Needs, Tells, Move, Did, Does, FaultIs, failed_by, reply_to, above, unless_above, refused, gave, passed, reacted, read_by, reading, next_terms, queued, too_large, asked, arranged, planned, when_owed, next_by, next, advanced}
+use Rattle.my_reading.specs.Told.{ToldReady, ToldRow, ToldEnd, ToldNone, ToldStatement, ToldError, Dropped}
+use Rattle.my_session.specs.Machine.{Doing, Goes, Passes, Sends, Needs, Tells, Move, Did, Does, FaultIs, failed_by, reply_to, above, unless_above, refused, gave, passed, reacted, read_by, reading, next_terms, queued, unless_exceeds, unless_refused, refusal, is_doubled, looked, with_kept, kept, with_task, asked, arranged, planned, when_owed, next_by, next, advanced}
 use Rattle.my_reading.specs.Rows.{row_at}
 use Rattle.my_session.specs.Seen.{Seen}
 use Rattle.my_session.specs.Steps.{goes_on, moved, AllGo, Steps, last_tick, with_end, failing, with_failing}
@@ -79,10 +84,26 @@ unfolding needs
 kind_needs s p rest next k true = refl
 kind_needs s p rest next k false = unless_needs s (above s.context.terms.limit (reply_to s.login k p)) _ (reacted_needs s (advanced s k p rest next) p (react s.task k))
 
-begins_needs : (s : Seen) (t : Task) (talk : Talk) (b : Bool) → needs (cond {A = Move} b (too_large s s.facts.settings.limit (length (command_in talk))) (record { seen = queued s t talk; does = Sends })).does ≡ false
+begins_needs : (s : Seen) (t : Task) (talk : Talk) (x : Option ℕ) → needs (unless_exceeds s x (record { seen = queued s t talk; does = Sends })).does ≡ false
 unfolding needs
-begins_needs s t talk true = refl
-begins_needs s t talk false = refl
+begins_needs s t talk (Some len) = refl
+begins_needs s t talk None = refl
+
+unless_refused_needs : (s : Seen) (e : Option DriverError) (m : Move) → needs m.does ≡ false → needs (unless_refused s e m).does ≡ false
+unfolding needs
+unless_refused_needs s None m f = f
+unless_refused_needs s (Some e) m f = refl
+
+looked_needs : (s : Seen) (mixed : Bool) (o : Option Held) → needs (looked s mixed o).does ≡ false
+unfolding needs
+looked_needs s true o = refl
+looked_needs s false None = refl
+looked_needs s false (Some h) = refl
+
+kept_needs : (s : Seen) (o : Option ℕ) → needs (kept s o).does ≡ false
+unfolding needs
+kept_needs s None = refl
+kept_needs s (Some id) = begins_needs s tasks.Giving (closing (next_terms s) id) _
 
 asked_needs : (s : Seen) (c : CallKind) (x : Option Talk) → needs (asked s c x).does ≡ false
 unfolding needs
@@ -114,16 +135,22 @@ reading_rests : (s : Seen) (f : Front) → needs (reading s f).does ≡ true →
 unfolding needs RestsAt
 reading_rests s Waiting e = (waiting_rests s s.ended e, refl)
 reading_rests s (Broken fault) e = cc
-reading_rests s (Whole p rest next) e = absurd (no_need _ (kind_needs s p rest next (kind_there s.context s.facts.columns p) (is_breaking (react s.task (kind_there s.context s.facts.columns p)))) e)
+reading_rests s (Whole p rest next) e = absurd (no_need _ (kind_needs s p rest next (kind_there s.context s.facts.columns p) (is_breaking (react s.task (kind_there s.context s.facts.columns p)) || is_doubled s.statements (kind_there s.context s.facts.columns p) p)) e)
 
 planned_rests : (s : Seen) (p : Plan) → needs (planned s p).does ≡ true → RestsAt s (planned s p) (planned (with_end s) p)
 unfolding needs
 planned_rests s plans.Reads e = reading_rests s (front_at s.number s.context.terms.limit s.unread) e
 planned_rests s (plans.Starts t) e = cc
 planned_rests s plans.Hears e = cc
-planned_rests s (plans.Asks c) e = absurd (no_need _ (asked_needs s c (command_of (next_terms s) (call_of c s.text))) e)
+planned_rests s plans.Finds e = absurd (no_need _ (looked_needs s (is_mixed_text (text_in s.call)) (held_in s.statements (query_of (text_in s.call)))) e)
+planned_rests s plans.Checks e = absurd (no_need _ (unless_refused_needs s (refusal Execute s.call) (record { seen = with_task s (tasks.Cleaning Execute) s.untold; does = Goes }) refl) e)
+planned_rests s plans.Forgets e = cc
+planned_rests s (plans.Asks c) e = absurd (no_need _ (unless_refused_needs s (refusal c s.call) (asked s c (command_of (next_terms s) s.statements (call_of c s.call))) (asked_needs s c (command_of (next_terms s) s.statements (call_of c s.call)))) e)
 planned_rests s (plans.Arranges n) e = absurd (no_need _ (arranged_needs s n (connecting s.login (next_terms s) (suc n))) e)
 planned_rests s plans.Readies e = cc
+planned_rests s plans.Learns e = cc
+planned_rests s plans.Keeps e = absurd (no_need _ (kept_needs (with_kept s) (leaving (query_of (text_in s.call)) (prepared_by s.facts) s.statements)) e)
+planned_rests s plans.Gives e = cc
 planned_rests s plans.Takes e = cc
 planned_rests s plans.Quits e = cc
 planned_rests s plans.Passes e = cc
@@ -161,6 +188,7 @@ told_error (Tells ToldReady) = errors.NoMemory
 told_error (Tells (ToldRow row)) = errors.NoMemory
 told_error (Tells ToldEnd) = errors.NoMemory
 told_error (Tells ToldNone) = errors.NoMemory
+told_error (Tells (ToldStatement statement)) = errors.NoMemory
 told_error (Tells (ToldError e)) = e
 told_error (Tells (Dropped closing)) = errors.NoMemory
 
@@ -200,6 +228,7 @@ tells_fault s t e (Done answers.Ready) d l = let no : Tells (ToldError e) ≡ Te
 tells_fault s t e (Done (answers.Row row)) d l = let no : Tells (ToldError e) ≡ Tells (ToldRow row) = sym d ∙ l.does in cc
 tells_fault s t e (Done answers.SetEnd) d l = let no : Tells (ToldError e) ≡ Tells ToldEnd = sym d ∙ l.does in cc
 tells_fault s t e (Done answers.NoSet) d l = let no : Tells (ToldError e) ≡ Tells ToldNone = sym d ∙ l.does in cc
+tells_fault s t e (Done (answers.Stmt statement)) d l = let no : Tells (ToldError e) ≡ Tells (ToldStatement statement) = sym d ∙ l.does in cc
 tells_fault s t e (Fault f) d l = tt
 
 fails_from : (s t : Seen) (e : Error) (step : SessionStep) (n : ℕ) → (next s).does ≡ Tells (ToldError e) → AllGo n s → Does (next (moved n s)) (moved n s) t (last_tick step) → IsFault step
@@ -215,6 +244,7 @@ failing_tells s fault tasks.Nothing o = cc
 failing_tells s fault (tasks.Begun c) o = refl
 failing_tells s fault (tasks.Cleaning c) o = refl
 failing_tells s fault (tasks.Own c) o = refl
+failing_tells s fault tasks.Giving o = refl
 failing_tells s fault (tasks.Arranging n) o = refl
 failing_tells s fault tasks.Reading o = refl
 failing_tells s fault tasks.Dropping o = refl

@@ -2,7 +2,7 @@
 pub mod Misfits
 pub mod Payloads
 pub mod Places
-use Rattle.std.proofs.Common.{◌≡◌, ℕ, suc, ◌<◌, List, [], ◌∷◌, ◌++◌, length, ltb, Bool, true, false, cond, Option, Some, None, inl, inr, refl, sym, ap, ◌∙◌, subst, arith}
+use Rattle.std.proofs.Common.{◌≡◌, ℕ, suc, ◌<◌, List, [], ◌∷◌, ◌++◌, length, ltb, ◌||◌, Bool, true, false, cond, Option, Some, None, inl, inr, refl, sym, ap, ◌∙◌, subst, arith}
 use Rattle.std.proofs.lemmas.Bool.Decides.{nat_tests}
 use Rattle.my_flags.specs.declared.flags.CapabilityFlags.{CapabilityFlags}
 use Rattle.my_flags.specs.Sets.{deprecates_eof}
@@ -22,14 +22,20 @@ use Rattle.my_grammar.specs.Cut.{Cut, Trailing, front_of, kind_of, rest_in_front
 use Rattle.my_grammar.specs.CutLaws.{StopsAt}
 use Rattle.my_grammar.specs.Kinds.{kind_there}
 use Rattle.my_grammar.specs.Response.{response}
-use Rattle.my_grammar.specs.Talk.{Talk, context_of, limit_of, origin}
+use Rattle.my_grammar.specs.Talk.{Talk, commands_in, context_of, limit_of, origin}
+use Rattle.my_statements.specs.Cache.{Held}
+use Rattle.my_reading.specs.declared.error.DriverError.{DriverError}
+use Rattle.my_reading.specs.Course.{first_above}
+use Rattle.my_reading.specs.Executions.{Values, Fitting, Unfitting, values_for}
+use Rattle.my_reading.specs.Facts.{prepared_by}
+use Rattle.my_reading.specs.Statements.{held_in, is_mixed_text, leaving, query_of}
 use Rattle.my_reading.specs.declared.call.Call.{Call}
 use Rattle.my_reading.specs.declared.call.CallKind.{CallKind}
-use Rattle.my_reading.specs.declared.call.CallKind.TheVariants.{Connect, Query, NextRow, DropResult, TakeSet, SkipTaken, Ping, Quit}
+use Rattle.my_reading.specs.declared.call.CallKind.TheVariants.{Connect, Query, Prepare, Execute, CloseStmt, NextRow, DropResult, TakeSet, SkipTaken, Ping, Quit}
 use Rattle.my_session.specs.declared.task.LinkFault.{LinkFault}
 use Rattle.my_session.specs.declared.task.LinkFault.TheVariants as faults
 use Rattle.my_session.specs.declared.task.Task.{Task}
-use Rattle.my_session.specs.declared.task.Task.TheVariants.{Nothing, Begun, Cleaning, Own, Arranging, Reading, Dropping, Taking, Skipping, Leaving, Failing}
+use Rattle.my_session.specs.declared.task.Task.TheVariants.{Nothing, Begun, Cleaning, Own, Giving, Arranging, Reading, Dropping, Taking, Skipping, Leaving, Failing}
 use Rattle.my_reading.specs.declared.error.Error.{Error}
 use Rattle.my_reading.specs.declared.error.Error.TheVariants as errors
 use Rattle.my_reading.specs.declared.facts.Facts.{Facts}
@@ -40,30 +46,32 @@ use Rattle.my_session.specs.declared.tables.Reaction.TheVariants as reactions
 use Rattle.my_reading.specs.declared.answer.Answer.{Answer}
 use Rattle.my_reading.specs.declared.answer.Answer.TheVariants as answers
 use Rattle.my_session.specs.declared.answer.Tick.TheVariants as ticks
-use Rattle.my_reading.specs.Calls.{call_of, asks}
+use Rattle.my_reading.specs.Calls.{call_of, asks, params_in, statement_in, text_in}
 use Rattle.my_session.specs.Tasks.{kind_in, fault_in, is_open}
 use Rattle.my_session.specs.Causes.{Stops, Cause, SessionBecause, NothingLeft, AnswerCause, EachFault, place_in}
-use Rattle.my_reading.specs.Commands.{opening, command_of, connecting, command_in}
-use Rattle.my_session.specs.Entries.{Entry, facts_of, terms_by, connecting_in}
+use Rattle.my_reading.specs.Commands.{closing, command_of, connecting, execution, opening}
+use Rattle.my_session.specs.Entries.{Entry, Opens, facts_of, terms_by, connecting_in}
 use Rattle.my_reading.specs.Errors.{invalid_data, unexpected_eof}
 use Rattle.my_session.specs.LinkErrors.{link_error}
-use Rattle.my_reading.specs.Told.{Told, ToldReady, ToldRow, ToldEnd, ToldNone, ToldError, Dropped}
+use Rattle.my_reading.specs.Told.{Told, ToldReady, ToldRow, ToldEnd, ToldNone, ToldStatement, ToldError, Dropped}
 use Rattle.my_session.specs.History.{History}
 use Rattle.my_session.specs.Law.{in_order, talks}
 use Rattle.my_session.specs.Machine as machine
-use Rattle.my_session.specs.Machine.{Move, Doing, Goes, Sends, Needs, Tells, Did, FaultIs, advanced, reply_to, above, unless_above, refused, gave, passed, reacted, read_by, reading, next_terms, asked, arranged, planned, when_owed, next_by, next, is_greeting}
+use Rattle.my_session.specs.Machine.{Move, Doing, Goes, Sends, Needs, Tells, Did, FaultIs, advanced, reply_to, above, unless_above, refused, gave, passed, reacted, read_by, reading, next_terms, unless_exceeds, unless_refused, refusal, refused_by, is_doubled, looked, with_kept, kept, asked, arranged, planned, when_owed, next_by, next, is_greeting}
 use Rattle.my_reading.specs.Rows.{row_at}
 use Rattle.my_session.specs.Seen.{Seen}
 use Rattle.my_session.specs.Stands.{Stands, Heard, call_with, is_reading}
-use Rattle.my_session.specs.Tables.{plan_of, clean_plan, own_plan, query_plan, read_plan, drop_plan, take_plan, skip_plan, react, is_breaking}
+use Rattle.my_session.specs.Tables.{plan_of, first_plan, clean_plan, own_plan, query_plan, execute_plan, prepare_plan, read_plan, drop_plan, take_plan, skip_plan, react, is_breaking}
 use Rattle.my_session.proofs.Faults.Payloads.{failed_reads, row_reads}
 use Rattle.my_reading.proofs.Described.{kind_is, told_columns}
 use Rattle.my_session.proofs.Faults.Places.{place_is}
-use Rattle.my_session.proofs.Faults.Misfits.{Awaits, FitsKind, react_fits, is_heading, heading_spot, cleaning_awaits, arranging_awaits, reading_awaits, dropping_awaits, connect_awaits, ping_awaits, head_awaits, column_awaits, close_awaits, further_awaits, next_column_awaits, next_close_awaits, skipping_awaits}
+use Rattle.my_session.proofs.Faults.Misfits.{Awaits, FitsKind, react_fits, is_heading, heading_spot, cleaning_awaits, arranging_awaits, reading_awaits, dropping_awaits, connect_awaits, ping_awaits, head_awaits, column_awaits, close_awaits, execution_head_awaits, execution_column_awaits, execution_close_awaits, prepare_awaits, further_awaits, next_column_awaits, next_close_awaits, skipping_awaits}
 use Rattle.my_session.proofs.History.{each_history}
 use Rattle.my_session.proofs.Stands.Spots.{is_known, known, row_spot}
 use Rattle.my_session.proofs.History.Stopping.{talks_found, rest_found, stopped, over_found, failed_found}
-use Rattle.my_session.proofs.Stands.Firsts.{query_talk}
+use Rattle.my_session.proofs.Stands.Firsts.{query_talk, execute_talk}
+use Rattle.my_session.proofs.Stands.Plans.{left_false}
+use Rattle.my_session.proofs.Refusals.{refused_execution, refusal_cause}
 use Rattle.my_session.proofs.Stands.Wired.{limit_is, terms_now}
 
 module _ (s : Seen) (h : History) (st : Stands s h) (op : is_open s.task ≡ true) where
@@ -83,7 +91,8 @@ module _ (s : Seen) (h : History) (st : Stands s h) (op : is_open s.task ≡ tru
   ToldBy (ToldRow row) = Unit {0}
   ToldBy ToldEnd = Unit {0}
   ToldBy ToldNone = AllRead
-  ToldBy (ToldError e) = Cause s.login (fault_in s.task) s.unread h st.newest st.older e
+  ToldBy (ToldStatement statement) = Unit {0}
+  ToldBy (ToldError e) = Cause s.login (fault_in s.task) s.statements s.unread h st.newest st.older e
   ToldBy (Dropped closing) = Unit {0}
 
   abbrev pub TellsBy : Doing → Type 0
@@ -125,15 +134,30 @@ module _ (s : Seen) (h : History) (st : Stands s h) (op : is_open s.task ≡ tru
         rest_is = rest_found st.newest st.older h.taken s.unread st.wire.taken_is st.wire.done st.wire.fits ∙ ap (λ (c : Cut). c.rest) here;
       }
 
-  link : (fault : LinkFault) → fault_in s.task ≡ Some fault → Cause s.login (fault_in s.task) s.unread h st.newest st.older (link_error fault s.facts.place)
+  link : (fault : LinkFault) → fault_in s.task ≡ Some fault → Cause s.login (fault_in s.task) s.statements s.unread h st.newest st.older (link_error fault s.facts.place)
   link faults.Link e = (place, e)
   link faults.TooLong e = e
   link faults.NoMemory e = tt
 
   -- the payload in front
   module _ (waits : is_idle s.context.spot ≡ false) (p rest : List ℕ) (next : ℕ) (at : front_at s.number s.context.terms.limit s.unread ≡ Whole p rest next) where
-    unfit : is_bad (kind_there s.context s.facts.columns p) ≡ true → Cause s.login (fault_in s.task) s.unread h st.newest st.older (invalid_data s.facts.place)
-    unfit bad = (place, record { payload = p; stops = stops (Whole p rest next) at (ap is_bad (kind_here p) ∙ bad) waits })
+    unfit : is_bad (kind_there s.context s.facts.columns p) ≡ true → Cause s.login (fault_in s.task) s.statements s.unread h st.newest st.older (invalid_data s.facts.place)
+    unfit bad = (place, inl (record { payload = p; stops = stops (Whole p rest next) at (ap is_bad (kind_here p) ∙ bad) waits }))
+
+    -- a statement that was prepared has the id of one that is still cached
+    doubled : (k : Kind) → kind_there s.context s.facts.columns p ≡ k → is_doubled s.statements k p ≡ true → Cause s.login (fault_in s.task) s.statements s.unread h st.newest st.older (invalid_data s.facts.place)
+    doubled (kinds.Greets n) k c = cc
+    doubled (kinds.Good status) k c = cc
+    doubled kinds.Failed k c = cc
+    doubled (kinds.Count n) k c = cc
+    doubled kinds.Column k c = cc
+    doubled kinds.ColumnsDone k c = cc
+    doubled kinds.Row k c = cc
+    doubled (kinds.End status) k c = cc
+    doubled (kinds.Prepared params columns) k c = (place, inr (record { payload = p; rest = rest; number = next; params = params; columns = columns; front = front_here ∙ at; kind = kind_here p ∙ k; cached = c }))
+    doubled kinds.Parameter k c = cc
+    doubled kinds.Field k c = cc
+    doubled kinds.Bad k c = cc
 
     refused_told : (n : Seen) (x : Option ErrPacket) → kind_there s.context s.facts.columns p ≡ kinds.Failed → err_at (is_greeting s.context.spot) p ≡ x → Explained (refused s n x)
     refused_told n None k is =
@@ -215,9 +239,13 @@ module _ (s : Seen) (h : History) (st : Stands s h) (op : is_open s.task ≡ tru
     unless_told kinds.Field e m told = told
     unless_told kinds.Bad e m told = told
 
-    kind_told : ((k : Kind) → is_known s.context.spot k ≡ true → is_breaking (react s.task k) ≡ true → is_bad k ≡ true) → (k : Kind) → kind_there s.context s.facts.columns p ≡ k → (b : Bool) → is_breaking (react s.task k) ≡ b → Explained (cond b (machine.failed_by s (invalid_data s.facts.place)) (read_by s (advanced s k p rest next) p (react s.task k) (reply_to s.login k p)))
-    kind_told breaks k e true b = unfit (ap is_bad e ∙ breaks k (known s.context.spot s.context.rows (deprecates_eof s.context.terms.kept) s.context.columns s.facts.columns p k e) b)
-    kind_told breaks k e false b = unless_told k e (reacted s (advanced s k p rest next) p (react s.task k)) (reacted_told (advanced s k p rest next) (react s.task k) k e (react_fits s.task k) b)
+    misfit_told : ((k : Kind) → is_known s.context.spot k ≡ true → is_breaking (react s.task k) ≡ true → is_bad k ≡ true) → (k : Kind) → kind_there s.context s.facts.columns p ≡ k → (b : Bool) → is_breaking (react s.task k) ≡ b → b || is_doubled s.statements k p ≡ true → Cause s.login (fault_in s.task) s.statements s.unread h st.newest st.older (invalid_data s.facts.place)
+    misfit_told breaks k e true b o = unfit (ap is_bad e ∙ breaks k (known s.context.spot s.context.rows (deprecates_eof s.context.terms.kept) s.context.columns s.facts.columns p k e) b)
+    misfit_told breaks k e false b o = doubled k e o
+
+    kind_told : ((k : Kind) → is_known s.context.spot k ≡ true → is_breaking (react s.task k) ≡ true → is_bad k ≡ true) → (k : Kind) → kind_there s.context s.facts.columns p ≡ k → (b : Bool) → is_breaking (react s.task k) || is_doubled s.statements k p ≡ b → Explained (cond b (machine.failed_by s (invalid_data s.facts.place)) (read_by s (advanced s k p rest next) p (react s.task k) (reply_to s.login k p)))
+    kind_told breaks k e true b = misfit_told breaks k e (is_breaking (react s.task k)) refl b
+    kind_told breaks k e false b = unless_told k e (reacted s (advanced s k p rest next) p (react s.task k)) (reacted_told (advanced s k p rest next) (react s.task k) k e (react_fits s.task k) (left_false (is_breaking (react s.task k)) (is_doubled s.statements k p) b))
 
   waiting_told : is_idle s.context.spot ≡ false → front_at s.number s.context.terms.limit s.unread ≡ Waiting → (b : Bool) → s.ended ≡ b → Explained (cond b (machine.failed_by s (unexpected_eof s.facts.place)) (record { seen = s; does = Needs }))
   waiting_told waits at true e = (place, (sym st.ended_is ∙ e, stops Waiting at tt waits))
@@ -226,41 +254,55 @@ module _ (s : Seen) (h : History) (st : Stands s h) (op : is_open s.task ≡ tru
   front_told : Awaits s.task s.context.spot → (f : Front) → front_at s.number s.context.terms.limit s.unread ≡ f → Explained (reading s f)
   front_told a Waiting at = waiting_told a.waits at s.ended refl
   front_told a (Broken fault) at = inl (stops (Broken fault) at tt a.waits)
-  front_told a (Whole p rest next) at = kind_told a.waits p rest next at a.breaks (kind_there s.context s.facts.columns p) refl (is_breaking (react s.task (kind_there s.context s.facts.columns p))) refl
+  front_told a (Whole p rest next) at = kind_told a.waits p rest next at a.breaks (kind_there s.context s.facts.columns p) refl (is_breaking (react s.task (kind_there s.context s.facts.columns p)) || is_doubled s.statements (kind_there s.context s.facts.columns p) p) refl
 
   -- what holds in the next exchange is what the exchanges say
   terms_here : terms_by s.login entries ≡ next_terms s
   terms_here = terms_now s.login st.newest st.older s.context s.facts st.wire.context_is st.wire.facts_are
 
+  -- the call is the one that is pending
+  pending_here : (c : CallKind) → Some c ≡ kind_in s.task → h.pending ≡ Some (call_of c s.call)
+  pending_here c own = st.heard.pending_is ∙ ap (λ k. call_with k s.call) (sym own)
+
   -- the call's next command may be too long
-  command_told : (c : CallKind) (u : Task) (t : Talk) → Some c ≡ kind_in s.task → opening s.login (next_terms s) (call_of c s.text) (connecting_in entries) ≡ Some t → (b : Bool) → ltb s.facts.settings.limit (length (command_in t)) ≡ b → Explained (cond b (machine.too_large s s.facts.settings.limit (length (command_in t))) (record { seen = machine.queued s u t; does = Sends }))
-  command_told c u t own opens false e = tt
-  command_told c u t own opens true e =
+  command_told : (c : CallKind) (u : Task) (t : Talk) → Some c ≡ kind_in s.task → Opens s.login (next_terms s) (call_of c s.call) (connecting_in entries) t → (o : Option ℕ) → first_above s.facts.settings.limit (commands_in t) ≡ o → Explained (unless_exceeds s o (record { seen = machine.queued s u t; does = Sends }))
+  command_told c u t own opens None e = tt
+  command_told c u t own opens (Some len) e =
       let limit : s.facts.settings.limit ≡ (terms_by s.login entries).limit = ap (λ (x : Terms). x.limit) (sym terms_here) in
-      let long : s.facts.settings.limit < length (command_in t) = grind (arith, nat_tests) in
       inr (inl (record {
-        call = call_of c s.text;
-        pending = st.heard.pending_is ∙ ap (λ k. call_with k s.text) (sym own);
+        call = call_of c s.call;
+        pending = pending_here c own;
         talk = t;
-        opens = ap (λ (x : Terms). opening s.login x (call_of c s.text) (connecting_in entries)) terms_here ∙ opens;
-        above = subst (λ l. l < length (command_in t)) limit long;
-        fault_is = ap (λ l. TooLarge (length (command_in t)) l) limit;
+        opens = subst (λ (x : Terms). Opens s.login x (call_of c s.call) (connecting_in entries) t) (sym terms_here) opens;
+        len = len;
+        above = subst (λ l. first_above l (commands_in t) ≡ Some len) limit e;
+        fault_is = ap (λ l. TooLarge len l) limit;
       }))
 
-  opens_some : (c : CallKind) → asks c ≡ true → command_of (next_terms s) (call_of c s.text) ≡ None → ⊥
-  opens_some Connect e none = cc
-  opens_some Query e none = cc
-  opens_some NextRow e none = cc
-  opens_some DropResult e none = cc
-  opens_some TakeSet e none = cc
-  opens_some SkipTaken e none = cc
-  opens_some Ping e none = cc
-  opens_some Quit e none = cc
+  execution_some : (id : ℕ) (v : Values) → refused_by v ≡ None → execution (next_terms s) s.statements id v ≡ None → ⊥
+  execution_some id (Fitting values) fit none = cc
+  execution_some id (Unfitting e) fit none = cc
+
+  opens_some : (c : CallKind) → asks c ≡ true → refusal c s.call ≡ None → command_of (next_terms s) s.statements (call_of c s.call) ≡ None → ⊥
+  opens_some Connect e fit none = cc
+  opens_some Query e fit none = cc
+  opens_some Prepare e fit none = cc
+  opens_some Execute e fit none = execution_some (statement_in s.call).inner.id (values_for (statement_in s.call) (params_in s.call)) fit none
+  opens_some CloseStmt e fit none = cc
+  opens_some NextRow e fit none = cc
+  opens_some DropResult e fit none = cc
+  opens_some TakeSet e fit none = cc
+  opens_some SkipTaken e fit none = cc
+  opens_some Ping e fit none = cc
+  opens_some Quit e fit none = cc
 
   -- the own command of a call is the exchange that it begins
-  opens_own : (c : CallKind) → asks c ≡ true → opening s.login (next_terms s) (call_of c s.text) (connecting_in entries) ≡ command_of (next_terms s) (call_of c s.text)
+  opens_own : (c : CallKind) → asks c ≡ true → opening s.login (next_terms s) s.statements (call_of c s.call) (connecting_in entries) ≡ command_of (next_terms s) s.statements (call_of c s.call)
   opens_own Connect e = cc
   opens_own Query e = refl
+  opens_own Prepare e = refl
+  opens_own Execute e = refl
+  opens_own CloseStmt e = refl
   opens_own NextRow e = cc
   opens_own DropResult e = cc
   opens_own TakeSet e = cc
@@ -268,19 +310,48 @@ module _ (s : Seen) (h : History) (st : Stands s h) (op : is_open s.task ≡ tru
   opens_own Ping e = refl
   opens_own Quit e = refl
 
-  asked_told : (c : CallKind) → asks c ≡ true → Some c ≡ kind_in s.task → (o : Option Talk) → command_of (next_terms s) (call_of c s.text) ≡ o → Explained (asked s c o)
-  asked_told c asking own None opens = absurd (opens_some c asking opens)
-  asked_told c asking own (Some t) opens = command_told c (Own c) t own (opens_own c asking ∙ opens) (ltb s.facts.settings.limit (length (command_in t))) refl
+  asked_told : (c : CallKind) → asks c ≡ true → Some c ≡ kind_in s.task → refusal c s.call ≡ None → (o : Option Talk) → command_of (next_terms s) s.statements (call_of c s.call) ≡ o → Explained (asked s c o)
+  asked_told c asking own fit None opens = absurd (opens_some c asking fit opens)
+  asked_told c asking own fit (Some t) opens = command_told c (Own c) t own (inl (s.statements, opens_own c asking ∙ opens)) (first_above s.facts.settings.limit (commands_in t)) refl
 
   arranged_told : (n : ℕ) → connecting_in entries ≡ suc n → Some Connect ≡ kind_in s.task → (o : Option Talk) → connecting s.login (next_terms s) (suc n) ≡ o → Explained (arranged s n o)
   arranged_told n count own None opens = tt
-  arranged_told n count own (Some t) opens = command_told Connect (Arranging (suc n)) t own (ap (connecting s.login (next_terms s)) count ∙ opens) (ltb s.facts.settings.limit (length (command_in t))) refl
+  arranged_told n count own (Some t) opens = command_told Connect (Arranging (suc n)) t own (inl (s.statements, ap (connecting s.login (next_terms s)) count ∙ opens)) (first_above s.facts.settings.limit (commands_in t)) refl
+
+  -- its parameters may be refused
+  refusal_told : (c : CallKind) → Some c ≡ kind_in s.task → (o : Option DriverError) (m : Move) → refusal c s.call ≡ o → (o ≡ None → Explained m) → Explained (unless_refused s o m)
+  refusal_told c own None m is told = told refl
+  refusal_told c own (Some e) m is told =
+      let w = refused_execution c s.call e is in
+      refusal_cause c s.call e (fault_in s.task) h is (record {
+        statement = statement_in s.call;
+        params = params_in s.call;
+        pending = pending_here c own ∙ ap (λ d. Some (call_of d s.call)) w.0;
+        refused = w.1;
+      })
+
+  -- and so may its text
+  looked_told : Some Prepare ≡ kind_in s.task → (b : Bool) → is_mixed_text (text_in s.call) ≡ b → (o : Option Held) → Explained (looked s b o)
+  looked_told own true mixed o = record { text = text_in s.call; pending = pending_here Prepare own; mixed = mixed }
+  looked_told own false mixed None = tt
+  looked_told own false mixed (Some x) = tt
+
+  closing_told : Some Prepare ≡ kind_in s.task → (id : ℕ) (o : Option ℕ) → first_above s.facts.settings.limit (commands_in (closing (next_terms s) id)) ≡ o → Explained (unless_exceeds (with_kept s) o (record { seen = machine.queued (with_kept s) Giving (closing (next_terms s) id); does = Sends }))
+  closing_told own id None e = tt
+  closing_told own id (Some len) e = command_told Prepare Giving (closing (next_terms s) id) own (inr (id, refl, refl)) (Some len) e
+
+  kept_told : Some Prepare ≡ kind_in s.task → (o : Option ℕ) → Explained (kept (with_kept s) o)
+  kept_told own None = tt
+  kept_told own (Some id) = closing_told own id (first_above s.facts.settings.limit (commands_in (closing (next_terms s) id))) refl
 
   -- plans that fit the task
   abbrev Suits : Plan → Type 0
   Suits plans.Reads = Awaits s.task s.context.spot
   Suits (plans.Asks c) = (asks c ≡ true) × (Some c ≡ kind_in s.task)
   Suits (plans.Arranges n) = (connecting_in entries ≡ suc n) × (Some Connect ≡ kind_in s.task)
+  Suits plans.Finds = Some Prepare ≡ kind_in s.task
+  Suits plans.Checks = Some Execute ≡ kind_in s.task
+  Suits plans.Keeps = Some Prepare ≡ kind_in s.task
   Suits plans.NoMore = (is_idle s.context.spot ≡ true) × (s.untold ≡ false)
   Suits p = Unit {0}
 
@@ -288,9 +359,15 @@ module _ (s : Seen) (h : History) (st : Stands s h) (op : is_open s.task ≡ tru
   plan_told plans.Reads a = front_told a _ refl
   plan_told (plans.Starts u) a = tt
   plan_told plans.Hears a = tt
-  plan_told (plans.Asks c) own = asked_told c own.0 own.1 _ refl
+  plan_told plans.Finds own = looked_told own (is_mixed_text (text_in s.call)) refl (held_in s.statements (query_of (text_in s.call)))
+  plan_told plans.Checks own = refusal_told Execute own (refusal Execute s.call) (record { seen = machine.with_task s (Cleaning Execute) s.untold; does = Goes }) refl (λ _. tt)
+  plan_told plans.Forgets a = tt
+  plan_told (plans.Asks c) own = refusal_told c own.1 (refusal c s.call) (asked s c (command_of (next_terms s) s.statements (call_of c s.call))) refl (λ fit. asked_told c own.0 own.1 fit (command_of (next_terms s) s.statements (call_of c s.call)) refl)
   plan_told (plans.Arranges n) own = arranged_told n own.0 own.1 _ refl
   plan_told plans.Readies a = tt
+  plan_told plans.Learns a = tt
+  plan_told plans.Keeps own = kept_told own (leaving (query_of (text_in s.call)) (prepared_by s.facts) s.statements)
+  plan_told plans.Gives a = tt
   plan_told plans.Takes a = tt
   plan_told plans.Quits a = tt
   plan_told plans.Passes a = tt
@@ -299,7 +376,7 @@ module _ (s : Seen) (h : History) (st : Stands s h) (op : is_open s.task ≡ tru
   plan_told plans.NoMore a = (ends a.0, a.1)
 
   abbrev HeardAs : Task → Type 0
-  HeardAs t = Heard t s.text s.context.spot s.untold s.closed h.lost h.calls h.pending st.newest st.older
+  HeardAs t = Heard t s.call s.context.spot s.untold s.closed h.lost h.calls h.pending st.newest st.older
 
   awaits_as : (t : Task) → s.task ≡ t → Awaits t s.context.spot → Awaits s.task s.context.spot
   awaits_as t e a = subst (λ (u : Task). Awaits u s.context.spot) (sym e) a
@@ -337,11 +414,61 @@ module _ (s : Seen) (h : History) (st : Stands s h) (op : is_open s.task ≡ tru
   query_suits e (spots.Fields left) at heads = cc
   query_suits e spots.FieldsEnd at heads = cc
 
+  execution_suits : s.task ≡ Own Execute → (spot : Spot) → s.context.spot ≡ spot → is_heading spot ≡ true → Suits (execute_plan spot)
+  execution_suits e spots.Idle at heads = cc
+  execution_suits e spots.Greeting at heads = cc
+  execution_suits e spots.Authentication at heads = cc
+  execution_suits e spots.Single at heads = cc
+  execution_suits e spots.Head at heads = awaits_as (Own Execute) e (subst (λ (x : Spot). Awaits (Own Execute) x) (sym at) execution_head_awaits)
+  execution_suits e spots.Further at heads = cc
+  execution_suits e (spots.Columns left) at heads = awaits_as (Own Execute) e (subst (λ (x : Spot). Awaits (Own Execute) x) (sym at) (execution_column_awaits left))
+  execution_suits e spots.ColumnsEnd at heads = awaits_as (Own Execute) e (subst (λ (x : Spot). Awaits (Own Execute) x) (sym at) execution_close_awaits)
+  execution_suits e spots.Rows at heads = tt
+  execution_suits e spots.Prepare at heads = cc
+  execution_suits e (spots.Parameters left columns) at heads = cc
+  execution_suits e (spots.ParametersEnd columns) at heads = cc
+  execution_suits e (spots.Fields left) at heads = cc
+  execution_suits e spots.FieldsEnd at heads = cc
+
+  prepare_suits : s.task ≡ Own Prepare → is_greeting s.context.spot ≡ false → (spot : Spot) → s.context.spot ≡ spot → Suits (prepare_plan spot)
+  prepare_suits e past spots.Idle at = sym (ap kind_in e)
+  prepare_suits e past spots.Greeting at = awaits_as (Own Prepare) e (prepare_awaits s.context.spot (ap is_idle at) past)
+  prepare_suits e past spots.Authentication at = awaits_as (Own Prepare) e (prepare_awaits s.context.spot (ap is_idle at) past)
+  prepare_suits e past spots.Single at = awaits_as (Own Prepare) e (prepare_awaits s.context.spot (ap is_idle at) past)
+  prepare_suits e past spots.Head at = awaits_as (Own Prepare) e (prepare_awaits s.context.spot (ap is_idle at) past)
+  prepare_suits e past spots.Further at = awaits_as (Own Prepare) e (prepare_awaits s.context.spot (ap is_idle at) past)
+  prepare_suits e past (spots.Columns left) at = awaits_as (Own Prepare) e (prepare_awaits s.context.spot (ap is_idle at) past)
+  prepare_suits e past spots.ColumnsEnd at = awaits_as (Own Prepare) e (prepare_awaits s.context.spot (ap is_idle at) past)
+  prepare_suits e past spots.Rows at = awaits_as (Own Prepare) e (prepare_awaits s.context.spot (ap is_idle at) past)
+  prepare_suits e past spots.Prepare at = awaits_as (Own Prepare) e (prepare_awaits s.context.spot (ap is_idle at) past)
+  prepare_suits e past (spots.Parameters left columns) at = awaits_as (Own Prepare) e (prepare_awaits s.context.spot (ap is_idle at) past)
+  prepare_suits e past (spots.ParametersEnd columns) at = awaits_as (Own Prepare) e (prepare_awaits s.context.spot (ap is_idle at) past)
+  prepare_suits e past (spots.Fields left) at = awaits_as (Own Prepare) e (prepare_awaits s.context.spot (ap is_idle at) past)
+  prepare_suits e past spots.FieldsEnd at = awaits_as (Own Prepare) e (prepare_awaits s.context.spot (ap is_idle at) past)
+
+  first_suits : (c : CallKind) → Some c ≡ kind_in s.task → Suits (first_plan c)
+  first_suits Connect own = tt
+  first_suits Query own = tt
+  first_suits Prepare own = own
+  first_suits Execute own = own
+  first_suits CloseStmt own = tt
+  first_suits NextRow own = tt
+  first_suits DropResult own = tt
+  first_suits TakeSet own = tt
+  first_suits SkipTaken own = tt
+  first_suits Ping own = tt
+  first_suits Quit own = tt
+
   own_suits : (c : CallKind) → s.task ≡ Own c → HeardAs (Own c) → Suits (own_plan c s.context.spot)
   own_suits Connect e hd = awaits_as (Own Connect) e (connect_awaits s.context.spot hd.at.1)
   own_suits Query e hd =
-      let queried = query_talk s.login (terms_by s.login st.older) (connecting_in st.older) s.text talk (subst (λ (c : Call). opening s.login (terms_by s.login st.older) c (connecting_in st.older) ≡ Some (origin talk)) hd.tie.0 st.wire.table.0) in
+      let queried = query_talk s.login (terms_by s.login st.older) (connecting_in st.older) (text_in s.call) talk (subst (λ (c : Call). Opens s.login (terms_by s.login st.older) c (connecting_in st.older) (origin talk)) hd.tie.0 st.wire.table.0) in
       query_suits e s.context.spot refl (ap (λ (c : Context). is_heading c.spot) st.wire.context_is ∙ heading_spot talk queried hd.at.2)
+  own_suits Prepare e hd = prepare_suits e hd.at.1 s.context.spot refl
+  own_suits Execute e hd =
+      let queried = execute_talk s.login (terms_by s.login st.older) (connecting_in st.older) (statement_in s.call) (params_in s.call) talk (subst (λ (c : Call). Opens s.login (terms_by s.login st.older) c (connecting_in st.older) (origin talk)) hd.tie.0 st.wire.table.0) in
+      execution_suits e s.context.spot refl (ap (λ (c : Context). is_heading c.spot) st.wire.context_is ∙ heading_spot talk queried hd.at.2)
+  own_suits CloseStmt e hd = tt
   own_suits NextRow e hd = absurd hd.at
   own_suits DropResult e hd = absurd hd.at
   own_suits TakeSet e hd = absurd hd.at
@@ -415,9 +542,10 @@ module _ (s : Seen) (h : History) (st : Stands s h) (op : is_open s.task ≡ tru
 
   suits : (t : Task) → s.task ≡ t → fault_in t ≡ None → HeardAs t → (untold : Bool) → s.untold ≡ untold → Suits (plan_of t s.context.spot untold)
   suits Nothing e sound hd untold told = let no : false ≡ true = sym (ap is_open e) ∙ op in cc
-  suits (Begun c) e sound hd untold told = tt
+  suits (Begun c) e sound hd untold told = first_suits c (sym (ap kind_in e))
   suits (Cleaning c) e sound hd untold told = clean_suits (Cleaning c) e (cleaning_awaits c) (plans.Asks c) (hd.at.0, sym (ap kind_in e)) s.context.spot refl hd.at.2 untold
   suits (Own c) e sound hd untold told = own_suits c e hd
+  suits Giving e sound hd untold told = tt
   suits (Arranging n) e sound hd untold told = clean_suits (Arranging n) e (arranging_awaits n) (plans.Arranges n) (hd.at.1, sym (ap kind_in e)) s.context.spot refl hd.at.2 untold
   suits Reading e sound hd true told = tt
   suits Reading e sound hd false told = read_suits e told s.context.spot refl hd.at.1
@@ -471,6 +599,7 @@ module _ (s : Seen) (h : History) (st : Stands s h) (op : is_open s.task ≡ tru
   answer_cause (answers.Row row) new d = tt
   answer_cause answers.SetEnd new d = tt
   answer_cause answers.NoSet new d = nothing_left d.does
+  answer_cause (answers.Stmt statement) new d = tt
 
 pub each_fault : EachFault
 each_fault s h st op e is = because s h st op e is

@@ -9,10 +9,10 @@ use Rattle.my_session.specs.declared.answer.SessionStep.TheVariants as steps
 use Rattle.my_session.specs.declared.answer.Tick.{Tick}
 use Rattle.my_session.specs.declared.answer.Tick.TheVariants as ticks
 use Rattle.my_reading.specs.declared.call.CallKind.{CallKind}
-use Rattle.my_reading.specs.declared.call.CallKind.TheVariants.{Connect, Query, NextRow, DropResult, TakeSet, SkipTaken, Ping, Quit}
+use Rattle.my_reading.specs.declared.call.CallKind.TheVariants.{Connect, Query, Prepare, Execute, CloseStmt, NextRow, DropResult, TakeSet, SkipTaken, Ping, Quit}
 use Rattle.my_session.specs.declared.task.LinkFault.{LinkFault}
 use Rattle.my_session.specs.declared.task.Task.{Task}
-use Rattle.my_session.specs.declared.task.Task.TheVariants.{Nothing, Begun, Cleaning, Own, Arranging, Reading, Dropping, Taking, Skipping, Leaving, Failing}
+use Rattle.my_session.specs.declared.task.Task.TheVariants.{Nothing, Begun, Cleaning, Own, Giving, Arranging, Reading, Dropping, Taking, Skipping, Leaving, Failing}
 use Rattle.my_reading.specs.declared.error.Error.{Error}
 use Rattle.my_reading.specs.declared.error.Error.TheVariants as errors
 use Rattle.my_reading.specs.Calls.{asks, is_connect}
@@ -20,7 +20,7 @@ use Rattle.my_session.specs.Tasks.{kind_in, fault_in}
 use Rattle.my_session.specs.Entries.{Entry}
 use Rattle.my_session.specs.LinkErrors.{link_error}
 use Rattle.my_session.specs.Fits.{may_be_told, AnswerFits, FaultFits, ErrorFits, is_begun, WasStepped, StepFits, EachAnswerFits}
-use Rattle.my_reading.specs.Told.{Told, ToldReady, ToldRow, ToldEnd, ToldNone, ToldError, Dropped, told}
+use Rattle.my_reading.specs.Told.{Told, ToldReady, ToldRow, ToldEnd, ToldNone, ToldStatement, ToldError, Dropped, told}
 use Rattle.my_session.specs.Machine.{Doing, Goes, Passes, Sends, Needs, Tells, Did, Does, FaultIs, doing, when_owed, next_by, next}
 use Rattle.my_session.specs.Seen.{Seen}
 use Rattle.my_session.specs.Stands.{TaskIs, OwnAt, owes}
@@ -101,6 +101,7 @@ error_in (Tells ToldReady) = errors.NoMemory
 error_in (Tells (ToldRow row)) = errors.NoMemory
 error_in (Tells ToldEnd) = errors.NoMemory
 error_in (Tells ToldNone) = errors.NoMemory
+error_in (Tells (ToldStatement statement)) = errors.NoMemory
 error_in (Tells (ToldError e)) = e
 error_in (Tells (Dropped closing)) = errors.NoMemory
 
@@ -141,6 +142,9 @@ last_fits old here new (steps.Fault e) u d = let m = next_fits here u.proper u.q
 own_proper : (c : CallKind) (spot : Spot) (connected : Bool) (count : ℕ) (newest : Entry) → OwnAt c spot connected count newest → (asks c || is_connect c) ≡ true
 own_proper Connect spot connected count newest w = refl
 own_proper Query spot connected count newest w = refl
+own_proper Prepare spot connected count newest w = refl
+own_proper Execute spot connected count newest w = refl
+own_proper CloseStmt spot connected count newest w = refl
 own_proper NextRow spot connected count newest w = absurd w
 own_proper DropResult spot connected count newest w = absurd w
 own_proper TakeSet spot connected count newest w = absurd w
@@ -153,6 +157,7 @@ task_proper Nothing spot closed connected count newest w = refl
 task_proper (Begun c) spot closed connected count newest w = refl
 task_proper (Cleaning c) spot closed connected count newest w = w.0
 task_proper (Own c) spot closed connected count newest w = own_proper c spot connected count newest w
+task_proper Giving spot closed connected count newest w = refl
 task_proper (Arranging n) spot closed connected count newest w = refl
 task_proper Reading spot closed connected count newest w = refl
 task_proper Dropping spot closed connected count newest w = refl
@@ -166,6 +171,7 @@ begun_owes Nothing e = cc
 begun_owes (Begun c) e = refl
 begun_owes (Cleaning c) e = cc
 begun_owes (Own c) e = cc
+begun_owes Giving e = cc
 begun_owes (Arranging n) e = cc
 begun_owes Reading e = cc
 begun_owes Dropping e = cc

@@ -15,10 +15,11 @@ use Rattle.my_reading.specs.declared.error.ServerError.{ServerError}
 use Rattle.my_reading.specs.declared.call.Call.{Call}
 use Rattle.my_reading.specs.declared.call.Call.TheVariants as calls
 use Rattle.my_session.specs.declared.task.Task.{Task}
-use Rattle.my_session.specs.declared.task.Task.TheVariants.{Nothing, Begun, Cleaning, Own, Arranging, Reading, Dropping, Taking, Skipping, Leaving, Failing}
-use Rattle.my_reading.specs.Calls.{kind_of as call_kind, call_of, is_connect}
+use Rattle.my_session.specs.declared.task.Task.TheVariants.{Nothing, Begun, Cleaning, Own, Giving, Arranging, Reading, Dropping, Taking, Skipping, Leaving, Failing}
+use Rattle.my_reading.specs.Calls.{kind_of as call_kind, call_of}
+use Rattle.my_reading.specs.declared.call.CallKind.TheVariants.{Prepare}
 use Rattle.my_session.specs.Tasks.{kind_in}
-use Rattle.my_session.specs.Entries.{Entry, AllGiven, IsGiven, calls_in, OwnsFirst, IsTied}
+use Rattle.my_session.specs.Entries.{Entry, AllGiven, IsGiven, calls_in, owns_more, OwnsFirst, IsTied}
 use Rattle.my_session.specs.Groups.{Group}
 use Rattle.my_session.specs.History.{Made}
 use Rattle.my_session.specs.Law.{in_order, talks, origins, shares, errors_along, at_most_one, AreGiven, AreOf, EachHistory}
@@ -59,7 +60,7 @@ given_in_order [] a = tt
 given_in_order (e ∷ es) a = push (in_order (shares es)) (in_order (talks es)) e.given e.talk (given_in_order es a.1) a.0
 
 -- whose the exchanges are: the login is none before the greeting
-own_older : (c : Call) (made : List Made) (older : List Call) → IsTied made older ⊎ ((is_connect (call_kind c) ≡ true) × OwnsFirst c older (IsTied made)) → AreOf (Some c) made older
+own_older : (c : Call) (made : List Made) (older : List Call) → IsTied made older ⊎ ((owns_more (call_kind c) ≡ true) × OwnsFirst c older (IsTied made)) → AreOf (Some c) made older
 own_older c made older (inl t) = inr t
 own_older c made older (inr o) = inl o.1
 
@@ -67,36 +68,38 @@ own_open : (b : Bool) (c call : Call) (made : List Made) (older : List Call) →
 own_open true c call made older o = own_older c made older o.1
 own_open false c call made older o = inl o
 
-pub calls_are : (t : Task) (text : List ℕ) (spot : Spot) (made : List Made) (call : Call) (older : List Entry) → TieIs t text spot made call older → AreOf (call_with (kind_in t) text) made (begun_of spot call older)
-calls_are Nothing text spot made call older w = inr w
-calls_are (Begun c) text spot made call older w = inr w
-calls_are (Cleaning c) text spot made call older w = inr w
-calls_are (Own c) text spot made call older w = own_open (is_greeting spot) (call_of c text) call made (calls_in older) (sym w.0, inl w.1)
-calls_are (Arranging n) text spot made call older w = own_open (is_greeting spot) calls.Connect call made (calls_in older) w
-calls_are Reading text spot made call older w = inr w
-calls_are Dropping text spot made call older w = inr w
-calls_are Taking text spot made call older w = inr w
-calls_are Skipping text spot made call older w = inr w
-calls_are Leaving text spot made call older w = inr w
-calls_are (Failing c fault) text spot made call older w =
-    elim w as (λ _. AreOf (Some (call_of c text)) made (begun_of spot call older)) [
-      | inl v ↦ own_open (is_greeting spot) (call_of c text) call made (calls_in older) v
+pub calls_are : (t : Task) (opened : Call) (spot : Spot) (made : List Made) (call : Call) (older : List Entry) → TieIs t opened spot made call older → AreOf (call_with (kind_in t) opened) made (begun_of spot call older)
+calls_are Nothing opened spot made call older w = inr w
+calls_are (Begun c) opened spot made call older w = inr w
+calls_are (Cleaning c) opened spot made call older w = inr w
+calls_are (Own c) opened spot made call older w = own_open (is_greeting spot) (call_of c opened) call made (calls_in older) (sym w.0, inl w.1)
+calls_are Giving opened spot made call older w = own_open (is_greeting spot) (call_of Prepare opened) call made (calls_in older) w
+calls_are (Arranging n) opened spot made call older w = own_open (is_greeting spot) calls.Connect call made (calls_in older) w
+calls_are Reading opened spot made call older w = inr w
+calls_are Dropping opened spot made call older w = inr w
+calls_are Taking opened spot made call older w = inr w
+calls_are Skipping opened spot made call older w = inr w
+calls_are Leaving opened spot made call older w = inr w
+calls_are (Failing c fault) opened spot made call older w =
+    elim w as (λ _. AreOf (Some (call_of c opened)) made (begun_of spot call older)) [
+      | inl v ↦ own_open (is_greeting spot) (call_of c opened) call made (calls_in older) v
       | inr v ↦ inr v
     ]
 
 -- at rest nothing is owed
-pub rests_owe : (t : Task) (text : List ℕ) → call_with (kind_in t) text ≡ None → owes t ≡ false
-rests_owe Nothing text e = refl
-rests_owe (Begun c) text e = cc
-rests_owe (Cleaning c) text e = cc
-rests_owe (Own c) text e = cc
-rests_owe (Arranging n) text e = cc
-rests_owe Reading text e = cc
-rests_owe Dropping text e = cc
-rests_owe Taking text e = cc
-rests_owe Skipping text e = cc
-rests_owe Leaving text e = cc
-rests_owe (Failing c fault) text e = cc
+pub rests_owe : (t : Task) (opened : Call) → call_with (kind_in t) opened ≡ None → owes t ≡ false
+rests_owe Nothing opened e = refl
+rests_owe (Begun c) opened e = cc
+rests_owe (Cleaning c) opened e = cc
+rests_owe (Own c) opened e = cc
+rests_owe Giving opened e = cc
+rests_owe (Arranging n) opened e = cc
+rests_owe Reading opened e = cc
+rests_owe Dropping opened e = cc
+rests_owe Taking opened e = cc
+rests_owe Skipping opened e = cc
+rests_owe Leaving opened e = cc
+rests_owe (Failing c fault) opened e = cc
 
 unfoldable pub each_history : EachHistory
 each_history s h st =
@@ -113,8 +116,8 @@ each_history s h st =
         older = es;
         table = st.wire.table;
         calls = subst (λ (c : Option Call). AreOf c h.calls (begun_of (context_of e.talk).spot e.call es)) (sym st.heard.pending_is)
-            (subst (λ (c : Context). AreOf (call_with (kind_in s.task) s.text) h.calls (begun_of c.spot e.call es)) st.wire.context_is
-            (calls_are s.task s.text s.context.spot h.calls e.call es st.heard.tie));
+            (subst (λ (c : Context). AreOf (call_with (kind_in s.task) s.call) h.calls (begun_of c.spot e.call es)) st.wire.context_is
+            (calls_are s.task s.call s.context.spot h.calls e.call es st.heard.tie));
         arranged = st.arranged;
         unread = s.unread;
         taken = st.wire.taken_is;
@@ -124,7 +127,7 @@ each_history s h st =
         rest = st.wire.cut;
         sent = st.wire.sent_is;
         all = st.wire.all_is;
-        whole = λ none alive. sym (st.wire.owed_is (st.heard.closed_is ∙ alive)) ∙ st.settled (rests_owe s.task s.text (sym st.heard.pending_is ∙ none));
+        whole = λ none alive. sym (st.wire.owed_is (st.heard.closed_is ∙ alive)) ∙ st.settled (rests_owe s.task s.call (sym st.heard.pending_is ∙ none));
         answered = st.wire.answered;
         given_is = st.heard.given_is;
         read = read;

@@ -1,8 +1,10 @@
 pub mod Ends
+pub mod Executing
 pub mod Faults
 pub mod Fits
 pub mod History
 pub mod Mirror
+pub mod Refusals
 pub mod SettingsLaw
 pub mod Stands
 pub mod Steps

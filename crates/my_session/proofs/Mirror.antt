@@ -32,6 +32,7 @@ no_error answers.Ready e is = cc
 no_error (answers.Row row) e is = cc
 no_error answers.SetEnd e is = cc
 no_error answers.NoSet e is = cc
+no_error (answers.Stmt statement) e is = cc
 
 module _ (s new : Seen) (bytes : AreBytes s.unread) (call : Call) (parts : List Part) (p : Place) (o : OpenAt s call parts p) where
   here : MoveReads s call parts p (next s)

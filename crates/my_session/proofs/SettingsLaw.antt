@@ -8,12 +8,14 @@ use Rattle.my_grammar.specs.declared.spot.Kind.{Kind}
 use Rattle.my_grammar.specs.declared.spot.Kind.TheVariants as kinds
 use Rattle.my_grammar.specs.Sets.{each}
 use Rattle.my_reply.specs.Column.{column_at}
+use Rattle.my_reply.specs.declared.replies.PrepareOk.{PrepareOk}
+use Rattle.my_reply.specs.Replies.{prepare_ok_at}
 use Rattle.my_handshake.specs.Greeting.{greeting_at}
 use Rattle.my_reading.specs.declared.facts.Facts.{Facts}
 use Rattle.my_reading.specs.declared.settings.Settings.{Settings}
 use Rattle.my_reading.specs.declared.settings.Stage.{Stage}
 use Rattle.my_reading.specs.declared.settings.Stage.TheVariants.{Unasked, Asked, Known}
-use Rattle.my_reading.specs.Facts.{with_greeting, with_column, facts_after, facts_by}
+use Rattle.my_reading.specs.Facts.{with_greeting, with_column, with_head, with_parameter, with_field, facts_after, facts_by}
 use Rattle.my_grammar.specs.declared.spot.RowFormat.TheVariants.{Text}
 use Rattle.my_reading.specs.Rows.{row_at}
 use Rattle.my_reading.specs.Settings.{in_force, settled, good_settings, end_settings, awaits_row, row_settings, told_by}
@@ -96,6 +98,19 @@ column_says_none : (c : Option Column) (f : Facts) → (with_column c f).setting
 column_says_none None f = refl
 column_says_none (Some c) f = either_settings _ _ _ f.settings refl refl
 
+-- nor does the reply to a statement to prepare
+head_says_none : (o : Option PrepareOk) (f : Facts) → (with_head o f).settings ≡ f.settings
+head_says_none None f = refl
+head_says_none (Some ok) f = refl
+
+parameter_says_none : (c : Option Column) (f : Facts) → (with_parameter c f).settings ≡ f.settings
+parameter_says_none None f = refl
+parameter_says_none (Some c) f = refl
+
+field_says_none : (c : Option Column) (f : Facts) → (with_field c f).settings ≡ f.settings
+field_says_none None f = refl
+field_says_none (Some c) f = refl
+
 -- once the settings are known, no payload changes them
 payload_known : (k : Kind) (p : List ℕ) (f : Facts) → f.settings.stage ≡ Known → (facts_after k p f).settings ≡ f.settings
 payload_known (kinds.Greets capabilities) p f e = greeting_says_none (greeting_at p) f
@@ -106,9 +121,9 @@ payload_known kinds.Column p f e = column_says_none (column_at p) f
 payload_known kinds.ColumnsDone p f e = refl
 payload_known kinds.Row p f e = row_known (row_at Text f.columns p) f.settings e
 payload_known (kinds.End status) p f e = end_known f.settings.stage f.settings e
-payload_known (kinds.Prepared params columns) p f e = refl
-payload_known kinds.Parameter p f e = refl
-payload_known kinds.Field p f e = refl
+payload_known (kinds.Prepared params columns) p f e = head_says_none (prepare_ok_at p) f
+payload_known kinds.Parameter p f e = parameter_says_none (column_at p) f
+payload_known kinds.Field p f e = field_says_none (column_at p) f
 payload_known kinds.Bad p f e = refl
 
 all_known : (f : Facts) (packets : List Packet) → f.settings.stage ≡ Known → (facts_by packets f).settings ≡ f.settings

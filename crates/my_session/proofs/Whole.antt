@@ -18,6 +18,7 @@ use Rattle.my_reading.specs.declared.error.IoError.TheVariants as ios
 use Rattle.my_reading.specs.declared.error.IoKind.{IoKind}
 use Rattle.my_reading.specs.declared.error.IoKind.TheVariants.{Link, Dial, UnexpectedEof, InvalidData}
 use Rattle.my_reading.specs.declared.error.ServerError.{ServerError}
+use Rattle.my_reading.specs.Statements.{Statements}
 use Rattle.my_session.specs.Causes.{found, Cause, IoCause, IoErrorCause, IsRefused}
 use Rattle.my_session.specs.Complete.{AreWhole, OutsideKind, OutsideIo, IsOutside, EachWholeCall}
 use Rattle.my_session.specs.Entries.{Entry}
@@ -65,7 +66,7 @@ module _ (es : List Entry) (own : List Talk) (taken more : List ℕ) (w : AreWho
       let last : cut (in_order (origins es) ++ own) (taken ++ more) ≡ record { talks = (found es taken).talks ++ (cut own (bytes ++ more)).talks; rest = (cut own (bytes ++ more)).rest } = subst (λ (c : Cut). RestGoesOn own c.talks c.rest (cut (in_order (origins es) ++ own) (taken ++ more))) stays (cut_goes_on (in_order (origins es)) own (taken ++ more)) in
       sym (along_more (found es taken).talks (cut own (bytes ++ more)).talks) ∙ ap length (sym (ap (λ (c : Cut). errors_along c.talks) last) ∙ w.no_error)
 
-module _ (login : Login) (made : Option LinkFault) (unread : List ℕ) (h : History) (newest : Entry) (older : List Entry) (own : List Talk) (more : List ℕ) (w : AreWhole (newest ∷ older) own (h.taken ++ more)) where
+module _ (login : Login) (made : Option LinkFault) (known : Statements) (unread : List ℕ) (h : History) (newest : Entry) (older : List Entry) (own : List Talk) (more : List ℕ) (w : AreWhole (newest ∷ older) own (h.taken ++ more)) where
   refused_never : (e : ServerError) → IsRefused unread h newest older e → ⊥
   refused_never e r =
       let all = after_stays (newest ∷ older) own h.taken more w r.rest (r.rest_is) in
@@ -76,18 +77,19 @@ module _ (login : Login) (made : Option LinkFault) (unread : List ℕ) (h : Hist
       let c = one_error newest.talk r.payload r.packet r.kind r.reads in
       absurd (omega (arith, all, a, b, c))
 
-  kind_outside : (kind : IoKind) → IoCause made unread h (newest ∷ older) kind → OutsideKind made h kind
+  kind_outside : (kind : IoKind) → IoCause made known unread h newest older kind → OutsideKind made known unread h newest kind
   kind_outside Link c = c
   kind_outside Dial c = c
   kind_outside UnexpectedEof c = c.0
-  kind_outside InvalidData c = unfit_never (newest ∷ older) own h.taken more w c.payload unread c.stops.rest_is
+  kind_outside InvalidData (inl c) = absurd (unfit_never (newest ∷ older) own h.taken more w c.payload unread c.stops.rest_is)
+  kind_outside InvalidData (inr c) = c
 
-  io_outside : (e : IoError) → IoErrorCause login made unread h newest older e → OutsideIo login made unread h newest older e
+  io_outside : (e : IoError) → IoErrorCause login made known unread h newest older e → OutsideIo login made known unread h newest older e
   io_outside (ios.Io fault) c = kind_outside fault.kind c.1
   io_outside (ios.Codec fault) (inl c) = absurd (blamed_never (newest ∷ older) own h.taken more w fault unread c.rest_is)
   io_outside (ios.Codec fault) (inr c) = c
 
-  pub is_outside : (e : Error) → Cause login made unread h newest older e → IsOutside login made unread h newest older e
+  pub is_outside : (e : Error) → Cause login made known unread h newest older e → IsOutside login made known unread h newest older e
   is_outside (errors.Driver e) c = c
   is_outside (errors.Io e) c = io_outside e c
   is_outside (errors.Server e) c = refused_never e c
@@ -96,4 +98,4 @@ module _ (login : Login) (made : Option LinkFault) (unread : List ℕ) (h : Hist
   is_outside errors.NoMemory c = tt
 
 pub each_whole_call : EachWholeCall
-each_whole_call login made h e b own more w = is_outside login made b.law.unread h b.law.newest b.law.older own more w e b.cause
+each_whole_call login made known h e b own more w = is_outside login made known b.law.unread h b.law.newest b.law.older own more w e b.cause

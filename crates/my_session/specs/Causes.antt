@@ -6,14 +6,18 @@ use Rattle.my_frame.specs.declared.fault.CodecFault.{CodecFault}
 use Rattle.my_frame.specs.declared.fault.CodecFault.TheVariants.{TooLarge}
 use Rattle.my_reply.specs.declared.err.ErrPacket.{ErrPacket}
 use Rattle.my_reply.specs.ErrPacket.{err_at}
+use Rattle.my_reply.specs.Replies.{prepare_ok_at}
 use Rattle.my_frame.specs.Front.{Whole}
-use Rattle.my_grammar.specs.declared.spot.Kind.TheVariants.{Greets, Failed}
+use Rattle.my_grammar.specs.declared.spot.Kind.TheVariants.{Greets, Failed, Prepared}
 use Rattle.my_grammar.specs.declared.login.Login.{Login}
 use Rattle.my_grammar.specs.Cut.{Cut, Rest, Trailing, Unfinished, Unfit, Blamed, cut, place_of, front_of, kind_of}
 use Rattle.my_grammar.specs.Growth.{grow}
 use Rattle.my_grammar.specs.Response.{response}
-use Rattle.my_grammar.specs.Talk.{Talk, context_of, limit_of}
+use Rattle.my_grammar.specs.Talk.{Talk, commands_in, context_of, limit_of}
+use Rattle.my_params.specs.declared.params.Params.{Params}
+use Rattle.my_statements.specs.Prepared.{StatementView}
 use Rattle.my_reading.specs.declared.call.Call.{Call}
+use Rattle.my_reading.specs.declared.call.Call.TheVariants as calls
 use Rattle.my_session.specs.declared.task.LinkFault.{LinkFault}
 use Rattle.my_session.specs.declared.task.LinkFault.TheVariants as faults
 use Rattle.my_reading.specs.declared.error.Error.{Error}
@@ -30,13 +34,15 @@ use Rattle.my_reading.specs.declared.answer.Answer.TheVariants as answers
 use Rattle.my_session.specs.declared.answer.SessionStep.{SessionStep}
 use Rattle.my_session.specs.declared.answer.SessionStep.TheVariants as steps
 use Rattle.my_session.specs.Tasks.{fault_in, is_open, kind_in}
-use Rattle.my_reading.specs.Commands.{opening, command_in}
-use Rattle.my_session.specs.Entries.{Entry, terms_by, connecting_in}
+use Rattle.my_reading.specs.Course.{first_above}
+use Rattle.my_reading.specs.Executions.{Unfitting, values_for}
+use Rattle.my_reading.specs.Statements.{Statements, is_mixed_text}
+use Rattle.my_session.specs.Entries.{Entry, Opens, terms_by, connecting_in}
 use Rattle.my_reading.specs.Errors.{server_error}
 use Rattle.my_reading.specs.Told.{Told, ToldError}
 use Rattle.my_session.specs.History.{History, passing}
 use Rattle.my_session.specs.Law.{IsLawful, Says, in_order, talks, origins}
-use Rattle.my_session.specs.Machine.{Tells, is_greeting, next}
+use Rattle.my_session.specs.Machine.{Tells, is_cached_in, is_greeting, next}
 use Rattle.my_session.specs.Seen.{Seen}
 use Rattle.my_session.specs.Stands.{Stands}
 use Rattle.my_session.specs.Passed.{ArePassed}
@@ -60,14 +66,39 @@ pub record IsUnfit (es : List Entry) (taken unread : List ℕ) : Type 0 where
   pub payload : List ℕ
   pub stops : Stops es taken (Unfit payload unread)
 
--- The next command of the open call is longer than the settings allow.
+-- the reply to a statement to prepare follows, and has the id of one that is still cached
+pub record IsDoubled (st : Statements) (unread : List ℕ) (newest : Talk) : Type 0 where
+  pub payload : List ℕ
+  pub rest : List ℕ
+  pub number : ℕ
+  pub params : ℕ
+  pub columns : ℕ
+  pub front : front_of newest unread ≡ Whole payload rest number
+  pub kind : kind_of newest payload ≡ Prepared params columns
+  pub cached : is_cached_in st (prepare_ok_at payload) ≡ true
+
+-- The next command of the open call, the first of several that is, is longer than the settings allow.
 pub record IsLongCommand (login : Login) (h : History) (es : List Entry) (fault : CodecFault) : Type 0 where
   pub call : Call
   pub pending : h.pending ≡ Some call
   pub talk : Talk
-  pub opens : opening login (terms_by login es) call (connecting_in es) ≡ Some talk
-  pub above : (terms_by login es).limit < length (command_in talk)
-  pub fault_is : fault ≡ TooLarge (length (command_in talk)) (terms_by login es).limit
+  pub opens : Opens login (terms_by login es) call (connecting_in es) talk
+  pub len : ℕ
+  pub above : first_above (terms_by login es).limit (commands_in talk) ≡ Some len
+  pub fault_is : fault ≡ TooLarge len (terms_by login es).limit
+
+-- The parameters of the open call, an execution, are refused so.
+pub record IsUnfitting (h : History) (e : DriverError) : Type 0 where
+  pub statement : StatementView
+  pub params : Params
+  pub pending : h.pending ≡ Some (calls.Execute statement params)
+  pub refused : values_for statement params ≡ Unfitting e
+
+-- The open call is to prepare a text with both names and marks.
+pub record IsMixed (h : History) : Type 0 where
+  pub text : List ℕ
+  pub pending : h.pending ≡ Some (calls.Prepare text)
+  pub mixed : is_mixed_text text ≡ true
 
 -- The greeting follows, and the client's response to it is longer than a payload may be.
 pub record IsLongResponse (login : Login) (unread : List ℕ) (talk : Talk) (fault : CodecFault) : Type 0 where
@@ -93,45 +124,51 @@ pub record IsRefused (unread : List ℕ) (h : History) (newest : Entry) (older :
   pub talks_are : (found (newest ∷ older) h.taken).talks ≡ in_order (talks older) ++ grow Failed newest.talk payload ∷ []
   pub rest_is : (found (newest ∷ older) h.taken).rest ≡ Trailing rest
 
--- The call was made to fail; the link reported its end, while a payload was awaited that isn't whole; a payload fits no case. No other.
-abbrev pub IoCause : Option LinkFault → List ℕ → History → List Entry → IoKind → Type 0
-IoCause made unread h es Link = made ≡ Some faults.Link
-IoCause made unread h es Dial = ⊥
-IoCause made unread h es UnexpectedEof = (h.ended ≡ true) × Stops es h.taken (Unfinished unread)
-IoCause made unread h es InvalidData = IsUnfit es h.taken unread
+-- The call was made to fail; the link reported its end, while a payload was awaited that isn't whole; a payload fits no case, or has the id of
+-- a statement that is still cached. No other.
+abbrev pub IoCause : Option LinkFault → Statements → List ℕ → History → Entry → List Entry → IoKind → Type 0
+IoCause made st unread h newest older Link = made ≡ Some faults.Link
+IoCause made st unread h newest older Dial = ⊥
+IoCause made st unread h newest older UnexpectedEof = (h.ended ≡ true) × Stops (newest ∷ older) h.taken (Unfinished unread)
+IoCause made st unread h newest older InvalidData = IsUnfit (newest ∷ older) h.taken unread ⊎ IsDoubled st unread newest.talk
 
 -- The first faulty header has this fault; or what the client was to send is too long.
 abbrev pub CodecCause : Login → List ℕ → History → Entry → List Entry → CodecFault → Type 0
 CodecCause login unread h newest older fault = Stops (newest ∷ older) h.taken (Blamed fault unread)
     ⊎ (IsLongCommand login h (newest ∷ older) fault ⊎ IsLongResponse login unread newest.talk fault)
 
--- A closed session refuses as a call begins, and in no step.
-abbrev pub DriverCause : Option LinkFault → DriverError → Type 0
-DriverCause made drivers.TooLong = made ≡ Some faults.TooLong
-DriverCause made e = ⊥
+-- A text or parameters are refused. A closed session refuses as a call begins, and in no step.
+abbrev pub DriverCause : Option LinkFault → History → DriverError → Type 0
+DriverCause made h drivers.MixedParams = IsMixed h
+DriverCause made h (drivers.Params e) = IsUnfitting h (drivers.Params e)
+DriverCause made h (drivers.StmtParamsMismatch required supplied) = IsUnfitting h (drivers.StmtParamsMismatch required supplied)
+DriverCause made h (drivers.StmtParamsNumberExceedsLimit supplied) = IsUnfitting h (drivers.StmtParamsNumberExceedsLimit supplied)
+DriverCause made h drivers.TooLong = made ≡ Some faults.TooLong
+DriverCause made h e = ⊥
 
-abbrev pub IoErrorCause : Login → Option LinkFault → List ℕ → History → Entry → List Entry → IoError → Type 0
-IoErrorCause login made unread h newest older (ios.Io fault) = (fault.place ≡ place_in (newest ∷ older))
-    × IoCause made unread h (newest ∷ older) fault.kind
-IoErrorCause login made unread h newest older (ios.Codec fault) = CodecCause login unread h newest older fault
+abbrev pub IoErrorCause : Login → Option LinkFault → Statements → List ℕ → History → Entry → List Entry → IoError → Type 0
+IoErrorCause login made st unread h newest older (ios.Io fault) = (fault.place ≡ place_in (newest ∷ older))
+    × IoCause made st unread h newest older fault.kind
+IoErrorCause login made st unread h newest older (ios.Codec fault) = CodecCause login unread h newest older fault
 
--- Why the open call returns this error, where it was made to fail so, or wasn't, and these bytes weren't read; out of memory is free.
-abbrev pub Cause : Login → Option LinkFault → List ℕ → History → Entry → List Entry → Error → Type 0
-Cause login made unread h newest older (errors.Driver e) = DriverCause made e
-Cause login made unread h newest older (errors.Io e) = IoErrorCause login made unread h newest older e
-Cause login made unread h newest older (errors.Server e) = IsRefused unread h newest older e
-Cause login made unread h newest older (errors.Url e) = ⊥
-Cause login made unread h newest older (errors.Other e) = ⊥
-Cause login made unread h newest older errors.NoMemory = Unit {0}
+-- Why the open call returns this error, where it was made to fail so, or wasn't, these statements are known, and these bytes weren't read;
+-- out of memory is free.
+abbrev pub Cause : Login → Option LinkFault → Statements → List ℕ → History → Entry → List Entry → Error → Type 0
+Cause login made st unread h newest older (errors.Driver e) = DriverCause made h e
+Cause login made st unread h newest older (errors.Io e) = IoErrorCause login made st unread h newest older e
+Cause login made st unread h newest older (errors.Server e) = IsRefused unread h newest older e
+Cause login made st unread h newest older (errors.Url e) = ⊥
+Cause login made st unread h newest older (errors.Other e) = ⊥
+Cause login made st unread h newest older errors.NoMemory = Unit {0}
 
 -- The cause, over the exchanges that the history's law speaks of.
-pub record Because (login : Login) (made : Option LinkFault) (h : History) (e : Error) : Type 0 where
+pub record Because (login : Login) (made : Option LinkFault) (st : Statements) (h : History) (e : Error) : Type 0 where
   pub law : IsLawful login h
-  pub cause : Cause login made law.unread h law.newest law.older e
+  pub cause : Cause login made st law.unread h law.newest law.older e
 
 -- so it is of a session's open call
 abbrev pub SessionBecause : Seen → History → Error → Type 0
-SessionBecause s h e = Because s.login (fault_in s.task) h e
+SessionBecause s h e = Because s.login (fault_in s.task) s.statements h e
 
 abbrev pub EachFault : Type 0
 EachFault = (s : Seen) (h : History) → Stands s h → is_open s.task ≡ true → (e : Error) → (next s).does ≡ Tells (ToldError e) → SessionBecause s h e

@@ -15,7 +15,8 @@ use Rattle.my_reading.specs.declared.call.CallKind.{CallKind}
 use Rattle.my_reading.specs.declared.call.CallKind.TheVariants as callkinds
 use Rattle.my_reading.specs.declared.facts.Facts.{Facts}
 use Rattle.my_reading.specs.Calls.{kind_of, is_connect}
-use Rattle.my_reading.specs.Commands.{opening}
+use Rattle.my_reading.specs.Commands.{closing, opening}
+use Rattle.my_reading.specs.Statements.{Statements}
 use Rattle.my_reading.specs.Facts.{first_facts, facts_by}
 use Rattle.my_session.specs.Groups.{Group, groups, IsEarlier}
 use Rattle.my_reading.specs.Told.{Told, ToldReady}
@@ -55,10 +56,17 @@ abbrev pub connecting_in : List Entry → ℕ
 connecting_in [] = 0
 connecting_in (e ∷ es) = if is_connect (kind_of e.call) then suc (connecting_in es) else connecting_in es
 
--- each exchange is the one that the table has for its call, and for its place among those of connecting
+-- The exchange is the one that the table has for the call, and for its place among those of connecting, where some prepared statements are
+-- known; or it is the close of a statement, which a call that prepares one may begin, too. Which statements are known, and which of them is
+-- closed, says the reading of the connection (`Mirror`).
+abbrev pub Opens : Login → Terms → Call → ℕ → Talk → Type 0
+Opens login terms call n t = ((st : Statements) × (opening login terms st call n ≡ Some t))
+    ⊎ ((id : ℕ) × (kind_of call ≡ callkinds.Prepare) × (closing terms id ≡ t))
+
+-- so is each exchange
 abbrev pub Follow : Login → List Entry → Type 0
 Follow login [] = Unit {0}
-Follow login (e ∷ es) = (opening login (terms_by login es) e.call (connecting_in es) ≡ Some (origin e.talk)) × Follow login es
+Follow login (e ∷ es) = Opens login (terms_by login es) e.call (connecting_in es) (origin e.talk) × Follow login es
 
 -- each is one that the protocol has, and is over
 abbrev pub AllDone : List Entry → Type 0
@@ -116,12 +124,18 @@ abbrev pub calls_in : List Entry → List Call
 calls_in [] = []
 calls_in (e ∷ es) = e.call ∷ calls_in es
 
--- the first of these exchanges is the call's own; connecting may have more than one
+-- connecting may have more than one exchange, and a statement to prepare its own and the close of another one
+abbrev pub owns_more : CallKind → Bool
+owns_more callkinds.Connect = true
+owns_more callkinds.Prepare = true
+owns_more _ = false
+
+-- the first of these exchanges is the call's own
 abbrev pub OwnsFirst : Call → List Call → (List Call → Type 0) → Type 0
 OwnsFirst call [] rest = ⊥
-OwnsFirst call (c ∷ cs) rest = (call ≡ c) × (rest cs ⊎ ((is_connect (kind_of call) ≡ true) × OwnsFirst call cs rest))
+OwnsFirst call (c ∷ cs) rest = (call ≡ c) × (rest cs ⊎ ((owns_more (kind_of call) ≡ true) × OwnsFirst call cs rest))
 
--- The exchanges are those of the calls, in their order, at most one each but for connecting; a command that was accepted has one.
+-- The exchanges are those of the calls, in their order, at most one each but for connecting and preparing; a command that was accepted has one.
 abbrev pub IsTied : List Made → List Call → Type 0
 IsTied [] [] = Unit {0}
 IsTied [] (c ∷ cs) = ⊥

@@ -1,12 +1,14 @@
 -- Which answers a call may get, by its kind, and what no step changes.
-use Rattle.std.specs.Prelude.{◌≡◌, ◌⊎◌, ℕ, Option, Some, None, Bool, true, false, not}
+use Rattle.std.specs.Prelude.{◌≡◌, ◌⊎◌, ℕ, Option, Some, None, Bool, true, false, not, ◌||◌}
 use Rattle.my_session.specs.declared.answer.SessionStep.{SessionStep}
 use Rattle.my_session.specs.declared.answer.SessionStep.TheVariants.{Send, Need, Done, Fault}
 use Rattle.my_reading.specs.declared.call.CallKind.{CallKind}
-use Rattle.my_reading.specs.declared.call.CallKind.TheVariants.{NextRow, TakeSet}
+use Rattle.my_reading.specs.declared.call.CallKind.TheVariants.{NextRow, Prepare, TakeSet}
 use Rattle.my_session.specs.declared.task.Task.{Task}
 use Rattle.my_session.specs.declared.task.Task.TheVariants.{Begun}
 use Rattle.my_session.specs.declared.task.LinkFault.{LinkFault}
+use Rattle.my_reading.specs.declared.error.DriverError.{DriverError}
+use Rattle.my_reading.specs.declared.error.DriverError.TheVariants as drivers
 use Rattle.my_reading.specs.declared.error.Error.{Error}
 use Rattle.my_reading.specs.declared.error.Error.TheVariants as errors
 use Rattle.my_reading.specs.declared.error.IoError.{IoError}
@@ -15,7 +17,7 @@ use Rattle.my_reading.specs.declared.error.IoKind.{IoKind}
 use Rattle.my_reading.specs.declared.error.IoKind.TheVariants as kinds
 use Rattle.my_session.specs.Tasks.{kind_in, fault_in}
 use Rattle.my_session.specs.LinkErrors.{link_error}
-use Rattle.my_reading.specs.Told.{Told, ToldReady, ToldNone, ToldError, Dropped, told}
+use Rattle.my_reading.specs.Told.{Told, ToldReady, ToldNone, ToldStatement, ToldError, Dropped, told}
 use Rattle.my_session.specs.History.{History}
 use Rattle.my_session.specs.Seen.{Seen}
 use Rattle.my_session.specs.Stands.{Stands}
@@ -32,10 +34,16 @@ may_lack_sets NextRow = true
 may_lack_sets TakeSet = true
 may_lack_sets _ = false
 
--- a read returns a row, an end, or that nothing is left; each other call returns that it is done, or that nothing is left for a stream; each
--- may fail
+-- the one call that is answered by a statement
+abbrev pub prepares : CallKind → Bool
+prepares Prepare = true
+prepares _ = false
+
+-- a read returns a row, an end, or that nothing is left, and a statement to prepare itself; each other call returns that it is done, or that
+-- nothing is left for a stream; each may fail
 abbrev pub may_be : CallKind → Told → Bool
-may_be c ToldReady = not (reads c)
+may_be c ToldReady = not (reads c || prepares c)
+may_be c (ToldStatement statement) = prepares c
 may_be c ToldNone = may_lack_sets c
 may_be c (ToldError e) = true
 may_be c (Dropped closing) = true
@@ -72,8 +80,16 @@ abbrev pub OwnIo : Bool → IoError → Type 0
 OwnIo ended (ios.Io fault) = OwnKind ended fault.kind
 OwnIo ended (ios.Codec fault) = Unit {0}
 
+-- the driver refuses parameters alone
+abbrev pub OwnDriver : DriverError → Type 0
+OwnDriver drivers.MixedParams = Unit {0}
+OwnDriver (drivers.Params e) = Unit {0}
+OwnDriver (drivers.StmtParamsMismatch required supplied) = Unit {0}
+OwnDriver (drivers.StmtParamsNumberExceedsLimit supplied) = Unit {0}
+OwnDriver _ = ⊥
+
 abbrev pub OwnError : Bool → Error → Type 0
-OwnError ended (errors.Driver e) = ⊥
+OwnError ended (errors.Driver e) = OwnDriver e
 OwnError ended (errors.Io e) = OwnIo ended e
 OwnError ended (errors.Server e) = Unit {0}
 OwnError ended (errors.Url e) = ⊥

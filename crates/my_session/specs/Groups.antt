@@ -1,12 +1,12 @@
 -- The items that callers were given, in one group for each set, the newest first.
-use Rattle.std.specs.Prelude.{◌≡◌, ℕ, List, [], ◌∷◌, ◌++◌, Bool, true, false, if◌then◌else◌}
+use Rattle.std.specs.Prelude.{◌≡◌, ℕ, List, [], ◌∷◌, Bool, true, false, if◌then◌else◌}
 use Rattle.my_reply.specs.declared.column.Column.{Column}
 use Rattle.my_grammar.specs.declared.spot.RowFormat.{RowFormat}
 use Rattle.my_value.specs.RowParts.{RowParts}
 use Rattle.my_grammar.specs.declared.packet.Packet.{Packet}
 use Rattle.my_grammar.specs.Sets.{Sets, NoSets, Lone, Failed, Heading, Headed, Begun, Ended, Broken, format_in, head_columns, grow_sets}
 use Rattle.my_reading.specs.declared.call.CallKind.{CallKind}
-use Rattle.my_reading.specs.declared.call.CallKind.TheVariants.{Query}
+use Rattle.my_reading.specs.declared.call.CallKind.TheVariants.{Query, Execute}
 use Rattle.my_reading.specs.Calls.{kind_of}
 use Rattle.my_reading.specs.Told.{Told, ToldReady, ToldRow, ToldEnd}
 use Rattle.my_session.specs.History.{Made}
@@ -27,7 +27,7 @@ abbrev pub with_stop : List Group → List Group
 with_stop [] = record { rows = []; ended = true } ∷ []
 with_stop (g ∷ gs) = if g.ended then record { rows = []; ended = true } ∷ g ∷ gs else record { rows = g.rows; ended = true } ∷ gs
 
--- what the calls were given, of each query that was answered
+-- what the calls were given, of each query or execution that was answered
 abbrev pub item_given : RowParts → List (List Group) → List (List Group)
 item_given r [] = []
 item_given r (g ∷ gs) = with_item r g ∷ gs
@@ -38,6 +38,7 @@ stop_given (g ∷ gs) = with_stop g ∷ gs
 
 abbrev pub ready_given : CallKind → List (List Group) → List (List Group)
 ready_given Query gs = [] ∷ gs
+ready_given Execute gs = [] ∷ gs
 ready_given _ gs = gs
 
 abbrev pub given_after : Told → CallKind → List (List Group) → List (List Group)

@@ -17,4 +17,5 @@ login_of o = record {
   wait_timeout = o.wait_timeout;
   init = o.init;
   setup = o.setup;
+  statements = o.stmt_cache_size;
 }

@@ -1,5 +1,5 @@
 -- The machine: one move of an open call, as a function.
-use Rattle.std.specs.Prelude.{◌≡◌, ℕ, suc, ◌⊎◌, nat_lt, List, [], ◌∷◌, ◌++◌, length, drop, Option, Some, None, Bool, true, false, ◌&&◌, Result, Ok, Err, if◌then◌else◌}
+use Rattle.std.specs.Prelude.{◌≡◌, ℕ, suc, ◌⊎◌, nat_lt, List, [], ◌∷◌, ◌++◌, length, drop, Option, Some, None, Bool, true, false, ◌&&◌, ◌||◌, Result, Ok, Err, if◌then◌else◌}
 use Rattle.my_frame.specs.declared.fault.CodecFault.TheVariants.{TooLarge}
 use Rattle.my_reply.specs.declared.err.ErrPacket.{ErrPacket}
 use Rattle.my_frame.specs.declared.read_error.ReadError.{ReadError}
@@ -7,18 +7,24 @@ use Rattle.my_frame.specs.declared.read_error.ReadError.TheVariants as reads
 use Rattle.my_frame.specs.Chunks.{chunks, number_after_payload}
 use Rattle.my_frame.specs.Front.{Front, Waiting, Broken, Whole, front_at}
 use Rattle.my_reply.specs.ErrPacket.{err_at}
+use Rattle.my_reply.specs.declared.replies.PrepareOk.{PrepareOk}
+use Rattle.my_reply.specs.Replies.{prepare_ok_at}
 use Rattle.my_value.specs.RowParts.{RowParts}
 use Rattle.my_grammar.specs.declared.login.Login.{Login}
 use Rattle.my_grammar.specs.declared.spot.Spot.{Spot}
 use Rattle.my_grammar.specs.declared.spot.Terms.{Terms}
 use Rattle.my_grammar.specs.declared.spot.Kind.{Kind}
-use Rattle.my_grammar.specs.declared.spot.Kind.TheVariants.{Greets}
+use Rattle.my_grammar.specs.declared.spot.Kind.TheVariants.{Greets, Prepared}
 use Rattle.my_grammar.specs.Contexts.{context_after}
-use Rattle.my_grammar.specs.declared.spot.RowFormat.TheVariants.{Text}
+use Rattle.my_grammar.specs.declared.spot.RowFormat.{RowFormat}
 use Rattle.my_grammar.specs.Kinds.{kind_there}
 use Rattle.my_grammar.specs.Response.{response}
-use Rattle.my_grammar.specs.Talk.{Talk, turns, number_of, client_bytes, context_of}
+use Rattle.my_grammar.specs.Talk.{Talk, turns, number_of, client_bytes, commands_bytes, commands_in, context_of}
+use Rattle.my_statements.specs.Cache.{Held}
+use Rattle.my_reading.specs.declared.call.Call.{Call}
 use Rattle.my_reading.specs.declared.call.CallKind.{CallKind}
+use Rattle.my_reading.specs.declared.call.CallKind.TheVariants.{Prepare, Execute, CloseStmt}
+use Rattle.my_reading.specs.declared.error.DriverError.{DriverError}
 use Rattle.my_session.specs.declared.task.LinkFault.{LinkFault}
 use Rattle.my_session.specs.declared.task.Task.{Task}
 use Rattle.my_session.specs.declared.task.Task.TheVariants as tasks
@@ -31,16 +37,19 @@ use Rattle.my_reading.specs.declared.error.Error.TheVariants as errors
 use Rattle.my_session.specs.declared.session.receiving.Arrival.{Arrival}
 use Rattle.my_session.specs.declared.answer.Tick.{Tick}
 use Rattle.my_session.specs.declared.answer.Tick.TheVariants as ticks
-use Rattle.my_reading.specs.Calls.{call_of}
+use Rattle.my_reading.specs.Calls.{call_of, id_in, params_in, statement_in, text_in}
 use Rattle.my_session.specs.Tasks.{fault_in}
-use Rattle.my_reading.specs.Commands.{command_of, connecting, command_in}
+use Rattle.my_reading.specs.Commands.{closing, command_of, connecting}
+use Rattle.my_reading.specs.Course.{first_above}
 pub use Rattle.my_reading.specs.Course.{is_greeting}
 use Rattle.my_reading.specs.Place.{is_rows}
-use Rattle.my_reading.specs.Errors.{codec_error, invalid_data, unexpected_eof, server_error}
+use Rattle.my_reading.specs.Errors.{codec_error, invalid_data, mixed_params, unexpected_eof, server_error}
+use Rattle.my_reading.specs.Executions.{Values, Fitting, Unfitting, values_for}
 use Rattle.my_session.specs.LinkErrors.{link_error}
 use Rattle.my_session.specs.Found.{IsPlaced, payload_in}
-use Rattle.my_reading.specs.Facts.{facts_after}
-use Rattle.my_reading.specs.Told.{Told, ToldReady, ToldRow, ToldEnd, ToldNone, ToldError, told}
+use Rattle.my_reading.specs.Facts.{facts_after, prepared_by}
+use Rattle.my_reading.specs.Statements.{Statements, emptied, held_in, is_cached, is_mixed_text, leaving, names_of, query_of, statement_with, with_columns, with_fetched, with_prepared, without_statement}
+use Rattle.my_reading.specs.Told.{Told, ToldReady, ToldRow, ToldEnd, ToldNone, ToldStatement, ToldError, told}
 use Rattle.my_session.specs.History.{History, answered, noted}
 use Rattle.my_reading.specs.Rows.{row_at}
 use Rattle.my_session.specs.Seen.{Seen}
@@ -58,16 +67,20 @@ pub record Move : Type 0 where
   pub seen : Seen
   pub does : Doing
 
--- the call ends, the session is closed, and what was owed is dropped
+-- the call ends, the session is closed, what was owed is dropped, and no prepared statement is known any more
 abbrev pub fell : Seen → Seen
-fell s = record { context = s.context; task = tasks.Nothing; text = s.text; untold = s.untold; taken = s.taken; closed = true; ended = s.ended; number = s.number; unread = s.unread; owed = []; facts = s.facts; login = s.login }
+fell s = record { context = s.context; task = tasks.Nothing; call = s.call; untold = s.untold; taken = s.taken; closed = true; ended = s.ended; number = s.number; unread = s.unread; owed = []; facts = s.facts; statements = emptied s.statements; login = s.login }
 
 abbrev pub with_task : Seen → Task → Bool → Seen
-with_task s t untold = record { context = s.context; task = t; text = s.text; untold = untold; taken = s.taken; closed = s.closed; ended = s.ended; number = s.number; unread = s.unread; owed = s.owed; facts = s.facts; login = s.login }
+with_task s t untold = record { context = s.context; task = t; call = s.call; untold = untold; taken = s.taken; closed = s.closed; ended = s.ended; number = s.number; unread = s.unread; owed = s.owed; facts = s.facts; statements = s.statements; login = s.login }
 
 -- a stream takes the set
 abbrev pub with_taken : Seen → Seen
-with_taken s = record { context = s.context; task = s.task; text = s.text; untold = s.untold; taken = true; closed = s.closed; ended = s.ended; number = s.number; unread = s.unread; owed = s.owed; facts = s.facts; login = s.login }
+with_taken s = record { context = s.context; task = s.task; call = s.call; untold = s.untold; taken = true; closed = s.closed; ended = s.ended; number = s.number; unread = s.unread; owed = s.owed; facts = s.facts; statements = s.statements; login = s.login }
+
+-- these prepared statements are known
+abbrev pub with_statements : Seen → Statements → Seen
+with_statements s st = record { context = s.context; task = s.task; call = s.call; untold = s.untold; taken = s.taken; closed = s.closed; ended = s.ended; number = s.number; unread = s.unread; owed = s.owed; facts = s.facts; statements = st; login = s.login }
 
 -- a fatal error
 abbrev pub failed_by : Seen → Error → Move
@@ -91,7 +104,7 @@ abbrev pub advanced : Seen → Kind → List ℕ → List ℕ → ℕ → Seen
 advanced s k p rest next = record {
   context = context_after s.context k;
   task = s.task;
-  text = s.text;
+  call = s.call;
   untold = false;
   taken = s.taken && is_rows (context_after s.context k).spot;
   closed = s.closed;
@@ -100,12 +113,13 @@ advanced s k p rest next = record {
   unread = rest;
   owed = s.owed ++ reply_bytes (reply_to s.login k p) next;
   facts = facts_after k p s.facts;
+  statements = s.statements;
   login = s.login;
 }
 
--- an exchange begins
+-- an exchange begins, and nothing of an older one is left
 abbrev pub queued : Seen → Task → Talk → Seen
-queued s t talk = record { context = context_of talk; task = t; text = s.text; untold = s.untold; taken = false; closed = s.closed; ended = s.ended; number = number_of (turns talk); unread = s.unread; owed = s.owed ++ client_bytes (turns talk); facts = s.facts; login = s.login }
+queued s t talk = record { context = context_of talk; task = t; call = s.call; untold = false; taken = false; closed = s.closed; ended = s.ended; number = number_of (turns talk); unread = s.unread; owed = s.owed ++ client_bytes (turns talk); facts = s.facts; statements = s.statements; login = s.login }
 
 -- a server's error ends the call, and a session that isn't connected
 abbrev pub refused : Seen → Seen → Option ErrPacket → Move
@@ -148,10 +162,19 @@ unless_above s None m = m
 abbrev pub read_by : Seen → Seen → List ℕ → Reaction → Option (List ℕ) → Move
 read_by s n p r reply = unless_above s (above s.context.terms.limit reply) (reacted s n p r)
 
--- a payload that fits no case is not read
+-- whether a payload is the reply to a statement to prepare that has the id of one that is still cached
+abbrev pub is_cached_in : Statements → Option PrepareOk → Bool
+is_cached_in st None = false
+is_cached_in st (Some ok) = is_cached st ok.id
+
+abbrev pub is_doubled : Statements → Kind → List ℕ → Bool
+is_doubled st (Prepared params columns) p = is_cached_in st (prepare_ok_at p)
+is_doubled st k p = false
+
+-- a payload that fits no case, or whose statement is still cached, is not read
 abbrev pub read_kind : Seen → List ℕ → List ℕ → ℕ → Kind → Move
 read_kind s p rest next k =
-    if is_breaking (react s.task k)
+    if is_breaking (react s.task k) || is_doubled s.statements k p
     then failed_by s (invalid_data s.facts.place)
     else read_by s (advanced s k p rest next) p (react s.task k) (reply_to s.login k p)
 
@@ -165,40 +188,74 @@ reading s (Whole p rest next) = read_kind s p rest next (kind_there s.context s.
 abbrev pub next_terms : Seen → Terms
 next_terms s = record { kept = s.context.terms.kept; limit = s.facts.settings.limit }
 
--- the exchange of a command: what is awaited first, and the bytes that are owed
-abbrev pub commanded : Seen → Task → Spot → List ℕ → Move
-commanded s t spot command =
-    if nat_lt s.facts.settings.limit (length command)
-    then too_large s s.facts.settings.limit (length command)
-    else record {
+-- none of the commands that are to be sent may be too long
+abbrev pub unless_exceeds : Seen → Option ℕ → Move → Move
+unless_exceeds s (Some len) m = too_large s s.facts.settings.limit len
+unless_exceeds s None m = m
+
+-- the exchange of a command after others that have no reply: what is awaited first, and the bytes that are owed
+abbrev pub commanded : Seen → Task → Spot → RowFormat → List (List ℕ) → List ℕ → Move
+commanded s t spot rows ahead command =
+    unless_exceeds s (first_above s.facts.settings.limit (ahead ++ command ∷ []))
+    (record {
       seen = record {
-        context = record { spot = spot; rows = Text; columns = 0; terms = next_terms s };
+        context = record { spot = spot; rows = rows; columns = 0; terms = next_terms s };
         task = t;
-        text = s.text;
-        untold = s.untold;
+        call = s.call;
+        untold = false;
         taken = false;
         closed = s.closed;
         ended = s.ended;
         number = number_after_payload command 0;
         unread = s.unread;
-        owed = s.owed ++ chunks command 0;
+        owed = s.owed ++ (commands_bytes ahead ++ chunks command 0);
         facts = s.facts;
+        statements = s.statements;
         login = s.login;
       };
       does = Sends;
-    }
+    })
 
--- a command's exchange begins, unless it is above the limit
+-- a command's exchange begins, unless one of its commands is above the limit
 abbrev pub begins : Seen → Task → Talk → Move
-begins s t talk =
-    if nat_lt s.facts.settings.limit (length (command_in talk))
-    then too_large s s.facts.settings.limit (length (command_in talk))
-    else record { seen = queued s t talk; does = Sends }
+begins s t talk = unless_exceeds s (first_above s.facts.settings.limit (commands_in talk)) (record { seen = queued s t talk; does = Sends })
 
 -- the own command of a call
 abbrev pub asked : Seen → CallKind → Option Talk → Move
 asked s c None = record { seen = with_task s tasks.Nothing s.untold; does = Tells ToldNone }
 asked s c (Some talk) = begins s (tasks.Own c) talk
+
+-- why the parameters of an execution are refused, where they are
+abbrev pub refused_by : Values → Option DriverError
+refused_by (Fitting values) = None
+refused_by (Unfitting e) = Some e
+
+abbrev pub refusal : CallKind → Call → Option DriverError
+refusal Execute call = refused_by (values_for (statement_in call) (params_in call))
+refusal c call = None
+
+abbrev pub unless_refused : Seen → Option DriverError → Move → Move
+unless_refused s None m = m
+unless_refused s (Some e) m = failed_by s (errors.Driver e)
+
+-- a text to prepare with both names and marks is refused; a statement that is cached is returned, as the one that was used last; or it
+-- will be prepared
+abbrev pub looked : Seen → Bool → Option Held → Move
+looked s true held = record { seen = with_task s tasks.Nothing s.untold; does = Tells (ToldError mixed_params) }
+looked s false None = record { seen = with_task s (tasks.Cleaning Prepare) s.untold; does = Goes }
+looked s false (Some h) = record {
+  seen = with_statements (with_task s tasks.Nothing s.untold) (with_fetched (query_of (text_in s.call)) s.statements);
+  does = Tells (ToldStatement (statement_with h.stmt (names_of (text_in s.call))));
+}
+
+-- the statement that was prepared is kept
+abbrev pub with_kept : Seen → Seen
+with_kept s = with_statements s (with_prepared (query_of (text_in s.call)) (prepared_by s.facts) s.facts.reply.fields s.statements)
+
+-- where one has to go for it, it is closed
+abbrev pub kept : Seen → Option ℕ → Move
+kept s None = record { seen = with_task s tasks.Giving false; does = Goes }
+kept s (Some id) = begins s tasks.Giving (closing (next_terms s) id)
 
 -- the next query that sets the connection up, after n others; where none is left, the connection is made
 abbrev pub arranged : Seen → ℕ → Option Talk → Move
@@ -209,9 +266,24 @@ abbrev pub planned : Seen → Plan → Move
 planned s plans.Reads = reading s (front_at s.number s.context.terms.limit s.unread)
 planned s (plans.Starts t) = record { seen = with_task s t s.untold; does = Goes }
 planned s plans.Hears = record { seen = with_task s s.task false; does = Goes }
-planned s (plans.Asks c) = asked s c (command_of (next_terms s) (call_of c s.text))
+planned s plans.Finds = looked s (is_mixed_text (text_in s.call)) (held_in s.statements (query_of (text_in s.call)))
+planned s plans.Checks = unless_refused s (refusal Execute s.call) (record { seen = with_task s (tasks.Cleaning Execute) s.untold; does = Goes })
+planned s plans.Forgets = record {
+  seen = with_statements (with_task s (tasks.Cleaning CloseStmt) s.untold) (without_statement (id_in s.call) s.statements);
+  does = Goes;
+}
+planned s (plans.Asks c) = unless_refused s (refusal c s.call) (asked s c (command_of (next_terms s) s.statements (call_of c s.call)))
 planned s (plans.Arranges n) = arranged s n (connecting s.login (next_terms s) (suc n))
 planned s plans.Readies = record { seen = with_task s tasks.Nothing s.untold; does = Tells ToldReady }
+planned s plans.Learns = record {
+  seen = with_statements (with_task s tasks.Nothing s.untold) (with_columns (id_in (call_of Execute s.call)) s.facts.columns s.statements);
+  does = Tells ToldReady;
+}
+planned s plans.Keeps = kept (with_kept s) (leaving (query_of (text_in s.call)) (prepared_by s.facts) s.statements)
+planned s plans.Gives = record {
+  seen = with_task s tasks.Nothing false;
+  does = Tells (ToldStatement (statement_with (prepared_by s.facts) (names_of (text_in s.call))));
+}
 planned s plans.Takes = record { seen = with_taken (with_task s tasks.Nothing s.untold); does = Tells ToldReady }
 planned s plans.Quits = record { seen = fell s; does = Tells ToldReady }
 planned s plans.Passes = record { seen = with_task s s.task false; does = Passes ToldEnd }

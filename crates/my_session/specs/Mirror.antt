@@ -9,13 +9,13 @@ use Rattle.my_grammar.specs.Talk.{turns, number_of, context_of, Fits, login_in}
 use Rattle.my_reading.specs.declared.call.Call.{Call}
 use Rattle.my_reading.specs.declared.call.Call.TheVariants as calls
 use Rattle.my_reading.specs.declared.call.CallKind.{CallKind}
-use Rattle.my_reading.specs.declared.call.CallKind.TheVariants.{Connect, Query, NextRow, DropResult, TakeSet, SkipTaken, Ping, Quit}
+use Rattle.my_reading.specs.declared.call.CallKind.TheVariants.{Connect, Query, Prepare, Execute, CloseStmt, NextRow, DropResult, TakeSet, SkipTaken, Ping, Quit}
 use Rattle.my_reading.specs.declared.error.Error.{Error}
 use Rattle.my_reading.specs.declared.error.Error.TheVariants as errors
 use Rattle.my_reading.specs.declared.facts.Facts.{Facts}
 use Rattle.my_reading.specs.Calls.{kind_of, call_of, asks}
 use Rattle.my_reading.specs.Commands.{arranging_texts}
-use Rattle.my_reading.specs.Course.{Part, All, Head, Item, Set, Rest, Command, Owes, Awaits, Returns, Stops, step, parts_of, parts_of_texts, is_greeting}
+use Rattle.my_reading.specs.Course.{Part, All, Head, Item, Set, Rest, Command, Reply, Keep, Give, Learn, Owes, Awaits, Returns, Stops, step, parts_of, parts_of_texts, is_greeting}
 use Rattle.my_reading.specs.Errors.{unexpected_eof}
 use Rattle.my_reading.specs.Leads.{Leads}
 use Rattle.my_reading.specs.Place.{Place, exchanges, facts_at, client_side, connects_in}
@@ -26,7 +26,7 @@ use Rattle.my_session.specs.declared.answer.Tick.{Tick}
 use Rattle.my_session.specs.declared.answer.Tick.TheVariants as ticks
 use Rattle.my_session.specs.declared.task.Task.{Task}
 use Rattle.my_session.specs.declared.task.Task.TheVariants as tasks
-use Rattle.my_session.specs.Machine.{Doing, Goes, Passes, Sends, Needs, Tells, Move, next}
+use Rattle.my_session.specs.Machine.{Doing, Goes, Passes, Sends, Needs, Tells, Move, next, refusal}
 use Rattle.my_session.specs.Seen.{Seen}
 use Rattle.my_session.specs.Stands.{is_shaking, owes, call_with}
 use Rattle.my_session.specs.Tasks.{kind_in, fault_in}
@@ -35,6 +35,9 @@ use Rattle.my_session.specs.Tasks.{kind_in, fault_in}
 abbrev pub own_parts : Login → CallKind → List Part
 own_parts login Connect = All ∷ parts_of_texts (arranging_texts login)
 own_parts login Query = Head ∷ []
+own_parts login Prepare = Reply ∷ Keep ∷ Give ∷ []
+own_parts login Execute = Head ∷ Learn ∷ []
+own_parts login CloseStmt = []
 own_parts login NextRow = Item ∷ []
 own_parts login DropResult = All ∷ []
 own_parts login TakeSet = Set ∷ []
@@ -45,9 +48,10 @@ own_parts login Quit = []
 -- what is left of the open call
 abbrev pub parts_left : Login → Task → List Part
 parts_left login tasks.Nothing = []
-parts_left login (tasks.Begun c) = parts_of login (call_of c [])
+parts_left login (tasks.Begun c) = parts_of login (call_of c calls.Connect)
 parts_left login (tasks.Cleaning c) = All ∷ Command ∷ own_parts login c
 parts_left login (tasks.Own c) = own_parts login c
+parts_left login tasks.Giving = Give ∷ []
 parts_left login (tasks.Arranging n) = All ∷ parts_of_texts (drop n (arranging_texts login))
 parts_left login tasks.Reading = Item ∷ []
 parts_left login tasks.Dropping = All ∷ []
@@ -62,15 +66,19 @@ passes_end (tasks.Cleaning c) = true
 passes_end (tasks.Arranging n) = true
 passes_end t = false
 
--- a call's own exchange
+-- a call's own exchange, or what follows it
 abbrev pub is_own : Task → Bool
 is_own (tasks.Own c) = true
+is_own tasks.Giving = true
 is_own t = false
 
 -- where a task is, while `count` exchanges are those of connecting
 abbrev pub OwnStandsAt : CallKind → Spot → ℕ → Type 0
 OwnStandsAt Connect spot count = (is_shaking spot ≡ true) × (count ≡ 1)
 OwnStandsAt Query spot count = is_greeting spot ≡ false
+OwnStandsAt Prepare spot count = is_greeting spot ≡ false
+OwnStandsAt Execute spot count = is_greeting spot ≡ false
+OwnStandsAt CloseStmt spot count = is_greeting spot ≡ false
 OwnStandsAt NextRow spot count = ⊥
 OwnStandsAt DropResult spot count = ⊥
 OwnStandsAt TakeSet spot count = ⊥
@@ -87,6 +95,7 @@ TaskStandsAt tasks.Nothing spot count = Unit {0}
 TaskStandsAt (tasks.Begun c) spot count = BegunStandsAt c spot count
 TaskStandsAt (tasks.Cleaning c) spot count = (asks c ≡ true) × (is_greeting spot ≡ false)
 TaskStandsAt (tasks.Own c) spot count = OwnStandsAt c spot count
+TaskStandsAt tasks.Giving spot count = is_greeting spot ≡ false
 TaskStandsAt (tasks.Arranging n) spot count = (is_greeting spot ≡ false) × (count ≡ suc n)
 TaskStandsAt tasks.Reading spot count = is_greeting spot ≡ false
 TaskStandsAt tasks.Dropping spot count = is_greeting spot ≡ false
@@ -116,6 +125,9 @@ pub record StandsAt (s : Seen) (p : Place) : Type 0 where
   pub taken_is : p.taken ≡ s.taken
   pub own_end : is_own s.task ≡ true → s.untold ≡ false
   pub task_at : TaskStandsAt s.task s.context.spot (connects_in (exchanges p))
+  pub statements_are : s.closed ≡ false → s.statements ≡ p.statements
+  -- the parameters of an execution were looked at before anything is sent
+  pub checked : s.task ≡ tasks.Cleaning Execute → refusal Execute s.call ≡ None
   pub settled : owes s.task ≡ false → s.owed ≡ []
 
 -- Of its open call these parts are left there.
@@ -123,7 +135,7 @@ pub record OpenAt (s : Seen) (call : Call) (parts : List Part) (p : Place) : Typ
   pub at : StandsAt s p
   pub alive : s.closed ≡ false
   pub sound : fault_in s.task ≡ None
-  pub call_is : call_with (kind_in s.task) s.text ≡ Some call
+  pub call_is : call_with (kind_in s.task) s.call ≡ Some call
   pub parts_are : parts ≡ parts_left s.login s.task
 
 -- the call returned what it comes to at this place

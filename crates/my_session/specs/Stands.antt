@@ -10,7 +10,7 @@ use Rattle.my_grammar.specs.Talk.{Talk, turns, number_of, server_bytes, client_b
 use Rattle.my_reading.specs.declared.call.Call.{Call}
 use Rattle.my_reading.specs.declared.call.Call.TheVariants as calls
 use Rattle.my_reading.specs.declared.call.CallKind.{CallKind}
-use Rattle.my_reading.specs.declared.call.CallKind.TheVariants.{Connect, Query, NextRow, DropResult, TakeSet, SkipTaken, Ping, Quit}
+use Rattle.my_reading.specs.declared.call.CallKind.TheVariants.{Connect, Query, Prepare, Execute, CloseStmt, NextRow, DropResult, TakeSet, SkipTaken, Ping, Quit}
 use Rattle.my_session.specs.declared.task.Task.{Task}
 use Rattle.my_session.specs.declared.task.Task.TheVariants as tasks
 use Rattle.my_reading.specs.declared.facts.Facts.{Facts}
@@ -88,6 +88,7 @@ is_alive _ = true
 -- tasks that may owe bytes
 abbrev pub owes : Task → Bool
 owes (tasks.Own c) = true
+owes tasks.Giving = true
 owes (tasks.Arranging n) = true
 owes (tasks.Failing c fault) = true
 owes _ = false
@@ -128,6 +129,9 @@ is_first _ = false
 abbrev pub OwnAt : CallKind → Spot → Bool → ℕ → Entry → Type 0
 OwnAt Connect spot connected count newest = (connected ≡ false) × (is_shaking spot ≡ true) × (count ≡ 1)
 OwnAt Query spot connected count newest = (connected ≡ true) × (newest.given ≡ None) × (is_first (sets_of newest.talk) ≡ true)
+OwnAt Prepare spot connected count newest = (connected ≡ true) × (is_greeting spot ≡ false)
+OwnAt Execute spot connected count newest = (connected ≡ true) × (newest.given ≡ None) × (is_first (sets_of newest.talk) ≡ true)
+OwnAt CloseStmt spot connected count newest = (connected ≡ true) × (spot ≡ spots.Idle) × (is_lone (sets_of newest.talk) ≡ false)
 OwnAt NextRow spot connected count newest = ⊥
 OwnAt DropResult spot connected count newest = ⊥
 OwnAt TakeSet spot connected count newest = ⊥
@@ -146,6 +150,7 @@ TaskIs tasks.Nothing spot closed connected count newest = closed ≡ false → (
 TaskIs (tasks.Begun c) spot closed connected count newest = BegunAt c spot connected
 TaskIs (tasks.Cleaning c) spot closed connected count newest = (asks c ≡ true) × (connected ≡ true) × (is_greeting spot ≡ false)
 TaskIs (tasks.Own c) spot closed connected count newest = OwnAt c spot connected count newest
+TaskIs tasks.Giving spot closed connected count newest = (connected ≡ true) × (spot ≡ spots.Idle)
 TaskIs (tasks.Arranging n) spot closed connected count newest = (connected ≡ false) × (count ≡ suc n) × (is_greeting spot ≡ false) × (is_idle spot ≡ true → is_answered newest.talk ≡ true)
 TaskIs tasks.Reading spot closed connected count newest = (connected ≡ true) × (is_reading spot ≡ true)
 TaskIs tasks.Dropping spot closed connected count newest = (connected ≡ true) × (is_reading spot ≡ true)
@@ -158,21 +163,23 @@ TaskIs (tasks.Failing c fault) spot closed connected count newest = Unit {0}
 abbrev pub begun_of : Spot → Call → List Entry → List Call
 begun_of spot call older = if is_greeting spot then calls_in older else call ∷ calls_in older
 
--- the newest exchange is the open call's own, or an earlier call's; while it connects, all are its own that began since
-abbrev pub TieIs : Task → List ℕ → Spot → List Made → Call → List Entry → Type 0
-TieIs (tasks.Own c) text spot made call older = (call ≡ call_of c text) × IsTied made (calls_in older)
-TieIs (tasks.Arranging n) text spot made call older = OwnsFirst calls.Connect (call ∷ calls_in older) (IsTied made)
-TieIs (tasks.Failing c fault) text spot made call older = OwnsFirst (call_of c text) (call ∷ calls_in older) (IsTied made) ⊎ IsTied made (begun_of spot call older)
-TieIs _ text spot made call older = IsTied made (begun_of spot call older)
+-- The newest exchange is the open call's own, or an earlier call's. While it connects, all are its own that began since; and so are those of a
+-- statement that was prepared.
+abbrev pub TieIs : Task → Call → Spot → List Made → Call → List Entry → Type 0
+TieIs (tasks.Own c) opened spot made call older = (call ≡ call_of c opened) × IsTied made (calls_in older)
+TieIs tasks.Giving opened spot made call older = OwnsFirst (call_of Prepare opened) (call ∷ calls_in older) (IsTied made)
+TieIs (tasks.Arranging n) opened spot made call older = OwnsFirst calls.Connect (call ∷ calls_in older) (IsTied made)
+TieIs (tasks.Failing c fault) opened spot made call older = OwnsFirst (call_of c opened) (call ∷ calls_in older) (IsTied made) ⊎ IsTied made (begun_of spot call older)
+TieIs _ opened spot made call older = IsTied made (begun_of spot call older)
 
--- the open call, with the text that it carries
-abbrev pub call_with : Option CallKind → List ℕ → Option Call
-call_with None text = None
-call_with (Some c) text = Some (call_of c text)
+-- the open call, with what it carries
+abbrev pub call_with : Option CallKind → Call → Option Call
+call_with None call = None
+call_with (Some c) call = Some (call_of c call)
 
 -- The calls: what they were given is what was in the responses.
-pub record Heard (task : Task) (text : List ℕ) (spot : Spot) (untold closed lost : Bool) (made : List Made) (pending : Option Call) (newest : Entry) (older : List Entry) : Type 0 where
-  pub pending_is : pending ≡ call_with (kind_in task) text
+pub record Heard (task : Task) (open_call : Call) (spot : Spot) (untold closed lost : Bool) (made : List Made) (pending : Option Call) (newest : Entry) (older : List Entry) : Type 0 where
+  pub pending_is : pending ≡ call_with (kind_in task) open_call
   pub closed_is : closed ≡ has_closed made || lost
   pub alive : is_alive task ≡ true → closed ≡ false
   pub given_is : given made ≡ givens (newest ∷ older)
@@ -182,7 +189,7 @@ pub record Heard (task : Task) (text : List ℕ) (spot : Spot) (untold closed lo
   pub fresh : closed ≡ false → keeps task ≡ true → untold || is_left spot ≡ true → newest.given ≡ Some (groups (known_part untold (sets_of newest.talk)))
   pub at : TaskIs task spot closed (has_connected made) (connecting_in (newest ∷ older)) newest
   pub first : is_greeting spot ≡ true → (newest.call ≡ calls.Connect) × (older ≡ [])
-  pub tie : TieIs task text spot made newest.call older
+  pub tie : TieIs task open_call spot made newest.call older
 
 -- a connection that was made was set up whole: of the login and of each query there is an exchange, and the last of them was answered
 abbrev pub IsArranged : Login → List Made → Entry → List Entry → Type 0
@@ -193,7 +200,7 @@ pub record Stands (s : Seen) (h : History) : Type 0 where
   pub newest : Entry
   pub older : List Entry
   pub wire : Wire s.context s.number s.unread s.owed s.closed s.facts s.login h.taken h.sent newest.call newest.talk older
-  pub heard : Heard s.task s.text s.context.spot s.untold s.closed h.lost h.calls h.pending newest older
+  pub heard : Heard s.task s.call s.context.spot s.untold s.closed h.lost h.calls h.pending newest older
   pub arranged : IsArranged s.login h.calls newest older
   pub ended_is : s.ended ≡ h.ended
   -- a call that has no exchange of its own owes nothing

@@ -10,15 +10,17 @@ use Rattle.my_session.specs.declared.answer.SessionStep.TheVariants as steps
 use Rattle.my_session.specs.declared.answer.Tick.{Tick}
 use Rattle.my_session.specs.declared.answer.Tick.TheVariants as ticks
 use Rattle.my_reading.specs.declared.call.Call.{Call}
+use Rattle.my_reading.specs.declared.call.Call.TheVariants as calls
 use Rattle.my_reading.specs.declared.call.CallKind.{CallKind}
-use Rattle.my_reading.specs.declared.call.CallKind.TheVariants.{Connect, NextRow, DropResult, TakeSet, SkipTaken, Quit}
+use Rattle.my_reading.specs.declared.call.CallKind.TheVariants.{Connect, Prepare, NextRow, DropResult, TakeSet, SkipTaken, Quit}
 use Rattle.my_session.specs.declared.task.LinkFault.{LinkFault}
 use Rattle.my_session.specs.declared.task.LinkFault.TheVariants.{NoMemory}
 use Rattle.my_session.specs.declared.task.Task.{Task}
-use Rattle.my_session.specs.declared.task.Task.TheVariants.{Nothing, Begun, Cleaning, Own, Arranging, Reading, Dropping, Taking, Skipping, Leaving, Failing}
-use Rattle.my_reading.specs.Calls.{kind_of, text_of, is_quit}
+use Rattle.my_session.specs.declared.task.Task.TheVariants.{Nothing, Begun, Cleaning, Own, Giving, Arranging, Reading, Dropping, Taking, Skipping, Leaving, Failing}
+use Rattle.my_reading.specs.Calls.{kind_of, is_quit}
 use Rattle.my_session.specs.Tasks.{is_open}
 use Rattle.my_reading.specs.Facts.{first_facts}
+use Rattle.my_reading.specs.Statements.{first_statements}
 use Rattle.my_reading.specs.Place.{is_rows}
 use Rattle.my_reading.specs.Told.{ToldError, told}
 use Rattle.my_session.specs.History.{History, answered}
@@ -48,7 +50,7 @@ is_begun_at _ spot = is_settled spot
 
 -- before the greeting
 abbrev pub fresh : Login → Seen
-fresh login = record { context = context_of (Start login); task = Nothing; text = []; untold = false; taken = false; closed = false; ended = false; number = 0; unread = []; owed = []; facts = first_facts login; login = login }
+fresh login = record { context = context_of (Start login); task = Nothing; call = calls.Connect; untold = false; taken = false; closed = false; ended = false; number = 0; unread = []; owed = []; facts = first_facts login; statements = first_statements login; login = login }
 
 -- whether a stream took the set that is read, or whose end is left
 abbrev pub is_taken : Seen → Bool
@@ -60,17 +62,17 @@ is_refused closed c = closed && not (is_quit c)
 
 -- a call begins; on a closed session only a quit does, which has nothing left to do
 abbrev pub begun : Seen → Call → Seen
-begun s call = record { context = s.context; task = (if s.closed then Leaving else Begun (kind_of call)); text = text_of call s.text; untold = s.untold; taken = s.taken; closed = s.closed; ended = s.ended; number = s.number; unread = s.unread; owed = s.owed; facts = s.facts; login = s.login }
+begun s call = record { context = s.context; task = (if s.closed then Leaving else Begun (kind_of call)); call = call; untold = s.untold; taken = s.taken; closed = s.closed; ended = s.ended; number = s.number; unread = s.unread; owed = s.owed; facts = s.facts; statements = s.statements; login = s.login }
 
 abbrev pub with_owed : Seen → List ℕ → Seen
-with_owed s owed = record { context = s.context; task = s.task; text = s.text; untold = s.untold; taken = s.taken; closed = s.closed; ended = s.ended; number = s.number; unread = s.unread; owed = owed; facts = s.facts; login = s.login }
+with_owed s owed = record { context = s.context; task = s.task; call = s.call; untold = s.untold; taken = s.taken; closed = s.closed; ended = s.ended; number = s.number; unread = s.unread; owed = owed; facts = s.facts; statements = s.statements; login = s.login }
 
 abbrev pub with_unread : Seen → List ℕ → Seen
-with_unread s unread = record { context = s.context; task = s.task; text = s.text; untold = s.untold; taken = s.taken; closed = s.closed; ended = s.ended; number = s.number; unread = unread; owed = s.owed; facts = s.facts; login = s.login }
+with_unread s unread = record { context = s.context; task = s.task; call = s.call; untold = s.untold; taken = s.taken; closed = s.closed; ended = s.ended; number = s.number; unread = unread; owed = s.owed; facts = s.facts; statements = s.statements; login = s.login }
 
 -- the link reported its end
 abbrev pub with_end : Seen → Seen
-with_end s = record { context = s.context; task = s.task; text = s.text; untold = s.untold; taken = s.taken; closed = s.closed; ended = true; number = s.number; unread = s.unread; owed = s.owed; facts = s.facts; login = s.login }
+with_end s = record { context = s.context; task = s.task; call = s.call; untold = s.untold; taken = s.taken; closed = s.closed; ended = true; number = s.number; unread = s.unread; owed = s.owed; facts = s.facts; statements = s.statements; login = s.login }
 
 -- the open call is made to fail; where none is open, nothing changes
 abbrev pub failing : Task → LinkFault → Task
@@ -78,6 +80,7 @@ failing Nothing fault = Nothing
 failing (Begun c) fault = Failing c fault
 failing (Cleaning c) fault = Failing c fault
 failing (Own c) fault = Failing c fault
+failing Giving fault = Failing Prepare fault
 failing (Arranging n) fault = Failing Connect fault
 failing Reading fault = Failing NextRow fault
 failing Dropping fault = Failing DropResult fault
@@ -87,7 +90,7 @@ failing Leaving fault = Failing Quit fault
 failing (Failing c old) fault = Failing c fault
 
 abbrev pub with_failing : Seen → LinkFault → Seen
-with_failing s fault = record { context = s.context; task = failing s.task fault; text = s.text; untold = s.untold; taken = s.taken; closed = s.closed; ended = s.ended; number = s.number; unread = s.unread; owed = s.owed; facts = s.facts; login = s.login }
+with_failing s fault = record { context = s.context; task = failing s.task fault; call = s.call; untold = s.untold; taken = s.taken; closed = s.closed; ended = s.ended; number = s.number; unread = s.unread; owed = s.owed; facts = s.facts; statements = s.statements; login = s.login }
 
 -- bytes were received for which there is no memory: the open call is made to fail, or the session is closed
 abbrev pub with_loss : Seen → Seen
@@ -99,7 +102,8 @@ rank Nothing untold = 0
 rank (Begun c) untold = 3
 rank (Cleaning c) true = 2
 rank (Cleaning c) false = 1
-rank (Own c) untold = 0
+rank (Own c) untold = 1
+rank Giving untold = 0
 rank (Arranging n) true = 1
 rank (Arranging n) false = 0
 rank Reading untold = 0

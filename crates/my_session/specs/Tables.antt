@@ -6,10 +6,10 @@ use Rattle.my_grammar.specs.declared.spot.Spot.TheVariants as spots
 use Rattle.my_grammar.specs.declared.spot.Kind.{Kind}
 use Rattle.my_grammar.specs.declared.spot.Kind.TheVariants as kinds
 use Rattle.my_reading.specs.declared.call.CallKind.{CallKind}
-use Rattle.my_reading.specs.declared.call.CallKind.TheVariants.{Connect, Query, NextRow, DropResult, TakeSet, SkipTaken, Ping, Quit}
+use Rattle.my_reading.specs.declared.call.CallKind.TheVariants.{Connect, Query, Prepare, Execute, CloseStmt, NextRow, DropResult, TakeSet, SkipTaken, Ping, Quit}
 pub use Rattle.my_reading.specs.Endings.{awaits_head}
 use Rattle.my_session.specs.declared.task.Task.{Task}
-use Rattle.my_session.specs.declared.task.Task.TheVariants.{Nothing, Begun, Cleaning, Own, Arranging, Reading, Dropping, Taking, Skipping, Leaving, Failing}
+use Rattle.my_session.specs.declared.task.Task.TheVariants.{Nothing, Begun, Cleaning, Own, Giving, Arranging, Reading, Dropping, Taking, Skipping, Leaving, Failing}
 use Rattle.my_session.specs.declared.tables.Plan.{Plan}
 use Rattle.my_session.specs.declared.tables.Plan.TheVariants as plans
 use Rattle.my_session.specs.declared.tables.Reaction.{Reaction}
@@ -19,12 +19,23 @@ use Rattle.my_session.specs.declared.tables.Reaction.TheVariants as reactions
 abbrev pub first_task : CallKind → Task
 first_task Connect = Own Connect
 first_task Query = Cleaning Query
+first_task Prepare = Cleaning Prepare
+first_task Execute = Cleaning Execute
+first_task CloseStmt = Cleaning CloseStmt
 first_task NextRow = Reading
 first_task DropResult = Dropping
 first_task TakeSet = Taking
 first_task SkipTaken = Skipping
 first_task Ping = Cleaning Ping
 first_task Quit = Cleaning Quit
+
+-- what a call does first: a statement to prepare is looked for in the cache, parameters are looked at, and a statement to close isn't kept
+-- any more
+abbrev pub first_plan : CallKind → Plan
+first_plan Prepare = plans.Finds
+first_plan Execute = plans.Checks
+first_plan CloseStmt = plans.Forgets
+first_plan c = plans.Starts (first_task c)
 
 -- the rest of the earlier response is read, the end of a lone OK that is still to be returned is dropped, and then p is done
 abbrev pub clean_plan : Plan → Spot → Bool → Plan
@@ -55,17 +66,31 @@ abbrev pub query_plan : Spot → Plan
 query_plan spots.Rows = plans.Readies
 query_plan s = plans.Reads
 
--- a quit has no answer
+-- so is an execution, whose columns are known from then on
+abbrev pub execute_plan : Spot → Plan
+execute_plan spots.Rows = plans.Learns
+execute_plan s = plans.Reads
+
+-- the reply to a statement to prepare is read whole, and then the statement is kept
+abbrev pub prepare_plan : Spot → Plan
+prepare_plan spots.Idle = plans.Keeps
+prepare_plan s = plans.Reads
+
+-- a quit has no answer, and neither has the close of a statement
 abbrev pub own_plan : CallKind → Spot → Plan
 own_plan Query s = query_plan s
+own_plan Prepare s = prepare_plan s
+own_plan Execute s = execute_plan s
+own_plan CloseStmt s = plans.Readies
 own_plan Quit s = plans.Quits
 own_plan _ s = plans.Reads
 
 abbrev pub plan_of : Task → Spot → Bool → Plan
 plan_of Nothing s untold = plans.NoMore
-plan_of (Begun c) s untold = plans.Starts (first_task c)
+plan_of (Begun c) s untold = first_plan c
 plan_of (Cleaning c) s untold = clean_plan (plans.Asks c) s untold
 plan_of (Own c) s untold = own_plan c s
+plan_of Giving s untold = plans.Gives
 plan_of (Arranging n) s untold = clean_plan (plans.Arranges n) s untold
 plan_of Reading s untold = if untold then plans.Ends else read_plan s
 plan_of Dropping s untold = if untold then plans.Passes else drop_plan s
@@ -96,18 +121,18 @@ react_connect (kinds.Good status) = reactions.Goes (Arranging 0)
 react_connect kinds.Failed = reactions.Refuses
 react_connect k = reactions.Breaks
 
--- No payload of a prepare reply comes where a query's head, a row, a set's rest or its next set is awaited. The reading of a tape goes on
+-- A query's answer, and that of a statement that is executed. No payload of a prepare reply comes where a query's head, a row, a set's rest or its next set is awaited. The reading of a tape goes on
 -- at such a payload (`after_kind`), and so do these tables.
-abbrev pub react_query : Kind → Reaction
-react_query (kinds.Good status) = reactions.Readies true
-react_query kinds.Failed = reactions.Refuses
-react_query (kinds.Count n) = reactions.Goes (Own Query)
-react_query kinds.Column = reactions.Goes (Own Query)
-react_query kinds.ColumnsDone = reactions.Goes (Own Query)
-react_query (kinds.Prepared params columns) = reactions.Goes (Own Query)
-react_query kinds.Parameter = reactions.Goes (Own Query)
-react_query kinds.Field = reactions.Goes (Own Query)
-react_query k = reactions.Breaks
+abbrev pub react_query : CallKind → Kind → Reaction
+react_query c (kinds.Good status) = reactions.Readies true
+react_query c kinds.Failed = reactions.Refuses
+react_query c (kinds.Count n) = reactions.Goes (Own c)
+react_query c kinds.Column = reactions.Goes (Own c)
+react_query c kinds.ColumnsDone = reactions.Goes (Own c)
+react_query c (kinds.Prepared params columns) = reactions.Goes (Own c)
+react_query c kinds.Parameter = reactions.Goes (Own c)
+react_query c kinds.Field = reactions.Goes (Own c)
+react_query c k = reactions.Breaks
 
 abbrev pub react_ping : Kind → Reaction
 react_ping (kinds.Good status) = reactions.Readies false
@@ -116,7 +141,9 @@ react_ping k = reactions.Breaks
 
 abbrev pub react_own : CallKind → Kind → Reaction
 react_own Connect k = react_connect k
-react_own Query k = react_query k
+react_own Query k = react_query Query k
+react_own Prepare k = react_whole (Own Prepare) k
+react_own Execute k = react_query Execute k
 react_own Ping k = react_ping k
 react_own _ k = reactions.Breaks
 
@@ -193,6 +220,7 @@ closes_when_cancelled Nothing s = false
 closes_when_cancelled (Begun c) s = false
 closes_when_cancelled (Cleaning c) s = true
 closes_when_cancelled (Own c) s = true
+closes_when_cancelled Giving s = true
 closes_when_cancelled (Arranging n) s = true
 closes_when_cancelled Reading s = awaits_head s
 closes_when_cancelled Dropping s = awaits_head s

@@ -29,16 +29,18 @@ pub fn each_end()
 {}
 
 /// Each error that an open call returns next has its cause in what the grammar finds in the bytes taken:
-/// after all that was read follows a payload that fits no case, a faulty header, no whole payload where the
-/// link reported its end, or an ERR that says so; or a command or a response is too long to be sent. A call
-/// that was made to fail returns its fault. Out of memory has no cause.
+/// after all that was read follows a payload that fits no case, the reply to a statement to prepare with the id of one
+/// that is still cached, a faulty header, no whole payload where the link reported its end, or an ERR that says so; or a
+/// command or a response is too long to be sent, or the text or the parameters of the open call are refused. A call that
+/// was made to fail returns its fault. Out of memory has no cause.
 pub fn each_fault()
     ensures { EachFault }
 {}
 
 /// Where the bytes that were taken, with those that may still come, are whole exchanges and bring no further
-/// ERR, no call fails by them: an error is out of memory, a command or response above the limit, or a fault
-/// that the link reported.
+/// ERR, no call fails by them: an error is out of memory, a command or response above the limit, a fault that the link
+/// reported, a text or parameters that are refused, or a statement that was prepared with the id of one that is still
+/// cached.
 pub fn each_whole_call()
     ensures { EachWholeCall }
 {}

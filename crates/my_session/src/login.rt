@@ -51,5 +51,6 @@ pub fn login_for(alloc: Global, opts: &Opts) -> Result<Login, NoMemory>
         wait_timeout: opts.wait_timeout(),
         init: copied(alloc, opts.init())?,
         setup: copied(alloc, opts.setup())?,
+        statements: opts.stmt_cache_size(),
     })
 }

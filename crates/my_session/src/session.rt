@@ -4,8 +4,10 @@ ghost use Rattle.std.specs.Prelude.{◌≡◌, ◌<◌, ◌≤◌, ◌++◌, ◌
 ghost use Rattle.my_reading.specs.Calls.{kind_of};
 ghost use Rattle.my_session.specs.Steps.{is_refused, failing};
 
+mod calling;
 mod facts;
 mod payload;
+mod preparing;
 mod receiving;
 mod sending;
 mod stepping;
@@ -13,10 +15,10 @@ mod stepping;
 use crate::login::login_for;
 use crate::tables::closes_when_cancelled;
 use crate::task::{LinkFault, Task};
-use my_frame::{Blob, NoMemory};
+use my_frame::NoMemory;
 use my_grammar::{Context, Login, Queue, Spot};
 use my_opts::Opts;
-use my_reading::{Call, CallKind, DriverError, Error, Facts};
+use my_reading::{Call, CallKind, DriverError, Error, Facts, Statements};
 use std::alloc::Global;
 use std::marker::Model;
 use std::mem;
@@ -30,8 +32,8 @@ const READ_SIZE: usize = 4096;
 pub struct Session {
     context: Context,
     task: Task,
-    // The text of the open call.
-    text: Blob,
+    // The call that began last, with what it carries.
+    call: Call,
     // Whether the end of a lone OK is still to be returned.
     untold: bool,
     // Whether a stream took the set that is read, or whose end that is.
@@ -44,6 +46,8 @@ pub struct Session {
     unread: Queue,
     owed: Queue,
     facts: Facts,
+    // The prepared statements that are known.
+    statements: Statements,
     login: Login,
     opts: Opts,
     is_socket: bool,
@@ -82,6 +86,7 @@ fn failing(task: Task, fault: LinkFault) -> Task
         Task::Begun(call) | Task::Cleaning(call) | Task::Own(call) | Task::Failing(call, _) => {
             Task::Failing(call, fault)
         }
+        Task::Giving => Task::Failing(CallKind::Prepare, fault),
         Task::Arranging(_) => Task::Failing(CallKind::Connect, fault),
         Task::Reading => Task::Failing(CallKind::NextRow, fault),
         Task::Dropping => Task::Failing(CallKind::DropResult, fault),
@@ -92,7 +97,6 @@ fn failing(task: Task, fault: LinkFault) -> Task
 }
 
 impl Session {
-    ghost use Rattle.my_reading.specs.Calls.{text_of};
     ghost use Rattle.my_session.specs.Tasks.{is_open};
     ghost use Rattle.my_reading.specs.Errors.{connection_closed};
     ghost use Rattle.my_reading.specs.Told.{ToldError, Dropped};
@@ -118,10 +122,11 @@ impl Session {
     {
         let login = login_for(alloc, &opts)?;
         let facts = Facts::new(alloc, &login)?;
+        let statements = Statements::new(alloc, &login)?;
         Ok(Session {
             context: Context::start(&login),
             task: Task::Nothing,
-            text: Blob::new(alloc),
+            call: Call::Connect,
             untold: false,
             taken: false,
             closed: false,
@@ -130,6 +135,7 @@ impl Session {
             unread: Queue::new(alloc),
             owed: Queue::new(alloc),
             facts,
+            statements,
             login,
             opts,
             is_socket,
@@ -139,20 +145,11 @@ impl Session {
         })
     }
 
-    fn keep_text(&mut self, call: Call)
-        ensures does { self.new.seen ≡ record self.old.seen { text = text_of call self.old.seen.text } }
+    fn keep_call(&mut self, call: Call)
+        ensures does { self.new.seen ≡ record self.old.seen { call = call } }
         ensures lifetime { self.new.lifetime ≡ self.old.lifetime }
     {
-        match call {
-            Call::Query(text) => self.text = text,
-            Call::Connect
-            | Call::NextRow
-            | Call::DropResult
-            | Call::TakeSet
-            | Call::SkipTaken
-            | Call::Ping
-            | Call::Quit => {}
-        }
+        drop(mem::replace(&mut self.call, call));
     }
 
     fn start(&mut self, call: Call) -> Result<(), Error>
@@ -171,7 +168,7 @@ impl Session {
         } else {
             Task::Begun(call.kind())
         };
-        self.keep_text(call);
+        self.keep_call(call);
         Ok(())
     }
 
@@ -263,7 +260,7 @@ impl Session {
         self.owed.skip(count);
     }
 
-    // The call ends, and the session is closed.
+    // The call ends, and the session is closed: no prepared statement is known any more.
     fn fall(&mut self)
         ensures does { self.new.seen ≡ fell self.old.seen }
         ensures lifetime { self.new.lifetime ≡ self.old.lifetime }
@@ -271,6 +268,7 @@ impl Session {
         self.task = Task::Nothing;
         self.closed = true;
         self.owed.clear();
+        self.statements.clear();
     }
 
     // Bytes were received for which there is no memory.

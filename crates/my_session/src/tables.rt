@@ -1,7 +1,7 @@
 //! What a task does next, and what it makes of a payload.
 
 ghost use Rattle.std.specs.Prelude.{◌≡◌, true, false};
-ghost use Rattle.my_session.specs.Tables.{plan_of, react, react_whole, first_task, clean_plan, own_plan, is_breaking, is_connecting, closes_when_cancelled};
+ghost use Rattle.my_session.specs.Tables.{plan_of, react, react_query, react_whole, first_plan, first_task, clean_plan, own_plan, is_breaking, is_connecting, closes_when_cancelled};
 
 use crate::task::Task;
 use my_grammar::{Kind, Spot};
@@ -14,6 +14,12 @@ pub enum Plan {
     Reads,
     /// The call's first task begins.
     Starts(Task),
+    /// The statement of the call's text is looked for in the cache.
+    Finds,
+    /// The parameters of an execution are looked at.
+    Checks,
+    /// A statement isn't kept any more.
+    Forgets,
     /// The end of a lone OK that no read returned is dropped.
     Hears,
     /// The call's own command is owed.
@@ -23,6 +29,12 @@ pub enum Plan {
     Arranges(usize),
     /// The call is answered: its command was accepted.
     Readies,
+    /// The call is answered: its rows follow, and their columns are known from now on.
+    Learns,
+    /// The statement that was prepared is kept, and the one that has to go for it is closed.
+    Keeps,
+    /// The call is answered by the statement that was prepared.
+    Gives,
     /// The call is answered: a stream took the set.
     Takes,
     /// The session is closed: `Quit` is done.
@@ -65,11 +77,34 @@ fn first_task(call: CallKind) -> Task
 {
     match call {
         CallKind::Connect => Task::Own(call),
-        CallKind::Query | CallKind::Ping | CallKind::Quit => Task::Cleaning(call),
+        CallKind::Query
+        | CallKind::Prepare
+        | CallKind::Execute
+        | CallKind::CloseStmt
+        | CallKind::Ping
+        | CallKind::Quit => Task::Cleaning(call),
         CallKind::NextRow => Task::Reading,
         CallKind::DropResult => Task::Dropping,
         CallKind::TakeSet => Task::Taking,
         CallKind::SkipTaken => Task::Skipping,
+    }
+}
+
+fn first_plan(call: CallKind) -> Plan
+    ensures { result ≡ first_plan call }
+{
+    match call {
+        CallKind::Prepare => Plan::Finds,
+        CallKind::Execute => Plan::Checks,
+        CallKind::CloseStmt => Plan::Forgets,
+        CallKind::Connect
+        | CallKind::Query
+        | CallKind::NextRow
+        | CallKind::DropResult
+        | CallKind::TakeSet
+        | CallKind::SkipTaken
+        | CallKind::Ping
+        | CallKind::Quit => Plan::Starts(first_task(call)),
     }
 }
 
@@ -92,11 +127,32 @@ fn query_plan(spot: Spot) -> Plan
     }
 }
 
+fn execute_plan(spot: Spot) -> Plan
+    ensures { result ≡ own_plan CallKind.Execute spot }
+{
+    match spot {
+        Spot::Rows => Plan::Learns,
+        _ => Plan::Reads,
+    }
+}
+
+fn prepare_plan(spot: Spot) -> Plan
+    ensures { result ≡ own_plan CallKind.Prepare spot }
+{
+    match spot {
+        Spot::Idle => Plan::Keeps,
+        _ => Plan::Reads,
+    }
+}
+
 fn own_plan(call: CallKind, spot: Spot) -> Plan
     ensures { result ≡ own_plan call spot }
 {
     match call {
         CallKind::Query => query_plan(spot),
+        CallKind::Prepare => prepare_plan(spot),
+        CallKind::Execute => execute_plan(spot),
+        CallKind::CloseStmt => Plan::Readies,
         CallKind::Quit => Plan::Quits,
         CallKind::Connect
         | CallKind::NextRow
@@ -161,9 +217,10 @@ pub fn plan_for(task: Task, spot: Spot, untold: bool) -> Plan
 {
     match task {
         Task::Nothing | Task::Failing(_, _) => Plan::NoMore,
-        Task::Begun(call) => Plan::Starts(first_task(call)),
+        Task::Begun(call) => first_plan(call),
         Task::Cleaning(call) => clean_plan(Plan::Asks(call), spot, untold),
         Task::Own(call) => own_plan(call, spot),
+        Task::Giving => Plan::Gives,
         Task::Arranging(sent) => clean_plan(Plan::Arranges(sent), spot, untold),
         Task::Reading => read_plan(spot, untold),
         Task::Dropping => drop_plan(spot, untold),
@@ -203,8 +260,8 @@ fn react_connect(kind: Kind) -> Reaction
     }
 }
 
-fn react_query(kind: Kind) -> Reaction
-    ensures { result ≡ react (Task.Own CallKind.Query) kind }
+fn react_query(call: CallKind, kind: Kind) -> Reaction
+    ensures { result ≡ react_query call kind }
 {
     match kind {
         Kind::Good(_) => Reaction::Readies(true),
@@ -213,7 +270,7 @@ fn react_query(kind: Kind) -> Reaction
         | Kind::ColumnsDone
         | Kind::Prepared { .. }
         | Kind::Parameter
-        | Kind::Field => Reaction::Goes(Task::Own(CallKind::Query)),
+        | Kind::Field => Reaction::Goes(Task::Own(call)),
         Kind::Failed => Reaction::Refuses,
         Kind::Greets(_) | Kind::Row | Kind::End(_) | Kind::Bad => Reaction::Breaks,
     }
@@ -234,9 +291,11 @@ fn react_own(call: CallKind, kind: Kind) -> Reaction
 {
     match call {
         CallKind::Connect => react_connect(kind),
-        CallKind::Query => react_query(kind),
+        CallKind::Query | CallKind::Execute => react_query(call, kind),
+        CallKind::Prepare => react_whole(Task::Own(call), kind),
         CallKind::Ping => react_ping(kind),
-        CallKind::NextRow
+        CallKind::CloseStmt
+        | CallKind::NextRow
         | CallKind::DropResult
         | CallKind::TakeSet
         | CallKind::SkipTaken
@@ -310,7 +369,9 @@ pub fn react_to(task: Task, kind: Kind) -> Reaction
     ensures { result ≡ react task kind }
 {
     match task {
-        Task::Nothing | Task::Begun(_) | Task::Leaving | Task::Failing(_, _) => Reaction::Breaks,
+        Task::Nothing | Task::Begun(_) | Task::Giving | Task::Leaving | Task::Failing(_, _) => {
+            Reaction::Breaks
+        }
         Task::Cleaning(_) | Task::Arranging(_) => react_whole(task, kind),
         Task::Own(call) => react_own(call, kind),
         Task::Reading => react_reading(kind),
@@ -362,7 +423,11 @@ pub fn closes_when_cancelled(task: Task, spot: Spot) -> bool
 {
     match task {
         Task::Nothing | Task::Begun(_) | Task::Leaving => false,
-        Task::Cleaning(_) | Task::Own(_) | Task::Arranging(_) | Task::Failing(_, _) => true,
+        Task::Cleaning(_)
+        | Task::Own(_)
+        | Task::Giving
+        | Task::Arranging(_)
+        | Task::Failing(_, _) => true,
         Task::Reading | Task::Dropping | Task::Taking | Task::Skipping => awaits_head(spot),
     }
 }

@@ -23,6 +23,8 @@ pub enum Task {
     Cleaning(CallKind),
     /// The call's own exchange.
     Own(CallKind),
+    /// The statement that was prepared is returned, once the close of the one that had to go for it was sent.
+    Giving,
     /// The connection is set up: this many queries of the client's own were sent. Their answers are read whole.
     Arranging(usize),
     /// The next row is awaited.

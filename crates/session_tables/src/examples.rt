@@ -35,6 +35,8 @@ pub struct Example<'a> {
     /// How many statements are prepared after the login, how many are executed then, and how many queries follow.
     pub prepares: u8,
     pub executes: u8,
+    /// Parts of a long value that are sent ahead of each statement that is executed.
+    pub ahead: &'a [&'a [u8]],
     pub queries: u8,
     pub kept: CapabilityFlags,
     pub limit: u64,
@@ -50,6 +52,7 @@ pub const USUAL: Example<'static> = Example {
     name: "",
     prepares: 0,
     executes: 0,
+    ahead: &[],
     queries: 1,
     kept: KEPT,
     limit: DEFAULT_MAX_ALLOWED_PACKET,

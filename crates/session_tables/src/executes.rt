@@ -1,6 +1,6 @@
 //! Streams of a server that executes prepared statements: sets whose rows are of the binary protocol.
 
-use crate::examples::{COLUMN, Example, GREETING, KEPT_OLD, OK, USUAL};
+use crate::examples::{COLUMN, Example, GREETING, KEPT_OLD, Look, OK, USUAL};
 use crate::streams::{first_wrong, is_cut_everywhere};
 use std::test::Fail;
 
@@ -66,10 +66,50 @@ const TWO_SETS: Example<'static> = Example {
     ..ONE
 };
 
+// Two parts of a long value, `foo` and `bar`.
+const LONG: &[&[u8]] = &[
+    b"\x18\x01\x00\x00\x00\x00\x00foo",
+    b"\x18\x01\x00\x00\x00\x00\x00bar",
+];
+
+// What the client sends with them: each part and the statement have the sequence id 0.
+const SENT_AHEAD: Example<'static> = Example {
+    ahead: LONG,
+    look: Look::Sent,
+    name: "what is sent with a long value",
+    packets: &[(0, GREETING), (2, OK)],
+    shows: "3c00000181a20f01000040002d0000000000000000000000000000000000000000000000726f6f740000\
+            6d7973716c5f6e61746976655f70617373776f726400 \
+            0a00000018010000000000666f6f0a000000180100000000006261720a00000017010000000001000000 ",
+    ..ONE
+};
+
 // What a server sends after a login, and what is found there.
 const EXECUTES: &[Example] = &[
     WORKED,
     TWO_SETS,
+    SENT_AHEAD,
+    Example {
+        ahead: LONG,
+        name: "a row after a long value",
+        packets: &[
+            (0, GREETING),
+            (2, OK),
+            (1, "01"),
+            (2, COL1),
+            (3, FOOBAR),
+            (4, END),
+        ],
+        shows: "greets:11fa28b ok:2 | count:1 column row:000006666f6f626172 end:2 | trailing",
+        ..ONE
+    },
+    Example {
+        ahead: LONG,
+        name: "a reply that counts the parts of a long value",
+        packets: &[(0, GREETING), (2, OK), (3, OK)],
+        shows: "greets:11fa28b ok:2 | | number 3 for 1",
+        ..ONE
+    },
     Example {
         name: "one row",
         packets: &[

@@ -17,6 +17,8 @@ mod play;
 #[cfg(test)]
 mod prepares;
 #[cfg(test)]
+mod statements;
+#[cfg(test)]
 mod streams;
 #[cfg(test)]
 mod talks;

@@ -9,6 +9,7 @@ use my_frame::{Blob, CodecFault, Listed, NoMemory};
 use my_opts::{Opts, OptsBuilder};
 use my_reading::{Answer, Call, DriverError, Error, IoError, IoFault, IoKind};
 use my_session::{LinkFault, Session, SessionStep};
+use my_statements::Statement;
 use my_value::{Row, Value};
 use std::alloc::{AllocError, Global};
 use std::fmt::Write;
@@ -76,7 +77,8 @@ fn long_query(alloc: Global, length: usize) -> Result<Call, NoMemory> {
     Ok(Call::Query(Blob::from(text)))
 }
 
-fn call_of(alloc: Global, text: &str) -> Result<Call, NoMemory> {
+/// The call of this name, or a query of this text.
+pub fn call_of(alloc: Global, text: &str) -> Result<Call, NoMemory> {
     match text {
         "long" => long_query(alloc, 1_024),
         "connect" => Ok(Call::Connect),
@@ -100,10 +102,15 @@ fn show_bytes(text: &mut String, bytes: &[u8]) -> Result<(), AllocError> {
 fn show_row(text: &mut String, row: &Row) -> Result<(), AllocError> {
     text.push_str("row")?;
     for index in 0..row.len() {
-        if let Some(Value::Bytes(cell)) = row.as_ref(index) {
-            for &byte in cell.as_slice() {
-                write!(text, " {byte:02x}")?;
+        match row.as_ref(index) {
+            Some(Value::Bytes(cell)) => {
+                for &byte in cell.as_slice() {
+                    write!(text, " {byte:02x}")?;
+                }
             }
+            Some(Value::Int(number)) => write!(text, " i:{number}")?,
+            Some(Value::NULL) => text.push_str(" null")?,
+            _ => text.push_str(" other")?,
         }
     }
     Ok(())
@@ -115,6 +122,14 @@ fn show_answer(text: &mut String, answer: &Answer) -> Result<(), AllocError> {
         Answer::Row(row) => show_row(text, row),
         Answer::SetEnd => text.push_str("end"),
         Answer::NoSet => text.push_str("none"),
+        Answer::Stmt(statement) => write!(
+            text,
+            "statement {} {} {} {}",
+            statement.id(),
+            statement.connection_id(),
+            statement.num_params(),
+            statement.num_columns()
+        ),
     }
 }
 
@@ -127,11 +142,23 @@ fn show_fault(text: &mut String, fault: IoFault) -> Result<(), AllocError> {
     }
 }
 
+fn show_driver_error(text: &mut String, error: &DriverError) -> Result<(), AllocError> {
+    match error {
+        DriverError::ConnectionClosed => text.push_str("closed"),
+        DriverError::MixedParams => text.push_str("mixed"),
+        DriverError::Params(_) => text.push_str("params"),
+        DriverError::StmtParamsMismatch { required, supplied } => {
+            write!(text, "mismatch {required} {supplied}")
+        }
+        DriverError::StmtParamsNumberExceedsLimit { supplied } => write!(text, "many {supplied}"),
+        _ => text.push_str("driver"),
+    }
+}
+
 fn show_error(text: &mut String, error: &Error) -> Result<(), AllocError> {
     text.push_str("error ")?;
     match error {
-        Error::Driver(DriverError::ConnectionClosed) => text.push_str("closed"),
-        Error::Driver(_) => text.push_str("driver"),
+        Error::Driver(error) => show_driver_error(text, error),
         Error::Io(IoError::Io(fault)) => show_fault(text, *fault),
         Error::Io(IoError::Codec(CodecFault::OutOfOrder { expected, found })) => {
             write!(text, "number {expected} {found}")
@@ -151,14 +178,26 @@ fn show_error(text: &mut String, error: &Error) -> Result<(), AllocError> {
     }
 }
 
+// The statement that a call was answered.
+fn statement_in(end: Result<Answer, Error>) -> Option<Statement> {
+    match end {
+        Ok(Answer::Stmt(statement)) => Some(statement),
+        other => {
+            drop(other);
+            None
+        }
+    }
+}
+
 // What a call ended with.
-fn show_end(text: &mut String, end: Result<Answer, Error>) -> Result<(), NoMemory> {
+fn show_end(text: &mut String, end: Result<Answer, Error>) -> Result<Option<Statement>, NoMemory> {
     let shown = match &end {
         Ok(answer) => show_answer(text, answer),
         Err(error) => show_error(text, error),
     };
-    drop(end);
-    Ok(shown?)
+    let statement = statement_in(end);
+    shown?;
+    Ok(statement)
 }
 
 // No more bytes come: whether the call goes on.
@@ -189,7 +228,7 @@ fn go_on(
     bytes: &[u8],
     then: Then,
     text: &mut String,
-) -> Result<(), NoMemory>
+) -> Result<Option<Statement>, NoMemory>
     requires { is_open session.old.seen.task ≡ true }
 {
     let mut given = false;
@@ -206,26 +245,28 @@ fn go_on(
                     given = true;
                 } else if !end_link(session, then) {
                     text.push_str("waits")?;
-                    return Ok(());
+                    return Ok(None);
                 }
             }
             SessionStep::Done(answer) => return show_end(text, Ok(answer)),
             SessionStep::Fault(error) => return show_end(text, Err(error)),
         }
     }
-    Ok(())
+    Ok(None)
 }
 
-fn begin(
+/// Begins a call and steps it, and adds what was sent, and the answer. These bytes are received meanwhile. A statement that it
+/// is answered is returned.
+pub fn play(
     alloc: Global,
     session: &mut Session,
     call: Call,
     bytes: &[u8],
     then: Then,
     text: &mut String,
-) -> Result<(), NoMemory> {
+) -> Result<Option<Statement>, NoMemory> {
     if session.is_open() || !session.may_begin(call.kind()) {
-        return Ok(());
+        return Ok(None);
     }
     match session.begin(call) {
         Ok(()) => go_on(alloc, session, bytes, then, text),
@@ -244,5 +285,7 @@ pub fn turn(
 ) -> Result<(), NoMemory> {
     let bytes = bytes_of(alloc, bytes)?;
     let call = call_of(alloc, call)?;
-    begin(alloc, session, call, bytes.as_slice(), then, text)
+    let statement = play(alloc, session, call, bytes.as_slice(), then, text)?;
+    drop(statement);
+    Ok(())
 }

@@ -4,7 +4,7 @@ use crate::examples::{Example, Look, ROWS, SENT, STREAMS};
 use crate::hex::bytes_of;
 use crate::play::options;
 use my_flags::CapabilityFlags;
-use my_frame::{Blob, CodecFault, NoMemory};
+use my_frame::{Blob, CodecFault, Listed, NoMemory};
 use my_grammar::{
     CutRest, Found, Kind, Login, Opening, Packet, Queue, Terms, cut_bytes, native_answer,
 };
@@ -43,17 +43,28 @@ fn add_prepares(
     Ok(())
 }
 
+fn ahead_of(alloc: Global, parts: &[&[u8]]) -> Result<Listed<Blob>, NoMemory> {
+    let mut ahead = Listed::new(alloc);
+    for part in parts {
+        ahead.push(Blob::from_slice(alloc, part)?)?;
+    }
+    Ok(ahead)
+}
+
 fn add_executes(
     alloc: Global,
     openings: &mut Vec<Opening>,
-    executes: u8,
-    kept: CapabilityFlags,
-    limit: u64,
+    case: &Example,
 ) -> Result<(), NoMemory> {
-    for _ in 0..executes {
+    let (kept, limit) = (case.kept, case.limit);
+    for _ in 0..case.executes {
+        let ahead = ahead_of(alloc, case.ahead)?;
         let command = Blob::from_slice(alloc, b"\x17\x01\x00\x00\x00\x00\x01\x00\x00\x00")?;
-        let terms = Terms { kept, limit };
-        openings.push(Opening::Execute { terms, command })?;
+        openings.push(Opening::Execute {
+            terms: Terms { kept, limit },
+            ahead,
+            command,
+        })?;
     }
     Ok(())
 }
@@ -63,7 +74,7 @@ fn openings(alloc: Global, case: &Example) -> Result<Vec<Opening>, NoMemory> {
     let mut openings = Vec::new(alloc);
     openings.push(Opening::Connect)?;
     add_prepares(alloc, &mut openings, case.prepares, case.kept, case.limit)?;
-    add_executes(alloc, &mut openings, case.executes, case.kept, case.limit)?;
+    add_executes(alloc, &mut openings, case)?;
     add_queries(alloc, &mut openings, case.queries, case.kept, case.limit)?;
     Ok(openings)
 }

@@ -11,9 +11,9 @@ use Rattle.my_grammar.specs.Sets.{Sets, NoSets, Lone, Failed, Heading, Headed, B
 use Rattle.my_grammar.specs.Talk.{Talk, Start, Unwelcome, Greeted, Settled, Asked, Replied, Queried, Preparing, Silent, context_of}
 use Rattle.my_grammar.proofs.Growth.Known.{is_greeting_kind, is_single_kind, is_head_kind, is_column_kind, is_close_kind, is_row_kind}
 use Rattle.my_reading.specs.declared.call.CallKind.{CallKind}
-use Rattle.my_reading.specs.declared.call.CallKind.TheVariants.{Connect, Query, NextRow, DropResult, TakeSet, SkipTaken, Ping, Quit}
+use Rattle.my_reading.specs.declared.call.CallKind.TheVariants.{Connect, Query, Prepare, Execute, CloseStmt, NextRow, DropResult, TakeSet, SkipTaken, Ping, Quit}
 use Rattle.my_session.specs.declared.task.Task.{Task}
-use Rattle.my_session.specs.declared.task.Task.TheVariants.{Nothing, Begun, Cleaning, Own, Arranging, Reading, Dropping, Taking, Skipping, Leaving, Failing}
+use Rattle.my_session.specs.declared.task.Task.TheVariants.{Nothing, Begun, Cleaning, Own, Giving, Arranging, Reading, Dropping, Taking, Skipping, Leaving, Failing}
 use Rattle.my_session.specs.declared.tables.Reaction.{Reaction}
 use Rattle.my_session.specs.declared.tables.Reaction.TheVariants as reactions
 use Rattle.my_session.specs.Entries.{sets_of}
@@ -44,19 +44,19 @@ connect_fits kinds.Parameter = tt
 connect_fits kinds.Field = tt
 connect_fits kinds.Bad = tt
 
-query_fits : (k : Kind) → FitsKind (react_query k) k
-query_fits (kinds.Greets n) = tt
-query_fits (kinds.Good status) = tt
-query_fits kinds.Failed = refl
-query_fits (kinds.Count n) = tt
-query_fits kinds.Column = tt
-query_fits kinds.ColumnsDone = tt
-query_fits kinds.Row = tt
-query_fits (kinds.End status) = tt
-query_fits (kinds.Prepared params columns) = tt
-query_fits kinds.Parameter = tt
-query_fits kinds.Field = tt
-query_fits kinds.Bad = tt
+query_fits : (c : CallKind) (k : Kind) → FitsKind (react_query c k) k
+query_fits c (kinds.Greets n) = tt
+query_fits c (kinds.Good status) = tt
+query_fits c kinds.Failed = refl
+query_fits c (kinds.Count n) = tt
+query_fits c kinds.Column = tt
+query_fits c kinds.ColumnsDone = tt
+query_fits c kinds.Row = tt
+query_fits c (kinds.End status) = tt
+query_fits c (kinds.Prepared params columns) = tt
+query_fits c kinds.Parameter = tt
+query_fits c kinds.Field = tt
+query_fits c kinds.Bad = tt
 
 ping_fits : (k : Kind) → FitsKind (react_ping k) k
 ping_fits (kinds.Greets n) = tt
@@ -72,16 +72,6 @@ ping_fits kinds.Parameter = tt
 ping_fits kinds.Field = tt
 ping_fits kinds.Bad = tt
 
-own_fits : (c : CallKind) (k : Kind) → FitsKind (react_own c k) k
-own_fits Connect k = connect_fits k
-own_fits Query k = query_fits k
-own_fits NextRow k = tt
-own_fits DropResult k = tt
-own_fits TakeSet k = tt
-own_fits SkipTaken k = tt
-own_fits Ping k = ping_fits k
-own_fits Quit k = tt
-
 whole_fits : (t : Task) (k : Kind) → FitsKind (react_whole t k) k
 whole_fits t (kinds.Greets n) = tt
 whole_fits t (kinds.Good status) = tt
@@ -96,11 +86,25 @@ whole_fits t kinds.Parameter = tt
 whole_fits t kinds.Field = tt
 whole_fits t kinds.Bad = tt
 
+own_fits : (c : CallKind) (k : Kind) → FitsKind (react_own c k) k
+own_fits Connect k = connect_fits k
+own_fits Query k = query_fits Query k
+own_fits Prepare k = whole_fits (Own Prepare) k
+own_fits Execute k = query_fits Execute k
+own_fits CloseStmt k = tt
+own_fits NextRow k = tt
+own_fits DropResult k = tt
+own_fits TakeSet k = tt
+own_fits SkipTaken k = tt
+own_fits Ping k = ping_fits k
+own_fits Quit k = tt
+
 pub react_fits : (t : Task) (k : Kind) → FitsKind (react t k) k
 react_fits Nothing k = tt
 react_fits (Begun c) k = tt
 react_fits (Cleaning c) k = whole_fits (Cleaning c) k
 react_fits (Own c) k = own_fits c k
+react_fits Giving k = tt
 react_fits (Arranging n) k = whole_fits (Arranging n) k
 react_fits Reading (kinds.Greets n) = tt
 react_fits Reading (kinds.Good status) = tt
@@ -264,50 +268,50 @@ ping_breaks kinds.Field e b = cc
 ping_breaks kinds.Bad e b = refl
 
 -- a set's head is awaited, or a part of it
-head_breaks : (k : Kind) → is_head_kind k ≡ true → is_breaking (react_query k) ≡ true → is_bad k ≡ true
-head_breaks (kinds.Greets n) e b = cc
-head_breaks (kinds.Good status) e b = cc
-head_breaks kinds.Failed e b = cc
-head_breaks (kinds.Count n) e b = cc
-head_breaks kinds.Column e b = cc
-head_breaks kinds.ColumnsDone e b = cc
-head_breaks kinds.Row e b = cc
-head_breaks (kinds.End status) e b = cc
-head_breaks (kinds.Prepared params columns) e b = cc
-head_breaks kinds.Parameter e b = cc
-head_breaks kinds.Field e b = cc
-head_breaks kinds.Bad e b = refl
+head_breaks : (c : CallKind) (k : Kind) → is_head_kind k ≡ true → is_breaking (react_query c k) ≡ true → is_bad k ≡ true
+head_breaks c (kinds.Greets n) e b = cc
+head_breaks c (kinds.Good status) e b = cc
+head_breaks c kinds.Failed e b = cc
+head_breaks c (kinds.Count n) e b = cc
+head_breaks c kinds.Column e b = cc
+head_breaks c kinds.ColumnsDone e b = cc
+head_breaks c kinds.Row e b = cc
+head_breaks c (kinds.End status) e b = cc
+head_breaks c (kinds.Prepared params columns) e b = cc
+head_breaks c kinds.Parameter e b = cc
+head_breaks c kinds.Field e b = cc
+head_breaks c kinds.Bad e b = refl
 
-column_breaks : (k : Kind) → is_column_kind k ≡ true → is_breaking (react_query k) ≡ true → is_bad k ≡ true
-column_breaks (kinds.Greets n) e b = cc
-column_breaks (kinds.Good status) e b = cc
-column_breaks kinds.Failed e b = cc
-column_breaks (kinds.Count n) e b = cc
-column_breaks kinds.Column e b = cc
-column_breaks kinds.ColumnsDone e b = cc
-column_breaks kinds.Row e b = cc
-column_breaks (kinds.End status) e b = cc
-column_breaks (kinds.Prepared params columns) e b = cc
-column_breaks kinds.Parameter e b = cc
-column_breaks kinds.Field e b = cc
-column_breaks kinds.Bad e b = refl
+column_breaks : (c : CallKind) (k : Kind) → is_column_kind k ≡ true → is_breaking (react_query c k) ≡ true → is_bad k ≡ true
+column_breaks c (kinds.Greets n) e b = cc
+column_breaks c (kinds.Good status) e b = cc
+column_breaks c kinds.Failed e b = cc
+column_breaks c (kinds.Count n) e b = cc
+column_breaks c kinds.Column e b = cc
+column_breaks c kinds.ColumnsDone e b = cc
+column_breaks c kinds.Row e b = cc
+column_breaks c (kinds.End status) e b = cc
+column_breaks c (kinds.Prepared params columns) e b = cc
+column_breaks c kinds.Parameter e b = cc
+column_breaks c kinds.Field e b = cc
+column_breaks c kinds.Bad e b = refl
 
-close_breaks : (k : Kind) → is_close_kind k ≡ true → is_breaking (react_query k) ≡ true → is_bad k ≡ true
-close_breaks (kinds.Greets n) e b = cc
-close_breaks (kinds.Good status) e b = cc
-close_breaks kinds.Failed e b = cc
-close_breaks (kinds.Count n) e b = cc
-close_breaks kinds.Column e b = cc
-close_breaks kinds.ColumnsDone e b = cc
-close_breaks kinds.Row e b = cc
-close_breaks (kinds.End status) e b = cc
-close_breaks (kinds.Prepared params columns) e b = cc
-close_breaks kinds.Parameter e b = cc
-close_breaks kinds.Field e b = cc
-close_breaks kinds.Bad e b = refl
+close_breaks : (c : CallKind) (k : Kind) → is_close_kind k ≡ true → is_breaking (react_query c k) ≡ true → is_bad k ≡ true
+close_breaks c (kinds.Greets n) e b = cc
+close_breaks c (kinds.Good status) e b = cc
+close_breaks c kinds.Failed e b = cc
+close_breaks c (kinds.Count n) e b = cc
+close_breaks c kinds.Column e b = cc
+close_breaks c kinds.ColumnsDone e b = cc
+close_breaks c kinds.Row e b = cc
+close_breaks c (kinds.End status) e b = cc
+close_breaks c (kinds.Prepared params columns) e b = cc
+close_breaks c kinds.Parameter e b = cc
+close_breaks c kinds.Field e b = cc
+close_breaks c kinds.Bad e b = refl
 
 -- a stream takes what a query does
-taking_breaks : (k : Kind) → is_breaking (react Taking k) ≡ is_breaking (react_query k)
+taking_breaks : (k : Kind) → is_breaking (react Taking k) ≡ is_breaking (react_query Query k)
 taking_breaks (kinds.Greets n) = refl
 taking_breaks (kinds.Good status) = refl
 taking_breaks kinds.Failed = refl
@@ -397,23 +401,37 @@ heading_spot (Preparing terms c reply) q e = cc
 heading_spot (Silent terms c) q e = cc
 
 pub head_awaits : Awaits (Own Query) spots.Head
-head_awaits = record { waits = refl; breaks = head_breaks }
+head_awaits = record { waits = refl; breaks = head_breaks Query }
 
 pub column_awaits : (left : ℕ) → Awaits (Own Query) (spots.Columns left)
-column_awaits left = record { waits = refl; breaks = column_breaks }
+column_awaits left = record { waits = refl; breaks = column_breaks Query }
 
 pub close_awaits : Awaits (Own Query) spots.ColumnsEnd
-close_awaits = record { waits = refl; breaks = close_breaks }
+close_awaits = record { waits = refl; breaks = close_breaks Query }
+
+-- so it is of an execution
+pub execution_head_awaits : Awaits (Own Execute) spots.Head
+execution_head_awaits = record { waits = refl; breaks = head_breaks Execute }
+
+pub execution_column_awaits : (left : ℕ) → Awaits (Own Execute) (spots.Columns left)
+execution_column_awaits left = record { waits = refl; breaks = column_breaks Execute }
+
+pub execution_close_awaits : Awaits (Own Execute) spots.ColumnsEnd
+execution_close_awaits = record { waits = refl; breaks = close_breaks Execute }
+
+-- the reply to a statement to prepare
+pub prepare_awaits : (spot : Spot) → is_idle spot ≡ false → is_greeting spot ≡ false → Awaits (Own Prepare) spot
+prepare_awaits spot waits past = record { waits = waits; breaks = whole_breaks (Own Prepare) spot past }
 
 -- the head of a further set is awaited, or a part of it
 pub further_awaits : Awaits Taking spots.Further
-further_awaits = record { waits = refl; breaks = λ k e b. head_breaks k e (sym (taking_breaks k) ∙ b) }
+further_awaits = record { waits = refl; breaks = λ k e b. head_breaks Query k e (sym (taking_breaks k) ∙ b) }
 
 pub next_column_awaits : (left : ℕ) → Awaits Taking (spots.Columns left)
-next_column_awaits left = record { waits = refl; breaks = λ k e b. column_breaks k e (sym (taking_breaks k) ∙ b) }
+next_column_awaits left = record { waits = refl; breaks = λ k e b. column_breaks Query k e (sym (taking_breaks k) ∙ b) }
 
 pub next_close_awaits : Awaits Taking spots.ColumnsEnd
-next_close_awaits = record { waits = refl; breaks = λ k e b. close_breaks k e (sym (taking_breaks k) ∙ b) }
+next_close_awaits = record { waits = refl; breaks = λ k e b. close_breaks Query k e (sym (taking_breaks k) ∙ b) }
 
 pub skipping_awaits : Awaits Skipping spots.Rows
 skipping_awaits = record { waits = refl; breaks = skipping_breaks }

@@ -1,7 +1,7 @@
 -- A payload of a kind reads as its packet.
-use Rattle.std.proofs.Common.{◌≡◌, ℕ, List, [], ◌∷◌, length, Bool, true, false, cond, Option, Some, None, refl, sym, ap, ◌∙◌, arith, length-append}
+use Rattle.std.proofs.Common.{◌≡◌, ℕ, List, length, Bool, true, false, cond, Option, Some, None, refl, sym, ap, ◌∙◌}
 use Rattle.my_flags.specs.declared.flags.CapabilityFlags.{CapabilityFlags}
-use Rattle.my_flags.specs.Sets.{deprecates_eof, has_more_results}
+use Rattle.my_flags.specs.Sets.{deprecates_eof}
 use Rattle.my_reply.specs.declared.err.ErrPacket.{ErrPacket}
 use Rattle.my_reply.specs.declared.ok.OkPacket.{OkPacket}
 use Rattle.my_reply.specs.declared.eof.EofPacket.{EofPacket}
@@ -23,12 +23,7 @@ use Rattle.my_grammar.specs.declared.spot.Kind.{Kind}
 use Rattle.my_grammar.specs.declared.spot.Kind.TheVariants as kinds
 use Rattle.my_grammar.specs.declared.spot.Spot.{Spot}
 use Rattle.my_grammar.specs.declared.spot.Spot.TheVariants as spots
-use Rattle.my_grammar.specs.FitSets.{AreColumns}
 use Rattle.my_grammar.specs.Kinds.{or_else, is_caching, good_kind, failed_kind, count_kind, greets_kind, described_kind, prepared_kind, done_kind, ended_kind, eof_kind, cells_at, cells_kind, end_kind, kind_by}
-use Rattle.my_grammar.specs.Sets.{NoSets, Lone, Failed, Heading, Headed, Begun, Ended, Broken}
-use Rattle.my_grammar.specs.Talk.{Talk, Start, Unwelcome, Greeted, Settled, Asked, Replied, Queried, Preparing, Silent, context_of, packets_of, Fits}
-use Rattle.my_reading.specs.declared.facts.Facts.{Facts}
-use Rattle.my_reading.specs.Facts.{facts_by}
 use Rattle.my_session.specs.Machine.{is_greeting}
 use Rattle.my_reading.specs.Rows.{row_with, row_at}
 

@@ -4,6 +4,8 @@ use Rattle.my_handshake.specs.declared.greeting.Greeting.{Greeting}
 use Rattle.my_reply.specs.declared.column.Column.{Column}
 use Rattle.my_handshake.specs.Greeting.{greeting_at}
 use Rattle.my_reply.specs.Column.{column_at}
+use Rattle.my_reply.specs.declared.replies.PrepareOk.{PrepareOk}
+use Rattle.my_reply.specs.Replies.{prepare_ok_at}
 use Rattle.my_grammar.specs.declared.packet.Packet.{Packet}
 use Rattle.my_grammar.specs.declared.login.Login.{Login}
 use Rattle.my_grammar.specs.declared.spot.Kind.{Kind}
@@ -13,7 +15,7 @@ use Rattle.my_grammar.specs.Talk.{Talk, packets_of}
 use Rattle.my_reading.specs.declared.facts.Facts.{Facts}
 use Rattle.my_session.specs.Causes.{place_in}
 use Rattle.my_session.specs.Entries.{Entry, facts_of}
-use Rattle.my_reading.specs.Facts.{with_greeting, with_column, told_after, facts_by}
+use Rattle.my_reading.specs.Facts.{with_greeting, with_column, with_head, with_parameter, with_field, told_after, facts_by}
 use Rattle.my_session.specs.Law.{in_order, talks}
 
 greeting_place : (o : Option Greeting) (f : Facts) → (with_greeting o f).place ≡ f.place
@@ -28,6 +30,18 @@ column_place : (o : Option Column) (f : Facts) → (with_column o f).place ≡ f
 column_place None f = refl
 column_place (Some c) f = column_if (leb f.left 1) _ _ f refl refl
 
+head_place : (o : Option PrepareOk) (f : Facts) → (with_head o f).place ≡ f.place
+head_place None f = refl
+head_place (Some ok) f = refl
+
+parameter_place : (o : Option Column) (f : Facts) → (with_parameter o f).place ≡ f.place
+parameter_place None f = refl
+parameter_place (Some c) f = refl
+
+field_place : (o : Option Column) (f : Facts) → (with_field o f).place ≡ f.place
+field_place None f = refl
+field_place (Some c) f = refl
+
 told_place : (k : Kind) (p : List ℕ) (f : Facts) → (told_after k p f).place ≡ f.place
 told_place (kinds.Greets n) p f = greeting_place (greeting_at p) f
 told_place (kinds.Good status) p f = refl
@@ -37,9 +51,9 @@ told_place kinds.Column p f = column_place (column_at p) f
 told_place kinds.ColumnsDone p f = refl
 told_place kinds.Row p f = refl
 told_place (kinds.End status) p f = refl
-told_place (kinds.Prepared params columns) p f = refl
-told_place kinds.Parameter p f = refl
-told_place kinds.Field p f = refl
+told_place (kinds.Prepared params columns) p f = head_place (prepare_ok_at p) f
+told_place kinds.Parameter p f = parameter_place (column_at p) f
+told_place kinds.Field p f = field_place (column_at p) f
 told_place kinds.Bad p f = refl
 
 one_more : (n most : ℕ) → min (min n most + 1) most ≡ min (n + 1) most

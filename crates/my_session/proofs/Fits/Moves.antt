@@ -2,13 +2,14 @@
 use Rattle.std.proofs.Common.{◌≡◌, ◌||◌, Bool, true, false, Option, Some, None, refl, ◌∙◌}
 use Rattle.my_reading.specs.declared.call.CallKind.{CallKind}
 use Rattle.my_session.specs.declared.task.Task.{Task}
-use Rattle.my_session.specs.declared.task.Task.TheVariants.{Nothing, Begun, Cleaning, Own, Arranging, Reading, Dropping, Taking, Skipping, Leaving, Failing}
+use Rattle.my_session.specs.declared.task.Task.TheVariants.{Nothing, Begun, Cleaning, Own, Giving, Arranging, Reading, Dropping, Taking, Skipping, Leaving, Failing}
 use Rattle.my_reading.specs.declared.error.Error.{Error}
 use Rattle.my_reading.specs.Calls.{asks, is_connect}
 use Rattle.my_session.specs.Tasks.{kind_in, fault_in}
 use Rattle.my_session.specs.Fits.{may_be_told, OwnError, is_begun}
-use Rattle.my_reading.specs.Told.{Told, ToldReady, ToldRow, ToldEnd, ToldNone, ToldError, Dropped}
-use Rattle.my_session.specs.Machine.{Doing, Goes, Passes, Sends, Needs, Tells, Move, fell, with_task, with_taken, failed_by}
+use Rattle.my_reading.specs.Told.{Told, ToldReady, ToldRow, ToldEnd, ToldNone, ToldStatement, ToldError, Dropped}
+use Rattle.my_session.specs.Machine.{Doing, Goes, Passes, Sends, Needs, Tells, Move, fell, with_task, with_taken, with_statements, failed_by}
+use Rattle.my_reading.specs.Statements.{Statements}
 use Rattle.my_session.specs.Seen.{Seen}
 
 -- only a call that sends a command cleans, and only such a call or the handshake has an exchange of its own
@@ -17,6 +18,7 @@ is_proper Nothing = true
 is_proper (Begun c) = true
 is_proper (Cleaning c) = asks c
 is_proper (Own c) = asks c || is_connect c
+is_proper Giving = true
 is_proper (Arranging n) = true
 is_proper Reading = true
 is_proper Dropping = true
@@ -58,6 +60,9 @@ on_task s n t untold w = record { login = w.login; ended = w.ended; alive = w.al
 pub on_taken : (s n : Seen) → IsOn s n → IsOn s (with_taken n)
 on_taken s n w = record { login = w.login; ended = w.ended; alive = w.alive }
 
+pub on_statements : (s n : Seen) (st : Statements) → IsOn s n → IsOn s (with_statements n st)
+on_statements s n st w = record { login = w.login; ended = w.ended; alive = w.alive }
+
 pub on_fell : (s n : Seen) → IsOn s n → IsOn s (fell n)
 on_fell s n w = record { login = w.login; ended = w.ended; alive = λ e. let no : true ≡ false = e in cc }
 
@@ -70,6 +75,7 @@ OwnTold ended ToldReady = Unit {0}
 OwnTold ended (ToldRow row) = Unit {0}
 OwnTold ended ToldEnd = Unit {0}
 OwnTold ended ToldNone = Unit {0}
+OwnTold ended (ToldStatement statement) = Unit {0}
 OwnTold ended (ToldError e) = OwnError ended e
 OwnTold ended (Dropped closing) = Unit {0}
 

@@ -1,46 +1,78 @@
 -- What a task plans fits its call.
-use Rattle.std.proofs.Common.{◌≡◌, ℕ, suc, length, Bool, true, false, cond, Option, Some, None, refl, subst}
+use Rattle.std.proofs.Common.{◌≡◌, ℕ, suc, Bool, true, false, Option, Some, None, refl, subst}
 use Rattle.my_frame.specs.Front.{front_at}
 use Rattle.my_command.specs.declared.client.ClientPacket.TheVariants as packets
 use Rattle.my_command.specs.Client.Packet.{client_bytes as packet_bytes}
 use Rattle.my_grammar.specs.declared.spot.Spot.{Spot}
 use Rattle.my_grammar.specs.declared.spot.Spot.TheVariants as spots
-use Rattle.my_grammar.specs.Talk.{Talk, Queried, Asked, Silent}
-use Rattle.my_grammar.specs.Sets.{ByText, NoSets}
+use Rattle.my_grammar.specs.Prepares.{Unanswered}
+use Rattle.my_grammar.specs.Talk.{Talk, Queried, Asked, Preparing, Silent}
+use Rattle.my_grammar.specs.Sets.{ByStatement, ByText, NoSets}
+use Rattle.my_params.specs.LongData.{ahead_of}
+use Rattle.my_params.specs.Parameters.{body_of}
+use Rattle.my_statements.specs.Cache.{Held}
+use Rattle.my_reading.specs.declared.error.DriverError.{DriverError}
+use Rattle.my_reading.specs.declared.error.Error.TheVariants as errors
+use Rattle.my_reading.specs.Executions.{Values, Fitting, Unfitting, values_for}
+use Rattle.my_reading.specs.Facts.{prepared_by}
+use Rattle.my_reading.specs.Statements.{held_in, is_mixed_text, known_in, leaving, names_of, query_of, statement_with}
 use Rattle.my_reading.specs.declared.call.CallKind.{CallKind}
-use Rattle.my_reading.specs.declared.call.CallKind.TheVariants.{Connect, Query, NextRow, DropResult, TakeSet, SkipTaken, Ping, Quit}
+use Rattle.my_reading.specs.declared.call.CallKind.TheVariants.{Connect, Query, Prepare, Execute, CloseStmt, NextRow, DropResult, TakeSet, SkipTaken, Ping, Quit}
 use Rattle.my_session.specs.declared.task.Task.{Task}
-use Rattle.my_session.specs.declared.task.Task.TheVariants.{Nothing, Begun, Cleaning, Own, Arranging, Reading, Dropping, Taking, Skipping, Leaving, Failing}
+use Rattle.my_session.specs.declared.task.Task.TheVariants.{Nothing, Begun, Cleaning, Own, Giving, Arranging, Reading, Dropping, Taking, Skipping, Leaving, Failing}
 use Rattle.my_session.specs.declared.tables.Plan.{Plan}
 use Rattle.my_session.specs.declared.tables.Plan.TheVariants as plans
-use Rattle.my_reading.specs.Calls.{asks, call_of}
+use Rattle.my_reading.specs.Calls.{asks, call_of, id_in, params_in, statement_in, text_in}
 use Rattle.my_session.specs.Tasks.{kind_in, fault_in}
-use Rattle.my_reading.specs.Commands.{command_of, command_in}
+use Rattle.my_reading.specs.Commands.{closing, command_of, connecting, execution}
 use Rattle.my_session.specs.Fits.{may_be_told, is_begun}
-use Rattle.my_reading.specs.Told.{ToldReady, ToldEnd, ToldNone}
-use Rattle.my_session.specs.Machine.{Sends, Move, next_terms, asked, arranged, queued, too_large, planned, with_task}
+use Rattle.my_reading.specs.Told.{ToldReady, ToldEnd, ToldNone, ToldStatement}
+use Rattle.my_session.specs.Machine.{Goes, Sends, Move, next_terms, unless_exceeds, unless_refused, refusal, refused_by, looked, with_kept, kept, asked, arranged, queued, planned, with_task}
 use Rattle.my_session.specs.Seen.{Seen}
-use Rattle.my_session.specs.Tables.{plan_of, clean_plan, own_plan, query_plan, read_plan, drop_plan, take_plan, skip_plan, first_task}
-use Rattle.my_session.proofs.Fits.Moves.{is_proper, GoesOn, going, on_here, on_task, on_taken, on_fell, MoveFits, failed_fits}
+use Rattle.my_session.specs.Tables.{plan_of, clean_plan, own_plan, query_plan, execute_plan, prepare_plan, read_plan, drop_plan, take_plan, skip_plan, first_plan}
+use Rattle.my_session.proofs.Fits.Moves.{is_proper, GoesOn, going, IsOn, on_here, on_task, on_taken, on_statements, on_fell, MoveFits, any_error, failed_fits}
 use Rattle.my_session.proofs.Fits.Reacts.{reading_fits}
+use Rattle.my_session.proofs.Refusals.{refusal_own}
 
-begins_if : (s : Seen) (c : Option CallKind) (u : Task) (talk : Talk) (b : Bool) → is_begun u ≡ false → fault_in u ≡ None → MoveFits c s (cond {A = Move} b (too_large s s.facts.settings.limit (length (command_in talk))) (record { seen = queued s u talk; does = Sends }))
-begins_if s c u talk true n e = failed_fits s _ c (λ _. tt)
-begins_if s c u talk false n e = record { fits = (n, e); is_on = record { login = refl; ended = refl; alive = λ e. e }; own = λ _. tt }
+begins_if : (s n : Seen) (c : Option CallKind) (u : Task) (talk : Talk) (long : Option ℕ) → IsOn s n → is_begun u ≡ false → fault_in u ≡ None → MoveFits c s (unless_exceeds n long (record { seen = queued n u talk; does = Sends }))
+begins_if s n c u talk (Some len) on stepped sound = record { fits = any_error c _; is_on = on_fell s n on; own = λ _. tt }
+begins_if s n c u talk None on stepped sound = record { fits = (stepped, sound); is_on = record { login = on.login; ended = on.ended; alive = on.alive }; own = λ _. tt }
 
-asked_fits : (s : Seen) (c : CallKind) → asks c ≡ true → MoveFits (Some c) s (asked s c (command_of (next_terms s) (call_of c s.text)))
-asked_fits s Connect a = cc
-asked_fits s Query a = begins_if s (Some Query) (Own Query) (Queried (next_terms s) (packet_bytes (packets.Query s.text)) (NoSets ByText)) _ refl refl
-asked_fits s NextRow a = cc
-asked_fits s DropResult a = cc
-asked_fits s TakeSet a = cc
-asked_fits s SkipTaken a = cc
-asked_fits s Ping a = begins_if s (Some Ping) (Own Ping) (Asked (next_terms s) (packet_bytes packets.Ping)) _ refl refl
-asked_fits s Quit a = begins_if s (Some Quit) (Own Quit) (Silent (next_terms s) (packet_bytes packets.Quit)) _ refl refl
+-- parameters may be refused
+refusal_fits : (s : Seen) (kind : Option CallKind) (c : CallKind) (o : Option DriverError) (m : Move) → refusal c s.call ≡ o → (o ≡ None → MoveFits kind s m) → MoveFits kind s (unless_refused s o m)
+refusal_fits s kind c None m is f = f refl
+refusal_fits s kind c (Some e) m is f = failed_fits s (errors.Driver e) kind (λ _. refusal_own c s.call e is)
+
+executed_fits : (s : Seen) (id : ℕ) (v : Values) → refused_by v ≡ None → MoveFits (Some Execute) s (asked s Execute (execution (next_terms s) s.statements id v))
+executed_fits s id (Fitting values) fit = begins_if s s (Some Execute) (Own Execute) (Queried (next_terms s) (body_of id values) (NoSets (ByStatement (ahead_of id values) (known_in s.statements id)))) _ (on_here s) refl refl
+executed_fits s id (Unfitting e) fit = cc
+
+asked_fits : (s : Seen) (c : CallKind) → asks c ≡ true → refusal c s.call ≡ None → MoveFits (Some c) s (asked s c (command_of (next_terms s) s.statements (call_of c s.call)))
+asked_fits s Connect a r = cc
+asked_fits s Query a r = begins_if s s (Some Query) (Own Query) (Queried (next_terms s) (packet_bytes (packets.Query (text_in s.call))) (NoSets ByText)) _ (on_here s) refl refl
+asked_fits s Prepare a r = begins_if s s (Some Prepare) (Own Prepare) (Preparing (next_terms s) (packet_bytes (packets.Prepare (query_of (text_in s.call)))) Unanswered) _ (on_here s) refl refl
+asked_fits s Execute a r = executed_fits s (statement_in s.call).inner.id (values_for (statement_in s.call) (params_in s.call)) r
+asked_fits s CloseStmt a r = begins_if s s (Some CloseStmt) (Own CloseStmt) (closing (next_terms s) (id_in s.call)) _ (on_here s) refl refl
+asked_fits s NextRow a r = cc
+asked_fits s DropResult a r = cc
+asked_fits s TakeSet a r = cc
+asked_fits s SkipTaken a r = cc
+asked_fits s Ping a r = begins_if s s (Some Ping) (Own Ping) (Asked (next_terms s) (packet_bytes packets.Ping)) _ (on_here s) refl refl
+asked_fits s Quit a r = begins_if s s (Some Quit) (Own Quit) (Silent (next_terms s) (packet_bytes packets.Quit)) _ (on_here s) refl refl
 
 arranged_fits : (s : Seen) (c : Option CallKind) (n : ℕ) (o : Option Talk) → may_be_told c ToldReady ≡ true → MoveFits c s (arranged s n o)
 arranged_fits s c n None f = record { fits = f; is_on = on_task s s Nothing s.untold (on_here s); own = λ _. tt }
-arranged_fits s c n (Some talk) f = begins_if s c (Arranging (suc n)) talk _ refl refl
+arranged_fits s c n (Some talk) f = begins_if s s c (Arranging (suc n)) talk _ (on_here s) refl refl
+
+-- a statement that is looked for, or kept
+looked_fits : (s : Seen) (mixed : Bool) (o : Option Held) → MoveFits (Some Prepare) s (looked s mixed o)
+looked_fits s true o = record { fits = refl; is_on = on_task s s Nothing s.untold (on_here s); own = λ _. tt }
+looked_fits s false None = record { fits = going (Some Prepare) (Cleaning Prepare) refl refl refl refl; is_on = on_task s s (Cleaning Prepare) s.untold (on_here s); own = λ _. tt }
+looked_fits s false (Some h) = record { fits = refl; is_on = on_statements s (with_task s Nothing s.untold) _ (on_task s s Nothing s.untold (on_here s)); own = λ _. tt }
+
+kept_fits : (s : Seen) (o : Option ℕ) → MoveFits (Some Prepare) s (kept (with_kept s) o)
+kept_fits s None = record { fits = going (Some Prepare) Giving refl refl refl refl; is_on = on_task s (with_kept s) Giving false (on_statements s s _ (on_here s)); own = λ _. tt }
+kept_fits s (Some id) = begins_if s (with_kept s) (Some Prepare) Giving (closing (next_terms s) id) _ (on_statements s s _ (on_here s)) refl refl
 
 -- what a task may plan
 abbrev PlanFits : Task → Option CallKind → Plan → Type 0
@@ -50,6 +82,12 @@ PlanFits t c plans.Hears = is_begun t ≡ false
 PlanFits t c (plans.Asks d) = (asks d ≡ true) × (Some d ≡ c)
 PlanFits t c (plans.Arranges n) = may_be_told c ToldReady ≡ true
 PlanFits t c plans.Readies = may_be_told c ToldReady ≡ true
+PlanFits t c plans.Finds = Some Prepare ≡ c
+PlanFits t c plans.Checks = Some Execute ≡ c
+PlanFits t c plans.Forgets = Some CloseStmt ≡ c
+PlanFits t c plans.Learns = may_be_told c ToldReady ≡ true
+PlanFits t c plans.Keeps = Some Prepare ≡ c
+PlanFits t c plans.Gives = Some Prepare ≡ c
 PlanFits t c plans.Takes = may_be_told c ToldReady ≡ true
 PlanFits t c plans.Quits = may_be_told c ToldReady ≡ true
 PlanFits t c plans.Passes = is_begun t ≡ false
@@ -61,9 +99,15 @@ pub planned_fits : (s : Seen) (p : Plan) → is_proper s.task ≡ true → fault
 planned_fits s plans.Reads a e f = reading_fits s (front_at s.number s.context.terms.limit s.unread) a f e
 planned_fits s (plans.Starts t) a e f = record { fits = f; is_on = on_task s s t s.untold (on_here s); own = λ _. tt }
 planned_fits s plans.Hears a e f = record { fits = going (kind_in s.task) s.task a refl f e; is_on = on_task s s s.task false (on_here s); own = λ _. tt }
-planned_fits s (plans.Asks c) a e f = subst (λ (k : Option CallKind). MoveFits k s (asked s c (command_of (next_terms s) (call_of c s.text)))) f.1 (asked_fits s c f.0)
-planned_fits s (plans.Arranges n) a e f = arranged_fits s (kind_in s.task) n _ f
+planned_fits s plans.Finds a e f = subst (λ (k : Option CallKind). MoveFits k s (looked s (is_mixed_text (text_in s.call)) (held_in s.statements (query_of (text_in s.call))))) f (looked_fits s (is_mixed_text (text_in s.call)) (held_in s.statements (query_of (text_in s.call))))
+planned_fits s plans.Checks a e f = refusal_fits s (kind_in s.task) Execute (refusal Execute s.call) (record { seen = with_task s (Cleaning Execute) s.untold; does = Goes }) refl (λ _. record { fits = going (kind_in s.task) (Cleaning Execute) refl f refl refl; is_on = on_task s s (Cleaning Execute) s.untold (on_here s); own = λ _. tt })
+planned_fits s plans.Forgets a e f = record { fits = going (kind_in s.task) (Cleaning CloseStmt) refl f refl refl; is_on = on_statements s (with_task s (Cleaning CloseStmt) s.untold) _ (on_task s s (Cleaning CloseStmt) s.untold (on_here s)); own = λ _. tt }
+planned_fits s (plans.Asks c) a e f = refusal_fits s (kind_in s.task) c (refusal c s.call) (asked s c (command_of (next_terms s) s.statements (call_of c s.call))) refl (λ none. subst (λ (k : Option CallKind). MoveFits k s (asked s c (command_of (next_terms s) s.statements (call_of c s.call)))) f.1 (asked_fits s c f.0 none))
+planned_fits s (plans.Arranges n) a e f = arranged_fits s (kind_in s.task) n (connecting s.login (next_terms s) (suc n)) f
 planned_fits s plans.Readies a e f = record { fits = f; is_on = on_task s s Nothing s.untold (on_here s); own = λ _. tt }
+planned_fits s plans.Learns a e f = record { fits = f; is_on = on_statements s (with_task s Nothing s.untold) _ (on_task s s Nothing s.untold (on_here s)); own = λ _. tt }
+planned_fits s plans.Keeps a e f = subst (λ (k : Option CallKind). MoveFits k s (kept (with_kept s) (leaving (query_of (text_in s.call)) (prepared_by s.facts) s.statements))) f (kept_fits s (leaving (query_of (text_in s.call)) (prepared_by s.facts) s.statements))
+planned_fits s plans.Gives a e f = record { fits = subst (λ (k : Option CallKind). may_be_told k (ToldStatement (statement_with (prepared_by s.facts) (names_of (text_in s.call)))) ≡ true) f refl; is_on = on_task s s Nothing false (on_here s); own = λ _. tt }
 planned_fits s plans.Takes a e f = record { fits = f; is_on = on_taken s (with_task s Nothing s.untold) (on_task s s Nothing s.untold (on_here s)); own = λ _. tt }
 planned_fits s plans.Quits a e f = record { fits = f; is_on = on_fell s s (on_here s); own = λ _. tt }
 planned_fits s plans.Passes a e f = record { fits = going (kind_in s.task) s.task a refl f e; is_on = on_task s s s.task false (on_here s); own = λ _. tt }
@@ -71,15 +115,18 @@ planned_fits s plans.Dropped a e f = record { fits = f; is_on = on_task s s Noth
 planned_fits s plans.Ends a e f = record { fits = f; is_on = on_task s s Nothing false (on_here s); own = λ _. tt }
 planned_fits s plans.NoMore a e f = record { fits = f; is_on = on_task s s Nothing s.untold (on_here s); own = λ _. tt }
 
-first_plan : (t : Task) (c : CallKind) → PlanFits t (Some c) (plans.Starts (first_task c))
-first_plan t Connect = going (Some Connect) (Own Connect) refl refl refl refl
-first_plan t Query = going (Some Query) (Cleaning Query) refl refl refl refl
-first_plan t NextRow = going (Some NextRow) Reading refl refl refl refl
-first_plan t DropResult = going (Some DropResult) Dropping refl refl refl refl
-first_plan t TakeSet = going (Some TakeSet) Taking refl refl refl refl
-first_plan t SkipTaken = going (Some SkipTaken) Skipping refl refl refl refl
-first_plan t Ping = going (Some Ping) (Cleaning Ping) refl refl refl refl
-first_plan t Quit = going (Some Quit) (Cleaning Quit) refl refl refl refl
+first_plan_fits : (t : Task) (c : CallKind) → PlanFits t (Some c) (first_plan c)
+first_plan_fits t Connect = going (Some Connect) (Own Connect) refl refl refl refl
+first_plan_fits t Query = going (Some Query) (Cleaning Query) refl refl refl refl
+first_plan_fits t Prepare = refl
+first_plan_fits t Execute = refl
+first_plan_fits t CloseStmt = refl
+first_plan_fits t NextRow = going (Some NextRow) Reading refl refl refl refl
+first_plan_fits t DropResult = going (Some DropResult) Dropping refl refl refl refl
+first_plan_fits t TakeSet = going (Some TakeSet) Taking refl refl refl refl
+first_plan_fits t SkipTaken = going (Some SkipTaken) Skipping refl refl refl refl
+first_plan_fits t Ping = going (Some Ping) (Cleaning Ping) refl refl refl refl
+first_plan_fits t Quit = going (Some Quit) (Cleaning Quit) refl refl refl refl
 
 clean_plan_fits : (t : Task) (c : Option CallKind) (p : Plan) → is_begun t ≡ false → PlanFits t c p → (spot : Spot) (untold : Bool) → PlanFits t c (clean_plan p spot untold)
 clean_plan_fits t c p n f spots.Idle true = n
@@ -114,9 +161,44 @@ query_plan_fits (spots.ParametersEnd columns) = refl
 query_plan_fits (spots.Fields left) = refl
 query_plan_fits spots.FieldsEnd = refl
 
+execute_plan_fits : (spot : Spot) → PlanFits (Own Execute) (Some Execute) (execute_plan spot)
+execute_plan_fits spots.Idle = refl
+execute_plan_fits spots.Greeting = refl
+execute_plan_fits spots.Authentication = refl
+execute_plan_fits spots.Single = refl
+execute_plan_fits spots.Head = refl
+execute_plan_fits spots.Further = refl
+execute_plan_fits (spots.Columns left) = refl
+execute_plan_fits spots.ColumnsEnd = refl
+execute_plan_fits spots.Rows = refl
+execute_plan_fits spots.Prepare = refl
+execute_plan_fits (spots.Parameters left columns) = refl
+execute_plan_fits (spots.ParametersEnd columns) = refl
+execute_plan_fits (spots.Fields left) = refl
+execute_plan_fits spots.FieldsEnd = refl
+
+prepare_plan_fits : (spot : Spot) → PlanFits (Own Prepare) (Some Prepare) (prepare_plan spot)
+prepare_plan_fits spots.Idle = refl
+prepare_plan_fits spots.Greeting = refl
+prepare_plan_fits spots.Authentication = refl
+prepare_plan_fits spots.Single = refl
+prepare_plan_fits spots.Head = refl
+prepare_plan_fits spots.Further = refl
+prepare_plan_fits (spots.Columns left) = refl
+prepare_plan_fits spots.ColumnsEnd = refl
+prepare_plan_fits spots.Rows = refl
+prepare_plan_fits spots.Prepare = refl
+prepare_plan_fits (spots.Parameters left columns) = refl
+prepare_plan_fits (spots.ParametersEnd columns) = refl
+prepare_plan_fits (spots.Fields left) = refl
+prepare_plan_fits spots.FieldsEnd = refl
+
 own_plan_fits : (c : CallKind) (spot : Spot) → PlanFits (Own c) (Some c) (own_plan c spot)
 own_plan_fits Connect spot = refl
 own_plan_fits Query spot = query_plan_fits spot
+own_plan_fits Prepare spot = prepare_plan_fits spot
+own_plan_fits Execute spot = execute_plan_fits spot
+own_plan_fits CloseStmt spot = refl
 own_plan_fits NextRow spot = refl
 own_plan_fits DropResult spot = refl
 own_plan_fits TakeSet spot = refl
@@ -190,9 +272,10 @@ skip_plan_fits spots.FieldsEnd = refl
 
 pub plan_fits : (t : Task) (spot : Spot) (untold : Bool) → is_proper t ≡ true → fault_in t ≡ None → PlanFits t (kind_in t) (plan_of t spot untold)
 plan_fits Nothing spot untold a e = refl
-plan_fits (Begun c) spot untold a e = first_plan (Begun c) c
+plan_fits (Begun c) spot untold a e = first_plan_fits (Begun c) c
 plan_fits (Cleaning c) spot untold a e = clean_plan_fits (Cleaning c) (Some c) (plans.Asks c) refl (a, refl) spot untold
 plan_fits (Own c) spot untold a e = own_plan_fits c spot
+plan_fits Giving spot untold a e = refl
 plan_fits (Arranging n) spot untold a e = clean_plan_fits (Arranging n) (Some Connect) (plans.Arranges n) refl refl spot untold
 plan_fits Reading spot true a e = refl
 plan_fits Reading spot false a e = read_plan_fits spot

@@ -1,5 +1,5 @@
 -- What a payload makes of a call fits it.
-use Rattle.std.proofs.Common.{◌≡◌, ℕ, List, Bool, true, false, cond, Option, Some, None, refl, ap, ◌∙◌}
+use Rattle.std.proofs.Common.{◌≡◌, ℕ, ◌||◌, List, Bool, true, false, cond, Option, Some, None, refl, ap, ◌∙◌}
 use Rattle.my_reply.specs.declared.err.ErrPacket.{ErrPacket}
 use Rattle.my_reply.specs.ErrPacket.{err_at}
 use Rattle.my_frame.specs.Front.{Front, Waiting, Broken, Whole}
@@ -8,19 +8,20 @@ use Rattle.my_grammar.specs.declared.spot.Kind.{Kind}
 use Rattle.my_grammar.specs.declared.spot.Kind.TheVariants as kinds
 use Rattle.my_grammar.specs.Kinds.{kind_there}
 use Rattle.my_reading.specs.declared.call.CallKind.{CallKind}
-use Rattle.my_reading.specs.declared.call.CallKind.TheVariants.{Connect, Query, NextRow, DropResult, TakeSet, SkipTaken, Ping, Quit}
+use Rattle.my_reading.specs.declared.call.CallKind.TheVariants.{Connect, Query, Prepare, Execute, CloseStmt, NextRow, DropResult, TakeSet, SkipTaken, Ping, Quit}
 use Rattle.my_session.specs.declared.task.Task.{Task}
-use Rattle.my_session.specs.declared.task.Task.TheVariants.{Nothing, Begun, Cleaning, Own, Arranging, Reading, Dropping, Taking, Skipping, Leaving, Failing}
+use Rattle.my_session.specs.declared.task.Task.TheVariants.{Nothing, Begun, Cleaning, Own, Giving, Arranging, Reading, Dropping, Taking, Skipping, Leaving, Failing}
 use Rattle.my_session.specs.declared.tables.Reaction.{Reaction}
 use Rattle.my_session.specs.declared.tables.Reaction.TheVariants as reactions
 use Rattle.my_session.specs.Tasks.{kind_in, fault_in}
 use Rattle.my_reading.specs.Errors.{invalid_data, unexpected_eof}
-use Rattle.my_session.specs.Fits.{may_be_told, is_begun}
+use Rattle.my_reading.specs.Calls.{asks, is_connect}
+use Rattle.my_session.specs.Fits.{may_be, may_be_told, is_begun}
 use Rattle.my_reading.specs.Told.{ToldReady, ToldRow, ToldEnd}
-use Rattle.my_session.specs.Machine.{Needs, Move, fell, advanced, with_task, failed_by, reply_to, above, unless_above, refused, gave, passed, reacted, read_by, reading}
+use Rattle.my_session.specs.Machine.{Needs, Move, fell, advanced, with_task, failed_by, reply_to, above, unless_above, refused, gave, passed, reacted, read_by, is_doubled, reading}
 use Rattle.my_reading.specs.Rows.{row_at}
 use Rattle.my_session.specs.Seen.{Seen}
-use Rattle.my_session.specs.Tables.{react, react_whole, is_breaking, is_connecting}
+use Rattle.my_session.specs.Tables.{react, react_query, react_whole, is_breaking, is_connecting}
 use Rattle.my_session.proofs.Fits.Moves.{is_proper, GoesOn, going, IsOn, on_here, on_task, on_taken, on_fell, MoveFits, any_error, failed_fits}
 
 -- what a reaction may be to a payload
@@ -63,19 +64,19 @@ connect_react kinds.Parameter = tt
 connect_react kinds.Field = tt
 connect_react kinds.Bad = tt
 
-query_react : (k : Kind) → ReactionFits (Own Query) (Some Query) (react (Own Query) k)
-query_react (kinds.Greets n) = tt
-query_react (kinds.Good status) = refl
-query_react kinds.Failed = tt
-query_react (kinds.Count n) = going (Some Query) (Own Query) refl refl refl refl
-query_react kinds.Column = going (Some Query) (Own Query) refl refl refl refl
-query_react kinds.ColumnsDone = going (Some Query) (Own Query) refl refl refl refl
-query_react kinds.Row = tt
-query_react (kinds.End status) = tt
-query_react (kinds.Prepared params columns) = going (Some Query) (Own Query) refl refl refl refl
-query_react kinds.Parameter = going (Some Query) (Own Query) refl refl refl refl
-query_react kinds.Field = going (Some Query) (Own Query) refl refl refl refl
-query_react kinds.Bad = tt
+query_react : (c : CallKind) (k : Kind) → asks c ≡ true → may_be c ToldReady ≡ true → ReactionFits (Own c) (Some c) (react_query c k)
+query_react c (kinds.Greets n) proper ready = tt
+query_react c (kinds.Good status) proper ready = ready
+query_react c kinds.Failed proper ready = tt
+query_react c (kinds.Count n) proper ready = going (Some c) (Own c) (ap (λ b. b || is_connect c) proper) refl refl refl
+query_react c kinds.Column proper ready = going (Some c) (Own c) (ap (λ b. b || is_connect c) proper) refl refl refl
+query_react c kinds.ColumnsDone proper ready = going (Some c) (Own c) (ap (λ b. b || is_connect c) proper) refl refl refl
+query_react c kinds.Row proper ready = tt
+query_react c (kinds.End status) proper ready = tt
+query_react c (kinds.Prepared params columns) proper ready = going (Some c) (Own c) (ap (λ b. b || is_connect c) proper) refl refl refl
+query_react c kinds.Parameter proper ready = going (Some c) (Own c) (ap (λ b. b || is_connect c) proper) refl refl refl
+query_react c kinds.Field proper ready = going (Some c) (Own c) (ap (λ b. b || is_connect c) proper) refl refl refl
+query_react c kinds.Bad proper ready = tt
 
 ping_react : (k : Kind) → ReactionFits (Own Ping) (Some Ping) (react (Own Ping) k)
 ping_react (kinds.Greets n) = tt
@@ -149,7 +150,10 @@ skipping_react kinds.Bad = tt
 
 own_react : (c : CallKind) (k : Kind) → ReactionFits (Own c) (Some c) (react (Own c) k)
 own_react Connect k = connect_react k
-own_react Query k = query_react k
+own_react Query k = query_react Query k refl refl
+own_react Prepare k = whole_react (Own Prepare) k refl refl refl
+own_react Execute k = query_react Execute k refl refl
+own_react CloseStmt k = tt
 own_react NextRow k = tt
 own_react DropResult k = tt
 own_react TakeSet k = tt
@@ -162,6 +166,7 @@ react_fits Nothing k a = tt
 react_fits (Begun c) k a = tt
 react_fits (Cleaning c) k a = whole_react (Cleaning c) k a refl refl
 react_fits (Own c) k a = own_react c k
+react_fits Giving k a = tt
 react_fits (Arranging n) k a = whole_react (Arranging n) k a refl refl
 react_fits Reading k a = reading_react k
 react_fits Dropping k a = dropping_react k
@@ -218,4 +223,4 @@ waiting_fits s false c ended n e = record { fits = (n, e); is_on = on_here s; ow
 pub reading_fits : (s : Seen) (f : Front) → is_proper s.task ≡ true → is_begun s.task ≡ false → fault_in s.task ≡ None → MoveFits (kind_in s.task) s (reading s f)
 reading_fits s Waiting a n e = waiting_fits s s.ended (kind_in s.task) refl n e
 reading_fits s (Broken fault) a n e = failed_fits s _ (kind_in s.task) (λ _. tt)
-reading_fits s (Whole p rest next) a n e = kind_fits s p rest next (kind_there s.context s.facts.columns p) (is_breaking (react s.task (kind_there s.context s.facts.columns p))) a
+reading_fits s (Whole p rest next) a n e = kind_fits s p rest next (kind_there s.context s.facts.columns p) (is_breaking (react s.task (kind_there s.context s.facts.columns p)) || is_doubled s.statements (kind_there s.context s.facts.columns p) p) a

@@ -1,36 +1,40 @@
 -- A command that the machine begins is the reading's next one.
-use Rattle.std.proofs.Common.{◌≡◌, ◌≢◌, ℕ, zero, suc, List, [], ◌∷◌, ◌++◌, length, drop, nat_lt, ◌&&◌, not, Bool, true, false, cond, Option, Some, None, inl, refl, sym, ap, ◌∙◌, subst}
+use Rattle.std.proofs.Common.{◌≡◌, ◌≢◌, ℕ, zero, suc, List, [], ◌∷◌, ◌++◌, drop, ◌&&◌, true, false, cond, Option, Some, None, inl, refl, sym, ap, ◌∙◌, subst}
 use Rattle.std.specs.List.{slice_get}
-use Rattle.my_frame.specs.declared.fault.CodecFault.TheVariants.{TooLarge}
 use Rattle.my_command.specs.declared.client.ClientPacket.TheVariants as packets
 use Rattle.my_command.specs.Client.Packet.{client_bytes as packet_bytes}
 use Rattle.my_grammar.specs.declared.spot.Context.{Context}
 use Rattle.my_grammar.specs.declared.spot.Terms.{Terms}
 use Rattle.my_grammar.specs.Cut.{is_over, is_idle}
-use Rattle.my_grammar.specs.Sets.{ByText, NoSets}
-use Rattle.my_grammar.specs.Talk.{Talk, Asked, Queried, Silent, turns, client_bytes, packets_of, context_of, limit_of, Fits, login_in}
+use Rattle.my_grammar.specs.Prepares.{Unanswered}
+use Rattle.my_grammar.specs.Sets.{ByStatement, ByText, NoSets}
+use Rattle.my_params.specs.LongData.{ahead_of}
+use Rattle.my_params.specs.Parameters.{body_of}
+use Rattle.my_reading.specs.declared.error.DriverError.{DriverError}
+use Rattle.my_reading.specs.Executions.{Values, Fitting, Unfitting, values_for}
+use Rattle.my_reading.specs.Statements.{Statements, known_in, query_of}
+use Rattle.my_grammar.specs.Talk.{Talk, Asked, Preparing, Queried, Silent, commands_in, turns, client_bytes, packets_of, context_of, limit_of, Fits, login_in}
 use Rattle.my_reading.specs.declared.call.Call.{Call}
 use Rattle.my_reading.specs.declared.call.Call.TheVariants as calls
 use Rattle.my_reading.specs.declared.call.CallKind.{CallKind}
-use Rattle.my_reading.specs.declared.call.CallKind.TheVariants.{Connect, Query, NextRow, DropResult, TakeSet, SkipTaken, Ping, Quit}
-use Rattle.my_reading.specs.Calls.{kind_of, call_of, asks}
-use Rattle.my_reading.specs.Commands.{opening, connecting, query_of, command_of, command_in, arranging_texts}
-use Rattle.my_reading.specs.Course.{Part, All, Head, Command, Goes, step, failure, return, with_command, reads, parts_of_texts, is_greeting}
-use Rattle.my_reading.specs.Errors.{codec_error}
+use Rattle.my_reading.specs.declared.call.CallKind.TheVariants.{Connect, Query, Prepare, Execute, CloseStmt, NextRow, DropResult, TakeSet, SkipTaken, Ping, Quit}
+use Rattle.my_reading.specs.Calls.{kind_of, call_of, asks, id_in, params_in, statement_in, text_in}
+use Rattle.my_reading.specs.Commands.{arranging, arranging_texts, closing, command_of, connecting, execution, opening}
+use Rattle.my_reading.specs.Course.{Part, All, Head, Command, Reply, Keep, Give, Learn, Goes, step, return, first_above, unless_long, with_command, reads, parts_of_texts, is_greeting}
 use Rattle.my_reading.specs.Leads.{Here, Then}
 use Rattle.my_reading.specs.Place.{Place, exchanges, connects_in, next_exchange, terms_of, with_exchange, without_end}
 use Rattle.my_reading.specs.Told.{ToldReady, closes}
 use Rattle.my_session.specs.declared.tables.Plan.TheVariants as plans
 use Rattle.my_session.specs.declared.task.Task.{Task}
 use Rattle.my_session.specs.declared.task.Task.TheVariants as tasks
-use Rattle.my_session.specs.Machine.{queued, begins, arranged, planned, next_terms}
-use Rattle.my_session.specs.Mirror.{Mirrors, MoveReads, TaskStandsAt, own_parts, parts_left, passes_end}
+use Rattle.my_session.specs.Machine.{Sends, queued, begins, unless_exceeds, unless_refused, refusal, refused_by, asked, arranged, planned, next_terms}
+use Rattle.my_session.specs.Mirror.{Mirrors, MoveReads, TaskStandsAt, own_parts, parts_left}
 use Rattle.my_session.specs.Seen.{Seen}
 use Rattle.my_session.specs.Stands.{owes, call_with}
 use Rattle.my_session.specs.Tasks.{kind_in, fault_in}
 use Rattle.my_session.proofs.Mirror.Fields.{mirrors_asked, step_here, owes_here, terms_here}
 use Rattle.my_session.proofs.Mirror.Payloads.{fallen_at}
-use Rattle.my_session.proofs.Steps.Going.{some_bytes}
+use Rattle.my_session.proofs.Steps.Going.{some_bytes, some_execution}
 
 -- a list that isn't empty has a first element
 some_first : (xs : List ℕ) → xs ≢ [] → (b : ℕ) × (bytes : List ℕ) × (xs ≡ b ∷ bytes)
@@ -50,8 +54,8 @@ texts_go_on [] (suc n) text e = cc
 texts_go_on (t ∷ texts) zero text e = let same : t ≡ text = cc in ap (λ x. x ∷ texts) same
 texts_go_on (t ∷ texts) (suc n) text e = texts_go_on texts n text e
 
-module _ (s : Seen) (call : Call) (p : Place) (m : Mirrors s.context s.number s.unread s.owed s.closed s.facts s.login p) (marked : p.taken ≡ s.taken)
-    (alive : s.closed ≡ false) (nothing : s.owed ≡ []) (call_is : call_with (kind_in s.task) s.text ≡ Some call)
+module _ (s : Seen) (call : Call) (p : Place) (m : Mirrors s.context s.number s.unread s.owed s.closed s.facts s.login p) (marked : p.taken ≡ s.taken) (known_are : s.statements ≡ p.statements)
+    (alive : s.closed ≡ false) (nothing : s.owed ≡ []) (call_is : call_with (kind_in s.task) s.call ≡ Some call)
     (told : s.untold ≡ false) (none_left : p.end_left ≡ false) (over : is_idle s.context.spot ≡ true) where
   -- the rest of the older exchange was read
   pub passed : (parts : List Part) → step s.login call (All ∷ parts) p ≡ Goes parts p
@@ -64,75 +68,120 @@ module _ (s : Seen) (call : Call) (p : Place) (m : Mirrors s.context s.number s.
   pub done : step s.login call [] p ≡ return p ToldReady
   done = step_here s.context s.number s.unread s.owed s.closed s.facts s.login p call [] alive m nothing
 
-  module _ (u : Task) (rest : List Part) (talk : Talk) (opens : next_exchange s.login call p ≡ Some talk) (same : kind_in u ≡ kind_in s.task) (sound : fault_in u ≡ None) (owe : owes u ≡ true)
-      (hushed : passes_end u ≡ passes_end u) (left : rest ≡ parts_left s.login u) (limit : limit_of talk ≡ s.facts.settings.limit)
-      (fits : Fits talk) (packets : packets_of talk ≡ []) (log : login_in s.login talk ≡ s.login) (past : is_greeting (context_of talk).spot ≡ false)
-      (some : client_bytes (turns talk) ≢ []) (stands : TaskStandsAt u (context_of talk).spot (connects_in (exchanges (with_exchange p call talk)))) where
-    commanded : step s.login call (Command ∷ rest) p ≡ cond (nat_lt s.facts.settings.limit (length (command_in talk)))
-        (failure p (codec_error (TooLarge (length (command_in talk)) s.facts.settings.limit))) (Goes rest (with_exchange p call talk))
-    commanded =
-        step_here s.context s.number s.unread s.owed s.closed s.facts s.login p call (Command ∷ rest) alive m nothing
-        ∙ ap (with_command call rest p) opens
-        ∙ ap (λ l. cond (nat_lt l (length (command_in talk))) (failure p (codec_error (TooLarge (length (command_in talk)) l))) (Goes rest (with_exchange p call talk))) limit
-
-    begun : (b : Bool) → nat_lt s.facts.settings.limit (length (command_in talk)) ≡ b → MoveReads s call (All ∷ Command ∷ rest) p (begins s u talk)
-    begun true e = rw e (record {
-      rest = Command ∷ rest;
-      place = p;
-      leads = Then (All ∷ Command ∷ rest) p (Command ∷ rest) p (Command ∷ rest) p (passed (Command ∷ rest)) (Here (Command ∷ rest) p);
-      comes = inl (record { place = p; stops = commanded ∙ rw e refl; at = fallen_at s p s m marked; closed_is = refl });
-    })
-    begun false e =
-        let q : Place = with_exchange p call talk in
+  module _ (u : Task) (rest : List Part) (who : Call) (talk : Talk) (same : kind_in u ≡ kind_in s.task) (sound : fault_in u ≡ None) (owe : owes u ≡ true) (off : u ≡ tasks.Cleaning Execute → ⊥)
+      (left : rest ≡ parts_left s.login u) (fits : Fits talk) (packets : packets_of talk ≡ []) (log : login_in s.login talk ≡ s.login) (past : is_greeting (context_of talk).spot ≡ false)
+      (some : client_bytes (turns talk) ≢ []) (stands : TaskStandsAt u (context_of talk).spot (connects_in (exchanges (with_exchange p who talk)))) where
+    -- an exchange begins where the reading begins it
+    pub begins_here : (parts : List Part) (start : Place) (long : Option ℕ) → step s.login call parts start ≡ unless_long p s.facts.settings.limit long (Goes rest (with_exchange p who talk))
+        → MoveReads s call parts start (unless_exceeds s long (record { seen = queued s u talk; does = Sends }))
+    begins_here parts start (Some len) e = record {
+      rest = parts;
+      place = start;
+      leads = Here parts start;
+      comes = inl (record { place = p; stops = e; at = fallen_at s p s m marked; closed_is = refl });
+    }
+    begins_here parts start None e =
+        let q : Place = with_exchange p who talk in
         let n : Seen = queued s u talk in
-        let w = mirrors_asked s.context s.number s.unread s.owed s.closed s.facts s.login p call talk alive nothing fits packets log past m in
+        let w = mirrors_asked s.context s.number s.unread s.owed s.closed s.facts s.login p who talk alive nothing fits packets log past m in
         let f = some_first (client_bytes (turns talk)) some in
-        rw e (record {
+        record {
           rest = rest;
           place = q;
-          leads = Then (All ∷ Command ∷ rest) p (Command ∷ rest) p rest q (passed (Command ∷ rest)) (Then (Command ∷ rest) p rest q rest q (commanded ∙ rw e refl) (Here rest q));
+          leads = Then parts start rest q rest q e (Here rest q);
           comes = (
             owes_here n.context n.number n.unread n.owed n.closed n.facts n.login q call rest f.0 f.1 alive w (ap (λ bs. bs ++ client_bytes (turns talk)) nothing ∙ f.2),
             record {
-              at = record { mirrors = w; end_is = λ _ _. sym (ap (λ b. b && not (passes_end u)) told); taken_is = refl; own_end = λ _. told; task_at = stands; settled = λ no. let stop : true ≡ false = sym owe ∙ no in cc };
+              at = record {
+                mirrors = w;
+                end_is = λ _ _. refl;
+                taken_is = refl;
+                own_end = λ _. refl;
+                task_at = stands;
+                settled = λ no. let stop : true ≡ false = sym owe ∙ no in cc;
+                statements_are = λ _. known_are;
+                checked = λ is. absurd (off is);
+              };
               alive = alive;
               sound = sound;
-              call_is = ap (λ c. call_with c s.text) same ∙ call_is;
+              call_is = ap (λ c. call_with c s.call) same ∙ call_is;
               parts_are = left;
             },
           );
-        })
+        }
+
+  -- the next command is sent
+  module _ (u : Task) (rest : List Part) (talk : Talk) (opens : next_exchange s.login call p ≡ Some talk) (same : kind_in u ≡ kind_in s.task) (sound : fault_in u ≡ None) (owe : owes u ≡ true) (off : u ≡ tasks.Cleaning Execute → ⊥)
+      (left : rest ≡ parts_left s.login u) (limit : limit_of talk ≡ s.facts.settings.limit)
+      (fits : Fits talk) (packets : packets_of talk ≡ []) (log : login_in s.login talk ≡ s.login) (past : is_greeting (context_of talk).spot ≡ false)
+      (some : client_bytes (turns talk) ≢ []) (stands : TaskStandsAt u (context_of talk).spot (connects_in (exchanges (with_exchange p call talk)))) where
+    commanded : step s.login call (Command ∷ rest) p ≡ unless_long p s.facts.settings.limit (first_above s.facts.settings.limit (commands_in talk)) (Goes rest (with_exchange p call talk))
+    commanded =
+        step_here s.context s.number s.unread s.owed s.closed s.facts s.login p call (Command ∷ rest) alive m nothing
+        ∙ ap (with_command call rest p) opens
+        ∙ ap (λ l. unless_long p l (first_above l (commands_in talk)) (Goes rest (with_exchange p call talk))) limit
+
+    begun : MoveReads s call (All ∷ Command ∷ rest) p (begins s u talk)
+    begun =
+        let w = begins_here u rest call talk same sound owe off left fits packets log past some stands (Command ∷ rest) p (first_above s.facts.settings.limit (commands_in talk)) commanded in
+        record {
+          rest = w.rest;
+          place = w.place;
+          leads = Then (All ∷ Command ∷ rest) p (Command ∷ rest) p w.rest w.place (passed (Command ∷ rest)) w.leads;
+          comes = w.comes;
+        }
 
   -- what a command of the call's own begins
-  opens_own : (c : CallKind) (talk : Talk) → call ≡ call_of c s.text → ((terms : Terms) (n : ℕ) → opening s.login terms (call_of c s.text) n ≡ command_of terms (call_of c s.text)) → command_of (next_terms s) (call_of c s.text) ≡ Some talk → next_exchange s.login call p ≡ Some talk
+  opens_own : (c : CallKind) (talk : Talk) → call ≡ call_of c s.call → ((terms : Terms) (known : Statements) (n : ℕ) → opening s.login terms known (call_of c s.call) n ≡ command_of terms known (call_of c s.call)) → command_of (next_terms s) s.statements (call_of c s.call) ≡ Some talk → next_exchange s.login call p ≡ Some talk
   opens_own c talk is own e =
-      ap (λ x. opening s.login (terms_of s.login (exchanges p)) x (connects_in (exchanges p))) is
-      ∙ own _ _
-      ∙ ap (λ t. command_of t (call_of c s.text)) (terms_here s.context s.number s.unread s.owed s.closed s.facts s.login p m)
+      ap (λ x. opening s.login (terms_of s.login (exchanges p)) p.statements x (connects_in (exchanges p))) is
+      ∙ own _ p.statements _
+      ∙ ap (λ t. command_of t p.statements (call_of c s.call)) (terms_here s.context s.number s.unread s.owed s.closed s.facts s.login p m)
+      ∙ ap (λ known. command_of (next_terms s) known (call_of c s.call)) (sym known_are)
       ∙ e
 
-  pub asks_reads : (c : CallKind) → s.task ≡ tasks.Cleaning c → asks c ≡ true → call ≡ call_of c s.text → MoveReads s call (All ∷ Command ∷ own_parts s.login c) p (planned s (plans.Asks c))
-  asks_reads Connect task sends is = cc
-  asks_reads Query task sends is =
-      let talk : Talk = Queried (next_terms s) (packet_bytes (packets.Query s.text)) (NoSets ByText) in
-      begun (tasks.Own Query) (Head ∷ []) talk (opens_own Query talk is (λ _ _. refl) refl) (ap kind_in (sym task)) refl refl refl refl refl (record { kinds = tt; within = tt }) refl refl refl
-      (some_bytes (packet_bytes (packets.Query s.text)) 0) refl _ refl
-  asks_reads NextRow task sends is = cc
-  asks_reads DropResult task sends is = cc
-  asks_reads TakeSet task sends is = cc
-  asks_reads SkipTaken task sends is = cc
-  asks_reads Ping task sends is =
+  executes : s.task ≡ tasks.Cleaning Execute → call ≡ call_of Execute s.call → (v : Values) → values_for (statement_in s.call) (params_in s.call) ≡ v → refused_by v ≡ None
+      → MoveReads s call (All ∷ Command ∷ Head ∷ Learn ∷ []) p (asked s Execute (execution (next_terms s) s.statements (statement_in s.call).inner.id v))
+  executes task is (Fitting values) e fit =
+      let id = (statement_in s.call).inner.id in
+      let talk : Talk = Queried (next_terms s) (body_of id values) (NoSets (ByStatement (ahead_of id values) (known_in s.statements id))) in
+      begun (tasks.Own Execute) (Head ∷ Learn ∷ []) talk (opens_own Execute talk is (λ _ _ _. refl) (ap (execution (next_terms s) s.statements id) e)) (ap kind_in (sym task)) refl refl (λ no. cc) refl refl (record { kinds = tt; within = tt }) refl refl refl
+      (some_execution (next_terms s) (ahead_of id values) (known_in s.statements id) (body_of id values)) refl
+  executes task is (Unfitting e) x fit = cc
+
+  pub asks_reads : (c : CallKind) → s.task ≡ tasks.Cleaning c → asks c ≡ true → call ≡ call_of c s.call → (c ≡ Execute → refusal Execute s.call ≡ None) → MoveReads s call (All ∷ Command ∷ own_parts s.login c) p (planned s (plans.Asks c))
+  asks_reads Connect task sends is fit = cc
+  asks_reads Query task sends is fit =
+      let talk : Talk = Queried (next_terms s) (packet_bytes (packets.Query (text_in s.call))) (NoSets ByText) in
+      begun (tasks.Own Query) (Head ∷ []) talk (opens_own Query talk is (λ _ _ _. refl) refl) (ap kind_in (sym task)) refl refl (λ no. cc) refl refl (record { kinds = tt; within = tt }) refl refl refl
+      (some_bytes (packet_bytes (packets.Query (text_in s.call))) 0) refl
+  asks_reads Prepare task sends is fit =
+      let talk : Talk = Preparing (next_terms s) (packet_bytes (packets.Prepare (query_of (text_in s.call)))) Unanswered in
+      begun (tasks.Own Prepare) (Reply ∷ Keep ∷ Give ∷ []) talk (opens_own Prepare talk is (λ _ _ _. refl) refl) (ap kind_in (sym task)) refl refl (λ no. cc) refl refl (record { kinds = tt; within = tt }) refl refl refl
+      (some_bytes (packet_bytes (packets.Prepare (query_of (text_in s.call)))) 0) refl
+  asks_reads Execute task sends is fit =
+      subst (λ (o : Option DriverError). MoveReads s call (All ∷ Command ∷ Head ∷ Learn ∷ []) p (unless_refused s o (asked s Execute (command_of (next_terms s) s.statements (call_of Execute s.call))))) (sym (fit refl))
+      (executes task is (values_for (statement_in s.call) (params_in s.call)) refl (fit refl))
+  asks_reads CloseStmt task sends is fit =
+      let talk : Talk = closing (next_terms s) (id_in s.call) in
+      begun (tasks.Own CloseStmt) [] talk (opens_own CloseStmt talk is (λ _ _ _. refl) refl) (ap kind_in (sym task)) refl refl (λ no. cc) refl refl (record { kinds = tt; within = tt }) refl refl refl
+      (some_bytes (packet_bytes (packets.CloseStatement (id_in s.call))) 0) refl
+  asks_reads NextRow task sends is fit = cc
+  asks_reads DropResult task sends is fit = cc
+  asks_reads TakeSet task sends is fit = cc
+  asks_reads SkipTaken task sends is fit = cc
+  asks_reads Ping task sends is fit =
       let talk : Talk = Asked (next_terms s) (packet_bytes packets.Ping) in
-      begun (tasks.Own Ping) (All ∷ []) talk (opens_own Ping talk is (λ _ _. refl) refl) (ap kind_in (sym task)) refl refl refl refl refl (record { kinds = tt; within = tt }) refl refl refl
-      (some_bytes (packet_bytes packets.Ping) 0) refl _ refl
-  asks_reads Quit task sends is =
+      begun (tasks.Own Ping) (All ∷ []) talk (opens_own Ping talk is (λ _ _ _. refl) refl) (ap kind_in (sym task)) refl refl (λ no. cc) refl refl (record { kinds = tt; within = tt }) refl refl refl
+      (some_bytes (packet_bytes packets.Ping) 0) refl
+  asks_reads Quit task sends is fit =
       let talk : Talk = Silent (next_terms s) (packet_bytes packets.Quit) in
-      begun (tasks.Own Quit) [] talk (opens_own Quit talk is (λ _ _. refl) refl) (ap kind_in (sym task)) refl refl refl refl refl (record { kinds = tt; within = tt }) refl refl refl
-      (some_bytes (packet_bytes packets.Quit) 0) refl _ refl
+      begun (tasks.Own Quit) [] talk (opens_own Quit talk is (λ _ _ _. refl) refl) (ap kind_in (sym task)) refl refl (λ no. cc) refl refl (record { kinds = tt; within = tt }) refl refl refl
+      (some_bytes (packet_bytes packets.Quit) 0) refl
 
   module _ (n : ℕ) (task : s.task ≡ tasks.Arranging n) (count : connects_in (exchanges p) ≡ suc n) (is : call ≡ calls.Connect) where
     arranges : (x : Option (List ℕ)) → slice_get (arranging_texts s.login) n ≡ x
-        → MoveReads s call (All ∷ parts_of_texts (drop n (arranging_texts s.login))) p (arranged s n (query_of (next_terms s) x))
+        → MoveReads s call (All ∷ parts_of_texts (drop n (arranging_texts s.login))) p (arranged s n (arranging (next_terms s) x))
     arranges None e = subst (λ xs. MoveReads s call (All ∷ parts_of_texts xs) p (arranged s n None)) (sym (texts_end (arranging_texts s.login) n e)) (record {
       rest = [];
       place = p;
@@ -140,21 +189,21 @@ module _ (s : Seen) (call : Call) (p : Place) (m : Mirrors s.context s.number s.
       comes = inl (record {
         place = p;
         stops = done;
-        at = record { mirrors = m; end_is = λ _ _. none_left ∙ sym (ap (λ b. b && true) told); taken_is = marked; own_end = λ no. cc; task_at = tt; settled = λ _. nothing };
+        at = record { mirrors = m; end_is = λ _ _. none_left ∙ sym (ap (λ b. b && true) told); taken_is = marked; own_end = λ no. cc; task_at = tt; settled = λ _. nothing; statements_are = λ _. known_are; checked = λ no. cc };
         closed_is = alive ∙ ap (λ c. closes ToldReady (kind_of c)) (sym is);
       });
     })
     arranges (Some text) e =
         let talk : Talk = Queried (next_terms s) (packet_bytes (packets.Query text)) (NoSets ByText) in
         let opens : next_exchange s.login call p ≡ Some talk =
-        ap (λ x. opening s.login (terms_of s.login (exchanges p)) x (connects_in (exchanges p))) is
+        ap (λ x. opening s.login (terms_of s.login (exchanges p)) p.statements x (connects_in (exchanges p))) is
         ∙ ap (λ k. connecting s.login (terms_of s.login (exchanges p)) k) count
-        ∙ ap (query_of (terms_of s.login (exchanges p))) e
-        ∙ ap (λ t. query_of t (Some text)) (terms_here s.context s.number s.unread s.owed s.closed s.facts s.login p m) in
+        ∙ ap (arranging (terms_of s.login (exchanges p))) e
+        ∙ ap (λ t. arranging t (Some text)) (terms_here s.context s.number s.unread s.owed s.closed s.facts s.login p m) in
         subst (λ xs. MoveReads s call (All ∷ parts_of_texts xs) p (arranged s n (Some talk))) (sym (texts_go_on (arranging_texts s.login) n text e))
-        (begun (tasks.Arranging (suc n)) (All ∷ parts_of_texts (drop (suc n) (arranging_texts s.login))) talk opens (ap kind_in (sym task)) refl refl refl refl refl (record { kinds = tt; within = tt }) refl refl refl
+        (begun (tasks.Arranging (suc n)) (All ∷ parts_of_texts (drop (suc n) (arranging_texts s.login))) talk opens (ap kind_in (sym task)) refl refl (λ no. cc) refl refl (record { kinds = tt; within = tt }) refl refl refl
         (some_bytes (packet_bytes (packets.Query text)) 0)
-        (refl, ap (λ (c : Call). connects_in (exchanges (with_exchange p c talk))) is ∙ ap suc count) _ refl)
+        (refl, ap (λ (c : Call). connects_in (exchanges (with_exchange p c talk))) is ∙ ap suc count))
 
     pub arranges_reads : MoveReads s call (All ∷ parts_of_texts (drop n (arranging_texts s.login))) p (planned s (plans.Arranges n))
     arranges_reads = arranges (slice_get (arranging_texts s.login) n) refl

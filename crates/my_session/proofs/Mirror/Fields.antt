@@ -19,7 +19,8 @@ use Rattle.my_reading.specs.declared.call.Call.{Call}
 use Rattle.my_reading.specs.declared.facts.Facts.{Facts}
 use Rattle.my_reading.specs.Course.{Part, Stops, Owes, step, step_of, unless_owed, is_greeting}
 use Rattle.my_reading.specs.Facts.{facts_after, facts_by}
-use Rattle.my_reading.specs.Place.{Place, exchanges, facts_at, facts_of, client_side, owed, terms_of, with_bytes, without_end, with_end, with_taken, with_talk, with_exchange}
+use Rattle.my_reading.specs.Place.{Place, exchanges, facts_at, facts_of, client_side, owed, terms_of, with_bytes, without_end, with_end, with_statements, with_taken, with_talk, with_exchange}
+use Rattle.my_reading.specs.Statements.{Statements}
 use Rattle.my_session.specs.Machine.{reply_to, reply_bytes, reply_number}
 use Rattle.my_session.specs.Mirror.{Mirrors}
 use Rattle.my_session.proofs.Stands.Spots.{not_greeting}
@@ -59,6 +60,21 @@ module _ (context : Context) (number : ℕ) (unread bytes_owed : List ℕ) (clos
   -- nor whether a stream took the set
   pub mirrors_with_taken : Mirrors context number unread bytes_owed closed facts login p → Mirrors context number unread bytes_owed closed facts login (with_taken p)
   mirrors_with_taken m = record {
+    context_is = m.context_is;
+    number_is = m.number_is;
+    unread_is = m.unread_is;
+    facts_are = m.facts_are;
+    login_is = m.login_is;
+    fits = m.fits;
+    unsent = m.unsent;
+    all_is = m.all_is;
+    owed_is = m.owed_is;
+    first = m.first;
+  }
+
+  -- nor which prepared statements are known
+  pub mirrors_with_statements : (known : Statements) → Mirrors context number unread bytes_owed closed facts login p → Mirrors context number unread bytes_owed closed facts login (with_statements known p)
+  mirrors_with_statements known m = record {
     context_is = m.context_is;
     number_is = m.number_is;
     unread_is = m.unread_is;

@@ -2,12 +2,13 @@
 use Rattle.std.proofs.Common.{◌≡◌, ℕ, List, [], ◌∷◌, ◌++◌, ◌&&◌, length, nat_lt, Bool, true, false, cond, Option, Some, None, inl, refl, sym, ap, ◌∙◌, subst}
 use Rattle.my_flags.specs.declared.flags.CapabilityFlags.{CapabilityFlags}
 use Rattle.my_flags.specs.declared.flags.StatusFlags.{StatusFlags}
-use Rattle.my_flags.specs.Sets.{deprecates_eof}
+use Rattle.my_flags.specs.Sets.{deprecates_eof, has_more_results}
 use Rattle.my_frame.specs.declared.fault.CodecFault.TheVariants.{TooLarge}
 use Rattle.my_frame.specs.Front.{Whole, front_at}
 use Rattle.my_frame.specs.FrontLaws.{IsWhole}
 use Rattle.my_reply.specs.declared.err.ErrPacket.{ErrPacket}
 use Rattle.my_reply.specs.ErrPacket.{err_at}
+use Rattle.my_reply.specs.Replies.{prepare_ok_at}
 use Rattle.my_value.specs.RowParts.{RowParts}
 use Rattle.my_grammar.specs.declared.spot.Context.{Context}
 use Rattle.my_grammar.specs.declared.spot.Kind.{Kind}
@@ -21,12 +22,13 @@ use Rattle.my_grammar.specs.Kinds.{kind_there}
 use Rattle.my_grammar.specs.Response.{response}
 use Rattle.my_grammar.specs.Talk.{context_of}
 use Rattle.my_reading.specs.declared.call.Call.{Call}
-use Rattle.my_reading.specs.declared.call.CallKind.TheVariants.{Connect, Query, NextRow, TakeSet, SkipTaken, Ping}
+use Rattle.my_reading.specs.declared.call.CallKind.{CallKind}
+use Rattle.my_reading.specs.declared.call.CallKind.TheVariants.{Connect, Query, Prepare, Execute, CloseStmt, NextRow, DropResult, TakeSet, SkipTaken, Ping, Quit}
 use Rattle.my_reading.specs.declared.error.Error.TheVariants as errors
 use Rattle.my_reading.specs.declared.facts.Facts.{Facts}
 use Rattle.my_reading.specs.Calls.{kind_of as call_kind, is_connect}
 use Rattle.my_reading.specs.Commands.{arranging_texts}
-use Rattle.my_reading.specs.Course.{Part, All, Head, Item, Set, Rest, Goes, step, failure, unfit, return, with_front, reads, after_payload, parts_of_texts, is_rows, is_greeting}
+use Rattle.my_reading.specs.Course.{Part, All, Head, Item, Set, Rest, Reply, Keep, Give, Step, Goes, step, step_of, unless_cached, failure, unfit, return, with_front, reads, after_payload, parts_of_texts, is_rows, is_greeting}
 use Rattle.my_reading.specs.Errors.{codec_error, invalid_data, server_error}
 use Rattle.my_reading.specs.Leads.{Leads, Here, Then}
 use Rattle.my_reading.specs.Place.{Place, exchanges, facts_at, facts_of, connects_in, with_end, with_taken, with_talk}
@@ -34,11 +36,11 @@ use Rattle.my_reading.specs.Rows.{row_at, row_or}
 use Rattle.my_reading.specs.Told.{Told, ToldReady, ToldRow, ToldEnd, ToldError, closes}
 use Rattle.my_session.specs.declared.task.Task.{Task}
 use Rattle.my_session.specs.declared.task.Task.TheVariants as tasks
-use Rattle.my_session.specs.Machine.{Goes as MachineGoes, Passes, Tells, Move, advanced, fell, failed_by, with_task, with_taken as with_mark, refused, gave, passed, reacted, above, unless_above, reply_to, reply_bytes}
+use Rattle.my_session.specs.Machine.{Goes as MachineGoes, Passes, Tells, Move, advanced, fell, failed_by, with_task, with_taken as with_mark, refused, gave, passed, reacted, above, unless_above, refusal, reply_to, reply_bytes}
 use Rattle.my_session.specs.Mirror.{Mirrors, StandsAt, OpenAt, MoveReads, TaskStandsAt, own_parts, parts_left}
 use Rattle.my_session.specs.Seen.{Seen}
 use Rattle.my_session.specs.Stands.{owes, call_with, is_shaking}
-use Rattle.my_session.specs.Tables.{react, react_whole, is_breaking, is_connecting}
+use Rattle.my_session.specs.Tables.{react, react_query, react_whole, is_breaking, is_connecting}
 use Rattle.my_session.specs.Tasks.{kind_in, fault_in}
 use Rattle.my_session.proofs.Faults.Payloads.{row_reads}
 use Rattle.my_reading.proofs.Described.{told_columns}
@@ -55,6 +57,8 @@ fallen_at s q n m marked = record {
   own_end = λ no. cc;
   task_at = tt;
   settled = λ _. refl;
+  statements_are = λ no. cc;
+  checked = λ no. cc;
 }
 
 -- a greeting comes in its place alone
@@ -136,13 +140,52 @@ simple_single kinds.Parameter f g = cc
 simple_single kinds.Field f g = cc
 simple_single kinds.Bad f g = cc
 
+not_rows_if : (b : Bool) → is_rows (cond b spots.Further spots.Idle) ≡ false
+not_rows_if true = refl
+not_rows_if false = refl
+
+-- after a lone OK no rows follow
+good_not_rows : (x : Spot) (d : Bool) (status : StatusFlags) → is_known x (kinds.Good status) ≡ true → is_rows (spot_after d x (kinds.Good status)) ≡ false
+good_not_rows spots.Idle d status e = cc
+good_not_rows spots.Greeting d status e = refl
+good_not_rows spots.Authentication d status e = refl
+good_not_rows spots.Single d status e = refl
+good_not_rows spots.Head d status e = not_rows_if (has_more_results status)
+good_not_rows spots.Further d status e = not_rows_if (has_more_results status)
+good_not_rows (spots.Columns left) d status e = cc
+good_not_rows spots.ColumnsEnd d status e = cc
+good_not_rows spots.Rows d status e = cc
+good_not_rows spots.Prepare d status e = cc
+good_not_rows (spots.Parameters left columns) d status e = cc
+good_not_rows (spots.ParametersEnd columns) d status e = cc
+good_not_rows (spots.Fields left) d status e = cc
+good_not_rows spots.FieldsEnd d status e = cc
+
+-- only connecting isn't connected yet
+own_connects : (c : CallKind) (t : Task) → t ≡ tasks.Own c → is_connecting t ≡ is_connect c
+own_connects c t e = ap is_connecting e ∙ by_call c
+  where
+    by_call : (d : CallKind) → is_connecting (tasks.Own d) ≡ is_connect d
+    by_call Connect = refl
+    by_call Query = refl
+    by_call Prepare = refl
+    by_call Execute = refl
+    by_call CloseStmt = refl
+    by_call NextRow = refl
+    by_call DropResult = refl
+    by_call TakeSet = refl
+    by_call SkipTaken = refl
+    by_call Ping = refl
+    by_call Quit = refl
+
 no_rows : (b : Bool) (x : Spot) → x ≡ spots.Rows → is_rows x ≡ b → b ≡ false → ⊥
 no_rows b x e f g = let h : is_rows x ≡ true = ap is_rows e in let i : true ≡ false = sym h ∙ f ∙ g in cc
 
-module _ (s : Seen) (call : Call) (p : Place) (m : Mirrors s.context s.number s.unread s.owed s.closed s.facts s.login p) (marked : p.taken ≡ s.taken)
-    (alive : s.closed ≡ false) (nothing : s.owed ≡ []) (call_is : call_with (kind_in s.task) s.text ≡ Some call)
+module _ (s : Seen) (call : Call) (p : Place) (m : Mirrors s.context s.number s.unread s.owed s.closed s.facts s.login p) (marked : p.taken ≡ s.taken) (known_are : s.statements ≡ p.statements)
+    (alive : s.closed ≡ false) (nothing : s.owed ≡ []) (call_is : call_with (kind_in s.task) s.call ≡ Some call)
     (payload rest : List ℕ) (next : ℕ) (at : front_at s.number s.context.terms.limit s.unread ≡ Whole payload rest next)
-    (whole : IsWhole s.number s.context.terms.limit s.unread payload rest next) where
+    (whole : IsWhole s.number s.context.terms.limit s.unread payload rest next)
+    (alone : (params columns : ℕ) → kind_there s.context s.facts.columns payload ≡ kinds.Prepared params columns → (x : Step) → unless_cached s.login p (prepare_ok_at payload) x ≡ x) where
   -- the place, and the session, after the payload
   abbrev new : Kind → Place
   new k = with_talk p (grow k p.talk payload) rest
@@ -177,28 +220,28 @@ module _ (s : Seen) (call : Call) (p : Place) (m : Mirrors s.context s.number s.
       (kind_here s.context s.number s.unread s.owed s.closed s.facts s.login p payload m ∙ e)
 
   -- the session goes on with this task
-  goes_to : (t : Task) (k : Kind) → kind_there s.context s.facts.columns payload ≡ k → is_bad k ≡ false → kind_in t ≡ kind_in s.task → fault_in t ≡ None
+  goes_to : (t : Task) (k : Kind) → (t ≡ tasks.Cleaning Execute → refusal Execute s.call ≡ None) → kind_there s.context s.facts.columns payload ≡ k → is_bad k ≡ false → kind_in t ≡ kind_in s.task → fault_in t ≡ None
       → TaskStandsAt t (spot_by k) (connects_in (exchanges p)) → (owes t ≡ false → not_greets k ≡ true)
       → OpenAt (with_task (following k) t false) call (parts_left s.login t) (new k)
-  goes_to t k e good same sound stands quiet = record {
-    at = record { mirrors = mirrors_new k e good; end_is = λ _ _. refl; taken_is = taken_new k e good; own_end = λ _. refl; task_at = stands; settled = λ no. none_owed k (quiet no) };
+  goes_to t k checks e good same sound stands quiet = record {
+    at = record { mirrors = mirrors_new k e good; end_is = λ _ _. refl; taken_is = taken_new k e good; own_end = λ _. refl; task_at = stands; settled = λ no. none_owed k (quiet no); statements_are = λ _. known_are; checked = checks };
     alive = alive;
     sound = sound;
-    call_is = ap (λ c. call_with c s.text) same ∙ call_is;
+    call_is = ap (λ c. call_with c s.call) same ∙ call_is;
     parts_are = refl;
   }
 
   -- the session goes on with its task
-  stays : (t : Task) (k : Kind) → s.task ≡ t → kind_there s.context s.facts.columns payload ≡ k → is_bad k ≡ false → fault_in t ≡ None
+  stays : (t : Task) (k : Kind) → (t ≡ tasks.Cleaning Execute → refusal Execute s.call ≡ None) → s.task ≡ t → kind_there s.context s.facts.columns payload ≡ k → is_bad k ≡ false → fault_in t ≡ None
       → TaskStandsAt t (spot_by k) (connects_in (exchanges p)) → (owes t ≡ false → not_greets k ≡ true)
       → OpenAt (following k) call (parts_left s.login t) (new k)
-  stays t k task e good sound stands quiet =
+  stays t k checks task e good sound stands quiet =
       subst (λ (u : Task). OpenAt (with_task (following k) u false) call (parts_left s.login t) (new k)) (sym task)
-      (goes_to t k e good (ap kind_in (sym task)) sound stands quiet)
+      (goes_to t k checks e good (ap kind_in (sym task)) sound stands quiet)
 
   -- the call ends, and the session rests
   rests_at : (k : Kind) → kind_there s.context s.facts.columns payload ≡ k → is_bad k ≡ false → not_greets k ≡ true → StandsAt (with_task (following k) tasks.Nothing false) (new k)
-  rests_at k e good quiet = record { mirrors = mirrors_new k e good; end_is = λ _ _. refl; taken_is = taken_new k e good; own_end = λ _. refl; task_at = tt; settled = λ _. none_owed k quiet }
+  rests_at k e good quiet = record { mirrors = mirrors_new k e good; end_is = λ _ _. refl; taken_is = taken_new k e good; own_end = λ _. refl; task_at = tt; settled = λ _. none_owed k quiet; statements_are = λ _. known_are; checked = λ no. cc }
 
   one : (parts more : List Part) (q : Place) → step s.login call parts p ≡ Goes more q → Leads s.login call parts p more q
   one parts more q e = Then parts p more q more q e (Here more q)
@@ -255,35 +298,35 @@ module _ (s : Seen) (call : Call) (p : Place) (m : Mirrors s.context s.number s.
     all_is : (k : Kind) → kind_there s.context s.facts.columns payload ≡ k → step s.login call (All ∷ parts) p ≡ after_payload s.login All parts p (new k) payload k
     all_is k e = reading ∙ reads_it All parts k e
 
-    all_goes : (t : Task) (k : Kind) → All ∷ parts ≡ parts_left s.login t → kind_there s.context s.facts.columns payload ≡ k → is_bad k ≡ false → not_greets k ≡ true → kind_in t ≡ kind_in s.task → fault_in t ≡ None
+    all_goes : (t : Task) (k : Kind) → (t ≡ tasks.Cleaning Execute → refusal Execute s.call ≡ None) → All ∷ parts ≡ parts_left s.login t → kind_there s.context s.facts.columns payload ≡ k → is_bad k ≡ false → not_greets k ≡ true → kind_in t ≡ kind_in s.task → fault_in t ≡ None
         → TaskStandsAt t (spot_by k) (connects_in (exchanges p)) → step s.login call (All ∷ parts) p ≡ Goes (All ∷ parts) (new k)
         → MoveReads s call (All ∷ parts) p (record { seen = with_task (following k) t false; does = MachineGoes })
-    all_goes t k left e good quiet same sound stands stepped = record {
+    all_goes t k checks left e good quiet same sound stands stepped = record {
       rest = All ∷ parts;
       place = new k;
       leads = one (All ∷ parts) (All ∷ parts) (new k) stepped;
-      comes = subst (λ xs. OpenAt (with_task (following k) t false) call xs (new k)) (sym left) (goes_to t k e good same sound stands (λ _. quiet));
+      comes = subst (λ xs. OpenAt (with_task (following k) t false) call xs (new k)) (sym left) (goes_to t k checks e good same sound stands (λ _. quiet));
     }
 
     -- a response that is read whole
-    whole_reads : (t : Task) → All ∷ parts ≡ parts_left s.login t → kind_in t ≡ kind_in s.task → fault_in t ≡ None → is_greeting s.context.spot ≡ false
+    whole_reads : (t : Task) → (t ≡ tasks.Cleaning Execute → refusal Execute s.call ≡ None) → All ∷ parts ≡ parts_left s.login t → kind_in t ≡ kind_in s.task → fault_in t ≡ None → is_greeting s.context.spot ≡ false
         → ((k : Kind) → TaskStandsAt t (spot_by k) (connects_in (exchanges p)))
         → (b : Bool) → is_connecting s.task ≡ b → is_connect (call_kind call) ≡ b
         → (k : Kind) → kind_there s.context s.facts.columns payload ≡ k
         → MoveReads s call (All ∷ parts) p (cond (is_breaking (react_whole t k)) (failed_by s (invalid_data s.facts.place))
         (unless_above s (above s.context.terms.limit (reply_to s.login k payload)) (reacted s (following k) payload (react_whole t k))))
-    whole_reads t left same sound past stands b on c (kinds.Greets n) e = absurd (no_greeting (All ∷ parts) n past e)
-    whole_reads t left same sound past stands b on c (kinds.Good status) e = all_goes t (kinds.Good status) left e refl refl same sound (stands _) (all_is (kinds.Good status) e)
-    whole_reads t left same sound past stands b on c kinds.Failed e = errs (All ∷ parts) (err_at (is_greeting s.context.spot) payload) refl e b on c (all_is kinds.Failed e)
-    whole_reads t left same sound past stands b on c (kinds.Count n) e = all_goes t (kinds.Count n) left e refl refl same sound (stands _) (all_is (kinds.Count n) e)
-    whole_reads t left same sound past stands b on c kinds.Column e = all_goes t kinds.Column left e refl refl same sound (stands _) (all_is kinds.Column e)
-    whole_reads t left same sound past stands b on c kinds.ColumnsDone e = all_goes t kinds.ColumnsDone left e refl refl same sound (stands _) (all_is kinds.ColumnsDone e)
-    whole_reads t left same sound past stands b on c kinds.Row e = all_goes t kinds.Row left e refl refl same sound (stands _) (all_is kinds.Row e)
-    whole_reads t left same sound past stands b on c (kinds.End status) e = all_goes t (kinds.End status) left e refl refl same sound (stands _) (all_is (kinds.End status) e)
-    whole_reads t left same sound past stands b on c (kinds.Prepared params columns) e = all_goes t (kinds.Prepared params columns) left e refl refl same sound (stands _) (all_is (kinds.Prepared params columns) e)
-    whole_reads t left same sound past stands b on c kinds.Parameter e = all_goes t kinds.Parameter left e refl refl same sound (stands _) (all_is kinds.Parameter e)
-    whole_reads t left same sound past stands b on c kinds.Field e = all_goes t kinds.Field left e refl refl same sound (stands _) (all_is kinds.Field e)
-    whole_reads t left same sound past stands b on c kinds.Bad e = unfits (All ∷ parts) (all_is kinds.Bad e)
+    whole_reads t checks left same sound past stands b on c (kinds.Greets n) e = absurd (no_greeting (All ∷ parts) n past e)
+    whole_reads t checks left same sound past stands b on c (kinds.Good status) e = all_goes t (kinds.Good status) checks left e refl refl same sound (stands _) (all_is (kinds.Good status) e)
+    whole_reads t checks left same sound past stands b on c kinds.Failed e = errs (All ∷ parts) (err_at (is_greeting s.context.spot) payload) refl e b on c (all_is kinds.Failed e)
+    whole_reads t checks left same sound past stands b on c (kinds.Count n) e = all_goes t (kinds.Count n) checks left e refl refl same sound (stands _) (all_is (kinds.Count n) e)
+    whole_reads t checks left same sound past stands b on c kinds.Column e = all_goes t kinds.Column checks left e refl refl same sound (stands _) (all_is kinds.Column e)
+    whole_reads t checks left same sound past stands b on c kinds.ColumnsDone e = all_goes t kinds.ColumnsDone checks left e refl refl same sound (stands _) (all_is kinds.ColumnsDone e)
+    whole_reads t checks left same sound past stands b on c kinds.Row e = all_goes t kinds.Row checks left e refl refl same sound (stands _) (all_is kinds.Row e)
+    whole_reads t checks left same sound past stands b on c (kinds.End status) e = all_goes t (kinds.End status) checks left e refl refl same sound (stands _) (all_is (kinds.End status) e)
+    whole_reads t checks left same sound past stands b on c (kinds.Prepared params columns) e = all_goes t (kinds.Prepared params columns) checks left e refl refl same sound (stands _) (all_is (kinds.Prepared params columns) e ∙ alone params columns e _)
+    whole_reads t checks left same sound past stands b on c kinds.Parameter e = all_goes t kinds.Parameter checks left e refl refl same sound (stands _) (all_is kinds.Parameter e)
+    whole_reads t checks left same sound past stands b on c kinds.Field e = all_goes t kinds.Field checks left e refl refl same sound (stands _) (all_is kinds.Field e)
+    whole_reads t checks left same sound past stands b on c kinds.Bad e = unfits (All ∷ parts) (all_is kinds.Bad e)
 
     -- a drop passes over rows and ends
     passes : (k : Kind) (t : Told) → s.task ≡ tasks.Dropping → parts ≡ [] → kind_there s.context s.facts.columns payload ≡ k → is_bad k ≡ false → not_greets k ≡ true
@@ -294,7 +337,7 @@ module _ (s : Seen) (call : Call) (p : Place) (m : Mirrors s.context s.number s.
       place = new k;
       leads = one (All ∷ parts) (All ∷ parts) (new k) stepped;
       comes = subst (λ xs. OpenAt (following k) call (All ∷ xs) (new k)) (sym none)
-          (stays tasks.Dropping k task e good refl (not_greeting s.context.spot (deprecates_eof s.context.terms.kept) k) (λ _. quiet));
+          (stays tasks.Dropping k (λ no. cc) task e good refl (not_greeting s.context.spot (deprecates_eof s.context.terms.kept) k) (λ _. quiet));
     }
 
   -- a payload that is a row reads as one
@@ -315,7 +358,7 @@ module _ (s : Seen) (call : Call) (p : Place) (m : Mirrors s.context s.number s.
 
     drop_goes : (k : Kind) → kind_there s.context s.facts.columns payload ≡ k → is_bad k ≡ false → not_greets k ≡ true → step s.login call (All ∷ []) p ≡ Goes (All ∷ []) (new k)
         → MoveReads s call (All ∷ []) p (record { seen = with_task (following k) tasks.Dropping false; does = MachineGoes })
-    drop_goes k e good quiet stepped = all_goes [] reading tasks.Dropping k refl e good quiet (ap kind_in (sym task)) refl (not_greeting s.context.spot (deprecates_eof s.context.terms.kept) k) stepped
+    drop_goes k e good quiet stepped = all_goes [] reading tasks.Dropping k (λ no. cc) refl e good quiet (ap kind_in (sym task)) refl (not_greeting s.context.spot (deprecates_eof s.context.terms.kept) k) stepped
 
     pub dropping_reads : (k : Kind) → kind_there s.context s.facts.columns payload ≡ k → MoveReads s call (All ∷ []) p (move_at tasks.Dropping k)
     dropping_reads (kinds.Greets n) e = absurd (no_greeting [] n past e)
@@ -326,7 +369,7 @@ module _ (s : Seen) (call : Call) (p : Place) (m : Mirrors s.context s.number s.
     dropping_reads kinds.ColumnsDone e = drop_goes kinds.ColumnsDone e refl refl (all_is [] reading kinds.ColumnsDone e)
     dropping_reads kinds.Row e = passes_row (row_at s.context.rows s.facts.columns payload) refl e
     dropping_reads (kinds.End status) e = passes [] reading (kinds.End status) ToldEnd task refl e refl refl (all_is [] reading (kinds.End status) e)
-    dropping_reads (kinds.Prepared params columns) e = drop_goes (kinds.Prepared params columns) e refl refl (all_is [] reading (kinds.Prepared params columns) e)
+    dropping_reads (kinds.Prepared params columns) e = drop_goes (kinds.Prepared params columns) e refl refl (all_is [] reading (kinds.Prepared params columns) e ∙ alone params columns e _)
     dropping_reads kinds.Parameter e = drop_goes kinds.Parameter e refl refl (all_is [] reading kinds.Parameter e)
     dropping_reads kinds.Field e = drop_goes kinds.Field e refl refl (all_is [] reading kinds.Field e)
     dropping_reads kinds.Bad e = unfits (All ∷ []) (all_is [] reading kinds.Bad e)
@@ -352,7 +395,7 @@ module _ (s : Seen) (call : Call) (p : Place) (m : Mirrors s.context s.number s.
           rest = own_parts s.login Connect;
           place = new (kinds.Greets n);
           leads = one (own_parts s.login Connect) (own_parts s.login Connect) (new (kinds.Greets n)) (f ∙ rw i refl);
-          comes = goes_to (tasks.Own Connect) (kinds.Greets n) e refl (ap kind_in (sym task)) refl (ap is_shaking (authenticates s.context.spot (knows (kinds.Greets n) e)), first) (λ no. cc);
+          comes = goes_to (tasks.Own Connect) (kinds.Greets n) (λ no. cc) e refl (ap kind_in (sym task)) refl (ap is_shaking (authenticates s.context.spot (knows (kinds.Greets n) e)), first) (λ no. cc);
         })
           where
             authenticates : (x : Spot) → is_known x (kinds.Greets n) ≡ true → spot_after (deprecates_eof s.context.terms.kept) x (kinds.Greets n) ≡ spots.Authentication
@@ -374,7 +417,7 @@ module _ (s : Seen) (call : Call) (p : Place) (m : Mirrors s.context s.number s.
     pub connect_reads : (k : Kind) → kind_there s.context s.facts.columns payload ≡ k → MoveReads s call (own_parts s.login Connect) p (move_at (tasks.Own Connect) k)
     unfolding is_simple
     connect_reads (kinds.Greets n) e = greets n e (nat_lt s.context.terms.limit (length (response s.login payload))) refl
-    connect_reads (kinds.Good status) e = all_goes setting_up reading (tasks.Arranging 0) (kinds.Good status) refl e refl refl (ap kind_in (sym task)) refl
+    connect_reads (kinds.Good status) e = all_goes setting_up reading (tasks.Arranging 0) (kinds.Good status) (λ no. cc) refl e refl refl (ap kind_in (sym task)) refl
         (not_greeting s.context.spot (deprecates_eof s.context.terms.kept) (kinds.Good status), first) (all_is setting_up reading (kinds.Good status) e)
     connect_reads kinds.Failed e = errs (own_parts s.login Connect) (err_at (is_greeting s.context.spot) payload) refl e true (ap is_connecting task) connect (all_is setting_up reading kinds.Failed e)
     connect_reads (kinds.Count n) e = absurd (simple_shaking s.context.spot (kinds.Count n) shaking refl (knows (kinds.Count n) e))
@@ -423,53 +466,91 @@ module _ (s : Seen) (call : Call) (p : Place) (m : Mirrors s.context s.number s.
     ping_reads kinds.Field e = absurd (simple_single kinds.Field refl (subst (λ x. is_known x kinds.Field ≡ true) single (knows kinds.Field e)))
     ping_reads kinds.Bad e = unfits (All ∷ []) (all_is [] reading kinds.Bad e)
 
-  -- the head of a query's first set
-  module _ (reading : step s.login call (Head ∷ []) p ≡ reads s.login Head [] p) (task : s.task ≡ tasks.Own Query) (past : is_greeting s.context.spot ≡ false)
-      (before : is_rows s.context.spot ≡ false) (query : call_kind call ≡ Query) where
-    head_is : (k : Kind) → kind_there s.context s.facts.columns payload ≡ k → step s.login call (Head ∷ []) p ≡ after_payload s.login Head [] p (new k) payload k
-    head_is k e = reading ∙ reads_it Head [] k e
+  -- the head of the first set of a query or of an execution, which has something to do after it
+  module _ (c : CallKind) (after : List Part) (own : Head ∷ after ≡ own_parts s.login c) (reading : step s.login call (Head ∷ after) p ≡ reads s.login Head after p) (task : s.task ≡ tasks.Own c) (past : is_greeting s.context.spot ≡ false)
+      (before : is_rows s.context.spot ≡ false) (query : call_kind call ≡ c) (other : is_connect c ≡ false) (stays_open : closes ToldReady c ≡ false)
+      (stands : (k : Kind) → TaskStandsAt (tasks.Own c) (spot_by k) (connects_in (exchanges p)))
+      (finish : (q : Place) → step s.login call after q ≡ step_of s.login call after q → is_rows (context_of q.talk).spot ≡ false → Leads s.login call after q [] q) where
+    head_is : (k : Kind) → kind_there s.context s.facts.columns payload ≡ k → step s.login call (Head ∷ after) p ≡ after_payload s.login Head after p (new k) payload k
+    head_is k e = reading ∙ reads_it Head after k e
 
-    readies : (status : StatusFlags) → kind_there s.context s.facts.columns payload ≡ kinds.Good status → MoveReads s call (Head ∷ []) p (move_at (tasks.Own Query) (kinds.Good status))
+    readies : (status : StatusFlags) → kind_there s.context s.facts.columns payload ≡ kinds.Good status → MoveReads s call (Head ∷ after) p (record { seen = with_task (following (kinds.Good status)) tasks.Nothing true; does = Tells ToldReady })
     readies status e =
         let k : Kind = kinds.Good status in
         let n = following k in
+        let q : Place = with_end (new k) in
         let w = mirrors_with_end n.context n.number rest n.owed s.closed n.facts s.login (new k) (not_greeting s.context.spot (deprecates_eof s.context.terms.kept) k) (mirrors_new k e refl) in
-        let last : step s.login call [] (with_end (new k)) ≡ return (with_end (new k)) ToldReady =
-        step_here n.context n.number rest n.owed s.closed n.facts s.login (with_end (new k)) call [] alive w (none_owed k refl) in
+        let here : (parts : List Part) → step s.login call parts q ≡ step_of s.login call parts q =
+        λ parts. step_here n.context n.number rest n.owed s.closed n.facts s.login q call parts alive w (none_owed k refl) in
+        let off : is_rows (context_of q.talk).spot ≡ false =
+        ap (λ (x : Context). is_rows x.spot) (sym w.context_is) ∙ good_not_rows s.context.spot (deprecates_eof s.context.terms.kept) status (knows k e) in
         record {
           rest = [];
-          place = with_end (new k);
-          leads = one (Head ∷ []) [] (with_end (new k)) (head_is k e);
+          place = q;
+          leads = Then (Head ∷ after) p after q [] q (head_is k e) (finish q (here after) off);
           comes = inl (record {
-            place = with_end (new k);
-            stops = last;
-            at = record { mirrors = w; end_is = λ _ _. refl; taken_is = taken_new k e refl; own_end = λ no. cc; task_at = tt; settled = λ _. none_owed k refl };
-            closed_is = alive ∙ ap (closes ToldReady) (sym query);
+            place = q;
+            stops = here [];
+            at = record { mirrors = w; end_is = λ _ _. refl; taken_is = taken_new k e refl; own_end = λ no. cc; task_at = tt; settled = λ _. none_owed k refl; statements_are = λ _. known_are; checked = λ no. cc };
+            closed_is = alive ∙ sym stays_open ∙ ap (closes ToldReady) (sym query);
           });
         }
 
-    head_goes : (k : Kind) → kind_there s.context s.facts.columns payload ≡ k → is_bad k ≡ false → not_greets k ≡ true → step s.login call (Head ∷ []) p ≡ Goes (Head ∷ []) (new k)
-        → MoveReads s call (Head ∷ []) p (record { seen = with_task (following k) (tasks.Own Query) false; does = MachineGoes })
+    head_goes : (k : Kind) → kind_there s.context s.facts.columns payload ≡ k → is_bad k ≡ false → not_greets k ≡ true → step s.login call (Head ∷ after) p ≡ Goes (Head ∷ after) (new k)
+        → MoveReads s call (Head ∷ after) p (record { seen = with_task (following k) (tasks.Own c) false; does = MachineGoes })
     head_goes k e good quiet stepped = record {
-      rest = Head ∷ [];
+      rest = Head ∷ after;
       place = new k;
-      leads = one (Head ∷ []) (Head ∷ []) (new k) stepped;
-      comes = goes_to (tasks.Own Query) k e good (ap kind_in (sym task)) refl (not_greeting s.context.spot (deprecates_eof s.context.terms.kept) k) (λ _. quiet);
+      leads = one (Head ∷ after) (Head ∷ after) (new k) stepped;
+      comes = subst (λ xs. OpenAt (with_task (following k) (tasks.Own c) false) call xs (new k)) (sym own)
+          (goes_to (tasks.Own c) k (λ no. cc) e good (ap kind_in (sym task)) refl (stands k) (λ _. quiet));
     }
 
-    pub query_reads : (k : Kind) → kind_there s.context s.facts.columns payload ≡ k → MoveReads s call (Head ∷ []) p (move_at (tasks.Own Query) k)
+    pub query_reads : (k : Kind) → kind_there s.context s.facts.columns payload ≡ k → MoveReads s call (Head ∷ after) p (cond (is_breaking (react_query c k)) (failed_by s (invalid_data s.facts.place))
+        (unless_above s (above s.context.terms.limit (reply_to s.login k payload)) (reacted s (following k) payload (react_query c k))))
     query_reads (kinds.Greets n) e = absurd (no_greeting [] n past e)
     query_reads (kinds.Good status) e = readies status e
-    query_reads kinds.Failed e = errs (Head ∷ []) (err_at (is_greeting s.context.spot) payload) refl e false (ap is_connecting task) (ap is_connect query) (head_is kinds.Failed e)
+    query_reads kinds.Failed e = errs (Head ∷ after) (err_at (is_greeting s.context.spot) payload) refl e (is_connect c) (own_connects c s.task task) (ap is_connect query) (head_is kinds.Failed e)
     query_reads (kinds.Count n) e = head_goes (kinds.Count n) e refl refl (head_is (kinds.Count n) e)
     query_reads kinds.Column e = head_goes kinds.Column e refl refl (head_is kinds.Column e)
     query_reads kinds.ColumnsDone e = head_goes kinds.ColumnsDone e refl refl (head_is kinds.ColumnsDone e)
     query_reads kinds.Row e = absurd (no_rows _ s.context.spot (row_spot s.context.spot (knows kinds.Row e)) refl before)
     query_reads (kinds.End status) e = absurd (no_rows _ s.context.spot (end_spot s.context.spot status (knows (kinds.End status) e)) refl before)
-    query_reads (kinds.Prepared params columns) e = head_goes (kinds.Prepared params columns) e refl refl (head_is (kinds.Prepared params columns) e)
+    query_reads (kinds.Prepared params columns) e = head_goes (kinds.Prepared params columns) e refl refl (head_is (kinds.Prepared params columns) e ∙ alone params columns e _)
     query_reads kinds.Parameter e = head_goes kinds.Parameter e refl refl (head_is kinds.Parameter e)
     query_reads kinds.Field e = head_goes kinds.Field e refl refl (head_is kinds.Field e)
-    query_reads kinds.Bad e = unfits (Head ∷ []) (head_is kinds.Bad e)
+    query_reads kinds.Bad e = unfits (Head ∷ after) (head_is kinds.Bad e)
+
+  -- the reply to a statement to prepare
+  module _ (reading : step s.login call (Reply ∷ Keep ∷ Give ∷ []) p ≡ reads s.login Reply (Keep ∷ Give ∷ []) p) (task : s.task ≡ tasks.Own Prepare) (past : is_greeting s.context.spot ≡ false) (prepare : call_kind call ≡ Prepare) where
+    abbrev replying : List Part
+    replying = Reply ∷ Keep ∷ Give ∷ []
+
+    reply_is : (k : Kind) → kind_there s.context s.facts.columns payload ≡ k → step s.login call replying p ≡ after_payload s.login Reply (Keep ∷ Give ∷ []) p (new k) payload k
+    reply_is k e = reading ∙ reads_it Reply (Keep ∷ Give ∷ []) k e
+
+    reply_goes : (k : Kind) → kind_there s.context s.facts.columns payload ≡ k → is_bad k ≡ false → not_greets k ≡ true → step s.login call replying p ≡ Goes replying (new k)
+        → MoveReads s call replying p (record { seen = with_task (following k) (tasks.Own Prepare) false; does = MachineGoes })
+    reply_goes k e good quiet stepped = record {
+      rest = replying;
+      place = new k;
+      leads = one replying replying (new k) stepped;
+      comes = goes_to (tasks.Own Prepare) k (λ no. cc) e good (ap kind_in (sym task)) refl (not_greeting s.context.spot (deprecates_eof s.context.terms.kept) k) (λ _. quiet);
+    }
+
+    pub reply_reads : (k : Kind) → kind_there s.context s.facts.columns payload ≡ k → MoveReads s call replying p (move_at (tasks.Own Prepare) k)
+    reply_reads (kinds.Greets n) e = absurd (no_greeting [] n past e)
+    reply_reads (kinds.Good status) e = reply_goes (kinds.Good status) e refl refl (reply_is (kinds.Good status) e)
+    reply_reads kinds.Failed e = errs replying (err_at (is_greeting s.context.spot) payload) refl e false (ap is_connecting task) (ap is_connect prepare) (reply_is kinds.Failed e)
+    reply_reads (kinds.Count n) e = reply_goes (kinds.Count n) e refl refl (reply_is (kinds.Count n) e)
+    reply_reads kinds.Column e = reply_goes kinds.Column e refl refl (reply_is kinds.Column e)
+    reply_reads kinds.ColumnsDone e = reply_goes kinds.ColumnsDone e refl refl (reply_is kinds.ColumnsDone e)
+    reply_reads kinds.Row e = reply_goes kinds.Row e refl refl (reply_is kinds.Row e)
+    reply_reads (kinds.End status) e = reply_goes (kinds.End status) e refl refl (reply_is (kinds.End status) e)
+    reply_reads (kinds.Prepared params columns) e = reply_goes (kinds.Prepared params columns) e refl refl (reply_is (kinds.Prepared params columns) e ∙ alone params columns e _)
+    reply_reads kinds.Parameter e = reply_goes kinds.Parameter e refl refl (reply_is kinds.Parameter e)
+    reply_reads kinds.Field e = reply_goes kinds.Field e refl refl (reply_is kinds.Field e)
+    reply_reads kinds.Bad e = unfits replying (reply_is kinds.Bad e)
 
   -- the next row or end
   module _ (reading : step s.login call (Item ∷ []) p ≡ reads s.login Item [] p) (task : s.task ≡ tasks.Reading) (past : is_greeting s.context.spot ≡ false) (next_row : call_kind call ≡ NextRow) where
@@ -482,7 +563,7 @@ module _ (s : Seen) (call : Call) (p : Place) (m : Mirrors s.context s.number s.
       rest = Item ∷ [];
       place = new k;
       leads = one (Item ∷ []) (Item ∷ []) (new k) stepped;
-      comes = goes_to tasks.Reading k e good (ap kind_in (sym task)) refl (not_greeting s.context.spot (deprecates_eof s.context.terms.kept) k) (λ _. quiet);
+      comes = goes_to tasks.Reading k (λ no. cc) e good (ap kind_in (sym task)) refl (not_greeting s.context.spot (deprecates_eof s.context.terms.kept) k) (λ _. quiet);
     }
 
     ends : (k : Kind) → kind_there s.context s.facts.columns payload ≡ k → is_bad k ≡ false → not_greets k ≡ true → step s.login call (Item ∷ []) p ≡ return (new k) ToldEnd
@@ -505,7 +586,7 @@ module _ (s : Seen) (call : Call) (p : Place) (m : Mirrors s.context s.number s.
     reading_reads kinds.ColumnsDone e = item_goes kinds.ColumnsDone e refl refl (item_is kinds.ColumnsDone e)
     reading_reads kinds.Row e = gives (row_at s.context.rows s.facts.columns payload) refl e
     reading_reads (kinds.End status) e = ends (kinds.End status) e refl refl (item_is (kinds.End status) e)
-    reading_reads (kinds.Prepared params columns) e = item_goes (kinds.Prepared params columns) e refl refl (item_is (kinds.Prepared params columns) e)
+    reading_reads (kinds.Prepared params columns) e = item_goes (kinds.Prepared params columns) e refl refl (item_is (kinds.Prepared params columns) e ∙ alone params columns e _)
     reading_reads kinds.Parameter e = item_goes kinds.Parameter e refl refl (item_is kinds.Parameter e)
     reading_reads kinds.Field e = item_goes kinds.Field e refl refl (item_is kinds.Field e)
     reading_reads kinds.Bad e = unfits (Item ∷ []) (item_is kinds.Bad e)
@@ -522,7 +603,7 @@ module _ (s : Seen) (call : Call) (p : Place) (m : Mirrors s.context s.number s.
       rest = Set ∷ [];
       place = new k;
       leads = one (Set ∷ []) (Set ∷ []) (new k) stepped;
-      comes = goes_to tasks.Taking k e good (ap kind_in (sym task)) refl (not_greeting s.context.spot (deprecates_eof s.context.terms.kept) k) (λ _. quiet);
+      comes = goes_to tasks.Taking k (λ no. cc) e good (ap kind_in (sym task)) refl (not_greeting s.context.spot (deprecates_eof s.context.terms.kept) k) (λ _. quiet);
     }
 
     takes_lone : (status : StatusFlags) → kind_there s.context s.facts.columns payload ≡ kinds.Good status → MoveReads s call (Set ∷ []) p (move_at tasks.Taking (kinds.Good status))
@@ -532,7 +613,7 @@ module _ (s : Seen) (call : Call) (p : Place) (m : Mirrors s.context s.number s.
         let w = mirrors_with_end n.context n.number rest n.owed s.closed n.facts s.login (new k) (not_greeting s.context.spot (deprecates_eof s.context.terms.kept) k) (mirrors_new k e refl) in
         let v = mirrors_with_taken n.context n.number rest n.owed s.closed n.facts s.login (with_end (new k)) w in
         returns (Set ∷ []) ToldReady (with_mark (with_task n tasks.Nothing true)) (with_taken (with_end (new k))) (set_is k e)
-        (record { mirrors = v; end_is = λ _ _. refl; taken_is = refl; own_end = λ no. cc; task_at = tt; settled = λ _. none_owed k refl })
+        (record { mirrors = v; end_is = λ _ _. refl; taken_is = refl; own_end = λ no. cc; task_at = tt; settled = λ _. none_owed k refl; statements_are = λ _. known_are; checked = λ no. cc })
         (alive ∙ ap (closes ToldReady) (sym take))
 
     pub taking_reads : (k : Kind) → kind_there s.context s.facts.columns payload ≡ k → MoveReads s call (Set ∷ []) p (move_at tasks.Taking k)
@@ -544,7 +625,7 @@ module _ (s : Seen) (call : Call) (p : Place) (m : Mirrors s.context s.number s.
     taking_reads kinds.ColumnsDone e = set_goes kinds.ColumnsDone e refl refl (set_is kinds.ColumnsDone e)
     taking_reads kinds.Row e = absurd (no_rows _ s.context.spot (row_spot s.context.spot (knows kinds.Row e)) refl before)
     taking_reads (kinds.End status) e = absurd (no_rows _ s.context.spot (end_spot s.context.spot status (knows (kinds.End status) e)) refl before)
-    taking_reads (kinds.Prepared params columns) e = set_goes (kinds.Prepared params columns) e refl refl (set_is (kinds.Prepared params columns) e)
+    taking_reads (kinds.Prepared params columns) e = set_goes (kinds.Prepared params columns) e refl refl (set_is (kinds.Prepared params columns) e ∙ alone params columns e _)
     taking_reads kinds.Parameter e = set_goes kinds.Parameter e refl refl (set_is kinds.Parameter e)
     taking_reads kinds.Field e = set_goes kinds.Field e refl refl (set_is kinds.Field e)
     taking_reads kinds.Bad e = unfits (Set ∷ []) (set_is kinds.Bad e)
@@ -561,7 +642,7 @@ module _ (s : Seen) (call : Call) (p : Place) (m : Mirrors s.context s.number s.
       rest = Rest ∷ [];
       place = new k;
       leads = one (Rest ∷ []) (Rest ∷ []) (new k) stepped;
-      comes = stays tasks.Skipping k task e good refl (not_greeting s.context.spot (deprecates_eof s.context.terms.kept) k) (λ _. quiet);
+      comes = stays tasks.Skipping k (λ no. cc) task e good refl (not_greeting s.context.spot (deprecates_eof s.context.terms.kept) k) (λ _. quiet);
     }
 
     skips_row : (x : Option RowParts) → row_at s.context.rows s.facts.columns payload ≡ x → kind_there s.context s.facts.columns payload ≡ kinds.Row → MoveReads s call (Rest ∷ []) p (passed s (following kinds.Row) x)
@@ -585,7 +666,7 @@ module _ (s : Seen) (call : Call) (p : Place) (m : Mirrors s.context s.number s.
     skipping_reads kinds.Field e = let no = among_rows kinds.Field e in cc
     skipping_reads kinds.Bad e = unfits (Rest ∷ []) (rest_is kinds.Bad e)
 
-  pub whole_reads_all : (parts : List Part) → step s.login call (All ∷ parts) p ≡ reads s.login All parts p → (t : Task) → All ∷ parts ≡ parts_left s.login t → kind_in t ≡ kind_in s.task → fault_in t ≡ None
+  pub whole_reads_all : (parts : List Part) → step s.login call (All ∷ parts) p ≡ reads s.login All parts p → (t : Task) → (t ≡ tasks.Cleaning Execute → refusal Execute s.call ≡ None) → All ∷ parts ≡ parts_left s.login t → kind_in t ≡ kind_in s.task → fault_in t ≡ None
       → is_greeting s.context.spot ≡ false → ((k : Kind) → TaskStandsAt t (spot_by k) (connects_in (exchanges p))) → (b : Bool) → is_connecting s.task ≡ b → is_connect (call_kind call) ≡ b
       → (k : Kind) → kind_there s.context s.facts.columns payload ≡ k
       → MoveReads s call (All ∷ parts) p (cond (is_breaking (react_whole t k)) (failed_by s (invalid_data s.facts.place))

@@ -5,7 +5,7 @@ use Rattle.std.proofs.lemmas.Option.{slice_get_within, slice_get_cases}
 use Rattle.my_grammar.specs.declared.login.Login.{Login}
 use Rattle.my_grammar.specs.declared.spot.Terms.{Terms}
 use Rattle.my_grammar.specs.Talk.{Talk}
-use Rattle.my_reading.specs.Commands.{connecting, query_of, arranging_texts}
+use Rattle.my_reading.specs.Commands.{arranging, arranging_texts, connecting}
 
 none_past : (texts : List (List ℕ)) (n : ℕ) → slice_get texts n ≡ None → length texts ≤ n
 none_past texts n e = elim (slice_get_cases texts n).1 as (λ _. length texts ≤ n) [
@@ -13,7 +13,7 @@ none_past texts n e = elim (slice_get_cases texts n).1 as (λ _. length texts �
   | inr w ↦ w.0
 ]
 
-text_within : (terms : Terms) (texts : List (List ℕ)) (n : ℕ) (t : Talk) (x : Option (List ℕ)) → slice_get texts n ≡ x → query_of terms x ≡ Some t → suc n ≤ length texts
+text_within : (terms : Terms) (texts : List (List ℕ)) (n : ℕ) (t : Talk) (x : Option (List ℕ)) → slice_get texts n ≡ x → arranging terms x ≡ Some t → suc n ≤ length texts
 text_within terms texts n t None e q = cc
 text_within terms texts n t (Some text) e q = slice_get_within texts n text e
 

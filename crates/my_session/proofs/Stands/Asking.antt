@@ -1,59 +1,75 @@
 -- The command that a call sends next keeps the relation to histories: its own, or one that sets the connection up.
-use Rattle.std.proofs.Common.{◌≡◌, ℕ, suc, List, [], ◌∷◌, ◌++◌, length, ◌||◌, Bool, true, false, cond, Option, Some, None, inr, refl, sym, ap, ◌∙◌, subst, arith}
+use Rattle.std.proofs.Common.{◌≡◌, ℕ, suc, List, [], ◌∷◌, ◌++◌, length, ◌||◌, true, false, cond, Option, Some, None, inl, inr, refl, sym, ap, ◌∙◌, subst, arith}
 use Rattle.std.specs.List.{slice_get}
 use Rattle.my_command.specs.declared.client.ClientPacket.TheVariants as packets
 use Rattle.my_command.specs.Client.Packet.{client_bytes as packet_bytes}
 use Rattle.my_grammar.specs.declared.spot.Spot.TheVariants as spots
 use Rattle.my_grammar.specs.Cut.{is_idle}
-use Rattle.my_grammar.specs.Sets.{ByText, NoSets}
-use Rattle.my_grammar.specs.Talk.{Talk, Asked, Queried, Silent, turns, context_of, packets_of, server_bytes, Fits, origin, login_in}
+use Rattle.my_grammar.proofs.Commands.{commands_silent}
+use Rattle.my_grammar.specs.declared.login.Login.{Login}
+use Rattle.my_grammar.specs.declared.spot.Terms.{Terms}
+use Rattle.my_grammar.specs.Prepares.{Unanswered}
+use Rattle.my_grammar.specs.Sets.{ByStatement, ByText, NoSets}
+use Rattle.my_params.specs.LongData.{ahead_of}
+use Rattle.my_params.specs.Parameters.{body_of}
+use Rattle.my_reading.specs.declared.error.DriverError.{DriverError}
+use Rattle.my_reading.specs.declared.error.Error.TheVariants as errors
+use Rattle.my_reading.specs.Executions.{Values, Fitting, Unfitting, values_for}
+use Rattle.my_reading.specs.Statements.{known_in, query_of}
+use Rattle.my_grammar.specs.Talk.{Talk, Asked, Preparing, Queried, Silent, turns, context_of, packets_of, server_bytes, Fits, origin, login_in}
 use Rattle.my_reading.specs.declared.call.Call.{Call}
 use Rattle.my_reading.specs.declared.call.Call.TheVariants as calls
 use Rattle.my_reading.specs.declared.call.CallKind.{CallKind}
-use Rattle.my_reading.specs.declared.call.CallKind.TheVariants.{Connect, Query, NextRow, DropResult, TakeSet, SkipTaken, Ping, Quit}
+use Rattle.my_reading.specs.declared.call.CallKind.TheVariants.{Connect, Query, Prepare, Execute, CloseStmt, NextRow, DropResult, TakeSet, SkipTaken, Ping, Quit}
 use Rattle.my_session.specs.declared.task.Task.{Task}
-use Rattle.my_session.specs.declared.task.Task.TheVariants.{Nothing, Cleaning, Own, Arranging}
+use Rattle.my_session.specs.declared.task.Task.TheVariants.{Nothing, Cleaning, Own, Giving, Arranging}
 use Rattle.my_reading.specs.declared.error.Error.{Error}
 use Rattle.my_session.specs.declared.tables.Plan.TheVariants as plans
-use Rattle.my_reading.specs.Calls.{kind_of, call_of, asks, is_connect}
+use Rattle.my_reading.specs.Calls.{kind_of, call_of, asks, id_in, is_connect, params_in, statement_in, text_in}
 use Rattle.my_session.specs.Tasks.{kind_in, is_open}
-use Rattle.my_reading.specs.Commands.{opening, connecting, query_of, arranging_texts, command_in}
-use Rattle.my_session.specs.Entries.{terms_by, has_connected, connecting_in}
+use Rattle.my_reading.specs.Commands.{arranging, arranging_texts, closing, command_of, connecting, execution, opening}
+use Rattle.my_session.specs.Entries.{Opens, terms_by, has_connected, connecting_in}
 use Rattle.my_reading.specs.Errors.{codec_error}
 use Rattle.my_reading.specs.Told.{ToldReady, closes_by}
 use Rattle.my_session.specs.History.{History}
-use Rattle.my_session.specs.Machine.{Sends, with_task, failed_by, queued, too_large, next_terms, begins, arranged, planned, is_greeting}
+use Rattle.my_session.specs.Machine.{Move, Sends, with_task, failed_by, queued, unless_exceeds, unless_refused, refusal, refused_by, next_terms, begins, asked, arranged, planned, is_greeting}
 use Rattle.my_session.specs.Seen.{Seen}
 use Rattle.my_session.specs.ServerErrors.{errors_in, errors_of}
 use Rattle.my_session.specs.Stands.{Stands, Heard, TaskIs, TieIs, IsArranged, call_with, is_left, keeps, owes}
 use Rattle.my_session.specs.Steps.{is_settled}
+use Rattle.my_session.proofs.Refusals.{refusal_closes}
 use Rattle.my_session.proofs.Stands.Arranged.{all_sent}
 use Rattle.my_session.proofs.Stands.Keeps.{Keeps}
 use Rattle.my_session.proofs.Stands.Reacts.{fell_stands}
 use Rattle.my_session.proofs.Stands.Ties.{answered_stands, owns_all, all_begun}
 use Rattle.my_session.proofs.Stands.Wired.{wire_queued}
 
+-- what connecting begins is by the table
+connect_opens : (login : Login) (terms : Terms) (c : Call) (n : ℕ) (t : Talk) → c ≡ calls.Connect → Opens login terms c n t → connecting login terms n ≡ Some t
+connect_opens login terms c n t e (inl w) = subst (λ (x : Call). opening login terms w.0 x n ≡ Some t) e w.1
+connect_opens login terms c n t e (inr w) = let no : Connect ≡ Prepare = ap kind_of (sym e) ∙ w.1 in cc
+
 module _ (s : Seen) (h : History) (st : Stands s h) (open_still : s.closed ≡ false) (nothing : s.owed ≡ []) (op : is_open s.task ≡ true) where
   abbrev HeardAs : Task → Type 0
-  HeardAs t = Heard t s.text s.context.spot s.untold s.closed h.lost h.calls h.pending st.newest st.older
+  HeardAs t = Heard t s.call s.context.spot s.untold s.closed h.lost h.calls h.pending st.newest st.older
 
   fails : (e : Error) → ((c : CallKind) → closes_by e c ≡ true) → Keeps (failed_by s e) h
   fails e fatal = fell_stands s h e fatal op st
 
   -- a command's exchange begins
-  queues : (t u : Task) (call : Call) (talk : Talk) → HeardAs t → kind_in u ≡ kind_in t → keeps u ≡ false → owes u ≡ true → s.untold ≡ false → s.context.spot ≡ spots.Idle → opening s.login (next_terms s) call (connecting_in (st.newest ∷ st.older)) ≡ Some talk → origin talk ≡ talk → Fits talk → server_bytes (turns talk) ≡ [] → packets_of talk ≡ [] → errors_in talk ≡ [] → login_in s.login talk ≡ s.login → is_greeting (context_of talk).spot ≡ false → TaskIs u (context_of talk).spot s.closed (has_connected h.calls) (connecting_in (record { call = call; talk = talk; given = None } ∷ st.newest ∷ st.older)) (record { call = call; talk = talk; given = None }) → TieIs u s.text (context_of talk).spot h.calls call (st.newest ∷ st.older) → IsArranged s.login h.calls (record { call = call; talk = talk; given = None }) (st.newest ∷ st.older) → Stands (queued s u talk) h
-  queues t u call talk hd same lost owe told idle opens orig fits none packets calm log past at tie arr = record {
+  queues : (t u : Task) (call : Call) (talk : Talk) → HeardAs t → kind_in u ≡ kind_in t → keeps u ≡ false → owes u ≡ true → s.context.spot ≡ spots.Idle → Opens s.login (next_terms s) call (connecting_in (st.newest ∷ st.older)) talk → origin talk ≡ talk → Fits talk → server_bytes (turns talk) ≡ [] → packets_of talk ≡ [] → errors_in talk ≡ [] → login_in s.login talk ≡ s.login → is_greeting (context_of talk).spot ≡ false → TaskIs u (context_of talk).spot s.closed (has_connected h.calls) (connecting_in (record { call = call; talk = talk; given = None } ∷ st.newest ∷ st.older)) (record { call = call; talk = talk; given = None }) → TieIs u s.call (context_of talk).spot h.calls call (st.newest ∷ st.older) → IsArranged s.login h.calls (record { call = call; talk = talk; given = None }) (st.newest ∷ st.older) → Stands (queued s u talk) h
+  queues t u call talk hd same lost owe idle opens orig fits none packets calm log past at tie arr = record {
     newest = record { call = call; talk = talk; given = None };
     older = st.newest ∷ st.older;
     wire = wire_queued s.context s.number s.unread s.owed s.closed s.facts s.login h.taken h.sent st.newest st.older call talk open_still idle nothing opens orig fits none packets log st.wire;
     heard = record {
-      pending_is = hd.pending_is ∙ ap (λ k. call_with k s.text) (sym same);
+      pending_is = hd.pending_is ∙ ap (λ k. call_with k s.call) (sym same);
       closed_is = hd.closed_is;
       alive = λ _. open_still;
       given_is = hd.given_is;
       errors = hd.errors ∙ ap (λ es. es ++ errors_of (st.newest ∷ st.older)) (sym calm);
       each = (tt, hd.each);
-      lone = λ yes. let stop : true ≡ false = sym yes ∙ told in cc;
+      lone = λ no. cc;
       fresh = λ _ no _. let stop : true ≡ false = sym no ∙ lost in cc;
       at = at;
       first = λ greets. let stop : true ≡ false = sym greets ∙ past in cc;
@@ -64,26 +80,52 @@ module _ (s : Seen) (h : History) (st : Stands s h) (open_still : s.closed ≡ f
     settled = λ no. let stop : true ≡ false = sym owe ∙ no in cc;
   }
 
-  unless_long : (u : Task) (talk : Talk) (long : Bool) → Stands (queued s u talk) h → Keeps (cond long (too_large s s.facts.settings.limit (length (command_in talk))) (record { seen = queued s u talk; does = Sends })) h
-  unless_long u talk true w = fails (codec_error _) (λ c. refl)
-  unless_long u talk false w = w
+  unless_long : (u : Task) (talk : Talk) (long : Option ℕ) → Stands (queued s u talk) h → Keeps (unless_exceeds s long (record { seen = queued s u talk; does = Sends })) h
+  unless_long u talk (Some len) w = fails (codec_error _) (λ c. refl)
+  unless_long u talk None w = w
 
   -- the own command of a call
-  commands : (c : CallKind) (talk : Talk) → HeardAs (Cleaning c) → s.untold ≡ false → s.context.spot ≡ spots.Idle → is_connect (kind_of (call_of c s.text)) ≡ false → opening s.login (next_terms s) (call_of c s.text) (connecting_in (st.newest ∷ st.older)) ≡ Some talk → origin talk ≡ talk → Fits talk → server_bytes (turns talk) ≡ [] → packets_of talk ≡ [] → errors_in talk ≡ [] → login_in s.login talk ≡ s.login → is_greeting (context_of talk).spot ≡ false → TaskIs (Own c) (context_of talk).spot s.closed (has_connected h.calls) (connecting_in (record { call = call_of c s.text; talk = talk; given = None } ∷ st.newest ∷ st.older)) (record { call = call_of c s.text; talk = talk; given = None }) → Keeps (begins s (Own c) talk) h
-  commands c talk hd told idle other opens orig fits none packets calm log past at =
-      unless_long (Own c) talk _ (queues (Cleaning c) (Own c) (call_of c s.text) talk hd refl refl refl told idle opens orig fits none packets calm log past at
+  commands : (c : CallKind) (talk : Talk) → HeardAs (Cleaning c) → s.context.spot ≡ spots.Idle → is_connect (kind_of (call_of c s.call)) ≡ false → Opens s.login (next_terms s) (call_of c s.call) (connecting_in (st.newest ∷ st.older)) talk → origin talk ≡ talk → Fits talk → server_bytes (turns talk) ≡ [] → packets_of talk ≡ [] → errors_in talk ≡ [] → login_in s.login talk ≡ s.login → is_greeting (context_of talk).spot ≡ false → TaskIs (Own c) (context_of talk).spot s.closed (has_connected h.calls) (connecting_in (record { call = call_of c s.call; talk = talk; given = None } ∷ st.newest ∷ st.older)) (record { call = call_of c s.call; talk = talk; given = None }) → Keeps (begins s (Own c) talk) h
+  commands c talk hd idle other opens orig fits none packets calm log past at =
+      unless_long (Own c) talk _ (queues (Cleaning c) (Own c) (call_of c s.call) talk hd refl refl refl idle opens orig fits none packets calm log past at
       (refl, all_begun s.context.spot h.calls st.newest.call st.older hd.at.2 hd.tie)
       (λ made. (ap (λ b. cond b (suc (connecting_in (st.newest ∷ st.older))) (connecting_in (st.newest ∷ st.older))) other ∙ (st.arranged made).0, λ own. let no : true ≡ false = sym own ∙ other in cc)))
 
+  executes : HeardAs (Cleaning Execute) → s.context.spot ≡ spots.Idle → (v : Values) → values_for (statement_in s.call) (params_in s.call) ≡ v → refused_by v ≡ None → Keeps (asked s Execute (execution (next_terms s) s.statements (statement_in s.call).inner.id v)) h
+  executes hd idle (Fitting values) is fit =
+      let id = (statement_in s.call).inner.id in
+      let ahead = ahead_of id values in
+      let known = known_in s.statements id in
+      commands Execute (Queried (next_terms s) (body_of id values) (NoSets (ByStatement ahead known))) hd idle refl (inl (s.statements, ap (execution (next_terms s) s.statements id) is)) refl (record { kinds = tt; within = tt }) (commands_silent (body_of id values) (ByStatement ahead known)) refl refl refl refl (hd.at.1, refl, refl)
+  executes hd idle (Unfitting e) is fit = cc
+
+  -- unless its parameters are refused
+  pub refused_or : (c : CallKind) (o : Option DriverError) (m : Move) → refusal c s.call ≡ o → (o ≡ None → Keeps m h) → Keeps (unless_refused s o m) h
+  refused_or c None m is keep = keep refl
+  refused_or c (Some e) m is keep = fails (errors.Driver e) (λ _. refusal_closes c s.call e is)
+
+  asked_keep : (c : CallKind) → HeardAs (Cleaning c) → s.context.spot ≡ spots.Idle → refusal c s.call ≡ None → Keeps (asked s c (command_of (next_terms s) s.statements (call_of c s.call))) h
+  asked_keep Connect hd idle fit = let no : asks Connect ≡ true = hd.at.0 in cc
+  asked_keep Query hd idle fit = commands Query (Queried (next_terms s) (packet_bytes (packets.Query (text_in s.call))) (NoSets ByText)) hd idle refl (inl (s.statements, refl)) refl (record { kinds = tt; within = tt }) refl refl refl refl refl (hd.at.1, refl, refl)
+  asked_keep Prepare hd idle fit = commands Prepare (Preparing (next_terms s) (packet_bytes (packets.Prepare (query_of (text_in s.call)))) Unanswered) hd idle refl (inl (s.statements, refl)) refl (record { kinds = tt; within = tt }) refl refl refl refl refl (hd.at.1, refl)
+  asked_keep Execute hd idle fit = executes hd idle (values_for (statement_in s.call) (params_in s.call)) refl fit
+  asked_keep CloseStmt hd idle fit = commands CloseStmt (closing (next_terms s) (id_in s.call)) hd idle refl (inl (s.statements, refl)) refl (record { kinds = tt; within = tt }) refl refl refl refl refl (hd.at.1, refl, refl)
+  asked_keep NextRow hd idle fit = let no : asks NextRow ≡ true = hd.at.0 in cc
+  asked_keep DropResult hd idle fit = let no : asks DropResult ≡ true = hd.at.0 in cc
+  asked_keep TakeSet hd idle fit = let no : asks TakeSet ≡ true = hd.at.0 in cc
+  asked_keep SkipTaken hd idle fit = let no : asks SkipTaken ≡ true = hd.at.0 in cc
+  asked_keep Ping hd idle fit = commands Ping (Asked (next_terms s) (packet_bytes packets.Ping)) hd idle refl (inl (s.statements, refl)) refl (record { kinds = tt; within = tt }) refl refl refl refl refl (hd.at.1, refl)
+  asked_keep Quit hd idle fit = commands Quit (Silent (next_terms s) (packet_bytes packets.Quit)) hd idle refl (inl (s.statements, refl)) refl (record { kinds = tt; within = tt }) refl refl refl refl refl hd.at.1
+
   pub asks_keep : (c : CallKind) → HeardAs (Cleaning c) → s.untold ≡ false → s.context.spot ≡ spots.Idle → Keeps (planned s (plans.Asks c)) h
-  asks_keep Connect hd told idle = let no : asks Connect ≡ true = hd.at.0 in cc
-  asks_keep Query hd told idle = commands Query (Queried (next_terms s) (packet_bytes (packets.Query s.text)) (NoSets ByText)) hd told idle refl refl refl (record { kinds = tt; within = tt }) refl refl refl refl refl (hd.at.1, refl, refl)
-  asks_keep NextRow hd told idle = let no : asks NextRow ≡ true = hd.at.0 in cc
-  asks_keep DropResult hd told idle = let no : asks DropResult ≡ true = hd.at.0 in cc
-  asks_keep TakeSet hd told idle = let no : asks TakeSet ≡ true = hd.at.0 in cc
-  asks_keep SkipTaken hd told idle = let no : asks SkipTaken ≡ true = hd.at.0 in cc
-  asks_keep Ping hd told idle = commands Ping (Asked (next_terms s) (packet_bytes packets.Ping)) hd told idle refl refl refl (record { kinds = tt; within = tt }) refl refl refl refl refl (hd.at.1, refl)
-  asks_keep Quit hd told idle = commands Quit (Silent (next_terms s) (packet_bytes packets.Quit)) hd told idle refl refl refl (record { kinds = tt; within = tt }) refl refl refl refl refl hd.at.1
+  asks_keep c hd told idle = refused_or c (refusal c s.call) (asked s c (command_of (next_terms s) s.statements (call_of c s.call))) refl (asked_keep c hd idle)
+
+  -- the close of the statement that has to go for one that was prepared
+  pub closes_keep : (id : ℕ) → HeardAs (Own Prepare) → s.context.spot ≡ spots.Idle → Keeps (begins s Giving (closing (next_terms s) id)) h
+  closes_keep id hd idle =
+      unless_long Giving (closing (next_terms s) id) _ (queues (Own Prepare) Giving (call_of Prepare s.call) (closing (next_terms s) id) hd refl refl refl idle (inr (id, refl, refl)) refl (record { kinds = tt; within = tt }) refl refl refl refl refl (hd.at.0, refl)
+      (refl, inr (refl, (sym hd.tie.0, inl hd.tie.1)))
+      (λ made. ((st.arranged made).0, λ own. cc)))
 
   -- all queries that set the connection up were answered
   all_arranged : (n : ℕ) → HeardAs (Arranging n) → slice_get (arranging_texts s.login) n ≡ None → connecting_in (st.newest ∷ st.older) ≡ suc (length (arranging_texts s.login))
@@ -91,7 +133,7 @@ module _ (s : Seen) (h : History) (st : Stands s h) (open_still : s.closed ≡ f
       let connects_on : st.newest.call ≡ calls.Connect = sym hd.tie.0 in
       let more : suc (connecting_in st.older) ≡ suc n = sym (ap (λ (c : Call). cond (is_connect (kind_of c)) (suc (connecting_in st.older)) (connecting_in st.older)) connects_on) ∙ hd.at.1 in
       let count : connecting_in st.older ≡ n = omega (arith, more) in
-      let opened : connecting s.login (terms_by s.login st.older) n ≡ Some (origin st.newest.talk) = subst (λ (m : ℕ). connecting s.login (terms_by s.login st.older) m ≡ Some (origin st.newest.talk)) count (subst (λ (c : Call). opening s.login (terms_by s.login st.older) c (connecting_in st.older) ≡ Some (origin st.newest.talk)) connects_on st.wire.table.0) in
+      let opened : connecting s.login (terms_by s.login st.older) n ≡ Some (origin st.newest.talk) = subst (λ (m : ℕ). connecting s.login (terms_by s.login st.older) m ≡ Some (origin st.newest.talk)) count (connect_opens s.login (terms_by s.login st.older) st.newest.call (connecting_in st.older) (origin st.newest.talk) connects_on st.wire.table.0) in
       hd.at.1 ∙ ap suc (all_sent s.login (terms_by s.login st.older) n (origin st.newest.talk) opened none)
 
   -- the connection is made
@@ -111,19 +153,19 @@ module _ (s : Seen) (h : History) (st : Stands s h) (open_still : s.closed ≡ f
       fresh = λ _ _ left. let no : false ≡ true = sym (ap (λ b. b || is_left s.context.spot) told ∙ ap is_left idle) ∙ left in cc;
       at = λ _. ap is_settled idle;
       first = hd.first;
-      tie = owns_all s.context.spot h.calls (record { call = calls.Connect; what = ToldReady }) st.newest.call st.older hd.at.2 refl hd.tie;
+      tie = owns_all s.context.spot h.calls (record { call = calls.Connect; what = ToldReady }) calls.Connect st.newest.call st.older hd.at.2 refl hd.tie;
     };
     arranged = λ _. (all_arranged n hd none, λ _. hd.at.3 (ap is_idle idle));
     ended_is = st.ended_is;
     settled = λ _. nothing;
   })
 
-  arranges_by : (n : ℕ) → HeardAs (Arranging n) → s.untold ≡ false → s.context.spot ≡ spots.Idle → (x : Option (List ℕ)) → slice_get (arranging_texts s.login) n ≡ x → Keeps (arranged s n (query_of (next_terms s) x)) h
+  arranges_by : (n : ℕ) → HeardAs (Arranging n) → s.untold ≡ false → s.context.spot ≡ spots.Idle → (x : Option (List ℕ)) → slice_get (arranging_texts s.login) n ≡ x → Keeps (arranged s n (arranging (next_terms s) x)) h
   arranges_by n hd told idle None is = arranged_all n hd told idle is
   arranges_by n hd told idle (Some text) is =
       let talk : Talk = Queried (next_terms s) (packet_bytes (packets.Query text)) (NoSets ByText) in
-      let opens : opening s.login (next_terms s) calls.Connect (connecting_in (st.newest ∷ st.older)) ≡ Some talk = ap (connecting s.login (next_terms s)) hd.at.1 ∙ ap (query_of (next_terms s)) is in
-      unless_long (Arranging (suc n)) talk _ (queues (Arranging n) (Arranging (suc n)) calls.Connect talk hd refl refl refl told idle opens refl (record { kinds = tt; within = tt }) refl refl refl refl refl
+      let opens : opening s.login (next_terms s) s.statements calls.Connect (connecting_in (st.newest ∷ st.older)) ≡ Some talk = ap (connecting s.login (next_terms s)) hd.at.1 ∙ ap (arranging (next_terms s)) is in
+      unless_long (Arranging (suc n)) talk _ (queues (Arranging n) (Arranging (suc n)) calls.Connect talk hd refl refl refl idle (inl (s.statements, opens)) refl (record { kinds = tt; within = tt }) refl refl refl refl refl
       (hd.at.0, ap suc hd.at.1, refl, λ no. cc) (refl, inr (refl, hd.tie)) (λ made. let no : true ≡ false = sym made ∙ hd.at.0 in cc))
 
   pub arranges_keep : (n : ℕ) → HeardAs (Arranging n) → s.untold ≡ false → s.context.spot ≡ spots.Idle → Keeps (planned s (plans.Arranges n)) h

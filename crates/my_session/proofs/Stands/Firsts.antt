@@ -1,5 +1,5 @@
 -- The head of a query's first set.
-use Rattle.std.proofs.Common.{◌≡◌, ℕ, ◌-◌, List, [], ◌∷◌, Bool, true, false, cond, leb, ◌&&◌, Some, refl, sym, ap, ◌∙◌}
+use Rattle.std.proofs.Common.{◌≡◌, ℕ, ◌-◌, List, [], ◌∷◌, Bool, true, false, cond, leb, ◌&&◌, Some, inl, inr, refl, sym, ap, ◌∙◌}
 use Rattle.my_flags.specs.declared.flags.StatusFlags.{StatusFlags}
 use Rattle.my_flags.specs.Sets.{deprecates_eof}
 use Rattle.my_grammar.specs.declared.login.Login.{Login}
@@ -7,12 +7,21 @@ use Rattle.my_grammar.specs.declared.spot.Kind.{Kind}
 use Rattle.my_grammar.specs.declared.spot.Kind.TheVariants as kinds
 use Rattle.my_grammar.specs.declared.spot.Spot.TheVariants as spots
 use Rattle.my_grammar.specs.Growth.{grow}
-use Rattle.my_grammar.specs.Sets.{SetHead, Sets, NoSets, Lone, Failed, Heading, Headed, Begun, Ended, Broken, grow_sets, with_column, with_column_of, with_close, spot_in}
+use Rattle.my_grammar.specs.Sets.{ByStatement, ByText, SetHead, Sets, NoSets, Lone, Failed, Heading, Headed, Begun, Ended, Broken, grow_sets, with_column, with_column_of, with_close, spot_in}
 use Rattle.my_grammar.specs.Talk.{Talk, Start, Unwelcome, Greeted, Settled, Asked, Replied, Queried, Preparing, Silent, context_of, Fits, origin}
 use Rattle.my_grammar.specs.declared.spot.Terms.{Terms}
 use Rattle.my_reading.specs.declared.call.Call.TheVariants as calls
-use Rattle.my_reading.specs.Commands.{opening}
-use Rattle.my_session.specs.Entries.{sets_of, IsGiven}
+use Rattle.my_reading.specs.declared.call.CallKind.TheVariants.{Query, Prepare, Execute}
+use Rattle.my_command.specs.declared.client.ClientPacket.TheVariants as packets
+use Rattle.my_command.specs.Client.Packet.{client_bytes as packet_bytes}
+use Rattle.my_params.specs.LongData.{ahead_of}
+use Rattle.my_params.specs.Parameters.{body_of}
+use Rattle.my_params.specs.declared.params.Params.{Params}
+use Rattle.my_statements.specs.Prepared.{StatementView}
+use Rattle.my_reading.specs.Commands.{execution, queried}
+use Rattle.my_reading.specs.Executions.{Values, Fitting, Unfitting, values_for}
+use Rattle.my_reading.specs.Statements.{Statements, known_in}
+use Rattle.my_session.specs.Entries.{Opens, sets_of, IsGiven}
 use Rattle.my_session.specs.Groups.{groups}
 use Rattle.my_session.proofs.Stands.Spots.{is_known}
 use Rattle.my_session.specs.Stands.{known_part, is_lone, is_none, is_empty, is_first}
@@ -126,17 +135,34 @@ is_queried (Replied terms c last kind) = false
 is_queried (Preparing terms c reply) = false
 is_queried (Silent terms c) = false
 
+queried_origin : (terms : Terms) (command : List ℕ) (x : Sets) (t : Talk) → Queried terms command x ≡ origin t → is_queried t ≡ true
+queried_origin terms command x (Start l) e = cc
+queried_origin terms command x (Unwelcome l q) e = cc
+queried_origin terms command x (Greeted l q c) e = cc
+queried_origin terms command x (Settled l q c last kind) e = cc
+queried_origin terms command x (Asked u c) e = cc
+queried_origin terms command x (Replied u c last kind) e = cc
+queried_origin terms command x (Queried u c y) e = refl
+queried_origin terms command x (Preparing u c reply) e = cc
+queried_origin terms command x (Silent u c) e = cc
+
 -- a query's exchange is one of sets
-pub query_talk : (login : Login) (terms : Terms) (n : ℕ) (text : List ℕ) (t : Talk) → opening login terms (calls.Query text) n ≡ Some (origin t) → is_queried t ≡ true
-query_talk login terms_is n text (Start l) e = cc
-query_talk login terms_is n text (Unwelcome l q) e = cc
-query_talk login terms_is n text (Greeted l q c) e = cc
-query_talk login terms_is n text (Settled l q c last kind) e = cc
-query_talk login terms_is n text (Asked terms c) e = cc
-query_talk login terms_is n text (Replied terms c last kind) e = cc
-query_talk login terms_is n text (Queried terms c x) e = refl
-query_talk login terms_is n text (Preparing terms c reply) e = cc
-query_talk login terms_is n text (Silent terms c) e = cc
+pub query_talk : (login : Login) (terms : Terms) (n : ℕ) (text : List ℕ) (t : Talk) → Opens login terms (calls.Query text) n (origin t) → is_queried t ≡ true
+query_talk login terms n text t (inl w) =
+    let same : queried terms text ≡ origin t = let some : Some (queried terms text) ≡ Some (origin t) = w.1 in cc in
+    queried_origin terms (packet_bytes (packets.Query text)) (NoSets ByText) t same
+query_talk login terms n text t (inr w) = let no : Query ≡ Prepare = w.1 in cc
+
+-- and so is that of an execution
+execution_talk : (terms : Terms) (known : Statements) (id : ℕ) (v : Values) (t : Talk) → execution terms known id v ≡ Some (origin t) → is_queried t ≡ true
+execution_talk terms known id (Fitting values) t e =
+    let same : Queried terms (body_of id values) (NoSets (ByStatement (ahead_of id values) (known_in known id))) ≡ origin t = cc in
+    queried_origin terms (body_of id values) (NoSets (ByStatement (ahead_of id values) (known_in known id))) t same
+execution_talk terms known id (Unfitting d) t e = cc
+
+pub execute_talk : (login : Login) (terms : Terms) (n : ℕ) (statement : StatementView) (params : Params) (t : Talk) → Opens login terms (calls.Execute statement params) n (origin t) → is_queried t ≡ true
+execute_talk login terms n statement params t (inl w) = execution_talk terms w.0 statement.inner.id (values_for statement params) t w.1
+execute_talk login terms n statement params t (inr w) = let no : Execute ≡ Prepare = w.1 in cc
 
 pub first_on : (k : Kind) (t : Talk) (p : List ℕ) → is_queried t ≡ true → is_first (sets_of t) ≡ true → is_known (context_of t).spot k ≡ true → is_part k ≡ true → is_first (sets_of (grow k t p)) ≡ true
 first_on k (Start l) p q e i part = cc

@@ -17,9 +17,9 @@ use Rattle.my_reading.proofs.Described.{kind_is}
 use Rattle.my_grammar.specs.Kinds.{kind_there}
 use Rattle.my_reading.specs.declared.call.Call.TheVariants as calls
 use Rattle.my_reading.specs.declared.call.CallKind.{CallKind}
-use Rattle.my_reading.specs.declared.call.CallKind.TheVariants.{Connect, Query, NextRow, DropResult, TakeSet, SkipTaken, Ping, Quit}
+use Rattle.my_reading.specs.declared.call.CallKind.TheVariants.{Connect, Query, Prepare, Execute, CloseStmt, NextRow, DropResult, TakeSet, SkipTaken, Ping, Quit}
 use Rattle.my_session.specs.declared.task.Task.{Task}
-use Rattle.my_session.specs.declared.task.Task.TheVariants.{Nothing, Begun, Cleaning, Own, Arranging, Reading, Dropping, Taking, Skipping, Leaving, Failing}
+use Rattle.my_session.specs.declared.task.Task.TheVariants.{Nothing, Begun, Cleaning, Own, Giving, Arranging, Reading, Dropping, Taking, Skipping, Leaving, Failing}
 use Rattle.my_reading.specs.declared.error.Error.TheVariants as errors
 use Rattle.my_reading.specs.Calls.{kind_of, call_of, is_connect}
 use Rattle.my_session.specs.Tasks.{kind_in, is_open}
@@ -35,7 +35,7 @@ use Rattle.my_session.specs.Stands.{Stands, Heard, TaskIs, TieIs, begun_of, is_r
 use Rattle.my_session.specs.Steps.{is_settled}
 use Rattle.my_session.specs.Tables.{react, react_whole, react_connect, react_query, react_ping, react_own, react_reading, react_dropping, react_taking, react_skipping, is_breaking, is_connecting}
 use Rattle.my_session.proofs.Stands.Blames.{is_failed, failed_blames}
-use Rattle.my_session.proofs.Stands.Reacts.{fell_stands, goes, refuses, refuses_connect, newest_by, answers, pongs, readies, first_parts, shows, heads, row_gives, end_gives, good_gives, left_lone, knows, tied_on, tied_now}
+use Rattle.my_session.proofs.Stands.Reacts.{fell_stands, goes, refuses, refuses_connect, newest_by, answers, is_query, is_execution, pongs, readies, first_parts, shows, heads, row_gives, end_gives, good_gives, left_lone, knows, tied_on, tied_now}
 use Rattle.my_session.proofs.Stands.Spots.{row_spot, end_spot, good_spot, not_greeting, settled_more, greets_on, settled_not_greeting, settled_reads, reading_after}
 use Rattle.my_session.proofs.Stands.Ties.{answered_stands, noted_stands, taken_stands, closed_tie, all_begun, none_waits, quiet_more, asks_not}
 use Rattle.my_session.proofs.Stands.Views.{is_part}
@@ -50,6 +50,7 @@ is_reader Nothing = false
 is_reader (Begun c) = false
 is_reader (Cleaning c) = false
 is_reader (Own c) = false
+is_reader Giving = false
 is_reader (Arranging n) = false
 is_reader Reading = true
 is_reader Dropping = true
@@ -60,7 +61,7 @@ is_reader (Failing c fault) = false
 
 module _ (s : Seen) (h : History) (st : Stands s h) (open_still : s.closed ≡ false) (nothing : s.owed ≡ []) (op : is_open s.task ≡ true) (p rest : List ℕ) (next : ℕ) (whole : IsWhole s.number s.context.terms.limit s.unread p rest next) where
   abbrev HeardAs : Task → Type 0
-  HeardAs t = Heard t s.text s.context.spot s.untold s.closed h.lost h.calls h.pending st.newest st.older
+  HeardAs t = Heard t s.call s.context.spot s.untold s.closed h.lost h.calls h.pending st.newest st.older
 
   abbrev after : Kind → Seen
   after k = advanced s k p rest next
@@ -75,7 +76,7 @@ module _ (s : Seen) (h : History) (st : Stands s h) (open_still : s.closed ≡ f
       ∙ ap (λ (c : Context). error_onto (err_at (is_greeting c.spot) p) (errors_in st.newest.talk)) st.wire.context_is
       ∙ sym (failed_blames st.newest.talk p (sym (kind_is st.newest.talk (facts_of s.login st.older) s.context s.facts p st.wire.fits st.wire.context_is st.wire.facts_are) ∙ e))
 
-  refuse : (t : Task) (c : CallKind) (x : Option ErrPacket) → err_at (is_greeting s.context.spot) p ≡ x → HeardAs t → kind_there s.context s.facts.columns p ≡ kinds.Failed → kind_in t ≡ Some c → is_connecting s.task ≡ false → is_connect (kind_of (call_of c s.text)) ≡ false → has_connected h.calls ≡ true → ((y : Told) → may_lack y (kind_of (call_of c s.text)) ≡ true → IsTied (record { call = call_of c s.text; what = y } ∷ h.calls) (begun_of (spot_after (deprecates_eof s.context.terms.kept) s.context.spot kinds.Failed) st.newest.call st.older)) → Keeps (refused s (after kinds.Failed) x) h
+  refuse : (t : Task) (c : CallKind) (x : Option ErrPacket) → err_at (is_greeting s.context.spot) p ≡ x → HeardAs t → kind_there s.context s.facts.columns p ≡ kinds.Failed → kind_in t ≡ Some c → is_connecting s.task ≡ false → is_connect (kind_of (call_of c s.call)) ≡ false → has_connected h.calls ≡ true → ((y : Told) → may_lack y (kind_of (call_of c s.call)) ≡ true → IsTied (record { call = call_of c s.call; what = y } ∷ h.calls) (begun_of (spot_after (deprecates_eof s.context.terms.kept) s.context.spot kinds.Failed) st.newest.call st.older)) → Keeps (refused s (after kinds.Failed) x) h
   refuse t c None is hd e call off not made tie = invalid
   refuse t c (Some x) is hd e call off not made tie =
       subst (λ (b : Bool). Stands (cond b (fell (after kinds.Failed)) (with_task (after kinds.Failed) Nothing false)) (answered h (ToldError (errors.Server (server_error x))))) (sym off)
@@ -88,16 +89,16 @@ module _ (s : Seen) (h : History) (st : Stands s h) (open_still : s.closed ≡ f
       (refuses_connect s h st open_still nothing p rest next whole t (server_error x) e (blames x e is) call hd (tie (ToldError (errors.Server (server_error x))) refl))
 
   -- the tie of a call that reads after other exchanges
-  tied_after : (k : Kind) (c : CallKind) → is_greeting s.context.spot ≡ false → IsTied h.calls (begun_of s.context.spot st.newest.call st.older) → (y : Told) → may_lack y (kind_of (call_of c s.text)) ≡ true → IsTied (record { call = call_of c s.text; what = y } ∷ h.calls) (begun_of (spot_after (deprecates_eof s.context.terms.kept) s.context.spot k) st.newest.call st.older)
+  tied_after : (k : Kind) (c : CallKind) → is_greeting s.context.spot ≡ false → IsTied h.calls (begun_of s.context.spot st.newest.call st.older) → (y : Told) → may_lack y (kind_of (call_of c s.call)) ≡ true → IsTied (record { call = call_of c s.call; what = y } ∷ h.calls) (begun_of (spot_after (deprecates_eof s.context.terms.kept) s.context.spot k) st.newest.call st.older)
   tied_after k c past t y lack =
-      none_waits (spot_after (deprecates_eof s.context.terms.kept) s.context.spot k) (record { call = call_of c s.text; what = y } ∷ h.calls) st.newest.call st.older (not_greeting s.context.spot (deprecates_eof s.context.terms.kept) k)
-      (quiet_more (record { call = call_of c s.text; what = y }) h.calls (st.newest.call ∷ calls_in st.older) lack (all_begun s.context.spot h.calls st.newest.call st.older past t))
+      none_waits (spot_after (deprecates_eof s.context.terms.kept) s.context.spot k) (record { call = call_of c s.call; what = y } ∷ h.calls) st.newest.call st.older (not_greeting s.context.spot (deprecates_eof s.context.terms.kept) k)
+      (quiet_more (record { call = call_of c s.call; what = y }) h.calls (st.newest.call ∷ calls_in st.older) lack (all_begun s.context.spot h.calls st.newest.call st.older past t))
 
-  tied_own : (k : Kind) (t : Task) (c : CallKind) → kind_in t ≡ Some c → TieIs t s.text (spot_after (deprecates_eof s.context.terms.kept) s.context.spot k) h.calls st.newest.call st.older → (y : Told) → may_lack y (kind_of (call_of c s.text)) ≡ true → IsTied (record { call = call_of c s.text; what = y } ∷ h.calls) (begun_of (spot_after (deprecates_eof s.context.terms.kept) s.context.spot k) st.newest.call st.older)
-  tied_own k t c call tie y lack = closed_tie t c s.text (spot_after (deprecates_eof s.context.terms.kept) s.context.spot k) h.calls st.newest.call st.older (record { call = call_of c s.text; what = y }) call refl lack tie
+  tied_own : (k : Kind) (t : Task) (c : CallKind) → kind_in t ≡ Some c → TieIs t s.call (spot_after (deprecates_eof s.context.terms.kept) s.context.spot k) h.calls st.newest.call st.older → (y : Told) → may_lack y (kind_of (call_of c s.call)) ≡ true → IsTied (record { call = call_of c s.call; what = y } ∷ h.calls) (begun_of (spot_after (deprecates_eof s.context.terms.kept) s.context.spot k) st.newest.call st.older)
+  tied_own k t c call tie y lack = closed_tie t c s.call (spot_after (deprecates_eof s.context.terms.kept) s.context.spot k) h.calls st.newest.call st.older (record { call = call_of c s.call; what = y }) call refl lack tie
 
   -- a response that is read whole
-  module _ (t : Task) (lost : keeps t ≡ false) (hd : HeardAs t) (at : (k : Kind) → kind_there s.context s.facts.columns p ≡ k → is_bad k ≡ false → not_greets k ≡ true → TaskIs t (spot_after (deprecates_eof s.context.terms.kept) s.context.spot k) s.closed (has_connected h.calls) (connecting_in (st.newest ∷ st.older)) (newest_by s h st open_still nothing p rest next whole k st.newest.given)) (tie : (k : Kind) → TieIs t s.text (spot_after (deprecates_eof s.context.terms.kept) s.context.spot k) h.calls st.newest.call st.older) (fails : kind_there s.context s.facts.columns p ≡ kinds.Failed → Keeps (refused s (after kinds.Failed) (err_at (is_greeting s.context.spot) p)) h) where
+  module _ (t : Task) (lost : keeps t ≡ false) (hd : HeardAs t) (at : (k : Kind) → kind_there s.context s.facts.columns p ≡ k → is_bad k ≡ false → not_greets k ≡ true → TaskIs t (spot_after (deprecates_eof s.context.terms.kept) s.context.spot k) s.closed (has_connected h.calls) (connecting_in (st.newest ∷ st.older)) (newest_by s h st open_still nothing p rest next whole k st.newest.given)) (tie : (k : Kind) → TieIs t s.call (spot_after (deprecates_eof s.context.terms.kept) s.context.spot k) h.calls st.newest.call st.older) (fails : kind_there s.context s.facts.columns p ≡ kinds.Failed → Keeps (refused s (after kinds.Failed) (err_at (is_greeting s.context.spot) p)) h) where
     whole_goes : (k : Kind) → kind_there s.context s.facts.columns p ≡ k → is_bad k ≡ false → is_failed k ≡ false → not_greets k ≡ true → Stands (with_task (after k) t false) h
     whole_goes k e good calm quiet = goes s h st open_still nothing p rest next whole t t k e good calm lost refl hd (at k e good quiet) (tie k) (λ _. quiet) (λ _. quiet)
 
@@ -120,7 +121,7 @@ module _ (s : Seen) (h : History) (st : Stands s h) (open_still : s.closed ≡ f
       let following = λ (x : Kind). not_greeting s.context.spot (deprecates_eof s.context.terms.kept) x in
       whole_keeps (Cleaning c) refl hd (λ x _ _ _. (hd.at.0, hd.at.1, following x))
       (λ x. none_waits (spot_after (deprecates_eof s.context.terms.kept) s.context.spot x) h.calls st.newest.call st.older (following x) (all_begun s.context.spot h.calls st.newest.call st.older hd.at.2 hd.tie))
-      (λ f. refuse (Cleaning c) c (err_at (is_greeting s.context.spot) p) refl hd f refl off (asks_not c s.text hd.at.0) hd.at.1 (tied_after kinds.Failed c hd.at.2 hd.tie)) k e b
+      (λ f. refuse (Cleaning c) c (err_at (is_greeting s.context.spot) p) refl hd f refl off (asks_not c s.call hd.at.0) hd.at.1 (tied_after kinds.Failed c hd.at.2 hd.tie)) k e b
 
   arranging_keeps : (n : ℕ) (k : Kind) → HeardAs (Arranging n) → is_connecting s.task ≡ true → kind_there s.context s.facts.columns p ≡ k → is_breaking (react_whole (Arranging n) k) ≡ false → Keeps (reacted s (after k) p (react_whole (Arranging n) k)) h
   arranging_keeps n k hd on e b =
@@ -145,19 +146,39 @@ module _ (s : Seen) (h : History) (st : Stands s h) (open_still : s.closed ≡ f
   connect_keeps kinds.Field hd on e b = cc
   connect_keeps kinds.Bad hd on e b = cc
 
-  query_keeps : (k : Kind) → HeardAs (Own Query) → is_connecting s.task ≡ false → kind_there s.context s.facts.columns p ≡ k → is_breaking (react_query k) ≡ false → Keeps (reacted s (after k) p (react_query k)) h
-  query_keeps (kinds.Greets n) hd off e b = cc
-  query_keeps (kinds.Good status) hd off e b = readies s h st open_still nothing p rest next whole status e hd
-  query_keeps kinds.Failed hd off e b = refuse (Own Query) Query (err_at (is_greeting s.context.spot) p) refl hd e refl off refl hd.at.0 (tied_own kinds.Failed (Own Query) Query refl hd.tie)
-  query_keeps (kinds.Count n) hd off e b = first_parts s h st open_still nothing p rest next whole (kinds.Count n) e refl refl refl hd
-  query_keeps kinds.Column hd off e b = first_parts s h st open_still nothing p rest next whole kinds.Column e refl refl refl hd
-  query_keeps kinds.ColumnsDone hd off e b = first_parts s h st open_still nothing p rest next whole kinds.ColumnsDone e refl refl refl hd
-  query_keeps kinds.Row hd off e b = cc
-  query_keeps (kinds.End status) hd off e b = cc
-  query_keeps (kinds.Prepared params columns) hd off e b = first_parts s h st open_still nothing p rest next whole (kinds.Prepared params columns) e refl refl refl hd
-  query_keeps kinds.Parameter hd off e b = first_parts s h st open_still nothing p rest next whole kinds.Parameter e refl refl refl hd
-  query_keeps kinds.Field hd off e b = first_parts s h st open_still nothing p rest next whole kinds.Field e refl refl refl hd
-  query_keeps kinds.Bad hd off e b = cc
+  query_keeps : (c : CallKind) → ((status : StatusFlags) → kind_there s.context s.facts.columns p ≡ kinds.Good status → Stands (with_task (after (kinds.Good status)) Nothing true) (answered h ToldReady)) → ((k : Kind) → kind_there s.context s.facts.columns p ≡ k → is_part k ≡ true → is_bad k ≡ false → not_greets k ≡ true → Stands (with_task (after k) (Own c) false) h) → (kind_there s.context s.facts.columns p ≡ kinds.Failed → Keeps (refused s (after kinds.Failed) (err_at (is_greeting s.context.spot) p)) h) → (k : Kind) → kind_there s.context s.facts.columns p ≡ k → is_breaking (react_query c k) ≡ false → Keeps (reacted s (after k) p (react_query c k)) h
+  query_keeps c ready part fails (kinds.Greets n) e b = cc
+  query_keeps c ready part fails (kinds.Good status) e b = ready status e
+  query_keeps c ready part fails kinds.Failed e b = fails e
+  query_keeps c ready part fails (kinds.Count n) e b = part (kinds.Count n) e refl refl refl
+  query_keeps c ready part fails kinds.Column e b = part kinds.Column e refl refl refl
+  query_keeps c ready part fails kinds.ColumnsDone e b = part kinds.ColumnsDone e refl refl refl
+  query_keeps c ready part fails kinds.Row e b = cc
+  query_keeps c ready part fails (kinds.End status) e b = cc
+  query_keeps c ready part fails (kinds.Prepared params columns) e b = part (kinds.Prepared params columns) e refl refl refl
+  query_keeps c ready part fails kinds.Parameter e b = part kinds.Parameter e refl refl refl
+  query_keeps c ready part fails kinds.Field e b = part kinds.Field e refl refl refl
+  query_keeps c ready part fails kinds.Bad e b = cc
+
+  own_query_keeps : (k : Kind) → HeardAs (Own Query) → is_connecting s.task ≡ false → kind_there s.context s.facts.columns p ≡ k → is_breaking (react_query Query k) ≡ false → Keeps (reacted s (after k) p (react_query Query k)) h
+  own_query_keeps k hd off e b =
+      let queried = is_query s h st open_still nothing p rest next whole hd in
+      query_keeps Query (λ status f. readies s h st open_still nothing p rest next whole Query hd hd.at queried status f (λ gs. refl) refl refl)
+      (λ x f part good quiet. first_parts s h st open_still nothing p rest next whole Query hd hd.at queried x f part good quiet (λ first. (hd.at.0, hd.at.1, first)))
+      (λ f. refuse (Own Query) Query (err_at (is_greeting s.context.spot) p) refl hd f refl off refl hd.at.0 (tied_own kinds.Failed (Own Query) Query refl hd.tie)) k e b
+
+  own_execution_keeps : (k : Kind) → HeardAs (Own Execute) → is_connecting s.task ≡ false → kind_there s.context s.facts.columns p ≡ k → is_breaking (react_query Execute k) ≡ false → Keeps (reacted s (after k) p (react_query Execute k)) h
+  own_execution_keeps k hd off e b =
+      let queried = is_execution s h st open_still nothing p rest next whole hd in
+      query_keeps Execute (λ status f. readies s h st open_still nothing p rest next whole Execute hd hd.at queried status f (λ gs. refl) refl refl)
+      (λ x f part good quiet. first_parts s h st open_still nothing p rest next whole Execute hd hd.at queried x f part good quiet (λ first. (hd.at.0, hd.at.1, first)))
+      (λ f. refuse (Own Execute) Execute (err_at (is_greeting s.context.spot) p) refl hd f refl off refl hd.at.0 (tied_own kinds.Failed (Own Execute) Execute refl hd.tie)) k e b
+
+  -- the reply to a statement to prepare
+  prepare_keeps : (k : Kind) → HeardAs (Own Prepare) → is_connecting s.task ≡ false → kind_there s.context s.facts.columns p ≡ k → is_breaking (react_whole (Own Prepare) k) ≡ false → Keeps (reacted s (after k) p (react_whole (Own Prepare) k)) h
+  prepare_keeps k hd off e b =
+      whole_keeps (Own Prepare) refl hd (λ x _ _ _. (hd.at.0, not_greeting s.context.spot (deprecates_eof s.context.terms.kept) x)) (λ x. hd.tie)
+      (λ f. refuse (Own Prepare) Prepare (err_at (is_greeting s.context.spot) p) refl hd f refl off refl hd.at.0 (tied_own kinds.Failed (Own Prepare) Prepare refl hd.tie)) k e b
 
   ping_keeps : (k : Kind) → HeardAs (Own Ping) → is_connecting s.task ≡ false → kind_there s.context s.facts.columns p ≡ k → is_breaking (react_ping k) ≡ false → Keeps (reacted s (after k) p (react_ping k)) h
   ping_keeps (kinds.Greets n) hd off e b = cc
@@ -175,7 +196,10 @@ module _ (s : Seen) (h : History) (st : Stands s h) (open_still : s.closed ≡ f
 
   own_keeps : (c : CallKind) (k : Kind) → s.task ≡ Own c → HeardAs (Own c) → kind_there s.context s.facts.columns p ≡ k → is_breaking (react_own c k) ≡ false → Keeps (reacted s (after k) p (react_own c k)) h
   own_keeps Connect k task hd e b = connect_keeps k hd (ap is_connecting task) e b
-  own_keeps Query k task hd e b = query_keeps k hd (ap is_connecting task) e b
+  own_keeps Query k task hd e b = own_query_keeps k hd (ap is_connecting task) e b
+  own_keeps Prepare k task hd e b = prepare_keeps k hd (ap is_connecting task) e b
+  own_keeps Execute k task hd e b = own_execution_keeps k hd (ap is_connecting task) e b
+  own_keeps CloseStmt k task hd e b = cc
   own_keeps NextRow k task hd e b = cc
   own_keeps DropResult k task hd e b = cc
   own_keeps TakeSet k task hd e b = cc
@@ -326,6 +350,7 @@ module _ (s : Seen) (h : History) (st : Stands s h) (open_still : s.closed ≡ f
   react_keeps (Begun c) task hd told k e b = cc
   react_keeps (Cleaning c) task hd told k e b = cleaning_keeps c k hd (ap is_connecting task) e b
   react_keeps (Own c) task hd told k e b = own_keeps c k task hd e b
+  react_keeps Giving task hd told k e b = cc
   react_keeps (Arranging n) task hd told k e b = arranging_keeps n k hd (ap is_connecting task) e b
   react_keeps Reading task hd told k e b = reading_keeps (told refl) task hd k e b
   react_keeps Dropping task hd told k e b = dropping_keeps (told refl) task hd k e b

@@ -8,12 +8,13 @@ use Rattle.my_grammar.specs.Talk.{Start}
 use Rattle.my_reading.specs.declared.call.Call.{Call}
 use Rattle.my_reading.specs.declared.call.Call.TheVariants as calls
 use Rattle.my_reading.specs.declared.call.CallKind.{CallKind}
-use Rattle.my_reading.specs.declared.call.CallKind.TheVariants.{Connect, Query, NextRow, DropResult, TakeSet, SkipTaken, Ping, Quit}
+use Rattle.my_reading.specs.declared.call.CallKind.TheVariants.{Connect, Query, Prepare, Execute, CloseStmt, NextRow, DropResult, TakeSet, SkipTaken, Ping, Quit}
 use Rattle.my_session.specs.declared.task.LinkFault.{LinkFault}
 use Rattle.my_session.specs.declared.task.LinkFault.TheVariants.{NoMemory}
 use Rattle.my_session.specs.declared.task.Task.{Task}
-use Rattle.my_session.specs.declared.task.Task.TheVariants.{Nothing, Begun, Cleaning, Own, Arranging, Reading, Dropping, Taking, Skipping, Leaving, Failing}
-use Rattle.my_reading.specs.Calls.{kind_of, text_of, call_of, is_quit}
+use Rattle.my_session.specs.declared.task.Task.TheVariants.{Nothing, Begun, Cleaning, Own, Giving, Arranging, Reading, Dropping, Taking, Skipping, Leaving, Failing}
+use Rattle.my_reading.specs.Calls.{kind_of, call_of, is_quit}
+use Rattle.my_reading.specs.Statements.{first_statements}
 use Rattle.my_session.specs.Tasks.{kind_in, is_open}
 use Rattle.my_session.specs.Entries.{Entry, has_connected, connecting_in, calls_in, OwnsFirst, IsTied}
 use Rattle.my_reading.specs.Errors.{connection_closed}
@@ -33,7 +34,7 @@ pub fresh_stands : (login : Login) → Stands (fresh login) beginning
 fresh_stands login = record {
   newest = record { call = calls.Connect; talk = Start login; given = None };
   older = [];
-  wire = record { taken_is = refl; gone = []; cut = []; sent_is = refl; all_is = refl; owed_is = λ _. refl; dropped = λ no. cc; answered = λ _. refl; number_is = refl; context_is = refl; login_is = refl; fits = record { kinds = tt; within = tt }; done = tt; facts_are = refl; table = (refl, tt) };
+  wire = record { taken_is = refl; gone = []; cut = []; sent_is = refl; all_is = refl; owed_is = λ _. refl; dropped = λ no. cc; answered = λ _. refl; number_is = refl; context_is = refl; login_is = refl; fits = record { kinds = tt; within = tt }; done = tt; facts_are = refl; table = (inl (first_statements login, refl), tt) };
   heard = record { pending_is = refl; closed_is = refl; alive = λ no. cc; given_is = refl; errors = refl; each = (tt, tt); lone = λ no. cc; fresh = λ _ _ no. cc; at = λ _. refl; first = λ _. (refl, refl); tie = tt };
   arranged = λ no. cc;
   ended_is = refl;
@@ -69,15 +70,18 @@ pub ended_stands : (s : Seen) (h : History) → Stands s h → Stands (with_end 
 ended_stands s h st = record { newest = st.newest; older = st.older; wire = st.wire; heard = st.heard; arranged = st.arranged; ended_is = refl; settled = st.settled }
 
 -- a call that begins is the one that is open
-call_is : (call : Call) (text : List ℕ) → call ≡ call_of (kind_of call) (text_of call text)
-call_is calls.Connect text = refl
-call_is (calls.Query q) text = refl
-call_is calls.NextRow text = refl
-call_is calls.DropResult text = refl
-call_is calls.TakeSet text = refl
-call_is calls.SkipTaken text = refl
-call_is calls.Ping text = refl
-call_is calls.Quit text = refl
+call_is : (call : Call) → call ≡ call_of (kind_of call) call
+call_is calls.Connect = refl
+call_is (calls.Query q) = refl
+call_is (calls.Prepare q) = refl
+call_is (calls.Execute statement params) = refl
+call_is (calls.CloseStmt id) = refl
+call_is calls.NextRow = refl
+call_is calls.DropResult = refl
+call_is calls.TakeSet = refl
+call_is calls.SkipTaken = refl
+call_is calls.Ping = refl
+call_is calls.Quit = refl
 
 later_at : (spot : Spot) (connected : Bool) → is_settled spot ≡ true → cond connected (is_settled spot) (is_greeting spot) ≡ true → (connected ≡ true) × (is_settled spot ≡ true)
 later_at spot true e at = (refl, e)
@@ -90,6 +94,9 @@ first_at spot false e at = (refl, e)
 begun_at : (c : CallKind) (spot : Spot) (connected : Bool) → AtBegun c spot → cond connected (is_settled spot) (is_greeting spot) ≡ true → BegunAt c spot connected
 begun_at Connect spot connected e at = first_at spot connected e at
 begun_at Query spot connected e at = later_at spot connected e at
+begun_at Prepare spot connected e at = later_at spot connected e at
+begun_at Execute spot connected e at = later_at spot connected e at
+begun_at CloseStmt spot connected e at = later_at spot connected e at
 begun_at NextRow spot connected e at = later_at spot connected e at
 begun_at DropResult spot connected e at = later_at spot connected e at
 begun_at TakeSet spot connected e at = later_at spot connected e at
@@ -97,26 +104,29 @@ begun_at SkipTaken spot connected e at = later_at spot connected e at
 begun_at Ping spot connected e at = later_at spot connected e at
 begun_at Quit spot connected e at = later_at spot connected e at
 
-quits : (call : Call) (text : List ℕ) → not (is_quit (kind_of call)) ≡ false → Some call ≡ call_with (Some Quit) text
-quits calls.Connect text e = cc
-quits (calls.Query q) text e = cc
-quits calls.NextRow text e = cc
-quits calls.DropResult text e = cc
-quits calls.TakeSet text e = cc
-quits calls.SkipTaken text e = cc
-quits calls.Ping text e = cc
-quits calls.Quit text e = refl
+quits : (call opened : Call) → not (is_quit (kind_of call)) ≡ false → Some call ≡ call_with (Some Quit) opened
+quits calls.Connect opened e = cc
+quits (calls.Query q) opened e = cc
+quits (calls.Prepare q) opened e = cc
+quits (calls.Execute statement params) opened e = cc
+quits (calls.CloseStmt id) opened e = cc
+quits calls.NextRow opened e = cc
+quits calls.DropResult opened e = cc
+quits calls.TakeSet opened e = cc
+quits calls.SkipTaken opened e = cc
+quits calls.Ping opened e = cc
+quits calls.Quit opened e = refl
 
 -- the session at rest
 module _ (s : Seen) (h : History) (st : Stands s h) (task : s.task ≡ Nothing) where
   tied : IsTied h.calls (begun_of s.context.spot st.newest.call st.older)
-  tied = subst (λ (t : Task). TieIs t s.text s.context.spot h.calls st.newest.call st.older) task st.heard.tie
+  tied = subst (λ (t : Task). TieIs t s.call s.context.spot h.calls st.newest.call st.older) task st.heard.tie
 
   rests : TaskIs Nothing s.context.spot s.closed (has_connected h.calls) (connecting_in (st.newest ∷ st.older)) st.newest
   rests = subst (λ (t : Task). TaskIs t s.context.spot s.closed (has_connected h.calls) (connecting_in (st.newest ∷ st.older)) st.newest) task st.heard.at
 
   abbrev begun_as : Call → Bool → Seen
-  begun_as call closed = record { context = s.context; task = cond closed Leaving (Begun (kind_of call)); text = text_of call s.text; untold = s.untold; taken = s.taken; closed = s.closed; ended = s.ended; number = s.number; unread = s.unread; owed = s.owed; facts = s.facts; login = s.login }
+  begun_as call closed = record { context = s.context; task = cond closed Leaving (Begun (kind_of call)); call = call; untold = s.untold; taken = s.taken; closed = s.closed; ended = s.ended; number = s.number; unread = s.unread; owed = s.owed; facts = s.facts; statements = s.statements; login = s.login }
 
   by_closed : (call : Call) (closed : Bool) → s.closed ≡ closed → (s.closed ≡ false → AtBegun (kind_of call) s.context.spot) → is_refused closed (kind_of call) ≡ false → Stands (begun_as call closed) (began h call)
   by_closed call true e order free = record {
@@ -124,7 +134,7 @@ module _ (s : Seen) (h : History) (st : Stands s h) (task : s.task ≡ Nothing) 
     older = st.older;
     wire = st.wire;
     heard = record {
-      pending_is = quits call (text_of call s.text) free;
+      pending_is = quits call call free;
       closed_is = st.heard.closed_is;
       alive = λ no. cc;
       given_is = st.heard.given_is;
@@ -145,7 +155,7 @@ module _ (s : Seen) (h : History) (st : Stands s h) (task : s.task ≡ Nothing) 
     older = st.older;
     wire = st.wire;
     heard = record {
-      pending_is = ap Some (call_is call s.text);
+      pending_is = ap Some (call_is call);
       closed_is = st.heard.closed_is;
       alive = λ _. e;
       given_is = st.heard.given_is;
@@ -172,7 +182,7 @@ module _ (s : Seen) (h : History) (st : Stands s h) (task : s.task ≡ Nothing) 
     older = st.older;
     wire = st.wire;
     heard = record {
-      pending_is = sym (ap (λ (t : Task). call_with (kind_in t) s.text) task);
+      pending_is = sym (ap (λ (t : Task). call_with (kind_in t) s.call) task);
       closed_is = st.heard.closed_is;
       alive = st.heard.alive;
       given_is = st.heard.given_is;
@@ -182,7 +192,7 @@ module _ (s : Seen) (h : History) (st : Stands s h) (task : s.task ≡ Nothing) 
       fresh = st.heard.fresh;
       at = st.heard.at;
       first = st.heard.first;
-      tie = subst (λ (t : Task). TieIs t s.text s.context.spot (record { call = call; what = ToldError connection_closed } ∷ h.calls) st.newest.call st.older) (sym task) (quiet_more (record { call = call; what = ToldError connection_closed }) h.calls (begun_of s.context.spot st.newest.call st.older) refl tied);
+      tie = subst (λ (t : Task). TieIs t s.call s.context.spot (record { call = call; what = ToldError connection_closed } ∷ h.calls) st.newest.call st.older) (sym task) (quiet_more (record { call = call; what = ToldError connection_closed }) h.calls (begun_of s.context.spot st.newest.call st.older) refl tied);
     };
     arranged = arranged_more s.login (record { call = call; what = ToldError connection_closed }) h.calls st.newest st.older refl st.arranged;
     ended_is = st.ended_is;
@@ -199,6 +209,7 @@ fails_as Nothing c fault e = cc
 fails_as (Begun d) c fault e = let same : d ≡ c = cc in ap (λ (x : CallKind). Failing x fault) same
 fails_as (Cleaning d) c fault e = let same : d ≡ c = cc in ap (λ (x : CallKind). Failing x fault) same
 fails_as (Own d) c fault e = let same : d ≡ c = cc in ap (λ (x : CallKind). Failing x fault) same
+fails_as Giving c fault e = let same : Prepare ≡ c = cc in ap (λ (x : CallKind). Failing x fault) same
 fails_as (Arranging n) c fault e = let same : Connect ≡ c = cc in ap (λ (x : CallKind). Failing x fault) same
 fails_as Reading c fault e = let same : NextRow ≡ c = cc in ap (λ (x : CallKind). Failing x fault) same
 fails_as Dropping c fault e = let same : DropResult ≡ c = cc in ap (λ (x : CallKind). Failing x fault) same
@@ -207,29 +218,30 @@ fails_as Skipping c fault e = let same : SkipTaken ≡ c = cc in ap (λ (x : Cal
 fails_as Leaving c fault e = let same : Quit ≡ c = cc in ap (λ (x : CallKind). Failing x fault) same
 fails_as (Failing d old) c fault e = let same : d ≡ c = cc in ap (λ (x : CallKind). Failing x fault) same
 
-fail_tie : (t : Task) (c : CallKind) (fault : LinkFault) (text : List ℕ) (spot : Spot) (made : List Made) (call : Call) (older : List Entry) → kind_in t ≡ Some c → TieIs t text spot made call older → TieIs (Failing c fault) text spot made call older
-fail_tie Nothing c fault text spot made call older e t = cc
-fail_tie (Begun d) c fault text spot made call older e t = inr t
-fail_tie (Cleaning d) c fault text spot made call older e t = inr t
-fail_tie (Own d) c fault text spot made call older e t = let same : d ≡ c = cc in inl (sym (t.0 ∙ ap (λ (x : CallKind). call_of x text) same), inl t.1)
-fail_tie (Arranging n) c fault text spot made call older e t = let same : Connect ≡ c = cc in inl (subst (λ (x : CallKind). OwnsFirst (call_of x text) (call ∷ calls_in older) (IsTied made)) same t)
-fail_tie Reading c fault text spot made call older e t = inr t
-fail_tie Dropping c fault text spot made call older e t = inr t
-fail_tie Taking c fault text spot made call older e t = inr t
-fail_tie Skipping c fault text spot made call older e t = inr t
-fail_tie Leaving c fault text spot made call older e t = inr t
-fail_tie (Failing d old) c fault text spot made call older e t = let same : d ≡ c = cc in subst (λ (x : CallKind). TieIs (Failing x fault) text spot made call older) same t
+fail_tie : (t : Task) (c : CallKind) (fault : LinkFault) (opened : Call) (spot : Spot) (made : List Made) (call : Call) (older : List Entry) → kind_in t ≡ Some c → TieIs t opened spot made call older → TieIs (Failing c fault) opened spot made call older
+fail_tie Nothing c fault opened spot made call older e t = cc
+fail_tie (Begun d) c fault opened spot made call older e t = inr t
+fail_tie (Cleaning d) c fault opened spot made call older e t = inr t
+fail_tie (Own d) c fault opened spot made call older e t = let same : d ≡ c = cc in inl (sym (t.0 ∙ ap (λ (x : CallKind). call_of x opened) same), inl t.1)
+fail_tie Giving c fault opened spot made call older e t = let same : Prepare ≡ c = cc in inl (subst (λ (x : CallKind). OwnsFirst (call_of x opened) (call ∷ calls_in older) (IsTied made)) same t)
+fail_tie (Arranging n) c fault opened spot made call older e t = let same : Connect ≡ c = cc in inl (subst (λ (x : CallKind). OwnsFirst (call_of x opened) (call ∷ calls_in older) (IsTied made)) same t)
+fail_tie Reading c fault opened spot made call older e t = inr t
+fail_tie Dropping c fault opened spot made call older e t = inr t
+fail_tie Taking c fault opened spot made call older e t = inr t
+fail_tie Skipping c fault opened spot made call older e t = inr t
+fail_tie Leaving c fault opened spot made call older e t = inr t
+fail_tie (Failing d old) c fault opened spot made call older e t = let same : d ≡ c = cc in subst (λ (x : CallKind). TieIs (Failing x fault) opened spot made call older) same t
 
 pub failing_stands : (s : Seen) (h : History) (fault : LinkFault) → is_open s.task ≡ true → Stands s h → Stands (with_failing s fault) h
 failing_stands s h fault op st =
     let c = kind_there_is s.task op in
-    subst (λ (t : Task). Stands (record { context = s.context; task = t; text = s.text; untold = s.untold; taken = s.taken; closed = s.closed; ended = s.ended; number = s.number; unread = s.unread; owed = s.owed; facts = s.facts; login = s.login }) h) (sym (fails_as s.task c.0 fault c.1))
+    subst (λ (t : Task). Stands (record { context = s.context; task = t; call = s.call; untold = s.untold; taken = s.taken; closed = s.closed; ended = s.ended; number = s.number; unread = s.unread; owed = s.owed; facts = s.facts; statements = s.statements; login = s.login }) h) (sym (fails_as s.task c.0 fault c.1))
     (record {
       newest = st.newest;
       older = st.older;
       wire = st.wire;
       heard = record {
-        pending_is = st.heard.pending_is ∙ ap (λ k. call_with k s.text) c.1;
+        pending_is = st.heard.pending_is ∙ ap (λ k. call_with k s.call) c.1;
         closed_is = st.heard.closed_is;
         alive = λ no. cc;
         given_is = st.heard.given_is;
@@ -239,7 +251,7 @@ failing_stands s h fault op st =
         fresh = λ _ no _. cc;
         at = tt;
         first = st.heard.first;
-        tie = fail_tie s.task c.0 fault s.text s.context.spot h.calls st.newest.call st.older c.1 st.heard.tie;
+        tie = fail_tie s.task c.0 fault s.call s.context.spot h.calls st.newest.call st.older c.1 st.heard.tie;
       };
       arranged = st.arranged;
       ended_is = st.ended_is;
@@ -252,7 +264,7 @@ lost_open s h c e st = subst (λ (o : Option Call). Stands s (record { sent = h.
 
 lost_idle : (s : Seen) (h : History) → s.task ≡ Nothing → Stands s h → Stands (fell s) (losing h)
 lost_idle s h task st =
-    let none : h.pending ≡ None = st.heard.pending_is ∙ ap (λ (t : Task). call_with (kind_in t) s.text) task in
+    let none : h.pending ≡ None = st.heard.pending_is ∙ ap (λ (t : Task). call_with (kind_in t) s.call) task in
     subst (λ (o : Option Call). Stands (fell s) (record { sent = h.sent; taken = h.taken; calls = h.calls; pending = h.pending; ended = h.ended; lost = is_idle o || h.lost })) (sym none)
     (record {
       newest = st.newest;
@@ -281,6 +293,7 @@ no_task Nothing e = refl
 no_task (Begun c) e = cc
 no_task (Cleaning c) e = cc
 no_task (Own c) e = cc
+no_task Giving e = cc
 no_task (Arranging n) e = cc
 no_task Reading e = cc
 no_task Dropping e = cc
@@ -290,7 +303,7 @@ no_task Leaving e = cc
 no_task (Failing c fault) e = cc
 
 loss_by : (s : Seen) (h : History) (op : Bool) → is_open s.task ≡ op → Stands s h → Stands (cond op (with_failing s NoMemory) (fell s)) (losing h)
-loss_by s h true e st = let c = kind_there_is s.task e in lost_open (with_failing s NoMemory) h (call_of c.0 s.text) (st.heard.pending_is ∙ ap (λ k. call_with k s.text) c.1) (failing_stands s h NoMemory e st)
+loss_by s h true e st = let c = kind_there_is s.task e in lost_open (with_failing s NoMemory) h (call_of c.0 s.call) (st.heard.pending_is ∙ ap (λ k. call_with k s.call) c.1) (failing_stands s h NoMemory e st)
 loss_by s h false e st = lost_idle s h (no_task s.task e) st
 
 pub loss_stands : (s : Seen) (h : History) → Stands s h → Stands (with_loss s) (losing h)
@@ -319,6 +332,9 @@ rest_as spot connected e f = subst (λ b. cond b (is_settled spot) (is_greeting 
 begun_rests : (c : CallKind) (spot : Spot) (connected : Bool) → BegunAt c spot connected → cond connected (is_settled spot) (is_greeting spot) ≡ true
 begun_rests Connect spot connected at = subst (λ b. cond b (is_settled spot) (is_greeting spot) ≡ true) (sym at.0) (ap is_greeting at.1)
 begun_rests Query spot connected at = rest_as spot connected at.0 at.1
+begun_rests Prepare spot connected at = rest_as spot connected at.0 at.1
+begun_rests Execute spot connected at = rest_as spot connected at.0 at.1
+begun_rests CloseStmt spot connected at = rest_as spot connected at.0 at.1
 begun_rests NextRow spot connected at = rest_as spot connected at.0 at.1
 begun_rests DropResult spot connected at = rest_as spot connected at.0 at.1
 begun_rests TakeSet spot connected at = rest_as spot connected at.0 at.1
@@ -331,6 +347,7 @@ task_rests Nothing spot closed connected count newest off at e = at e
 task_rests (Begun c) spot closed connected count newest off at e = begun_rests c spot connected at
 task_rests (Cleaning c) spot closed connected count newest off at e = cc
 task_rests (Own c) spot closed connected count newest off at e = cc
+task_rests Giving spot closed connected count newest off at e = cc
 task_rests (Arranging n) spot closed connected count newest off at e = cc
 task_rests Reading spot closed connected count newest off at e = rest_as spot connected at.0 (settled_by spot at.1 off)
 task_rests Dropping spot closed connected count newest off at e = rest_as spot connected at.0 (settled_by spot at.1 off)
@@ -344,6 +361,7 @@ task_keeps Nothing spot closed connected count newest off at e op = cc
 task_keeps (Begun c) spot closed connected count newest off at e op = refl
 task_keeps (Cleaning c) spot closed connected count newest off at e op = cc
 task_keeps (Own c) spot closed connected count newest off at e op = cc
+task_keeps Giving spot closed connected count newest off at e op = cc
 task_keeps (Arranging n) spot closed connected count newest off at e op = cc
 task_keeps Reading spot closed connected count newest off at e op = refl
 task_keeps Dropping spot closed connected count newest off at e op = refl
@@ -357,6 +375,7 @@ task_owes Nothing spot off = refl
 task_owes (Begun c) spot off = refl
 task_owes (Cleaning c) spot off = refl
 task_owes (Own c) spot off = cc
+task_owes Giving spot off = cc
 task_owes (Arranging n) spot off = cc
 task_owes Reading spot off = refl
 task_owes Dropping spot off = refl
@@ -370,7 +389,7 @@ cancel_by s h true e op st = let c = kind_there_is s.task op in falls s h (Dropp
 cancel_by s h false e op st =
     let c = kind_there_is s.task op in
     let hd = st.heard in
-    answered_stands (with_task s Nothing s.untold) h (call_of c.0 s.text) (Dropped false) (hd.pending_is ∙ ap (λ k. call_with k s.text) c.1) (record {
+    answered_stands (with_task s Nothing s.untold) h (call_of c.0 s.call) (Dropped false) (hd.pending_is ∙ ap (λ k. call_with k s.call) c.1) (record {
       newest = st.newest;
       older = st.older;
       wire = st.wire;
@@ -385,9 +404,9 @@ cancel_by s h false e op st =
         fresh = λ x _ left. hd.fresh x (task_keeps s.task s.context.spot s.closed (has_connected h.calls) (connecting_in (st.newest ∷ st.older)) st.newest e hd.at x op) left;
         at = task_rests s.task s.context.spot s.closed (has_connected h.calls) (connecting_in (st.newest ∷ st.older)) st.newest e hd.at;
         first = hd.first;
-        tie = closed_tie s.task c.0 s.text s.context.spot h.calls st.newest.call st.older (record { call = call_of c.0 s.text; what = Dropped false }) c.1 refl refl hd.tie;
+        tie = closed_tie s.task c.0 s.call s.context.spot h.calls st.newest.call st.older (record { call = call_of c.0 s.call; what = Dropped false }) c.1 refl refl hd.tie;
       };
-      arranged = arranged_more s.login (record { call = call_of c.0 s.text; what = Dropped false }) h.calls st.newest st.older refl st.arranged;
+      arranged = arranged_more s.login (record { call = call_of c.0 s.call; what = Dropped false }) h.calls st.newest st.older refl st.arranged;
       ended_is = st.ended_is;
       settled = λ _. st.settled (task_owes s.task s.context.spot e);
     })

@@ -14,33 +14,36 @@ use Rattle.my_grammar.specs.declared.spot.Terms.{Terms}
 use Rattle.my_grammar.specs.Talk.{Talk, Start, Unwelcome, Greeted, Settled, Asked, Replied, Queried, Preparing, Silent, context_of}
 use Rattle.my_reading.specs.declared.call.Call.TheVariants as calls
 use Rattle.my_reading.specs.declared.call.CallKind.{CallKind}
-use Rattle.my_reading.specs.declared.call.CallKind.TheVariants.{Connect, Query, NextRow, DropResult, TakeSet, SkipTaken, Ping, Quit}
+use Rattle.my_reading.specs.declared.call.CallKind.TheVariants.{Connect, Query, Prepare, Execute, CloseStmt, NextRow, DropResult, TakeSet, SkipTaken, Ping, Quit}
 use Rattle.my_session.specs.declared.task.LinkFault.{LinkFault}
 use Rattle.my_session.specs.declared.task.LinkFault.TheVariants as faults
 use Rattle.my_session.specs.declared.task.Task.{Task}
-use Rattle.my_session.specs.declared.task.Task.TheVariants.{Nothing, Begun, Cleaning, Own, Arranging, Reading, Dropping, Taking, Skipping, Leaving, Failing}
+use Rattle.my_session.specs.declared.task.Task.TheVariants.{Nothing, Begun, Cleaning, Own, Giving, Arranging, Reading, Dropping, Taking, Skipping, Leaving, Failing}
 use Rattle.my_reading.specs.declared.error.Error.{Error}
 use Rattle.my_session.specs.declared.tables.Plan.{Plan}
 use Rattle.my_session.specs.declared.tables.Plan.TheVariants as plans
-use Rattle.my_reading.specs.Calls.{kind_of, call_of}
+use Rattle.my_reading.specs.Calls.{kind_of, call_of, id_in, text_in}
+use Rattle.my_reading.specs.Facts.{prepared_by}
+use Rattle.my_reading.specs.Statements.{held_in, is_mixed_text, leaving, names_of, query_of, statement_with, with_columns, with_fetched, without_statement}
+use Rattle.my_statements.specs.Cache.{Held}
 use Rattle.my_session.specs.Tasks.{kind_in, fault_in, is_open}
 use Rattle.my_session.specs.Entries.{givens, onto, sets_of, may_lack, connects, has_connected, connecting_in, IsTied}
-use Rattle.my_reading.specs.Errors.{invalid_data, unexpected_eof, codec_error}
+use Rattle.my_reading.specs.Errors.{invalid_data, mixed_params, unexpected_eof, codec_error}
 use Rattle.my_session.specs.LinkErrors.{link_error}
-use Rattle.my_session.specs.Groups.{groups, with_stop, stop_given, given, given_after}
-use Rattle.my_reading.specs.Told.{Told, ToldReady, ToldEnd, ToldNone, closes, closes_by}
+use Rattle.my_session.specs.Groups.{Group, groups, with_stop, stop_given, given, given_after}
+use Rattle.my_reading.specs.Told.{Told, ToldReady, ToldEnd, ToldNone, ToldStatement, ToldError, closes, closes_by}
 use Rattle.my_session.specs.History.{History, Made, answered, noted, has_closed}
-use Rattle.my_session.specs.Machine.{Move, Needs, advanced, with_task, failed_by, reply_to, above, unless_above, reacted, read_by, reading, planned, when_owed, next_by, next, is_greeting}
+use Rattle.my_session.specs.Machine.{Move, Goes, Needs, is_doubled, looked, with_kept, kept, refusal, advanced, with_task, failed_by, reply_to, above, unless_above, reacted, read_by, reading, planned, when_owed, next_by, next, is_greeting}
 use Rattle.my_session.specs.Seen.{Seen}
 use Rattle.my_session.specs.ServerErrors.{errors_told, with_told}
-use Rattle.my_session.specs.Stands.{Stands, Heard, TaskIs, TieIs, call_with, begun_of, is_left, is_shaking, is_lone, keeps, known_part, is_alive, owes}
+use Rattle.my_session.specs.Stands.{Stands, Heard, TaskIs, TieIs, call_with, begun_of, is_first, is_left, is_shaking, is_lone, keeps, known_part, is_alive, owes}
 use Rattle.my_session.specs.Steps.{is_settled}
-use Rattle.my_session.specs.Tables.{react, is_breaking, plan_of, clean_plan, own_plan, query_plan, read_plan, drop_plan, take_plan, skip_plan, first_task}
-use Rattle.my_session.proofs.Stands.Asking.{asks_keep, arranges_keep}
+use Rattle.my_session.specs.Tables.{react, is_breaking, plan_of, clean_plan, own_plan, query_plan, execute_plan, prepare_plan, read_plan, drop_plan, take_plan, skip_plan, first_plan}
+use Rattle.my_session.proofs.Stands.Asking.{asks_keep, arranges_keep, refused_or, closes_keep}
 use Rattle.my_session.proofs.Stands.Keeps.{Keeps, is_reader, react_keeps}
 use Rattle.my_session.proofs.Stands.Reacts.{falls, fell_stands}
 use Rattle.my_session.proofs.Stands.Spots.{settled_reads, settled_not_greeting}
-use Rattle.my_session.proofs.Stands.Ties.{answered_stands, noted_stands, taken_stands, own_after, at_greeting, quiet_more, arranged_more, first_count}
+use Rattle.my_session.proofs.Stands.Ties.{answered_stands, noted_stands, taken_stands, known_stands, own_after, owns_all, at_greeting, quiet_more, arranged_more, first_count}
 use Rattle.my_session.proofs.Stands.Firsts.{given_first, first_groups}
 use Rattle.my_session.proofs.Stands.Views.{given_all}
 
@@ -85,9 +88,18 @@ link_closes faults.Link place c = refl
 link_closes faults.TooLong place c = refl
 link_closes faults.NoMemory place c = refl
 
+pub left_false : (a b : Bool) → a || b ≡ false → a ≡ false
+left_false true b e = cc
+left_false false b e = refl
+
+-- what isn't lone has no end that is left
+not_untold : (untold lone : Bool) → (untold ≡ true → lone ≡ true) → lone ≡ false → untold ≡ false
+not_untold true lone f e = let no : true ≡ false = sym (f refl) ∙ e in cc
+not_untold false lone f e = refl
+
 module _ (s : Seen) (h : History) (st : Stands s h) (open_still : s.closed ≡ false) (nothing : s.owed ≡ []) (op : is_open s.task ≡ true) where
   abbrev HeardAs : Task → Type 0
-  HeardAs t = Heard t s.text s.context.spot s.untold s.closed h.lost h.calls h.pending st.newest st.older
+  HeardAs t = Heard t s.call s.context.spot s.untold s.closed h.lost h.calls h.pending st.newest st.older
 
   fails : (e : Error) → ((c : CallKind) → closes_by e c ≡ true) → Keeps (failed_by s e) h
   fails e fatal = fell_stands s h e fatal op st
@@ -101,14 +113,14 @@ module _ (s : Seen) (h : History) (st : Stands s h) (open_still : s.closed ≡ f
   by_length None m k = k
   by_length (Some len) m k = fails (codec_error _) (λ c. refl)
 
-  by_kind : (p rest : List ℕ) (n : ℕ) → IsWhole s.number s.context.terms.limit s.unread p rest n → (is_reader s.task ≡ true → s.untold ≡ false) → (k : Kind) → kind_there s.context s.facts.columns p ≡ k → (breaks : Bool) → is_breaking (react s.task k) ≡ breaks → Keeps (cond breaks (failed_by s (invalid_data s.facts.place)) (read_by s (advanced s k p rest n) p (react s.task k) (reply_to s.login k p))) h
+  by_kind : (p rest : List ℕ) (n : ℕ) → IsWhole s.number s.context.terms.limit s.unread p rest n → (is_reader s.task ≡ true → s.untold ≡ false) → (k : Kind) → kind_there s.context s.facts.columns p ≡ k → (breaks : Bool) → is_breaking (react s.task k) || is_doubled s.statements k p ≡ breaks → Keeps (cond breaks (failed_by s (invalid_data s.facts.place)) (read_by s (advanced s k p rest n) p (react s.task k) (reply_to s.login k p))) h
   by_kind p rest n whole told k e true b = fails (invalid_data s.facts.place) (λ c. refl)
-  by_kind p rest n whole told k e false b = by_length (above s.context.terms.limit (reply_to s.login k p)) (reacted s (advanced s k p rest n) p (react s.task k)) (react_keeps s h st open_still nothing op p rest n whole s.task refl st.heard told k e b)
+  by_kind p rest n whole told k e false b = by_length (above s.context.terms.limit (reply_to s.login k p)) (reacted s (advanced s k p rest n) p (react s.task k)) (react_keeps s h st open_still nothing op p rest n whole s.task refl st.heard told k e (left_false (is_breaking (react s.task k)) (is_doubled s.statements k p) b))
 
   by_front : AreBytes s.unread → (is_reader s.task ≡ true → s.untold ≡ false) → (f : Front) → front_at s.number s.context.terms.limit s.unread ≡ f → Keeps (reading s f) h
   by_front bytes told Waiting e = waits s.ended
   by_front bytes told (Broken fault) e = fails (codec_error fault) (λ c. refl)
-  by_front bytes told (Whole p rest n) e = by_kind p rest n (whole_stands s.number s.context.terms.limit s.unread p rest n bytes e) told (kind_there s.context s.facts.columns p) refl (is_breaking (react s.task (kind_there s.context s.facts.columns p))) refl
+  by_front bytes told (Whole p rest n) e = by_kind p rest n (whole_stands s.number s.context.terms.limit s.unread p rest n bytes e) told (kind_there s.context s.facts.columns p) refl (is_breaking (react s.task (kind_there s.context s.facts.columns p)) || is_doubled s.statements (kind_there s.context s.facts.columns p) p) refl
 
   reads : AreBytes s.unread → (is_reader s.task ≡ true → s.untold ≡ false) → Keeps (planned s plans.Reads) h
   reads bytes told = by_front bytes told (front_at s.number s.context.terms.limit s.unread) refl
@@ -117,13 +129,13 @@ module _ (s : Seen) (h : History) (st : Stands s h) (open_still : s.closed ≡ f
   not_reader t task off on = let stop : true ≡ false = sym on ∙ ap is_reader task ∙ off in cc
 
   -- the first task of a call
-  starts : (c : CallKind) (u : Task) → HeardAs (Begun c) → kind_in u ≡ Some c → owes u ≡ owes u → TaskIs u s.context.spot s.closed (has_connected h.calls) (connecting_in (st.newest ∷ st.older)) st.newest → TieIs u s.text s.context.spot h.calls st.newest.call st.older → Keeps (planned s (plans.Starts u)) h
+  starts : (c : CallKind) (u : Task) → HeardAs (Begun c) → kind_in u ≡ Some c → owes u ≡ owes u → TaskIs u s.context.spot s.closed (has_connected h.calls) (connecting_in (st.newest ∷ st.older)) st.newest → TieIs u s.call s.context.spot h.calls st.newest.call st.older → Keeps (planned s (plans.Starts u)) h
   starts c u hd same _ at tie = record {
     newest = st.newest;
     older = st.older;
     wire = st.wire;
     heard = record {
-      pending_is = hd.pending_is ∙ ap (λ k. call_with k s.text) (sym same);
+      pending_is = hd.pending_is ∙ ap (λ k. call_with k s.call) (sym same);
       closed_is = hd.closed_is;
       alive = λ _. open_still;
       given_is = hd.given_is;
@@ -140,9 +152,49 @@ module _ (s : Seen) (h : History) (st : Stands s h) (open_still : s.closed ≡ f
     settled = λ _. nothing;
   }
 
-  first_keeps : (c : CallKind) → HeardAs (Begun c) → Keeps (planned s (plans.Starts (first_task c))) h
+  rest_at : has_connected h.calls ≡ true → is_settled s.context.spot ≡ true → s.closed ≡ false → cond (has_connected h.calls) (is_settled s.context.spot) (is_greeting s.context.spot) ≡ true
+  rest_at made e _ = subst (λ b. cond b (is_settled s.context.spot) (is_greeting s.context.spot) ≡ true) (sym made) e
+
+  -- a call ends that gives nothing
+  quiet : (t : Task) (c : CallKind) (w : Told) → HeardAs t → kind_in t ≡ Some c → keeps t ≡ true → closes w (kind_of (call_of c s.call)) ≡ false → may_lack w (kind_of (call_of c s.call)) ≡ true → connects w (kind_of (call_of c s.call)) ≡ false → given_after w (kind_of (call_of c s.call)) (given h.calls) ≡ given h.calls → with_told w (errors_told h.calls) ≡ errors_told h.calls → has_connected h.calls ≡ true → is_settled s.context.spot ≡ true → IsTied h.calls (begun_of s.context.spot st.newest.call st.older) → Stands (with_task s Nothing s.untold) (answered h w)
+  quiet t c w hd call kept still lack quiet_one none silent made settled tie = answered_stands (with_task s Nothing s.untold) h (call_of c s.call) w (hd.pending_is ∙ ap (λ k. call_with k s.call) call) (record {
+    newest = st.newest;
+    older = st.older;
+    wire = st.wire;
+    heard = record {
+      pending_is = refl;
+      closed_is = hd.closed_is ∙ ap (λ b. (b || has_closed h.calls) || h.lost) (sym still);
+      alive = λ no. cc;
+      given_is = none ∙ hd.given_is;
+      errors = silent ∙ hd.errors;
+      each = hd.each;
+      lone = hd.lone;
+      fresh = λ e _ left. hd.fresh e kept left;
+      at = λ e. subst (λ b. cond (b || has_connected h.calls) (is_settled s.context.spot) (is_greeting s.context.spot) ≡ true) (sym quiet_one) (rest_at made settled e);
+      first = hd.first;
+      tie = quiet_more (record { call = call_of c s.call; what = w }) h.calls (begun_of s.context.spot st.newest.call st.older) lack tie;
+    };
+    arranged = arranged_more s.login (record { call = call_of c s.call; what = w }) h.calls st.newest st.older quiet_one st.arranged;
+    ended_is = st.ended_is;
+    settled = λ _. nothing;
+  })
+
+  -- the cached statement of a text is looked for
+  looked_keeps : HeardAs (Begun Prepare) → (mixed : Bool) (o : Option Held) → Keeps (looked s mixed o) h
+  looked_keeps hd true o = quiet (Begun Prepare) Prepare (ToldError mixed_params) hd refl refl refl refl refl refl refl hd.at.0 hd.at.1 hd.tie
+  looked_keeps hd false None = starts Prepare (Cleaning Prepare) hd refl refl (refl, hd.at.0, settled_not_greeting s.context.spot (settled_reads s.context.spot hd.at.1)) hd.tie
+  looked_keeps hd false (Some x) =
+      let found : Told = ToldStatement (statement_with x.stmt (names_of (text_in s.call))) in
+      known_stands (with_task s Nothing s.untold) (answered h found) (with_fetched (query_of (text_in s.call)) s.statements) (quiet (Begun Prepare) Prepare found hd refl refl refl refl refl refl refl hd.at.0 hd.at.1 hd.tie)
+
+  first_keeps : (c : CallKind) → HeardAs (Begun c) → Keeps (planned s (first_plan c)) h
   first_keeps Connect hd = starts Connect (Own Connect) hd refl refl (hd.at.0, ap is_shaking hd.at.1, first_count st.newest st.older (hd.first (ap is_greeting hd.at.1)).0 (hd.first (ap is_greeting hd.at.1)).1) ((hd.first (ap is_greeting hd.at.1)).0, at_greeting s.context.spot h.calls st.newest.call st.older (ap is_greeting hd.at.1) hd.tie)
   first_keeps Query hd = starts Query (Cleaning Query) hd refl refl (refl, hd.at.0, settled_not_greeting s.context.spot (settled_reads s.context.spot hd.at.1)) hd.tie
+  first_keeps Prepare hd = looked_keeps hd (is_mixed_text (text_in s.call)) (held_in s.statements (query_of (text_in s.call)))
+  first_keeps Execute hd = refused_or s h st open_still nothing op Execute (refusal Execute s.call) (record { seen = with_task s (Cleaning Execute) s.untold; does = Goes }) refl
+      (λ _. starts Execute (Cleaning Execute) hd refl refl (refl, hd.at.0, settled_not_greeting s.context.spot (settled_reads s.context.spot hd.at.1)) hd.tie)
+  first_keeps CloseStmt hd = known_stands (with_task s (Cleaning CloseStmt) s.untold) h (without_statement (id_in s.call) s.statements)
+      (starts CloseStmt (Cleaning CloseStmt) hd refl refl (refl, hd.at.0, settled_not_greeting s.context.spot (settled_reads s.context.spot hd.at.1)) hd.tie)
   first_keeps NextRow hd = starts NextRow Reading hd refl refl (hd.at.0, settled_reads s.context.spot hd.at.1) hd.tie
   first_keeps DropResult hd = starts DropResult Dropping hd refl refl (hd.at.0, settled_reads s.context.spot hd.at.1) hd.tie
   first_keeps TakeSet hd = starts TakeSet Taking hd refl refl (hd.at.0, settled_reads s.context.spot hd.at.1) hd.tie
@@ -191,32 +243,112 @@ module _ (s : Seen) (h : History) (st : Stands s h) (open_still : s.closed ≡ f
   cleans bytes t task off lost p go (spots.Fields left) at untold e = reads bytes (not_reader t task off)
   cleans bytes t task off lost p go spots.FieldsEnd at untold e = reads bytes (not_reader t task off)
 
-  rest_at : has_connected h.calls ≡ true → is_settled s.context.spot ≡ true → s.closed ≡ false → cond (has_connected h.calls) (is_settled s.context.spot) (is_greeting s.context.spot) ≡ true
-  rest_at made e _ = subst (λ b. cond b (is_settled s.context.spot) (is_greeting s.context.spot) ≡ true) (sym made) e
-
-  -- a query is answered, after the head of its first set
-  readied : HeardAs (Own Query) → s.context.spot ≡ spots.Rows → Keeps (planned s plans.Readies) h
-  readied hd rows = answered_stands (with_task s Nothing s.untold) h (call_of Query s.text) ToldReady hd.pending_is (record {
+  -- a call is answered, after the head of its first set
+  readied : (c : CallKind) → HeardAs (Own c) → (has_connected h.calls ≡ true) × (st.newest.given ≡ None) × (is_first (sets_of st.newest.talk) ≡ true) → ((gs : List (List Group)) → given_after ToldReady (kind_of (call_of c s.call)) gs ≡ [] ∷ gs) → closes ToldReady (kind_of (call_of c s.call)) ≡ false → connects ToldReady (kind_of (call_of c s.call)) ≡ false → s.context.spot ≡ spots.Rows → Keeps (planned s plans.Readies) h
+  readied c hd at opens still con rows = answered_stands (with_task s Nothing s.untold) h (call_of c s.call) ToldReady hd.pending_is (record {
     newest = record { call = st.newest.call; talk = st.newest.talk; given = Some [] };
     older = st.older;
     wire = st.wire;
     heard = record {
       pending_is = refl;
-      closed_is = hd.closed_is;
+      closed_is = hd.closed_is ∙ ap (λ b. (b || has_closed h.calls) || h.lost) (sym still);
       alive = λ no. cc;
-      given_is = ap (λ gs. [] ∷ gs) (hd.given_is ∙ ap (λ o. onto o (givens st.older)) hd.at.1);
+      given_is = opens (given h.calls) ∙ ap (λ gs. [] ∷ gs) (hd.given_is ∙ ap (λ o. onto o (givens st.older)) at.1);
       errors = hd.errors;
-      each = (given_first st.newest.talk st.wire.fits hd.at.2, hd.each.1);
+      each = (given_first st.newest.talk st.wire.fits at.2, hd.each.1);
       lone = hd.lone;
-      fresh = λ _ _ _. ap Some (sym (first_groups s.untold (sets_of st.newest.talk) hd.at.2));
-      at = rest_at hd.at.0 (ap is_settled rows);
+      fresh = λ _ _ _. ap Some (sym (first_groups s.untold (sets_of st.newest.talk) at.2));
+      at = λ e. subst (λ b. cond (b || has_connected h.calls) (is_settled s.context.spot) (is_greeting s.context.spot) ≡ true) (sym con) (rest_at at.0 (ap is_settled rows) e);
       first = hd.first;
-      tie = own_after s.context.spot h.calls (record { call = call_of Query s.text; what = ToldReady }) st.newest.call st.older (ap is_greeting rows) (sym hd.tie.0) hd.tie.1;
+      tie = own_after s.context.spot h.calls (record { call = call_of c s.call; what = ToldReady }) st.newest.call st.older (ap is_greeting rows) (sym hd.tie.0) hd.tie.1;
     };
-    arranged = arranged_more s.login (record { call = call_of Query s.text; what = ToldReady }) h.calls st.newest st.older refl st.arranged;
+    arranged = arranged_more s.login (record { call = call_of c s.call; what = ToldReady }) h.calls st.newest st.older con st.arranged;
     ended_is = st.ended_is;
     settled = λ _. nothing;
   })
+
+  -- so is an execution, whose columns are known then
+  learns : HeardAs (Own Execute) → s.context.spot ≡ spots.Rows → Keeps (planned s plans.Learns) h
+  learns hd rows = known_stands (with_task s Nothing s.untold) (answered h ToldReady) (with_columns (id_in (call_of Execute s.call)) s.facts.columns s.statements) (readied Execute hd hd.at (λ gs. refl) refl refl rows)
+
+  -- the close of a statement has no reply
+  closed : HeardAs (Own CloseStmt) → Keeps (planned s plans.Readies) h
+  closed hd =
+      let idle = hd.at.1 in
+      let told : s.untold ≡ false = not_untold s.untold (is_lone (sets_of st.newest.talk)) hd.lone hd.at.2 in
+      answered_stands (with_task s Nothing s.untold) h (call_of CloseStmt s.call) ToldReady hd.pending_is (record {
+        newest = st.newest;
+        older = st.older;
+        wire = st.wire;
+        heard = record {
+          pending_is = refl;
+          closed_is = hd.closed_is;
+          alive = λ no. cc;
+          given_is = hd.given_is;
+          errors = hd.errors;
+          each = hd.each;
+          lone = hd.lone;
+          fresh = λ _ _ left. let no : false ≡ true = sym (ap (λ b. b || is_left s.context.spot) told ∙ ap is_left idle) ∙ left in cc;
+          at = rest_at hd.at.0 (ap is_settled idle);
+          first = hd.first;
+          tie = own_after s.context.spot h.calls (record { call = call_of CloseStmt s.call; what = ToldReady }) st.newest.call st.older (ap is_greeting idle) (sym hd.tie.0) hd.tie.1;
+        };
+        arranged = arranged_more s.login (record { call = call_of CloseStmt s.call; what = ToldReady }) h.calls st.newest st.older refl st.arranged;
+        ended_is = st.ended_is;
+        settled = λ _. nothing;
+      })
+
+  -- a statement that was prepared is kept
+  kept_keeps : HeardAs (Own Prepare) → s.context.spot ≡ spots.Idle → (o : Option ℕ) → Keeps (kept (with_kept s) o) h
+  kept_keeps hd idle None = record {
+    newest = st.newest;
+    older = st.older;
+    wire = st.wire;
+    heard = record {
+      pending_is = hd.pending_is;
+      closed_is = hd.closed_is;
+      alive = λ _. open_still;
+      given_is = hd.given_is;
+      errors = hd.errors;
+      each = hd.each;
+      lone = λ no. cc;
+      fresh = λ _ no _. cc;
+      at = (hd.at.0, idle);
+      first = hd.first;
+      tie = (sym hd.tie.0, inl hd.tie.1);
+    };
+    arranged = st.arranged;
+    ended_is = st.ended_is;
+    settled = λ no. cc;
+  }
+  kept_keeps hd idle (Some id) = closes_keep (with_kept s) h (record { newest = st.newest; older = st.older; wire = st.wire; heard = st.heard; arranged = st.arranged; ended_is = st.ended_is; settled = st.settled }) open_still nothing op id hd idle
+
+  -- and returned
+  gives_it : HeardAs Giving → Keeps (planned s plans.Gives) h
+  gives_it hd =
+      let idle = hd.at.1 in
+      let prepared : Told = ToldStatement (statement_with (prepared_by s.facts) (names_of (text_in s.call))) in
+      answered_stands (with_task s Nothing false) h (call_of Prepare s.call) prepared hd.pending_is (record {
+        newest = st.newest;
+        older = st.older;
+        wire = st.wire;
+        heard = record {
+          pending_is = refl;
+          closed_is = hd.closed_is;
+          alive = λ no. cc;
+          given_is = hd.given_is;
+          errors = hd.errors;
+          each = hd.each;
+          lone = λ no. cc;
+          fresh = λ _ _ left. let no : false ≡ true = sym (ap is_left idle) ∙ left in cc;
+          at = rest_at hd.at.0 (ap is_settled idle);
+          first = hd.first;
+          tie = owns_all s.context.spot h.calls (record { call = call_of Prepare s.call; what = prepared }) (call_of Prepare s.call) st.newest.call st.older (ap is_greeting idle) refl hd.tie;
+        };
+        arranged = arranged_more s.login (record { call = call_of Prepare s.call; what = prepared }) h.calls st.newest st.older refl st.arranged;
+        ended_is = st.ended_is;
+        settled = λ _. nothing;
+      })
 
   queries : AreBytes s.unread → s.task ≡ Own Query → HeardAs (Own Query) → (spot : Spot) → s.context.spot ≡ spot → Keeps (planned s (query_plan spot)) h
   queries bytes task hd spots.Idle at = reads bytes (not_reader (Own Query) task refl)
@@ -227,16 +359,51 @@ module _ (s : Seen) (h : History) (st : Stands s h) (open_still : s.closed ≡ f
   queries bytes task hd spots.Further at = reads bytes (not_reader (Own Query) task refl)
   queries bytes task hd (spots.Columns left) at = reads bytes (not_reader (Own Query) task refl)
   queries bytes task hd spots.ColumnsEnd at = reads bytes (not_reader (Own Query) task refl)
-  queries bytes task hd spots.Rows at = readied hd at
+  queries bytes task hd spots.Rows at = readied Query hd hd.at (λ gs. refl) refl refl at
   queries bytes task hd spots.Prepare at = reads bytes (not_reader (Own Query) task refl)
   queries bytes task hd (spots.Parameters left columns) at = reads bytes (not_reader (Own Query) task refl)
   queries bytes task hd (spots.ParametersEnd columns) at = reads bytes (not_reader (Own Query) task refl)
   queries bytes task hd (spots.Fields left) at = reads bytes (not_reader (Own Query) task refl)
   queries bytes task hd spots.FieldsEnd at = reads bytes (not_reader (Own Query) task refl)
 
+  executions : AreBytes s.unread → s.task ≡ Own Execute → HeardAs (Own Execute) → (spot : Spot) → s.context.spot ≡ spot → Keeps (planned s (execute_plan spot)) h
+  executions bytes task hd spots.Idle at = reads bytes (not_reader (Own Execute) task refl)
+  executions bytes task hd spots.Greeting at = reads bytes (not_reader (Own Execute) task refl)
+  executions bytes task hd spots.Authentication at = reads bytes (not_reader (Own Execute) task refl)
+  executions bytes task hd spots.Single at = reads bytes (not_reader (Own Execute) task refl)
+  executions bytes task hd spots.Head at = reads bytes (not_reader (Own Execute) task refl)
+  executions bytes task hd spots.Further at = reads bytes (not_reader (Own Execute) task refl)
+  executions bytes task hd (spots.Columns left) at = reads bytes (not_reader (Own Execute) task refl)
+  executions bytes task hd spots.ColumnsEnd at = reads bytes (not_reader (Own Execute) task refl)
+  executions bytes task hd spots.Rows at = learns hd at
+  executions bytes task hd spots.Prepare at = reads bytes (not_reader (Own Execute) task refl)
+  executions bytes task hd (spots.Parameters left columns) at = reads bytes (not_reader (Own Execute) task refl)
+  executions bytes task hd (spots.ParametersEnd columns) at = reads bytes (not_reader (Own Execute) task refl)
+  executions bytes task hd (spots.Fields left) at = reads bytes (not_reader (Own Execute) task refl)
+  executions bytes task hd spots.FieldsEnd at = reads bytes (not_reader (Own Execute) task refl)
+
+  prepares : AreBytes s.unread → s.task ≡ Own Prepare → HeardAs (Own Prepare) → (spot : Spot) → s.context.spot ≡ spot → Keeps (planned s (prepare_plan spot)) h
+  prepares bytes task hd spots.Idle at = kept_keeps hd at (leaving (query_of (text_in s.call)) (prepared_by s.facts) s.statements)
+  prepares bytes task hd spots.Greeting at = reads bytes (not_reader (Own Prepare) task refl)
+  prepares bytes task hd spots.Authentication at = reads bytes (not_reader (Own Prepare) task refl)
+  prepares bytes task hd spots.Single at = reads bytes (not_reader (Own Prepare) task refl)
+  prepares bytes task hd spots.Head at = reads bytes (not_reader (Own Prepare) task refl)
+  prepares bytes task hd spots.Further at = reads bytes (not_reader (Own Prepare) task refl)
+  prepares bytes task hd (spots.Columns left) at = reads bytes (not_reader (Own Prepare) task refl)
+  prepares bytes task hd spots.ColumnsEnd at = reads bytes (not_reader (Own Prepare) task refl)
+  prepares bytes task hd spots.Rows at = reads bytes (not_reader (Own Prepare) task refl)
+  prepares bytes task hd spots.Prepare at = reads bytes (not_reader (Own Prepare) task refl)
+  prepares bytes task hd (spots.Parameters left columns) at = reads bytes (not_reader (Own Prepare) task refl)
+  prepares bytes task hd (spots.ParametersEnd columns) at = reads bytes (not_reader (Own Prepare) task refl)
+  prepares bytes task hd (spots.Fields left) at = reads bytes (not_reader (Own Prepare) task refl)
+  prepares bytes task hd spots.FieldsEnd at = reads bytes (not_reader (Own Prepare) task refl)
+
   owns : AreBytes s.unread → (c : CallKind) → s.task ≡ Own c → HeardAs (Own c) → Keeps (planned s (own_plan c s.context.spot)) h
   owns bytes Connect task hd = reads bytes (not_reader (Own Connect) task refl)
   owns bytes Query task hd = queries bytes task hd s.context.spot refl
+  owns bytes Prepare task hd = prepares bytes task hd s.context.spot refl
+  owns bytes Execute task hd = executions bytes task hd s.context.spot refl
+  owns bytes CloseStmt task hd = closed hd
   owns bytes NextRow task hd = absurd hd.at
   owns bytes DropResult task hd = absurd hd.at
   owns bytes TakeSet task hd = absurd hd.at
@@ -244,32 +411,8 @@ module _ (s : Seen) (h : History) (st : Stands s h) (open_still : s.closed ≡ f
   owns bytes Ping task hd = reads bytes (not_reader (Own Ping) task refl)
   owns bytes Quit task hd = falls s h ToldReady Quit (ap kind_in task) refl refl refl refl st
 
-  -- a call ends that gives nothing
-  quiet : (t : Task) (c : CallKind) (w : Told) → HeardAs t → kind_in t ≡ Some c → keeps t ≡ true → closes w (kind_of (call_of c s.text)) ≡ false → may_lack w (kind_of (call_of c s.text)) ≡ true → connects w (kind_of (call_of c s.text)) ≡ false → given_after w (kind_of (call_of c s.text)) (given h.calls) ≡ given h.calls → with_told w (errors_told h.calls) ≡ errors_told h.calls → has_connected h.calls ≡ true → is_settled s.context.spot ≡ true → IsTied h.calls (begun_of s.context.spot st.newest.call st.older) → Stands (with_task s Nothing s.untold) (answered h w)
-  quiet t c w hd call kept still lack quiet_one none silent made settled tie = answered_stands (with_task s Nothing s.untold) h (call_of c s.text) w (hd.pending_is ∙ ap (λ k. call_with k s.text) call) (record {
-    newest = st.newest;
-    older = st.older;
-    wire = st.wire;
-    heard = record {
-      pending_is = refl;
-      closed_is = hd.closed_is ∙ ap (λ b. (b || has_closed h.calls) || h.lost) (sym still);
-      alive = λ no. cc;
-      given_is = none ∙ hd.given_is;
-      errors = silent ∙ hd.errors;
-      each = hd.each;
-      lone = hd.lone;
-      fresh = λ e _ left. hd.fresh e kept left;
-      at = λ e. subst (λ b. cond (b || has_connected h.calls) (is_settled s.context.spot) (is_greeting s.context.spot) ≡ true) (sym quiet_one) (rest_at made settled e);
-      first = hd.first;
-      tie = quiet_more (record { call = call_of c s.text; what = w }) h.calls (begun_of s.context.spot st.newest.call st.older) lack tie;
-    };
-    arranged = arranged_more s.login (record { call = call_of c s.text; what = w }) h.calls st.newest st.older quiet_one st.arranged;
-    ended_is = st.ended_is;
-    settled = λ _. nothing;
-  })
-
   -- the end of a lone OK is returned, or passed over
-  end_shown : (t u : Task) (c : CallKind) → HeardAs t → s.untold ≡ true → kind_in t ≡ Some c → keeps t ≡ true → closes ToldEnd (kind_of (call_of c s.text)) ≡ false → owes u ≡ owes u → has_connected h.calls ≡ true → IsTied h.calls (begun_of s.context.spot st.newest.call st.older) → TaskIs u s.context.spot s.closed (has_connected h.calls) (connecting_in (st.newest ∷ st.older)) (record { call = st.newest.call; talk = st.newest.talk; given = Some (groups (sets_of st.newest.talk)) }) → ((m : List Made) → IsTied m (begun_of s.context.spot st.newest.call st.older) → TieIs u s.text s.context.spot m st.newest.call st.older) → Stands (with_task s u false) (record { sent = h.sent; taken = h.taken; calls = record { call = call_of c s.text; what = ToldEnd } ∷ h.calls; pending = call_with (kind_in u) s.text; ended = h.ended; lost = h.lost })
+  end_shown : (t u : Task) (c : CallKind) → HeardAs t → s.untold ≡ true → kind_in t ≡ Some c → keeps t ≡ true → closes ToldEnd (kind_of (call_of c s.call)) ≡ false → owes u ≡ owes u → has_connected h.calls ≡ true → IsTied h.calls (begun_of s.context.spot st.newest.call st.older) → TaskIs u s.context.spot s.closed (has_connected h.calls) (connecting_in (st.newest ∷ st.older)) (record { call = st.newest.call; talk = st.newest.talk; given = Some (groups (sets_of st.newest.talk)) }) → ((m : List Made) → IsTied m (begun_of s.context.spot st.newest.call st.older) → TieIs u s.call s.context.spot m st.newest.call st.older) → Stands (with_task s u false) (record { sent = h.sent; taken = h.taken; calls = record { call = call_of c s.call; what = ToldEnd } ∷ h.calls; pending = call_with (kind_in u) s.call; ended = h.ended; lost = h.lost })
   end_shown t u c hd untold call kept still _ made tie at tied =
       let x = sets_of st.newest.talk in
       let now : st.newest.given ≡ Some (groups (known_part true x)) = subst (λ b. b || is_left s.context.spot ≡ true → st.newest.given ≡ Some (groups (known_part b x))) untold (hd.fresh open_still kept) refl in
@@ -288,9 +431,9 @@ module _ (s : Seen) (h : History) (st : Stands s h) (open_still : s.closed ≡ f
           fresh = λ _ _ _. refl;
           at = at;
           first = hd.first;
-          tie = tied (record { call = call_of c s.text; what = ToldEnd } ∷ h.calls) (quiet_more (record { call = call_of c s.text; what = ToldEnd }) h.calls (begun_of s.context.spot st.newest.call st.older) refl tie);
+          tie = tied (record { call = call_of c s.call; what = ToldEnd } ∷ h.calls) (quiet_more (record { call = call_of c s.call; what = ToldEnd }) h.calls (begun_of s.context.spot st.newest.call st.older) refl tie);
         };
-        arranged = arranged_more s.login (record { call = call_of c s.text; what = ToldEnd }) h.calls st.newest st.older refl st.arranged;
+        arranged = arranged_more s.login (record { call = call_of c s.call; what = ToldEnd }) h.calls st.newest st.older refl st.arranged;
         ended_is = st.ended_is;
         settled = λ _. nothing;
       }
@@ -391,6 +534,7 @@ module _ (s : Seen) (h : History) (st : Stands s h) (open_still : s.closed ≡ f
   plan_keeps bytes sound (Begun c) task hd = first_keeps c hd
   plan_keeps bytes sound (Cleaning c) task hd = cleans bytes (Cleaning c) task refl refl (plans.Asks c) (asks_keep s h st open_still nothing op c hd) s.context.spot refl s.untold refl
   plan_keeps bytes sound (Own c) task hd = owns bytes c task hd
+  plan_keeps bytes sound Giving task hd = gives_it hd
   plan_keeps bytes sound (Arranging n) task hd = cleans bytes (Arranging n) task refl refl (plans.Arranges n) (arranges_keep s h st open_still nothing op n hd) s.context.spot refl s.untold refl
   plan_keeps bytes sound Reading task hd = reading_plan bytes task hd s.untold refl
   plan_keeps bytes sound Dropping task hd = dropping_plan bytes task hd s.untold refl
@@ -415,6 +559,7 @@ module _ (s : Seen) (h : History) (st : Stands s h) (bytes : AreBytes s.unread) 
   alive_or (Begun c) task sound = inl (st.heard.alive (ap is_alive task))
   alive_or (Cleaning c) task sound = inl (st.heard.alive (ap is_alive task))
   alive_or (Own c) task sound = inl (st.heard.alive (ap is_alive task))
+  alive_or Giving task sound = inl (st.heard.alive (ap is_alive task))
   alive_or (Arranging n) task sound = inl (st.heard.alive (ap is_alive task))
   alive_or Reading task sound = inl (st.heard.alive (ap is_alive task))
   alive_or Dropping task sound = inl (st.heard.alive (ap is_alive task))

@@ -15,16 +15,15 @@ use Rattle.my_grammar.specs.Kinds.{kind_there}
 use Rattle.my_grammar.specs.Talk.{context_of, origin}
 use Rattle.my_reading.specs.declared.call.Call.{Call}
 use Rattle.my_reading.specs.declared.call.CallKind.{CallKind}
-use Rattle.my_reading.specs.declared.call.CallKind.TheVariants.{Connect, Query, Ping}
+use Rattle.my_reading.specs.declared.call.CallKind.TheVariants.{Connect, Query, Execute, Ping}
 use Rattle.my_session.specs.declared.task.Task.{Task}
 use Rattle.my_session.specs.declared.task.Task.TheVariants as tasks
 use Rattle.my_reading.specs.declared.error.Error.{Error}
 use Rattle.my_reading.specs.declared.error.Error.TheVariants as errors
 use Rattle.my_reading.specs.declared.error.ServerError.{ServerError}
-use Rattle.my_reading.specs.Calls.{kind_of, call_of, is_connect}
+use Rattle.my_reading.specs.Calls.{kind_of, call_of, is_connect, params_in, statement_in, text_in}
 use Rattle.my_session.specs.Tasks.{kind_in, is_open}
-use Rattle.my_reading.specs.Commands.{opening}
-use Rattle.my_session.specs.Entries.{Entry, terms_by, connecting_in, ends_answered, is_answered, facts_of, givens, onto, sets_of, calls_in, may_lack, connects, has_connected, IsTied}
+use Rattle.my_session.specs.Entries.{Entry, Opens, terms_by, connecting_in, ends_answered, is_answered, facts_of, givens, onto, sets_of, calls_in, may_lack, connects, has_connected, IsTied}
 use Rattle.my_reading.specs.declared.facts.Facts.{Facts}
 use Rattle.my_session.specs.Groups.{Group, groups, given, given_after, with_item, with_stop}
 use Rattle.my_reading.specs.Told.{Told, ToldReady, ToldError, closes, closes_by}
@@ -33,20 +32,20 @@ use Rattle.my_session.specs.Machine.{fell, with_task, advanced, reply_to, reply_
 use Rattle.my_reading.specs.Rows.{row_at}
 use Rattle.my_session.specs.Seen.{Seen}
 use Rattle.my_session.specs.ServerErrors.{errors_in, errors_of, errors_told, with_error, with_told}
-use Rattle.my_session.specs.Stands.{Stands, Heard, TaskIs, TieIs, IsArranged, call_with, is_left, is_reading, keeps, known_part, owes, begun_of}
+use Rattle.my_session.specs.Stands.{Stands, Heard, TaskIs, TieIs, IsArranged, call_with, is_first, is_left, is_reading, keeps, known_part, owes, begun_of}
 use Rattle.my_session.specs.Steps.{is_settled}
 use Rattle.my_session.proofs.Stands.Blames.{is_failed, calm_blames}
 use Rattle.my_session.proofs.Stands.Spots.{is_known, known, row_spot, end_spot, good_spot, failed_idle, settled_more, reading_after, left_here, not_greeting, settled_not_greeting}
 use Rattle.my_session.proofs.Stands.Ties.{answered_stands, kind_there_is, closed_tie, own_after, quiet_more, all_begun, none_waits, arranged_more, arranged_fell}
-use Rattle.my_session.proofs.Stands.Firsts.{given_first, first_on, is_queried, IsReady, ready_on, query_talk}
+use Rattle.my_session.proofs.Stands.Firsts.{given_first, first_on, is_queried, IsReady, ready_on, query_talk, execute_talk}
 use Rattle.my_session.proofs.Stands.Views.{given_on, given_all, is_part, part_groups, end_groups, good_groups, lone_further, known_further, row_groups}
 use Rattle.my_session.proofs.Stands.Wired.{wire_read, wire_fell, talk_grows, silent}
 
 -- a call ends and closes the session
-pub falls : (s : Seen) (h : History) (t : Told) (c : CallKind) → kind_in s.task ≡ Some c → closes t (kind_of (call_of c s.text)) ≡ true → may_lack t (kind_of (call_of c s.text)) ≡ true → given_after t (kind_of (call_of c s.text)) (given h.calls) ≡ given h.calls → with_told t (errors_told h.calls) ≡ errors_told h.calls → Stands s h → Stands (fell s) (answered h t)
+pub falls : (s : Seen) (h : History) (t : Told) (c : CallKind) → kind_in s.task ≡ Some c → closes t (kind_of (call_of c s.call)) ≡ true → may_lack t (kind_of (call_of c s.call)) ≡ true → given_after t (kind_of (call_of c s.call)) (given h.calls) ≡ given h.calls → with_told t (errors_told h.calls) ≡ errors_told h.calls → Stands s h → Stands (fell s) (answered h t)
 falls s h t c call fatal lack none silent st =
     let hd = st.heard in
-    answered_stands (fell s) h (call_of c s.text) t (hd.pending_is ∙ ap (λ k. call_with k s.text) call) (record {
+    answered_stands (fell s) h (call_of c s.call) t (hd.pending_is ∙ ap (λ k. call_with k s.call) call) (record {
       newest = st.newest;
       older = st.older;
       wire = wire_fell s.login h.taken h.sent st.newest.call st.newest.talk st.older s.context s.number s.unread s.owed s.closed s.facts st.wire;
@@ -61,9 +60,9 @@ falls s h t c call fatal lack none silent st =
         fresh = λ no _ _. cc;
         at = λ no. cc;
         first = hd.first;
-        tie = closed_tie s.task c s.text s.context.spot h.calls st.newest.call st.older _ call refl lack hd.tie;
+        tie = closed_tie s.task c s.call s.context.spot h.calls st.newest.call st.older _ call refl lack hd.tie;
       };
-      arranged = arranged_fell s.login (record { call = call_of c s.text; what = t }) h.calls st.newest st.older fatal st.arranged;
+      arranged = arranged_fell s.login (record { call = call_of c s.call; what = t }) h.calls st.newest st.older fatal st.arranged;
       ended_is = st.ended_is;
       settled = λ _. refl;
     })
@@ -130,7 +129,7 @@ module _ (s : Seen) (h : History) (st : Stands s h) (open_still : s.closed ≡ f
   arranged_on k g made e good quiet a = λ m. ((a m).0, λ _. answers k e good (quiet m))
 
   -- the wire goes on, and this is what callers got
-  lands : (k : Kind) (u : Task) (untold : Bool) (g : Option (List Group)) (made : List Made) (pending : Option Call) → kind_there s.context s.facts.columns p ≡ k → is_bad k ≡ false → Heard u s.text (spot_by k) untold s.closed h.lost made pending (newest_by k g) st.older → IsArranged s.login made (newest_by k g) st.older → (owes u ≡ false → not_greets k ≡ true) → Stands (with_task (advanced s k p rest next) u untold) (record { sent = h.sent; taken = h.taken; calls = made; pending = pending; ended = h.ended; lost = h.lost })
+  lands : (k : Kind) (u : Task) (untold : Bool) (g : Option (List Group)) (made : List Made) (pending : Option Call) → kind_there s.context s.facts.columns p ≡ k → is_bad k ≡ false → Heard u s.call (spot_by k) untold s.closed h.lost made pending (newest_by k g) st.older → IsArranged s.login made (newest_by k g) st.older → (owes u ≡ false → not_greets k ≡ true) → Stands (with_task (advanced s k p rest next) u untold) (record { sent = h.sent; taken = h.taken; calls = made; pending = pending; ended = h.ended; lost = h.lost })
   lands k u untold g made pending e good hd arr quiet = record {
     newest = newest_by k g;
     older = st.older;
@@ -145,9 +144,9 @@ module _ (s : Seen) (h : History) (st : Stands s h) (open_still : s.closed ≡ f
   no_greeting k waits = let stop : true ≡ false = sym waits ∙ not_greeting s.context.spot (deprecates_eof s.context.terms.kept) k in cc
 
   -- the call goes on, and callers are given nothing
-  pub goes : (t u : Task) (k : Kind) → kind_there s.context s.facts.columns p ≡ k → is_bad k ≡ false → is_failed k ≡ false → keeps u ≡ false → kind_in u ≡ kind_in t → Heard t s.text s.context.spot s.untold s.closed h.lost h.calls h.pending st.newest st.older → TaskIs u (spot_by k) s.closed (has_connected h.calls) (connecting_in (st.newest ∷ st.older)) (newest_by k st.newest.given) → TieIs u s.text (spot_by k) h.calls st.newest.call st.older → (has_connected h.calls ≡ true → not_greets k ≡ true) → (owes u ≡ false → not_greets k ≡ true) → Stands (with_task (advanced s k p rest next) u false) h
+  pub goes : (t u : Task) (k : Kind) → kind_there s.context s.facts.columns p ≡ k → is_bad k ≡ false → is_failed k ≡ false → keeps u ≡ false → kind_in u ≡ kind_in t → Heard t s.call s.context.spot s.untold s.closed h.lost h.calls h.pending st.newest st.older → TaskIs u (spot_by k) s.closed (has_connected h.calls) (connecting_in (st.newest ∷ st.older)) (newest_by k st.newest.given) → TieIs u s.call (spot_by k) h.calls st.newest.call st.older → (has_connected h.calls ≡ true → not_greets k ≡ true) → (owes u ≡ false → not_greets k ≡ true) → Stands (with_task (advanced s k p rest next) u false) h
   goes t u k e good calm lost same hd at tie greeted quiet = lands k u false st.newest.given h.calls h.pending e good (record {
-    pending_is = hd.pending_is ∙ ap (λ c. call_with c s.text) (sym same);
+    pending_is = hd.pending_is ∙ ap (λ c. call_with c s.call) (sym same);
     closed_is = hd.closed_is;
     alive = λ _. open_still;
     given_is = hd.given_is;
@@ -161,10 +160,10 @@ module _ (s : Seen) (h : History) (st : Stands s h) (open_still : s.closed ≡ f
   }) (arranged_on k st.newest.given h.calls e good greeted st.arranged) quiet
 
   -- a server's error ends the call
-  pub refuses : (t : Task) (c : CallKind) (x : ServerError) → kind_there s.context s.facts.columns p ≡ Failed → x ∷ errors_in st.newest.talk ≡ errors_in (grow Failed st.newest.talk p) → kind_in t ≡ Some c → is_connect (kind_of (call_of c s.text)) ≡ false → has_connected h.calls ≡ true → Heard t s.text s.context.spot s.untold s.closed h.lost h.calls h.pending st.newest st.older → IsTied (record { call = call_of c s.text; what = ToldError (errors.Server x) } ∷ h.calls) (begun_of (spot_by Failed) st.newest.call st.older) → Stands (with_task (advanced s Failed p rest next) tasks.Nothing false) (answered h (ToldError (errors.Server x)))
+  pub refuses : (t : Task) (c : CallKind) (x : ServerError) → kind_there s.context s.facts.columns p ≡ Failed → x ∷ errors_in st.newest.talk ≡ errors_in (grow Failed st.newest.talk p) → kind_in t ≡ Some c → is_connect (kind_of (call_of c s.call)) ≡ false → has_connected h.calls ≡ true → Heard t s.call s.context.spot s.untold s.closed h.lost h.calls h.pending st.newest st.older → IsTied (record { call = call_of c s.call; what = ToldError (errors.Server x) } ∷ h.calls) (begun_of (spot_by Failed) st.newest.call st.older) → Stands (with_task (advanced s Failed p rest next) tasks.Nothing false) (answered h (ToldError (errors.Server x)))
   refuses t c x e blame call not made hd tie =
       let idle : spot_by Failed ≡ spots.Idle = failed_idle s.context.spot (deprecates_eof s.context.terms.kept) (knows Failed e) in
-      answered_stands _ h (call_of c s.text) (ToldError (errors.Server x)) (hd.pending_is ∙ ap (λ k. call_with k s.text) call) (lands Failed tasks.Nothing false st.newest.given _ None e refl (record {
+      answered_stands _ h (call_of c s.call) (ToldError (errors.Server x)) (hd.pending_is ∙ ap (λ k. call_with k s.call) call) (lands Failed tasks.Nothing false st.newest.given _ None e refl (record {
         pending_is = refl;
         closed_is = hd.closed_is ∙ ap (λ b. (b || has_closed h.calls) || h.lost) (sym not);
         alive = λ no. cc;
@@ -176,11 +175,11 @@ module _ (s : Seen) (h : History) (st : Stands s h) (open_still : s.closed ≡ f
         at = λ _. subst (λ b. cond b (is_settled (spot_by Failed)) (is_greeting (spot_by Failed)) ≡ true) (sym made) (ap is_settled idle);
         first = λ no. no_greeting Failed no;
         tie = tie;
-      }) (arranged_on Failed st.newest.given (record { call = call_of c s.text; what = ToldError (errors.Server x) } ∷ h.calls) e refl (λ _. refl) (arranged_more s.login (record { call = call_of c s.text; what = ToldError (errors.Server x) }) h.calls st.newest st.older refl st.arranged)) (λ _. refl))
+      }) (arranged_on Failed st.newest.given (record { call = call_of c s.call; what = ToldError (errors.Server x) } ∷ h.calls) e refl (λ _. refl) (arranged_more s.login (record { call = call_of c s.call; what = ToldError (errors.Server x) }) h.calls st.newest st.older refl st.arranged)) (λ _. refl))
 
   -- while it isn't connected, it closes the session
-  pub refuses_connect : (t : Task) (x : ServerError) → kind_there s.context s.facts.columns p ≡ Failed → x ∷ errors_in st.newest.talk ≡ errors_in (grow Failed st.newest.talk p) → kind_in t ≡ Some Connect → Heard t s.text s.context.spot s.untold s.closed h.lost h.calls h.pending st.newest st.older → IsTied (record { call = call_of Connect s.text; what = ToldError (errors.Server x) } ∷ h.calls) (begun_of (spot_by Failed) st.newest.call st.older) → Stands (fell (advanced s Failed p rest next)) (answered h (ToldError (errors.Server x)))
-  refuses_connect t x e blame call hd tie = answered_stands (fell (advanced s Failed p rest next)) h (call_of Connect s.text) (ToldError (errors.Server x)) (hd.pending_is ∙ ap (λ k. call_with k s.text) call) (record {
+  pub refuses_connect : (t : Task) (x : ServerError) → kind_there s.context s.facts.columns p ≡ Failed → x ∷ errors_in st.newest.talk ≡ errors_in (grow Failed st.newest.talk p) → kind_in t ≡ Some Connect → Heard t s.call s.context.spot s.untold s.closed h.lost h.calls h.pending st.newest st.older → IsTied (record { call = call_of Connect s.call; what = ToldError (errors.Server x) } ∷ h.calls) (begun_of (spot_by Failed) st.newest.call st.older) → Stands (fell (advanced s Failed p rest next)) (answered h (ToldError (errors.Server x)))
+  refuses_connect t x e blame call hd tie = answered_stands (fell (advanced s Failed p rest next)) h (call_of Connect s.call) (ToldError (errors.Server x)) (hd.pending_is ∙ ap (λ k. call_with k s.call) call) (record {
     newest = newest_by Failed st.newest.given;
     older = st.older;
     wire = wire_fell s.login h.taken h.sent st.newest.call (grow Failed st.newest.talk p) st.older _ _ rest _ s.closed _ (wire_read s.login h.taken h.sent st.newest.call st.newest.talk st.older s.context s.number s.unread s.owed s.closed s.facts Failed p rest next open_still nothing e refl whole st.wire);
@@ -197,16 +196,16 @@ module _ (s : Seen) (h : History) (st : Stands s h) (open_still : s.closed ≡ f
       first = λ no. no_greeting Failed no;
       tie = tie;
     };
-    arranged = arranged_on Failed st.newest.given (record { call = call_of Connect s.text; what = ToldError (errors.Server x) } ∷ h.calls) e refl (λ _. refl) (arranged_fell s.login (record { call = call_of Connect s.text; what = ToldError (errors.Server x) }) h.calls st.newest st.older refl st.arranged);
+    arranged = arranged_on Failed st.newest.given (record { call = call_of Connect s.call; what = ToldError (errors.Server x) } ∷ h.calls) e refl (λ _. refl) (arranged_fell s.login (record { call = call_of Connect s.call; what = ToldError (errors.Server x) }) h.calls st.newest st.older refl st.arranged);
     ended_is = st.ended_is;
     settled = λ _. refl;
   })
 
   -- a ping is answered: callers are given nothing
-  pub pongs : (status : StatusFlags) → kind_there s.context s.facts.columns p ≡ Good status → Heard (tasks.Own Ping) s.text s.context.spot s.untold s.closed h.lost h.calls h.pending st.newest st.older → Stands (with_task (advanced s (Good status) p rest next) tasks.Nothing false) (answered h ToldReady)
+  pub pongs : (status : StatusFlags) → kind_there s.context s.facts.columns p ≡ Good status → Heard (tasks.Own Ping) s.call s.context.spot s.untold s.closed h.lost h.calls h.pending st.newest st.older → Stands (with_task (advanced s (Good status) p rest next) tasks.Nothing false) (answered h ToldReady)
   pongs status e hd =
       let idle : spot_by (Good status) ≡ spots.Idle = ap (λ (x : Spot). spot_after (deprecates_eof s.context.terms.kept) x (Good status)) hd.at.1 in
-      answered_stands _ h (call_of Ping s.text) ToldReady hd.pending_is (lands (Good status) tasks.Nothing false st.newest.given _ None e refl (record {
+      answered_stands _ h (call_of Ping s.call) ToldReady hd.pending_is (lands (Good status) tasks.Nothing false st.newest.given _ None e refl (record {
         pending_is = refl;
         closed_is = hd.closed_is;
         alive = λ no. cc;
@@ -217,41 +216,44 @@ module _ (s : Seen) (h : History) (st : Stands s h) (open_still : s.closed ≡ f
         fresh = λ _ _ left. let no : is_left spots.Idle ≡ true = subst (λ (x : Spot). is_left x ≡ true) idle left in cc;
         at = λ _. subst (λ b. cond b (is_settled (spot_by (Good status))) (is_greeting (spot_by (Good status))) ≡ true) (sym hd.at.0) (ap is_settled idle);
         first = λ no. no_greeting (Good status) no;
-        tie = own_after (spot_by (Good status)) h.calls (record { call = call_of Ping s.text; what = ToldReady }) st.newest.call st.older (not_greeting s.context.spot (deprecates_eof s.context.terms.kept) (Good status)) (sym hd.tie.0) hd.tie.1;
-      }) (arranged_on (Good status) st.newest.given (record { call = call_of Ping s.text; what = ToldReady } ∷ h.calls) e refl (λ _. refl) (arranged_more s.login (record { call = call_of Ping s.text; what = ToldReady }) h.calls st.newest st.older refl st.arranged)) (λ _. refl))
+        tie = own_after (spot_by (Good status)) h.calls (record { call = call_of Ping s.call; what = ToldReady }) st.newest.call st.older (not_greeting s.context.spot (deprecates_eof s.context.terms.kept) (Good status)) (sym hd.tie.0) hd.tie.1;
+      }) (arranged_on (Good status) st.newest.given (record { call = call_of Ping s.call; what = ToldReady } ∷ h.calls) e refl (λ _. refl) (arranged_more s.login (record { call = call_of Ping s.call; what = ToldReady }) h.calls st.newest st.older refl st.arranged)) (λ _. refl))
 
-  is_query : Heard (tasks.Own Query) s.text s.context.spot s.untold s.closed h.lost h.calls h.pending st.newest st.older → is_queried st.newest.talk ≡ true
-  is_query hd = query_talk s.login (terms_by s.login st.older) (connecting_in st.older) s.text st.newest.talk (subst (λ (c : Call). opening s.login (terms_by s.login st.older) c (connecting_in st.older) ≡ Some (origin st.newest.talk)) hd.tie.0 st.wire.table.0)
+  pub is_query : Heard (tasks.Own Query) s.call s.context.spot s.untold s.closed h.lost h.calls h.pending st.newest st.older → is_queried st.newest.talk ≡ true
+  is_query hd = query_talk s.login (terms_by s.login st.older) (connecting_in st.older) (text_in s.call) st.newest.talk (subst (λ (c : Call). Opens s.login (terms_by s.login st.older) c (connecting_in st.older) (origin st.newest.talk)) hd.tie.0 st.wire.table.0)
 
-  -- a query is answered by a lone OK, whose end is left to be returned
-  pub readies : (status : StatusFlags) → kind_there s.context s.facts.columns p ≡ Good status → Heard (tasks.Own Query) s.text s.context.spot s.untold s.closed h.lost h.calls h.pending st.newest st.older → Stands (with_task (advanced s (Good status) p rest next) tasks.Nothing true) (answered h ToldReady)
-  readies status e hd =
-      let queried = is_query hd in
-      let ready : IsReady status st.newest.talk p = ready_on status st.newest.talk p queried hd.at.2 (talk_knows (Good status) e) in
-      let head : s.context.spot ≡ spots.Head = ap (λ (c : Context). c.spot) st.wire.context_is ∙ ready.spot in
-      let settled_here : is_settled (spot_by (Good status)) ≡ true = ap (λ (x : Spot). is_settled (spot_after (deprecates_eof s.context.terms.kept) x (Good status))) head ∙ settled_more status in
-      answered_stands _ h (call_of Query s.text) ToldReady hd.pending_is (lands (Good status) tasks.Nothing true (Some []) _ None e refl (record {
-        pending_is = refl;
-        closed_is = hd.closed_is;
-        alive = λ no. cc;
-        given_is = ap (λ gs. [] ∷ gs) (hd.given_is ∙ ap (λ o. onto o (givens st.older)) hd.at.1);
-        errors = hd.errors ∙ ap (λ es. es ++ errors_of st.older) (sym (calm_blames (Good status) st.newest.talk p refl));
-        each = (given_on (Some []) (Good status) st.newest.talk p (given_first st.newest.talk st.wire.fits hd.at.2), hd.each.1);
-        lone = λ _. ready.lone;
-        fresh = λ _ _ _. ap Some (sym ready.none);
-        at = λ _. subst (λ b. cond b (is_settled (spot_by (Good status))) (is_greeting (spot_by (Good status))) ≡ true) (sym hd.at.0) settled_here;
-        first = λ no. no_greeting (Good status) no;
-        tie = own_after (spot_by (Good status)) h.calls (record { call = call_of Query s.text; what = ToldReady }) st.newest.call st.older (not_greeting s.context.spot (deprecates_eof s.context.terms.kept) (Good status)) (sym hd.tie.0) hd.tie.1;
-      }) (arranged_on (Good status) (Some []) (record { call = call_of Query s.text; what = ToldReady } ∷ h.calls) e refl (λ _. refl) (arranged_more s.login (record { call = call_of Query s.text; what = ToldReady }) h.calls st.newest st.older refl st.arranged)) (λ _. refl))
+  pub is_execution : Heard (tasks.Own Execute) s.call s.context.spot s.untold s.closed h.lost h.calls h.pending st.newest st.older → is_queried st.newest.talk ≡ true
+  is_execution hd = execute_talk s.login (terms_by s.login st.older) (connecting_in st.older) (statement_in s.call) (params_in s.call) st.newest.talk (subst (λ (c : Call). Opens s.login (terms_by s.login st.older) c (connecting_in st.older) (origin st.newest.talk)) hd.tie.0 st.wire.table.0)
 
-  -- a part of the first head of a query's answer
-  pub first_parts : (k : Kind) → kind_there s.context s.facts.columns p ≡ k → is_part k ≡ true → is_bad k ≡ false → not_greets k ≡ true → Heard (tasks.Own Query) s.text s.context.spot s.untold s.closed h.lost h.calls h.pending st.newest st.older → Stands (with_task (advanced s k p rest next) (tasks.Own Query) false) h
-  first_parts k e part good quiet hd =
-      let queried = is_query hd in
-      goes (tasks.Own Query) (tasks.Own Query) k e good (part_calm k part) refl refl hd (hd.at.0, hd.at.1, first_on k st.newest.talk p queried hd.at.2 (talk_knows k e) part) hd.tie (λ _. quiet) (λ _. quiet)
+  -- a call whose own exchange has sets
+  module _ (c : CallKind) (hd : Heard (tasks.Own c) s.call s.context.spot s.untold s.closed h.lost h.calls h.pending st.newest st.older) (at : (has_connected h.calls ≡ true) × (st.newest.given ≡ None) × (is_first (sets_of st.newest.talk) ≡ true)) (queried : is_queried st.newest.talk ≡ true) where
+    -- it is answered by a lone OK, whose end is left to be returned
+    pub readies : (status : StatusFlags) → kind_there s.context s.facts.columns p ≡ Good status → ((gs : List (List Group)) → given_after ToldReady (kind_of (call_of c s.call)) gs ≡ [] ∷ gs) → closes ToldReady (kind_of (call_of c s.call)) ≡ false → connects ToldReady (kind_of (call_of c s.call)) ≡ false → Stands (with_task (advanced s (Good status) p rest next) tasks.Nothing true) (answered h ToldReady)
+    readies status e opens still con =
+        let ready : IsReady status st.newest.talk p = ready_on status st.newest.talk p queried at.2 (talk_knows (Good status) e) in
+        let head : s.context.spot ≡ spots.Head = ap (λ (c : Context). c.spot) st.wire.context_is ∙ ready.spot in
+        let settled_here : is_settled (spot_by (Good status)) ≡ true = ap (λ (x : Spot). is_settled (spot_after (deprecates_eof s.context.terms.kept) x (Good status))) head ∙ settled_more status in
+        answered_stands _ h (call_of c s.call) ToldReady hd.pending_is (lands (Good status) tasks.Nothing true (Some []) _ None e refl (record {
+          pending_is = refl;
+          closed_is = hd.closed_is ∙ ap (λ b. (b || has_closed h.calls) || h.lost) (sym still);
+          alive = λ no. cc;
+          given_is = opens (given h.calls) ∙ ap (λ gs. [] ∷ gs) (hd.given_is ∙ ap (λ o. onto o (givens st.older)) at.1);
+          errors = hd.errors ∙ ap (λ es. es ++ errors_of st.older) (sym (calm_blames (Good status) st.newest.talk p refl));
+          each = (given_on (Some []) (Good status) st.newest.talk p (given_first st.newest.talk st.wire.fits at.2), hd.each.1);
+          lone = λ _. ready.lone;
+          fresh = λ _ _ _. ap Some (sym ready.none);
+          at = λ _. subst (λ b. cond (b || has_connected h.calls) (is_settled (spot_by (Good status))) (is_greeting (spot_by (Good status))) ≡ true) (sym con) (subst (λ b. cond b (is_settled (spot_by (Good status))) (is_greeting (spot_by (Good status))) ≡ true) (sym at.0) settled_here);
+          first = λ no. no_greeting (Good status) no;
+          tie = own_after (spot_by (Good status)) h.calls (record { call = call_of c s.call; what = ToldReady }) st.newest.call st.older (not_greeting s.context.spot (deprecates_eof s.context.terms.kept) (Good status)) (sym hd.tie.0) hd.tie.1;
+        }) (arranged_on (Good status) (Some []) (record { call = call_of c s.call; what = ToldReady } ∷ h.calls) e refl (λ _. refl) (arranged_more s.login (record { call = call_of c s.call; what = ToldReady }) h.calls st.newest st.older con st.arranged)) (λ _. refl))
+
+    -- a part of the first head of its answer
+    pub first_parts : (k : Kind) → kind_there s.context s.facts.columns p ≡ k → is_part k ≡ true → is_bad k ≡ false → not_greets k ≡ true → (is_first (sets_of (grow k st.newest.talk p)) ≡ true → TaskIs (tasks.Own c) (spot_by k) s.closed (has_connected h.calls) (connecting_in (st.newest ∷ st.older)) (newest_by k st.newest.given)) → Stands (with_task (advanced s k p rest next) (tasks.Own c) false) h
+    first_parts k e part good quiet own =
+        goes (tasks.Own c) (tasks.Own c) k e good (part_calm k part) refl refl hd (own (first_on k st.newest.talk p queried at.2 (talk_knows k e) part)) hd.tie (λ _. quiet) (λ _. quiet)
 
 -- a task that reads what is left: it reads, or passes over
-module _ (s : Seen) (h : History) (st : Stands s h) (open_still : s.closed ≡ false) (nothing : s.owed ≡ []) (told : s.untold ≡ false) (p rest : List ℕ) (next : ℕ) (whole : IsWhole s.number s.context.terms.limit s.unread p rest next) (t : Task) (c : CallKind) (call : kind_in t ≡ Some c) (kept : keeps t ≡ true) (reads : is_reading s.context.spot ≡ true) (made : has_connected h.calls ≡ true) (hd : Heard t s.text s.context.spot s.untold s.closed h.lost h.calls h.pending st.newest st.older) (tied : IsTied h.calls (begun_of s.context.spot st.newest.call st.older)) where
+module _ (s : Seen) (h : History) (st : Stands s h) (open_still : s.closed ≡ false) (nothing : s.owed ≡ []) (told : s.untold ≡ false) (p rest : List ℕ) (next : ℕ) (whole : IsWhole s.number s.context.terms.limit s.unread p rest next) (t : Task) (c : CallKind) (call : kind_in t ≡ Some c) (kept : keeps t ≡ true) (reads : is_reading s.context.spot ≡ true) (made : has_connected h.calls ≡ true) (hd : Heard t s.call s.context.spot s.untold s.closed h.lost h.calls h.pending st.newest st.older) (tied : IsTied h.calls (begun_of s.context.spot st.newest.call st.older)) where
   -- while something is left, all that was received was given
   fresh_now : is_left s.context.spot ≡ true → st.newest.given ≡ Some (groups (sets_of st.newest.talk))
   fresh_now left = subst (λ b. b || is_left s.context.spot ≡ true → st.newest.given ≡ Some (groups (known_part b (sets_of st.newest.talk)))) told (hd.fresh open_still kept) left
@@ -273,23 +275,23 @@ module _ (s : Seen) (h : History) (st : Stands s h) (open_still : s.closed ≡ f
   tied_now = all_begun s.context.spot h.calls st.newest.call st.older (settled_not_greeting s.context.spot reads) tied
 
   -- an item or an end is returned, or passed over
-  pub shows : (u : Task) (k : Kind) (w : Told) → kind_there s.context s.facts.columns p ≡ k → is_bad k ≡ false → owes u ≡ false → not_greets k ≡ true → closes w (kind_of (call_of c s.text)) ≡ false → may_lack w (kind_of (call_of c s.text)) ≡ true → is_failed k ≡ false → with_told w (errors_told h.calls) ≡ errors_told h.calls → connects w (kind_of (call_of c s.text)) || has_connected h.calls ≡ true → given_after w (kind_of (call_of c s.text)) (groups (sets_of st.newest.talk) ∷ givens st.older) ≡ groups (sets_of (grow k st.newest.talk p)) ∷ givens st.older → ((m : List Made) → has_connected m ≡ true → TaskIs u (spot_by s h st open_still nothing p rest next whole k) s.closed (has_connected m) (connecting_in (st.newest ∷ st.older)) (newest_by s h st open_still nothing p rest next whole k (Some (groups (sets_of (grow k st.newest.talk p)))))) → ((m : List Made) → IsTied m (begun_of (spot_by s h st open_still nothing p rest next whole k) st.newest.call st.older) → TieIs u s.text (spot_by s h st open_still nothing p rest next whole k) m st.newest.call st.older) → Stands (with_task (advanced s k p rest next) u false) (record { sent = h.sent; taken = h.taken; calls = record { call = call_of c s.text; what = w } ∷ h.calls; pending = call_with (kind_in u) s.text; ended = h.ended; lost = h.lost })
-  shows u k w e good owe quiet still lack calm silent con gave at tie = lands s h st open_still nothing p rest next whole k u false (Some (groups (sets_of (grow k st.newest.talk p)))) _ (call_with (kind_in u) s.text) e good (record {
+  pub shows : (u : Task) (k : Kind) (w : Told) → kind_there s.context s.facts.columns p ≡ k → is_bad k ≡ false → owes u ≡ false → not_greets k ≡ true → closes w (kind_of (call_of c s.call)) ≡ false → may_lack w (kind_of (call_of c s.call)) ≡ true → is_failed k ≡ false → with_told w (errors_told h.calls) ≡ errors_told h.calls → connects w (kind_of (call_of c s.call)) || has_connected h.calls ≡ true → given_after w (kind_of (call_of c s.call)) (groups (sets_of st.newest.talk) ∷ givens st.older) ≡ groups (sets_of (grow k st.newest.talk p)) ∷ givens st.older → ((m : List Made) → has_connected m ≡ true → TaskIs u (spot_by s h st open_still nothing p rest next whole k) s.closed (has_connected m) (connecting_in (st.newest ∷ st.older)) (newest_by s h st open_still nothing p rest next whole k (Some (groups (sets_of (grow k st.newest.talk p)))))) → ((m : List Made) → IsTied m (begun_of (spot_by s h st open_still nothing p rest next whole k) st.newest.call st.older) → TieIs u s.call (spot_by s h st open_still nothing p rest next whole k) m st.newest.call st.older) → Stands (with_task (advanced s k p rest next) u false) (record { sent = h.sent; taken = h.taken; calls = record { call = call_of c s.call; what = w } ∷ h.calls; pending = call_with (kind_in u) s.call; ended = h.ended; lost = h.lost })
+  shows u k w e good owe quiet still lack calm silent con gave at tie = lands s h st open_still nothing p rest next whole k u false (Some (groups (sets_of (grow k st.newest.talk p)))) _ (call_with (kind_in u) s.call) e good (record {
     pending_is = refl;
     closed_is = hd.closed_is ∙ ap (λ b. (b || has_closed h.calls) || h.lost) (sym still);
     alive = λ _. open_still;
-    given_is = ap (given_after w (kind_of (call_of c s.text))) (given_now (is_left_now k e good)) ∙ gave;
+    given_is = ap (given_after w (kind_of (call_of c s.call))) (given_now (is_left_now k e good)) ∙ gave;
     errors = silent ∙ hd.errors ∙ ap (λ es. es ++ errors_of st.older) (sym (calm_blames k st.newest.talk p calm));
     each = (given_all (grow k st.newest.talk p) (wire_read s.login h.taken h.sent st.newest.call st.newest.talk st.older s.context s.number s.unread s.owed s.closed s.facts k p rest next open_still nothing e good whole st.wire).fits, hd.each.1);
     lone = λ no. cc;
     fresh = λ _ _ _. refl;
-    at = at (record { call = call_of c s.text; what = w } ∷ h.calls) con;
+    at = at (record { call = call_of c s.call; what = w } ∷ h.calls) con;
     first = λ waits. no_greeting s h st open_still nothing p rest next whole k waits;
-    tie = tie (record { call = call_of c s.text; what = w } ∷ h.calls) (tied_on k (record { call = call_of c s.text; what = w } ∷ h.calls) (quiet_more (record { call = call_of c s.text; what = w }) h.calls (st.newest.call ∷ calls_in st.older) lack tied_now));
-  }) (arranged_on s h st open_still nothing p rest next whole k (Some (groups (sets_of (grow k st.newest.talk p)))) (record { call = call_of c s.text; what = w } ∷ h.calls) e good (λ _. quiet) (λ _. st.arranged made)) (λ _. quiet)
+    tie = tie (record { call = call_of c s.call; what = w } ∷ h.calls) (tied_on k (record { call = call_of c s.call; what = w } ∷ h.calls) (quiet_more (record { call = call_of c s.call; what = w }) h.calls (st.newest.call ∷ calls_in st.older) lack tied_now));
+  }) (arranged_on s h st open_still nothing p rest next whole k (Some (groups (sets_of (grow k st.newest.talk p)))) (record { call = call_of c s.call; what = w } ∷ h.calls) e good (λ _. quiet) (λ _. st.arranged made)) (λ _. quiet)
 
   -- a part of the head of a further set
-  pub heads : (k : Kind) → kind_there s.context s.facts.columns p ≡ k → is_part k ≡ true → is_bad k ≡ false → not_greets k ≡ true → owes t ≡ false → TaskIs t (spot_by s h st open_still nothing p rest next whole k) s.closed (has_connected h.calls) (connecting_in (st.newest ∷ st.older)) (newest_by s h st open_still nothing p rest next whole k st.newest.given) → TieIs t s.text (spot_by s h st open_still nothing p rest next whole k) h.calls st.newest.call st.older → Stands (with_task (advanced s k p rest next) t false) h
+  pub heads : (k : Kind) → kind_there s.context s.facts.columns p ≡ k → is_part k ≡ true → is_bad k ≡ false → not_greets k ≡ true → owes t ≡ false → TaskIs t (spot_by s h st open_still nothing p rest next whole k) s.closed (has_connected h.calls) (connecting_in (st.newest ∷ st.older)) (newest_by s h st open_still nothing p rest next whole k st.newest.given) → TieIs t s.call (spot_by s h st open_still nothing p rest next whole k) h.calls st.newest.call st.older → Stands (with_task (advanced s k p rest next) t false) h
   heads k e part good quiet owe at tie = lands s h st open_still nothing p rest next whole k t false st.newest.given h.calls h.pending e good (record {
     pending_is = hd.pending_is;
     closed_is = hd.closed_is;
@@ -317,11 +319,11 @@ module _ (s : Seen) (h : History) (st : Stands s h) (open_still : s.closed ≡ f
   good_gives status e = good_groups st.newest.talk p status (talk_spot spots.Further (good_spot s.context.spot status reads (knows s h st open_still nothing p rest next whole (Good status) e)))
 
   -- a stream takes a lone OK, whose end is left to be returned
-  pub left_lone : (status : StatusFlags) → kind_there s.context s.facts.columns p ≡ Good status → closes ToldReady (kind_of (call_of c s.text)) ≡ false → may_lack ToldReady (kind_of (call_of c s.text)) ≡ true → connects ToldReady (kind_of (call_of c s.text)) ≡ false → given_after ToldReady (kind_of (call_of c s.text)) (given h.calls) ≡ given h.calls → Stands (with_task (advanced s (Good status) p rest next) tasks.Nothing true) (record { sent = h.sent; taken = h.taken; calls = record { call = call_of c s.text; what = ToldReady } ∷ h.calls; pending = None; ended = h.ended; lost = h.lost })
+  pub left_lone : (status : StatusFlags) → kind_there s.context s.facts.columns p ≡ Good status → closes ToldReady (kind_of (call_of c s.call)) ≡ false → may_lack ToldReady (kind_of (call_of c s.call)) ≡ true → connects ToldReady (kind_of (call_of c s.call)) ≡ false → given_after ToldReady (kind_of (call_of c s.call)) (given h.calls) ≡ given h.calls → Stands (with_task (advanced s (Good status) p rest next) tasks.Nothing true) (record { sent = h.sent; taken = h.taken; calls = record { call = call_of c s.call; what = ToldReady } ∷ h.calls; pending = None; ended = h.ended; lost = h.lost })
   left_lone status e still lack con gave =
       let further : s.context.spot ≡ spots.Further = good_spot s.context.spot status reads (knows s h st open_still nothing p rest next whole (Good status) e) in
       let settled_here : is_settled (spot_by s h st open_still nothing p rest next whole (Good status)) ≡ true = ap (λ (x : Spot). is_settled (spot_after (deprecates_eof s.context.terms.kept) x (Good status))) further ∙ settled_more status in
-      lands s h st open_still nothing p rest next whole (Good status) tasks.Nothing true st.newest.given (record { call = call_of c s.text; what = ToldReady } ∷ h.calls) None e refl (record {
+      lands s h st open_still nothing p rest next whole (Good status) tasks.Nothing true st.newest.given (record { call = call_of c s.call; what = ToldReady } ∷ h.calls) None e refl (record {
         pending_is = refl;
         closed_is = hd.closed_is ∙ ap (λ b. (b || has_closed h.calls) || h.lost) (sym still);
         alive = λ no. cc;
@@ -332,5 +334,5 @@ module _ (s : Seen) (h : History) (st : Stands s h) (open_still : s.closed ≡ f
         fresh = λ _ _ _. fresh_now (is_left_now (Good status) e refl) ∙ ap Some (sym (known_further st.newest.talk p status (talk_spot spots.Further further)));
         at = λ _. subst (λ b. cond (b || has_connected h.calls) (is_settled (spot_by s h st open_still nothing p rest next whole (Good status))) (is_greeting (spot_by s h st open_still nothing p rest next whole (Good status))) ≡ true) (sym con) (subst (λ b. cond b (is_settled (spot_by s h st open_still nothing p rest next whole (Good status))) (is_greeting (spot_by s h st open_still nothing p rest next whole (Good status))) ≡ true) (sym made) settled_here);
         first = λ waits. no_greeting s h st open_still nothing p rest next whole (Good status) waits;
-        tie = tied_on (Good status) (record { call = call_of c s.text; what = ToldReady } ∷ h.calls) (quiet_more (record { call = call_of c s.text; what = ToldReady }) h.calls (st.newest.call ∷ calls_in st.older) lack tied_now);
-      }) (arranged_on s h st open_still nothing p rest next whole (Good status) st.newest.given (record { call = call_of c s.text; what = ToldReady } ∷ h.calls) e refl (λ _. refl) (arranged_more s.login (record { call = call_of c s.text; what = ToldReady }) h.calls st.newest st.older con st.arranged)) (λ _. refl)
+        tie = tied_on (Good status) (record { call = call_of c s.call; what = ToldReady } ∷ h.calls) (quiet_more (record { call = call_of c s.call; what = ToldReady }) h.calls (st.newest.call ∷ calls_in st.older) lack tied_now);
+      }) (arranged_on s h st open_still nothing p rest next whole (Good status) st.newest.given (record { call = call_of c s.call; what = ToldReady } ∷ h.calls) e refl (λ _. refl) (arranged_more s.login (record { call = call_of c s.call; what = ToldReady }) h.calls st.newest st.older con st.arranged)) (λ _. refl)

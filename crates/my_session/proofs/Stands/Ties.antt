@@ -1,19 +1,20 @@
 -- A call's answer beside the exchanges that belong to calls.
-use Rattle.std.proofs.Common.{◌≡◌, ◌⊎◌, ℕ, suc, List, [], ◌∷◌, ◌||◌, Bool, true, false, cond, Option, Some, None, inl, inr, refl, sym, ap, ◌∙◌, subst}
+use Rattle.std.proofs.Common.{◌≡◌, ◌⊎◌, suc, List, [], ◌∷◌, ◌||◌, Bool, true, false, cond, Option, Some, None, inl, inr, refl, sym, ap, ◌∙◌, subst}
 use Rattle.my_grammar.specs.declared.login.Login.{Login}
 use Rattle.my_grammar.specs.declared.spot.Spot.{Spot}
 use Rattle.my_reading.specs.declared.call.Call.{Call}
 use Rattle.my_reading.specs.declared.call.Call.TheVariants as calls
 use Rattle.my_reading.specs.declared.call.CallKind.{CallKind}
-use Rattle.my_reading.specs.declared.call.CallKind.TheVariants.{Connect, Query, NextRow, DropResult, TakeSet, SkipTaken, Ping, Quit}
+use Rattle.my_reading.specs.declared.call.CallKind.TheVariants.{Connect, Query, Prepare, Execute, CloseStmt, NextRow, DropResult, TakeSet, SkipTaken, Ping, Quit}
 use Rattle.my_session.specs.declared.task.Task.{Task}
 use Rattle.my_session.specs.declared.task.Task.TheVariants as tasks
 use Rattle.my_reading.specs.Calls.{kind_of, call_of, is_connect, asks}
 use Rattle.my_session.specs.Tasks.{kind_in, is_open}
-use Rattle.my_session.specs.Entries.{Entry, calls_in, connecting_in, connects, has_connected, OwnsFirst, IsTied, may_lack}
-use Rattle.my_reading.specs.Told.{Told, ToldReady, ToldRow, ToldEnd, ToldNone, ToldError, Dropped, closes}
+use Rattle.my_session.specs.Entries.{Entry, calls_in, connecting_in, connects, has_connected, owns_more, OwnsFirst, IsTied, may_lack}
+use Rattle.my_reading.specs.Told.{Told, ToldReady, ToldRow, ToldEnd, ToldNone, ToldStatement, ToldError, Dropped, closes}
 use Rattle.my_session.specs.History.{History, Made, answered, noted, with_answer}
-use Rattle.my_session.specs.Machine.{is_greeting, with_taken}
+use Rattle.my_session.specs.Machine.{is_greeting, with_statements, with_taken}
+use Rattle.my_reading.specs.Statements.{Statements}
 use Rattle.my_session.specs.Seen.{Seen}
 use Rattle.my_session.specs.Stands.{Stands, TieIs, IsArranged, begun_of}
 
@@ -29,11 +30,16 @@ noted_stands s h c t e st = subst (λ (o : Option Call). Stands s (record { sent
 pub taken_stands : (s : Seen) (h : History) → Stands s h → Stands (with_taken s) h
 taken_stands s h st = record { newest = st.newest; older = st.older; wire = st.wire; heard = st.heard; arranged = st.arranged; ended_is = st.ended_is; settled = st.settled }
 
+-- nor which prepared statements are known
+pub known_stands : (s : Seen) (h : History) (known : Statements) → Stands s h → Stands (with_statements s known) h
+known_stands s h known st = record { newest = st.newest; older = st.older; wire = st.wire; heard = st.heard; arranged = st.arranged; ended_is = st.ended_is; settled = st.settled }
+
 pub kind_there_is : (t : Task) → is_open t ≡ true → (c : CallKind) × (kind_in t ≡ Some c)
 kind_there_is tasks.Nothing e = cc
 kind_there_is (tasks.Begun c) e = (c, refl)
 kind_there_is (tasks.Cleaning c) e = (c, refl)
 kind_there_is (tasks.Own c) e = (c, refl)
+kind_there_is tasks.Giving e = (Prepare, refl)
 kind_there_is (tasks.Arranging n) e = (Connect, refl)
 kind_there_is tasks.Reading e = (NextRow, refl)
 kind_there_is tasks.Dropping e = (DropResult, refl)
@@ -42,18 +48,21 @@ kind_there_is tasks.Skipping e = (SkipTaken, refl)
 kind_there_is tasks.Leaving e = (Quit, refl)
 kind_there_is (tasks.Failing c fault) e = (c, refl)
 
-pub asks_not : (c : CallKind) (text : List ℕ) → asks c ≡ true → is_connect (kind_of (call_of c text)) ≡ false
-asks_not Connect text e = cc
-asks_not Query text e = refl
-asks_not NextRow text e = cc
-asks_not DropResult text e = cc
-asks_not TakeSet text e = cc
-asks_not SkipTaken text e = cc
-asks_not Ping text e = refl
-asks_not Quit text e = refl
+pub asks_not : (c : CallKind) (opened : Call) → asks c ≡ true → is_connect (kind_of (call_of c opened)) ≡ false
+asks_not Connect opened e = cc
+asks_not Query opened e = refl
+asks_not Prepare opened e = refl
+asks_not Execute opened e = refl
+asks_not CloseStmt opened e = refl
+asks_not NextRow opened e = cc
+asks_not DropResult opened e = cc
+asks_not TakeSet opened e = cc
+asks_not SkipTaken opened e = cc
+asks_not Ping opened e = refl
+asks_not Quit opened e = refl
 
 -- after the first of the exchanges that a call owns
-owns_after : (made : List Made) (m : Made) (older : List Call) → may_lack m.what (kind_of m.call) ≡ true → IsTied made older ⊎ ((is_connect (kind_of m.call) ≡ true) × OwnsFirst m.call older (IsTied made)) → IsTied (m ∷ made) older
+owns_after : (made : List Made) (m : Made) (older : List Call) → may_lack m.what (kind_of m.call) ≡ true → IsTied made older ⊎ ((owns_more (kind_of m.call) ≡ true) × OwnsFirst m.call older (IsTied made)) → IsTied (m ∷ made) older
 owns_after made m older lack (inl t) = inl (lack, t)
 owns_after made m older lack (inr o) = inr o.1
 
@@ -66,25 +75,28 @@ owns_as : (c d : Call) (cs : List Call) (made : List Made) → d ≡ c → OwnsF
 owns_as c d cs made same o = subst (λ (x : Call). OwnsFirst x cs (IsTied made)) (sym same) o
 
 -- the answer of a call that may lack an exchange
-pub closed_tie : (t : Task) (c : CallKind) (text : List ℕ) (spot : Spot) (made : List Made) (call : Call) (older : List Entry) (m : Made) → kind_in t ≡ Some c → m.call ≡ call_of c text → may_lack m.what (kind_of m.call) ≡ true → TieIs t text spot made call older → IsTied (m ∷ made) (begun_of spot call older)
-closed_tie tasks.Nothing c text spot made call older m k e lack t = cc
-closed_tie (tasks.Begun d) c text spot made call older m k e lack t = inl (lack, t)
-closed_tie (tasks.Cleaning d) c text spot made call older m k e lack t = inl (lack, t)
-closed_tie (tasks.Own d) c text spot made call older m k e lack t =
+pub closed_tie : (t : Task) (c : CallKind) (opened : Call) (spot : Spot) (made : List Made) (call : Call) (older : List Entry) (m : Made) → kind_in t ≡ Some c → m.call ≡ call_of c opened → may_lack m.what (kind_of m.call) ≡ true → TieIs t opened spot made call older → IsTied (m ∷ made) (begun_of spot call older)
+closed_tie tasks.Nothing c opened spot made call older m k e lack t = cc
+closed_tie (tasks.Begun d) c opened spot made call older m k e lack t = inl (lack, t)
+closed_tie (tasks.Cleaning d) c opened spot made call older m k e lack t = inl (lack, t)
+closed_tie (tasks.Own d) c opened spot made call older m k e lack t =
     let same : d ≡ c = cc in
-    owns_tie (is_greeting spot) made m call (calls_in older) lack (e ∙ ap (λ (x : CallKind). call_of x text) (sym same) ∙ sym t.0, inl t.1)
-closed_tie (tasks.Arranging n) c text spot made call older m k e lack t =
+    owns_tie (is_greeting spot) made m call (calls_in older) lack (e ∙ ap (λ (x : CallKind). call_of x opened) (sym same) ∙ sym t.0, inl t.1)
+closed_tie (tasks.Arranging n) c opened spot made call older m k e lack t =
     let same : Connect ≡ c = cc in
-    owns_tie (is_greeting spot) made m call (calls_in older) lack (owns_as calls.Connect m.call (call ∷ calls_in older) made (e ∙ ap (λ (x : CallKind). call_of x text) (sym same)) t)
-closed_tie tasks.Reading c text spot made call older m k e lack t = inl (lack, t)
-closed_tie tasks.Dropping c text spot made call older m k e lack t = inl (lack, t)
-closed_tie tasks.Taking c text spot made call older m k e lack t = inl (lack, t)
-closed_tie tasks.Skipping c text spot made call older m k e lack t = inl (lack, t)
-closed_tie tasks.Leaving c text spot made call older m k e lack t = inl (lack, t)
-closed_tie (tasks.Failing d fault) c text spot made call older m k e lack t =
+    owns_tie (is_greeting spot) made m call (calls_in older) lack (owns_as calls.Connect m.call (call ∷ calls_in older) made (e ∙ ap (λ (x : CallKind). call_of x opened) (sym same)) t)
+closed_tie tasks.Giving c opened spot made call older m k e lack t =
+    let same : Prepare ≡ c = cc in
+    owns_tie (is_greeting spot) made m call (calls_in older) lack (owns_as (call_of Prepare opened) m.call (call ∷ calls_in older) made (e ∙ ap (λ (x : CallKind). call_of x opened) (sym same)) t)
+closed_tie tasks.Reading c opened spot made call older m k e lack t = inl (lack, t)
+closed_tie tasks.Dropping c opened spot made call older m k e lack t = inl (lack, t)
+closed_tie tasks.Taking c opened spot made call older m k e lack t = inl (lack, t)
+closed_tie tasks.Skipping c opened spot made call older m k e lack t = inl (lack, t)
+closed_tie tasks.Leaving c opened spot made call older m k e lack t = inl (lack, t)
+closed_tie (tasks.Failing d fault) c opened spot made call older m k e lack t =
     let same : d ≡ c = cc in
     elim t as (λ _. IsTied (m ∷ made) (begun_of spot call older)) [
-      | inl w ↦ owns_tie (is_greeting spot) made m call (calls_in older) lack (owns_as (call_of d text) m.call (call ∷ calls_in older) made (e ∙ ap (λ (x : CallKind). call_of x text) (sym same)) w)
+      | inl w ↦ owns_tie (is_greeting spot) made m call (calls_in older) lack (owns_as (call_of d opened) m.call (call ∷ calls_in older) made (e ∙ ap (λ (x : CallKind). call_of x opened) (sym same)) w)
       | inr w ↦ inl (lack, w)
     ]
 
@@ -102,9 +114,9 @@ at_greeting spot made call older e t = subst (λ b. IsTied made (cond b (calls_i
 pub own_after : (spot : Spot) (made : List Made) (m : Made) (call : Call) (older : List Entry) → is_greeting spot ≡ false → m.call ≡ call → IsTied made (calls_in older) → IsTied (m ∷ made) (begun_of spot call older)
 own_after spot made m call older e same t = none_waits spot (m ∷ made) call older e (inr (same, inl t))
 
--- the answer of connecting, whose exchanges are all its own
-pub owns_all : (spot : Spot) (made : List Made) (m : Made) (call : Call) (older : List Entry) → is_greeting spot ≡ false → m.call ≡ calls.Connect → OwnsFirst calls.Connect (call ∷ calls_in older) (IsTied made) → IsTied (m ∷ made) (begun_of spot call older)
-owns_all spot made m call older e same o = none_waits spot (m ∷ made) call older e (inr (owns_as calls.Connect m.call (call ∷ calls_in older) made same o))
+-- the answer of a call that owns all exchanges from some one on
+pub owns_all : (spot : Spot) (made : List Made) (m : Made) (c call : Call) (older : List Entry) → is_greeting spot ≡ false → m.call ≡ c → OwnsFirst c (call ∷ calls_in older) (IsTied made) → IsTied (m ∷ made) (begun_of spot call older)
+owns_all spot made m c call older e same o = none_waits spot (m ∷ made) call older e (inr (owns_as c m.call (call ∷ calls_in older) made same o))
 
 pub quiet_more : (m : Made) (made : List Made) (cs : List Call) → may_lack m.what (kind_of m.call) ≡ true → IsTied made cs → IsTied (m ∷ made) cs
 quiet_more m made cs lack t = inl (lack, t)
@@ -116,6 +128,9 @@ arranged_more login m made e es not a = λ made_now. a (subst (λ b. b || has_co
 closes_unmade : (t : Told) (c : CallKind) → closes t c ≡ true → connects t c ≡ false
 closes_unmade ToldReady Connect e = cc
 closes_unmade ToldReady Query e = refl
+closes_unmade ToldReady Prepare e = refl
+closes_unmade ToldReady Execute e = refl
+closes_unmade ToldReady CloseStmt e = refl
 closes_unmade ToldReady NextRow e = refl
 closes_unmade ToldReady DropResult e = refl
 closes_unmade ToldReady TakeSet e = refl
@@ -125,6 +140,7 @@ closes_unmade ToldReady Quit e = refl
 closes_unmade (ToldRow row) c e = refl
 closes_unmade ToldEnd c e = refl
 closes_unmade ToldNone c e = refl
+closes_unmade (ToldStatement statement) c e = refl
 closes_unmade (ToldError x) c e = refl
 closes_unmade (Dropped closing) c e = refl
 

@@ -1,26 +1,20 @@
 -- What a payload more does to the sets of an exchange, and to what was given of them.
-use Rattle.std.proofs.Common.{◌≡◌, ℕ, ◌+◌, ◌-◌, ◌<◌, List, [], ◌∷◌, ◌++◌, length, Bool, true, false, cond, leb, Option, Some, None, refl, sym, ap, ◌∙◌, subst, arith}
-use Rattle.std.proofs.lemmas.Bool.Decides.{nat_tests}
+use Rattle.std.proofs.Common.{◌≡◌, ℕ, ◌-◌, List, [], ◌∷◌, Bool, true, false, cond, leb, Option, Some, None, refl, sym, ap, ◌∙◌}
 use Rattle.my_flags.specs.declared.flags.StatusFlags.{StatusFlags}
 use Rattle.my_flags.specs.Sets.{deprecates_eof, has_more_results}
-use Rattle.my_reply.specs.declared.column.Column.{Column as AnyColumn}
-use Rattle.my_reply.specs.Column.{column_at}
 use Rattle.my_grammar.specs.declared.login.Login.{Login}
 use Rattle.my_grammar.specs.declared.spot.Kind.{Kind}
 use Rattle.my_grammar.specs.declared.spot.Kind.TheVariants as kinds
 use Rattle.my_grammar.specs.declared.spot.Spot.TheVariants as spots
-use Rattle.my_grammar.specs.FitSets.{FitSets, AreColumns, IsBegun}
+use Rattle.my_grammar.specs.FitSets.{FitSets}
 use Rattle.my_grammar.specs.Growth.{grow}
-use Rattle.my_grammar.specs.Kinds.{head_kind, described_kind}
-use Rattle.my_grammar.specs.declared.packet.Packet.{Packet}
 use Rattle.my_grammar.specs.Sets.{SetHead, Sets, NoSets, Lone, Failed, Heading, Headed, Begun, Ended, Broken, format_in, head_columns, grow_sets, with_column, with_column_of, with_close}
 use Rattle.my_grammar.specs.Prepares.{Reply, Unanswered, Refused, InParameters, AfterParameters, InFields, AfterFields, Complete, spot_in_reply}
 use Rattle.my_grammar.specs.Talk.{Talk, Start, Unwelcome, Greeted, Settled, Asked, Replied, Queried, Preparing, Silent, packets_of, context_of, Fits}
-use Rattle.my_grammar.proofs.Growth.Known.{is_head_kind, known_head, is_then}
 use Rattle.my_value.specs.RowParts.{RowParts}
 use Rattle.my_reading.specs.declared.facts.Facts.{Facts}
 use Rattle.my_session.specs.Entries.{sets_of, ends_with_ok, IsGiven}
-use Rattle.my_reading.specs.Facts.{counted, with_column as column_told, facts_by}
+use Rattle.my_reading.specs.Facts.{facts_by}
 use Rattle.my_session.specs.Groups.{Group, groups, with_item, with_items, with_stop, IsEarlier}
 use Rattle.my_reading.specs.Rows.{row_at, row_or}
 use Rattle.my_reading.proofs.Described.{at_rows, not_rows, reply_not_rows}

@@ -1,5 +1,5 @@
 -- What moves do to the wire.
-use Rattle.std.proofs.Common.{◌≡◌, ℕ, ◌≤◌, List, [], ◌∷◌, ◌++◌, length, take, drop, Bool, true, false, Some, refl, sym, ap, ◌∙◌, subst}
+use Rattle.std.proofs.Common.{◌≡◌, ℕ, ◌≤◌, List, [], ◌∷◌, ◌++◌, length, take, drop, Bool, true, false, refl, sym, ap, ◌∙◌, subst}
 use Rattle.std.proofs.lemmas.List.{append_assoc, append-nil, take-append-drop}
 use Rattle.std.proofs.Math.Seq.{drop-nil, take-nil}
 use Rattle.my_frame.specs.Chunks.{chunks, number_after_payload}
@@ -18,8 +18,7 @@ use Rattle.my_grammar.specs.Talk.{Talk, Start, Unwelcome, Greeted, Settled, Aske
 use Rattle.my_grammar.proofs.Growth.{grows, reads}
 use Rattle.my_reading.specs.declared.call.Call.{Call}
 use Rattle.my_reading.specs.declared.facts.Facts.{Facts}
-use Rattle.my_reading.specs.Commands.{opening}
-use Rattle.my_session.specs.Entries.{Entry, taken_by, sent_by, facts_of, terms_by, connecting_in, ends_answered}
+use Rattle.my_session.specs.Entries.{Entry, Opens, taken_by, sent_by, facts_of, terms_by, connecting_in, ends_answered}
 use Rattle.my_reading.specs.Facts.{facts_after, facts_by}
 use Rattle.my_session.specs.Machine.{reply_to, reply_bytes, reply_number}
 use Rattle.my_session.specs.Stands.{Wire}
@@ -198,7 +197,7 @@ module _ (login : Login) (taken sent : List ℕ) (call : Call) (talk : Talk) (ol
         fits = g.fits;
         done = w.done;
         facts_are = ap (facts_after k p) w.facts_are ∙ sym (ap (λ ps. facts_by ps (facts_of login older)) g.packets_are);
-        table = (w.table.0 ∙ ap Some (sym g.origin_is), w.table.1);
+        table = (subst (λ (t : Talk). Opens login (terms_by login older) call (connecting_in older) t) (sym g.origin_is) w.table.0, w.table.1);
       }
 
 -- what holds between client and server is what the session says
@@ -208,7 +207,7 @@ terms_now login e older context facts c f =
     ∙ ap (λ (x : Facts). let t : Terms = record { kept = context.terms.kept; limit = x.settings.limit } in t) (sym f)
 
 -- an exchange begins, by the table
-pub wire_queued : (context : Context) (number : ℕ) (unread owed : List ℕ) (closed : Bool) (facts : Facts) (login : Login) (taken sent : List ℕ) (e : Entry) (older : List Entry) (new : Call) (talk : Talk) → closed ≡ false → context.spot ≡ spots.Idle → owed ≡ [] → opening login (record { kept = context.terms.kept; limit = facts.settings.limit }) new (connecting_in (e ∷ older)) ≡ Some talk → origin talk ≡ talk → Fits talk → server_bytes (turns talk) ≡ [] → packets_of talk ≡ [] → login_in login talk ≡ login → Wire context number unread owed closed facts login taken sent e.call e.talk older → Wire (context_of talk) (number_of (turns talk)) unread (owed ++ client_bytes (turns talk)) closed facts login taken sent new talk (e ∷ older)
+pub wire_queued : (context : Context) (number : ℕ) (unread owed : List ℕ) (closed : Bool) (facts : Facts) (login : Login) (taken sent : List ℕ) (e : Entry) (older : List Entry) (new : Call) (talk : Talk) → closed ≡ false → context.spot ≡ spots.Idle → owed ≡ [] → Opens login (record { kept = context.terms.kept; limit = facts.settings.limit }) new (connecting_in (e ∷ older)) talk → origin talk ≡ talk → Fits talk → server_bytes (turns talk) ≡ [] → packets_of talk ≡ [] → login_in login talk ≡ login → Wire context number unread owed closed facts login taken sent e.call e.talk older → Wire (context_of talk) (number_of (turns talk)) unread (owed ++ client_bytes (turns talk)) closed facts login taken sent new talk (e ∷ older)
 wire_queued context number unread owed closed facts login taken sent e older new talk alive idle nothing opens orig fits none packets log w =
     let spent : w.cut ≡ [] = sym (w.owed_is alive) ∙ nothing in
     record {
@@ -226,5 +225,9 @@ wire_queued context number unread owed closed facts login taken sent e older new
       fits = fits;
       done = (sym (ap (λ (c : Context). c.spot) w.context_is) ∙ idle, w.fits, w.done);
       facts_are = w.facts_are ∙ sym (ap (λ ps. facts_by ps (facts_of login (e ∷ older))) packets);
-      table = (ap (λ (t : Terms). opening login t new (connecting_in (e ∷ older))) (terms_now login e older context facts w.context_is w.facts_are) ∙ opens ∙ ap Some (sym orig), w.table);
+      table = (
+        subst (λ (t : Talk). Opens login (terms_by login (e ∷ older)) new (connecting_in (e ∷ older)) t) (sym orig)
+            (subst (λ (t : Terms). Opens login t new (connecting_in (e ∷ older)) talk) (sym (terms_now login e older context facts w.context_is w.facts_are)) opens),
+        w.table,
+      );
     }

@@ -1,5 +1,5 @@
 -- A move, and so a step, leaves no more bytes unread than there were.
-use Rattle.std.proofs.Common.{◌≡◌, ℕ, zero, suc, ◌<◌, ◌≤◌, inl, inr, List, [], ◌∷◌, length, Bool, true, false, cond, Option, Some, None, refl, ap, arith}
+use Rattle.std.proofs.Common.{◌≡◌, ℕ, zero, suc, ◌<◌, ◌≤◌, inl, inr, List, [], ◌∷◌, length, ◌||◌, Bool, true, false, cond, Option, Some, None, refl, ap, arith}
 use Rattle.my_frame.specs.Front.{Front, Waiting, Broken, Whole, front_at}
 use Rattle.my_value.specs.RowParts.{RowParts}
 use Rattle.my_reply.specs.declared.err.ErrPacket.{ErrPacket}
@@ -7,7 +7,13 @@ use Rattle.my_grammar.specs.declared.spot.Kind.{Kind}
 use Rattle.my_grammar.specs.Kinds.{kind_there}
 use Rattle.my_grammar.specs.Talk.{Talk}
 use Rattle.my_reading.specs.declared.call.CallKind.{CallKind}
-use Rattle.my_reading.specs.Commands.{command_in}
+use Rattle.my_reading.specs.declared.call.CallKind.TheVariants.{Execute}
+use Rattle.my_statements.specs.Cache.{Held}
+use Rattle.my_reading.specs.declared.error.DriverError.{DriverError}
+use Rattle.my_reading.specs.Calls.{call_of, text_in}
+use Rattle.my_reading.specs.Commands.{closing, command_of, connecting}
+use Rattle.my_reading.specs.Facts.{prepared_by}
+use Rattle.my_reading.specs.Statements.{held_in, is_mixed_text, leaving, query_of}
 use Rattle.my_reading.specs.Errors.{invalid_data, unexpected_eof}
 use Rattle.my_reading.specs.Rows.{row_at}
 use Rattle.my_session.specs.declared.answer.SessionStep.{SessionStep}
@@ -18,9 +24,9 @@ use Rattle.my_session.specs.declared.tables.Reaction.{Reaction}
 use Rattle.my_session.specs.declared.tables.Reaction.TheVariants as reactions
 use Rattle.my_session.specs.declared.task.LinkFault.{LinkFault}
 use Rattle.my_session.specs.declared.task.Task.{Task}
-use Rattle.my_session.specs.declared.task.Task.TheVariants.{Nothing, Own, Arranging}
+use Rattle.my_session.specs.declared.task.Task.TheVariants.{Nothing, Cleaning, Own, Giving, Arranging}
 use Rattle.my_session.specs.Machine as machine
-use Rattle.my_session.specs.Machine.{Move, Sends, Needs, Does, advanced, reply_to, above, unless_above, refused, gave, passed, reacted, read_by, reading, asked, arranged, planned, when_owed, next_by, next}
+use Rattle.my_session.specs.Machine.{Move, Sends, Needs, Does, advanced, reply_to, above, unless_above, refused, gave, passed, reacted, read_by, reading, next_terms, unless_exceeds, unless_refused, refusal, is_doubled, looked, with_kept, kept, asked, arranged, planned, when_owed, next_by, next}
 use Rattle.my_session.specs.Seen.{Seen}
 use Rattle.my_session.specs.Steps.{Steps, last_tick, moved}
 use Rattle.my_session.specs.Tables.{is_breaking, is_connecting, plan_of, react}
@@ -77,28 +83,47 @@ module _ (s : Seen) where
   front_fewer Waiting at = waiting_fewer s.ended
   front_fewer (Broken fault) at = omega arith
   front_fewer (Whole p rest next) at =
-      kind_fewer p rest next (kind_there s.context s.facts.columns p) (is_breaking (react s.task (kind_there s.context s.facts.columns p)))
+      kind_fewer p rest next (kind_there s.context s.facts.columns p) (is_breaking (react s.task (kind_there s.context s.facts.columns p)) || is_doubled s.statements (kind_there s.context s.facts.columns p) p)
       (takes_whole s.number s.context.terms.limit s.unread p rest next at).shorter
 
-  begins_if : (u : Task) (talk : Talk) (long : Bool) → Fewer (cond long (machine.too_large s s.facts.settings.limit (length (command_in talk))) (record { seen = machine.queued s u talk; does = Sends }))
-  begins_if u talk true = omega arith
-  begins_if u talk false = omega arith
+  begins_if : (n : Seen) (u : Task) (talk : Talk) (long : Option ℕ) → length n.unread ≤ length s.unread → Fewer (unless_exceeds n long (record { seen = machine.queued n u talk; does = Sends }))
+  begins_if n u talk (Some len) few = few
+  begins_if n u talk None few = few
 
   asked_fewer : (c : CallKind) (talk : Option Talk) → Fewer (asked s c talk)
   asked_fewer c None = omega arith
-  asked_fewer c (Some talk) = begins_if (Own c) talk _
+  asked_fewer c (Some talk) = begins_if s (Own c) talk _ (omega arith)
 
   arranged_fewer : (n : ℕ) (talk : Option Talk) → Fewer (arranged s n talk)
   arranged_fewer n None = omega arith
-  arranged_fewer n (Some talk) = begins_if (Arranging (suc n)) talk _
+  arranged_fewer n (Some talk) = begins_if s (Arranging (suc n)) talk _ (omega arith)
+
+  unless_refused_fewer : (e : Option DriverError) (m : Move) → Fewer m → Fewer (unless_refused s e m)
+  unless_refused_fewer None m few = few
+  unless_refused_fewer (Some e) m few = omega arith
+
+  looked_fewer : (mixed : Bool) (o : Option Held) → Fewer (looked s mixed o)
+  looked_fewer true o = omega arith
+  looked_fewer false None = omega arith
+  looked_fewer false (Some h) = omega arith
+
+  kept_fewer : (o : Option ℕ) → Fewer (kept (with_kept s) o)
+  kept_fewer None = omega arith
+  kept_fewer (Some id) = begins_if (with_kept s) Giving (closing (next_terms s) id) _ (omega arith)
 
   plan_fewer : (plan : Plan) → Fewer (planned s plan)
   plan_fewer plans.Reads = front_fewer (front_at s.number s.context.terms.limit s.unread) refl
   plan_fewer (plans.Starts u) = omega arith
   plan_fewer plans.Hears = omega arith
-  plan_fewer (plans.Asks c) = asked_fewer c _
-  plan_fewer (plans.Arranges n) = arranged_fewer n _
+  plan_fewer plans.Finds = looked_fewer (is_mixed_text (text_in s.call)) (held_in s.statements (query_of (text_in s.call)))
+  plan_fewer plans.Checks = unless_refused_fewer (refusal Execute s.call) (record { seen = machine.with_task s (Cleaning Execute) s.untold; does = machine.Goes }) (omega arith)
+  plan_fewer plans.Forgets = omega arith
+  plan_fewer (plans.Asks c) = unless_refused_fewer (refusal c s.call) (asked s c (command_of (next_terms s) s.statements (call_of c s.call))) (asked_fewer c (command_of (next_terms s) s.statements (call_of c s.call)))
+  plan_fewer (plans.Arranges n) = arranged_fewer n (connecting s.login (next_terms s) (suc n))
   plan_fewer plans.Readies = omega arith
+  plan_fewer plans.Learns = omega arith
+  plan_fewer plans.Keeps = kept_fewer (leaving (query_of (text_in s.call)) (prepared_by s.facts) s.statements)
+  plan_fewer plans.Gives = omega arith
   plan_fewer plans.Takes = omega arith
   plan_fewer plans.Quits = omega arith
   plan_fewer plans.Passes = omega arith

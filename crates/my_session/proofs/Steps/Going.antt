@@ -1,5 +1,5 @@
 -- Moves that go on come to an end, and each move leaves what it says.
-use Rattle.std.proofs.Common.{◌≡◌, ◌≢◌, ℕ, zero, suc, ◌+◌, ◌/◌, ◌<◌, ◌≤◌, List, [], ◌∷◌, ◌++◌, length, Bool, true, false, cond, Option, Some, None, refl, sym, ap, ◌∙◌, subst, arith}
+use Rattle.std.proofs.Common.{◌≡◌, ◌≢◌, ℕ, zero, suc, ◌+◌, ◌/◌, ◌<◌, ◌≤◌, List, [], ◌∷◌, ◌++◌, length, ◌||◌, Bool, true, false, cond, Option, Some, None, refl, sym, ap, ◌∙◌, subst, arith}
 use Rattle.std.specs.List.{slice_get}
 use Rattle.my_frame.specs.Chunks.{full_length, numbered, split_full, parts_of, chunks}
 use Rattle.my_frame.specs.Front.{Front, Waiting, Broken, Whole, front_at}
@@ -12,14 +12,25 @@ use Rattle.my_grammar.specs.declared.spot.Spot.TheVariants as spots
 use Rattle.my_grammar.specs.declared.spot.Kind.{Kind}
 use Rattle.my_grammar.specs.declared.spot.Kind.TheVariants as kinds
 use Rattle.my_grammar.specs.Kinds.{kind_there}
-use Rattle.my_grammar.specs.Sets.{ByText, NoSets}
-use Rattle.my_grammar.specs.Talk.{Talk, Asked, Queried, Silent, turns, client_bytes}
+use Rattle.my_grammar.specs.declared.spot.Terms.{Terms}
+use Rattle.my_grammar.specs.Prepares.{Unanswered}
+use Rattle.my_grammar.specs.Sets.{ByStatement, ByText, NoSets}
+use Rattle.my_grammar.specs.Talk.{Talk, Asked, Preparing, Queried, Silent, sent_ahead, turns, client_bytes}
+use Rattle.my_params.specs.LongData.{ahead_of}
+use Rattle.my_params.specs.Parameters.{body_of}
+use Rattle.my_reply.specs.declared.column.Column.{Column}
+use Rattle.my_statements.specs.Cache.{Held}
+use Rattle.my_reading.specs.declared.call.Call.{Call}
+use Rattle.my_reading.specs.declared.error.DriverError.{DriverError}
+use Rattle.my_reading.specs.Executions.{Values, Fitting, Unfitting, values_for}
+use Rattle.my_reading.specs.Facts.{prepared_by}
+use Rattle.my_reading.specs.Statements.{held_in, is_mixed_text, known_in, leaving, query_of}
 use Rattle.my_grammar.proofs.Cutting.Fronts.{takes_whole}
 use Rattle.my_reading.specs.declared.call.CallKind.{CallKind}
-use Rattle.my_reading.specs.declared.call.CallKind.TheVariants.{Connect, Query, NextRow, DropResult, TakeSet, SkipTaken, Ping, Quit}
+use Rattle.my_reading.specs.declared.call.CallKind.TheVariants.{Connect, Query, Prepare, Execute, CloseStmt, NextRow, DropResult, TakeSet, SkipTaken, Ping, Quit}
 use Rattle.my_session.specs.declared.task.LinkFault.{LinkFault}
 use Rattle.my_session.specs.declared.task.Task.{Task}
-use Rattle.my_session.specs.declared.task.Task.TheVariants.{Nothing, Begun, Cleaning, Own, Arranging, Reading, Dropping, Taking, Skipping, Leaving, Failing}
+use Rattle.my_session.specs.declared.task.Task.TheVariants.{Nothing, Begun, Cleaning, Own, Giving, Arranging, Reading, Dropping, Taking, Skipping, Leaving, Failing}
 use Rattle.my_reading.specs.declared.error.Error.{Error}
 use Rattle.my_reading.specs.declared.error.Error.TheVariants as errors
 use Rattle.my_session.specs.declared.tables.Plan.{Plan}
@@ -28,16 +39,16 @@ use Rattle.my_session.specs.declared.tables.Reaction.{Reaction}
 use Rattle.my_session.specs.declared.tables.Reaction.TheVariants as reactions
 use Rattle.my_session.specs.declared.answer.Tick.{Tick}
 use Rattle.my_session.specs.declared.answer.Tick.TheVariants as ticks
-use Rattle.my_reading.specs.Calls.{call_of}
+use Rattle.my_reading.specs.Calls.{call_of, id_in, params_in, statement_in, text_in}
 use Rattle.my_session.specs.Tasks.{is_open, fault_in}
-use Rattle.my_reading.specs.Commands.{command_of, query_of, arranging_texts, command_in}
+use Rattle.my_reading.specs.Commands.{arranging, arranging_texts, closing, command_of, execution}
 use Rattle.my_reading.specs.Errors.{invalid_data, unexpected_eof}
 use Rattle.my_session.specs.Machine as machine
-use Rattle.my_session.specs.Machine.{Move, Doing, Goes, Sends, Needs, Tells, Did, Does, FaultIs, fell, with_task, advanced, reply_to, above, unless_above, refused, gave, passed, reacted, read_by, read_kind, reading, next_terms, asked, arranged, planned, when_owed, next_by, next, doing}
+use Rattle.my_session.specs.Machine.{Move, Doing, Goes, Sends, Needs, Tells, Did, Does, FaultIs, fell, with_task, advanced, reply_to, above, unless_above, refused, gave, passed, reacted, read_by, read_kind, reading, next_terms, unless_exceeds, unless_refused, refusal, is_doubled, looked, with_kept, kept, asked, arranged, planned, when_owed, next_by, next, doing}
 use Rattle.my_reading.specs.Rows.{row_at}
 use Rattle.my_session.specs.Seen.{Seen}
 use Rattle.my_session.specs.Steps.{rank, left_to_do, TickIs}
-use Rattle.my_session.specs.Tables.{plan_of, react, react_whole, react_connect, react_query, react_ping, react_own, is_breaking, is_connecting, first_task, clean_plan, own_plan, query_plan, read_plan, drop_plan, take_plan, skip_plan}
+use Rattle.my_session.specs.Tables.{plan_of, react, react_whole, react_connect, react_query, react_ping, react_own, is_breaking, is_connecting, first_plan, clean_plan, own_plan, query_plan, execute_plan, prepare_plan, read_plan, drop_plan, take_plan, skip_plan}
 
 -- what a move leaves
 abbrev pub MoveIs : Seen → Seen → Doing → Type 0
@@ -66,19 +77,19 @@ connect_goes kinds.Parameter = tt
 connect_goes kinds.Field = tt
 connect_goes kinds.Bad = tt
 
-query_goes : (k : Kind) → GoesOn (react_query k)
-query_goes (kinds.Greets n) = tt
-query_goes (kinds.Good status) = tt
-query_goes kinds.Failed = tt
-query_goes (kinds.Count n) = (refl, omega arith)
-query_goes kinds.Column = (refl, omega arith)
-query_goes kinds.ColumnsDone = (refl, omega arith)
-query_goes kinds.Row = tt
-query_goes (kinds.End status) = tt
-query_goes (kinds.Prepared params columns) = (refl, omega arith)
-query_goes kinds.Parameter = (refl, omega arith)
-query_goes kinds.Field = (refl, omega arith)
-query_goes kinds.Bad = tt
+query_goes : (c : CallKind) (k : Kind) → GoesOn (react_query c k)
+query_goes c (kinds.Greets n) = tt
+query_goes c (kinds.Good status) = tt
+query_goes c kinds.Failed = tt
+query_goes c (kinds.Count n) = (refl, omega arith)
+query_goes c kinds.Column = (refl, omega arith)
+query_goes c kinds.ColumnsDone = (refl, omega arith)
+query_goes c kinds.Row = tt
+query_goes c (kinds.End status) = tt
+query_goes c (kinds.Prepared params columns) = (refl, omega arith)
+query_goes c kinds.Parameter = (refl, omega arith)
+query_goes c kinds.Field = (refl, omega arith)
+query_goes c kinds.Bad = tt
 
 ping_goes : (k : Kind) → GoesOn (react_ping k)
 ping_goes (kinds.Greets n) = tt
@@ -94,16 +105,6 @@ ping_goes kinds.Parameter = tt
 ping_goes kinds.Field = tt
 ping_goes kinds.Bad = tt
 
-own_goes : (c : CallKind) (k : Kind) → GoesOn (react_own c k)
-own_goes Connect k = connect_goes k
-own_goes Query k = query_goes k
-own_goes NextRow k = tt
-own_goes DropResult k = tt
-own_goes TakeSet k = tt
-own_goes SkipTaken k = tt
-own_goes Ping k = ping_goes k
-own_goes Quit k = tt
-
 whole_goes : (t : Task) → is_open t ≡ true → rank t false ≤ 1 → (k : Kind) → GoesOn (react_whole t k)
 whole_goes t op low (kinds.Greets n) = tt
 whole_goes t op low (kinds.Good status) = (op, low)
@@ -118,11 +119,25 @@ whole_goes t op low kinds.Parameter = (op, low)
 whole_goes t op low kinds.Field = (op, low)
 whole_goes t op low kinds.Bad = tt
 
+own_goes : (c : CallKind) (k : Kind) → GoesOn (react_own c k)
+own_goes Connect k = connect_goes k
+own_goes Query k = query_goes Query k
+own_goes Prepare k = whole_goes (Own Prepare) refl (omega arith) k
+own_goes Execute k = query_goes Execute k
+own_goes CloseStmt k = tt
+own_goes NextRow k = tt
+own_goes DropResult k = tt
+own_goes TakeSet k = tt
+own_goes SkipTaken k = tt
+own_goes Ping k = ping_goes k
+own_goes Quit k = tt
+
 react_goes : (t : Task) (k : Kind) → GoesOn (react t k)
 react_goes Nothing k = tt
 react_goes (Begun c) k = tt
 react_goes (Cleaning c) k = whole_goes (Cleaning c) refl (omega arith) k
 react_goes (Own c) k = own_goes c k
+react_goes Giving k = tt
 react_goes (Arranging n) k = whole_goes (Arranging n) refl (omega arith) k
 react_goes Reading (kinds.Greets n) = tt
 react_goes Reading (kinds.Good status) = tt
@@ -180,6 +195,7 @@ rank_false Nothing untold = omega arith
 rank_false (Begun c) untold = omega arith
 rank_false (Cleaning c) untold = omega arith
 rank_false (Own c) untold = omega arith
+rank_false Giving untold = omega arith
 rank_false (Arranging n) untold = omega arith
 rank_false Reading untold = omega arith
 rank_false Dropping untold = omega arith
@@ -249,13 +265,17 @@ waiting_is s false e op none at = (op, none, e, at)
 front_is : (s : Seen) (f : Front) → is_open s.task ≡ true → s.owed ≡ [] → front_at s.number s.context.terms.limit s.unread ≡ f → MoveIs s (reading s f).seen (reading s f).does
 front_is s Waiting op none at = waiting_is s s.ended refl op none at
 front_is s (Broken fault) op none at = refl
-front_is s (Whole p rest next) op none at = kind_is s p rest next (kind_there s.context s.facts.columns p) (is_breaking (react s.task (kind_there s.context s.facts.columns p))) op (takes_whole s.number s.context.terms.limit s.unread p rest next at).shorter
+front_is s (Whole p rest next) op none at = kind_is s p rest next (kind_there s.context s.facts.columns p) (is_breaking (react s.task (kind_there s.context s.facts.columns p)) || is_doubled s.statements (kind_there s.context s.facts.columns p) p) op (takes_whole s.number s.context.terms.limit s.unread p rest next at).shorter
 
 -- the plans that fit a task
 abbrev FitsTask : Task → Bool → Plan → Type 0
 FitsTask t untold (plans.Starts u) = (is_open u ≡ true) × (rank u untold < rank t untold)
 FitsTask t untold plans.Hears = rank t false < rank t untold
 FitsTask t untold plans.Passes = rank t false < rank t untold
+FitsTask t untold plans.Finds = rank (Cleaning Prepare) untold < rank t untold
+FitsTask t untold plans.Checks = rank (Cleaning Execute) untold < rank t untold
+FitsTask t untold plans.Forgets = rank (Cleaning CloseStmt) untold < rank t untold
+FitsTask t untold plans.Keeps = rank Giving false < rank t untold
 FitsTask t untold p = Unit {0}
 
 -- a payload's packets are some bytes
@@ -267,31 +287,66 @@ pub some_bytes : (p : List ℕ) (n : ℕ) → chunks p n ≢ []
 unfolding chunks parts_of
 some_bytes p n e = some_parts (length p / full_length) p n e
 
-begins_if : (s : Seen) (u : Task) (talk : Talk) (long : Bool) → s.owed ≡ [] → is_open u ≡ true → client_bytes (turns talk) ≢ [] → MoveIs s (cond long (machine.too_large s s.facts.settings.limit (length (command_in talk))) (record { seen = machine.queued s u talk; does = Sends })).seen (cond long (machine.too_large s s.facts.settings.limit (length (command_in talk))) (record { seen = machine.queued s u talk; does = Sends })).does
-begins_if s u talk true none op some = refl
-begins_if s u talk false none op some = (op, λ e. some (sym (ap (λ bs. bs ++ client_bytes (turns talk)) none) ∙ e))
+-- and so are those after others
+some_after : (bytes p : List ℕ) (n : ℕ) → bytes ++ chunks p n ≢ []
+some_after [] p n e = some_bytes p n e
+some_after (b ∷ bytes) p n e = cc
 
-asked_is : (s : Seen) (c : CallKind) (text : List ℕ) → s.owed ≡ [] → MoveIs s (asked s c (command_of (next_terms s) (call_of c text))).seen (asked s c (command_of (next_terms s) (call_of c text))).does
-asked_is s Connect text none = refl
-asked_is s Query text none = begins_if s (Own Query) (Queried (next_terms s) (packet_bytes (packets.Query text)) (NoSets ByText)) _ none refl (some_bytes (packet_bytes (packets.Query text)) 0)
-asked_is s NextRow text none = refl
-asked_is s DropResult text none = refl
-asked_is s TakeSet text none = refl
-asked_is s SkipTaken text none = refl
-asked_is s Ping text none = begins_if s (Own Ping) (Asked (next_terms s) (packet_bytes packets.Ping)) _ none refl (some_bytes (packet_bytes packets.Ping) 0)
-asked_is s Quit text none = begins_if s (Own Quit) (Silent (next_terms s) (packet_bytes packets.Quit)) _ none refl (some_bytes (packet_bytes packets.Quit) 0)
+-- what a client says when an execution begins is some bytes
+pub some_execution : (terms : Terms) (ahead : List (List ℕ)) (known : List Column) (body : List ℕ) → client_bytes (turns (Queried terms body (NoSets (ByStatement ahead known)))) ≢ []
+some_execution terms ahead known body = some_after (client_bytes (sent_ahead ahead [])) body 0
 
-arranged_is : (s : Seen) (n : ℕ) (text : Option (List ℕ)) → s.owed ≡ [] → MoveIs s (arranged s n (query_of (next_terms s) text)).seen (arranged s n (query_of (next_terms s) text)).does
+begins_if : (old s : Seen) (u : Task) (talk : Talk) (long : Option ℕ) → s.owed ≡ [] → is_open u ≡ true → client_bytes (turns talk) ≢ [] → MoveIs old (unless_exceeds s long (record { seen = machine.queued s u talk; does = Sends })).seen (unless_exceeds s long (record { seen = machine.queued s u talk; does = Sends })).does
+begins_if old s u talk (Some len) none op some = refl
+begins_if old s u talk None none op some = (op, λ e. some (sym (ap (λ bs. bs ++ client_bytes (turns talk)) none) ∙ e))
+
+executed_is : (s : Seen) (id : ℕ) (v : Values) → s.owed ≡ [] → MoveIs s (asked s Execute (execution (next_terms s) s.statements id v)).seen (asked s Execute (execution (next_terms s) s.statements id v)).does
+executed_is s id (Fitting values) none = begins_if s s (Own Execute) (Queried (next_terms s) (body_of id values) (NoSets (ByStatement (ahead_of id values) (known_in s.statements id)))) _ none refl (some_execution (next_terms s) (ahead_of id values) (known_in s.statements id) (body_of id values))
+executed_is s id (Unfitting e) none = refl
+
+asked_is : (s : Seen) (c : CallKind) (call : Call) → s.owed ≡ [] → MoveIs s (asked s c (command_of (next_terms s) s.statements (call_of c call))).seen (asked s c (command_of (next_terms s) s.statements (call_of c call))).does
+asked_is s Connect call none = refl
+asked_is s Query call none = begins_if s s (Own Query) (Queried (next_terms s) (packet_bytes (packets.Query (text_in call))) (NoSets ByText)) _ none refl (some_bytes (packet_bytes (packets.Query (text_in call))) 0)
+asked_is s Prepare call none = begins_if s s (Own Prepare) (Preparing (next_terms s) (packet_bytes (packets.Prepare (query_of (text_in call)))) Unanswered) _ none refl (some_bytes (packet_bytes (packets.Prepare (query_of (text_in call)))) 0)
+asked_is s Execute call none = executed_is s (statement_in call).inner.id (values_for (statement_in call) (params_in call)) none
+asked_is s CloseStmt call none = begins_if s s (Own CloseStmt) (closing (next_terms s) (id_in call)) _ none refl (some_bytes (packet_bytes (packets.CloseStatement (id_in call))) 0)
+asked_is s NextRow call none = refl
+asked_is s DropResult call none = refl
+asked_is s TakeSet call none = refl
+asked_is s SkipTaken call none = refl
+asked_is s Ping call none = begins_if s s (Own Ping) (Asked (next_terms s) (packet_bytes packets.Ping)) _ none refl (some_bytes (packet_bytes packets.Ping) 0)
+asked_is s Quit call none = begins_if s s (Own Quit) (Silent (next_terms s) (packet_bytes packets.Quit)) _ none refl (some_bytes (packet_bytes packets.Quit) 0)
+
+arranged_is : (s : Seen) (n : ℕ) (text : Option (List ℕ)) → s.owed ≡ [] → MoveIs s (arranged s n (arranging (next_terms s) text)).seen (arranged s n (arranging (next_terms s) text)).does
 arranged_is s n None none = refl
-arranged_is s n (Some text) none = begins_if s (Arranging (suc n)) (Queried (next_terms s) (packet_bytes (packets.Query text)) (NoSets ByText)) _ none refl (some_bytes (packet_bytes (packets.Query text)) 0)
+arranged_is s n (Some text) none = begins_if s s (Arranging (suc n)) (Queried (next_terms s) (packet_bytes (packets.Query text)) (NoSets ByText)) _ none refl (some_bytes (packet_bytes (packets.Query text)) 0)
+
+unless_refused_is : (s : Seen) (e : Option DriverError) (m : Move) → MoveIs s m.seen m.does → MoveIs s (unless_refused s e m).seen (unless_refused s e m).does
+unless_refused_is s None m i = i
+unless_refused_is s (Some e) m i = refl
+
+looked_is : (s : Seen) (mixed : Bool) (o : Option Held) → rank (Cleaning Prepare) s.untold < rank s.task s.untold → MoveIs s (looked s mixed o).seen (looked s mixed o).does
+looked_is s true o less = refl
+looked_is s false None less = (refl, omega arith)
+looked_is s false (Some h) less = refl
+
+kept_is : (s : Seen) (o : Option ℕ) → s.owed ≡ [] → rank Giving false < rank s.task s.untold → MoveIs s (kept (with_kept s) o).seen (kept (with_kept s) o).does
+kept_is s None none less = (refl, omega arith)
+kept_is s (Some id) none less = begins_if s (with_kept s) Giving (closing (next_terms s) id) _ none refl (some_bytes (packet_bytes (packets.CloseStatement id)) 0)
 
 plan_is : (s : Seen) (plan : Plan) → is_open s.task ≡ true → s.owed ≡ [] → FitsTask s.task s.untold plan → MoveIs s (planned s plan).seen (planned s plan).does
 plan_is s plans.Reads op none f = front_is s _ op none refl
 plan_is s (plans.Starts u) op none f = let less = f.1 in (f.0, omega arith)
 plan_is s plans.Hears op none f = (op, omega arith)
-plan_is s (plans.Asks c) op none f = asked_is s c s.text none
+plan_is s plans.Finds op none f = looked_is s (is_mixed_text (text_in s.call)) (held_in s.statements (query_of (text_in s.call))) f
+plan_is s plans.Checks op none f = unless_refused_is s (refusal Execute s.call) (record { seen = with_task s (Cleaning Execute) s.untold; does = Goes }) (refl, omega (arith, f))
+plan_is s plans.Forgets op none f = (refl, omega (arith, f))
+plan_is s (plans.Asks c) op none f = unless_refused_is s (refusal c s.call) (asked s c (command_of (next_terms s) s.statements (call_of c s.call))) (asked_is s c s.call none)
 plan_is s (plans.Arranges n) op none f = arranged_is s n (slice_get (arranging_texts s.login) n) none
 plan_is s plans.Readies op none f = refl
+plan_is s plans.Learns op none f = refl
+plan_is s plans.Keeps op none f = kept_is s (leaving (query_of (text_in s.call)) (prepared_by s.facts) s.statements) none f
+plan_is s plans.Gives op none f = refl
 plan_is s plans.Takes op none f = refl
 plan_is s plans.Quits op none f = refl
 plan_is s plans.Passes op none f = (op, omega arith)
@@ -328,9 +383,12 @@ rank_skipping : (untold : Bool) → rank Skipping untold < 3
 rank_skipping true = omega arith
 rank_skipping false = omega arith
 
-first_fits : (c : CallKind) (untold : Bool) → FitsTask (Begun c) untold (plans.Starts (first_task c))
+first_fits : (c : CallKind) (untold : Bool) → FitsTask (Begun c) untold (first_plan c)
 first_fits Connect untold = (refl, omega arith)
 first_fits Query untold = (refl, rank_cleaning Query untold)
+first_fits Prepare untold = rank_cleaning Prepare untold
+first_fits Execute untold = rank_cleaning Execute untold
+first_fits CloseStmt untold = rank_cleaning CloseStmt untold
 first_fits NextRow untold = (refl, omega arith)
 first_fits DropResult untold = (refl, rank_dropping untold)
 first_fits TakeSet untold = (refl, omega arith)
@@ -354,9 +412,44 @@ query_fits (spots.ParametersEnd columns) untold = tt
 query_fits (spots.Fields left) untold = tt
 query_fits spots.FieldsEnd untold = tt
 
+execute_fits : (spot : Spot) (untold : Bool) → FitsTask (Own Execute) untold (execute_plan spot)
+execute_fits spots.Idle untold = tt
+execute_fits spots.Greeting untold = tt
+execute_fits spots.Authentication untold = tt
+execute_fits spots.Single untold = tt
+execute_fits spots.Head untold = tt
+execute_fits spots.Further untold = tt
+execute_fits (spots.Columns left) untold = tt
+execute_fits spots.ColumnsEnd untold = tt
+execute_fits spots.Rows untold = tt
+execute_fits spots.Prepare untold = tt
+execute_fits (spots.Parameters left columns) untold = tt
+execute_fits (spots.ParametersEnd columns) untold = tt
+execute_fits (spots.Fields left) untold = tt
+execute_fits spots.FieldsEnd untold = tt
+
+prepare_fits : (spot : Spot) (untold : Bool) → FitsTask (Own Prepare) untold (prepare_plan spot)
+prepare_fits spots.Idle untold = omega arith
+prepare_fits spots.Greeting untold = tt
+prepare_fits spots.Authentication untold = tt
+prepare_fits spots.Single untold = tt
+prepare_fits spots.Head untold = tt
+prepare_fits spots.Further untold = tt
+prepare_fits (spots.Columns left) untold = tt
+prepare_fits spots.ColumnsEnd untold = tt
+prepare_fits spots.Rows untold = tt
+prepare_fits spots.Prepare untold = tt
+prepare_fits (spots.Parameters left columns) untold = tt
+prepare_fits (spots.ParametersEnd columns) untold = tt
+prepare_fits (spots.Fields left) untold = tt
+prepare_fits spots.FieldsEnd untold = tt
+
 own_fits : (c : CallKind) (spot : Spot) (untold : Bool) → FitsTask (Own c) untold (own_plan c spot)
 own_fits Connect spot untold = tt
 own_fits Query spot untold = query_fits spot untold
+own_fits Prepare spot untold = prepare_fits spot untold
+own_fits Execute spot untold = execute_fits spot untold
+own_fits CloseStmt spot untold = tt
 own_fits NextRow spot untold = tt
 own_fits DropResult spot untold = tt
 own_fits TakeSet spot untold = tt
@@ -433,6 +526,7 @@ plan_fits Nothing spot untold = tt
 plan_fits (Begun c) spot untold = first_fits c untold
 plan_fits (Cleaning c) spot untold = cleaning_fits (Cleaning c) (plans.Asks c) (omega arith) tt spot untold
 plan_fits (Own c) spot untold = own_fits c spot untold
+plan_fits Giving spot untold = tt
 plan_fits (Arranging n) spot untold = cleaning_fits (Arranging n) (plans.Arranges n) (omega arith) tt spot untold
 plan_fits Reading spot true = tt
 plan_fits Reading spot false = read_fits spot

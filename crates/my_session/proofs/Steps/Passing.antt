@@ -1,5 +1,5 @@
 -- Moves that go on are of one call, and only calls that pass over sets pass over anything.
-use Rattle.std.proofs.Common.{◌≡◌, ◌⊎◌, inl, inr, ℕ, suc, List, [], ◌∷◌, length, Bool, true, false, cond, Option, Some, None, refl, sym, ap, ◌∙◌, subst}
+use Rattle.std.proofs.Common.{◌≡◌, ◌⊎◌, inl, inr, ℕ, suc, List, [], ◌∷◌, ◌||◌, Bool, true, false, cond, Option, Some, None, refl, sym, ap, ◌∙◌, subst}
 use Rattle.my_frame.specs.Front.{Front, Waiting, Broken, Whole}
 use Rattle.my_value.specs.RowParts.{RowParts}
 use Rattle.my_reply.specs.declared.err.ErrPacket.{ErrPacket}
@@ -10,10 +10,10 @@ use Rattle.my_grammar.specs.declared.spot.Kind.TheVariants as kinds
 use Rattle.my_grammar.specs.Kinds.{kind_there}
 use Rattle.my_grammar.specs.Talk.{Talk}
 use Rattle.my_reading.specs.declared.call.CallKind.{CallKind}
-use Rattle.my_reading.specs.declared.call.CallKind.TheVariants.{Connect, Query, NextRow, DropResult, TakeSet, SkipTaken, Ping, Quit}
+use Rattle.my_reading.specs.declared.call.CallKind.TheVariants.{Connect, Query, Prepare, Execute, CloseStmt, NextRow, DropResult, TakeSet, SkipTaken, Ping, Quit}
 use Rattle.my_session.specs.declared.task.LinkFault.{LinkFault}
 use Rattle.my_session.specs.declared.task.Task.{Task}
-use Rattle.my_session.specs.declared.task.Task.TheVariants.{Nothing, Begun, Cleaning, Own, Arranging, Reading, Dropping, Taking, Skipping, Leaving, Failing}
+use Rattle.my_session.specs.declared.task.Task.TheVariants.{Nothing, Begun, Cleaning, Own, Giving, Arranging, Reading, Dropping, Taking, Skipping, Leaving, Failing}
 use Rattle.my_session.specs.declared.tables.Plan.{Plan}
 use Rattle.my_session.specs.declared.tables.Plan.TheVariants as plans
 use Rattle.my_session.specs.declared.tables.Reaction.{Reaction}
@@ -23,15 +23,20 @@ use Rattle.my_reading.specs.declared.error.Error.TheVariants as errors
 use Rattle.my_session.specs.declared.answer.Tick.{Tick}
 use Rattle.my_session.specs.declared.answer.Tick.TheVariants as ticks
 use Rattle.my_session.specs.Tasks.{kind_in, fault_in}
-use Rattle.my_reading.specs.Commands.{command_in}
+use Rattle.my_statements.specs.Cache.{Held}
+use Rattle.my_reading.specs.declared.error.DriverError.{DriverError}
+use Rattle.my_reading.specs.Calls.{call_of, text_in}
+use Rattle.my_reading.specs.Commands.{closing, command_of, connecting}
+use Rattle.my_reading.specs.Facts.{prepared_by}
+use Rattle.my_reading.specs.Statements.{held_in, is_mixed_text, leaving, query_of}
 use Rattle.my_reading.specs.Errors.{invalid_data, unexpected_eof}
 use Rattle.my_session.specs.Machine as machine
-use Rattle.my_session.specs.Machine.{Move, Doing, Goes, Sends, Needs, Tells, Did, Does, FaultIs, advanced, reply_to, above, unless_above, refused, gave, passed, reacted, read_by, reading, asked, arranged, planned, when_owed, next_by, next, doing}
+use Rattle.my_session.specs.Machine.{Move, Doing, Goes, Sends, Needs, Tells, Did, Does, FaultIs, advanced, reply_to, above, unless_above, refused, gave, passed, reacted, read_by, reading, next_terms, unless_exceeds, unless_refused, refusal, is_doubled, looked, with_kept, kept, asked, arranged, planned, when_owed, next_by, next, doing}
 use Rattle.my_session.specs.Passed.{IsItem, is_passing}
 use Rattle.my_reading.specs.Rows.{row_at}
 use Rattle.my_session.specs.Seen.{Seen}
 use Rattle.my_session.specs.Steps.{goes_on}
-use Rattle.my_session.specs.Tables.{plan_of, react, react_whole, react_connect, react_query, react_ping, react_own, is_breaking, is_connecting, first_task, clean_plan, own_plan, query_plan, read_plan, drop_plan, take_plan, skip_plan}
+use Rattle.my_session.specs.Tables.{plan_of, react, react_whole, react_connect, react_query, react_ping, react_own, is_breaking, is_connecting, first_plan, clean_plan, own_plan, query_plan, execute_plan, prepare_plan, read_plan, drop_plan, take_plan, skip_plan}
 
 -- A move that goes on stays with the call, which wasn't made to fail, and passes over a row or an end only for a call that does.
 abbrev pub MovesOn : Option CallKind → Seen → Doing → Type 0
@@ -62,19 +67,19 @@ connect_stays kinds.Parameter = tt
 connect_stays kinds.Field = tt
 connect_stays kinds.Bad = tt
 
-query_stays : (k : Kind) → StaysIn (Some Query) (react_query k)
-query_stays (kinds.Greets n) = tt
-query_stays (kinds.Good status) = tt
-query_stays kinds.Failed = tt
-query_stays (kinds.Count n) = (refl, refl)
-query_stays kinds.Column = (refl, refl)
-query_stays kinds.ColumnsDone = (refl, refl)
-query_stays kinds.Row = tt
-query_stays (kinds.End status) = tt
-query_stays (kinds.Prepared params columns) = (refl, refl)
-query_stays kinds.Parameter = (refl, refl)
-query_stays kinds.Field = (refl, refl)
-query_stays kinds.Bad = tt
+query_stays : (c : CallKind) (k : Kind) → StaysIn (Some c) (react_query c k)
+query_stays c (kinds.Greets n) = tt
+query_stays c (kinds.Good status) = tt
+query_stays c kinds.Failed = tt
+query_stays c (kinds.Count n) = (refl, refl)
+query_stays c kinds.Column = (refl, refl)
+query_stays c kinds.ColumnsDone = (refl, refl)
+query_stays c kinds.Row = tt
+query_stays c (kinds.End status) = tt
+query_stays c (kinds.Prepared params columns) = (refl, refl)
+query_stays c kinds.Parameter = (refl, refl)
+query_stays c kinds.Field = (refl, refl)
+query_stays c kinds.Bad = tt
 
 ping_stays : (k : Kind) → StaysIn (Some Ping) (react_ping k)
 ping_stays (kinds.Greets n) = tt
@@ -90,16 +95,6 @@ ping_stays kinds.Parameter = tt
 ping_stays kinds.Field = tt
 ping_stays kinds.Bad = tt
 
-own_stays : (c : CallKind) (k : Kind) → StaysIn (Some c) (react_own c k)
-own_stays Connect k = connect_stays k
-own_stays Query k = query_stays k
-own_stays NextRow k = tt
-own_stays DropResult k = tt
-own_stays TakeSet k = tt
-own_stays SkipTaken k = tt
-own_stays Ping k = ping_stays k
-own_stays Quit k = tt
-
 whole_stays : (t : Task) → fault_in t ≡ None → (k : Kind) → StaysIn (kind_in t) (react_whole t k)
 whole_stays t sound (kinds.Greets n) = tt
 whole_stays t sound (kinds.Good status) = (refl, sound)
@@ -114,11 +109,25 @@ whole_stays t sound kinds.Parameter = (refl, sound)
 whole_stays t sound kinds.Field = (refl, sound)
 whole_stays t sound kinds.Bad = tt
 
+own_stays : (c : CallKind) (k : Kind) → StaysIn (Some c) (react_own c k)
+own_stays Connect k = connect_stays k
+own_stays Query k = query_stays Query k
+own_stays Prepare k = whole_stays (Own Prepare) refl k
+own_stays Execute k = query_stays Execute k
+own_stays CloseStmt k = tt
+own_stays NextRow k = tt
+own_stays DropResult k = tt
+own_stays TakeSet k = tt
+own_stays SkipTaken k = tt
+own_stays Ping k = ping_stays k
+own_stays Quit k = tt
+
 react_stays : (t : Task) (k : Kind) → StaysIn (kind_in t) (react t k)
 react_stays Nothing k = tt
 react_stays (Begun c) k = tt
 react_stays (Cleaning c) k = whole_stays (Cleaning c) refl k
 react_stays (Own c) k = own_stays c k
+react_stays Giving k = tt
 react_stays (Arranging n) k = whole_stays (Arranging n) refl k
 react_stays Reading (kinds.Greets n) = tt
 react_stays Reading (kinds.Good status) = tt
@@ -175,11 +184,18 @@ react_stays (Failing c fault) k = tt
 abbrev Suits : Option CallKind → Plan → Type 0
 Suits kind (plans.Starts u) = (kind_in u ≡ kind) × (fault_in u ≡ None)
 Suits kind plans.Passes = is_passing kind ≡ true
+Suits kind plans.Finds = Some Prepare ≡ kind
+Suits kind plans.Checks = Some Execute ≡ kind
+Suits kind plans.Forgets = Some CloseStmt ≡ kind
+Suits kind plans.Keeps = Some Prepare ≡ kind
 Suits kind p = Unit {0}
 
-first_suits : (c : CallKind) → (kind_in (first_task c) ≡ Some c) × (fault_in (first_task c) ≡ None)
+first_suits : (c : CallKind) → Suits (Some c) (first_plan c)
 first_suits Connect = (refl, refl)
 first_suits Query = (refl, refl)
+first_suits Prepare = refl
+first_suits Execute = refl
+first_suits CloseStmt = refl
 first_suits NextRow = (refl, refl)
 first_suits DropResult = (refl, refl)
 first_suits TakeSet = (refl, refl)
@@ -220,9 +236,44 @@ query_suits (spots.ParametersEnd columns) = tt
 query_suits (spots.Fields left) = tt
 query_suits spots.FieldsEnd = tt
 
+execute_suits : (spot : Spot) → Suits (Some Execute) (execute_plan spot)
+execute_suits spots.Idle = tt
+execute_suits spots.Greeting = tt
+execute_suits spots.Authentication = tt
+execute_suits spots.Single = tt
+execute_suits spots.Head = tt
+execute_suits spots.Further = tt
+execute_suits (spots.Columns left) = tt
+execute_suits spots.ColumnsEnd = tt
+execute_suits spots.Rows = tt
+execute_suits spots.Prepare = tt
+execute_suits (spots.Parameters left columns) = tt
+execute_suits (spots.ParametersEnd columns) = tt
+execute_suits (spots.Fields left) = tt
+execute_suits spots.FieldsEnd = tt
+
+prepare_suits : (spot : Spot) → Suits (Some Prepare) (prepare_plan spot)
+prepare_suits spots.Idle = refl
+prepare_suits spots.Greeting = tt
+prepare_suits spots.Authentication = tt
+prepare_suits spots.Single = tt
+prepare_suits spots.Head = tt
+prepare_suits spots.Further = tt
+prepare_suits (spots.Columns left) = tt
+prepare_suits spots.ColumnsEnd = tt
+prepare_suits spots.Rows = tt
+prepare_suits spots.Prepare = tt
+prepare_suits (spots.Parameters left columns) = tt
+prepare_suits (spots.ParametersEnd columns) = tt
+prepare_suits (spots.Fields left) = tt
+prepare_suits spots.FieldsEnd = tt
+
 own_suits : (c : CallKind) (spot : Spot) → Suits (Some c) (own_plan c spot)
 own_suits Connect spot = tt
 own_suits Query spot = query_suits spot
+own_suits Prepare spot = prepare_suits spot
+own_suits Execute spot = execute_suits spot
+own_suits CloseStmt spot = tt
 own_suits NextRow spot = tt
 own_suits DropResult spot = tt
 own_suits TakeSet spot = tt
@@ -299,6 +350,7 @@ plan_suits Nothing spot untold = tt
 plan_suits (Begun c) spot untold = first_suits c
 plan_suits (Cleaning c) spot untold = cleaning_suits (Some c) (plans.Asks c) tt spot untold
 plan_suits (Own c) spot untold = own_suits c spot
+plan_suits Giving spot untold = tt
 plan_suits (Arranging n) spot untold = cleaning_suits (Some Connect) (plans.Arranges n) tt spot untold
 plan_suits Reading spot true = tt
 plan_suits Reading spot false = read_suits spot
@@ -365,27 +417,46 @@ module _ (s : Seen) (sound : fault_in s.task ≡ None) where
   front_stays : (f : Front) → Stays (reading s f)
   front_stays Waiting = waiting_stays s.ended
   front_stays (Broken fault) = (tt, refl)
-  front_stays (Whole p rest next) = kind_stays p rest next (kind_there s.context s.facts.columns p) (is_breaking (react s.task (kind_there s.context s.facts.columns p)))
+  front_stays (Whole p rest next) = kind_stays p rest next (kind_there s.context s.facts.columns p) (is_breaking (react s.task (kind_there s.context s.facts.columns p)) || is_doubled s.statements (kind_there s.context s.facts.columns p) p)
 
-  begins_if : (u : Task) (talk : Talk) (long : Bool) → Stays (cond long (machine.too_large s s.facts.settings.limit (length (command_in talk))) (record { seen = machine.queued s u talk; does = Sends }))
-  begins_if u talk true = (tt, refl)
-  begins_if u talk false = (tt, refl)
+  begins_if : (n : Seen) (u : Task) (talk : Talk) (long : Option ℕ) → n.login ≡ s.login → Stays (unless_exceeds n long (record { seen = machine.queued n u talk; does = Sends }))
+  begins_if n u talk (Some len) same = (tt, same)
+  begins_if n u talk None same = (tt, same)
 
   asked_stays : (c : CallKind) (talk : Option Talk) → Stays (asked s c talk)
   asked_stays c None = (tt, refl)
-  asked_stays c (Some talk) = begins_if (Own c) talk _
+  asked_stays c (Some talk) = begins_if s (Own c) talk _ refl
 
   arranged_stays : (n : ℕ) (talk : Option Talk) → Stays (arranged s n talk)
   arranged_stays n None = (tt, refl)
-  arranged_stays n (Some talk) = begins_if (Arranging (suc n)) talk _
+  arranged_stays n (Some talk) = begins_if s (Arranging (suc n)) talk _ refl
+
+  unless_refused_stays : (e : Option DriverError) (m : Move) → Stays m → Stays (unless_refused s e m)
+  unless_refused_stays None m i = i
+  unless_refused_stays (Some e) m i = (tt, refl)
+
+  looked_stays : (mixed : Bool) (o : Option Held) → Some Prepare ≡ kind_in s.task → Stays (looked s mixed o)
+  looked_stays true o i = (tt, refl)
+  looked_stays false None i = ((i, refl), refl)
+  looked_stays false (Some h) i = (tt, refl)
+
+  kept_stays : (o : Option ℕ) → Some Prepare ≡ kind_in s.task → Stays (kept (with_kept s) o)
+  kept_stays None i = ((i, refl), refl)
+  kept_stays (Some id) i = begins_if (with_kept s) Giving (closing (next_terms s) id) _ refl
 
   plan_stays : (plan : Plan) → Suits (kind_in s.task) plan → Stays (planned s plan)
   plan_stays plans.Reads i = front_stays _
   plan_stays (plans.Starts u) i = (i, refl)
   plan_stays plans.Hears i = ((refl, sound), refl)
-  plan_stays (plans.Asks c) i = asked_stays c _
-  plan_stays (plans.Arranges n) i = arranged_stays n _
+  plan_stays plans.Finds i = looked_stays (is_mixed_text (text_in s.call)) (held_in s.statements (query_of (text_in s.call))) i
+  plan_stays plans.Checks i = unless_refused_stays (refusal Execute s.call) (record { seen = machine.with_task s (Cleaning Execute) s.untold; does = Goes }) ((i, refl), refl)
+  plan_stays plans.Forgets i = ((i, refl), refl)
+  plan_stays (plans.Asks c) i = unless_refused_stays (refusal c s.call) (asked s c (command_of (next_terms s) s.statements (call_of c s.call))) (asked_stays c (command_of (next_terms s) s.statements (call_of c s.call)))
+  plan_stays (plans.Arranges n) i = arranged_stays n (connecting s.login (next_terms s) (suc n))
   plan_stays plans.Readies i = (tt, refl)
+  plan_stays plans.Learns i = (tt, refl)
+  plan_stays plans.Keeps i = kept_stays (leaving (query_of (text_in s.call)) (prepared_by s.facts) s.statements) i
+  plan_stays plans.Gives i = (tt, refl)
   plan_stays plans.Takes i = (tt, refl)
   plan_stays plans.Quits i = (tt, refl)
   plan_stays plans.Passes i = ((refl, sound, i, tt), refl)

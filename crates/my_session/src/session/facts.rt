@@ -3,11 +3,14 @@
 ghost use Rattle.std.specs.Prelude.{◌≡◌};
 ghost use Rattle.std.specs.Option.{option_copied};
 ghost use Rattle.my_session.specs.Rest.{has_rest};
+ghost use Rattle.my_statements.specs.Known.{known_of};
 
 use super::Session;
 use my_grammar::Spot;
 use my_opts::Opts;
+use my_reading::SetColumns;
 use my_reply::OkPacket;
+use my_statements::Statement;
 
 impl Session {
     /// The options that it was made with.
@@ -71,6 +74,13 @@ impl Session {
         ensures { option_copied result ≡ self.now.seen.facts.ok }
     {
         self.facts.ok.as_ref()
+    }
+
+    /// The columns of the rows of a prepared statement, where they are known.
+    pub fn columns_of(&self, statement: &Statement) -> Option<&SetColumns>
+        ensures { option_copied result ≡ known_of statement.now.inner.id self.now.seen.statements.known }
+    {
+        self.statements.columns_of(statement.id())
     }
 
     /// Whether the rest of a response is unread: rows, a further set, or the end of a lone OK.

@@ -13,7 +13,7 @@ use crate::task::Task;
 use my_frame::{Blob, CodecError, CodecFault, NoMemory, ReadError, Text};
 use my_grammar::{Kind, Spot, kind_at, login_response};
 use my_reading::{Answer, Error, IoKind, ServerError, read_row};
-use my_reply::{ErrPacket, read_err};
+use my_reply::{ErrPacket, read_err, read_prepare_ok};
 use my_value::Row;
 use std::alloc::Global;
 
@@ -64,7 +64,7 @@ impl Session {
     ghost use Rattle.my_reply.specs.ErrPacket.{err_at};
     ghost use Rattle.my_grammar.specs.Kinds.{kind_there};
     ghost use Rattle.my_session.specs.Found.{IsPlaced, payload_in};
-    ghost use Rattle.my_session.specs.Machine.{Does, IsArrival, Lands, ReadsRow, brought, fell, following, gave, is_greeting, passed, reacted, read_by, read_kind, reading, refused, reply_bytes, reply_number, reply_to, with_task};
+    ghost use Rattle.my_session.specs.Machine.{Does, IsArrival, Lands, ReadsRow, brought, fell, following, gave, is_doubled, is_greeting, passed, reacted, read_by, read_kind, reading, refused, reply_bytes, reply_number, reply_to, with_task};
     ghost use Rattle.my_reading.specs.Rows.{row_at};
 
     // What the client sends at once after the payload.
@@ -323,6 +323,22 @@ impl Session {
         kind_at(self.context, self.facts.columns.as_slice(), payload)
     }
 
+    // Whether the payload is the reply to a statement to prepare that has the id of one that is still cached.
+    fn is_doubled(&self, kind: Kind, found: &FoundPayload) -> bool
+        requires { IsPlaced self.now.seen.unread found.now }
+        ensures { let s = self.now.seen in result ≡ is_doubled s.statements kind (payload_in s.unread found.now) }
+    {
+        match kind {
+            Kind::Prepared { .. } => {
+                match read_prepare_ok(found.in_bytes(self.unread.as_slice())) {
+                    Ok(ok) => self.statements.is_cached(ok.id),
+                    Err(_) => false,
+                }
+            }
+            _ => false,
+        }
+    }
+
     fn read_payload(&mut self, alloc: Global, found: FoundPayload) -> Tick
         requires { IsPlaced self.old.seen.unread found }
         ensures does { let s = self.old.seen in
@@ -334,7 +350,7 @@ impl Session {
     {
         let kind = self.kind_of(&found);
         let reaction = react_to(self.task, kind);
-        if is_breaking(reaction) {
+        if is_breaking(reaction) || self.is_doubled(kind, &found) {
             return self.io_fault(IoKind::InvalidData);
         }
         match self.arrival(alloc, kind, found) {

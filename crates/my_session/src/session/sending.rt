@@ -1,17 +1,23 @@
 //! The commands that a session sends: a call's own, and those that set a connection up once the login is settled.
 
-ghost use Rattle.std.specs.Prelude.{◌≡◌, ◌<◌, ◌-◌, ◌^◌, ◌++◌, IfSome, IfOk, List, reverse, slice_get, suc};
+ghost use Rattle.std.specs.Prelude.{◌≡◌, ◌<◌, ◌-◌, ◌^◌, ◌++◌, ◌∷◌, [], ◌≤◌, IfSome, IfOk, OnErr, OnOk, List, length, reverse, slice_get, suc};
 ghost use Rattle.std.specs.Option.{option_copied};
 ghost use Rattle.my_command.specs.Client.Packet.{PartsFit, client_bytes};
 ghost use Rattle.my_reading.specs.Commands.{arranging_texts, settings_text};
+ghost use Rattle.my_grammar.specs.Talk.{commands_bytes};
+ghost use Rattle.my_reading.specs.Course.{first_above};
 
 use super::Session;
+use super::calling::{executed_id, id_in, text_in, values_in};
+use super::preparing::query_in;
 use crate::answer::Tick;
+use crate::tables::Plan;
 use crate::task::Task;
 use my_command::{ClientPacket, write_client};
 use my_frame::{Blob, CodecFault, NoMemory};
-use my_grammar::{Context, Login, RowFormat, Spot, Terms};
-use my_reading::{Answer, CallKind, Error};
+use my_grammar::{Context, Login, Queue, RowFormat, Spot, Terms};
+use my_reading::{Answer, CallKind, Error, MOST_VALUES, execution};
+use my_value::Value;
 use std::alloc::Global;
 
 // What the server is asked for: the settings that the options leave open.
@@ -52,6 +58,30 @@ fn arranging_text(login: &Login, place: usize) -> Option<&[u8]>
     }
 }
 
+// The length of the first of these payloads that is above the limit, the command last.
+fn length_above(limit: u64, ahead: &[Blob], command: &[u8]) -> Option<u64>
+    ensures { result ≡ first_above limit (ahead.now ++ command.now ∷ []) }
+{
+    for payload in ahead {
+        let length = payload.len() as u64;
+        if length > limit {
+            return Some(length);
+        }
+    }
+    let length = command.len() as u64;
+    if length > limit { Some(length) } else { None }
+}
+
+// Adds the bytes of commands, of each from the sequence id 0.
+fn push_commands(queue: &mut Queue, commands: &[Blob]) -> Result<(), NoMemory>
+    ensures { OnOk result (queue.new ≡ queue.old ++ commands_bytes commands.now) }
+{
+    for command in commands {
+        queue.push_payload(command.as_slice(), 0)?;
+    }
+    Ok(())
+}
+
 // The packet of a query with this text.
 fn query_packet(alloc: Global, text: &[u8]) -> Result<ClientPacket, NoMemory>
     ensures { IfOk result (λ packet. packet ≡ ClientPacket.Query text.now) }
@@ -60,26 +90,47 @@ fn query_packet(alloc: Global, text: &[u8]) -> Result<ClientPacket, NoMemory>
 }
 
 impl Session {
-    ghost use Rattle.my_reading.specs.Calls.{call_of};
-    ghost use Rattle.my_reading.specs.Commands.{command_of, connecting};
-    ghost use Rattle.my_session.specs.Machine.{Does, asked, arranged, commanded, next_terms};
+    ghost use Rattle.my_frame.specs.Chunks.{chunks, number_after_payload};
+    ghost use Rattle.my_reading.specs.Calls.{statement_in};
+    ghost use Rattle.my_reading.specs.Commands.{connecting, execution};
+    ghost use Rattle.my_reading.specs.Executions.{Fitting};
+    ghost use Rattle.my_session.specs.Machine.{Does, asked, arranged, commanded, fell, next_terms, planned};
 
-    // A command's exchange begins.
-    fn queue(&mut self, task: Task, spot: Spot, command: &[u8]) -> Tick
-        ensures does { Does (commanded self.old.seen task spot command.now) self.old.seen self.new.seen result }
+    // The commands are owed; the next sequence id is returned. Where it fails, the caller closes the session.
+    fn owe_commands(&mut self, ahead: &[Blob], command: &[u8]) -> Result<u8, NoMemory>
+        ensures number { IfOk result (λ number. number ≡ number_after_payload command.now 0) }
+        ensures ok { let s = self.old.seen in
+            OnOk result (self.new.seen ≡ record s { owed = s.owed ++ (commands_bytes ahead.now ++ chunks command.now 0) }) }
+        ensures err { OnErr result (fell self.new.seen ≡ fell self.old.seen) }
+        ensures lifetime { self.new.lifetime ≡ self.old.lifetime }
+    {
+        push_commands(&mut self.owed, ahead)?;
+        self.owed.push_payload(command, 0)
+    }
+
+    // A command's exchange begins, after others that have no reply.
+    fn queue(
+        &mut self,
+        task: Task,
+        spot: Spot,
+        rows: RowFormat,
+        ahead: &[Blob],
+        command: &[u8],
+    ) -> Tick
+        ensures does { let s = self.old.seen in
+            Does (commanded s task spot rows ahead.now command.now) s self.new.seen result }
         ensures lifetime { self.new.lifetime ≡ self.old.lifetime }
     {
         let limit = self.facts.settings.limit;
-        let length = command.len() as u64;
-        if length > limit {
+        if let Some(length) = length_above(limit, ahead, command) {
             return self.codec_fault(CodecFault::TooLarge { length, limit });
         }
-        match self.owed.push_payload(command, 0) {
+        match self.owe_commands(ahead, command) {
             Ok(number) => {
                 self.number = number;
                 self.context = Context {
                     spot,
-                    rows: RowFormat::Text,
+                    rows,
                     columns: 0,
                     terms: Terms {
                         kept: self.context.terms.kept,
@@ -87,6 +138,7 @@ impl Session {
                     },
                 };
                 self.task = task;
+                self.untold = false;
                 self.taken = false;
                 Tick::Sends
             }
@@ -95,39 +147,92 @@ impl Session {
     }
 
     // The exchange of this packet begins.
-    fn command(&mut self, alloc: Global, task: Task, spot: Spot, packet: &ClientPacket) -> Tick
+    pub(super) fn command(
+        &mut self,
+        alloc: Global,
+        task: Task,
+        spot: Spot,
+        packet: &ClientPacket,
+    ) -> Tick
         requires { PartsFit packet.now }
         ensures does { let s = self.old.seen in
-            Does (commanded s task spot (client_bytes packet.now)) s self.new.seen result }
+            Does (commanded s task spot RowFormat.Text [] (client_bytes packet.now)) s self.new.seen result }
         ensures lifetime { self.new.lifetime ≡ self.old.lifetime }
     {
         match write_client(alloc, packet) {
-            Ok(command) => self.queue(task, spot, &command),
+            Ok(command) => self.queue(task, spot, RowFormat::Text, &[], &command),
             Err(NoMemory) => self.fault(Error::NoMemory),
         }
     }
 
     fn ask_query(&mut self, alloc: Global) -> Tick
-        ensures does { let s = self.old.seen in
-            let command = client_bytes (ClientPacket.Query s.text) in
-            Does (commanded s (Task.Own CallKind.Query) Spot.Head command) s self.new.seen result }
+        ensures does { Does (planned self.old.seen (Plan.Asks CallKind.Query)) self.old.seen self.new.seen result }
         ensures lifetime { self.new.lifetime ≡ self.old.lifetime }
     {
-        match query_packet(alloc, self.text.as_slice()) {
+        match query_packet(alloc, text_in(&self.call)) {
             Ok(packet) => self.command(alloc, Task::Own(CallKind::Query), Spot::Head, &packet),
             Err(NoMemory) => self.fault(Error::NoMemory),
         }
     }
 
+    fn ask_prepare(&mut self, alloc: Global) -> Tick
+        ensures does { Does (planned self.old.seen (Plan.Asks CallKind.Prepare)) self.old.seen self.new.seen result }
+        ensures lifetime { self.new.lifetime ≡ self.old.lifetime }
+    {
+        match query_in(alloc, text_in(&self.call)) {
+            Ok(query) => {
+                let packet = ClientPacket::Prepare(Blob::from(query));
+                self.command(alloc, Task::Own(CallKind::Prepare), Spot::Prepare, &packet)
+            }
+            Err(NoMemory) => self.fault(Error::NoMemory),
+        }
+    }
+
+    // The values are sent to the statement that is executed.
+    fn execute(&mut self, alloc: Global, values: &[Value]) -> Tick
+        requires { length values.now ≤ MOST_VALUES }
+        ensures does { let s = self.old.seen in
+            let id = (statement_in s.call).inner.id in
+            Does (asked s CallKind.Execute (execution (next_terms s) s.statements id (Fitting values.now)))
+            s self.new.seen result }
+        ensures lifetime { self.new.lifetime ≡ self.old.lifetime }
+    {
+        match execution(alloc, executed_id(&self.call), values) {
+            Ok((ahead, command)) => self.queue(
+                Task::Own(CallKind::Execute),
+                Spot::Head,
+                RowFormat::Binary,
+                ahead.as_slice(),
+                command.as_slice(),
+            ),
+            Err(NoMemory) => self.fault(Error::NoMemory),
+        }
+    }
+
+    fn ask_execute(&mut self, alloc: Global) -> Tick
+        ensures does { Does (planned self.old.seen (Plan.Asks CallKind.Execute)) self.old.seen self.new.seen result }
+        ensures lifetime { self.new.lifetime ≡ self.old.lifetime }
+    {
+        match values_in(alloc, &self.call) {
+            Ok(values) => self.execute(alloc, &values),
+            Err(error) => self.fault(error),
+        }
+    }
+
     // The call's own command is owed.
     pub(super) fn ask(&mut self, alloc: Global, call: CallKind) -> Tick
-        ensures does { let s = self.old.seen in
-            Does (asked s call (command_of (next_terms s) (call_of call s.text))) s self.new.seen result }
+        ensures does { Does (planned self.old.seen (Plan.Asks call)) self.old.seen self.new.seen result }
         ensures lifetime { self.new.lifetime ≡ self.old.lifetime }
     {
         let own = Task::Own(call);
         match call {
             CallKind::Query => self.ask_query(alloc),
+            CallKind::Prepare => self.ask_prepare(alloc),
+            CallKind::Execute => self.ask_execute(alloc),
+            CallKind::CloseStmt => {
+                let packet = ClientPacket::CloseStatement(id_in(&self.call));
+                self.command(alloc, own, Spot::Idle, &packet)
+            }
             CallKind::Ping => self.command(alloc, own, Spot::Single, &ClientPacket::Ping),
             CallKind::Quit => self.command(alloc, own, Spot::Idle, &ClientPacket::Quit),
             CallKind::Connect

@@ -21,6 +21,7 @@ fn fault_in(task: Task) -> Option<LinkFault>
         | Task::Begun(_)
         | Task::Cleaning(_)
         | Task::Own(_)
+        | Task::Giving
         | Task::Arranging(_)
         | Task::Reading
         | Task::Dropping
@@ -99,6 +100,12 @@ impl Session {
         match plan {
             Plan::Reads => self.read(alloc),
             Plan::Asks(call) => self.ask(alloc, call),
+            Plan::Finds => self.find(alloc),
+            Plan::Checks => self.check(alloc),
+            Plan::Forgets => self.forget(),
+            Plan::Learns => self.learn_columns(),
+            Plan::Keeps => self.keep(alloc),
+            Plan::Gives => self.give_statement(alloc),
             Plan::Arranges(sent) => self.arrange(alloc, sent),
             Plan::Starts(task) => {
                 self.task = task;
