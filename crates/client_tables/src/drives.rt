@@ -2,15 +2,17 @@
 
 ghost use Rattle.std.specs.Prelude.{◌≡◌, None};
 
+use crate::held::{execution_of, text_of};
 use crate::library::count_rows;
 use crate::told::{
-    failed, of_check, of_done, of_facts, of_life, of_marks, of_moment, of_read, of_rest, of_server,
-    of_short_life, of_taken,
+    failed, of_check, of_columns, of_done, of_facts, of_life, of_marks, of_moment, of_prepared,
+    of_read, of_rest, of_server, of_short_life, of_taken,
 };
 use my_conn::Conn;
 use my_frame::Blob;
 use my_link::BlockingLink;
 use my_reading::Error;
+use my_statements::Statement;
 use std::alloc::Global;
 
 // The letter of one row.
@@ -22,7 +24,50 @@ fn of_count(counted: Result<u64, Error>) -> u8 {
     }
 }
 
-fn drive_idle<L: BlockingLink>(alloc: Global, conn: &mut Conn<L>, step: u8) -> u8
+fn execute<L: BlockingLink>(
+    alloc: Global,
+    conn: &mut Conn<L>,
+    held: &Option<Statement>,
+    step: u8,
+) -> u8
+    requires { conn.old.pending ≡ None }
+{
+    match execution_of(alloc, held, step) {
+        Ok(Some((statement, params))) => of_done(conn.execute(alloc, statement, params)),
+        Ok(None) | Err(_) => b'?',
+    }
+}
+
+// A step with a prepared statement.
+fn drive_held<L: BlockingLink>(
+    alloc: Global,
+    conn: &mut Conn<L>,
+    held: &mut Option<Statement>,
+    step: u8,
+) -> u8
+    requires { conn.old.pending ≡ None }
+{
+    match step {
+        b'P' | b'M' => match text_of(alloc, step) {
+            Ok(text) => of_prepared(held, conn.prepare(alloc, text)),
+            Err(_) => b'?',
+        },
+        b'X' | b'Z' => execute(alloc, conn, held, step),
+        b'Y' => match held.take() {
+            Some(statement) => of_done(conn.close_statement(alloc, statement)),
+            None => b'?',
+        },
+        b'o' => of_columns(conn, held),
+        _ => b'?',
+    }
+}
+
+fn drive_idle<L: BlockingLink>(
+    alloc: Global,
+    conn: &mut Conn<L>,
+    held: &mut Option<Statement>,
+    step: u8,
+) -> u8
     requires { conn.old.pending ≡ None }
 {
     match step {
@@ -45,14 +90,19 @@ fn drive_idle<L: BlockingLink>(alloc: Global, conn: &mut Conn<L>, step: u8) -> u
         b'f' => of_marks(conn),
         // The rows of a query are counted.
         b'n' => of_count(count_rows(alloc, conn, b"SELECT 1")),
-        _ => b'?',
+        _ => drive_held(alloc, conn, held, step),
     }
 }
 
 /// What a step returns.
-pub fn driven<L: BlockingLink>(alloc: Global, conn: &mut Conn<L>, step: u8) -> u8 {
+pub fn driven<L: BlockingLink>(
+    alloc: Global,
+    conn: &mut Conn<L>,
+    held: &mut Option<Statement>,
+    step: u8,
+) -> u8 {
     match conn.open_call() {
-        None => drive_idle(alloc, conn, step),
+        None => drive_idle(alloc, conn, held, step),
         Some(_) => b'?',
     }
 }

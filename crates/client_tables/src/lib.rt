@@ -8,6 +8,8 @@ mod aid;
 #[cfg(test)]
 mod drives;
 #[cfg(test)]
+mod held;
+#[cfg(test)]
 mod library;
 #[cfg(test)]
 mod link;

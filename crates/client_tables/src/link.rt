@@ -14,6 +14,25 @@ const LOGIN: &[u8] = b"\x3c\x00\x00\x01\x81\xa2\x0f\x01\x00\x00\x40\x00\x2d\
     \x00\x00\x00\x00\x00\x00\x00\x00\x00\x00\x00\x00\x00\x00\x00\x00\x00\x00\x00\x00\x00\x00\x00\
     root\x00\x00mysql_native_password\x00";
 
+// What the client sends to prepare a statement, to execute it with 42, and to close it.
+const PREPARE: &[u8] = b"\x09\x00\x00\x00\x16SELECT ?";
+
+const EXECUTE: &[u8] =
+    b"\x16\x00\x00\x00\x17\x01\x00\x00\x00\x00\x01\x00\x00\x00\x00\x01\x08\x00\x2a\x00\x00\x00\x00\x00\x00\x00";
+
+const CLOSE: &[u8] = b"\x05\x00\x00\x00\x19\x01\x00\x00\x00";
+
+// The head of the reply to a statement to prepare: its id is 1, and it has a parameter and a column.
+const PREPARED: &[u8] = b"\x0c\x00\x00\x01\x00\x01\x00\x00\x00\x01\x00\x01\x00\x00\x00\x00";
+
+// The column that follows the parameter, and the rows of an execution: 1, and then none, which is a NULL.
+const FIELD: &[u8] =
+    b"\x17\x00\x00\x03\x03def\x00\x00\x00\x011\x00\x0c\x3f\x00\x01\x00\x00\x00\x08\x81\x00\x00\x00\x00";
+
+const BINARY_ROW: &[u8] = b"\x0a\x00\x00\x03\x00\x00\x01\x00\x00\x00\x00\x00\x00\x00";
+
+const NULL_ROW: &[u8] = b"\x02\x00\x00\x04\x00\x04";
+
 const COLUMN: &[u8] =
     b"\x17\x00\x00\x02\x03def\x00\x00\x00\x011\x00\x0c\x3f\x00\x01\x00\x00\x00\x08\x81\x00\x00\x00\x00";
 
@@ -39,6 +58,8 @@ pub fn piece(letter: u8) -> &'static [u8] {
         // A further set: a lone OK, and an ERR.
         b'8' => b"\x07\x00\x00\x05\x00\x00\x00\x02\x00\x00\x00",
         b'9' => b"\x0d\x00\x00\x05\xff\x28\x04#42000Nope",
+        // The end after two rows.
+        b'0' => b"\x07\x00\x00\x05\xfe\x00\x00\x02\x00\x00\x00",
         b'5' => b"\x02\x00",
         b'6' => b"\x00\x03\x011",
         // The client's response, a query with its first part, a text that follows a login, a ping and a quit.
@@ -48,6 +69,14 @@ pub fn piece(letter: u8) -> &'static [u8] {
         b's' => b"\x0c\x00\x00\x00\x03SET @a = 42",
         b'p' => b"\x01\x00\x00\x00\x0e",
         b'u' => b"\x01\x00\x00\x00\x01",
+        b'a' => PREPARE,
+        b'x' => EXECUTE,
+        b'y' => CLOSE,
+        // The reply to a statement to prepare has this head, a parameter as the column of a set, and this column.
+        b'h' => PREPARED,
+        b'j' => FIELD,
+        b'b' => BINARY_ROW,
+        b'n' => NULL_ROW,
         _ => b"",
     }
 }
@@ -71,8 +100,9 @@ fn line_of(alloc: Global, letter: u8) -> Result<WorldLine, NoMemory> {
         b'w' => WorldLine::Wait(0),
         b'f' => WorldLine::Fail(0),
         b'z' => WorldLine::End(0),
-        // The login is taken, the first part of a query, no write once; a write fails.
+        // The login is taken, a statement to prepare, the first part of a query, no write once; a write fails.
         b'L' => WorldLine::Accept(0, 64),
+        b'D' => WorldLine::Accept(0, 13),
         b'A' => WorldLine::Accept(0, 6),
         b'W' => WorldLine::WriteWait(0),
         b'F' => WorldLine::WriteFail(0),

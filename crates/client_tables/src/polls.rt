@@ -4,17 +4,20 @@ ghost use Rattle.std.specs.Prelude.{◌≡◌, None};
 ghost use Rattle.my_line.specs.Calls.{MayPoll};
 
 use crate::aid::Script;
+use crate::held::{execution_of, text_of};
 use crate::told::{
-    of_check, of_done, of_facts, of_life, of_marks, of_moment, of_read, of_rest, of_server,
-    of_short_life, of_taken, of_tape,
+    of_check, of_columns, of_done, of_facts, of_life, of_marks, of_moment, of_prepared, of_read,
+    of_rest, of_server, of_short_life, of_taken, of_tape,
 };
 use my_calls::{
-    CallState, DropCall, NextCall, PingCall, Poll, QueryCall, QuitCall, Returns, StreamCall,
+    CallState, CloseCall, DropCall, ExecCall, NextCall, PingCall, Poll, PrepCall, QueryCall,
+    QuitCall, Returns, StreamCall,
 };
 use my_conn::{Conn, Connected, Connecting, NextAnswer};
 use my_frame::Blob;
 use my_link::{Link, NoAid};
 use my_reading::Error;
+use my_statements::Statement;
 use std::alloc::Global;
 
 /// Polls the making of a connection while it is pending, at most `polls` times, at the moment 5.
@@ -84,7 +87,77 @@ fn take<L: Link>(alloc: Global, conn: &mut Conn<L>, polls: u64) -> u8
     b'.'
 }
 
-fn poll_idle<L: Link>(alloc: Global, conn: &mut Conn<L>, step: u8, polls: u64) -> u8
+// Polls a statement to prepare as above. It is held from then on.
+fn prepare<L: Link>(
+    alloc: Global,
+    conn: &mut Conn<L>,
+    held: &mut Option<Statement>,
+    step: u8,
+    polls: u64,
+) -> u8
+    requires { conn.old.pending ≡ None }
+{
+    match text_of(alloc, step) {
+        Ok(text) => match play(alloc, conn, PrepCall::new(text), polls) {
+            Some(answer) => of_prepared(held, answer),
+            None => b'.',
+        },
+        Err(_) => b'?',
+    }
+}
+
+fn execute<L: Link>(
+    alloc: Global,
+    conn: &mut Conn<L>,
+    held: &Option<Statement>,
+    step: u8,
+    polls: u64,
+) -> u8
+    requires { conn.old.pending ≡ None }
+{
+    match execution_of(alloc, held, step) {
+        Ok(Some((statement, params))) => {
+            done(play(alloc, conn, ExecCall::new(statement, params), polls))
+        }
+        Ok(None) | Err(_) => b'?',
+    }
+}
+
+fn close<L: Link>(alloc: Global, conn: &mut Conn<L>, held: &mut Option<Statement>, polls: u64) -> u8
+    requires { conn.old.pending ≡ None }
+{
+    match held.take() {
+        Some(statement) => done(play(alloc, conn, CloseCall::new(statement), polls)),
+        None => b'?',
+    }
+}
+
+// A step with a prepared statement.
+fn poll_held<L: Link>(
+    alloc: Global,
+    conn: &mut Conn<L>,
+    held: &mut Option<Statement>,
+    step: u8,
+    polls: u64,
+) -> u8
+    requires { conn.old.pending ≡ None }
+{
+    match step {
+        b'P' | b'M' => prepare(alloc, conn, held, step, polls),
+        b'X' | b'Z' => execute(alloc, conn, held, step, polls),
+        b'Y' => close(alloc, conn, held, polls),
+        b'o' => of_columns(conn, held),
+        _ => b'?',
+    }
+}
+
+fn poll_idle<L: Link>(
+    alloc: Global,
+    conn: &mut Conn<L>,
+    held: &mut Option<Statement>,
+    step: u8,
+    polls: u64,
+) -> u8
     requires { conn.old.pending ≡ None }
 {
     match step {
@@ -106,14 +179,20 @@ fn poll_idle<L: Link>(alloc: Global, conn: &mut Conn<L>, step: u8, polls: u64) -
         b'l' => of_life(conn),
         b'h' => of_short_life(conn),
         b'f' => of_marks(conn),
-        _ => b'?',
+        _ => poll_held(alloc, conn, held, step, polls),
     }
 }
 
 /// What a step returns within so many polls. A call that is still pending then is cancelled.
-pub fn polled<L: Link>(alloc: Global, conn: &mut Conn<L>, step: u8, polls: u64) -> u8 {
+pub fn polled<L: Link>(
+    alloc: Global,
+    conn: &mut Conn<L>,
+    held: &mut Option<Statement>,
+    step: u8,
+    polls: u64,
+) -> u8 {
     match conn.open_call() {
-        None => poll_idle(alloc, conn, step, polls),
+        None => poll_idle(alloc, conn, held, step, polls),
         Some(_) => b'?',
     }
 }

@@ -24,8 +24,11 @@ use std::test::Fail;
 // `d` a drop of the result, `p` a ping, `u` a quit, `c` a check; `i` the facts of the last OK, `v` those of the server and
 // the options, `l` the connection's life, `h` a short one, `t` the tape is taken; `y` whether something is unread, `m` the moment of
 // the last payload, `f` what a pool tells the connection.
+// Of prepared statements: `P` prepares one with a name, which is held from then on, `M` one of a text with a name and a mark; `X`
+// executes the one that is held, with 42, `Z` without its value; `Y` closes it; `o` whether the columns of its rows are known.
 // Returned: `k` done, or a set is taken, `r` a row, `e` the end of a set, `n` that nothing is there, `.` pending; `S` a server's error, `L` a
-// fault of the link, `U` an end that came too early, `C` that the connection is closed; `A` alive, `D` dead; `c` closed; `R` that the caller refused; `y` and `n` for `y`; `5` and `7` for `m`.
+// fault of the link, `U` an end that came too early, `C` that the connection is closed; `A` alive, `D` dead; `c` closed; `R` that the caller
+// refused; `y` and `n` for `y` and `o`; `5` and `7` for `m`; `s` a statement; `M` that names and marks are mixed, `P` that a value is missing.
 // Ended: `k` answered, `e` failed, `x` cancelled, `X` cancelled with the connection closed by that, `.` not yet.
 const POLLED: &str = "\
 gtktOt1234t1234t apivqrrrqduv 111111111111 kkkkkrenkkkc lpqqu gkO12341234 kkkkkkkkk
@@ -64,6 +67,18 @@ gtkt12379 aqss 1111 kkkS lq gk12379 kkkke
 gtktotot aptpt 11111 kkkkn . . -
 gtkto alfqyry 1111111 kkkkyen lq gko kkk
 gtkt1234 amqmyryry 111111111 k5k7yryen lq gk1234 kkkk
+gtkth2jt12bn0 aPoXorrrY 111111111 ksykyrrek laxy gkh2j12bn0 kkkkkkk
+gtkth2jt12b4 aPXPrr 111111 ksksre lax gkh2j12b4 kkkkkk
+gtkth2jto aPXor 11111 kskye lax gkh2jo kkkk
+gtkth2jth2j aPYP 1111 ksks laya gkh2jh2j kkkk
+gtktw aPp 111 k.C la gk kXe
+gtkthw2j aPp 111 k.C la gkh kXe
+gtkth2jtw aPXp 1111 ks.C lax gkh2j kkXe
+gtkth2jLDW aPYp 1111 ks.C la gkh2j kkXe
+gtktwh2j aP 12 ks la gkh2j kk
+gtkteto aPp 111 kSk lap gkeo kek
+gtkto aMp 111 kMk lp gko kek
+gtkth2j aPoZop 111111 ksyPnC la gkh2j kkee
 gtkto a 1 k ls gko kkk s
 gtktoto amp 111 k5k lsp gkoo kkkk s
 gtkt1234to a 1 k lqs gk1234o kkkkk qs
@@ -103,6 +118,9 @@ gtE b S
 gtkt x W
 gtkto alqyry kkkyen
 gtktoto amfqm k5kk7
+gtkth2jt12bn0 aPoXorrrY ksykyrrek
+gtkth2jt12b4to aPXPrrMp ksksreMk
+gtkteth2j aPPZp kSsPC
 gtk eh kk";
 
 // The options of each connection.
@@ -176,8 +194,10 @@ fn count_at(digits: &str, number: usize) -> u64 {
 
 // Whether each step after the making returns what it should.
 fn are_polled<L: Link>(alloc: Global, conn: &mut Conn<L>, row: &Row) -> bool {
+    let mut held = None;
     for (i, step) in row.steps.as_bytes().iter().enumerate() {
-        if i > 0 && polled(alloc, conn, *step, count_at(row.polls, i)) != at(row.says, i) {
+        let polls = count_at(row.polls, i);
+        if i > 0 && polled(alloc, conn, &mut held, *step, polls) != at(row.says, i) {
             return false;
         }
     }
@@ -185,8 +205,9 @@ fn are_polled<L: Link>(alloc: Global, conn: &mut Conn<L>, row: &Row) -> bool {
 }
 
 fn are_driven<L: BlockingLink>(alloc: Global, conn: &mut Conn<L>, row: &Row) -> bool {
+    let mut held = None;
     for (i, step) in row.steps.as_bytes().iter().enumerate() {
-        if i > 0 && driven(alloc, conn, *step) != at(row.says, i) {
+        if i > 0 && driven(alloc, conn, &mut held, *step) != at(row.says, i) {
             return false;
         }
     }

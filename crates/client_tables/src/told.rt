@@ -6,6 +6,8 @@ use my_conn::{Conn, NextAnswer};
 use my_link::CheckStep;
 use my_opts::UrlError;
 use my_reading::{DriverError, Error, IoError, IoKind, OtherError};
+use my_statements::Statement;
+use std::mem;
 
 // The letter of a URL that is refused.
 fn of_refused(error: &UrlError) -> u8 {
@@ -30,11 +32,21 @@ fn of_other(error: &OtherError) -> u8 {
     }
 }
 
+// The letter of a driver's refusal.
+fn of_driver(error: &DriverError) -> u8 {
+    match error {
+        DriverError::ConnectionClosed => b'C',
+        DriverError::MixedParams => b'M',
+        DriverError::Params(_) => b'P',
+        _ => b'?',
+    }
+}
+
 /// The letter of an error.
 pub fn of_error(error: &Error) -> u8 {
     match error {
         Error::Server(_) => b'S',
-        Error::Driver(DriverError::ConnectionClosed) => b'C',
+        Error::Driver(error) => of_driver(error),
         Error::Io(IoError::Io(fault)) => match fault.kind {
             IoKind::Link => b'L',
             IoKind::UnexpectedEof => b'U',
@@ -42,7 +54,7 @@ pub fn of_error(error: &Error) -> u8 {
         },
         Error::Url(error) => of_refused(error),
         Error::Other(error) => of_other(error),
-        Error::Io(IoError::Codec(_)) | Error::Driver(_) | Error::NoMemory => b'?',
+        Error::Io(IoError::Codec(_)) | Error::NoMemory => b'?',
     }
 }
 
@@ -85,6 +97,40 @@ pub fn of_taken(answer: Result<bool, Error>) -> u8 {
         Ok(true) => b'k',
         Ok(false) => b'n',
         Err(error) => failed(error),
+    }
+}
+
+fn is_statement(statement: &Statement) -> bool {
+    let name = match statement.names().first() {
+        Some(name) => name.as_slice(),
+        None => b"",
+    };
+    statement.id() == 1
+        && statement.num_params() == 1
+        && statement.names().len() == 1
+        && name == b"a".as_slice()
+}
+
+/// The letter of a statement that was prepared. It is held from then on.
+pub fn of_prepared(held: &mut Option<Statement>, answer: Result<Statement, Error>) -> u8 {
+    match answer {
+        Ok(statement) => {
+            let right = is_statement(&statement);
+            drop(mem::replace(held, Some(statement)));
+            if right { b's' } else { b'?' }
+        }
+        Err(error) => failed(error),
+    }
+}
+
+/// Whether the columns of the rows of the statement that is held are known.
+pub fn of_columns<L>(conn: &Conn<L>, held: &Option<Statement>) -> u8 {
+    match held {
+        None => b'?',
+        Some(statement) => match conn.columns_of(statement) {
+            Some(columns) => if columns.len() == 1 { b'y' } else { b'?' },
+            None => b'n',
+        },
     }
 }
 

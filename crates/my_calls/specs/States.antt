@@ -16,16 +16,16 @@ use Rattle.my_conn.specs.Calls.{CallIs}
 use Rattle.my_conn.specs.Cancels.{CancelIs}
 use Rattle.my_conn.specs.Conn.{ConnSeen}
 
--- by what the poll of a call came to, and what its answer is to the caller
-abbrev pub returned_by : {A : Type 0} → (Answer → A) → After → Poll (Result A Error)
-returned_by answer_of Pending = polls.Pending
-returned_by answer_of (Answered answer) = polls.Ready (Ok (answer_of answer))
-returned_by answer_of (Failed error) = polls.Ready (Err error)
+-- by what the poll of a call came to, and what its answer gives a caller
+abbrev pub ReturnedBy : {A : Type 0} → (Answer → A → Type 0) → After → Poll (Result A Error) → Type 0
+ReturnedBy gives after polls.Pending = after ≡ Pending
+ReturnedBy gives after (polls.Ready (Ok value)) = (answer : Answer) × (after ≡ Answered answer) × gives answer value
+ReturnedBy gives after (polls.Ready (Err error)) = after ≡ Failed error
 
 -- a poll of the call, of which a caller gets this
-abbrev pub PollIs : {L A : Type 0} → (L → Looks) → (Answer → A) → ℕ → CallKind → Option Call → ConnSeen L → ConnSeen L
-    → Poll (Result A Error) → Type 0
-PollIs look answer_of now c call old new result = (m : Met) × (after : After) × (result ≡ returned_by answer_of after)
+abbrev pub PollIs : {L A : Type 0} → (L → Looks) → (Answer → A → Type 0) → ℕ → CallKind → Option Call → ConnSeen L
+    → ConnSeen L → Poll (Result A Error) → Type 0
+PollIs look gives now c call old new result = (m : Met) × (after : After) × ReturnedBy gives after result
     × CallIs look now c call old new m after
 
 -- a call that wasn't polled leaves all as it is

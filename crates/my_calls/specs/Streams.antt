@@ -6,6 +6,7 @@ use Rattle.my_link.specs.Looks.{Looks}
 use Rattle.my_link.specs.declared.met.Met.{Met}
 use Rattle.my_packets.specs.declared.poll.Poll.{Poll}
 use Rattle.my_packets.specs.declared.poll.Poll.TheVariants as polls
+use Rattle.my_reading.specs.declared.answer.Answer.{Answer}
 use Rattle.my_reading.specs.declared.call.Call.{Call}
 use Rattle.my_reading.specs.declared.call.Call.TheVariants as calls
 use Rattle.my_reading.specs.declared.call.CallKind.{CallKind}
@@ -28,9 +29,13 @@ open_at First = None
 open_at Skips = Some kinds.SkipTaken
 open_at Takes = Some kinds.TakeSet
 
+-- whether a set was there
+abbrev pub GivesTaken : Answer → Bool → Type 0
+GivesTaken answer taken = taken ≡ taken_of answer
+
 -- the call that takes the set is polled
 abbrev pub TakesFrom : {L : Type 0} → (L → Looks) → ℕ → Option Call → ConnSeen L → ConnSeen L → Poll (Result Bool Error) → Type 0
-TakesFrom look now call old new result = PollIs look taken_of now kinds.TakeSet call old new result
+TakesFrom look now call old new result = PollIs look GivesTaken now kinds.TakeSet call old new result
 
 -- once the rest of the earlier set is passed over, a set is taken
 abbrev pub SkipEnds : {L : Type 0} → (L → Looks) → ℕ → After → ConnSeen L → ConnSeen L → Poll (Result Bool Error) → Type 0

@@ -1,13 +1,16 @@
 //! The calls of a connection: each kind has a state by which it is polled by hand.
 ghost use Rattle.std.specs.Prelude.{◌≡◌, Some};
+ghost use Rattle.my_reading.specs.declared.answer.Answer.TheVariants as answers;
 ghost use Rattle.my_reading.specs.declared.call.Call.TheVariants as calls;
 ghost use Rattle.my_reading.specs.declared.call.CallKind.TheVariants as kinds;
 ghost use Rattle.my_conn.specs.Answers.{done_of, next_of};
 
 use crate::states::{CallState, Returns};
-use my_conn::{NextAnswer, next_answer};
+use my_conn::{NextAnswer, next_answer, statement_answer};
 use my_frame::Blob;
+use my_params::Params;
 use my_reading::{Answer, Call, CallKind};
+use my_statements::Statement;
 
 /// A query, until the server accepts it.
 pub type QueryCall = CallState<Query>;
@@ -23,7 +26,7 @@ impl Returns for Query {
 
     const KIND: CallKind = CallKind::Query;
 
-    ghost answer = { done_of };
+    ghost gives = { λ given answer. answer ≡ done_of given };
 
     fn answer(given: Answer) {
         let _ = given;
@@ -35,6 +38,96 @@ impl CallState<Query> {
         ensures { result.call ≡ Some (calls.Query text) }
     {
         CallState::first(Call::Query(text))
+    }
+}
+
+/// A statement that is prepared, unless it is cached.
+pub type PrepCall = CallState<Prepare>;
+
+/// The kind of `PrepCall`.
+#[derive(Drop)]
+pub struct Prepare;
+
+impl Returns for Prepare {
+    type Answer = Statement;
+
+    ghost KIND = { kinds.Prepare };
+
+    const KIND: CallKind = CallKind::Prepare;
+
+    ghost gives = { λ given statement. given ≡ answers.Stmt statement };
+
+    fn answer(given: Answer) -> Statement {
+        statement_answer(given)
+    }
+}
+
+impl CallState<Prepare> {
+    /// The text may have named parameters.
+    pub fn new(text: Blob) -> PrepCall
+        ensures { result.call ≡ Some (calls.Prepare text) }
+    {
+        CallState::first(Call::Prepare(text))
+    }
+}
+
+/// A statement that is executed, until the server accepts it.
+pub type ExecCall = CallState<Execute>;
+
+/// The kind of `ExecCall`.
+#[derive(Drop)]
+pub struct Execute;
+
+impl Returns for Execute {
+    type Answer = ();
+
+    ghost KIND = { kinds.Execute };
+
+    const KIND: CallKind = CallKind::Execute;
+
+    ghost gives = { λ given answer. answer ≡ done_of given };
+
+    fn answer(given: Answer) {
+        let _ = given;
+    }
+}
+
+impl CallState<Execute> {
+    pub fn new(statement: Statement, params: Params) -> ExecCall
+        ensures { result.call ≡ Some (calls.Execute statement params) }
+    {
+        CallState::first(Call::Execute(statement, params))
+    }
+}
+
+/// The close of a statement.
+pub type CloseCall = CallState<CloseStmt>;
+
+/// The kind of `CloseCall`.
+#[derive(Drop)]
+pub struct CloseStmt;
+
+impl Returns for CloseStmt {
+    type Answer = ();
+
+    ghost KIND = { kinds.CloseStmt };
+
+    const KIND: CallKind = CallKind::CloseStmt;
+
+    ghost gives = { λ given answer. answer ≡ done_of given };
+
+    fn answer(given: Answer) {
+        let _ = given;
+    }
+}
+
+impl CallState<CloseStmt> {
+    pub fn new(statement: Statement) -> CloseCall
+        ensures { result.call ≡ Some (calls.CloseStmt statement.inner.id) }
+    {
+        let id = statement.id();
+        drop(statement);
+        CallState::first(Call::CloseStmt(id))
     }
 }
 
@@ -52,7 +145,7 @@ impl Returns for NextRow {
 
     const KIND: CallKind = CallKind::NextRow;
 
-    ghost answer = { next_of };
+    ghost gives = { λ given answer. answer ≡ next_of given };
 
     fn answer(given: Answer) -> NextAnswer {
         next_answer(given)
@@ -81,7 +174,7 @@ impl Returns for DropResult {
 
     const KIND: CallKind = CallKind::DropResult;
 
-    ghost answer = { done_of };
+    ghost gives = { λ given answer. answer ≡ done_of given };
 
     fn answer(given: Answer) {
         let _ = given;
@@ -110,7 +203,7 @@ impl Returns for Ping {
 
     const KIND: CallKind = CallKind::Ping;
 
-    ghost answer = { done_of };
+    ghost gives = { λ given answer. answer ≡ done_of given };
 
     fn answer(given: Answer) {
         let _ = given;
@@ -139,7 +232,7 @@ impl Returns for Quit {
 
     const KIND: CallKind = CallKind::Quit;
 
-    ghost answer = { done_of };
+    ghost gives = { λ given answer. answer ≡ done_of given };
 
     fn answer(given: Answer) {
         let _ = given;

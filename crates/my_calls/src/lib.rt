@@ -6,7 +6,8 @@ mod states;
 mod stream;
 
 pub use calls::{
-    DropCall, DropResult, NextCall, NextRow, Ping, PingCall, Query, QueryCall, Quit, QuitCall,
+    CloseCall, CloseStmt, DropCall, DropResult, ExecCall, Execute, NextCall, NextRow, Ping,
+    PingCall, PrepCall, Prepare, Query, QueryCall, Quit, QuitCall,
 };
 pub use my_packets::Poll;
 pub use states::{CallState, Returns};

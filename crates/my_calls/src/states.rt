@@ -6,7 +6,7 @@ ghost use Rattle.my_reading.specs.declared.answer.Answer.{Answer as AnswerOf};
 ghost use Rattle.my_reading.specs.declared.call.CallKind.{CallKind as KindOf};
 ghost use Rattle.my_session.specs.Fits.{may_be};
 ghost use Rattle.my_line.specs.Calls.{AfterFits, MayPoll};
-ghost use Rattle.my_calls.specs.States.{PollIs, StateCancels, returned_by};
+ghost use Rattle.my_calls.specs.States.{PollIs, ReturnedBy, StateCancels};
 
 use my_client::After;
 use my_conn::Conn;
@@ -24,17 +24,18 @@ pub trait Returns {
 
     const KIND: CallKind;
 
-    ghost answer: { AnswerOf → Self.Answer };
+    /// What an answer gives a caller.
+    ghost gives: { AnswerOf → Self.Answer → Type 0 };
 
     fn answer(given: Answer) -> Self::Answer
         requires { may_be KIND (told given) ≡ true }
-        ensures { result ≡ answer given };
+        ensures { gives given result };
 }
 
 // What a caller's poll returns, by what the poll of the call came to.
 fn returned<C: Returns>(after: After) -> Poll<Result<C::Answer, Error>>
     requires { AfterFits C.KIND after }
-    ensures { result ≡ returned_by C.answer after }
+    ensures { ReturnedBy C.gives after result }
 {
     match after {
         After::Pending => Poll::Pending,
@@ -76,7 +77,7 @@ impl<C: Returns> CallState<C> {
         requires { MayPoll C.KIND self.old.call conn.old.pending }
         ensures call { self.new.call ≡ None }
         ensures again { result ≡ polls.Pending → MayPoll C.KIND self.new.call conn.new.pending }
-        ensures does { PollIs L.looks C.answer now C.KIND self.old.call conn.old conn.new result }
+        ensures does { PollIs L.looks C.gives now C.KIND self.old.call conn.old conn.new result }
         ensures aid { aid.new ≡ aid.old }
     {
         let _ = aid;

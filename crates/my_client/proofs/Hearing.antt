@@ -7,12 +7,13 @@ pub mod Stepping
 use Rattle.std.proofs.Common.{ℕ, ◌≡◌, ◌&&◌, List, [], ◌∷◌, ◌++◌, true, false, cond, Option, Some, None, refl, sym, ap, ◌∙◌, subst}
 use Rattle.my_grammar.specs.declared.login.Login.{Login}
 use Rattle.my_reading.specs.declared.call.Call.{Call}
+use Rattle.my_reading.specs.declared.call.Call.TheVariants as calls
 use Rattle.my_reading.specs.declared.call.CallKind.{CallKind}
-use Rattle.my_reading.specs.declared.call.CallKind.TheVariants.{Connect, Query, NextRow, DropResult, TakeSet, SkipTaken, Ping, Quit}
+use Rattle.my_reading.specs.declared.call.CallKind.TheVariants.{Connect, Query, Prepare, Execute, CloseStmt, NextRow, DropResult, TakeSet, SkipTaken, Ping, Quit}
 use Rattle.my_session.specs.declared.task.LinkFault.{LinkFault}
 use Rattle.my_reading.specs.Calls.{kind_of, call_of}
 use Rattle.my_session.specs.Fits.{may_be}
-use Rattle.my_reading.specs.Told.{Told, ToldReady, ToldRow, ToldEnd, ToldNone, ToldError, Dropped}
+use Rattle.my_reading.specs.Told.{Told, ToldReady, ToldRow, ToldEnd, ToldNone, ToldStatement, ToldError, Dropped}
 use Rattle.my_session.specs.History.{History, Made, answered, noted, passing, gone, took, ending}
 use Rattle.my_session.specs.Passed.{IsItem, ArePassed, is_passing}
 use Rattle.my_session.specs.Seen.{Seen}
@@ -33,6 +34,7 @@ item_noted c ToldReady p i = absurd i
 item_noted c (ToldRow row) p i = ap (λ b. b && true) p
 item_noted c ToldEnd p i = ap (λ b. b && true) p
 item_noted c ToldNone p i = absurd i
+item_noted c (ToldStatement statement) p i = absurd i
 item_noted c (ToldError e) p i = absurd i
 item_noted c (Dropped closing) p i = absurd i
 
@@ -40,11 +42,15 @@ item_noted c (Dropped closing) p i = absurd i
 pub answer_counts : (c : CallKind) (t : Told) → may_be c t ≡ true → is_note c t ≡ false
 answer_counts Connect t m = refl
 answer_counts Query t m = refl
+answer_counts Prepare t m = refl
+answer_counts Execute t m = refl
+answer_counts CloseStmt t m = refl
 answer_counts NextRow t m = refl
 answer_counts DropResult ToldReady m = refl
 answer_counts DropResult (ToldRow row) m = cc
 answer_counts DropResult ToldEnd m = cc
 answer_counts DropResult ToldNone m = cc
+answer_counts DropResult (ToldStatement statement) m = cc
 answer_counts DropResult (ToldError e) m = refl
 answer_counts DropResult (Dropped closing) m = refl
 answer_counts TakeSet t m = refl
@@ -52,6 +58,7 @@ answer_counts SkipTaken ToldReady m = refl
 answer_counts SkipTaken (ToldRow row) m = cc
 answer_counts SkipTaken ToldEnd m = cc
 answer_counts SkipTaken ToldNone m = cc
+answer_counts SkipTaken (ToldStatement statement) m = cc
 answer_counts SkipTaken (ToldError e) m = refl
 answer_counts SkipTaken (Dropped closing) m = refl
 answer_counts Ping t m = refl
@@ -62,46 +69,52 @@ pending_passing h [] = refl
 pending_passing h (t ∷ ts) = pending_passing h ts
 
 -- what a call passed over adds nothing to what was kept
-answers_noted : (c : CallKind) (p : Option Call) (t : Told) (ms : List Made) → p ≡ call_with (Some c) [] → is_note (kind_of (call_of c [])) t ≡ true → answers_in (noted (record { sent = []; taken = []; calls = ms; pending = p; ended = false; lost = false }) t).calls ≡ answers_in ms
-answers_noted c p t ms e i = subst (λ (p : Option Call). answers_in (noted (record { sent = []; taken = []; calls = ms; pending = p; ended = false; lost = false }) t).calls ≡ answers_in ms) (sym e) (ap (λ b. cond b (answers_in ms) (record { call = call_of c []; what = t } ∷ answers_in ms)) i)
+answers_noted : (c : CallKind) (p : Option Call) (t : Told) (ms : List Made) → p ≡ call_with (Some c) calls.Connect → is_note (kind_of (call_of c calls.Connect)) t ≡ true → answers_in (noted (record { sent = []; taken = []; calls = ms; pending = p; ended = false; lost = false }) t).calls ≡ answers_in ms
+answers_noted c p t ms e i = subst (λ (p : Option Call). answers_in (noted (record { sent = []; taken = []; calls = ms; pending = p; ended = false; lost = false }) t).calls ≡ answers_in ms) (sym e) (ap (λ b. cond b (answers_in ms) (record { call = call_of c calls.Connect; what = t } ∷ answers_in ms)) i)
 
-noted_by : (kind : Option CallKind) (text : List ℕ) (p : Option Call) (t : Told) (ms : List Made) → p ≡ call_with kind text → is_passing kind ≡ true → IsItem t → answers_in (noted (record { sent = []; taken = []; calls = ms; pending = p; ended = false; lost = false }) t).calls ≡ answers_in ms
-noted_by None text p t ms e passing i = cc
-noted_by (Some Connect) text p t ms e passing i = cc
-noted_by (Some Query) text p t ms e passing i = cc
-noted_by (Some NextRow) text p t ms e passing i = cc
-noted_by (Some DropResult) text p t ms e passing i = answers_noted DropResult p t ms e (item_noted DropResult t refl i)
-noted_by (Some TakeSet) text p t ms e passing i = cc
-noted_by (Some SkipTaken) text p t ms e passing i = answers_noted SkipTaken p t ms e (item_noted SkipTaken t refl i)
-noted_by (Some Ping) text p t ms e passing i = cc
-noted_by (Some Quit) text p t ms e passing i = cc
+noted_by : (kind : Option CallKind) (carried : Call) (p : Option Call) (t : Told) (ms : List Made) → p ≡ call_with kind carried → is_passing kind ≡ true → IsItem t → answers_in (noted (record { sent = []; taken = []; calls = ms; pending = p; ended = false; lost = false }) t).calls ≡ answers_in ms
+noted_by None carried p t ms e passing i = cc
+noted_by (Some Connect) carried p t ms e passing i = cc
+noted_by (Some Query) carried p t ms e passing i = cc
+noted_by (Some Prepare) carried p t ms e passing i = cc
+noted_by (Some Execute) carried p t ms e passing i = cc
+noted_by (Some CloseStmt) carried p t ms e passing i = cc
+noted_by (Some NextRow) carried p t ms e passing i = cc
+noted_by (Some DropResult) carried p t ms e passing i = answers_noted DropResult p t ms e (item_noted DropResult t refl i)
+noted_by (Some TakeSet) carried p t ms e passing i = cc
+noted_by (Some SkipTaken) carried p t ms e passing i = answers_noted SkipTaken p t ms e (item_noted SkipTaken t refl i)
+noted_by (Some Ping) carried p t ms e passing i = cc
+noted_by (Some Quit) carried p t ms e passing i = cc
 
-pub passing_of : (k : Kept) (h : History) (kind : Option CallKind) (text : List ℕ) (ts : List Told) → h.pending ≡ call_with kind text → ArePassed kind ts → IsOf k h → IsOf k (passing h ts)
-passing_of k h kind text [] p a w = w
-passing_of k h kind text (t ∷ ts) p a w =
-    let u = passing_of k h kind text ts p a.2 w in
+pub passing_of : (k : Kept) (h : History) (kind : Option CallKind) (carried : Call) (ts : List Told) → h.pending ≡ call_with kind carried → ArePassed kind ts → IsOf k h → IsOf k (passing h ts)
+passing_of k h kind carried [] p a w = w
+passing_of k h kind carried (t ∷ ts) p a w =
+    let u = passing_of k h kind carried ts p a.2 w in
     record {
       sent_is = u.sent_is;
       taken_is = u.taken_is;
-      calls_are = noted_by kind text (passing h ts).pending t (passing h ts).calls (pending_passing h ts ∙ p) a.0 a.1 ∙ u.calls_are;
+      calls_are = noted_by kind carried (passing h ts).pending t (passing h ts).calls (pending_passing h ts ∙ p) a.0 a.1 ∙ u.calls_are;
       pending_is = u.pending_is;
       lost_is = u.lost_is;
     }
 
-kind_back : (c : CallKind) (text : List ℕ) → kind_of (call_of c text) ≡ c
-kind_back Connect text = refl
-kind_back Query text = refl
-kind_back NextRow text = refl
-kind_back DropResult text = refl
-kind_back TakeSet text = refl
-kind_back SkipTaken text = refl
-kind_back Ping text = refl
-kind_back Quit text = refl
+kind_back : (c : CallKind) (carried : Call) → kind_of (call_of c carried) ≡ c
+kind_back Connect carried = refl
+kind_back Query carried = refl
+kind_back Prepare carried = refl
+kind_back Execute carried = refl
+kind_back CloseStmt carried = refl
+kind_back NextRow carried = refl
+kind_back DropResult carried = refl
+kind_back TakeSet carried = refl
+kind_back SkipTaken carried = refl
+kind_back Ping carried = refl
+kind_back Quit carried = refl
 
 -- the open call's kind is the task's
-pub asked_kind : (call : Call) (kind : Option CallKind) (text : List ℕ) → Some call ≡ call_with kind text → kind ≡ Some (kind_of call)
-asked_kind call None text e = cc
-asked_kind call (Some c) text e = let same : call ≡ call_of c text = cc in sym (ap Some (ap kind_of same ∙ kind_back c text))
+pub asked_kind : (call : Call) (kind : Option CallKind) (carried : Call) → Some call ≡ call_with kind carried → kind ≡ Some (kind_of call)
+asked_kind call None carried e = cc
+asked_kind call (Some c) carried e = let same : call ≡ call_of c carried = cc in sym (ap Some (ap kind_of same ∙ kind_back c carried))
 
 -- the open call ends
 pub ended_of : (k : Kept) (a : Asked) (h : History) (said : Said) → k.pending ≡ Some a → is_note (kind_of a.call) (told_by said) ≡ false → IsOf k h → IsOf (ended_by k a said) (answered h (told_by said))

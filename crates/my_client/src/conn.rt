@@ -127,6 +127,9 @@ pub fn is_connecting<L>(conn: &TapedConn<L>) -> bool
         Some(open) => match open.call {
             Call::Connect => true,
             Call::Query(_)
+            | Call::Prepare(_)
+            | Call::Execute(_, _)
+            | Call::CloseStmt(_)
             | Call::NextRow
             | Call::DropResult
             | Call::TakeSet

@@ -7,7 +7,7 @@ use Rattle.my_reading.specs.Errors.{connection_closed}
 use Rattle.my_reading.specs.declared.answer.Answer.{Answer}
 use Rattle.my_reading.specs.declared.call.Call.{Call}
 use Rattle.my_reading.specs.declared.call.CallKind.{CallKind}
-use Rattle.my_reading.specs.declared.call.CallKind.TheVariants.{Connect, Query, NextRow, DropResult, TakeSet, SkipTaken, Ping, Quit}
+use Rattle.my_reading.specs.declared.call.CallKind.TheVariants.{Connect, Query, Prepare, Execute, CloseStmt, NextRow, DropResult, TakeSet, SkipTaken, Ping, Quit}
 use Rattle.my_reading.specs.declared.error.Error.{Error}
 use Rattle.my_reading.specs.declared.error.DriverError.TheVariants.{TooLong}
 use Rattle.my_reading.specs.declared.error.Error.TheVariants as errors
@@ -40,6 +40,9 @@ made_lives now n a b w = ap (λ (l : Lifetime). first_lifetime l.opts l.is_socke
 no_pending : (c : CallKind) → Pending ≡ lost_answer c → ⊥
 no_pending Connect e = cc
 no_pending Query e = cc
+no_pending Prepare e = cc
+no_pending Execute e = cc
+no_pending CloseStmt e = cc
 no_pending NextRow e = cc
 no_pending DropResult e = cc
 no_pending TakeSet e = cc
@@ -150,6 +153,9 @@ module _ {L : Type 0} (look : L → Looks) (kind : CallKind) (call : Call) (old 
       by_kind : (c : CallKind) → Results (lost_answer c) r → r ≡ lost_result c
       by_kind Connect f = f
       by_kind Query f = f
+      by_kind Prepare f = f
+      by_kind Execute f = f
+      by_kind CloseStmt f = f
       by_kind NextRow f = f
       by_kind DropResult f = f
       by_kind TakeSet f = f

@@ -9,12 +9,13 @@ use Rattle.my_conn.specs.declared.drive.NextAnswer.TheVariants.{Row, SetEnd, NoS
 abbrev pub done_of : Answer → Unit {0}
 done_of answer = tt
 
--- what a read returned; it is never answered that it is done
+-- what a read returned; it is never answered that it is done, nor by a statement
 abbrev pub next_of : Answer → NextAnswer
 next_of answers.Ready = NoSet
 next_of (answers.Row row) = Row row
 next_of answers.SetEnd = SetEnd
 next_of answers.NoSet = NoSet
+next_of (answers.Stmt statement) = NoSet
 
 -- whether a set is there: a stream is answered that it took one, or that nothing is left
 abbrev pub taken_of : Answer → Bool

@@ -1,5 +1,5 @@
 -- What a call that waits does.
-use Rattle.std.specs.Prelude.{ℕ, ◌≡◌, ◌≤◌, ◌⊎◌, Bool, None, true, false, is_some}
+use Rattle.std.specs.Prelude.{ℕ, ◌≡◌, ◌≤◌, ◌⊎◌, List, Bool, None, true, false, is_some}
 use Rattle.std.specs.declared.result.Result.{Result}
 use Rattle.std.specs.declared.result.Result.TheVariants.{Ok, Err}
 use Rattle.my_grammar.specs.declared.login.Login.{Login}
@@ -16,6 +16,7 @@ use Rattle.my_reading.specs.declared.error.Error.{Error}
 use Rattle.my_reading.specs.declared.error.Error.TheVariants as errors
 use Rattle.my_reading.specs.Errors.{connection_closed}
 use Rattle.my_reading.specs.Told.{told}
+use Rattle.my_statements.specs.Prepared.{StatementView}
 use Rattle.my_session.specs.Fits.{may_be}
 use Rattle.my_client.specs.Kept.{Kept}
 use Rattle.my_client.specs.Lives.{Lives, made_in}
@@ -80,3 +81,13 @@ NextIs look old new result = WaitIs look next_of kinds.NextRow calls.NextRow old
 -- a set is taken
 abbrev pub TakeIs : {L : Type 0} → (L → Looks) → ConnSeen L → ConnSeen L → Result Bool Error → Type 0
 TakeIs look old new result = WaitIs look taken_of kinds.TakeSet calls.TakeSet old new result
+
+-- what a caller is told of a statement that was prepared: the one that is the answer
+abbrev pub PreparedBy : Result Answer Error → Result StatementView Error → Type 0
+PreparedBy r (Ok statement) = r ≡ Ok (answers.Stmt statement)
+PreparedBy r (Err error) = r ≡ Err error
+
+abbrev pub PrepareIs : {L : Type 0} → (L → Looks) → List ℕ → ConnSeen L → ConnSeen L → Result StatementView Error
+    → Type 0
+PrepareIs look text old new result = (r : Result Answer Error) × PreparedBy r result
+    × DriveIs look kinds.Prepare (calls.Prepare text) old new r

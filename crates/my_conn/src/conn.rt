@@ -3,6 +3,7 @@ ghost use Rattle.std.specs.Prelude.{◌≡◌, ◌||◌, Some, None, true, false
 ghost use Rattle.std.specs.Option.{option_copied};
 ghost use Rattle.my_session.specs.Steps.{is_taken};
 ghost use Rattle.my_session.specs.Rest.{has_rest};
+ghost use Rattle.my_statements.specs.Known.{known_of};
 ghost use Rattle.my_line.specs.Calls.{pending_after};
 ghost use Rattle.my_conn.specs.Calls.{lost_answer};
 ghost use Rattle.my_conn.specs.News.{first_fixed};
@@ -12,9 +13,10 @@ use my_frame::NoMemory;
 use my_line::{cancel_open, poll_once};
 use my_link::{CheckStep, Link, Met};
 use my_opts::Opts;
-use my_reading::{Answer, Call, CallKind, DriverError, Error};
+use my_reading::{Answer, Call, CallKind, DriverError, Error, SetColumns};
 use my_reply::OkPacket;
 use my_session::Session;
+use my_statements::Statement;
 use std::alloc::Global;
 use std::marker::Model;
 
@@ -82,6 +84,9 @@ fn lost_answer(kind: CallKind) -> After
         CallKind::Quit => After::Answered(Answer::Ready),
         CallKind::Connect
         | CallKind::Query
+        | CallKind::Prepare
+        | CallKind::Execute
+        | CallKind::CloseStmt
         | CallKind::NextRow
         | CallKind::DropResult
         | CallKind::TakeSet
@@ -201,6 +206,13 @@ impl<L> Conn<L> {
         ensures { option_copied result ≡ self.now.seen.facts.ok }
     {
         self.session.last_ok()
+    }
+
+    /// The columns of the rows of a prepared statement, where they are known.
+    pub fn columns_of(&self, statement: &Statement) -> Option<&SetColumns>
+        ensures { option_copied result ≡ known_of statement.now.inner.id self.now.seen.statements.known }
+    {
+        self.session.columns_of(statement)
     }
 
     /// Hands out the tape, where one is kept. None is kept from here on.

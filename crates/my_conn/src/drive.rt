@@ -1,17 +1,22 @@
 //! Calls that wait, over links that never hold: each polls its call until it returns.
-ghost use Rattle.std.specs.Prelude.{◌≡◌, None, Some};
+ghost use Rattle.std.specs.Prelude.{◌≡◌, None, Some, true};
 ghost use Rattle.my_line.specs.Calls.{MayPoll};
+ghost use Rattle.my_reading.specs.declared.answer.Answer.TheVariants as answers;
 ghost use Rattle.my_reading.specs.declared.call.Call.TheVariants as calls;
 ghost use Rattle.my_reading.specs.declared.call.CallKind.TheVariants as kinds;
+ghost use Rattle.my_reading.specs.Told.{told};
+ghost use Rattle.my_session.specs.Fits.{may_be};
 ghost use Rattle.my_conn.specs.Answers.{next_of};
-ghost use Rattle.my_conn.specs.Drives.{DoneIs, DriveIs, NextIs};
+ghost use Rattle.my_conn.specs.Drives.{DoneIs, DriveIs, NextIs, PrepareIs};
 
 use crate::conn::Conn;
 use my_client::After;
 use my_frame::Blob;
 use my_line::{TOO_LONG, never_holds};
 use my_link::BlockingLink;
+use my_params::Params;
 use my_reading::{Answer, Call, CallKind, DriverError, Error};
+use my_statements::Statement;
 use my_value::Row;
 use std::alloc::Global;
 
@@ -25,7 +30,7 @@ pub enum NextAnswer {
     NoSet,
 }
 
-/// What a read was answered. It is never answered that it is done.
+/// What a read was answered. It is never answered that it is done, nor by a statement.
 pub fn next_answer(given: Answer) -> NextAnswer
     ensures { result ≡ next_of given }
 {
@@ -34,6 +39,18 @@ pub fn next_answer(given: Answer) -> NextAnswer
         Answer::SetEnd => NextAnswer::SetEnd,
         Answer::NoSet => NextAnswer::NoSet,
         Answer::Ready => NextAnswer::NoSet,
+        Answer::Stmt(_) => NextAnswer::NoSet,
+    }
+}
+
+/// The statement by which a statement to prepare was answered.
+pub fn statement_answer(given: Answer) -> Statement
+    requires { may_be kinds.Prepare (told given) ≡ true }
+    ensures { given ≡ answers.Stmt result }
+{
+    match given {
+        Answer::Stmt(statement) => statement,
+        Answer::Ready | Answer::Row(_) | Answer::SetEnd | Answer::NoSet => unreachable!(),
     }
 }
 
@@ -85,6 +102,42 @@ impl<L: BlockingLink> Conn<L> {
         ensures { DoneIs L.looks kinds.Query (calls.Query text) self.old self.new result }
     {
         self.wait(alloc, CallKind::Query, Call::Query(text))
+    }
+
+    /// Prepares a statement of this text, which may have named parameters, and waits for it. One that is cached is returned
+    /// at once.
+    pub fn prepare(&mut self, alloc: Global, text: Blob) -> Result<Statement, Error>
+        requires { self.old.pending ≡ None }
+        ensures { PrepareIs L.looks text self.old self.new result }
+    {
+        match self.drive(alloc, CallKind::Prepare, Call::Prepare(text)) {
+            Ok(answer) => return Ok(statement_answer(answer)),
+            Err(error) => return Err(error),
+        }
+    }
+
+    /// Executes a statement with these parameters, and waits until the server accepts it.
+    pub fn execute(
+        &mut self,
+        alloc: Global,
+        statement: Statement,
+        params: Params,
+    ) -> Result<(), Error>
+        requires { self.old.pending ≡ None }
+        ensures { DoneIs L.looks kinds.Execute (calls.Execute statement params) self.old self.new result }
+    {
+        let call = Call::Execute(statement, params);
+        self.wait(alloc, CallKind::Execute, call)
+    }
+
+    /// Closes a statement: it isn't cached any more, and the server forgets it.
+    pub fn close_statement(&mut self, alloc: Global, statement: Statement) -> Result<(), Error>
+        requires { self.old.pending ≡ None }
+        ensures { DoneIs L.looks kinds.CloseStmt (calls.CloseStmt statement.inner.id) self.old self.new result }
+    {
+        let id = statement.id();
+        drop(statement);
+        self.wait(alloc, CallKind::CloseStmt, Call::CloseStmt(id))
     }
 
     /// Waits for the next row.

@@ -15,7 +15,7 @@ pub fn taken_answer(given: &Answer) -> bool
 {
     match given {
         Answer::Ready => true,
-        Answer::Row(_) | Answer::SetEnd | Answer::NoSet => false,
+        Answer::Row(_) | Answer::SetEnd | Answer::NoSet | Answer::Stmt(_) => false,
     }
 }
 

@@ -1,20 +1,20 @@
 -- How a call begins on a connection.
-use Rattle.std.proofs.Common.{ℕ, ◌≡◌, List, [], ◌∷◌, length, ◌||◌, ◌&&◌, not, ◌⊎◌, inl, inr, Bool, true, false, cond, Option, Some, None, refl, sym, ap, ◌∙◌, subst}
+use Rattle.std.proofs.Common.{◌≡◌, List, [], ◌∷◌, length, ◌||◌, ◌&&◌, not, ◌⊎◌, inl, inr, Bool, true, false, cond, Option, Some, None, refl, sym, ap, ◌∙◌, subst}
 use Rattle.my_grammar.specs.declared.login.Login.{Login}
 use Rattle.my_value.specs.RowParts.{RowParts}
 use Rattle.my_reading.specs.declared.call.Call.{Call}
 use Rattle.my_reading.specs.declared.call.Call.TheVariants as calls
 use Rattle.my_reading.specs.declared.call.CallKind.{CallKind}
-use Rattle.my_reading.specs.declared.call.CallKind.TheVariants.{Connect, Query, NextRow, DropResult, TakeSet, SkipTaken, Ping, Quit}
+use Rattle.my_reading.specs.declared.call.CallKind.TheVariants.{Connect, Query, Prepare, Execute, CloseStmt, NextRow, DropResult, TakeSet, SkipTaken, Ping, Quit}
 use Rattle.my_session.specs.declared.task.Task.{Task}
-use Rattle.my_session.specs.declared.task.Task.TheVariants.{Nothing, Begun, Cleaning, Own, Arranging, Reading, Dropping, Taking, Skipping, Leaving, Failing}
+use Rattle.my_session.specs.declared.task.Task.TheVariants.{Nothing, Begun, Cleaning, Own, Giving, Arranging, Reading, Dropping, Taking, Skipping, Leaving, Failing}
 use Rattle.my_grammar.specs.declared.spot.Spot.{Spot}
 use Rattle.my_reading.specs.Calls.{kind_of, call_of, is_quit}
 use Rattle.my_reading.specs.Course.{is_greeting}
 use Rattle.my_reading.specs.Place.{Place, Exchange, exchanges, connects_in}
 use Rattle.my_session.specs.Tasks.{kind_in, fault_in, is_open}
 use Rattle.my_reading.specs.Errors.{connection_closed}
-use Rattle.my_reading.specs.Told.{Told, ToldReady, ToldRow, ToldEnd, ToldNone, ToldError, Dropped, closes}
+use Rattle.my_reading.specs.Told.{Told, ToldReady, ToldRow, ToldEnd, ToldNone, ToldStatement, ToldError, Dropped, closes}
 use Rattle.my_session.specs.History.{History, Made, beginning, began, answered, has_closed}
 use Rattle.my_session.specs.Seen.{Seen}
 use Rattle.my_session.specs.Entries.{connecting_in, has_connected}
@@ -35,11 +35,15 @@ use Rattle.my_client.proofs.Hearing.{answer_counts, ended_of}
 note_keeps : (c : CallKind) (t : Told) → is_note c t ≡ true → closes t c ≡ false
 note_keeps Connect t n = cc
 note_keeps Query t n = cc
+note_keeps Prepare t n = cc
+note_keeps Execute t n = cc
+note_keeps CloseStmt t n = cc
 note_keeps NextRow t n = cc
 note_keeps DropResult ToldReady n = cc
 note_keeps DropResult (ToldRow row) n = refl
 note_keeps DropResult ToldEnd n = refl
 note_keeps DropResult ToldNone n = cc
+note_keeps DropResult (ToldStatement statement) n = cc
 note_keeps DropResult (ToldError e) n = cc
 note_keeps DropResult (Dropped closing) n = cc
 note_keeps TakeSet t n = cc
@@ -47,6 +51,7 @@ note_keeps SkipTaken ToldReady n = cc
 note_keeps SkipTaken (ToldRow row) n = refl
 note_keeps SkipTaken ToldEnd n = refl
 note_keeps SkipTaken ToldNone n = cc
+note_keeps SkipTaken (ToldStatement statement) n = cc
 note_keeps SkipTaken (ToldError e) n = cc
 note_keeps SkipTaken (Dropped closing) n = cc
 note_keeps Ping t n = cc
@@ -69,39 +74,41 @@ pub closed_kept : (login : Login) (s : Seen) (k : Kept) → IsHeard login s k �
 closed_kept login s k w = w.stands.heard.closed_is ∙ or_none (has_closed w.history.calls) w.history.lost w.kept.lost_is ∙ closed_answers w.history.calls ∙ ap has_closed w.kept.calls_are
 
 -- where the session has an open call, the connection keeps one, and where it has none, none
-open_call : (t : Task) (text : List ℕ) (p : Option Call) (q : Option Asked) → is_open t ≡ true → p ≡ call_with (kind_in t) text → p ≡ call_in q → (a : Asked) × (q ≡ Some a)
-open_call t text p (Some a) o e f = (a, refl)
-open_call Nothing text p None o e f = cc
-open_call (Begun c) text p None o e f = let no : Some (call_of c text) ≡ None = sym e ∙ f in cc
-open_call (Cleaning c) text p None o e f = let no : Some (call_of c text) ≡ None = sym e ∙ f in cc
-open_call (Own c) text p None o e f = let no : Some (call_of c text) ≡ None = sym e ∙ f in cc
-open_call (Arranging n) text p None o e f = let no : Some (call_of Connect text) ≡ None = sym e ∙ f in cc
-open_call Reading text p None o e f = let no : Some (call_of NextRow text) ≡ None = sym e ∙ f in cc
-open_call Dropping text p None o e f = let no : Some (call_of DropResult text) ≡ None = sym e ∙ f in cc
-open_call Taking text p None o e f = let no : Some (call_of TakeSet text) ≡ None = sym e ∙ f in cc
-open_call Skipping text p None o e f = let no : Some (call_of SkipTaken text) ≡ None = sym e ∙ f in cc
-open_call Leaving text p None o e f = let no : Some (call_of Quit text) ≡ None = sym e ∙ f in cc
-open_call (Failing c fault) text p None o e f = let no : Some (call_of c text) ≡ None = sym e ∙ f in cc
+open_call : (t : Task) (carried : Call) (p : Option Call) (q : Option Asked) → is_open t ≡ true → p ≡ call_with (kind_in t) carried → p ≡ call_in q → (a : Asked) × (q ≡ Some a)
+open_call t carried p (Some a) o e f = (a, refl)
+open_call Nothing carried p None o e f = cc
+open_call (Begun c) carried p None o e f = let no : Some (call_of c carried) ≡ None = sym e ∙ f in cc
+open_call (Cleaning c) carried p None o e f = let no : Some (call_of c carried) ≡ None = sym e ∙ f in cc
+open_call (Own c) carried p None o e f = let no : Some (call_of c carried) ≡ None = sym e ∙ f in cc
+open_call Giving carried p None o e f = let no : Some (call_of Prepare carried) ≡ None = sym e ∙ f in cc
+open_call (Arranging n) carried p None o e f = let no : Some (call_of Connect carried) ≡ None = sym e ∙ f in cc
+open_call Reading carried p None o e f = let no : Some (call_of NextRow carried) ≡ None = sym e ∙ f in cc
+open_call Dropping carried p None o e f = let no : Some (call_of DropResult carried) ≡ None = sym e ∙ f in cc
+open_call Taking carried p None o e f = let no : Some (call_of TakeSet carried) ≡ None = sym e ∙ f in cc
+open_call Skipping carried p None o e f = let no : Some (call_of SkipTaken carried) ≡ None = sym e ∙ f in cc
+open_call Leaving carried p None o e f = let no : Some (call_of Quit carried) ≡ None = sym e ∙ f in cc
+open_call (Failing c fault) carried p None o e f = let no : Some (call_of c carried) ≡ None = sym e ∙ f in cc
 
 pub is_asked : (login : Login) (s : Seen) (k : Kept) → is_open s.task ≡ true → IsHeard login s k → (a : Asked) × (k.pending ≡ Some a)
-is_asked login s k o w = open_call s.task s.text w.history.pending k.pending o w.stands.heard.pending_is w.kept.pending_is
+is_asked login s k o w = open_call s.task s.call w.history.pending k.pending o w.stands.heard.pending_is w.kept.pending_is
 
-no_call : (t : Task) (text : List ℕ) (p : Option Call) (q : Option Asked) → is_open t ≡ false → p ≡ call_with (kind_in t) text → p ≡ call_in q → q ≡ None
-no_call t text p None o e f = refl
-no_call Nothing text p (Some a) o e f = let no : None ≡ Some a.call = sym e ∙ f in cc
-no_call (Begun c) text p (Some a) o e f = cc
-no_call (Cleaning c) text p (Some a) o e f = cc
-no_call (Own c) text p (Some a) o e f = cc
-no_call (Arranging n) text p (Some a) o e f = cc
-no_call Reading text p (Some a) o e f = cc
-no_call Dropping text p (Some a) o e f = cc
-no_call Taking text p (Some a) o e f = cc
-no_call Skipping text p (Some a) o e f = cc
-no_call Leaving text p (Some a) o e f = cc
-no_call (Failing c fault) text p (Some a) o e f = cc
+no_call : (t : Task) (carried : Call) (p : Option Call) (q : Option Asked) → is_open t ≡ false → p ≡ call_with (kind_in t) carried → p ≡ call_in q → q ≡ None
+no_call t carried p None o e f = refl
+no_call Nothing carried p (Some a) o e f = let no : None ≡ Some a.call = sym e ∙ f in cc
+no_call (Begun c) carried p (Some a) o e f = cc
+no_call (Cleaning c) carried p (Some a) o e f = cc
+no_call (Own c) carried p (Some a) o e f = cc
+no_call Giving carried p (Some a) o e f = cc
+no_call (Arranging n) carried p (Some a) o e f = cc
+no_call Reading carried p (Some a) o e f = cc
+no_call Dropping carried p (Some a) o e f = cc
+no_call Taking carried p (Some a) o e f = cc
+no_call Skipping carried p (Some a) o e f = cc
+no_call Leaving carried p (Some a) o e f = cc
+no_call (Failing c fault) carried p (Some a) o e f = cc
 
 pub is_idle : (login : Login) (s : Seen) (k : Kept) → is_open s.task ≡ false → IsHeard login s k → k.pending ≡ None
-is_idle login s k o w = no_call s.task s.text w.history.pending k.pending o w.stands.heard.pending_is w.kept.pending_is
+is_idle login s k o w = no_call s.task s.call w.history.pending k.pending o w.stands.heard.pending_is w.kept.pending_is
 
 -- where it begins, by the histories
 begun_stands : (c : CallKind) (spot : Spot) (connected : Bool) (p : Place) → BegunAt c spot connected → (is_greeting spot ≡ true → (p.call ≡ calls.Connect) × (p.older ≡ []) × (p.end_left ≡ false)) → BegunStandsAt c spot (connects_in (exchanges p))
@@ -109,6 +116,9 @@ begun_stands Connect spot connected p w first =
     let f = first (ap is_greeting w.1) in
     (w.1, ap (λ (c : Call). connects_in (record { call = c; talk = p.talk } ∷ p.older)) f.0 ∙ ap (λ (es : List Exchange). connects_in (record { call = calls.Connect; talk = p.talk } ∷ es)) f.1)
 begun_stands Query spot connected p w first = settled_not_greeting spot (settled_reads spot w.1)
+begun_stands Prepare spot connected p w first = settled_not_greeting spot (settled_reads spot w.1)
+begun_stands Execute spot connected p w first = settled_not_greeting spot (settled_reads spot w.1)
+begun_stands CloseStmt spot connected p w first = settled_not_greeting spot (settled_reads spot w.1)
 begun_stands NextRow spot connected p w first = settled_not_greeting spot (settled_reads spot w.1)
 begun_stands DropResult spot connected p w first = settled_not_greeting spot (settled_reads spot w.1)
 begun_stands TakeSet spot connected p w first = settled_not_greeting spot (settled_reads spot w.1)
@@ -121,6 +131,7 @@ idle_task Nothing e = refl
 idle_task (Begun c) e = cc
 idle_task (Cleaning c) e = cc
 idle_task (Own c) e = cc
+idle_task Giving e = cc
 idle_task (Arranging n) e = cc
 idle_task Reading e = cc
 idle_task Dropping e = cc
@@ -145,7 +156,7 @@ begins_read login s t k call rows idle e h st log w = by_closed s.closed refl
         inl (begin_open login s t k call e log (idle_task s.task idle) w rows c
         (begun_stands (kind_of call) s.context.spot (has_connected h.calls) w.place (subst (λ x. BegunAt (kind_of call) x (has_connected h.calls)) spot_is at) w.at.mirrors.first))
     by_closed true c =
-        let quit : Some call ≡ Some calls.Quit = st.heard.pending_is ∙ ap (λ (u : Task). call_with (kind_in u) t.text) (task_is true c) in
+        let quit : Some call ≡ Some calls.Quit = st.heard.pending_is ∙ ap (λ (u : Task). call_with (kind_in u) t.call) (task_is true c) in
         let is : call ≡ calls.Quit = cc in
         inr (begin_quit login s t k call e log (idle_task s.task idle) w rows c (ap kind_of is))
 

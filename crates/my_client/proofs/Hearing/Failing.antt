@@ -5,7 +5,7 @@ use Rattle.my_session.specs.declared.answer.SessionStep.TheVariants as steps
 use Rattle.my_session.specs.declared.task.LinkFault.{LinkFault}
 use Rattle.my_session.specs.declared.task.LinkFault.TheVariants as faults
 use Rattle.my_session.specs.declared.task.Task.{Task}
-use Rattle.my_session.specs.declared.task.Task.TheVariants.{Nothing, Begun, Cleaning, Own, Arranging, Reading, Dropping, Taking, Skipping, Leaving, Failing}
+use Rattle.my_session.specs.declared.task.Task.TheVariants.{Nothing, Begun, Cleaning, Own, Giving, Arranging, Reading, Dropping, Taking, Skipping, Leaving, Failing}
 use Rattle.my_session.specs.declared.answer.Tick.TheVariants as ticks
 use Rattle.my_reading.specs.declared.error.IoError.{IoError}
 use Rattle.my_reading.specs.declared.error.IoError.TheVariants as ios
@@ -60,6 +60,7 @@ is_leaving Nothing closed c o f a = cc
 is_leaving (Begun k) closed c o f a = let no : true ≡ false = sym c ∙ a refl in cc
 is_leaving (Cleaning k) closed c o f a = let no : true ≡ false = sym c ∙ a refl in cc
 is_leaving (Own k) closed c o f a = let no : true ≡ false = sym c ∙ a refl in cc
+is_leaving Giving closed c o f a = let no : true ≡ false = sym c ∙ a refl in cc
 is_leaving (Arranging n) closed c o f a = let no : true ≡ false = sym c ∙ a refl in cc
 is_leaving Reading closed c o f a = let no : true ≡ false = sym c ∙ a refl in cc
 is_leaving Dropping closed c o f a = let no : true ≡ false = sym c ∙ a refl in cc
@@ -95,7 +96,8 @@ io_by login k (ios.Codec fault) ended n o (inl c) = (refl, c)
 io_by login k (ios.Codec fault) ended n o (inr c) = let e : errors.Io (ios.Codec fault) ≡ unexpected_eof c.0 = c.1 in cc
 
 own_by : (login : Login) (k : Kept) (e : Error) (ended : Bool) → e ≢ errors.NoMemory → (ended ≡ true → ⊥) → OwnError ended e → IsOwn login k e → ErrorBy login k e 0 0
-own_by login k (errors.Driver e) ended ne n o c = absurd o
+own_by login k (errors.Driver e) ended ne n o (inl c) = (o, refl, c)
+own_by login k (errors.Driver e) ended ne n o (inr c) = let is : errors.Driver e ≡ unexpected_eof c.0 = c.1 in cc
 own_by login k (errors.Io e) ended ne n o c = io_by login k e ended n o c
 own_by login k (errors.Server e) ended ne n o (inl c) = (refl, c)
 own_by login k (errors.Server e) ended ne n o (inr c) = let is : errors.Server e ≡ unexpected_eof c.0 = c.1 in cc
@@ -121,6 +123,7 @@ told_to_fail Nothing fault o = cc
 told_to_fail (Begun c) fault o = refl
 told_to_fail (Cleaning c) fault o = refl
 told_to_fail (Own c) fault o = refl
+told_to_fail Giving fault o = refl
 told_to_fail (Arranging n) fault o = refl
 told_to_fail Reading fault o = refl
 told_to_fail Dropping fault o = refl

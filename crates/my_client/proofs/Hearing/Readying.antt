@@ -2,13 +2,13 @@
 use Rattle.std.proofs.Common.{◌≡◌, List, [], ◌∷◌, ◌||◌, Bool, true, false, cond, None, refl, sym, ap, ◌∙◌, subst}
 use Rattle.my_grammar.specs.declared.login.Login.{Login}
 use Rattle.my_reading.specs.declared.call.CallKind.{CallKind}
-use Rattle.my_reading.specs.declared.call.CallKind.TheVariants.{Connect, Query, NextRow, DropResult, TakeSet, SkipTaken, Ping, Quit}
+use Rattle.my_reading.specs.declared.call.CallKind.TheVariants.{Connect, Query, Prepare, Execute, CloseStmt, NextRow, DropResult, TakeSet, SkipTaken, Ping, Quit}
 use Rattle.my_session.specs.declared.task.Task.{Task}
 use Rattle.my_session.specs.declared.task.Task.TheVariants.{Nothing}
 use Rattle.my_reading.specs.Calls.{kind_of, is_connect}
 use Rattle.my_session.specs.Tasks.{is_open}
 use Rattle.my_session.specs.Entries.{connects, connecting_in, has_connected}
-use Rattle.my_reading.specs.Told.{Told, ToldReady, ToldRow, ToldEnd, ToldNone, ToldError, Dropped, told}
+use Rattle.my_reading.specs.Told.{Told, ToldReady, ToldRow, ToldEnd, ToldNone, ToldStatement, ToldError, Dropped, told}
 use Rattle.my_reading.specs.declared.answer.Answer.{Answer}
 use Rattle.my_reading.specs.declared.answer.Answer.TheVariants as answers
 use Rattle.my_session.specs.Fits.{may_be}
@@ -25,11 +25,15 @@ use Rattle.my_client.proofs.Hearing.Beginning.{closed_kept, is_idle}
 note_joins : (c : CallKind) (t : Told) → is_note c t ≡ true → connects t c ≡ false
 note_joins Connect t n = cc
 note_joins Query t n = cc
+note_joins Prepare t n = cc
+note_joins Execute t n = cc
+note_joins CloseStmt t n = cc
 note_joins NextRow t n = cc
 note_joins DropResult ToldReady n = cc
 note_joins DropResult (ToldRow row) n = refl
 note_joins DropResult ToldEnd n = refl
 note_joins DropResult ToldNone n = cc
+note_joins DropResult (ToldStatement statement) n = cc
 note_joins DropResult (ToldError e) n = cc
 note_joins DropResult (Dropped closing) n = cc
 note_joins TakeSet t n = cc
@@ -37,6 +41,7 @@ note_joins SkipTaken ToldReady n = cc
 note_joins SkipTaken (ToldRow row) n = refl
 note_joins SkipTaken ToldEnd n = refl
 note_joins SkipTaken ToldNone n = cc
+note_joins SkipTaken (ToldStatement statement) n = cc
 note_joins SkipTaken (ToldError e) n = cc
 note_joins SkipTaken (Dropped closing) n = cc
 note_joins Ping t n = cc
@@ -67,6 +72,9 @@ is_ready login s k heard was idle still =
 pub at_begun : (c : CallKind) (spot : Spot) → is_connect c ≡ false → is_settled spot ≡ true → AtBegun c spot
 at_begun Connect spot e s = cc
 at_begun Query spot e s = s
+at_begun Prepare spot e s = s
+at_begun Execute spot e s = s
+at_begun CloseStmt spot e s = s
 at_begun NextRow spot e s = s
 at_begun DropResult spot e s = s
 at_begun TakeSet spot e s = s
@@ -80,7 +88,11 @@ connect_ready Connect answers.Ready e m = refl
 connect_ready Connect (answers.Row row) e m = cc
 connect_ready Connect answers.SetEnd e m = cc
 connect_ready Connect answers.NoSet e m = cc
+connect_ready Connect (answers.Stmt statement) e m = cc
 connect_ready Query answer e m = cc
+connect_ready Prepare answer e m = cc
+connect_ready Execute answer e m = cc
+connect_ready CloseStmt answer e m = cc
 connect_ready NextRow answer e m = cc
 connect_ready DropResult answer e m = cc
 connect_ready TakeSet answer e m = cc

@@ -44,7 +44,7 @@ heard_on login s t k step g l st w f =
       history = after_step (passing w.history u.0) step;
       stands = u.2;
       login_is = l ∙ w.login_is;
-      kept = f (passing w.history u.0) (passing_of k w.history (kind_in s.task) s.text u.0 w.stands.heard.pending_is u.1 w.kept);
+      kept = f (passing w.history u.0) (passing_of k w.history (kind_in s.task) s.call u.0 w.stands.heard.pending_is u.1 w.kept);
     }
 
 fits_of : (login : Login) (s t : Seen) (k : Kept) (step : SessionStep) → Steps s t step → IsHeard login s k → StepFits s t step
@@ -59,15 +59,16 @@ fails_now login s t k a e w p v n st rd =
     let f = fits_of login s t k (steps.Fault e) v w in
     let heard : IsHeard login t (ended_by k a (says.Failed e)) = heard_on login s t k (steps.Fault e) (ended_by k a (says.Failed e)) f.login st w (λ h i. ended_of k a h (says.Failed e) p (answer_counts (kind_of a.call) (ToldError e) refl) i) in
     let u = st w.history w.stands in
-    let because : Because login (fault_in u.3.here.task) (passing w.history u.0) e = subst (λ l. Because l (fault_in u.3.here.task) (passing w.history u.0) e) (u.3.login ∙ w.login_is) u.3.cause in
+    let because : Because login (fault_in u.3.here.task) u.3.here.statements (passing w.history u.0) e = subst (λ l. Because l (fault_in u.3.here.task) u.3.here.statements (passing w.history u.0) e) (u.3.login ∙ w.login_is) u.3.cause in
     let closed_then : t.closed ≡ has_closed (answered (passing w.history u.0) (ToldError e)).calls || (passing w.history u.0).lost = u.2.heard.closed_is in
     record {
       why = record {
         made = fault_in u.3.here.task;
+        statements = u.3.here.statements;
         history = passing w.history u.0;
-        kept = passing_of k w.history (kind_in s.task) s.text u.0 w.stands.heard.pending_is u.1 w.kept;
+        kept = passing_of k w.history (kind_in s.task) s.call u.0 w.stands.heard.pending_is u.1 w.kept;
         because = because;
-        whole = each_whole_call login (fault_in u.3.here.task) (passing w.history u.0) e because;
+        whole = each_whole_call login (fault_in u.3.here.task) u.3.here.statements (passing w.history u.0) e because;
       };
       heard = heard;
       step = v;
@@ -106,15 +107,15 @@ pub nothing_faults : (t : Task) → t ≡ Nothing → fault_in t ≡ None
 nothing_faults t e = ap fault_in e
 
 -- the step answers the call
-told_asked : (c : Option CallKind) (call : Call) (text : List ℕ) (t : Told) → Some call ≡ call_with c text → may_be_told c t ≡ true → may_be (kind_of call) t ≡ true
-told_asked c call text t e m = subst (λ (c : Option CallKind). may_be_told c t ≡ true) (asked_kind call c text e) m
+told_asked : (c : Option CallKind) (call : Call) (carried : Call) (t : Told) → Some call ≡ call_with c carried → may_be_told c t ≡ true → may_be (kind_of call) t ≡ true
+told_asked c call carried t e m = subst (λ (c : Option CallKind). may_be_told c t ≡ true) (asked_kind call c carried e) m
 
 pub is_answered : (login : Login) (s t : Seen) (k : Kept) (a : Asked) (answer : Answer) → IsAsked login s k a → Steps s t (steps.Done answer) → t.task ≡ Nothing → StepStands s t (steps.Done answer) → EachStepReads s t (steps.Done answer) → IsAnswered login t k a answer
 is_answered login s t k a answer w v n st rd =
     let heard = w.rests.heard in
     let f = fits_of login s t k (steps.Done answer) v heard in
-    let open_is : Some a.call ≡ call_with (kind_in s.task) s.text = sym (ap call_in w.asked) ∙ sym heard.kept.pending_is ∙ heard.stands.heard.pending_is in
-    let fits : may_be (kind_of a.call) (told answer) ≡ true = told_asked (kind_in s.task) a.call s.text (told answer) open_is f.answer in
+    let open_is : Some a.call ≡ call_with (kind_in s.task) s.call = sym (ap call_in w.asked) ∙ sym heard.kept.pending_is ∙ heard.stands.heard.pending_is in
+    let fits : may_be (kind_of a.call) (told answer) ≡ true = told_asked (kind_in s.task) a.call s.call (told answer) open_is f.answer in
     record {
       rests = record {
         heard = heard_on login s t k (steps.Done answer) (ended_by k a (says.Answered answer)) f.login st heard (λ h i. ended_of k a h (says.Answered answer) w.asked (answer_counts (kind_of a.call) (told answer) fits) i);

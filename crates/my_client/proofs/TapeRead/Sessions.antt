@@ -11,10 +11,10 @@ use Rattle.my_reading.specs.declared.answer.Answer.{Answer}
 use Rattle.my_reading.specs.declared.call.Call.{Call}
 use Rattle.my_reading.specs.declared.call.Call.TheVariants as calls
 use Rattle.my_reading.specs.declared.call.CallKind.{CallKind}
-use Rattle.my_reading.specs.declared.call.CallKind.TheVariants.{Connect, Query, NextRow, DropResult, TakeSet, SkipTaken, Ping, Quit}
+use Rattle.my_reading.specs.declared.call.CallKind.TheVariants.{Connect, Query, Prepare, Execute, CloseStmt, NextRow, DropResult, TakeSet, SkipTaken, Ping, Quit}
 use Rattle.my_reading.specs.declared.error.Error.{Error}
 use Rattle.my_reading.specs.declared.error.Error.TheVariants as errors
-use Rattle.my_reading.specs.Calls.{asks, kind_of, call_of, text_of, is_quit}
+use Rattle.my_reading.specs.Calls.{asks, kind_of, call_of, is_quit}
 use Rattle.my_reading.specs.Course.{Part, Owes, Awaits, Returns, Stops, step, parts_of}
 use Rattle.my_reading.specs.Endings.{closes_cancelled, awaits_head}
 use Rattle.my_reading.specs.Errors.{io_error, connection_closed, unexpected_eof}
@@ -182,6 +182,8 @@ sent_at s t call parts p n e o = subst (λ (x : Seen). OpenAt x call parts (with
     taken_is = o.at.taken_is;
     own_end = o.at.own_end;
     task_at = o.at.task_at;
+    statements_are = o.at.statements_are;
+    checked = o.at.checked;
     settled = λ quiet. ap (drop n) (o.at.settled quiet) ∙ drop-nil {A = ℕ} n;
   };
   alive = o.alive;
@@ -198,6 +200,8 @@ taken_at s t call parts p bytes e o = subst (λ (x : Seen). OpenAt x call parts 
     taken_is = o.at.taken_is;
     own_end = o.at.own_end;
     task_at = o.at.task_at;
+    statements_are = o.at.statements_are;
+    checked = o.at.checked;
     settled = o.at.settled;
   };
   alive = o.alive;
@@ -208,7 +212,7 @@ taken_at s t call parts p bytes e o = subst (λ (x : Seen). OpenAt x call parts 
 
 ended_at : (s t : Seen) (call : Call) (parts : List Part) (p : Place) → t ≡ with_end s → OpenAt s call parts p → OpenAt t call parts p
 ended_at s t call parts p e o = subst (λ (x : Seen). OpenAt x call parts p) (sym e) (record {
-  at = record { mirrors = o.at.mirrors; end_is = o.at.end_is; taken_is = o.at.taken_is; own_end = o.at.own_end; task_at = o.at.task_at; settled = o.at.settled };
+  at = record { mirrors = o.at.mirrors; end_is = o.at.end_is; taken_is = o.at.taken_is; own_end = o.at.own_end; task_at = o.at.task_at; statements_are = o.at.statements_are; checked = o.at.checked; settled = o.at.settled };
   alive = o.alive;
   sound = o.sound;
   call_is = o.call_is;
@@ -238,17 +242,20 @@ broke_read login s r t k a e log some op is made v w =
 -- the open call is cancelled
 module _ (s : Seen) (call : Call) (parts : List Part) (p : Place) (o : OpenAt s call parts p) (stepped : is_begun s.task ≡ false) (shut : s.task ≡ tasks.Leaving → s.closed ≡ true) where
   kind_is : (c : CallKind) → kind_in s.task ≡ Some c → kind_of call ≡ c
-  kind_is c e = let same : Some (call_of c s.text) ≡ Some call = sym (ap (λ k. call_with k s.text) e) ∙ o.call_is in let is : call ≡ call_of c s.text = cc in ap kind_of is ∙ back c s.text
+  kind_is c e = let same : Some (call_of c s.call) ≡ Some call = sym (ap (λ k. call_with k s.call) e) ∙ o.call_is in let is : call ≡ call_of c s.call = cc in ap kind_of is ∙ back c s.call
     where
-      back : (c : CallKind) (text : List ℕ) → kind_of (call_of c text) ≡ c
-      back Connect text = refl
-      back Query text = refl
-      back NextRow text = refl
-      back DropResult text = refl
-      back TakeSet text = refl
-      back SkipTaken text = refl
-      back Ping text = refl
-      back Quit text = refl
+      back : (c : CallKind) (carried : Call) → kind_of (call_of c carried) ≡ c
+      back Connect carried = refl
+      back Query carried = refl
+      back Prepare carried = refl
+      back Execute carried = refl
+      back CloseStmt carried = refl
+      back NextRow carried = refl
+      back DropResult carried = refl
+      back TakeSet carried = refl
+      back SkipTaken carried = refl
+      back Ping carried = refl
+      back Quit carried = refl
 
   spot_is : s.context.spot ≡ (context_of p.talk).spot
   spot_is = ap (λ (c : Context). c.spot) o.at.mirrors.context_is
@@ -256,6 +263,9 @@ module _ (s : Seen) (call : Call) (parts : List Part) (p : Place) (o : OpenAt s 
   closes_asking : (c : CallKind) → asks c ≡ true → closes_cancelled c p ≡ true
   closes_asking Connect e = refl
   closes_asking Query e = refl
+  closes_asking Prepare e = refl
+  closes_asking Execute e = refl
+  closes_asking CloseStmt e = refl
   closes_asking NextRow e = cc
   closes_asking DropResult e = cc
   closes_asking TakeSet e = cc
@@ -266,6 +276,9 @@ module _ (s : Seen) (call : Call) (parts : List Part) (p : Place) (o : OpenAt s 
   closes_own : (c : CallKind) → OwnStandsAt c s.context.spot (connects_in (exchanges p)) → closes_cancelled c p ≡ true
   closes_own Connect w = refl
   closes_own Query w = refl
+  closes_own Prepare w = refl
+  closes_own Execute w = refl
+  closes_own CloseStmt w = refl
   closes_own NextRow w = absurd w
   closes_own DropResult w = absurd w
   closes_own TakeSet w = absurd w
@@ -274,10 +287,11 @@ module _ (s : Seen) (call : Call) (parts : List Part) (p : Place) (o : OpenAt s 
   closes_own Quit w = refl
 
   closes_is : (t : Task) → s.task ≡ t → TaskStandsAt t s.context.spot (connects_in (exchanges p)) → closes_when_cancelled t s.context.spot ≡ closes_cancelled (kind_of call) p
-  closes_is tasks.Nothing e w = let no : None ≡ Some call = sym (ap (λ u. call_with (kind_in u) s.text) e) ∙ o.call_is in cc
+  closes_is tasks.Nothing e w = let no : None ≡ Some call = sym (ap (λ u. call_with (kind_in u) s.call) e) ∙ o.call_is in cc
   closes_is (tasks.Begun c) e w = let no : true ≡ false = sym (ap is_begun e) ∙ stepped in cc
   closes_is (tasks.Cleaning c) e w = sym (ap (λ k. closes_cancelled k p) (kind_is c (ap kind_in e)) ∙ closes_asking c w.0)
   closes_is (tasks.Own c) e w = sym (ap (λ k. closes_cancelled k p) (kind_is c (ap kind_in e)) ∙ closes_own c w)
+  closes_is tasks.Giving e w = sym (ap (λ k. closes_cancelled k p) (kind_is Prepare (ap kind_in e)))
   closes_is (tasks.Arranging n) e w = sym (ap (λ k. closes_cancelled k p) (kind_is Connect (ap kind_in e)))
   closes_is tasks.Reading e w = ap awaits_head spot_is ∙ sym (ap (λ k. closes_cancelled k p) (kind_is NextRow (ap kind_in e)))
   closes_is tasks.Dropping e w = ap awaits_head spot_is ∙ sym (ap (λ k. closes_cancelled k p) (kind_is DropResult (ap kind_in e)))
@@ -291,6 +305,7 @@ module _ (s : Seen) (call : Call) (parts : List Part) (p : Place) (o : OpenAt s 
   keeps_end (tasks.Begun c) e f = refl
   keeps_end (tasks.Cleaning c) e f = cc
   keeps_end (tasks.Own c) e f = refl
+  keeps_end tasks.Giving e f = refl
   keeps_end (tasks.Arranging n) e f = cc
   keeps_end tasks.Reading e f = refl
   keeps_end tasks.Dropping e f = refl
@@ -304,6 +319,7 @@ module _ (s : Seen) (call : Call) (parts : List Part) (p : Place) (o : OpenAt s 
   owes_not (tasks.Begun c) e f = refl
   owes_not (tasks.Cleaning c) e f = refl
   owes_not (tasks.Own c) e f = cc
+  owes_not tasks.Giving e f = cc
   owes_not (tasks.Arranging n) e f = cc
   owes_not tasks.Reading e f = refl
   owes_not tasks.Dropping e f = refl
@@ -321,6 +337,8 @@ module _ (s : Seen) (call : Call) (parts : List Part) (p : Place) (o : OpenAt s 
       taken_is = o.at.taken_is;
       own_end = λ no. cc;
       task_at = tt;
+      statements_are = o.at.statements_are;
+      checked = λ no. cc;
       settled = λ _. o.at.settled (owes_not s.task refl e);
     },
     o.alive,
@@ -343,19 +361,25 @@ cancel_read login s t k a closing stepped shut e is w =
 
 -- a call begins
 module _ (login : Login) (s t : Seen) (k : Kept) (call : Call) where
-  back_whole : (c : Call) (text : List ℕ) → call_of (kind_of c) (text_of c text) ≡ c
-  back_whole calls.Connect text = refl
-  back_whole (calls.Query q) text = refl
-  back_whole calls.NextRow text = refl
-  back_whole calls.DropResult text = refl
-  back_whole calls.TakeSet text = refl
-  back_whole calls.SkipTaken text = refl
-  back_whole calls.Ping text = refl
-  back_whole calls.Quit text = refl
+  back_whole : (c : Call) → call_of (kind_of c) c ≡ c
+  back_whole calls.Connect = refl
+  back_whole (calls.Query q) = refl
+  back_whole (calls.Prepare q) = refl
+  back_whole (calls.Execute statement params) = refl
+  back_whole (calls.CloseStmt id) = refl
+  back_whole calls.NextRow = refl
+  back_whole calls.DropResult = refl
+  back_whole calls.TakeSet = refl
+  back_whole calls.SkipTaken = refl
+  back_whole calls.Ping = refl
+  back_whole calls.Quit = refl
 
-  parts_back : (c : Call) (l : Login) → parts_of l c ≡ parts_of l (call_of (kind_of c) [])
+  parts_back : (c : Call) (l : Login) → parts_of l c ≡ parts_of l (call_of (kind_of c) calls.Connect)
   parts_back calls.Connect l = refl
   parts_back (calls.Query q) l = refl
+  parts_back (calls.Prepare q) l = refl
+  parts_back (calls.Execute statement params) l = refl
+  parts_back (calls.CloseStmt id) l = refl
   parts_back calls.NextRow l = refl
   parts_back calls.DropResult l = refl
   parts_back calls.TakeSet l = refl
@@ -365,7 +389,7 @@ module _ (login : Login) (s t : Seen) (k : Kept) (call : Call) where
 
   -- the session with this task
   abbrev asked_with : Bool → Seen
-  asked_with b = record { context = s.context; task = (cond b tasks.Leaving (tasks.Begun (kind_of call))); text = text_of call s.text; untold = s.untold; taken = s.taken; closed = s.closed; ended = s.ended; number = s.number; unread = s.unread; owed = s.owed; facts = s.facts; login = s.login }
+  asked_with b = record { context = s.context; task = (cond b tasks.Leaving (tasks.Begun (kind_of call))); call = call; untold = s.untold; taken = s.taken; closed = s.closed; ended = s.ended; number = s.number; unread = s.unread; owed = s.owed; facts = s.facts; statements = s.statements; login = s.login }
 
   module _ (e : t ≡ begun s call) (log : s.login ≡ login) (idle : s.task ≡ tasks.Nothing) (w : RestRead login s k) where
     -- for any rows that are gathered
@@ -384,11 +408,13 @@ module _ (login : Login) (s t : Seen) (k : Kept) (call : Call) where
         taken_is = w.at.taken_is;
         own_end = λ no. cc;
         task_at = at;
+        statements_are = w.at.statements_are;
+        checked = λ no. cc;
         settled = λ _. w.at.settled (ap owes idle);
       };
       alive = c;
       sound = refl;
-      call_is = ap Some (back_whole call s.text);
+      call_is = ap Some (back_whole call);
       parts_are = parts_back call s.login;
     }
 
@@ -403,7 +429,7 @@ module _ (login : Login) (s t : Seen) (k : Kept) (call : Call) where
     }
 
     leaving_at : (b : Bool) → s.closed ≡ true → b ≡ true → StandsAt (asked_with b) w.place
-    leaving_at true c f = record { mirrors = w.at.mirrors; end_is = λ no _. let stop : true ≡ false = sym c ∙ no in cc; taken_is = w.at.taken_is; own_end = λ no. cc; task_at = tt; settled = λ _. w.at.settled (ap owes idle) }
+    leaving_at true c f = record { mirrors = w.at.mirrors; end_is = λ no _. let stop : true ≡ false = sym c ∙ no in cc; taken_is = w.at.taken_is; own_end = λ no. cc; task_at = tt; statements_are = λ no. let stop : true ≡ false = sym c ∙ no in cc; checked = λ no. cc; settled = λ _. w.at.settled (ap owes idle) }
     leaving_at false c f = cc
 
     pub begin_quit : (rows : Option (List RowParts)) → s.closed ≡ true → kind_of call ≡ Quit → QuitRead login t (asking k call rows) (record { call = call; sent_from = length k.sent; taken_from = length k.taken; rows = rows })
@@ -438,6 +464,8 @@ fresh_read login s e = record {
     taken_is = refl;
     own_end = λ _. refl;
     task_at = tt;
+    statements_are = λ _. refl;
+    checked = λ no. cc;
     settled = λ _. refl;
   });
 }

@@ -1,11 +1,18 @@
-use Rattle.std.proofs.Common.{◌≡◌, ◌⊎◌, Option, inl, inr, sym, ◌∙◌, subst}
+use Rattle.std.proofs.Common.{◌≡◌, ◌⊎◌, Option, inl, inr, refl, sym, ◌∙◌, subst}
 use Rattle.my_link.specs.Aid.{Texts}
 use Rattle.my_reading.specs.declared.call.Call.{Call}
 use Rattle.my_reading.specs.declared.error.Error.TheVariants as errors
 use Rattle.my_line.specs.Calls.{EachCall, MayStart}
 use Rattle.my_line.specs.Texts.{EndsRefused}
-use Rattle.my_line.proofs.Points.{call_fails, ends_so, follows_so, goes_on, is_made, not_made, starts, stays}
+use Rattle.my_line.proofs.Points.{begins, call_fails, ends_so, follows_so, goes_on, is_made, not_made, starts, stays}
 use Rattle.my_line.proofs.making.make.Goals as goal
+
+pub calls-init : goal.calls-init
+calls-init g c = record {
+  so = begins (g.A.AfterConnect.texts c.args.aid.now) c.args.now c.args.first (g.L.Link.looks c.args.link.now) c.args.session.now c.args.tape.now;
+  keeps = refl;
+  same = refl;
+}
 
 pub poll_once-requires : goal.poll_once-requires
 poll_once-requires g c = subst (λ (n : Option Call). MayStart n c.calls.session.seen) (sym c.take.ensures.value) (starts _ _ _ _ _ _ _ _ _ _ _ c.calls.invariant.so c.requires)

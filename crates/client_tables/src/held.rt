@@ -1,0 +1,42 @@
+//! The statement that a conversation holds, and what it is executed with.
+
+use my_frame::{Blob, Listed, NoMemory};
+use my_params::Params;
+use my_statements::Statement;
+use my_value::Value;
+use std::alloc::Global;
+
+/// The text that a step prepares: `P` has a name, `M` a name and a mark.
+pub fn text_of(alloc: Global, step: u8) -> Result<Blob, NoMemory> {
+    match step {
+        b'P' => Blob::from_slice(alloc, b"SELECT :a"),
+        _ => Blob::from_slice(alloc, b"SELECT :a, ?"),
+    }
+}
+
+// The parameters that a step executes with: `X` gives 42 to the name, `Z` nothing.
+fn params_of(alloc: Global, step: u8) -> Result<Params, NoMemory> {
+    match step {
+        b'X' => {
+            let mut pairs = Vec::new(alloc);
+            pairs.push((Blob::from_slice(alloc, b"a")?, Value::Int(42)))?;
+            Ok(Params::Named(Listed::from(pairs)))
+        }
+        _ => Ok(Params::Empty),
+    }
+}
+
+/// A second holder of the statement that is held, and the parameters of a step.
+pub fn execution_of(
+    alloc: Global,
+    held: &Option<Statement>,
+    step: u8,
+) -> Result<Option<(Statement, Params)>, NoMemory> {
+    match held {
+        None => Ok(None),
+        Some(statement) => {
+            let copy = statement.copy(alloc)?;
+            Ok(Some((copy, params_of(alloc, step)?)))
+        }
+    }
+}
