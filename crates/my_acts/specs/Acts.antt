@@ -1,12 +1,14 @@
 -- What a line may do at a connection, by its step, its outcome and how many uses it has.
 use Rattle.std.specs.Prelude.{◌-◌, ◌==◌, ℕ, nat_lt, Option, Some, None, Bool, true, false, if◌then◌else◌}
+use Rattle.my_params.specs.declared.params.Params.{Params}
+use Rattle.my_statements.specs.Prepared.{StatementView}
 use Rattle.my_reading.specs.declared.call.Call.{Call}
 use Rattle.my_reading.specs.declared.call.Call.TheVariants as calls
 use Rattle.my_script.specs.declared.step.Step.{Step}
 use Rattle.my_script.specs.declared.step.Step.TheVariants as steps
 use Rattle.my_script.specs.Streams.{target}
 use Rattle.my_script.specs.declared.transcript.Outcome.{Outcome}
-use Rattle.my_script.specs.declared.transcript.Outcome.TheVariants.{Done, Pending, SetEnd, NoSet, Row, Rows, Fields, Connected, Failed, NoSuchHandle}
+use Rattle.my_script.specs.declared.transcript.Outcome.TheVariants.{Done, Pending, SetEnd, NoSet, Row, Rows, Prepared, Fields, Connected, Failed, NoSuchHandle}
 use Rattle.my_acts.specs.declared.act.Act.{Act}
 use Rattle.my_acts.specs.declared.act.Act.TheVariants.{Wrong, Skips, Tells, Holds, Fails, Connects, Polls, Takes, Ends, Cancels}
 use Rattle.my_acts.specs.declared.act.Status.{Status}
@@ -51,6 +53,7 @@ polled Done = Polls Idle
 polled SetEnd = Polls Idle
 polled NoSet = Polls Idle
 polled (Row row) = Polls Idle
+polled (Prepared statement) = Polls Idle
 polled (Failed e) = Polls Idle
 polled outcome = Wrong
 
@@ -111,6 +114,9 @@ told outcome uses = Wrong
 abbrev pub at_idle : Bool → ℕ → Step → Outcome → ℕ → Act
 at_idle closed next steps.Conn outcome uses = Wrong
 at_idle closed next (steps.Query n text) outcome uses = asked closed outcome uses
+at_idle closed next (steps.Prepare n text) outcome uses = asked closed outcome uses
+at_idle closed next (steps.Execute n number params) outcome uses = asked closed outcome uses
+at_idle closed next (steps.CloseStatement n number) outcome uses = asked closed outcome uses
 at_idle closed next (steps.Next n) outcome uses = asked closed outcome uses
 at_idle closed next (steps.Collect n) outcome uses = collected closed next outcome uses
 at_idle closed next (steps.Stream n) outcome uses = streamed closed outcome uses
@@ -190,11 +196,19 @@ is_missing n false (steps.Item m) = m == n
 is_missing n false (steps.Unstream m) = m == n
 is_missing n false step = false
 
--- what a line may do at connection n, where a stream is there or none
-abbrev pub act_with : Bool → Status → ℕ → ℕ → Bool → Step → Outcome → ℕ → Act
-act_with there status n next closed step outcome uses =
+-- a step of a statement that isn't there: it names this number
+abbrev pub is_unprepared : ℕ → Bool → Step → Bool
+is_unprepared n true step = false
+is_unprepared n false (steps.Execute m number params) = m == n
+is_unprepared n false (steps.CloseStatement m number) = m == n
+is_unprepared n false step = false
+
+-- what a line may do at connection n, where a stream is there or none, and the statement that its step names is or isn't
+abbrev pub act_with : Bool → Bool → Status → ℕ → ℕ → Bool → Step → Outcome → ℕ → Act
+act_with there prepared status n next closed step outcome uses =
     if moves_world step then moved status outcome uses
     else if is_missing n there step then refused status outcome uses
+    else if is_unprepared n prepared step then refused status outcome uses
     else act_of status n next closed step outcome uses
 
 -- the call that takes a set, or the one that passes over the rest of an earlier one first
@@ -202,20 +216,33 @@ abbrev pub taking_call : Bool → Call
 taking_call true = calls.SkipTaken
 taking_call false = calls.TakeSet
 
--- the call that a step begins, where a stream took the set that is read, or whose end is left, or none did
-abbrev pub begun_by : Bool → Step → Option Call
-begun_by taken steps.Conn = Some calls.Connect
-begun_by taken (steps.Query n text) = Some (calls.Query text)
-begun_by taken (steps.Next n) = Some calls.NextRow
-begun_by taken (steps.Collect n) = Some calls.NextRow
-begun_by taken (steps.Stream n) = Some (taking_call taken)
-begun_by taken (steps.Item n) = Some calls.NextRow
-begun_by taken (steps.Unstream n) = None
-begun_by taken (steps.Drop n) = Some calls.DropResult
-begun_by taken (steps.Ping n) = Some calls.Ping
-begun_by taken (steps.Quit n) = Some calls.Quit
-begun_by taken (steps.Fields n) = None
-begun_by taken (steps.Poll n) = None
-begun_by taken (steps.Cancel n) = None
-begun_by taken (steps.Advance by) = None
-begun_by taken (steps.Random word) = None
+-- the call that executes a statement, or closes it, where it is there
+abbrev pub executing_call : Option StatementView → Params → Option Call
+executing_call None params = None
+executing_call (Some statement) params = Some (calls.Execute statement params)
+
+abbrev pub closing_call : Option StatementView → Option Call
+closing_call None = None
+closing_call (Some statement) = Some (calls.CloseStmt statement.inner.id)
+
+-- the call that a step begins, where a stream took the set that is read, or whose end is left, or none did, and with the statement that the
+-- step names
+abbrev pub begun_by : Bool → Option StatementView → Step → Option Call
+begun_by taken named steps.Conn = Some calls.Connect
+begun_by taken named (steps.Query n text) = Some (calls.Query text)
+begun_by taken named (steps.Prepare n text) = Some (calls.Prepare text)
+begun_by taken named (steps.Execute n number params) = executing_call named params
+begun_by taken named (steps.CloseStatement n number) = closing_call named
+begun_by taken named (steps.Next n) = Some calls.NextRow
+begun_by taken named (steps.Collect n) = Some calls.NextRow
+begun_by taken named (steps.Stream n) = Some (taking_call taken)
+begun_by taken named (steps.Item n) = Some calls.NextRow
+begun_by taken named (steps.Unstream n) = None
+begun_by taken named (steps.Drop n) = Some calls.DropResult
+begun_by taken named (steps.Ping n) = Some calls.Ping
+begun_by taken named (steps.Quit n) = Some calls.Quit
+begun_by taken named (steps.Fields n) = None
+begun_by taken named (steps.Poll n) = None
+begun_by taken named (steps.Cancel n) = None
+begun_by taken named (steps.Advance by) = None
+begun_by taken named (steps.Random word) = None

@@ -14,6 +14,7 @@ ghost use Rattle.my_acts.specs.Acts.{
   at_open,
   goes_on,
   is_missing,
+  is_unprepared,
   moves_world,
 };
 
@@ -70,9 +71,14 @@ fn at_idle(closed: bool, next: usize, step: &Step, outcome: &Outcome, uses: usiz
 {
     match step {
         Step::Conn | Step::Advance(_) | Step::Random(_) => Act::Wrong,
-        Step::Query(_, _) | Step::Next(_) | Step::Item(_) | Step::Drop(_) | Step::Ping(_) => {
-            asked(closed, outcome, uses)
-        }
+        Step::Query(_, _)
+        | Step::Prepare(_, _)
+        | Step::Execute(_, _, _)
+        | Step::CloseStatement(_, _)
+        | Step::Next(_)
+        | Step::Item(_)
+        | Step::Drop(_)
+        | Step::Ping(_) => asked(closed, outcome, uses),
         Step::Collect(_) => collected(closed, next, outcome, uses),
         Step::Stream(_) => streamed(closed, outcome, uses),
         Step::Unstream(_) => let_go(outcome, uses),
@@ -230,10 +236,24 @@ fn is_missing(number: u64, there: bool, step: &Step) -> bool
     }
 }
 
-/// What a line does at the connection with this number, where a stream is there or none, of which `next` calls ended, and
-/// which is closed or not.
+// Whether the step is one of a statement that isn't there.
+fn is_unprepared(number: u64, prepared: bool, step: &Step) -> bool
+    ensures { result ≡ is_unprepared number prepared step.now }
+{
+    if prepared {
+        return false;
+    }
+    match step {
+        Step::Execute(named, _, _) | Step::CloseStatement(named, _) => *named == number,
+        _ => false,
+    }
+}
+
+/// What a line does at the connection with this number, where a stream is there or none, and the statement that the step names
+/// is or isn't; of which `next` calls ended, and which is closed or not.
 pub fn act_with(
     there: bool,
+    prepared: bool,
     status: Status,
     number: u64,
     next: usize,
@@ -242,12 +262,15 @@ pub fn act_with(
     outcome: &Outcome,
     uses: usize,
 ) -> Act
-    ensures { result ≡ act_with there status number next closed step.now outcome.now uses }
+    ensures { result ≡ act_with there prepared status number next closed step.now outcome.now uses }
 {
     if moves_world(step) {
         return moved(status, outcome, uses);
     }
     if is_missing(number, there, step) {
+        return refused(status, outcome, uses);
+    }
+    if is_unprepared(number, prepared, step) {
         return refused(status, outcome, uses);
     }
     act_of(status, number, next, closed, step, outcome, uses)

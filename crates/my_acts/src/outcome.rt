@@ -98,8 +98,12 @@ fn polled(outcome: &Outcome) -> Act
 {
     match outcome {
         Outcome::Pending => Act::Polls(Status::Open),
-        Outcome::Done | Outcome::SetEnd | Outcome::NoSet | Outcome::Row(_) | Outcome::Failed(_) =>
-            Act::Polls(Status::Idle),
+        Outcome::Done
+        | Outcome::SetEnd
+        | Outcome::NoSet
+        | Outcome::Row(_)
+        | Outcome::Prepared(_)
+        | Outcome::Failed(_) => Act::Polls(Status::Idle),
         _ => Act::Wrong,
     }
 }

@@ -1,2 +1,3 @@
+pub mod Parameters
 pub mod Scripts
 pub mod Texts

@@ -3,6 +3,8 @@ use Rattle.std.specs.Prelude.{ℕ, List, ◌∷◌, ◌++◌, codes}
 use Rattle.std.specs.Fmt.{decimal}
 use Rattle.my_frame.specs.declared.fault.CodecFault.{CodecFault}
 use Rattle.my_frame.specs.declared.fault.CodecFault.TheVariants.{OutOfOrder, TooLarge}
+use Rattle.my_params.specs.declared.params.ParamsError.{ParamsError}
+use Rattle.my_params.specs.declared.params.ParamsError.TheVariants as params
 use Rattle.my_reading.specs.declared.error.DriverError.{DriverError}
 use Rattle.my_reading.specs.declared.error.DriverError.TheVariants as drivers
 use Rattle.my_reading.specs.declared.error.IoKind.{IoKind}
@@ -16,8 +18,30 @@ use Rattle.my_opts_parts.specs.declared.error.UrlError.{UrlError}
 use Rattle.my_opts_parts.specs.declared.error.UrlError.TheVariants as urls
 use Rattle.my_script.specs.TextParts.{marked, bytes_text}
 
+-- a word and two numbers
+abbrev pub two_text : List ℕ → ℕ → ℕ → List ℕ
+two_text word first second = word ++ marked 32 first ++ marked 32 second
+
+-- a word and a text; a word and two of them
+abbrev pub one_text : List ℕ → List ℕ → List ℕ
+one_text word text = word ++ (32 ∷ bytes_text text)
+
+abbrev pub both_text : List ℕ → List ℕ → List ℕ → List ℕ
+both_text word first second = word ++ (32 ∷ bytes_text first) ++ (32 ∷ bytes_text second)
+
+-- the first name without a value
+abbrev pub params_text : ParamsError → List ℕ
+params_text (params.Missing name) = one_text (codes "Driver Params Missing") name
+params_text params.Kind = codes "Driver Params Kind"
+params_text params.NoMemory = codes "Driver Params NoMemory"
+
+-- of a mismatch how many values the statement takes, and how many there were
 abbrev pub driver_text : DriverError → List ℕ
 driver_text drivers.ConnectionClosed = codes "Driver ConnectionClosed"
+driver_text drivers.MixedParams = codes "Driver MixedParams"
+driver_text (drivers.Params e) = params_text e
+driver_text (drivers.StmtParamsMismatch required supplied) = two_text (codes "Driver StmtParamsMismatch") required supplied
+driver_text (drivers.StmtParamsNumberExceedsLimit supplied) = codes "Driver StmtParamsNumberExceedsLimit" ++ marked 32 supplied
 driver_text drivers.TooLong = codes "Driver TooLong"
 driver_text drivers.CantParseServerVersion = codes "Driver CantParseServerVersion"
 driver_text drivers.PacketOutOfOrder = codes "Driver PacketOutOfOrder"
@@ -35,9 +59,6 @@ fault_text kinds.Dial place = codes "Io Dial"
 fault_text kinds.UnexpectedEof place = codes "Io UnexpectedEof" ++ marked 32 place
 fault_text kinds.InvalidData place = codes "Io InvalidData" ++ marked 32 place
 
-abbrev pub two_text : List ℕ → ℕ → ℕ → List ℕ
-two_text word first second = word ++ marked 32 first ++ marked 32 second
-
 -- the expected number and the one that came; the length and the limit
 abbrev pub codec_text : CodecFault → List ℕ
 codec_text (OutOfOrder expected found) = two_text (codes "Io Codec OutOfOrder") expected found
@@ -50,13 +71,6 @@ io_text (ios.Codec fault) = codec_text fault
 -- the code, the state and the message of a server's error
 unfoldable pub server_text : ServerError → List ℕ
 server_text e = codes "Server " ++ decimal e.code ++ (32 ∷ e.state) ++ (32 ∷ bytes_text e.message)
-
--- a word and a text; a word and two of them
-abbrev pub one_text : List ℕ → List ℕ → List ℕ
-one_text word text = word ++ (32 ∷ bytes_text text)
-
-abbrev pub both_text : List ℕ → List ℕ → List ℕ → List ℕ
-both_text word first second = word ++ (32 ∷ bytes_text first) ++ (32 ∷ bytes_text second)
 
 abbrev pub url_text : UrlError → List ℕ
 url_text (urls.FeatureRequired feature param) = both_text (codes "Url FeatureRequired") feature param

@@ -2,7 +2,7 @@
 use Rattle.std.specs.Prelude.{ℕ, List, codes, if◌then◌else◌}
 use Rattle.std.specs.Str.{bytes_eq}
 use Rattle.my_script.specs.declared.reading.keyword.Keyword.{Keyword}
-use Rattle.my_script.specs.declared.reading.keyword.Keyword.TheVariants.{Packet, Drip, Bytes, Turn, Wait, Fail, End, Accept, WriteWait, WriteFail, Dial, Conn, Query, Next, Collect, Stream, StreamItem, Unstream, Drop, Ping, Quit, Fields, Poll, Cancel, Advance, Random, Unknown}
+use Rattle.my_script.specs.declared.reading.keyword.Keyword.TheVariants.{Packet, Drip, Bytes, Turn, Wait, Fail, End, Accept, WriteWait, WriteFail, Dial, Conn, Query, Prepare, Execute, ExecuteNamed, CloseStatement, Next, Collect, Stream, StreamItem, Unstream, Drop, Ping, Quit, Fields, Poll, Cancel, Advance, Random, Unknown}
 
 -- the words of steps that move the world
 abbrev pub moving_keyword_of : List ℕ → Keyword
@@ -10,6 +10,15 @@ moving_keyword_of word =
     if bytes_eq word (codes "advance") then Advance
     else if bytes_eq word (codes "random") then Random
     else Unknown
+
+-- the words of steps on prepared statements
+abbrev pub statement_keyword_of : List ℕ → Keyword
+statement_keyword_of word =
+    if bytes_eq word (codes "prep") then Prepare
+    else if bytes_eq word (codes "exec") then Execute
+    else if bytes_eq word (codes "execn") then ExecuteNamed
+    else if bytes_eq word (codes "closestmt") then CloseStatement
+    else moving_keyword_of word
 
 -- the words of steps
 abbrev pub step_keyword_of : List ℕ → Keyword
@@ -27,7 +36,7 @@ step_keyword_of word =
     else if bytes_eq word (codes "fields") then Fields
     else if bytes_eq word (codes "poll") then Poll
     else if bytes_eq word (codes "cancel") then Cancel
-    else moving_keyword_of word
+    else statement_keyword_of word
 
 -- the words of a world's lines, and those of steps
 abbrev pub keyword_of : List ℕ → Keyword

@@ -1,7 +1,10 @@
 pub mod Cut
 pub mod Streams
+pub mod Numbered
 pub mod Number
 pub mod Keyword
+pub mod ValueWord
+pub mod Execution
 pub mod Line
 pub mod Script
 pub mod Words

@@ -3,11 +3,13 @@ use Rattle.std.specs.Prelude.{ℕ, ◌==◌, nat_le, List, [], ◌∷◌, length
 use Rattle.std.specs.Str.{bytes_eq}
 use Rattle.my_frame.specs.Numbers.{◌>>=◌}
 use Rattle.my_script.specs.declared.step.Step.TheVariants as steps
+use Rattle.my_params.specs.declared.params.Params.{Params}
+use Rattle.my_params.specs.declared.params.Params.TheVariants.{Named, Positional}
 use Rattle.my_world.specs.declared.line.WorldLine.TheVariants as lines
 use Rattle.my_script.specs.declared.reading.line.Item.{Item}
 use Rattle.my_script.specs.declared.reading.line.Item.TheVariants.{Nothing, Plans, Steps, Wrong}
 use Rattle.my_script.specs.declared.reading.keyword.Keyword.{Keyword}
-use Rattle.my_script.specs.declared.reading.keyword.Keyword.TheVariants.{Packet, Drip, Bytes, Turn, Wait, Fail, End, Accept, WriteWait, WriteFail, Dial, Conn, Query, Next, Collect, Stream, StreamItem, Unstream, Drop, Ping, Quit, Fields, Poll, Cancel, Advance, Random, Unknown}
+use Rattle.my_script.specs.declared.reading.keyword.Keyword.TheVariants.{Packet, Drip, Bytes, Turn, Wait, Fail, End, Accept, WriteWait, WriteFail, Dial, Conn, Query, Prepare, Execute, ExecuteNamed, CloseStatement, Next, Collect, Stream, StreamItem, Unstream, Drop, Ping, Quit, Fields, Poll, Cancel, Advance, Random, Unknown}
 use Rattle.my_script.specs.declared.reading.line.PacketParts.{PacketParts}
 use Rattle.my_script.specs.declared.reading.line.LinkParts.{LinkParts}
 use Rattle.my_script.specs.declared.reading.line.AcceptParts.{AcceptParts}
@@ -15,6 +17,7 @@ use Rattle.my_script.specs.declared.reading.line.QueryParts.{QueryParts}
 use Rattle.my_script.specs.Cut.{first_of, rest_of}
 use Rattle.my_script.specs.Keyword.{keyword_of}
 use Rattle.my_script.specs.Number.{number_of, number_at_most, bytes_of}
+use Rattle.my_script.specs.Execution.{StatementWords, statement_parts, params_in}
 
 -- a link's number, a packet's number and the digits of its payload
 pub record PacketWords : Type 0 where
@@ -120,10 +123,39 @@ abbrev pub accept_item : Option AcceptWords → Item
 accept_item None = Wrong
 accept_item (Some p) = Plans (lines.Accept p.link p.count)
 
--- `query C TEXT`
-abbrev pub query_item : Option QueryWords → Item
-query_item None = Wrong
-query_item (Some p) = Steps (steps.Query p.connection p.text)
+-- a text that is sent, or prepared
+abbrev pub text_as : Keyword → ℕ → List ℕ → Item
+text_as Query connection text = Steps (steps.Query connection text)
+text_as Prepare connection text = Steps (steps.Prepare connection text)
+text_as _ connection text = Wrong
+
+-- `query C TEXT`, `prep C TEXT`
+abbrev pub text_item : Keyword → Option QueryWords → Item
+text_item keyword None = Wrong
+text_item keyword (Some p) = text_as keyword p.connection p.text
+
+-- parameters by name or by place, of which none is read yet
+abbrev pub no_params : Keyword → Params
+no_params ExecuteNamed = Named []
+no_params _ = Positional []
+
+abbrev pub executed_with : ℕ → ℕ → Option Params → Item
+executed_with connection statement None = Wrong
+executed_with connection statement (Some params) = Steps (steps.Execute connection statement params)
+
+-- `exec C S VALUES`, `execn C S NAMES`
+abbrev pub execute_item : Keyword → Option StatementWords → Item
+execute_item keyword None = Wrong
+execute_item keyword (Some p) = executed_with p.connection p.statement (params_in (no_params keyword) p.rest)
+
+abbrev pub closed_with : ℕ → ℕ → Option (List ℕ) → Item
+closed_with connection statement None = Steps (steps.CloseStatement connection statement)
+closed_with connection statement (Some rest) = Wrong
+
+-- `closestmt C S`
+abbrev pub close_item : Option StatementWords → Item
+close_item None = Wrong
+close_item (Some p) = closed_with p.connection p.statement p.rest
 
 -- `turn L`, `wait L`, `fail L`, `end L`, `wwait L`, `wfail L`
 abbrev pub link_item : Keyword → Option ℕ → Item
@@ -171,7 +203,11 @@ item_with Drip rest = packet_item Drip (packet_parts rest)
 item_with Bytes rest = bytes_item (link_parts rest)
 item_with Accept rest = accept_item (accept_parts rest)
 item_with Dial rest = dial_item (link_parts rest)
-item_with Query rest = query_item (query_parts rest)
+item_with Query rest = text_item Query (query_parts rest)
+item_with Prepare rest = text_item Prepare (query_parts rest)
+item_with Execute rest = execute_item Execute (statement_parts rest)
+item_with ExecuteNamed rest = execute_item ExecuteNamed (statement_parts rest)
+item_with CloseStatement rest = close_item (statement_parts rest)
 item_with Turn rest = link_item Turn (number_at_most 65535 rest)
 item_with Wait rest = link_item Wait (number_at_most 65535 rest)
 item_with Fail rest = link_item Fail (number_at_most 65535 rest)

@@ -1,5 +1,5 @@
 -- Numbers and bytes in a script.
-use Rattle.std.specs.Prelude.{ℕ, ◌+◌, ◌-◌, ◌*◌, ◌^◌, ◌&&◌, nat_lt, nat_le, List, [], ◌∷◌, codes, Option, Some, None, if◌then◌else◌}
+use Rattle.std.specs.Prelude.{ℕ, ℤ, pos, neg_ℤ, option_map, ◌+◌, ◌-◌, ◌*◌, ◌^◌, ◌==◌, ◌&&◌, nat_lt, nat_le, List, [], ◌∷◌, codes, Option, Some, None, if◌then◌else◌}
 use Rattle.std.specs.Str.{bytes_eq}
 use Rattle.std.specs.Result.{result_ok}
 use Rattle.hex.specs.Hex.{decode_of}
@@ -22,7 +22,19 @@ at_most most (Some n) = if nat_le n most then Some n else None
 abbrev pub number_at_most : ℕ → List ℕ → Option ℕ
 number_at_most most word = at_most most (number_of word)
 
+-- a number in decimal digits, after a minus or none, that 64 bits hold
+abbrev pub signed_of : List ℕ → Option ℤ
+signed_of [] = None
+signed_of (b ∷ bytes) =
+    if b == 45
+    then option_map (λ n. neg_ℤ (pos n)) (number_at_most (2 ^ 63) bytes)
+    else option_map (λ n. pos n) (number_at_most (2 ^ 63 - 1) (b ∷ bytes))
+
+-- bytes as pairs of hexadecimal digits, of which there may be none
+abbrev pub pairs_of : List ℕ → Option (List ℕ)
+pairs_of word = result_ok (decode_of word)
+
 -- bytes as pairs of hexadecimal digits in either case; `-` stands for no bytes, and no digits at all for nothing
 abbrev pub bytes_of : List ℕ → Option (List ℕ)
 bytes_of [] = None
-bytes_of (b ∷ word) = if bytes_eq (b ∷ word) (codes "-") then Some [] else result_ok (decode_of (b ∷ word))
+bytes_of (b ∷ word) = if bytes_eq (b ∷ word) (codes "-") then Some [] else pairs_of (b ∷ word)

@@ -13,6 +13,9 @@ use Rattle.my_script.specs.declared.transcript.Outcome.TheVariants.{Done, Pendin
 abbrev pub target : Step → Option ℕ
 target steps.Conn = None
 target (steps.Query n text) = Some n
+target (steps.Prepare n text) = Some n
+target (steps.Execute n number params) = Some n
+target (steps.CloseStatement n number) = Some n
 target (steps.Next n) = Some n
 target (steps.Collect n) = Some n
 target (steps.Stream n) = Some n

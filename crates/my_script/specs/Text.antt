@@ -1,14 +1,15 @@
 -- The text of a run: a line for each answer, then what each connection sent and took.
-use Rattle.std.specs.Prelude.{ℕ, ◌==◌, List, [], ◌∷◌, ◌++◌, length, codes, if◌then◌else◌}
+use Rattle.std.specs.Prelude.{ℕ, ◌+◌, ◌==◌, List, [], ◌∷◌, ◌++◌, length, codes, if◌then◌else◌}
 use Rattle.std.specs.Fmt.{decimal}
 use Rattle.hex.specs.Hex.{encode_lower}
 use Rattle.my_handshake.specs.declared.version.ServerVersion.{ServerVersion}
+use Rattle.my_statements.specs.Prepared.{StatementView}
 use Rattle.my_script.specs.declared.transcript.Outcome.{Outcome}
-use Rattle.my_script.specs.declared.transcript.Outcome.TheVariants.{Done, Pending, SetEnd, NoSet, Row, Rows, Fields, Connected, Failed, NoSuchHandle}
+use Rattle.my_script.specs.declared.transcript.Outcome.TheVariants.{Done, Pending, SetEnd, NoSet, Row, Rows, Prepared, Fields, Connected, Failed, NoSuchHandle}
 use Rattle.my_script.specs.declared.transcript.StepAnswer.{StepAnswer}
 use Rattle.my_script.specs.declared.transcript.Tape.{Tape}
 use Rattle.my_script.specs.TextParts.{marked}
-use Rattle.my_script.specs.OkText.{fields_text}
+use Rattle.my_script.specs.OkText.{fields_text, named_text}
 use Rattle.my_script.specs.ValueText.{row_text, rows_text}
 use Rattle.my_script.specs.ErrorText.{error_text}
 
@@ -19,25 +20,39 @@ version_text v = codes " version=" ++ decimal v.major ++ marked 46 v.minor ++ ma
 unfoldable pub connected_text : ℕ → ℕ → ServerVersion → List ℕ
 connected_text number id version = codes "conn " ++ decimal number ++ codes " id=" ++ decimal id ++ version_text version
 
-abbrev pub outcome_text : Outcome → List ℕ
-outcome_text Done = codes "ok"
-outcome_text Pending = codes "pending"
-outcome_text SetEnd = codes "end"
-outcome_text NoSet = codes "none"
-outcome_text (Row row) = row_text row.cells
-outcome_text (Rows rows) = rows_text rows.items
-outcome_text (Fields fields) = fields_text fields
-outcome_text (Connected number id version) = connected_text number id version
-outcome_text (Failed error) = codes "error " ++ error_text error
-outcome_text NoSuchHandle = codes "refused NoSuchHandle"
+-- `stmt S id=I params=P columns=K`
+unfoldable pub prepared_text : ℕ → StatementView → List ℕ
+prepared_text number s =
+    codes "stmt " ++ decimal number ++ named_text (codes " id=") s.inner.id ++ named_text (codes " params=") s.inner.num_params
+    ++ named_text (codes " columns=") s.inner.num_columns
+
+-- how many statements were prepared up to an answer, after so many before it
+abbrev pub prepared_by : ℕ → Outcome → ℕ
+prepared_by prepared (Prepared statement) = prepared + 1
+prepared_by prepared outcome = prepared
+
+-- an answer's text, where so many statements were prepared before it: this is the number of the next one
+abbrev pub outcome_text : ℕ → Outcome → List ℕ
+outcome_text prepared Done = codes "ok"
+outcome_text prepared Pending = codes "pending"
+outcome_text prepared SetEnd = codes "end"
+outcome_text prepared NoSet = codes "none"
+outcome_text prepared (Row row) = row_text row.cells
+outcome_text prepared (Rows rows) = rows_text rows.items
+outcome_text prepared (Prepared statement) = prepared_text prepared statement
+outcome_text prepared (Fields fields) = fields_text fields
+outcome_text prepared (Connected number id version) = connected_text number id version
+outcome_text prepared (Failed error) = codes "error " ++ error_text error
+outcome_text prepared NoSuchHandle = codes "refused NoSuchHandle"
 
 -- a step's number and its answer
-unfoldable pub answer_text : ℕ → Outcome → List ℕ
-answer_text number outcome = decimal number ++ (32 ∷ outcome_text outcome) ++ 10 ∷ []
+unfoldable pub answer_text : ℕ → ℕ → Outcome → List ℕ
+answer_text prepared number outcome = decimal number ++ (32 ∷ outcome_text prepared outcome) ++ 10 ∷ []
 
-abbrev pub answers_text : List StepAnswer → List ℕ
-answers_text [] = []
-answers_text (a ∷ rest) = answer_text a.number a.outcome ++ answers_text rest
+-- answers, after so many statements that were prepared
+abbrev pub answers_text : ℕ → List StepAnswer → List ℕ
+answers_text prepared [] = []
+answers_text prepared (a ∷ rest) = answer_text prepared a.number a.outcome ++ answers_text (prepared_by prepared a.outcome) rest
 
 -- bytes in hexadecimal, and no bytes as `-`
 abbrev pub hex_text : List ℕ → List ℕ
@@ -56,4 +71,4 @@ tapes_text (t ∷ rest) = tape_text t ++ tapes_text rest
 
 -- answers, then tapes
 abbrev pub text_of : List StepAnswer → List Tape → List ℕ
-text_of answers tapes = answers_text answers ++ tapes_text tapes
+text_of answers tapes = answers_text 0 answers ++ tapes_text tapes

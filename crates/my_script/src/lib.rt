@@ -3,6 +3,7 @@
 #![tactic(auto)]
 
 mod reading;
+mod statements;
 mod step;
 mod stream;
 mod text;
@@ -10,6 +11,7 @@ mod transcript;
 mod words;
 
 pub use reading::script::{BadLine, Read, Script, read_script};
+pub use statements::{NumberedStatements, named_statement};
 pub use step::Step;
 pub use stream::{Stream, is_there, stream_after, stream_by, target};
 pub use text::transcript::text_of;

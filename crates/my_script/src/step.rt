@@ -1,6 +1,7 @@
 //! What a script asks for.
 
 use my_frame::Blob;
+use my_params::Params;
 
 /// A step of a script. Each but the first and the last two names a connection by its number.
 #[derive(Drop)]
@@ -9,6 +10,12 @@ pub enum Step {
     Conn,
     /// Sends a text to this connection.
     Query(u64, Blob),
+    /// Prepares a statement of this text at this connection.
+    Prepare(u64, Blob),
+    /// Executes at this connection the statement of this number with these parameters.
+    Execute(u64, u64, Params),
+    /// Closes at this connection the statement of this number.
+    CloseStatement(u64, u64),
     /// Reads on in this connection's result.
     Next(u64),
     /// Reads all rows that are left of the set that is read.

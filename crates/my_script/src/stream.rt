@@ -23,7 +23,10 @@ pub fn target(step: &Step) -> Option<u64>
 {
     match step {
         Step::Conn | Step::Advance(_) | Step::Random(_) => None,
-        Step::Query(number, _) => Some(*number),
+        Step::Query(number, _)
+        | Step::Prepare(number, _)
+        | Step::Execute(number, _, _)
+        | Step::CloseStatement(number, _) => Some(*number),
         Step::Next(number)
         | Step::Collect(number)
         | Step::Stream(number)

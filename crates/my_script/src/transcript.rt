@@ -4,6 +4,7 @@ use my_handshake::ServerVersion;
 use my_link::Met;
 use my_reading::{Answer, Call, Error};
 use my_reply::OkPacket;
+use my_statements::Statement;
 use my_value::Row;
 
 /// What one poll of a call, or one dial, met outside.
@@ -29,6 +30,8 @@ pub enum Outcome {
     Row(Row),
     /// `rows N [V V] [V V]`
     Rows(Vec<Row>),
+    /// `stmt S id=I params=P columns=K`, where S is how many such answers came before.
+    Prepared(Statement),
     /// `ok affected=A insert=I warnings=W status=F info=b:HEX`, or `ok -` where there is no OK.
     Fields(Option<OkPacket>),
     /// `conn C id=I version=A.B.C`

@@ -31,7 +31,7 @@ cancel_front [] xs ys e = e
 cancel_front (w ∷ word) xs ys e = cancel_front word xs ys (tail_same w w (word ++ xs) (word ++ ys) e)
 
 -- a number's digits
-digits_lack : (mark : ℕ) → ((c : ℕ) → digit_value c < 10 → c ≢ mark) → (ds : List ℕ) → AllDigits 10 ds → Lacks mark ds
+pub digits_lack : (mark : ℕ) → ((c : ℕ) → digit_value c < 10 → c ≢ mark) → (ds : List ℕ) → AllDigits 10 ds → Lacks mark ds
 digits_lack mark f [] d = tt
 digits_lack mark f (c ∷ cs) d = (f c d.0, digits_lack mark f cs d.1)
 

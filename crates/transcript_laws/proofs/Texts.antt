@@ -7,8 +7,8 @@ use Rattle.std.specs.Char.{digit_value}
 use Rattle.hex.specs.Hex.{IsBytes}
 use Rattle.my_script.specs.declared.transcript.StepAnswer.{StepAnswer}
 use Rattle.my_script.specs.declared.transcript.Tape.{Tape}
-use Rattle.my_script.specs.Text.{answer_text, answers_text, hex_text, outcome_text, stream_text, tapes_text, text_of}
-use Rattle.transcript_laws.specs.Texts.{AnswerShown, TapeShown, answers_shown, tapes_shown, Lacks, AreTyped, OneTextOneTranscript}
+use Rattle.my_script.specs.Text.{answer_text, answers_text, hex_text, outcome_text, prepared_by, stream_text, tapes_text}
+use Rattle.transcript_laws.specs.Texts.{AnswerShown, TapeShown, answers_shown, tapes_shown, Lacks, AreLines, AreTyped, OneTextOneTranscript}
 use Rattle.transcript_laws.proofs.Lines.{cancel_front, decimal_lacks, digit_first, hex_lacks, hex_same, mark_split}
 
 -- a number, a blank, a text and a line feed, before more
@@ -60,23 +60,31 @@ unfolding stream_text
 tape_first [] ds xs f e = let no : digit_value 101 < 10 = f 101 _ e in omega (arith, no)
 tape_first (t ∷ ts) ds xs f e = let no : digit_value 115 < 10 = f 115 _ e in omega (arith, no)
 
-answer_first : (a : StepAnswer) (rest : List StepAnswer) (ts us : List Tape) → a.number < 2 ^ 64 → text_of (a ∷ rest) ts ≡ tapes_text us → ⊥
+answer_first : (k : ℕ) (a : StepAnswer) (rest : List StepAnswer) (ts us : List Tape) → a.number < 2 ^ 64 → answers_text k (a ∷ rest) ++ tapes_text ts ≡ tapes_text us → ⊥
 unfolding answer_text
-answer_first a rest ts us h e =
-    let all = append_assoc (answer_text a.number a.outcome) (answers_text rest) (tapes_text ts) ∙ line_is (decimal a.number) (outcome_text a.outcome) (answers_text rest ++ tapes_text ts) in
-    tape_first us (decimal a.number) (32 ∷ (outcome_text a.outcome ++ 10 ∷ (answers_text rest ++ tapes_text ts))) (λ c ys f. digit_first (decimal a.number) _ ys c (decimal_is_IsNumeral a.number h).0 f) (sym all ∙ e)
+answer_first k a rest ts us h e =
+    let more = answers_text (prepared_by k a.outcome) rest in
+    let all = append_assoc (answer_text k a.number a.outcome) more (tapes_text ts) ∙ line_is (decimal a.number) (outcome_text k a.outcome) (more ++ tapes_text ts) in
+    tape_first us (decimal a.number) (32 ∷ (outcome_text k a.outcome ++ 10 ∷ (more ++ tapes_text ts))) (λ c ys f. digit_first (decimal a.number) _ ys c (decimal_is_IsNumeral a.number h).0 f) (sym all ∙ e)
 
-pub one_text_one_transcript : OneTextOneTranscript
+-- also where other numbers of statements were prepared before
+texts_same : (k j : ℕ) (ones others : List StepAnswer) (ts us : List Tape) → AreLines k ones → AreLines j others → AreTyped ts → AreTyped us
+    → answers_text k ones ++ tapes_text ts ≡ answers_text j others ++ tapes_text us → (answers_shown k ones ≡ answers_shown j others) × (tapes_shown ts ≡ tapes_shown us)
 unfolding answer_text
-one_text_one_transcript [] [] ts us l m w v e = (refl, tapes_same ts us w v e)
-one_text_one_transcript [] (b ∷ others) ts us l m w v e = absurd (answer_first b others us ts m.0 (sym e))
-one_text_one_transcript (a ∷ ones) [] ts us l m w v e = absurd (answer_first a ones ts us l.0 e)
-one_text_one_transcript (a ∷ ones) (b ∷ others) ts us l m w v e =
-    let same = lines_same a.number b.number (outcome_text a.outcome) (outcome_text b.outcome) (answers_text ones ++ tapes_text ts) (answers_text others ++ tapes_text us) l.0 m.0 l.1 m.1
-    (sym (append_assoc (answer_text a.number a.outcome) (answers_text ones) (tapes_text ts)) ∙ e ∙ append_assoc (answer_text b.number b.outcome) (answers_text others) (tapes_text us)) in
-    let rest = one_text_one_transcript ones others ts us l.2 m.2 w v same.2 in (
-      ap (λ (n : ℕ). let s : AnswerShown = record { number = n; text = outcome_text a.outcome } in s ∷ answers_shown ones) same.0
-          ∙ ap (λ (xs : List ℕ). let s : AnswerShown = record { number = b.number; text = xs } in s ∷ answers_shown ones) same.1
-          ∙ ap (λ (ss : List AnswerShown). let s : AnswerShown = record { number = b.number; text = outcome_text b.outcome } in s ∷ ss) rest.0,
+texts_same k j [] [] ts us l m w v e = (refl, tapes_same ts us w v e)
+texts_same k j [] (b ∷ others) ts us l m w v e = absurd (answer_first j b others us ts m.0 (sym e))
+texts_same k j (a ∷ ones) [] ts us l m w v e = absurd (answer_first k a ones ts us l.0 e)
+texts_same k j (a ∷ ones) (b ∷ others) ts us l m w v e =
+    let mine = answers_text (prepared_by k a.outcome) ones in
+    let yours = answers_text (prepared_by j b.outcome) others in
+    let same = lines_same a.number b.number (outcome_text k a.outcome) (outcome_text j b.outcome) (mine ++ tapes_text ts) (yours ++ tapes_text us) l.0 m.0 l.1 m.1
+    (sym (append_assoc (answer_text k a.number a.outcome) mine (tapes_text ts)) ∙ e ∙ append_assoc (answer_text j b.number b.outcome) yours (tapes_text us)) in
+    let rest = texts_same (prepared_by k a.outcome) (prepared_by j b.outcome) ones others ts us l.2 m.2 w v same.2 in (
+      ap (λ (n : ℕ). let s : AnswerShown = record { number = n; text = outcome_text k a.outcome } in s ∷ answers_shown (prepared_by k a.outcome) ones) same.0
+          ∙ ap (λ (xs : List ℕ). let s : AnswerShown = record { number = b.number; text = xs } in s ∷ answers_shown (prepared_by k a.outcome) ones) same.1
+          ∙ ap (λ (ss : List AnswerShown). let s : AnswerShown = record { number = b.number; text = outcome_text j b.outcome } in s ∷ ss) rest.0,
       rest.1,
     )
+
+pub one_text_one_transcript : OneTextOneTranscript
+one_text_one_transcript ones others ts us l m w v e = texts_same 0 0 ones others ts us l m w v e

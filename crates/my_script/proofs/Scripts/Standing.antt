@@ -1,6 +1,6 @@
 -- Which steps stand in a script.
-use Rattle.std.proofs.Common.{◌≡◌, ◌+◌, ◌==◌, ℕ, List, [], ◌∷◌, Option, Some, None, Bool, true, false, refl, sym, ap, ◌∙◌, subst}
-use Rattle.std.specs.List.{list_all, slice_split}
+use Rattle.std.proofs.Common.{◌≡◌, ◌+◌, ◌==◌, ℕ, List, [], ◌∷◌, Option, Some, None, Bool, true, false, refl, sym, subst}
+use Rattle.std.specs.List.{slice_split}
 use Rattle.my_script.specs.declared.step.Step.{Step}
 use Rattle.my_script.specs.declared.step.Step.TheVariants as steps
 use Rattle.my_world.specs.declared.line.WorldLine.{WorldLine}

@@ -1,6 +1,6 @@
 //! The words that lines begin with.
 ghost use Rattle.std.specs.Prelude.{◌≡◌};
-ghost use Rattle.my_script.specs.Keyword.{moving_keyword_of, step_keyword_of, keyword_of};
+ghost use Rattle.my_script.specs.Keyword.{moving_keyword_of, statement_keyword_of, step_keyword_of, keyword_of};
 
 /// The word that a line begins with.
 #[derive(Clone, Copy, Debug, PartialEq, Eq)]
@@ -18,6 +18,10 @@ pub enum Keyword {
     Dial,
     Conn,
     Query,
+    Prepare,
+    Execute,
+    ExecuteNamed,
+    CloseStatement,
     Next,
     Collect,
     Stream,
@@ -44,6 +48,24 @@ fn moving_keyword(word: &[u8]) -> Keyword
         return Keyword::Random;
     }
     Keyword::Unknown
+}
+
+fn statement_keyword(word: &[u8]) -> Keyword
+    ensures { result ≡ statement_keyword_of word.now }
+{
+    if word == b"prep".as_slice() {
+        return Keyword::Prepare;
+    }
+    if word == b"exec".as_slice() {
+        return Keyword::Execute;
+    }
+    if word == b"execn".as_slice() {
+        return Keyword::ExecuteNamed;
+    }
+    if word == b"closestmt".as_slice() {
+        return Keyword::CloseStatement;
+    }
+    moving_keyword(word)
 }
 
 fn step_keyword(word: &[u8]) -> Keyword
@@ -88,7 +110,7 @@ fn step_keyword(word: &[u8]) -> Keyword
     if word == b"cancel".as_slice() {
         return Keyword::Cancel;
     }
-    moving_keyword(word)
+    statement_keyword(word)
 }
 
 /// Which keyword this word is.

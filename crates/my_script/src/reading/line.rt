@@ -1,12 +1,15 @@
 //! Reads a line of a script.
 ghost use Rattle.std.specs.Prelude.{◌≡◌, IfOk, option_map};
-ghost use Rattle.my_script.specs.Line.{packet_parts, link_parts, accept_parts, query_parts, packet_view, link_view, accept_view, query_view, packet_as, packet_with, bytes_with, dial_with, packet_item, bytes_item, dial_item, accept_item, query_item, link_item, connection_item, moving_item, bare_item, item_with, line_of};
+ghost use Rattle.my_script.specs.Execution.{statement_parts};
+ghost use Rattle.my_script.specs.Line.{packet_parts, link_parts, accept_parts, query_parts, packet_view, link_view, accept_view, query_view, packet_as, packet_with, bytes_with, dial_with, packet_item, bytes_item, dial_item, accept_item, text_as, text_item, no_params, executed_with, execute_item, close_item, link_item, connection_item, moving_item, bare_item, item_with, line_of};
 
 use super::cut::cut;
+use super::execution::{params_in, statement_parts};
 use super::keyword::{Keyword, known_keyword};
 use super::number::{bytes, number, number_to};
 use crate::Step;
-use my_frame::{Blob, NoMemory};
+use my_frame::{Blob, Listed, NoMemory};
+use my_params::Params;
 use my_world::WorldLine;
 use std::alloc::Global;
 
@@ -85,7 +88,7 @@ fn link_and_count(rest: &[u8]) -> Option<AcceptParts>
     Some(AcceptParts { link, count })
 }
 
-// What follows `query`: a connection and a text, which may be empty.
+// What follows `query` and `prep`: a connection and a text, which may be empty.
 #[derive(Clone, Copy)]
 struct QueryParts<'a> {
     connection: u64,
@@ -196,15 +199,68 @@ fn accept_line(rest: &[u8]) -> Item
     }
 }
 
-fn query_line(alloc: Global, rest: &[u8]) -> Result<Item, NoMemory>
-    ensures { IfOk result (λ item. item ≡ query_item (query_parts rest.now)) }
+// A text is sent, or prepared.
+fn text_as(keyword: Keyword, connection: u64, text: Blob) -> Item
+    ensures { result ≡ text_as keyword connection text }
+{
+    match keyword {
+        Keyword::Query => Item::Steps(Step::Query(connection, text)),
+        Keyword::Prepare => Item::Steps(Step::Prepare(connection, text)),
+        _ => Item::Wrong,
+    }
+}
+
+fn text_line(alloc: Global, keyword: Keyword, rest: &[u8]) -> Result<Item, NoMemory>
+    ensures { IfOk result (λ item. item ≡ text_item keyword (query_parts rest.now)) }
 {
     match connection_and_text(rest) {
         None => Ok(Item::Wrong),
         Some(parts) => {
             let text = Blob::from_slice(alloc, parts.text)?;
-            Ok(Item::Steps(Step::Query(parts.connection, text)))
+            Ok(text_as(keyword, parts.connection, text))
         }
+    }
+}
+
+fn no_params(alloc: Global, keyword: Keyword) -> Params
+    ensures { result ≡ no_params keyword }
+{
+    match keyword {
+        Keyword::ExecuteNamed => Params::Named(Listed::new(alloc)),
+        _ => Params::Positional(Listed::new(alloc)),
+    }
+}
+
+fn executed_with(connection: u64, statement: u64, params: Option<Params>) -> Item
+    ensures { result ≡ executed_with connection statement params }
+{
+    match params {
+        None => Item::Wrong,
+        Some(params) => Item::Steps(Step::Execute(connection, statement, params)),
+    }
+}
+
+fn execute_line(alloc: Global, keyword: Keyword, rest: &[u8]) -> Result<Item, NoMemory>
+    ensures { IfOk result (λ item. item ≡ execute_item keyword (statement_parts rest.now)) }
+{
+    match statement_parts(rest) {
+        None => Ok(Item::Wrong),
+        Some(parts) => {
+            let params = params_in(alloc, no_params(alloc, keyword), parts.rest)?;
+            Ok(executed_with(parts.connection, parts.statement, params))
+        }
+    }
+}
+
+fn close_line(rest: &[u8]) -> Item
+    ensures { result ≡ close_item (statement_parts rest.now) }
+{
+    match statement_parts(rest) {
+        None => Item::Wrong,
+        Some(parts) => match parts.rest {
+            None => Item::Steps(Step::CloseStatement(parts.connection, parts.statement)),
+            Some(_) => Item::Wrong,
+        },
     }
 }
 
@@ -281,7 +337,9 @@ fn with_arguments(alloc: Global, keyword: Keyword, rest: &[u8]) -> Result<Item, 
         Keyword::Bytes => bytes_line(alloc, rest),
         Keyword::Accept => Ok(accept_line(rest)),
         Keyword::Dial => Ok(dial_line(rest)),
-        Keyword::Query => query_line(alloc, rest),
+        Keyword::Query | Keyword::Prepare => text_line(alloc, keyword, rest),
+        Keyword::Execute | Keyword::ExecuteNamed => execute_line(alloc, keyword, rest),
+        Keyword::CloseStatement => Ok(close_line(rest)),
         Keyword::Turn
         | Keyword::Wait
         | Keyword::Fail

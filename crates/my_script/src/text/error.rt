@@ -1,18 +1,86 @@
 //! Errors as text.
 ghost use Rattle.std.specs.Prelude.{◌≡◌, ◌++◌, ◌∷◌, [], OnOk};
-ghost use Rattle.my_script.specs.ErrorText.{driver_text, fault_text, two_text, codec_text, io_text, server_text, one_text, both_text, url_text, error_text};
+ghost use Rattle.my_script.specs.ErrorText.{params_text, driver_text, fault_text, two_text, codec_text, io_text, server_text, one_text, both_text, url_text, error_text};
 
 use super::parts::{push_bytes, push_decimal, push_marked};
 use my_frame::{CodecFault, Text};
 use my_opts::UrlError;
+use my_params::ParamsError;
 use my_reading::{DriverError, Error, IoError, IoFault, IoKind, ServerError};
 use std::alloc::{AllocError, Global};
 
-fn push_driver(out: &mut Vec<u8>, error: DriverError) -> Result<(), AllocError>
-    ensures { OnOk result (out.new.items ≡ out.old.items ++ driver_text error) }
+// A word and two numbers.
+fn push_two(
+    alloc: Global,
+    out: &mut Vec<u8>,
+    word: &[u8],
+    first: u64,
+    second: u64,
+) -> Result<(), AllocError>
+    ensures { OnOk result (out.new.items ≡ out.old.items ++ two_text word.now first second) }
+{
+    out.extend_from_slice(word)?;
+    push_marked(alloc, out, b' ', first)?;
+    push_marked(alloc, out, b' ', second)
+}
+
+// A word and bytes.
+fn push_one(alloc: Global, out: &mut Vec<u8>, word: &[u8], bytes: &[u8]) -> Result<(), AllocError>
+    ensures { OnOk result (out.new.items ≡ out.old.items ++ one_text word.now bytes.now) }
+{
+    out.extend_from_slice(word)?;
+    out.push(b' ')?;
+    push_bytes(alloc, out, bytes)
+}
+
+// A word and two texts.
+fn push_both(
+    alloc: Global,
+    out: &mut Vec<u8>,
+    word: &[u8],
+    first: &Text,
+    second: &Text,
+) -> Result<(), AllocError>
+    ensures { OnOk result (out.new.items ≡ out.old.items ++ both_text word.now first.now second.now) }
+{
+    push_one(alloc, out, word, first.as_str().as_bytes())?;
+    out.push(b' ')?;
+    push_bytes(alloc, out, second.as_str().as_bytes())
+}
+
+// Why parameters aren't sent.
+fn push_params(alloc: Global, out: &mut Vec<u8>, error: &ParamsError) -> Result<(), AllocError>
+    ensures { OnOk result (out.new.items ≡ out.old.items ++ params_text error.now) }
+{
+    match error {
+        ParamsError::Missing(name) => {
+            push_one(alloc, out, b"Driver Params Missing", name.as_slice())
+        }
+        ParamsError::Kind => out.extend_from_slice(b"Driver Params Kind"),
+        ParamsError::NoMemory => out.extend_from_slice(b"Driver Params NoMemory"),
+    }
+}
+
+fn push_driver(alloc: Global, out: &mut Vec<u8>, error: &DriverError) -> Result<(), AllocError>
+    ensures { OnOk result (out.new.items ≡ out.old.items ++ driver_text error.now) }
 {
     match error {
         DriverError::ConnectionClosed => out.extend_from_slice(b"Driver ConnectionClosed"),
+        DriverError::MixedParams => out.extend_from_slice(b"Driver MixedParams"),
+        DriverError::Params(error) => push_params(alloc, out, error),
+        DriverError::StmtParamsMismatch { required, supplied } => {
+            push_two(
+                alloc,
+                out,
+                b"Driver StmtParamsMismatch",
+                *required as u64,
+                *supplied,
+            )
+        }
+        DriverError::StmtParamsNumberExceedsLimit { supplied } => {
+            out.extend_from_slice(b"Driver StmtParamsNumberExceedsLimit")?;
+            push_marked(alloc, out, b' ', *supplied)
+        }
         DriverError::TooLong => out.extend_from_slice(b"Driver TooLong"),
         DriverError::CantParseServerVersion => {
             out.extend_from_slice(b"Driver CantParseServerVersion")
@@ -46,21 +114,6 @@ fn push_fault(alloc: Global, out: &mut Vec<u8>, fault: IoFault) -> Result<(), Al
             push_marked(alloc, out, b' ', fault.place)
         }
     }
-}
-
-// A word and two numbers.
-fn push_two(
-    alloc: Global,
-    out: &mut Vec<u8>,
-    word: &[u8],
-    first: u64,
-    second: u64,
-) -> Result<(), AllocError>
-    ensures { OnOk result (out.new.items ≡ out.old.items ++ two_text word.now first second) }
-{
-    out.extend_from_slice(word)?;
-    push_marked(alloc, out, b' ', first)?;
-    push_marked(alloc, out, b' ', second)
 }
 
 fn push_codec(alloc: Global, out: &mut Vec<u8>, fault: CodecFault) -> Result<(), AllocError>
@@ -103,30 +156,6 @@ fn push_server(alloc: Global, out: &mut Vec<u8>, error: &ServerError) -> Result<
     push_bytes(alloc, out, error.message.as_str().as_bytes())
 }
 
-// A word and a text.
-fn push_one(alloc: Global, out: &mut Vec<u8>, word: &[u8], text: &Text) -> Result<(), AllocError>
-    ensures { OnOk result (out.new.items ≡ out.old.items ++ one_text word.now text.now) }
-{
-    out.extend_from_slice(word)?;
-    out.push(b' ')?;
-    push_bytes(alloc, out, text.as_str().as_bytes())
-}
-
-// A word and two texts.
-fn push_both(
-    alloc: Global,
-    out: &mut Vec<u8>,
-    word: &[u8],
-    first: &Text,
-    second: &Text,
-) -> Result<(), AllocError>
-    ensures { OnOk result (out.new.items ≡ out.old.items ++ both_text word.now first.now second.now) }
-{
-    push_one(alloc, out, word, first)?;
-    out.push(b' ')?;
-    push_bytes(alloc, out, second.as_str().as_bytes())
-}
-
 fn push_url(alloc: Global, out: &mut Vec<u8>, error: &UrlError) -> Result<(), AllocError>
     ensures { OnOk result (out.new.items ≡ out.old.items ++ url_text error.now) }
 {
@@ -143,10 +172,20 @@ fn push_url(alloc: Global, out: &mut Vec<u8>, error: &UrlError) -> Result<(), Al
         }
         UrlError::Parse => out.extend_from_slice(b"Url Parse"),
         UrlError::UnknownParameter { param } => {
-            push_one(alloc, out, b"Url UnknownParameter", param)
+            push_one(
+                alloc,
+                out,
+                b"Url UnknownParameter",
+                param.as_str().as_bytes(),
+            )
         }
         UrlError::UnsupportedScheme { scheme } => {
-            push_one(alloc, out, b"Url UnsupportedScheme", scheme)
+            push_one(
+                alloc,
+                out,
+                b"Url UnsupportedScheme",
+                scheme.as_str().as_bytes(),
+            )
         }
     }
 }
@@ -156,11 +195,11 @@ pub fn push_error(alloc: Global, out: &mut Vec<u8>, error: &Error) -> Result<(),
     ensures { OnOk result (out.new.items ≡ out.old.items ++ error_text error.now) }
 {
     match error {
-        Error::Driver(error) => push_driver(out, *error),
+        Error::Driver(error) => push_driver(alloc, out, error),
         Error::Io(error) => push_io(alloc, out, *error),
         Error::Server(error) => push_server(alloc, out, error),
         Error::Url(error) => push_url(alloc, out, error),
-        Error::Other(error) => push_one(alloc, out, b"Other", &error.text),
+        Error::Other(error) => push_one(alloc, out, b"Other", error.text.as_str().as_bytes()),
         Error::NoMemory => out.extend_from_slice(b"NoMemory"),
     }
 }

@@ -24,8 +24,9 @@ fn push_insert(alloc: Global, out: &mut Vec<u8>, insert: u64) -> Result<(), Allo
     push_number(alloc, out, insert)
 }
 
+/// A word and a number.
 #[tactic(auto, unfolding(crate::specs::OkText::named_text))]
-fn push_named(alloc: Global, out: &mut Vec<u8>, word: &[u8], n: u64) -> Result<(), AllocError>
+pub fn push_named(alloc: Global, out: &mut Vec<u8>, word: &[u8], n: u64) -> Result<(), AllocError>
     ensures { OnOk result (out.new.items ≡ out.old.items ++ named_text word.now n) }
 {
     out.extend_from_slice(word)?;

@@ -1,16 +1,17 @@
 //! A transcript as text.
-ghost use Rattle.std.specs.Prelude.{◌≡◌, ◌++◌, ◌∷◌, [], OnOk, IfOk, codes};
+ghost use Rattle.std.specs.Prelude.{◌≡◌, ◌<◌, ◌≤◌, ◌+◌, ◌-◌, ◌^◌, ◌++◌, ◌∷◌, [], OnOk, IfOk, codes};
 ghost use Rattle.my_script.specs.ErrorText.{error_text};
-ghost use Rattle.my_script.specs.Text.{version_text, connected_text, outcome_text, answer_text, answers_text, hex_text, stream_text, tape_text, tapes_text, text_of};
+ghost use Rattle.my_script.specs.Text.{version_text, connected_text, prepared_text, prepared_by, outcome_text, answer_text, answers_text, hex_text, stream_text, tape_text, tapes_text, text_of};
 
 use super::error::push_error;
-use super::ok::push_fields;
+use super::ok::{push_fields, push_named};
 use super::parts::{push_decimal, push_hex, push_marked};
 use super::value::{push_row, push_rows};
 use crate::transcript::{Outcome, StepAnswer, Tape, Transcript};
 use my_frame::NoMemory;
 use my_handshake::ServerVersion;
 use my_reading::Error;
+use my_statements::Statement;
 use std::alloc::{AllocError, Global};
 
 #[tactic(auto, unfolding(crate::specs::Text::version_text))]
@@ -47,8 +48,42 @@ fn push_failed(alloc: Global, out: &mut Vec<u8>, error: &Error) -> Result<(), Al
     push_error(alloc, out, error)
 }
 
-fn push_outcome(alloc: Global, out: &mut Vec<u8>, outcome: &Outcome) -> Result<(), AllocError>
-    ensures { OnOk result (out.new.items ≡ out.old.items ++ outcome_text outcome.now) }
+#[tactic(auto, unfolding(crate::specs::Text::prepared_text))]
+fn push_prepared(
+    alloc: Global,
+    out: &mut Vec<u8>,
+    number: u64,
+    statement: &Statement,
+) -> Result<(), AllocError>
+    ensures { OnOk result (out.new.items ≡ out.old.items ++ prepared_text number statement.now) }
+{
+    out.extend_from_slice(b"stmt ")?;
+    push_decimal(alloc, out, number)?;
+    push_named(alloc, out, b" id=", statement.id() as u64)?;
+    push_named(alloc, out, b" params=", statement.num_params() as u64)?;
+    push_named(alloc, out, b" columns=", statement.num_columns() as u64)
+}
+
+// How many statements were prepared up to an answer, after so many before it.
+fn prepared_by(prepared: u64, outcome: &Outcome) -> u64
+    requires { prepared < 2 ^ 64 - 1 }
+    ensures number { result ≡ prepared_by prepared outcome.now }
+    ensures one { result ≤ prepared + 1 }
+{
+    match outcome {
+        Outcome::Prepared(_) => prepared + 1,
+        _ => prepared,
+    }
+}
+
+// An answer's text, where so many statements were prepared before it.
+fn push_outcome(
+    alloc: Global,
+    out: &mut Vec<u8>,
+    prepared: u64,
+    outcome: &Outcome,
+) -> Result<(), AllocError>
+    ensures { OnOk result (out.new.items ≡ out.old.items ++ outcome_text prepared outcome.now) }
 {
     match outcome {
         Outcome::Done => out.extend_from_slice(b"ok"),
@@ -57,6 +92,7 @@ fn push_outcome(alloc: Global, out: &mut Vec<u8>, outcome: &Outcome) -> Result<(
         Outcome::NoSet => out.extend_from_slice(b"none"),
         Outcome::Row(row) => push_row(alloc, out, row),
         Outcome::Rows(rows) => push_rows(alloc, out, rows),
+        Outcome::Prepared(statement) => push_prepared(alloc, out, prepared, statement),
         Outcome::Fields(fields) => push_fields(alloc, out, fields.as_ref()),
         Outcome::Connected(number, id, version) => {
             push_connected(alloc, out, *number, *id, *version)
@@ -67,21 +103,28 @@ fn push_outcome(alloc: Global, out: &mut Vec<u8>, outcome: &Outcome) -> Result<(
 }
 
 #[tactic(auto, unfolding(crate::specs::Text::answer_text))]
-fn push_answer(alloc: Global, out: &mut Vec<u8>, answer: &StepAnswer) -> Result<(), AllocError>
-    ensures { OnOk result (out.new.items ≡ out.old.items ++ answer_text answer.now.number answer.now.outcome) }
+fn push_answer(
+    alloc: Global,
+    out: &mut Vec<u8>,
+    prepared: u64,
+    answer: &StepAnswer,
+) -> Result<(), AllocError>
+    ensures { OnOk result (out.new.items ≡ out.old.items ++ answer_text prepared answer.now.number answer.now.outcome) }
 {
     push_decimal(alloc, out, answer.number)?;
     out.push(b' ')?;
-    push_outcome(alloc, out, &answer.outcome)?;
+    push_outcome(alloc, out, prepared, &answer.outcome)?;
     out.push(b'\n')?;
     Ok(())
 }
 
 fn push_answers(alloc: Global, out: &mut Vec<u8>, answers: &[StepAnswer]) -> Result<(), AllocError>
-    ensures { OnOk result (out.new.items ≡ out.old.items ++ answers_text answers.now) }
+    ensures { OnOk result (out.new.items ≡ out.old.items ++ answers_text 0 answers.now) }
 {
+    let mut prepared = 0u64;
     for answer in answers {
-        push_answer(alloc, out, answer)?;
+        push_answer(alloc, out, prepared, answer)?;
+        prepared = prepared_by(prepared, &answer.outcome);
     }
     Ok(())
 }

@@ -1,4 +1,4 @@
-use Rattle.std.proofs.Common.{◌≡◌, ◌<◌, ◌≤◌, length, sym, rules, arith}
+use Rattle.std.proofs.Common.{◌<◌, ◌≤◌, length, sym, rules, arith}
 use Rattle.std.proofs.lemmas.List.{take_all, length-take-le}
 use Rattle.my_script.proofs.reading.script.shown.Goals as goal
 
