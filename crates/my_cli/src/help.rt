@@ -113,6 +113,10 @@ C is a connection; at most 1000 lines connect:
   fields C         prints the fields of the server's last OK packet
   ping C           asks whether the server is there
   quit C           leaves the server
+  prep C TEXT      prepares the statement TEXT; statements are numbered from 0
+  exec C S V V     executes statement S with these values, as many as it has question marks
+  execn C S N=V    executes statement S with values by their names, for :N in its text
+  closestmt C S    closes statement S
   poll C           continues a call that is pending
   cancel C         cancels a call that is pending
   advance MS       in script: moves the clock, which begins at 0, by MS milliseconds
@@ -127,12 +131,18 @@ C is a connection; at most 1000 lines connect:
   poll 0           7 ok           now it came
   collect 0        8 rows 2 [b:31 NULL] [b:32 b:61]
   fields 0         9 ok affected=0 insert=- warnings=0 status=2 info=b:
-  quit 0           10 ok
+  prep 0 DO ?, ?   10 stmt 0 id=1 params=2 columns=0
+  exec 0 0 i:1 b:  11 ok
+  quit 0           12 ok
+
+A value V is written as it is printed: NULL, b:HEX, i:N, u:N, f:HEX and d:HEX with the bits of
+a float and of a double, D:Y-M-D_H:M:S.U, T:SIGN_DAYS_H:M:S.U.
 
 A step may also print pending, where the link has nothing yet; ok -, where no OK packet came yet;
 refused NoSuchHandle, where there is no such connection, its call is still pending, or there
-is no call to continue or to cancel, or no stream. A stream is there from the ok of its stream
-line on, until its end, an error, or a step that begins another call. Or an error, as
+is no call to continue or to cancel, no stream, or no statement of that number. A stream is
+there from the ok of its stream line on, until its end, an error, or a step that begins another
+call; a statement until the step that closes it. Or an error, as
 
   error Io Link
   error Io InvalidData 4

@@ -1,5 +1,5 @@
 -- How wrong runs are refuted.
-use Rattle.std.proofs.Common.{ℕ, ◌≡◌, ◌<◌, ◌⊎◌, inl, inr, zero, suc, List, [], ◌∷◌, ◌++◌, length, map, Option, Some, None, option_map, unwrap_or, Bool, true, false, refl, sym, ap, ◌∙◌, subst, arith}
+use Rattle.std.proofs.Common.{ℕ, ◌≡◌, ◌<◌, ◌≤◌, ◌⊎◌, inl, inr, zero, suc, List, [], ◌∷◌, ◌++◌, length, map, slice_set, Option, Some, None, option_map, unwrap_or, Bool, true, false, refl, sym, ap, ◌∙◌, subst, arith}
 use Rattle.std.proofs.lemmas.List.{append-nil, length-append}
 use Rattle.my_grammar.specs.declared.login.Login.{Login}
 use Rattle.my_frame.specs.Outside.{Rose}
@@ -47,14 +47,17 @@ use Rattle.my_world.specs.World.{Plans, WorldSeen, DialCounts, Chance, FailedBy,
 use Rattle.my_run.specs.declared.tool.Status.{Status}
 use Rattle.my_run.specs.declared.tool.Status.TheVariants as ends
 use Rattle.my_steps.specs.Dialing.{Course, DialsTo, chance_by, dial_met, has_dialed, moved_by, AreDialed}
+use Rattle.my_params.specs.declared.params.Params.{Params}
+use Rattle.my_statements.specs.Prepared.{StatementView}
+use Rattle.my_script.specs.Numbered.{named_statement, statement_named, statement_at, statements_by}
 use Rattle.my_script.specs.Streams.{target}
-use Rattle.my_steps.specs.Grows.{Line, handles_after, is_streamed, AreGrown, StepGrows, DialsNext, HasPlan, Dials, Holds, Fails, Links, ConnectShows, Connects, PolledOnce, Begins, BeginsOn, Calls, At, shown}
+use Rattle.my_steps.specs.Grows.{Line, handles_after, is_streamed, statements_of, AreGrown, StepGrows, ExecutesAt, DialsNext, HasPlan, Dials, Holds, Fails, Links, ConnectShows, Connects, PolledOnce, Begins, BeginsOn, Calls, At, shown}
 use Rattle.my_steps.specs.Handle.{Handle, Absent, Dialing, Joined, at_number, put_at}
 use Rattle.my_run.specs.Headline.{AnswerView, answer_view, steps_of, answers_of, Headline, IsExplained, EachExplained}
 use Rattle.my_steps.specs.Sums.{use_of, quiet, held_use, failed_use}
 use Rattle.my_run.specs.Tapes.{TapeView, tape_view, tape_call, open_call, tapes_in, tape_of, tape_at}
 use Rattle.my_run.specs.Tool.{ToolEnds}
-use Rattle.my_run.specs.WrongRuns.{NoPlannedDialFault, NoWaitAsFault, NoHeldDialFault, MayFail, DialFault, NoStillMoment, one_hold, one_fault, NoEarlyEnd, NoHoldAfterTurn, NoHoldInTurn, NoZeroSent, NoOtherTaken, NoFaultAtRest, HasRead, NoBrokenInput}
+use Rattle.my_run.specs.WrongRuns.{NoPlannedDialFault, NoWaitAsFault, NoHeldDialFault, MayFail, DialFault, NoStillMoment, one_hold, one_fault, NoEarlyEnd, NoHoldAfterTurn, NoHoldInTurn, NoZeroSent, NoOtherTaken, NoFaultAtRest, HasRead, NoBrokenInput, NoClosedExecution, NoUngivenExecution}
 
 -- what was told
 told_some : {I : Type 0} (x y : Option (List I)) (is : List I) (R : List I → List I → Type 0) → x ≡ Some is → Told x y R → (js : List I) × (y ≡ Some js) × R is js
@@ -182,7 +185,7 @@ lone login plans before later a tapes w =
     let next : DialsNext login plans [] a.outcome a.uses.items l.handles =
     subst (λ (x : Outcome). DialsNext login plans [] x a.uses.items l.handles) outcome
     (subst (λ (us : List Use). DialsNext login plans [] l.outcome us l.handles) uses
-    (subst (λ (s : Step). StepGrows login plans (is_streamed (target s) []) [] s l.outcome l.uses l.handles) o.2 grown.0.answer)) in
+    (subst (λ (s : Step). StepGrows login plans (is_streamed (target s) []) (statement_named (named_statement s) (statements_of [])) [] s l.outcome l.uses l.handles) o.2 grown.0.answer)) in
     let dialed = subst (λ (ls : List Line). AreDialed before.dials ls later.dials) o.1 w.dialed in
     let explained = subst (EachExplained login plans) o.1 w.explained in
     record {
@@ -318,6 +321,7 @@ pending_after (after.Answered answers.Ready) e = cc
 pending_after (after.Answered (answers.Row row)) e = cc
 pending_after (after.Answered answers.SetEnd) e = cc
 pending_after (after.Answered answers.NoSet) e = cc
+pending_after (after.Answered (answers.Stmt s)) e = cc
 pending_after (after.Failed x) e = cc
 
 last_call : (xs : List TapeCall) (x c y : TapeCall) → xs ++ x ∷ [] ≡ c ∷ y ∷ [] → x ≡ y
@@ -372,8 +376,8 @@ no_hold_in_turn login plans before later greeting ok pong a b t c n id v some_ok
     let second : m.outcome ≡ Pending = sym (ap second_outcome answered) ∙ pending in
     let second_uses : m.uses ≡ use_of 0 (record nothing_met { holds = 1 }) ∷ [] = sym (ap uses_second answered) ∙ uses in
     let grown = subst (AreGrown login plans) o.2 w.grown in
-    let next : DialsNext login plans [] l.outcome l.uses l.handles = subst (λ (s : Step). StepGrows login plans (is_streamed (target s) []) [] s l.outcome l.uses l.handles) o.3 grown.1.0.answer in
-    let there : At 0 (Calls login 0 Ping) l.handles m.outcome m.uses m.handles = subst (λ (s : Step). StepGrows login plans (is_streamed (target s) (l ∷ [])) l.handles s m.outcome m.uses m.handles) o.4 grown.0.answer in
+    let next : DialsNext login plans [] l.outcome l.uses l.handles = subst (λ (s : Step). StepGrows login plans (is_streamed (target s) []) (statement_named (named_statement s) (statements_of [])) [] s l.outcome l.uses l.handles) o.3 grown.1.0.answer in
+    let there : At 0 (Calls login 0 Ping) l.handles m.outcome m.uses m.handles = subst (λ (s : Step). StepGrows login plans (is_streamed (target s) (l ∷ [])) (statement_named (named_statement s) (statements_of (l ∷ []))) l.handles s m.outcome m.uses m.handles) o.4 grown.0.answer in
     let made = dialed_made login (plans.reads 0) _ (plans.writes 0) (plans.dials 0) 0 id v l.outcome l.uses next.made told first next.dials in
     let handles : l.handles ≡ Joined true made.kept made.link ∷ [] = next.others ∙ ap (λ (h : Handle). h ∷ []) made.is in
     let begun : BeginsOn made.kept.pending login 0 Ping made.kept made.link m.outcome m.uses there.made = subst (λ (hs : List Handle). Calls login 0 Ping (at_number hs 0) m.outcome m.uses there.made) handles there.does in
@@ -512,3 +516,31 @@ broken_off words world later s r w v t ends.NoMemory e f h c = h
 
 pub no_broken_input : NoBrokenInput
 no_broken_input words world later s r w v report e f h c = broken_off words world later s r w v report.transcript report.status e f h c
+
+-- no statement is at a number that is spent, nor at one that wasn't given
+spent_none : (given : List (Option StatementView)) (number : ℕ) → statement_at (slice_set given number None) number ≡ None
+spent_none [] number = refl
+spent_none (x ∷ xs) zero = refl
+spent_none (x ∷ xs) (suc number) = spent_none xs number
+
+past_none : (given : List (Option StatementView)) (number : ℕ) → length given ≤ number → statement_at given number ≡ None
+past_none [] number h = refl
+past_none (x ∷ xs) zero h = absurd (omega (arith, h))
+past_none (x ∷ xs) (suc number) h = past_none xs number (omega (arith, h))
+
+-- there an execution is refused
+not_executed : (login : Login) (plans : Plans) (ls : List Line) (l : Line) (n number : ℕ) (params : Params) → l.step ≡ steps.Execute n number params → statement_at (statements_of ls) number ≡ None → AreGrown login plans (l ∷ ls) → l.outcome ≡ NoSuchHandle
+not_executed login plans ls l n number params is none w =
+    let at : At n (ExecutesAt (statement_at (statements_of ls) number) login n params) (handles_after ls) l.outcome l.uses l.handles =
+    subst (λ (s : Step). StepGrows login plans (is_streamed (target s) ls) (statement_named (named_statement s) (statements_of ls)) (handles_after ls) s l.outcome l.uses l.handles) is w.0.answer in
+    (subst (λ (q : Option StatementView). ExecutesAt q login n params (at_number (handles_after ls) n) l.outcome l.uses at.made) none at.does).outcome
+
+pub no_closed_execution : NoClosedExecution
+no_closed_execution login plans ls l m n k number params closes done is shown w =
+    let given = statements_of ls in
+    let none : statement_at (statements_by given m.step m.outcome) number ≡ None =
+    ap (λ (s : Step). statement_at (statements_by given s m.outcome) number) closes ∙ ap (λ (o : Outcome). statement_at (statements_by given (steps.CloseStatement k number) o) number) done ∙ spent_none given number in
+    shown (not_executed login plans (m ∷ ls) l n number params is none w)
+
+pub no_ungiven_execution : NoUngivenExecution
+no_ungiven_execution login plans ls l n number params past is shown w = shown (not_executed login plans ls l n number params is (past_none (statements_of ls) number past) w)

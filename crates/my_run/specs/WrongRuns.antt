@@ -1,5 +1,5 @@
 -- Runs that no user would call right, each refuted; and beside them runs that are accepted.
-use Rattle.std.specs.Prelude.{ℕ, ◌≡◌, ◌<◌, List, [], ◌∷◌, ◌++◌, length, Option, Some, None, true}
+use Rattle.std.specs.Prelude.{ℕ, ◌≡◌, ◌<◌, ◌≤◌, List, [], ◌∷◌, ◌++◌, length, Option, Some, None, true}
 use Rattle.my_grammar.specs.declared.login.Login.{Login}
 use Rattle.my_frame.specs.Sources.{SourceSeen}
 use Rattle.my_frame.specs.Sinks.{SinkSeen}
@@ -13,8 +13,10 @@ use Rattle.my_reading.specs.declared.call.Call.TheVariants.{Ping, Quit}
 use Rattle.my_reading.specs.declared.error.IoKind.TheVariants.{Dial, Link}
 use Rattle.my_reading.specs.Errors.{io_error, unexpected_eof}
 use Rattle.my_session.specs.History.{has_closed}
+use Rattle.my_params.specs.declared.params.Params.{Params}
 use Rattle.my_script.specs.declared.step.Step.TheVariants as steps
-use Rattle.my_script.specs.declared.transcript.Outcome.TheVariants.{Connected, Failed, Pending}
+use Rattle.my_script.specs.declared.transcript.Outcome.TheVariants.{Connected, Failed, NoSuchHandle, Pending}
+use Rattle.my_script.specs.declared.transcript.Outcome.TheVariants as outcomes
 use Rattle.my_script.specs.declared.transcript.StepAnswer.{StepAnswer}
 use Rattle.my_script.specs.declared.transcript.Tape.{Tape}
 use Rattle.my_script.specs.declared.transcript.TapeCall.{TapeCall}
@@ -26,6 +28,7 @@ use Rattle.my_link.specs.declared.dialer.DialItem.{DialItem}
 use Rattle.my_link.specs.declared.dialer.DialItem.TheVariants.{Wait, Fail}
 use Rattle.my_world.specs.World.{Plans, WorldSeen, DialCounts, Chance, no_dials, drawn}
 use Rattle.my_steps.specs.Dialing.{Course}
+use Rattle.my_steps.specs.Grows.{AreGrown, Line, statements_of}
 use Rattle.my_run.specs.declared.tool.Report.{Report}
 use Rattle.my_run.specs.declared.tool.Status.{Status}
 use Rattle.my_run.specs.declared.tool.Status.TheVariants.{Done, Unread, SinkFailed}
@@ -133,3 +136,15 @@ HasRead _ = ⊥
 abbrev pub NoBrokenInput : Type 0
 NoBrokenInput = (words : List (List ℕ)) (world later : WorldSeen) (s r : SourceSeen) (w v : SinkSeen) (report : Report)
     → s.ends ≡ 0 → r.ends ≡ 0 → HasRead report.status → IsReport words world later s r w v report → ⊥
+
+-- a statement is executed in the line after the one that closed it, and isn't refused
+abbrev pub NoClosedExecution : Type 0
+NoClosedExecution = (login : Login) (plans : Plans) (ls : List Line) (l m : Line) (n k number : ℕ) (params : Params)
+    → m.step ≡ steps.CloseStatement k number → m.outcome ≡ outcomes.Done → l.step ≡ steps.Execute n number params
+    → (l.outcome ≡ NoSuchHandle → ⊥) → AreGrown login plans (l ∷ m ∷ ls) → ⊥
+
+-- a number is executed that isn't among those which the statements so far took
+abbrev pub NoUngivenExecution : Type 0
+NoUngivenExecution = (login : Login) (plans : Plans) (ls : List Line) (l : Line) (n number : ℕ) (params : Params)
+    → length (statements_of ls) ≤ number → l.step ≡ steps.Execute n number params → (l.outcome ≡ NoSuchHandle → ⊥)
+    → AreGrown login plans (l ∷ ls) → ⊥

@@ -4,6 +4,7 @@
 mod input;
 mod output;
 mod run;
+mod statements;
 mod streams;
 mod tape;
 mod tool;

@@ -9,13 +9,14 @@ ghost use Rattle.my_run.specs.Headline.{RunSoFar, RunsTo};
 ghost use Rattle.my_steps.specs.Slot.{handle_of};
 ghost use Rattle.my_run.specs.Tapes.{tape_view, tape_of, tape_at, tapes_in};
 
+use crate::statements::statement_for;
 use crate::streams::Streams;
 use crate::tape::tape_calls;
 use my_client::TapedConn;
 use my_frame::NoMemory;
 use my_link::Link;
 use my_opts::Opts;
-use my_script::{Step, StepAnswer, Tape, Transcript};
+use my_script::{NumberedStatements, Step, StepAnswer, Tape, Transcript};
 use my_steps::{Slot, run_step};
 use my_world::World;
 use std::alloc::Global;
@@ -35,10 +36,13 @@ fn run_each<N: World>(
         (course_of (N.seen world.old)) (N.seen world.new) steps.now slots.new.items answers.new.items) }
 {
     let mut streams = Streams::new(alloc);
+    let mut statements = NumberedStatements::new(alloc);
     for (i, step) in steps.iter().enumerate() {
         let there = streams.is_there(step);
-        let did = run_step(alloc, opts, world, slots, step, there)?;
+        let named = statement_for(&statements, step);
+        let did = run_step(alloc, opts, world, slots, step, there, named)?;
         streams.note(step, &did.outcome)?;
+        statements.note(alloc, step, &did.outcome)?;
         answers.push(StepAnswer {
             number: i as u64 + 1,
             outcome: did.outcome,

@@ -1,5 +1,5 @@
 //! Runs that no user would call right, each of which the headline refutes, and beside them runs that it accepts.
-ghost use Rattle.my_run.specs.WrongRuns.{NoPlannedDialFault, NoWaitAsFault, NoHeldDialFault, DialFault, NoStillMoment, NoEarlyEnd, NoHoldAfterTurn, NoHoldInTurn, NoZeroSent, NoOtherTaken, NoFaultAtRest, NoBrokenInput};
+ghost use Rattle.my_run.specs.WrongRuns.{NoPlannedDialFault, NoWaitAsFault, NoHeldDialFault, DialFault, NoStillMoment, NoEarlyEnd, NoHoldAfterTurn, NoHoldInTurn, NoZeroSent, NoOtherTaken, NoFaultAtRest, NoBrokenInput, NoClosedExecution, NoUngivenExecution};
 
 /// Over a world that planned no wait and no fault of the dial, none is said to have failed.
 pub fn no_planned_dial_fault()
@@ -59,4 +59,14 @@ pub fn no_fault_at_rest()
 /// An input that broke off isn't run as if it were whole.
 pub fn no_broken_input()
     ensures { NoBrokenInput }
+{}
+
+/// A statement that was closed isn't executed.
+pub fn no_closed_execution()
+    ensures { NoClosedExecution }
+{}
+
+/// Nor is a statement under a number that none took yet.
+pub fn no_ungiven_execution()
+    ensures { NoUngivenExecution }
 {}

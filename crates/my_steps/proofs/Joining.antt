@@ -1,11 +1,14 @@
 -- A connection that is there was connected, unless its handshake is open or its session is closed.
 use Rattle.std.proofs.Common.{ℕ, ◌≡◌, zero, suc, List, [], ◌∷◌, ◌++◌, ◌||◌, Bool, true, false, not, Option, Some, None, is_some, refl, sym, ap, ◌∙◌, subst}
 use Rattle.my_value.specs.RowParts.{RowParts}
+use Rattle.my_params.specs.declared.params.Params.{Params}
+use Rattle.my_statements.specs.Prepared.{StatementView}
 use Rattle.my_grammar.specs.declared.login.Login.{Login}
 use Rattle.my_reading.specs.declared.answer.Answer.TheVariants as answers
 use Rattle.my_reading.specs.declared.call.Call.{Call}
 use Rattle.my_reading.specs.declared.call.Call.TheVariants as calls
 use Rattle.my_reading.specs.Calls.{kind_of, is_connect}
+use Rattle.my_script.specs.Numbered.{named_statement, statement_named}
 use Rattle.my_script.specs.Streams.{is_skip, target}
 use Rattle.my_session.specs.Entries.{connects, has_connected}
 use Rattle.my_reading.specs.Told.{told, closes}
@@ -26,7 +29,7 @@ use Rattle.my_link.specs.Looks.{Looks}
 use Rattle.my_link.specs.Moves.{Stop}
 use Rattle.my_world.specs.World.{Plans}
 use Rattle.my_client.specs.Causes.{IsPolled, PollEnds}
-use Rattle.my_steps.specs.Grows.{IsRefused, OnConnection, PolledOnce, IsClosed, Begins, BeginsOn, Calls, ConnectShows, Connects, Dials, Holds, Fails, Links, Gathers, GathersOn, Collects, CollectsOn, CollectsAt, PollsOn, PollsCall, ThenTakes, Skips, Takes, TakesOn, StreamsAt, ItemsAt, LetsGoWith, UnstreamsAt, GoesOnWith, GoesOn, CancelsWith, Cancels, TellsWith, TellsFields, At, StepGrows, Line, AreGrown, handles_after, is_done, is_streamed, skips_first}
+use Rattle.my_steps.specs.Grows.{IsRefused, OnConnection, PolledOnce, IsClosed, Begins, BeginsOn, Calls, ConnectShows, Connects, Dials, Holds, Fails, Links, Gathers, GathersOn, Collects, CollectsOn, CollectsAt, PollsOn, PollsCall, ThenTakes, Skips, Takes, TakesOn, StreamsAt, ItemsAt, LetsGoWith, UnstreamsAt, ExecutesAt, ClosesAt, GoesOnWith, GoesOn, CancelsWith, Cancels, TellsWith, TellsFields, At, StepGrows, Line, AreGrown, handles_after, is_done, is_streamed, statements_of, skips_first}
 use Rattle.my_client.specs.Kept.{asked_by, Asked, Kept, nothing_kept, told_by, made_of, asking, ended_by, first_asked, first_kept}
 use Rattle.my_steps.specs.Handle.{Handle, Absent, Dialing, Joined, at_number, put_at}
 use Rattle.my_client.specs.Ready.{WereJoined, WasJoined, IsOpen, JoinedBy}
@@ -124,6 +127,7 @@ gathers_on More us a end y o t (after.Answered answers.Ready) f w j alive r = su
 gathers_on More us a end y o t (after.Answered (answers.Row row)) f w j alive r = f _ _ y w (alive row refl) r
 gathers_on More us a end y o t (after.Answered answers.SetEnd) f w j alive r = subst IsJoined (sym r.2) j
 gathers_on More us a end y o t (after.Answered answers.NoSet) f w j alive r = subst IsJoined (sym r.2) j
+gathers_on More us a end y o t (after.Answered (answers.Stmt s)) f w j alive r = subst IsJoined (sym r.2) j
 gathers_on More us a end y o t (after.Failed x) f w j alive r = subst IsJoined (sym r.2) j
 
 gathers_joined : (login : Login) (n : ℕ) (us : List Use) (a : Asked) (k : Kept) (x : Looks) (o : Outcome) (t : Handle) → WasJoined k → IsOpen k → Gathers login n us a k x o t → IsJoined t
@@ -199,6 +203,14 @@ unstreams_joined : (b : Bool) (o : Outcome) (us : List Use) (h t : Handle) → I
 unstreams_joined true o us h t w r = on_joined (λ k. LetsGoWith k.pending k) o us h t (λ k x. lets_go_with k.pending k x o us t) w r
 unstreams_joined false o us h t w r = kept_joined h o us t w r
 
+executes_joined : (named : Option StatementView) (login : Login) (n : ℕ) (params : Params) (o : Outcome) (us : List Use) (h t : Handle) → IsJoined h → ExecutesAt named login n params h o us t → IsJoined t
+executes_joined (Some s) login n params o us h t w r = calls_joined login n (calls.Execute s params) o us h t w r
+executes_joined None login n params o us h t w r = kept_joined h o us t w r
+
+closes_joined : (named : Option StatementView) (login : Login) (n : ℕ) (o : Outcome) (us : List Use) (h t : Handle) → IsJoined h → ClosesAt named login n h o us t → IsJoined t
+closes_joined (Some s) login n o us h t w r = calls_joined login n (calls.CloseStmt s.inner.id) o us h t w r
+closes_joined None login n o us h t w r = kept_joined h o us t w r
+
 polls_call : (b : Bool) (login : Login) (n : ℕ) (a : Asked) (k : Kept) (x : Looks) (o : Outcome) (us : List Use) (t : Handle) → WasJoined k → GathersOpen a k → PollsCall b login n a k x o us t → IsJoined t
 polls_call true login n a k x o us t w g r = skips_joined (PolledOnce login n a k x) login n o us t (λ first used mid s. once_joined login n a k x first used mid w g s) r
 polls_call false login n a k x o us t w g r = once_joined login n a k x o us t w g r
@@ -257,23 +269,26 @@ push_joined (h ∷ hs) t j w = (w.0, push_joined hs t j w.1)
 at_step : (n : ℕ) (R : Handle → Outcome → List Use → Handle → Type 0) (hs ts : List Handle) (o : Outcome) (us : List Use) → ((h t : Handle) → IsJoined h → R h o us t → IsJoined t) → AllJoined hs → At n R hs o us ts → AllJoined ts
 at_step n R hs ts o us f w r = subst AllJoined (sym r.others) (put_joined hs n r.made (f (at_number hs n) r.made (at_joined hs n w) r.does) w)
 
-step_joined : (login : Login) (plans : Plans) (there : Bool) (hs : List Handle) (step : Step) (o : Outcome) (us : List Use) (ts : List Handle) → AllJoined hs → StepGrows login plans there hs step o us ts → AllJoined ts
-step_joined login plans there hs steps.Conn o us ts w r = subst AllJoined (sym r.others) (push_joined hs r.made (dials_joined login _ _ _ _ o us r.made r.dials) w)
-step_joined login plans there hs (steps.Query n text) o us ts w r = at_step n _ hs ts o us (λ h t. calls_joined login n _ o us h t) w r
-step_joined login plans there hs (steps.Next n) o us ts w r = at_step n _ hs ts o us (λ h t. calls_joined login n _ o us h t) w r
-step_joined login plans there hs (steps.Collect n) o us ts w r = at_step n _ hs ts o us (λ h t. collects_joined login n o us h t) w r
-step_joined login plans there hs (steps.Drop n) o us ts w r = at_step n _ hs ts o us (λ h t. calls_joined login n _ o us h t) w r
-step_joined login plans there hs (steps.Ping n) o us ts w r = at_step n _ hs ts o us (λ h t. calls_joined login n _ o us h t) w r
-step_joined login plans there hs (steps.Quit n) o us ts w r = at_step n _ hs ts o us (λ h t. calls_joined login n _ o us h t) w r
-step_joined login plans there hs (steps.Stream n) o us ts w r = at_step n _ hs ts o us (λ h t. streams_joined login n o us h t) w r
-step_joined login plans there hs (steps.Item n) o us ts w r = at_step n _ hs ts o us (λ h t. items_joined there login n o us h t) w r
-step_joined login plans there hs (steps.Unstream n) o us ts w r = at_step n _ hs ts o us (λ h t. unstreams_joined there o us h t) w r
-step_joined login plans there hs (steps.Fields n) o us ts w r = at_step n _ hs ts o us (λ h t. tells_joined login o us h t) w r
-step_joined login plans there hs (steps.Poll n) o us ts w r = at_step n _ hs ts o us (λ h t. goes_on_joined login plans n o us h t) w r
-step_joined login plans there hs (steps.Cancel n) o us ts w r = at_step n _ hs ts o us (λ h t. cancels_joined login o us h t) w r
-step_joined login plans there hs (steps.Advance by) o us ts w r = subst AllJoined (sym r.same) w
-step_joined login plans there hs (steps.Random word) o us ts w r = subst AllJoined (sym r.same) w
+step_joined : (login : Login) (plans : Plans) (there : Bool) (named : Option StatementView) (hs : List Handle) (step : Step) (o : Outcome) (us : List Use) (ts : List Handle) → AllJoined hs → StepGrows login plans there named hs step o us ts → AllJoined ts
+step_joined login plans there named hs steps.Conn o us ts w r = subst AllJoined (sym r.others) (push_joined hs r.made (dials_joined login _ _ _ _ o us r.made r.dials) w)
+step_joined login plans there named hs (steps.Query n text) o us ts w r = at_step n _ hs ts o us (λ h t. calls_joined login n _ o us h t) w r
+step_joined login plans there named hs (steps.Prepare n text) o us ts w r = at_step n _ hs ts o us (λ h t. calls_joined login n _ o us h t) w r
+step_joined login plans there named hs (steps.Execute n number params) o us ts w r = at_step n _ hs ts o us (λ h t. executes_joined named login n params o us h t) w r
+step_joined login plans there named hs (steps.CloseStatement n number) o us ts w r = at_step n _ hs ts o us (λ h t. closes_joined named login n o us h t) w r
+step_joined login plans there named hs (steps.Next n) o us ts w r = at_step n _ hs ts o us (λ h t. calls_joined login n _ o us h t) w r
+step_joined login plans there named hs (steps.Collect n) o us ts w r = at_step n _ hs ts o us (λ h t. collects_joined login n o us h t) w r
+step_joined login plans there named hs (steps.Drop n) o us ts w r = at_step n _ hs ts o us (λ h t. calls_joined login n _ o us h t) w r
+step_joined login plans there named hs (steps.Ping n) o us ts w r = at_step n _ hs ts o us (λ h t. calls_joined login n _ o us h t) w r
+step_joined login plans there named hs (steps.Quit n) o us ts w r = at_step n _ hs ts o us (λ h t. calls_joined login n _ o us h t) w r
+step_joined login plans there named hs (steps.Stream n) o us ts w r = at_step n _ hs ts o us (λ h t. streams_joined login n o us h t) w r
+step_joined login plans there named hs (steps.Item n) o us ts w r = at_step n _ hs ts o us (λ h t. items_joined there login n o us h t) w r
+step_joined login plans there named hs (steps.Unstream n) o us ts w r = at_step n _ hs ts o us (λ h t. unstreams_joined there o us h t) w r
+step_joined login plans there named hs (steps.Fields n) o us ts w r = at_step n _ hs ts o us (λ h t. tells_joined login o us h t) w r
+step_joined login plans there named hs (steps.Poll n) o us ts w r = at_step n _ hs ts o us (λ h t. goes_on_joined login plans n o us h t) w r
+step_joined login plans there named hs (steps.Cancel n) o us ts w r = at_step n _ hs ts o us (λ h t. cancels_joined login o us h t) w r
+step_joined login plans there named hs (steps.Advance by) o us ts w r = subst AllJoined (sym r.same) w
+step_joined login plans there named hs (steps.Random word) o us ts w r = subst AllJoined (sym r.same) w
 
 pub grown_joined : (login : Login) (plans : Plans) (ls : List Line) → AreGrown login plans ls → AllJoined (handles_after ls)
 grown_joined login plans [] w = tt
-grown_joined login plans (l ∷ ls) w = step_joined login plans (is_streamed (target l.step) ls) (handles_after ls) l.step l.outcome l.uses l.handles (grown_joined login plans ls w.1) w.0.answer
+grown_joined login plans (l ∷ ls) w = step_joined login plans (is_streamed (target l.step) ls) (statement_named (named_statement l.step) (statements_of ls)) (handles_after ls) l.step l.outcome l.uses l.handles (grown_joined login plans ls w.1) w.0.answer

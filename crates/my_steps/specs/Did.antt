@@ -1,7 +1,9 @@
 -- What a step did to what is at one number, and to all numbers.
-use Rattle.std.specs.Prelude.{◌≡◌, ◌≤◌, ℕ, List, None, length, Bool, true, false, ◌&&◌}
+use Rattle.std.specs.Prelude.{◌≡◌, ◌≤◌, ℕ, List, Option, Some, None, length, Bool, true, false, ◌&&◌}
 use Rattle.my_grammar.specs.declared.login.Login.{Login}
 use Rattle.my_link.specs.Looks.{Looks}
+use Rattle.my_params.specs.declared.params.Params.{Params}
+use Rattle.my_statements.specs.Prepared.{StatementView}
 use Rattle.my_reading.specs.Calls.{is_connect, kind_of}
 use Rattle.my_reading.specs.declared.call.Call.TheVariants as calls
 use Rattle.my_session.specs.Seen.{Seen}
@@ -79,27 +81,40 @@ abbrev pub unstream_work : Bool → Work
 unstream_work true = works.LetGo
 unstream_work false = works.Miss
 
+-- a statement is executed, and closed by its id, where the step names one that is there
+abbrev pub execute_work : Option StatementView → Params → Work
+execute_work (Some s) params = works.Begin (calls.Execute s params)
+execute_work None params = works.Miss
+
+abbrev pub close_work : Option StatementView → Work
+close_work (Some s) = works.Begin (calls.CloseStmt s.inner.id)
+close_work None = works.Miss
+
 -- an errand at number n
 abbrev pub at_place : ℕ → Work → Order
 at_place n work = orders.Visit (record { number = n; work = work })
 
--- what a step does: it dials, does something at the number that it names, where a stream is there or none, or moves the world
-abbrev pub order_of : Bool → Step → Order
-order_of there steps.Conn = orders.Dial
-order_of there (steps.Query n text) = at_place n (works.Begin (calls.Query text))
-order_of there (steps.Next n) = at_place n (works.Begin calls.NextRow)
-order_of there (steps.Drop n) = at_place n (works.Begin calls.DropResult)
-order_of there (steps.Ping n) = at_place n (works.Begin calls.Ping)
-order_of there (steps.Quit n) = at_place n (works.Begin calls.Quit)
-order_of there (steps.Fields n) = at_place n works.Fields
-order_of there (steps.Cancel n) = at_place n works.Cancel
-order_of there (steps.Collect n) = at_place n works.Collect
-order_of there (steps.Poll n) = at_place n works.Poll
-order_of there (steps.Stream n) = at_place n works.Take
-order_of there (steps.Item n) = at_place n (item_work there)
-order_of there (steps.Unstream n) = at_place n (unstream_work there)
-order_of there (steps.Advance by) = orders.Move (lines.Advance by)
-order_of there (steps.Random word) = orders.Move (lines.Random word)
+-- what a step does: it dials, does something at the number that it names, where a stream is there or none and with the statement
+-- that it names, or moves the world
+abbrev pub order_of : Bool → Option StatementView → Step → Order
+order_of there named steps.Conn = orders.Dial
+order_of there named (steps.Query n text) = at_place n (works.Begin (calls.Query text))
+order_of there named (steps.Prepare n text) = at_place n (works.Begin (calls.Prepare text))
+order_of there named (steps.Execute n number params) = at_place n (execute_work named params)
+order_of there named (steps.CloseStatement n number) = at_place n (close_work named)
+order_of there named (steps.Next n) = at_place n (works.Begin calls.NextRow)
+order_of there named (steps.Drop n) = at_place n (works.Begin calls.DropResult)
+order_of there named (steps.Ping n) = at_place n (works.Begin calls.Ping)
+order_of there named (steps.Quit n) = at_place n (works.Begin calls.Quit)
+order_of there named (steps.Fields n) = at_place n works.Fields
+order_of there named (steps.Cancel n) = at_place n works.Cancel
+order_of there named (steps.Collect n) = at_place n works.Collect
+order_of there named (steps.Poll n) = at_place n works.Poll
+order_of there named (steps.Stream n) = at_place n works.Take
+order_of there named (steps.Item n) = at_place n (item_work there)
+order_of there named (steps.Unstream n) = at_place n (unstream_work there)
+order_of there named (steps.Advance by) = orders.Move (lines.Advance by)
+order_of there named (steps.Random word) = orders.Move (lines.Random word)
 
 -- lines that give no link anything
 abbrev pub IsMoving : WorldLine → Type 0

@@ -2,11 +2,13 @@
 use Rattle.std.specs.Prelude.{ℕ, ◌≡◌, ◌+◌, List, [], ◌∷◌, ◌++◌, length, Option, Some, None, Bool, true, false, not, ◌&&◌, unwrap_or}
 use Rattle.my_handshake.specs.Version.{version_of}
 use Rattle.my_value.specs.RowParts.{RowParts}
+use Rattle.my_params.specs.declared.params.Params.{Params}
+use Rattle.my_statements.specs.Prepared.{StatementView}
 use Rattle.my_grammar.specs.declared.login.Login.{Login}
 use Rattle.my_reading.specs.declared.answer.Answer.{Answer}
 use Rattle.my_reading.specs.declared.answer.Answer.TheVariants as answers
 use Rattle.my_reading.specs.declared.call.Call.{Call}
-use Rattle.my_reading.specs.declared.call.Call.TheVariants.{Query, NextRow, DropResult, TakeSet, SkipTaken, Ping, Quit}
+use Rattle.my_reading.specs.declared.call.Call.TheVariants.{Query, Prepare, Execute, CloseStmt, NextRow, DropResult, TakeSet, SkipTaken, Ping, Quit}
 use Rattle.my_reading.specs.Calls.{kind_of, is_connect}
 use Rattle.my_reading.specs.Endings.{closes_cancelled}
 use Rattle.my_reading.specs.Errors.{connection_closed, io_error}
@@ -21,9 +23,10 @@ use Rattle.my_script.specs.declared.step.Step.TheVariants as steps
 use Rattle.my_script.specs.declared.stream.Stream.{Stream}
 use Rattle.my_script.specs.declared.stream.Stream.TheVariants.{Without}
 use Rattle.my_script.specs.Streams.{is_skip, is_there, stream_by, target}
+use Rattle.my_script.specs.Numbered.{named_statement, statement_named, statements_by}
 use Rattle.my_client.specs.declared.tape.Said.TheVariants as says
 use Rattle.my_script.specs.declared.transcript.Outcome.{Outcome}
-use Rattle.my_script.specs.declared.transcript.Outcome.TheVariants.{Done, Pending, SetEnd, NoSet, Row, Rows, Fields, Connected, Failed, NoSuchHandle}
+use Rattle.my_script.specs.declared.transcript.Outcome.TheVariants.{Done, Pending, SetEnd, NoSet, Row, Rows, Prepared, Fields, Connected, Failed, NoSuchHandle}
 use Rattle.my_script.specs.declared.transcript.Use.{Use}
 use Rattle.my_client.specs.Causes.{IsPolled}
 use Rattle.my_steps.specs.Handle.{Handle, Absent, Dialing, Joined, at_number, put_at}
@@ -57,6 +60,7 @@ answer_shown answers.Ready = Done
 answer_shown (answers.Row row) = Row row
 answer_shown answers.SetEnd = SetEnd
 answer_shown answers.NoSet = NoSet
+answer_shown (answers.Stmt s) = Prepared s
 
 abbrev pub shown : After → Outcome
 shown after.Pending = Pending
@@ -145,6 +149,7 @@ rows_shown SetEnd = None
 rows_shown NoSet = None
 rows_shown (Row row) = None
 rows_shown (Rows rows) = Some rows.items
+rows_shown (Prepared s) = None
 rows_shown (Fields fields) = None
 rows_shown (Connected number id version) = None
 rows_shown (Failed e) = None
@@ -169,6 +174,7 @@ GathersOn more a (after.Answered answers.SetEnd) end y o us t = (rows_shown o �
     × (t ≡ Joined true end y)
 GathersOn more a (after.Answered answers.NoSet) end y o us t = (rows_shown o ≡ Some (gathered a)) × (us ≡ [])
     × (t ≡ Joined true end y)
+GathersOn more a (after.Answered (answers.Stmt s)) end y o us t = (o ≡ Prepared s) × (us ≡ []) × (t ≡ Joined true end y)
 GathersOn more a (after.Failed e) end y o us t = (o ≡ Failed e) × (us ≡ []) × (t ≡ Joined true end y)
 
 -- one poll for each use, row by row
@@ -226,7 +232,7 @@ TakesOn (Some a) login n k x o us t = IsRefused (Joined true k x) o us t
 abbrev pub StreamsAt : Login → ℕ → Handle → Outcome → List Use → Handle → Type 0
 StreamsAt login n h o us t = OnConnection (λ k. TakesOn k.pending login n k) h o us t
 
--- a step of a stream that isn't there
+-- a step of a stream, or of a statement, that isn't there
 abbrev pub Misses : Handle → Outcome → List Use → Handle → Type 0
 Misses h o us t = IsRefused h o us t
 
@@ -251,6 +257,15 @@ LetsGo h o us t = OnConnection (λ k. LetsGoWith k.pending k) h o us t
 abbrev pub UnstreamsAt : Bool → Handle → Outcome → List Use → Handle → Type 0
 UnstreamsAt true = LetsGo
 UnstreamsAt false = Misses
+
+-- A statement is executed, or closed by its id, where the step names one that is there.
+abbrev pub ExecutesAt : Option StatementView → Login → ℕ → Params → Handle → Outcome → List Use → Handle → Type 0
+ExecutesAt (Some s) login n params = Calls login n (Execute s params)
+ExecutesAt None login n params = Misses
+
+abbrev pub ClosesAt : Option StatementView → Login → ℕ → Handle → Outcome → List Use → Handle → Type 0
+ClosesAt (Some s) login n = Calls login n (CloseStmt s.inner.id)
+ClosesAt None login n = Misses
 
 -- a call that gathers no rows is polled; where it passes over a set's rest, the next set is taken then
 abbrev pub PollsCall : Bool → Login → ℕ → Asked → Kept → Looks → Outcome → List Use → Handle → Type 0
@@ -333,24 +348,28 @@ pub record Moves (hs : List Handle) (o : Outcome) (us : List Use) (ts : List Han
   pub uses : us ≡ []
   pub same : ts ≡ hs
 
--- by the step, over what the earlier steps and their answers made of the numbers, and whether a stream is there at the one
--- that the step names
-abbrev pub StepGrows : Login → Plans → Bool → List Handle → Step → Outcome → List Use → List Handle → Type 0
-StepGrows login plans there hs steps.Conn o us ts = DialsNext login plans hs o us ts
-StepGrows login plans there hs (steps.Query n text) o us ts = At n (Calls login n (Query text)) hs o us ts
-StepGrows login plans there hs (steps.Next n) o us ts = At n (Calls login n NextRow) hs o us ts
-StepGrows login plans there hs (steps.Collect n) o us ts = At n (CollectsAt login n) hs o us ts
-StepGrows login plans there hs (steps.Drop n) o us ts = At n (Calls login n DropResult) hs o us ts
-StepGrows login plans there hs (steps.Ping n) o us ts = At n (Calls login n Ping) hs o us ts
-StepGrows login plans there hs (steps.Quit n) o us ts = At n (Calls login n Quit) hs o us ts
-StepGrows login plans there hs (steps.Stream n) o us ts = At n (StreamsAt login n) hs o us ts
-StepGrows login plans there hs (steps.Item n) o us ts = At n (ItemsAt there login n) hs o us ts
-StepGrows login plans there hs (steps.Unstream n) o us ts = At n (UnstreamsAt there) hs o us ts
-StepGrows login plans there hs (steps.Fields n) o us ts = At n (TellsFields login) hs o us ts
-StepGrows login plans there hs (steps.Poll n) o us ts = At n (GoesOn login plans n) hs o us ts
-StepGrows login plans there hs (steps.Cancel n) o us ts = At n (Cancels login) hs o us ts
-StepGrows login plans there hs (steps.Advance by) o us ts = Moves hs o us ts
-StepGrows login plans there hs (steps.Random word) o us ts = Moves hs o us ts
+-- by the step, over what the earlier steps and their answers made of the numbers: whether a stream is there at the one that the
+-- step names, and the statement that it names
+abbrev pub StepGrows : Login → Plans → Bool → Option StatementView → List Handle → Step → Outcome → List Use → List Handle
+    → Type 0
+StepGrows login plans there named hs steps.Conn o us ts = DialsNext login plans hs o us ts
+StepGrows login plans there named hs (steps.Query n text) o us ts = At n (Calls login n (Query text)) hs o us ts
+StepGrows login plans there named hs (steps.Prepare n text) o us ts = At n (Calls login n (Prepare text)) hs o us ts
+StepGrows login plans there named hs (steps.Execute n number params) o us ts = At n (ExecutesAt named login n params) hs o us ts
+StepGrows login plans there named hs (steps.CloseStatement n number) o us ts = At n (ClosesAt named login n) hs o us ts
+StepGrows login plans there named hs (steps.Next n) o us ts = At n (Calls login n NextRow) hs o us ts
+StepGrows login plans there named hs (steps.Collect n) o us ts = At n (CollectsAt login n) hs o us ts
+StepGrows login plans there named hs (steps.Drop n) o us ts = At n (Calls login n DropResult) hs o us ts
+StepGrows login plans there named hs (steps.Ping n) o us ts = At n (Calls login n Ping) hs o us ts
+StepGrows login plans there named hs (steps.Quit n) o us ts = At n (Calls login n Quit) hs o us ts
+StepGrows login plans there named hs (steps.Stream n) o us ts = At n (StreamsAt login n) hs o us ts
+StepGrows login plans there named hs (steps.Item n) o us ts = At n (ItemsAt there login n) hs o us ts
+StepGrows login plans there named hs (steps.Unstream n) o us ts = At n (UnstreamsAt there) hs o us ts
+StepGrows login plans there named hs (steps.Fields n) o us ts = At n (TellsFields login) hs o us ts
+StepGrows login plans there named hs (steps.Poll n) o us ts = At n (GoesOn login plans n) hs o us ts
+StepGrows login plans there named hs (steps.Cancel n) o us ts = At n (Cancels login) hs o us ts
+StepGrows login plans there named hs (steps.Advance by) o us ts = Moves hs o us ts
+StepGrows login plans there named hs (steps.Random word) o us ts = Moves hs o us ts
 
 -- a step, its answer, and what the numbers stand for then
 pub record Line : Type 0 where
@@ -373,11 +392,16 @@ abbrev pub is_streamed : Option ℕ → List Line → Bool
 is_streamed None ls = false
 is_streamed (Some n) ls = is_there (stream_of n ls)
 
+-- what lines make of the statements by their numbers
+abbrev pub statements_of : List Line → List (Option StatementView)
+statements_of [] = []
+statements_of (l ∷ ls) = statements_by (statements_of ls) l.step l.outcome
+
 -- the lines are newest first; each is what its step may come to after the earlier ones
 pub record Grows (login : Login) (plans : Plans) (before : List Line) (l : Line) : Type 0 where
   pub number : l.number ≡ length before + 1
-  pub answer : StepGrows login plans (is_streamed (target l.step) before) (handles_after before) l.step l.outcome
-      l.uses l.handles
+  pub answer : StepGrows login plans (is_streamed (target l.step) before)
+      (statement_named (named_statement l.step) (statements_of before)) (handles_after before) l.step l.outcome l.uses l.handles
 
 abbrev pub AreGrown : Login → Plans → List Line → Type 0
 AreGrown login plans [] = Unit {0}

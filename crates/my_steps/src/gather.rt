@@ -101,6 +101,10 @@ fn go_on<L>(
         After::Answered(Answer::NoSet) => {
             Ok(Gathering::Over(Outcome::Rows(rows_so_far(alloc, rows))))
         }
+        // No call that gathers rows is answered so.
+        After::Answered(Answer::Stmt(statement)) => {
+            Ok(Gathering::Over(Outcome::Prepared(statement)))
+        }
         After::Answered(Answer::Row(row)) => {
             add_row(alloc, conn, rows, row)?;
             Ok(Gathering::On)

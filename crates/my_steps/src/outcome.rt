@@ -30,6 +30,7 @@ fn answer_shown(answer: Answer) -> Outcome
         Answer::Row(row) => Outcome::Row(row),
         Answer::SetEnd => Outcome::SetEnd,
         Answer::NoSet => Outcome::NoSet,
+        Answer::Stmt(statement) => Outcome::Prepared(statement),
     }
 }
 

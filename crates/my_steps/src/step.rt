@@ -1,11 +1,12 @@
 //! One step, by what it is.
 ghost use Rattle.std.specs.Prelude.{◌≡◌, ◌≤◌, [], length, true, IfOk, OnOk};
+ghost use Rattle.std.specs.Option.{option_copied};
 ghost use Rattle.my_session.specs.Login.{login_of};
 ghost use Rattle.my_script.specs.Script.{may_stand};
 ghost use Rattle.my_world.specs.World.{SamePlans};
 ghost use Rattle.my_world.specs.Plan.{chance_on};
 ghost use Rattle.my_steps.specs.Dialing.{DialsTo, chance_by, dial_met, has_dialed};
-ghost use Rattle.my_steps.specs.Did.{IsMoving, StepsOn, at_place, item_work, order_of, unstream_work};
+ghost use Rattle.my_steps.specs.Did.{IsMoving, StepsOn, at_place, close_work, execute_work, item_work, order_of, unstream_work};
 ghost use Rattle.my_steps.specs.Orders.{Carries, MayCarry, chance_of, dials_by};
 ghost use Rattle.my_steps.specs.Grows.{StepGrows};
 ghost use Rattle.my_steps.specs.Ready.{AreReady};
@@ -17,8 +18,10 @@ use crate::slot::Slot;
 use crate::work::{Errand, Work, work_at};
 use my_frame::NoMemory;
 use my_opts::Opts;
+use my_params::Params;
 use my_reading::Call;
 use my_script::{Outcome, Step};
+use my_statements::Statement;
 use my_world::{World, WorldLine};
 use std::alloc::Global;
 
@@ -39,6 +42,32 @@ fn unstream(there: bool) -> Work
     if there { Work::LetGo } else { Work::Miss }
 }
 
+// A statement is executed, and closed by its id, where one is there.
+fn execute(alloc: Global, statement: Option<&Statement>, params: &Params) -> Result<Work, NoMemory>
+    ensures { IfOk result (λ work. work ≡ execute_work (option_copied statement.entry) params.now) }
+{
+    let Some(statement) = statement else {
+        return Ok(Work::Miss);
+    };
+    let statement = statement.copy(alloc)?;
+    match params.copy(alloc) {
+        Ok(params) => Ok(Work::Begin(Call::Execute(statement, params))),
+        Err(error) => {
+            drop(statement);
+            Err(error)
+        }
+    }
+}
+
+fn close(statement: Option<&Statement>) -> Work
+    ensures { result ≡ close_work (option_copied statement.entry) }
+{
+    match statement {
+        Some(statement) => Work::Begin(Call::CloseStmt(statement.id())),
+        None => Work::Miss,
+    }
+}
+
 // What a step does.
 #[derive(Drop)]
 enum Order {
@@ -54,8 +83,13 @@ fn visit(number: u64, work: Work) -> Order
     Order::Visit(Errand { number, work })
 }
 
-fn order_for(alloc: Global, step: &Step, there: bool) -> Result<Order, NoMemory>
-    ensures { IfOk result (λ order. order ≡ order_of there step.now) }
+fn order_for(
+    alloc: Global,
+    step: &Step,
+    there: bool,
+    named: Option<&Statement>,
+) -> Result<Order, NoMemory>
+    ensures { IfOk result (λ order. order ≡ order_of there (option_copied named.entry) step.now) }
 {
     match step {
         Step::Conn => Ok(Order::Dial),
@@ -63,6 +97,12 @@ fn order_for(alloc: Global, step: &Step, there: bool) -> Result<Order, NoMemory>
             let text = text.copy(alloc)?;
             Ok(visit(*number, Work::Begin(Call::Query(text))))
         }
+        Step::Prepare(number, text) => {
+            let text = text.copy(alloc)?;
+            Ok(visit(*number, Work::Begin(Call::Prepare(text))))
+        }
+        Step::Execute(number, _, params) => Ok(visit(*number, execute(alloc, named, params)?)),
+        Step::CloseStatement(number, _) => Ok(visit(*number, close(named))),
         Step::Next(number) => Ok(visit(*number, Work::Begin(Call::NextRow))),
         Step::Drop(number) => Ok(visit(*number, Work::Begin(Call::DropResult))),
         Step::Ping(number) => Ok(visit(*number, Work::Begin(Call::Ping))),
@@ -128,8 +168,8 @@ fn carry_out<N: World>(
     }
 }
 
-/// Does a step at the number that it names, where a stream is there or none; a `conn` takes the next number, and a step that
-/// moves the world needs one that takes a plan. All polls of a step are at one moment.
+/// Does a step at the number that it names, where a stream is there or none, with the statement that it names; a `conn` takes
+/// the next number, and a step that moves the world needs one that takes a plan. All polls of a step are at one moment.
 ///
 /// What the step comes to is what `StepGrows` lets it come to after the earlier ones, for any plans that the world told.
 pub fn run_step<N: World>(
@@ -139,6 +179,7 @@ pub fn run_step<N: World>(
     slots: &mut Vec<Slot<N::L>>,
     step: &Step,
     there: bool,
+    named: Option<&Statement>,
 ) -> Result<StepResult, NoMemory>
     requires ready { AreReady N.L.looks slots.old.items }
     requires stands { may_stand (N.seen world.old).takes step.now ≡ true }
@@ -152,9 +193,9 @@ pub fn run_step<N: World>(
     ensures steps { IfOk result (λ d.
         StepsOn N.L.looks (login_of opts.now) (N.seen world.old).plans (N.seen world.new).plans
         slots.old.items slots.new.items
-        (λ plans hs o us ts. StepGrows (login_of opts.now) plans there hs step.now o us ts) d) }
+        (λ plans hs o us ts. StepGrows (login_of opts.now) plans there (option_copied named.entry) hs step.now o us ts) d) }
 {
-    let order = order_for(alloc, step, there)?;
+    let order = order_for(alloc, step, there, named)?;
     let now = world.now();
     carry_out(alloc, opts, world, slots, order, now)
 }

@@ -31,6 +31,9 @@ pub(crate) fn is_skipping<L>(conn: &TapedConn<L>) -> bool
             Call::SkipTaken => true,
             Call::Connect
             | Call::Query(_)
+            | Call::Prepare(_)
+            | Call::Execute(_, _)
+            | Call::CloseStmt(_)
             | Call::NextRow
             | Call::DropResult
             | Call::TakeSet

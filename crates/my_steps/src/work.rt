@@ -40,7 +40,7 @@ pub(crate) enum Work {
     Take,
     /// Lets a stream go.
     LetGo,
-    /// Finds no stream there.
+    /// Finds no stream there, or no statement.
     Miss,
     Fields,
     Poll,

@@ -1,6 +1,8 @@
 -- The first call of each connection connects, and no other does.
 use Rattle.std.proofs.Common.{ℕ, ◌≡◌, zero, suc, List, [], ◌∷◌, ◌++◌, length, map, Bool, true, false, not, ◌&&◌, Option, Some, None, refl, sym, ap, ◌∙◌, subst}
 use Rattle.my_value.specs.RowParts.{RowParts}
+use Rattle.my_params.specs.declared.params.Params.{Params}
+use Rattle.my_statements.specs.Prepared.{StatementView}
 use Rattle.my_grammar.specs.declared.login.Login.{Login}
 use Rattle.my_link.specs.declared.dialer.DialItem.{DialItem}
 use Rattle.my_link.specs.declared.link.ReadItem.{ReadItem}
@@ -18,6 +20,7 @@ use Rattle.my_script.specs.declared.step.Step.{Step}
 use Rattle.my_script.specs.declared.step.Step.TheVariants as steps
 use Rattle.my_script.specs.declared.transcript.Outcome.{Outcome}
 use Rattle.my_script.specs.declared.transcript.Use.{Use}
+use Rattle.my_script.specs.Numbered.{named_statement, statement_named}
 use Rattle.my_script.specs.Streams.{is_skip, target}
 use Rattle.my_client.specs.declared.poll.After.{After}
 use Rattle.my_client.specs.declared.poll.After.TheVariants as after
@@ -27,7 +30,7 @@ use Rattle.my_client.specs.Causes.{PollEnds, IsPolled}
 use Rattle.my_client.specs.Kept.{Asked, Kept, made_of, asking, asked_by, ended_by, first_asked, first_kept}
 use Rattle.my_client.specs.Reads.{calls_kept}
 use Rattle.my_world.specs.World.{Plans}
-use Rattle.my_steps.specs.Grows.{Line, IsRefused, OnConnection, PolledOnce, IsClosed, Begins, BeginsOn, Calls, ConnectShows, Connects, Dials, Holds, Fails, Links, Gathers, GathersOn, Collects, CollectsOn, CollectsAt, PollsOn, PollsCall, ThenTakes, Skips, Takes, TakesOn, StreamsAt, ItemsAt, LetsGoWith, UnstreamsAt, GoesOnWith, GoesOn, CancelsWith, Cancels, TellsWith, TellsFields, At, StepGrows, AreGrown, gathered, next_asked, handles_after, is_done, is_streamed, skips_first}
+use Rattle.my_steps.specs.Grows.{Line, IsRefused, OnConnection, PolledOnce, IsClosed, Begins, BeginsOn, Calls, ConnectShows, Connects, Dials, Holds, Fails, Links, Gathers, GathersOn, Collects, CollectsOn, CollectsAt, PollsOn, PollsCall, ThenTakes, Skips, Takes, TakesOn, StreamsAt, ItemsAt, LetsGoWith, UnstreamsAt, ExecutesAt, ClosesAt, GoesOnWith, GoesOn, CancelsWith, Cancels, TellsWith, TellsFields, At, StepGrows, AreGrown, gathered, next_asked, handles_after, is_done, is_streamed, statements_of, skips_first}
 use Rattle.my_steps.specs.Handle.{Handle, Absent, Dialing, Joined, at_number, put_at}
 
 -- the calls that a connection kept
@@ -137,6 +140,7 @@ module _ (login : Login) where
   gathers_on More us a b end u st y o t (after.Answered (answers.Row row)) f w e r = f (next_asked end (gathered a ++ row ∷ [])) (asking end calls.NextRow (Some (gathered a ++ row ∷ []))) y refl (begun_once end calls.NextRow (Some (gathered a ++ row ∷ [])) (ap (λ (k : Kept). k.pending) e.0) refl w) r
   gathers_on More us a b end u st y o t (after.Answered answers.SetEnd) f w e r = subst IsOnce (sym r.2) w
   gathers_on More us a b end u st y o t (after.Answered answers.NoSet) f w e r = subst IsOnce (sym r.2) w
+  gathers_on More us a b end u st y o t (after.Answered (answers.Stmt s)) f w e r = subst IsOnce (sym r.2) w
   gathers_on More us a b end u st y o t (after.Failed x) f w e r = subst IsOnce (sym r.2) w
 
   gathers_once : (n : ℕ) (us : List Use) (a : Asked) (k : Kept) (x : Looks) (o : Outcome) (t : Handle) → k.pending ≡ Some a → connects_once (kept_calls k) ≡ true → Gathers login n us a k x o t → IsOnce t
@@ -201,6 +205,14 @@ module _ (login : Login) where
   unstreams_once true o us h t w r = on_once (λ k. LetsGoWith k.pending k) o us h t (λ k x. lets_go_with k.pending k x o us t) w r
   unstreams_once false o us h t w r = refused_once h o us t w r
 
+  executes_once : (named : Option StatementView) (n : ℕ) (params : Params) (o : Outcome) (us : List Use) (h t : Handle) → IsOnce h → ExecutesAt named login n params h o us t → IsOnce t
+  executes_once (Some s) n params o us h t w r = calls_once n (calls.Execute s params) o us h t refl w r
+  executes_once None n params o us h t w r = refused_once h o us t w r
+
+  closes_once : (named : Option StatementView) (n : ℕ) (o : Outcome) (us : List Use) (h t : Handle) → IsOnce h → ClosesAt named login n h o us t → IsOnce t
+  closes_once (Some s) n o us h t w r = calls_once n (calls.CloseStmt s.inner.id) o us h t refl w r
+  closes_once None n o us h t w r = refused_once h o us t w r
+
   polls_call : (b : Bool) (n : ℕ) (a : Asked) (k : Kept) (x : Looks) (o : Outcome) (us : List Use) (t : Handle) → k.pending ≡ Some a → connects_once (kept_calls k) ≡ true → PollsCall b login n a k x o us t → IsOnce t
   polls_call true n a k x o us t e w r = skips_once (PolledOnce login n a k x) n o us t (λ first used mid s. once_once n a k x first used mid e w s) r
   polls_call false n a k x o us t e w r = once_once n a k x o us t e w r
@@ -255,23 +267,26 @@ module _ (login : Login) where
   at_step : (n : ℕ) (R : Handle → Outcome → List Use → Handle → Type 0) (hs ts : List Handle) (o : Outcome) (us : List Use) → ((h t : Handle) → IsOnce h → R h o us t → IsOnce t) → AreOnce hs → At n R hs o us ts → AreOnce ts
   at_step n R hs ts o us f w r = subst AreOnce (sym r.others) (put_once hs n r.made (f (at_number hs n) r.made (at_once hs n w) r.does) w)
 
-  step_once : (plans : Plans) (there : Bool) (hs : List Handle) (step : Step) (o : Outcome) (us : List Use) (ts : List Handle) → AreOnce hs → StepGrows login plans there hs step o us ts → AreOnce ts
-  step_once plans there hs steps.Conn o us ts w r = subst AreOnce (sym r.others) (push_once hs r.made (dials_once _ _ _ _ o us r.made r.dials) w)
-  step_once plans there hs (steps.Query n text) o us ts w r = at_step n _ hs ts o us (λ h t. calls_once n (calls.Query text) o us h t refl) w r
-  step_once plans there hs (steps.Next n) o us ts w r = at_step n _ hs ts o us (λ h t. calls_once n calls.NextRow o us h t refl) w r
-  step_once plans there hs (steps.Collect n) o us ts w r = at_step n _ hs ts o us (λ h t. collects_once n o us h t) w r
-  step_once plans there hs (steps.Drop n) o us ts w r = at_step n _ hs ts o us (λ h t. calls_once n calls.DropResult o us h t refl) w r
-  step_once plans there hs (steps.Ping n) o us ts w r = at_step n _ hs ts o us (λ h t. calls_once n calls.Ping o us h t refl) w r
-  step_once plans there hs (steps.Quit n) o us ts w r = at_step n _ hs ts o us (λ h t. calls_once n calls.Quit o us h t refl) w r
-  step_once plans there hs (steps.Stream n) o us ts w r = at_step n _ hs ts o us (λ h t. streams_once n o us h t) w r
-  step_once plans there hs (steps.Item n) o us ts w r = at_step n _ hs ts o us (λ h t. items_once there n o us h t) w r
-  step_once plans there hs (steps.Unstream n) o us ts w r = at_step n _ hs ts o us (λ h t. unstreams_once there o us h t) w r
-  step_once plans there hs (steps.Fields n) o us ts w r = at_step n _ hs ts o us (λ h t. tells_once o us h t) w r
-  step_once plans there hs (steps.Poll n) o us ts w r = at_step n _ hs ts o us (λ h t. goes_on_once plans n o us h t) w r
-  step_once plans there hs (steps.Cancel n) o us ts w r = at_step n _ hs ts o us (λ h t. cancels_once o us h t) w r
-  step_once plans there hs (steps.Advance by) o us ts w r = subst AreOnce (sym r.same) w
-  step_once plans there hs (steps.Random word) o us ts w r = subst AreOnce (sym r.same) w
+  step_once : (plans : Plans) (there : Bool) (named : Option StatementView) (hs : List Handle) (step : Step) (o : Outcome) (us : List Use) (ts : List Handle) → AreOnce hs → StepGrows login plans there named hs step o us ts → AreOnce ts
+  step_once plans there named hs steps.Conn o us ts w r = subst AreOnce (sym r.others) (push_once hs r.made (dials_once _ _ _ _ o us r.made r.dials) w)
+  step_once plans there named hs (steps.Query n text) o us ts w r = at_step n _ hs ts o us (λ h t. calls_once n (calls.Query text) o us h t refl) w r
+  step_once plans there named hs (steps.Prepare n text) o us ts w r = at_step n _ hs ts o us (λ h t. calls_once n (calls.Prepare text) o us h t refl) w r
+  step_once plans there named hs (steps.Execute n number params) o us ts w r = at_step n _ hs ts o us (λ h t. executes_once named n params o us h t) w r
+  step_once plans there named hs (steps.CloseStatement n number) o us ts w r = at_step n _ hs ts o us (λ h t. closes_once named n o us h t) w r
+  step_once plans there named hs (steps.Next n) o us ts w r = at_step n _ hs ts o us (λ h t. calls_once n calls.NextRow o us h t refl) w r
+  step_once plans there named hs (steps.Collect n) o us ts w r = at_step n _ hs ts o us (λ h t. collects_once n o us h t) w r
+  step_once plans there named hs (steps.Drop n) o us ts w r = at_step n _ hs ts o us (λ h t. calls_once n calls.DropResult o us h t refl) w r
+  step_once plans there named hs (steps.Ping n) o us ts w r = at_step n _ hs ts o us (λ h t. calls_once n calls.Ping o us h t refl) w r
+  step_once plans there named hs (steps.Quit n) o us ts w r = at_step n _ hs ts o us (λ h t. calls_once n calls.Quit o us h t refl) w r
+  step_once plans there named hs (steps.Stream n) o us ts w r = at_step n _ hs ts o us (λ h t. streams_once n o us h t) w r
+  step_once plans there named hs (steps.Item n) o us ts w r = at_step n _ hs ts o us (λ h t. items_once there n o us h t) w r
+  step_once plans there named hs (steps.Unstream n) o us ts w r = at_step n _ hs ts o us (λ h t. unstreams_once there o us h t) w r
+  step_once plans there named hs (steps.Fields n) o us ts w r = at_step n _ hs ts o us (λ h t. tells_once o us h t) w r
+  step_once plans there named hs (steps.Poll n) o us ts w r = at_step n _ hs ts o us (λ h t. goes_on_once plans n o us h t) w r
+  step_once plans there named hs (steps.Cancel n) o us ts w r = at_step n _ hs ts o us (λ h t. cancels_once o us h t) w r
+  step_once plans there named hs (steps.Advance by) o us ts w r = subst AreOnce (sym r.same) w
+  step_once plans there named hs (steps.Random word) o us ts w r = subst AreOnce (sym r.same) w
 
   pub grown_once : (plans : Plans) (ls : List Line) → AreGrown login plans ls → AreOnce (handles_after ls)
   grown_once plans [] w = tt
-  grown_once plans (l ∷ ls) w = step_once plans (is_streamed (target l.step) ls) (handles_after ls) l.step l.outcome l.uses l.handles (grown_once plans ls w.1) w.0.answer
+  grown_once plans (l ∷ ls) w = step_once plans (is_streamed (target l.step) ls) (statement_named (named_statement l.step) (statements_of ls)) (handles_after ls) l.step l.outcome l.uses l.handles (grown_once plans ls w.1) w.0.answer

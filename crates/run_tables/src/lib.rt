@@ -6,6 +6,8 @@
 #[cfg(test)]
 mod answers;
 #[cfg(test)]
+mod cached;
+#[cfg(test)]
 mod dials;
 #[cfg(test)]
 mod live;
@@ -16,9 +18,13 @@ mod net;
 #[cfg(test)]
 mod play;
 #[cfg(test)]
+mod prepared;
+#[cfg(test)]
 mod scripts;
 #[cfg(test)]
 mod sets;
+#[cfg(test)]
+mod statements;
 #[cfg(test)]
 mod streams;
 #[cfg(test)]

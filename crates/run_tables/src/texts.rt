@@ -4,6 +4,7 @@
 use my_flags::StatusFlags;
 use my_frame::{Blob, NoMemory, Text};
 use my_opts_parts::UrlError;
+use my_params::ParamsError;
 use my_reading::{DriverError, Error, OtherError};
 use my_reply::OkPacket;
 use my_script::{Outcome, StepAnswer, Transcript, text_of};
@@ -37,8 +38,13 @@ fn is_refused(alloc: Global, error: UrlError, line: &str) -> Result<bool, NoMemo
     is_failed(alloc, Error::Url(error), line)
 }
 
-// A value of each kind.
-fn row(alloc: Global) -> Result<Row, NoMemory> {
+// A row without names of its columns.
+fn row(alloc: Global, values: Vec<Value>) -> Result<Row, NoMemory> {
+    Ok(Row::new(values, Arc::new(alloc, Vec::new(alloc))?))
+}
+
+/// A value of each kind.
+pub fn values(alloc: Global) -> Result<Vec<Value>, NoMemory> {
     let mut values = Vec::new(alloc);
     values.push(Value::NULL)?;
     values.push(Value::Bytes(Blob::from_slice(alloc, b"a\n")?))?;
@@ -49,11 +55,11 @@ fn row(alloc: Global) -> Result<Row, NoMemory> {
     values.push(Value::Date(2026, 11, 29, 3, 35, 0, 120))?;
     values.push(Value::Time(true, 1, 2, 3, 4, 5))?;
     values.push(Value::Time(false, 34, 22, 59, 58, 999_999))?;
-    Ok(Row::new(values, Arc::new(alloc, Vec::new(alloc))?))
+    Ok(values)
 }
 
-// The least of each kind.
-fn least_row(alloc: Global) -> Result<Row, NoMemory> {
+/// The least of each kind.
+pub fn least_values(alloc: Global) -> Result<Vec<Value>, NoMemory> {
     let mut values = Vec::new(alloc);
     values.push(Value::Bytes(Blob::new(alloc)))?;
     values.push(Value::Int(0))?;
@@ -62,68 +68,110 @@ fn least_row(alloc: Global) -> Result<Row, NoMemory> {
     values.push(Value::DoubleBits(0))?;
     values.push(Value::Date(0, 0, 0, 0, 0, 0, 0))?;
     values.push(Value::Time(false, 0, 0, 0, 0, 0))?;
-    Ok(Row::new(values, Arc::new(alloc, Vec::new(alloc))?))
+    Ok(values)
 }
 
-const CELLS: &str =
+/// What is printed of them.
+pub const CELLS: &str =
     "NULL b:610a i:-5 u:18446744073709551615 f:3f800000 d:4000000000000001 D:2026-11-29_3:35:0.120 T:1_1_2:3:4.5 T:0_34_22:59:58.999999";
 
-const LEAST: &str = "row b: i:0 u:0 f:00000000 d:0000000000000000 D:0-0-0_0:0:0.0 T:0_0_0:0:0.0";
+pub const LEAST_CELLS: &str =
+    "b: i:0 u:0 f:00000000 d:0000000000000000 D:0-0-0_0:0:0.0 T:0_0_0:0:0.0";
 
 #[test]
 fn each_kind_of_value(rt: HostRuntime) -> Result<(), Fail> {
     let alloc = rt.alloc();
     let alone = format!(in alloc; "row {CELLS}")?;
     let among = format!(in alloc; "rows 1 [{CELLS}]")?;
+    let least = format!(in alloc; "row {LEAST_CELLS}")?;
+    let one = row(alloc, values(alloc)?)?;
+    let fewest = row(alloc, least_values(alloc)?)?;
     let mut rows = Vec::new(alloc);
-    rows.push(row(alloc)?)?;
+    rows.push(row(alloc, values(alloc)?)?)?;
     assert!(rt;
-        is_printed(alloc, Outcome::Row(row(alloc)?), alone.as_str())?
-            && is_printed(alloc, Outcome::Row(least_row(alloc)?), LEAST)?
+        is_printed(alloc, Outcome::Row(one), alone.as_str())?
+            && is_printed(alloc, Outcome::Row(fewest), least.as_str())?
             && is_printed(alloc, Outcome::Rows(rows), among.as_str())?
     );
     Ok(())
 }
 
-const DRIVERS: &[(DriverError, &str)] = &[
-    (
-        DriverError::ConnectionClosed,
-        "error Driver ConnectionClosed",
-    ),
-    (DriverError::TooLong, "error Driver TooLong"),
-    (
-        DriverError::CantParseServerVersion,
-        "error Driver CantParseServerVersion",
-    ),
-    (
-        DriverError::PacketOutOfOrder,
-        "error Driver PacketOutOfOrder",
-    ),
-    (DriverError::PacketTooLarge, "error Driver PacketTooLarge"),
-    (
-        DriverError::BadCompressedPacketHeader,
-        "error Driver BadCompressedPacketHeader",
-    ),
-    (DriverError::NoKeyFound, "error Driver NoKeyFound"),
-    (
-        DriverError::NamedPipesDisabled,
-        "error Driver NamedPipesDisabled",
-    ),
-    (
-        DriverError::InvalidParsecSalt,
-        "error Driver InvalidParsecSalt",
-    ),
-    (
-        DriverError::NoClientSslFlagFromServer,
-        "error Driver NoClientSslFlagFromServer",
-    ),
-];
+// An error of the driver, and its line.
+type DriverRow = (DriverError, &'static str);
+
+fn of_connections(alloc: Global) -> Result<Vec<DriverRow>, NoMemory> {
+    Ok(vec![in alloc;
+        (
+            DriverError::ConnectionClosed,
+            "error Driver ConnectionClosed"
+        ),
+        (DriverError::TooLong, "error Driver TooLong"),
+        (
+            DriverError::CantParseServerVersion,
+            "error Driver CantParseServerVersion"
+        ),
+        (
+            DriverError::PacketOutOfOrder,
+            "error Driver PacketOutOfOrder"
+        ),
+        (DriverError::PacketTooLarge, "error Driver PacketTooLarge"),
+        (
+            DriverError::BadCompressedPacketHeader,
+            "error Driver BadCompressedPacketHeader"
+        ),
+        (DriverError::NoKeyFound, "error Driver NoKeyFound"),
+        (
+            DriverError::NamedPipesDisabled,
+            "error Driver NamedPipesDisabled"
+        ),
+        (
+            DriverError::InvalidParsecSalt,
+            "error Driver InvalidParsecSalt"
+        ),
+        (
+            DriverError::NoClientSslFlagFromServer,
+            "error Driver NoClientSslFlagFromServer"
+        ),
+    ]?)
+}
+
+fn of_statements(alloc: Global) -> Result<Vec<DriverRow>, NoMemory> {
+    let missing = ParamsError::Missing(Blob::from_slice(alloc, b"foo")?);
+    let mismatch = DriverError::StmtParamsMismatch {
+        required: 1,
+        supplied: 0,
+    };
+    let excess = DriverError::StmtParamsNumberExceedsLimit { supplied: 65_536 };
+    Ok(vec![in alloc;
+        (DriverError::MixedParams, "error Driver MixedParams"),
+        (
+            DriverError::Params(missing),
+            "error Driver Params Missing b:666f6f"
+        ),
+        (
+            DriverError::Params(ParamsError::Kind),
+            "error Driver Params Kind"
+        ),
+        (mismatch, "error Driver StmtParamsMismatch 1 0"),
+        (excess, "error Driver StmtParamsNumberExceedsLimit 65536"),
+    ]?)
+}
+
+fn are_failed(alloc: Global, rows: Vec<DriverRow>) -> Result<bool, NoMemory> {
+    for (error, line) in rows {
+        if !is_failed(alloc, Error::Driver(error), line)? {
+            return Ok(false);
+        }
+    }
+    Ok(true)
+}
 
 #[test]
 fn each_error_of_the_driver(rt: HostRuntime) -> Result<(), Fail> {
-    for (error, line) in DRIVERS {
-        assert!(rt; is_failed(rt.alloc(), Error::Driver(*error), line)?);
-    }
+    let alloc = rt.alloc();
+    assert!(rt;
+        are_failed(alloc, of_connections(alloc)?)? && are_failed(alloc, of_statements(alloc)?)?
+    );
     Ok(())
 }
 

@@ -1,6 +1,8 @@
 -- Each connection fits its link's plan: what it sent, what it took, and what is left lead from line to line.
 use Rattle.std.proofs.Common.{ℕ, ◌≡◌, zero, suc, List, [], ◌∷◌, ◌++◌, length, Option, Some, None, Bool, true, false, refl, sym, ap, ◌∙◌, subst}
 use Rattle.my_value.specs.RowParts.{RowParts}
+use Rattle.my_params.specs.declared.params.Params.{Params}
+use Rattle.my_statements.specs.Prepared.{StatementView}
 use Rattle.my_grammar.specs.declared.login.Login.{Login}
 use Rattle.my_link.specs.declared.link.ReadItem.{ReadItem}
 use Rattle.my_link.specs.declared.link.WriteItem.{WriteItem}
@@ -14,7 +16,7 @@ use Rattle.my_link.specs.Spent.{Whole, HasGot, ReadsSpent, IsSpent, FaultsSpent}
 use Rattle.my_link.proofs.Spending.{used_spent}
 use Rattle.my_reading.specs.declared.answer.Answer.TheVariants as answers
 use Rattle.my_reading.specs.declared.call.Call.{Call}
-use Rattle.my_reading.specs.declared.call.Call.TheVariants.{NextRow, TakeSet, SkipTaken}
+use Rattle.my_reading.specs.declared.call.Call.TheVariants.{CloseStmt, Execute, NextRow, TakeSet, SkipTaken}
 use Rattle.my_reading.specs.Calls.{kind_of}
 use Rattle.my_client.specs.declared.poll.After.{After}
 use Rattle.my_client.specs.declared.poll.After.TheVariants as after
@@ -26,7 +28,7 @@ use Rattle.my_script.specs.Streams.{is_skip}
 use Rattle.my_client.specs.Causes.{IsPolled, PollEnds}
 use Rattle.my_client.specs.Kept.{Asked, Kept, asking, asked_by}
 use Rattle.my_world.specs.World.{Plans, HeldBy, IsFresh}
-use Rattle.my_steps.specs.Grows.{IsRefused, OnConnection, PolledOnce, IsClosed, Begins, BeginsOn, Calls, ConnectShows, Connects, HasPlan, IsNew, Dials, Holds, Fails, Links, Gathers, GathersOn, Collects, CollectsOn, CollectsAt, PollsOn, PollsCall, ThenTakes, Skips, Takes, TakesOn, StreamsAt, ItemsAt, LetsGoWith, UnstreamsAt, GoesOnWith, GoesOn, CancelsWith, Cancels, TellsWith, TellsFields, At, StepGrows, is_done, skips_first}
+use Rattle.my_steps.specs.Grows.{IsRefused, OnConnection, PolledOnce, IsClosed, Begins, BeginsOn, Calls, ConnectShows, Connects, HasPlan, IsNew, Dials, Holds, Fails, Links, Gathers, GathersOn, Collects, CollectsOn, CollectsAt, PollsOn, PollsCall, ThenTakes, Skips, Takes, TakesOn, StreamsAt, ItemsAt, LetsGoWith, UnstreamsAt, ExecutesAt, ClosesAt, GoesOnWith, GoesOn, CancelsWith, Cancels, TellsWith, TellsFields, At, StepGrows, is_done, skips_first}
 use Rattle.my_steps.specs.Handle.{Handle, Absent, Dialing, Joined, at_number, put_at}
 use Rattle.my_run.specs.Headline.{FitsLink, HasWaited, waits}
 
@@ -112,6 +114,7 @@ module _ (plan : Option (List ReadItem)) (items : Option (List DialItem)) where
   gathers_on More us a end y o t (after.Answered (answers.Row row)) more f r = more _ _ f r
   gathers_on More us a end y o t (after.Answered answers.SetEnd) more f r = subst (IsFit plan items) (sym r.2) f
   gathers_on More us a end y o t (after.Answered answers.NoSet) more f r = subst (IsFit plan items) (sym r.2) f
+  gathers_on More us a end y o t (after.Answered (answers.Stmt s)) more f r = subst (IsFit plan items) (sym r.2) f
   gathers_on More us a end y o t (after.Failed x) more f r = subst (IsFit plan items) (sym r.2) f
 
   gathers_fits : (login : Login) (n : ℕ) (us : List Use) (a : Asked) (k : Kept) (x : Looks) (o : Outcome) (t : Handle) → FitsLink plan x k.sent k.taken → Gathers login n us a k x o t → IsFit plan items t
@@ -168,6 +171,14 @@ module _ (plan : Option (List ReadItem)) (items : Option (List DialItem)) where
   unstreams_fits : (b : Bool) (o : Outcome) (us : List Use) (h t : Handle) → IsFit plan items h → UnstreamsAt b h o us t → IsFit plan items t
   unstreams_fits true o us h t f r = on_fits (λ k. LetsGoWith k.pending k) o us h t (λ k x. lets_go_with k.pending k x o us t) f r
   unstreams_fits false o us h t f r = kept_fits h o us t f r
+
+  executes_fits : (named : Option StatementView) (login : Login) (n : ℕ) (params : Params) (o : Outcome) (us : List Use) (h t : Handle) → IsFit plan items h → ExecutesAt named login n params h o us t → IsFit plan items t
+  executes_fits (Some s) login n params o us h t f r = calls_fits login n (Execute s params) o us h t f r
+  executes_fits None login n params o us h t f r = kept_fits h o us t f r
+
+  closes_fits : (named : Option StatementView) (login : Login) (n : ℕ) (o : Outcome) (us : List Use) (h t : Handle) → IsFit plan items h → ClosesAt named login n h o us t → IsFit plan items t
+  closes_fits (Some s) login n o us h t f r = calls_fits login n (CloseStmt s.inner.id) o us h t f r
+  closes_fits None login n o us h t f r = kept_fits h o us t f r
 
   polls_call : (b : Bool) (login : Login) (n : ℕ) (a : Asked) (k : Kept) (x : Looks) (o : Outcome) (us : List Use) (t : Handle) → FitsLink plan x k.sent k.taken → PollsCall b login n a k x o us t → IsFit plan items t
   polls_call true login n a k x o us t f r = skips_fits (PolledOnce login n a k x) login n o us t (λ first used mid s. once_fits login n a k x first used mid f s) r
@@ -242,19 +253,22 @@ AllFit plans hs = (m : ℕ) → IsFit (plans.reads m) (plans.dials m) (at_number
 at_fits : (plans : Plans) (n : ℕ) (R : Handle → Outcome → List Use → Handle → Type 0) (hs ts : List Handle) (o : Outcome) (us : List Use) → ((h t : Handle) → IsFit (plans.reads n) (plans.dials n) h → R h o us t → IsFit (plans.reads n) (plans.dials n) t) → AllFit plans hs → At n R hs o us ts → AllFit plans ts
 at_fits plans n R hs ts o us f w r = subst (AllFit plans) (sym r.others) (put_all (λ m. IsFit (plans.reads m) (plans.dials m)) n r.made hs w (f (at_number hs n) r.made (w n) r.does))
 
-pub step_fits : (login : Login) (plans : Plans) (there : Bool) (hs : List Handle) (step : Step) (o : Outcome) (us : List Use) (ts : List Handle) → AllFit plans hs → StepGrows login plans there hs step o us ts → AllFit plans ts
-step_fits login plans there hs steps.Conn o us ts w r = subst (AllFit plans) (sym r.others) (push_all (λ m. IsFit (plans.reads m) (plans.dials m)) r.made hs w (dials_fits (plans.reads (length hs)) (plans.dials (length hs)) login (plans.writes (length hs)) (plans.dials (length hs)) (length hs) o us r.made (λ left held. waited_first (plans.dials (length hs)) left held) r.dials))
-step_fits login plans there hs (steps.Query n text) o us ts w r = at_fits plans n _ hs ts o us (λ h t. calls_fits (plans.reads n) (plans.dials n) login n _ o us h t) w r
-step_fits login plans there hs (steps.Next n) o us ts w r = at_fits plans n _ hs ts o us (λ h t. calls_fits (plans.reads n) (plans.dials n) login n _ o us h t) w r
-step_fits login plans there hs (steps.Collect n) o us ts w r = at_fits plans n _ hs ts o us (λ h t. collects_fits (plans.reads n) (plans.dials n) login n o us h t) w r
-step_fits login plans there hs (steps.Drop n) o us ts w r = at_fits plans n _ hs ts o us (λ h t. calls_fits (plans.reads n) (plans.dials n) login n _ o us h t) w r
-step_fits login plans there hs (steps.Ping n) o us ts w r = at_fits plans n _ hs ts o us (λ h t. calls_fits (plans.reads n) (plans.dials n) login n _ o us h t) w r
-step_fits login plans there hs (steps.Quit n) o us ts w r = at_fits plans n _ hs ts o us (λ h t. calls_fits (plans.reads n) (plans.dials n) login n _ o us h t) w r
-step_fits login plans there hs (steps.Stream n) o us ts w r = at_fits plans n _ hs ts o us (λ h t. streams_fits (plans.reads n) (plans.dials n) login n o us h t) w r
-step_fits login plans there hs (steps.Item n) o us ts w r = at_fits plans n _ hs ts o us (λ h t. items_fits (plans.reads n) (plans.dials n) there login n o us h t) w r
-step_fits login plans there hs (steps.Unstream n) o us ts w r = at_fits plans n _ hs ts o us (λ h t. unstreams_fits (plans.reads n) (plans.dials n) there o us h t) w r
-step_fits login plans there hs (steps.Fields n) o us ts w r = at_fits plans n _ hs ts o us (λ h t. tells_fits (plans.reads n) (plans.dials n) login o us h t) w r
-step_fits login plans there hs (steps.Poll n) o us ts w r = at_fits plans n _ hs ts o us (λ h t f g. goes_on_fits (plans.reads n) (plans.dials n) login plans n o us h t refl f g) w r
-step_fits login plans there hs (steps.Cancel n) o us ts w r = at_fits plans n _ hs ts o us (λ h t. cancels_fits (plans.reads n) (plans.dials n) login o us h t) w r
-step_fits login plans there hs (steps.Advance by) o us ts w r = subst (AllFit plans) (sym r.same) w
-step_fits login plans there hs (steps.Random word) o us ts w r = subst (AllFit plans) (sym r.same) w
+pub step_fits : (login : Login) (plans : Plans) (there : Bool) (named : Option StatementView) (hs : List Handle) (step : Step) (o : Outcome) (us : List Use) (ts : List Handle) → AllFit plans hs → StepGrows login plans there named hs step o us ts → AllFit plans ts
+step_fits login plans there named hs steps.Conn o us ts w r = subst (AllFit plans) (sym r.others) (push_all (λ m. IsFit (plans.reads m) (plans.dials m)) r.made hs w (dials_fits (plans.reads (length hs)) (plans.dials (length hs)) login (plans.writes (length hs)) (plans.dials (length hs)) (length hs) o us r.made (λ left held. waited_first (plans.dials (length hs)) left held) r.dials))
+step_fits login plans there named hs (steps.Query n text) o us ts w r = at_fits plans n _ hs ts o us (λ h t. calls_fits (plans.reads n) (plans.dials n) login n _ o us h t) w r
+step_fits login plans there named hs (steps.Prepare n text) o us ts w r = at_fits plans n _ hs ts o us (λ h t. calls_fits (plans.reads n) (plans.dials n) login n _ o us h t) w r
+step_fits login plans there named hs (steps.Execute n number params) o us ts w r = at_fits plans n _ hs ts o us (λ h t. executes_fits (plans.reads n) (plans.dials n) named login n params o us h t) w r
+step_fits login plans there named hs (steps.CloseStatement n number) o us ts w r = at_fits plans n _ hs ts o us (λ h t. closes_fits (plans.reads n) (plans.dials n) named login n o us h t) w r
+step_fits login plans there named hs (steps.Next n) o us ts w r = at_fits plans n _ hs ts o us (λ h t. calls_fits (plans.reads n) (plans.dials n) login n _ o us h t) w r
+step_fits login plans there named hs (steps.Collect n) o us ts w r = at_fits plans n _ hs ts o us (λ h t. collects_fits (plans.reads n) (plans.dials n) login n o us h t) w r
+step_fits login plans there named hs (steps.Drop n) o us ts w r = at_fits plans n _ hs ts o us (λ h t. calls_fits (plans.reads n) (plans.dials n) login n _ o us h t) w r
+step_fits login plans there named hs (steps.Ping n) o us ts w r = at_fits plans n _ hs ts o us (λ h t. calls_fits (plans.reads n) (plans.dials n) login n _ o us h t) w r
+step_fits login plans there named hs (steps.Quit n) o us ts w r = at_fits plans n _ hs ts o us (λ h t. calls_fits (plans.reads n) (plans.dials n) login n _ o us h t) w r
+step_fits login plans there named hs (steps.Stream n) o us ts w r = at_fits plans n _ hs ts o us (λ h t. streams_fits (plans.reads n) (plans.dials n) login n o us h t) w r
+step_fits login plans there named hs (steps.Item n) o us ts w r = at_fits plans n _ hs ts o us (λ h t. items_fits (plans.reads n) (plans.dials n) there login n o us h t) w r
+step_fits login plans there named hs (steps.Unstream n) o us ts w r = at_fits plans n _ hs ts o us (λ h t. unstreams_fits (plans.reads n) (plans.dials n) there o us h t) w r
+step_fits login plans there named hs (steps.Fields n) o us ts w r = at_fits plans n _ hs ts o us (λ h t. tells_fits (plans.reads n) (plans.dials n) login o us h t) w r
+step_fits login plans there named hs (steps.Poll n) o us ts w r = at_fits plans n _ hs ts o us (λ h t f g. goes_on_fits (plans.reads n) (plans.dials n) login plans n o us h t refl f g) w r
+step_fits login plans there named hs (steps.Cancel n) o us ts w r = at_fits plans n _ hs ts o us (λ h t. cancels_fits (plans.reads n) (plans.dials n) login o us h t) w r
+step_fits login plans there named hs (steps.Advance by) o us ts w r = subst (AllFit plans) (sym r.same) w
+step_fits login plans there named hs (steps.Random word) o us ts w r = subst (AllFit plans) (sym r.same) w
