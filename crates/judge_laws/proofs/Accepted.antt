@@ -2,6 +2,7 @@
 use Rattle.std.proofs.Common.{◌≡◌, ◌⊎◌, ◌≤◌, ◌<◌, inl, inr, ℕ, zero, suc, ◌+◌, ◌-◌, ◌==◌, nat_lt, List, [], ◌∷◌, ◌++◌, length, map, Bool, true, false, Option, refl, sym, ap, ◌∙◌, subst, arith, length-append, if◌then◌else◌}
 use Rattle.std.proofs.lemmas.Bool.Decides.{nat_tests}
 use Rattle.std.proofs.lemmas.List.{append-nil, length-map}
+use Rattle.my_statements.specs.Prepared.{StatementView}
 use Rattle.my_grammar.specs.declared.login.Login.{Login}
 use Rattle.my_link.specs.declared.dialer.DialItem.{DialItem}
 use Rattle.my_link.specs.declared.link.ReadItem.{ReadItem}
@@ -9,8 +10,6 @@ use Rattle.my_reading.specs.Endings.{AreCalls}
 use Rattle.my_reading.specs.Reading.{read_calls, reading}
 use Rattle.my_reading.specs.Tape.{TapeCall as ReadCall}
 use Rattle.my_script.specs.declared.step.Step.{Step}
-use Rattle.my_script.specs.declared.stream.Stream.{Stream}
-use Rattle.my_script.specs.declared.stream.Stream.TheVariants.{Without}
 use Rattle.my_script.specs.declared.step.Step.TheVariants as steps
 use Rattle.my_script.specs.declared.transcript.Outcome.{Outcome}
 use Rattle.my_script.specs.declared.transcript.StepAnswer.{StepAnswer}
@@ -27,6 +26,8 @@ use Rattle.my_run.specs.Headline.{EachExplained, IsExplained, answers_of, steps_
 use Rattle.my_run.specs.Tapes.{TapeView, tape_of, tape_view, tapes_in}
 use Rattle.run_laws.proofs.Connecting.{AreOnce, connects_once, grown_once, kept_calls}
 use Rattle.my_run_judge.specs.Lines.{AreLines, FirstWrong, IsOver}
+use Rattle.my_run_judge.specs.declared.made.Made.{Made}
+use Rattle.my_run_judge.specs.Made.{nothing_made}
 use Rattle.my_run_judge.specs.Seen.{TapeSeen, nothing_seen, seen, seen_at}
 use Rattle.my_run_judge.specs.Transcripts.{AreRight, AreTapes, FoundAt, IsWrongBelow, dialed_by, dialed_in}
 use Rattle.my_run_judge.specs.Walks.{Walk, start}
@@ -99,22 +100,25 @@ tapes_so m most (Joined there k x ∷ hs) (t ∷ ts) once sum e =
     one_tape m most there k x hs t ts once.0 (omega (arith, sum)) (cc) (tapes_so (suc m) most hs ts once.1 (omega (arith, sum)) (cc))
 
 -- how many were dialed
-pub step_dials : (login : Login) (plans : Plans) (there : Bool) (hs ts : List Handle) (step : Step) (o : Outcome) (us : List Use) → StepGrows login plans there hs step o us ts → length ts ≡ length hs + dialed_by step
-step_dials login plans there hs ts steps.Conn o us r = ap length r.others ∙ length-append hs (r.made ∷ [])
-step_dials login plans there hs ts (steps.Query m text) o us r = let e = ap length r.others ∙ put_length m r.made hs in omega arith
-step_dials login plans there hs ts (steps.Next m) o us r = let e = ap length r.others ∙ put_length m r.made hs in omega arith
-step_dials login plans there hs ts (steps.Collect m) o us r = let e = ap length r.others ∙ put_length m r.made hs in omega arith
-step_dials login plans there hs ts (steps.Drop m) o us r = let e = ap length r.others ∙ put_length m r.made hs in omega arith
-step_dials login plans there hs ts (steps.Ping m) o us r = let e = ap length r.others ∙ put_length m r.made hs in omega arith
-step_dials login plans there hs ts (steps.Quit m) o us r = let e = ap length r.others ∙ put_length m r.made hs in omega arith
-step_dials login plans there hs ts (steps.Stream m) o us r = let e = ap length r.others ∙ put_length m r.made hs in omega arith
-step_dials login plans there hs ts (steps.Item m) o us r = let e = ap length r.others ∙ put_length m r.made hs in omega arith
-step_dials login plans there hs ts (steps.Unstream m) o us r = let e = ap length r.others ∙ put_length m r.made hs in omega arith
-step_dials login plans there hs ts (steps.Fields m) o us r = let e = ap length r.others ∙ put_length m r.made hs in omega arith
-step_dials login plans there hs ts (steps.Poll m) o us r = let e = ap length r.others ∙ put_length m r.made hs in omega arith
-step_dials login plans there hs ts (steps.Cancel m) o us r = let e = ap length r.others ∙ put_length m r.made hs in omega arith
-step_dials login plans there hs ts (steps.Advance by) o us r = let e = ap length r.same in omega arith
-step_dials login plans there hs ts (steps.Random word) o us r = let e = ap length r.same in omega arith
+pub step_dials : (login : Login) (plans : Plans) (there : Bool) (statement : Option StatementView) (hs ts : List Handle) (step : Step) (o : Outcome) (us : List Use) → StepGrows login plans there statement hs step o us ts → length ts ≡ length hs + dialed_by step
+step_dials login plans there statement hs ts steps.Conn o us r = ap length r.others ∙ length-append hs (r.made ∷ [])
+step_dials login plans there statement hs ts (steps.Query m text) o us r = let e = ap length r.others ∙ put_length m r.made hs in omega arith
+step_dials login plans there statement hs ts (steps.Prepare m text) o us r = let e = ap length r.others ∙ put_length m r.made hs in omega arith
+step_dials login plans there statement hs ts (steps.Execute m number params) o us r = let e = ap length r.others ∙ put_length m r.made hs in omega arith
+step_dials login plans there statement hs ts (steps.CloseStatement m number) o us r = let e = ap length r.others ∙ put_length m r.made hs in omega arith
+step_dials login plans there statement hs ts (steps.Next m) o us r = let e = ap length r.others ∙ put_length m r.made hs in omega arith
+step_dials login plans there statement hs ts (steps.Collect m) o us r = let e = ap length r.others ∙ put_length m r.made hs in omega arith
+step_dials login plans there statement hs ts (steps.Drop m) o us r = let e = ap length r.others ∙ put_length m r.made hs in omega arith
+step_dials login plans there statement hs ts (steps.Ping m) o us r = let e = ap length r.others ∙ put_length m r.made hs in omega arith
+step_dials login plans there statement hs ts (steps.Quit m) o us r = let e = ap length r.others ∙ put_length m r.made hs in omega arith
+step_dials login plans there statement hs ts (steps.Stream m) o us r = let e = ap length r.others ∙ put_length m r.made hs in omega arith
+step_dials login plans there statement hs ts (steps.Item m) o us r = let e = ap length r.others ∙ put_length m r.made hs in omega arith
+step_dials login plans there statement hs ts (steps.Unstream m) o us r = let e = ap length r.others ∙ put_length m r.made hs in omega arith
+step_dials login plans there statement hs ts (steps.Fields m) o us r = let e = ap length r.others ∙ put_length m r.made hs in omega arith
+step_dials login plans there statement hs ts (steps.Poll m) o us r = let e = ap length r.others ∙ put_length m r.made hs in omega arith
+step_dials login plans there statement hs ts (steps.Cancel m) o us r = let e = ap length r.others ∙ put_length m r.made hs in omega arith
+step_dials login plans there statement hs ts (steps.Advance by) o us r = let e = ap length r.same in omega arith
+step_dials login plans there statement hs ts (steps.Random word) o us r = let e = ap length r.same in omega arith
 
 dialed_more : (ss : List Step) (s : Step) → dialed_in (ss ++ s ∷ []) ≡ dialed_in ss + dialed_by s
 dialed_more [] s = omega arith
@@ -124,7 +128,7 @@ dialed_so : (login : Login) (plans : Plans) (ls : List Line) → AreGrown login 
 dialed_so login plans [] grown = refl
 dialed_so login plans (l ∷ ls) grown =
     let before : length (handles_after ls) ≡ dialed_in (steps_of ls) = dialed_so login plans ls grown.1 in
-    let here : length l.handles ≡ length (handles_after ls) + dialed_by l.step = step_dials login plans _ (handles_after ls) l.handles l.step l.outcome l.uses grown.0.answer in
+    let here : length l.handles ≡ length (handles_after ls) + dialed_by l.step = step_dials login plans _ _ (handles_after ls) l.handles l.step l.outcome l.uses grown.0.answer in
     let more : dialed_in (steps_of ls ++ l.step ∷ []) ≡ dialed_in (steps_of ls) + dialed_by l.step = dialed_more (steps_of ls) l.step in
     omega arith
 
@@ -152,7 +156,7 @@ over_placed login hs n w all placed = by_number (less_or n (length hs))
 pub each_run_is_right : EachRunIsRight
 each_run_is_right login plans before later steps answers tapes h = record {
   numbered = subst (λ m. AreTapes 0 m tapes) count all_tapes.numbered;
-  each = λ n within. subst (λ (s : TapeSeen). AreLines login n s 0 Without (start login n) steps answers) (sym (tape_is n)) (lines_at n);
+  each = λ n within. subst (λ (s : TapeSeen). AreLines login n s 0 nothing_made (start login n) steps answers) (sym (tape_is n)) (lines_at n);
 }
   where
     hs : List Handle
@@ -172,27 +176,27 @@ each_run_is_right login plans before later steps answers tapes h = record {
         by_number (inl low) = let same : n ≡ 0 + n = omega arith in ap (λ m. seen_at m tapes) same ∙ all_tapes.each n low.1
         by_number (inr high) = above_none n 0 (length (handles_after h.lines)) tapes all_tapes.numbered high.1 ∙ ap (λ (z : Handle). shown_tape (tape_for z)) (sym (past (handles_after h.lines) n high.1))
 
-    lines_at : (n : ℕ) → AreLines login n (shown_tape (tape_for (at_number (handles_after h.lines) n))) 0 Without (start login n) steps answers
+    lines_at : (n : ℕ) → AreLines login n (shown_tape (tape_for (at_number (handles_after h.lines) n))) 0 nothing_made (start login n) steps answers
     lines_at n =
         let last = at_number (handles_after h.lines) n in
         let all = all_for login (plans.reads n) (plans.dials n) last (explained_at login plans h.lines h.explained n) in
         let r : RanSo login plans (tape_for last) all n h.lines = ran login plans (tape_for last) all n h.lines h.grown (has_for last) in
         let shown = r.reaches [] [] (over_placed login (handles_after h.lines) n r.walk all r.placed) in
-        shown_lines login n (shown_tape (tape_for last)) 0 Without (start login n) steps answers
-        (subst (λ vs. AreShown login n (shown_tape (tape_for last)) 0 Without (start login n) steps vs) (append-nil (answers_of h.lines) ∙ sym h.answered)
-        (subst (λ ss. AreShown login n (shown_tape (tape_for last)) 0 Without (start login n) ss (answers_of h.lines ++ [])) (append-nil (steps_of h.lines) ∙ h.steps_are) shown))
+        shown_lines login n (shown_tape (tape_for last)) 0 nothing_made (start login n) steps answers
+        (subst (λ vs. AreShown login n (shown_tape (tape_for last)) 0 nothing_made (start login n) steps vs) (append-nil (answers_of h.lines) ∙ sym h.answered)
+        (subst (λ ss. AreShown login n (shown_tape (tape_for last)) 0 nothing_made (start login n) ss (answers_of h.lines ++ [])) (append-nil (steps_of h.lines) ∙ h.steps_are) shown))
 
 -- a first wrong line is none of a right transcript
-wrong_lines : (login : Login) (n : ℕ) (t : TapeSeen) (index k : ℕ) (s : Stream) (w : Walk) (ss : List Step) (bs : List StepAnswer) → FirstWrong login n t index k s w ss bs → AreLines login n t k s w ss bs → ⊥
-wrong_lines login n t index k s w [] [] f r = f.1 r
-wrong_lines login n t index k s w [] (b ∷ bs) f r = r
-wrong_lines login n t index k s w (step ∷ ss) [] f r = r
-wrong_lines login n t index k s w (step ∷ ss) (b ∷ bs) (inl f) r = f.1 r.0
-wrong_lines login n t index k s w (step ∷ ss) (b ∷ bs) (inr f) r = wrong_lines login n t index (k + 1) _ _ ss bs f.1 r.1
+wrong_lines : (login : Login) (n : ℕ) (t : TapeSeen) (index k : ℕ) (m : Made) (w : Walk) (ss : List Step) (bs : List StepAnswer) → FirstWrong login n t index k m w ss bs → AreLines login n t k m w ss bs → ⊥
+wrong_lines login n t index k m w [] [] f r = f.1 r
+wrong_lines login n t index k m w [] (b ∷ bs) f r = r
+wrong_lines login n t index k m w (step ∷ ss) [] f r = r
+wrong_lines login n t index k m w (step ∷ ss) (b ∷ bs) (inl f) r = f.1 r.0
+wrong_lines login n t index k m w (step ∷ ss) (b ∷ bs) (inr f) r = wrong_lines login n t index (k + 1) _ _ ss bs f.1 r.1
 
 pub each_refusal_refutes : EachRefusalRefutes
 each_refusal_refutes login steps answers tapes line found plans before later h = by_cause found.wrong (each_run_is_right login plans before later steps answers tapes h)
   where
     by_cause : IsWrongBelow (FoundAt login steps answers tapes) line (dialed_in steps + 1) ⊎ ((line ≡ length steps) × (AreTapes 0 (dialed_in steps) tapes → ⊥)) → AreRight login steps answers tapes → ⊥
-    by_cause (inl w) r = wrong_lines login w.number (seen_at w.number tapes) line 0 Without (start login w.number) steps answers w.is (r.each w.number w.below)
+    by_cause (inl w) r = wrong_lines login w.number (seen_at w.number tapes) line 0 nothing_made (start login w.number) steps answers w.is (r.each w.number w.below)
     by_cause (inr w) r = w.1 r.numbered

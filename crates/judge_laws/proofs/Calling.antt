@@ -2,6 +2,8 @@
 use Rattle.std.proofs.Common.{◌≡◌, ℕ, ◌==◌, List, [], ◌∷◌, length, slice_get, map, Bool, true, false, ◌&&◌, Option, Some, None, refl, sym, ap, ◌∙◌, subst, arith, if◌then◌else◌}
 use Rattle.std.proofs.lemmas.Bool.Decides.{nat_tests}
 use Rattle.my_value.specs.RowParts.{RowParts}
+use Rattle.my_params.specs.declared.params.Params.{Params}
+use Rattle.my_statements.specs.Prepared.{StatementView}
 use Rattle.my_grammar.specs.declared.login.Login.{Login}
 use Rattle.my_link.specs.Looks.{Looks}
 use Rattle.my_reading.specs.declared.call.Call.{Call}
@@ -37,9 +39,9 @@ use Rattle.judge_laws.proofs.Gathering.{Forth, GatherState, GathersSo, HasTape, 
 use Rattle.judge_laws.proofs.Stepping.{LineSo, OnceSo, OpenAs, Spotted, StepSo, absent_so, closed_so, dialing_so, gone_so, here_act, once_so, open_so}
 
 -- what a step that begins a call does, by what the walk takes the connection for
-pub record Asks (n : ℕ) (step : Step) (call : Call) : Type 0 where
+pub record Asks (n : ℕ) (statement : Option StatementView) (step : Step) (call : Call) : Type 0 where
   pub named : target step ≡ Some n
-  pub begun : (taken : Bool) → begun_by taken step ≡ Some call
+  pub begun : (taken : Bool) → begun_by taken statement step ≡ Some call
   pub plain : is_skip (kind_of call) ≡ false
   pub dialing : at_dialing n step outcomes.NoSuchHandle 0 ≡ Skips status.Dialing
   pub idle : (closed : Bool) (next : ℕ) (o : Outcome) (uses : ℕ) → at_idle closed next step o uses ≡ asked (is_refused closed (kind_of call)) o uses
@@ -54,26 +56,36 @@ never_and : (closed : Bool) → false ≡ closed && false
 never_and true = refl
 never_and false = refl
 
-pub asks_query : (n : ℕ) (text : List ℕ) → Asks n (steps.Query n text) (calls.Query text)
-asks_query n text = record { named = refl; begun = λ taken. refl; plain = refl; dialing = refl; idle = λ closed next o uses. ap (λ b. asked b o uses) (closed_and closed); opens = λ next. refl; gathers = λ first next. refl }
+pub asks_query : (n : ℕ) (statement : Option StatementView) (text : List ℕ) → Asks n statement (steps.Query n text) (calls.Query text)
+asks_query n statement text = record { named = refl; begun = λ taken. refl; plain = refl; dialing = refl; idle = λ closed next o uses. ap (λ b. asked b o uses) (closed_and closed); opens = λ next. refl; gathers = λ first next. refl }
 
-pub asks_next : (n : ℕ) → Asks n (steps.Next n) calls.NextRow
-asks_next n = record { named = refl; begun = λ taken. refl; plain = refl; dialing = refl; idle = λ closed next o uses. ap (λ b. asked b o uses) (closed_and closed); opens = λ next. refl; gathers = λ first next. refl }
+pub asks_prepare : (n : ℕ) (statement : Option StatementView) (text : List ℕ) → Asks n statement (steps.Prepare n text) (calls.Prepare text)
+asks_prepare n statement text = record { named = refl; begun = λ taken. refl; plain = refl; dialing = refl; idle = λ closed next o uses. ap (λ b. asked b o uses) (closed_and closed); opens = λ next. refl; gathers = λ first next. refl }
 
-pub asks_item : (n : ℕ) → Asks n (steps.Item n) calls.NextRow
-asks_item n = record { named = refl; begun = λ taken. refl; plain = refl; dialing = refl; idle = λ closed next o uses. ap (λ b. asked b o uses) (closed_and closed); opens = λ next. refl; gathers = λ first next. refl }
+-- a statement that is there is executed, or closed by its id
+pub asks_execute : (n : ℕ) (prepared : StatementView) (number : ℕ) (params : Params) → Asks n (Some prepared) (steps.Execute n number params) (calls.Execute prepared params)
+asks_execute n prepared number params = record { named = refl; begun = λ taken. refl; plain = refl; dialing = refl; idle = λ closed next o uses. ap (λ b. asked b o uses) (closed_and closed); opens = λ next. refl; gathers = λ first next. refl }
 
-pub asks_drop : (n : ℕ) → Asks n (steps.Drop n) calls.DropResult
-asks_drop n = record { named = refl; begun = λ taken. refl; plain = refl; dialing = refl; idle = λ closed next o uses. ap (λ b. asked b o uses) (closed_and closed); opens = λ next. refl; gathers = λ first next. refl }
+pub asks_close : (n : ℕ) (prepared : StatementView) (number : ℕ) → Asks n (Some prepared) (steps.CloseStatement n number) (calls.CloseStmt prepared.inner.id)
+asks_close n prepared number = record { named = refl; begun = λ taken. refl; plain = refl; dialing = refl; idle = λ closed next o uses. ap (λ b. asked b o uses) (closed_and closed); opens = λ next. refl; gathers = λ first next. refl }
 
-pub asks_ping : (n : ℕ) → Asks n (steps.Ping n) calls.Ping
-asks_ping n = record { named = refl; begun = λ taken. refl; plain = refl; dialing = refl; idle = λ closed next o uses. ap (λ b. asked b o uses) (closed_and closed); opens = λ next. refl; gathers = λ first next. refl }
+pub asks_next : (n : ℕ) (statement : Option StatementView) → Asks n statement (steps.Next n) calls.NextRow
+asks_next n statement = record { named = refl; begun = λ taken. refl; plain = refl; dialing = refl; idle = λ closed next o uses. ap (λ b. asked b o uses) (closed_and closed); opens = λ next. refl; gathers = λ first next. refl }
 
-pub asks_quit : (n : ℕ) → Asks n (steps.Quit n) calls.Quit
-asks_quit n = record { named = refl; begun = λ taken. refl; plain = refl; dialing = refl; idle = λ closed next o uses. ap (λ b. asked b o uses) (never_and closed); opens = λ next. refl; gathers = λ first next. refl }
+pub asks_item : (n : ℕ) (statement : Option StatementView) → Asks n statement (steps.Item n) calls.NextRow
+asks_item n statement = record { named = refl; begun = λ taken. refl; plain = refl; dialing = refl; idle = λ closed next o uses. ap (λ b. asked b o uses) (closed_and closed); opens = λ next. refl; gathers = λ first next. refl }
 
-module _ (login : Login) (t : Tape) (all : AreCalls login (reading login t).calls) (n : ℕ) where
-  module _ (step : Step) (call : Call) (w : Asks n step call) where
+pub asks_drop : (n : ℕ) (statement : Option StatementView) → Asks n statement (steps.Drop n) calls.DropResult
+asks_drop n statement = record { named = refl; begun = λ taken. refl; plain = refl; dialing = refl; idle = λ closed next o uses. ap (λ b. asked b o uses) (closed_and closed); opens = λ next. refl; gathers = λ first next. refl }
+
+pub asks_ping : (n : ℕ) (statement : Option StatementView) → Asks n statement (steps.Ping n) calls.Ping
+asks_ping n statement = record { named = refl; begun = λ taken. refl; plain = refl; dialing = refl; idle = λ closed next o uses. ap (λ b. asked b o uses) (closed_and closed); opens = λ next. refl; gathers = λ first next. refl }
+
+pub asks_quit : (n : ℕ) (statement : Option StatementView) → Asks n statement (steps.Quit n) calls.Quit
+asks_quit n statement = record { named = refl; begun = λ taken. refl; plain = refl; dialing = refl; idle = λ closed next o uses. ap (λ b. asked b o uses) (never_and closed); opens = λ next. refl; gathers = λ first next. refl }
+
+module _ (login : Login) (t : Tape) (all : AreCalls login (reading login t).calls) (n : ℕ) (statement : Option StatementView) where
+  module _ (step : Step) (call : Call) (w : Asks n statement step call) where
     idle_at : (k : Kept) (v : Walk) → k.pending ≡ None → AtWalk login k v → Spotted t true k.pending v.spot → (o : Outcome) (uses : ℕ)
         → act_of v.spot.status n v.spot.next v.closed step o uses ≡ asked (is_refused (has_closed (made_of k.calls)) (kind_of call)) o uses
     idle_at k v none at s o uses =
@@ -82,12 +94,12 @@ module _ (login : Login) (t : Tape) (all : AreCalls login (reading login t).call
         ∙ ap (λ b. asked (is_refused b (kind_of call)) o uses) at.closed_is
 
     begins_so : (b : Bool) (k : Kept) (x : Looks) (made : Handle) (o : Outcome) (us : List Use) → k.pending ≡ None → is_refused (has_closed (made_of k.calls)) (kind_of call) ≡ b → HasTape t made → Begins b login n call k x o us made
-        → StepSo login t n (Joined true k x) made step o us
+        → StepSo login t n statement (Joined true k x) made step o us
     begins_so true k x made o us none shut has r =
-        closed_so login t all n step w.named call k x made o us none has r (λ v at. w.begun _)
+        closed_so login t all n statement step w.named call k x made o us none has r (λ v at. w.begun _)
         (λ v at e is. w.idle v.closed v.spot.next (outcomes.Failed connection_closed) 0 ∙ ap (λ b. asked (is_refused b (kind_of call)) (outcomes.Failed connection_closed) 0) at.closed_is ∙ ap (λ b. asked b (outcomes.Failed connection_closed) 0) shut)
     begins_so false k x made o us none shut has r =
-        let s : OnceSo login t all n step w.named (asking k call None) made o us = once_so login t all n step w.named (asking k call None) (asked_by k call) x made o us refl refl has r (may_end (shown r.after) call w.plain) in
+        let s : OnceSo login t all n statement step w.named (asking k call None) made o us = once_so login t all n statement step w.named (asking k call None) (asked_by k call) x made o us refl refl has r (may_end (shown r.after) call w.plain) in
         record {
           back = (s.back.0, before_begin t k call None s.back.0 none s.back.1);
           forth = λ v tied.
@@ -95,14 +107,14 @@ module _ (login : Login) (t : Tape) (all : AreCalls login (reading login t).call
               (subst (λ b. IsBegun b (slice_get (map shown_call t.calls) v.spot.next)) (sym (w.begun _)) (begins_here t (asking k call None) (asked_by k call) v.spot.next tied.1.next_is refl s.back));
         }
 
-    begins_on : (q : Option Asked) (k : Kept) (x : Looks) (made : Handle) (o : Outcome) (us : List Use) → k.pending ≡ q → HasTape t made → BeginsOn q login n call k x o us made → StepSo login t n (Joined true k x) made step o us
+    begins_on : (q : Option Asked) (k : Kept) (x : Looks) (made : Handle) (o : Outcome) (us : List Use) → k.pending ≡ q → HasTape t made → BeginsOn q login n call k x o us made → StepSo login t n statement (Joined true k x) made step o us
     begins_on None k x made o us e has r = begins_so (is_refused (has_closed (made_of k.calls)) (kind_of call)) k x made o us e refl has r
-    begins_on (Some a) k x made o us e has r = open_so login t all n step w.named k x a made o us e w.opens w.gathers has r
+    begins_on (Some a) k x made o us e has r = open_so login t all n statement step w.named k x a made o us e w.opens w.gathers has r
 
-    pub calls_so : (h made : Handle) (o : Outcome) (us : List Use) → HasTape t made → Calls login n call h o us made → StepSo login t n h made step o us
-    calls_so Absent made o us has r = absent_so login t all n step w.named made o us has r
-    calls_so (Dialing left) made o us has r = dialing_so login t all n step w.named left made o us w.dialing has r
-    calls_so (Joined false k x) made o us has r = gone_so login t all n step w.named k x made o us has r
+    pub calls_so : (h made : Handle) (o : Outcome) (us : List Use) → HasTape t made → Calls login n call h o us made → StepSo login t n statement h made step o us
+    calls_so Absent made o us has r = absent_so login t all n statement step w.named made o us has r
+    calls_so (Dialing left) made o us has r = dialing_so login t all n statement step w.named left made o us w.dialing has r
+    calls_so (Joined false k x) made o us has r = gone_so login t all n statement step w.named k x made o us has r
     calls_so (Joined true k x) made o us has r = begins_on k.pending k x made o us refl has r
 
   -- a line that gathers rows
@@ -118,9 +130,9 @@ module _ (login : Login) (t : Tape) (all : AreCalls login (reading login t).call
 
   pub gathered_line : (step : Step) (us : List Use) (o : Outcome) (made : Handle) (w : Walk) (first : ℕ) → Forth login t all n us o first made w
       → act_of w.spot.status n w.spot.next w.closed step o (length us) ≡ gathering first o → first_of w.spot.status w.spot.next ≡ first
-      → IsBegun (begun_in w step) (slice_get (map shown_call t.calls) w.spot.next) → LineSo login t n made step o us w
+      → IsBegun (begun_in statement w step) (slice_get (map shown_call t.calls) w.spot.next) → LineSo login t n statement made step o us w
   gathered_line step us o made w first f acts same begun =
-      subst (λ (z : Handle). LineSo login t n z step o us w) (sym f.to.is) (record {
+      subst (λ (z : Handle). LineSo login t n statement z step o us w) (sym f.to.is) (record {
         act = Polls (if is_pending o then status.Gathers first else status.Idle);
         act_is = acts ∙ f.to.acts;
         right = (begun, subst (λ m. ArePolled login n (shown_tape t) o m us w) (sym same) f.polls, f.told (facts_at login (after_polls login (shown_tape t) o us w).place));
@@ -133,9 +145,9 @@ module _ (login : Login) (t : Tape) (all : AreCalls login (reading login t).call
       ap (λ b. collected b first o (length (u ∷ us))) e ∙ ap (λ b. if b then Wrong else gathering first o) c
 
   collects_by : (b : Bool) (k : Kept) (x : Looks) (made : Handle) (o : Outcome) (us : List Use) → k.pending ≡ None → has_closed (made_of k.calls) ≡ b → HasTape t made → Collects b login n k x o us made
-      → StepSo login t n (Joined true k x) made (steps.Collect n) o us
+      → StepSo login t n statement (Joined true k x) made (steps.Collect n) o us
   collects_by true k x made o us none shut has r =
-      closed_so login t all n (steps.Collect n) refl calls.NextRow k x made o us none has r (λ v at. refl)
+      closed_so login t all n statement (steps.Collect n) refl calls.NextRow k x made o us none has r (λ v at. refl)
       (λ v at e is. ap (λ b. collected b v.spot.next (outcomes.Failed connection_closed) 0) (at.closed_is ∙ shut))
   collects_by false k x made o [] none shut has r = absurd r
   collects_by false k x made o (u ∷ us) none shut has r =
@@ -152,34 +164,34 @@ module _ (login : Login) (t : Tape) (all : AreCalls login (reading login t).call
             (begins_here t f (next_asked k []) w.spot.next at.next_is refl s.back);
       }
 
-  collects_on : (q : Option Asked) (k : Kept) (x : Looks) (made : Handle) (o : Outcome) (us : List Use) → k.pending ≡ q → HasTape t made → CollectsOn q login n k x o us made → StepSo login t n (Joined true k x) made (steps.Collect n) o us
+  collects_on : (q : Option Asked) (k : Kept) (x : Looks) (made : Handle) (o : Outcome) (us : List Use) → k.pending ≡ q → HasTape t made → CollectsOn q login n k x o us made → StepSo login t n statement (Joined true k x) made (steps.Collect n) o us
   collects_on None k x made o us e has r = collects_by (has_closed (made_of k.calls)) k x made o us e refl has r
-  collects_on (Some a) k x made o us e has r = open_so login t all n (steps.Collect n) refl k x a made o us e (λ next. refl) (λ first next. refl) has r
+  collects_on (Some a) k x made o us e has r = open_so login t all n statement (steps.Collect n) refl k x a made o us e (λ next. refl) (λ first next. refl) has r
 
-  pub collects_so : (h made : Handle) (o : Outcome) (us : List Use) → HasTape t made → CollectsAt login n h o us made → StepSo login t n h made (steps.Collect n) o us
-  collects_so Absent made o us has r = absent_so login t all n (steps.Collect n) refl made o us has r
-  collects_so (Dialing left) made o us has r = dialing_so login t all n (steps.Collect n) refl left made o us refl has r
-  collects_so (Joined false k x) made o us has r = gone_so login t all n (steps.Collect n) refl k x made o us has r
+  pub collects_so : (h made : Handle) (o : Outcome) (us : List Use) → HasTape t made → CollectsAt login n h o us made → StepSo login t n statement h made (steps.Collect n) o us
+  collects_so Absent made o us has r = absent_so login t all n statement (steps.Collect n) refl made o us has r
+  collects_so (Dialing left) made o us has r = dialing_so login t all n statement (steps.Collect n) refl left made o us refl has r
+  collects_so (Joined false k x) made o us has r = gone_so login t all n statement (steps.Collect n) refl k x made o us has r
   collects_so (Joined true k x) made o us has r = collects_on k.pending k x made o us refl has r
 
   -- the last OK is told
-  tells_with : (q : Option Asked) (k : Kept) (x : Looks) (made : Handle) (o : Outcome) (us : List Use) → k.pending ≡ q → HasTape t made → TellsWith q login k x o us made → StepSo login t n (Joined true k x) made (steps.Fields n) o us
+  tells_with : (q : Option Asked) (k : Kept) (x : Looks) (made : Handle) (o : Outcome) (us : List Use) → k.pending ≡ q → HasTape t made → TellsWith q login k x o us made → StepSo login t n statement (Joined true k x) made (steps.Fields n) o us
   tells_with None k x made o us none has r = record {
     back = subst (HasTape t) r.left has;
     forth = λ w tied.
-        subst (λ (z : Handle). LineSo login t n z (steps.Fields n) o us w) (sym r.left)
-        (subst (λ (vs : List Use). LineSo login t n (Joined true k x) (steps.Fields n) o vs w) (sym r.uses)
-        (subst (λ (z : Outcome). LineSo login t n (Joined true k x) (steps.Fields n) z [] w) (sym r.outcome) (record {
+        subst (λ (z : Handle). LineSo login t n statement z (steps.Fields n) o us w) (sym r.left)
+        (subst (λ (vs : List Use). LineSo login t n statement (Joined true k x) (steps.Fields n) o vs w) (sym r.uses)
+        (subst (λ (z : Outcome). LineSo login t n statement (Joined true k x) (steps.Fields n) z [] w) (sym r.outcome) (record {
           act = Tells;
           act_is = here_act status.Idle w.spot.status n w.spot.next w.closed (steps.Fields n) (outcomes.Fields (facts_kept login k).ok) 0 refl (subst (λ q. Spotted t true q w.spot) none tied.0) refl;
           right = ap (λ (p : Place). (facts_at login p).ok) (place_at_rest login k w.closed w.place none tied.1.reads);
           tied = tied;
         })));
   }
-  tells_with (Some a) k x made o us e has r = open_so login t all n (steps.Fields n) refl k x a made o us e (λ next. refl) (λ first next. refl) has r
+  tells_with (Some a) k x made o us e has r = open_so login t all n statement (steps.Fields n) refl k x a made o us e (λ next. refl) (λ first next. refl) has r
 
-  pub tells_so : (h made : Handle) (o : Outcome) (us : List Use) → HasTape t made → TellsFields login h o us made → StepSo login t n h made (steps.Fields n) o us
-  tells_so Absent made o us has r = absent_so login t all n (steps.Fields n) refl made o us has r
-  tells_so (Dialing left) made o us has r = dialing_so login t all n (steps.Fields n) refl left made o us refl has r
-  tells_so (Joined false k x) made o us has r = gone_so login t all n (steps.Fields n) refl k x made o us has r
+  pub tells_so : (h made : Handle) (o : Outcome) (us : List Use) → HasTape t made → TellsFields login h o us made → StepSo login t n statement h made (steps.Fields n) o us
+  tells_so Absent made o us has r = absent_so login t all n statement (steps.Fields n) refl made o us has r
+  tells_so (Dialing left) made o us has r = dialing_so login t all n statement (steps.Fields n) refl left made o us refl has r
+  tells_so (Joined false k x) made o us has r = gone_so login t all n statement (steps.Fields n) refl k x made o us has r
   tells_so (Joined true k x) made o us has r = tells_with k.pending k x made o us refl has r

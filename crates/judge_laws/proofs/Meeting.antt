@@ -4,6 +4,8 @@ use Rattle.my_grammar.specs.declared.login.Login.{Login}
 use Rattle.my_link.specs.declared.met.Met.{Met}
 use Rattle.my_link.specs.Moves.{Stop, NoStop, ReadHold, WriteHold, ReadFault, WriteFault, LinkEnd, faults_at, holds_at, ends_at, IsMet}
 use Rattle.my_reading.specs.declared.answer.Answer.{Answer}
+use Rattle.my_reading.specs.declared.error.DriverError.{DriverError}
+use Rattle.my_reading.specs.declared.error.DriverError.TheVariants as drivers
 use Rattle.my_reading.specs.declared.error.Error.{Error}
 use Rattle.my_reading.specs.declared.error.Error.TheVariants as errors
 use Rattle.my_reading.specs.declared.error.IoError.{IoError}
@@ -13,13 +15,14 @@ use Rattle.my_reading.specs.declared.error.IoKind.TheVariants as kinds
 use Rattle.my_script.specs.declared.transcript.Outcome.{Outcome}
 use Rattle.my_script.specs.declared.transcript.Outcome.TheVariants as outcomes
 use Rattle.my_script.specs.declared.transcript.TapeCall.{TapeCall as ShownCall}
+use Rattle.my_session.specs.Fits.{OwnDriver}
 use Rattle.my_client.specs.declared.poll.After.{After}
 use Rattle.my_client.specs.declared.poll.After.TheVariants as after
 use Rattle.my_client.specs.Causes.{ErrorBy, IoBy, KindBy, Pends, PollEnds}
 use Rattle.my_client.specs.Kept.{Asked, Kept}
 use Rattle.my_client.specs.Poll.{IsOfCall}
 use Rattle.my_run_judge.specs.Lines.{IsShown, is_pending}
-use Rattle.my_run_judge.specs.Meets.{ErrorMet, HasMet, IoMet, IsHeld, IsInBytes, IsReady, KindMet, ShownMet}
+use Rattle.my_run_judge.specs.Meets.{DriverMet, ErrorMet, HasMet, IoMet, IsHeld, IsInBytes, IsReady, KindMet, ShownMet}
 
 -- how the line shows what the last poll came to
 abbrev pub ShownBy : Outcome → List ShownCall → After → Type 0
@@ -106,8 +109,24 @@ module _ (u : Met) (stop : Stop) (taken : List ℕ) (of_call : IsOfCall u) (met 
     io_so e (ios.Io fault) by = kind_so e fault.kind by
     io_so e (ios.Codec fault) by = in_bytes stop refl by.0 ready
 
+    driver_so : (e : DriverError) → OwnDriver e → u.faults ≡ 0 → DriverMet e u
+    driver_so drivers.ConnectionClosed own none = absurd own
+    driver_so drivers.MixedParams own none = in_bytes stop refl none ready
+    driver_so (drivers.Params e) own none = in_bytes stop refl none ready
+    driver_so (drivers.StmtParamsMismatch required supplied) own none = in_bytes stop refl none ready
+    driver_so (drivers.StmtParamsNumberExceedsLimit supplied) own none = in_bytes stop refl none ready
+    driver_so drivers.TooLong own none = absurd own
+    driver_so drivers.CantParseServerVersion own none = absurd own
+    driver_so drivers.PacketOutOfOrder own none = absurd own
+    driver_so drivers.PacketTooLarge own none = absurd own
+    driver_so drivers.BadCompressedPacketHeader own none = absurd own
+    driver_so drivers.NoKeyFound own none = absurd own
+    driver_so drivers.NamedPipesDisabled own none = absurd own
+    driver_so drivers.InvalidParsecSalt own none = absurd own
+    driver_so drivers.NoClientSslFlagFromServer own none = absurd own
+
     error_so : (e : Error) → ErrorBy login f e u.faults u.ends → ErrorMet e u
-    error_so (errors.Driver e) by = absurd by
+    error_so (errors.Driver e) by = driver_so e by.0 by.1
     error_so (errors.Io e) by = io_so (errors.Io e) e by
     error_so (errors.Server e) by = in_bytes stop refl by.0 ready
     error_so (errors.Url e) by = absurd by
@@ -122,6 +141,7 @@ module _ (u : Met) (stop : Stop) (taken : List ℕ) (of_call : IsOfCall u) (met 
     pending_met outcomes.NoSet e h = cc
     pending_met (outcomes.Row row) e h = cc
     pending_met (outcomes.Rows rows) e h = cc
+    pending_met (outcomes.Prepared statement) e h = cc
     pending_met (outcomes.Fields ok) e h = cc
     pending_met (outcomes.Connected n id version) e h = cc
     pending_met (outcomes.Failed x) e h = cc
@@ -134,6 +154,7 @@ module _ (u : Met) (stop : Stop) (taken : List ℕ) (of_call : IsOfCall u) (met 
     answered_met outcomes.NoSet before answer e s r = r
     answered_met (outcomes.Row row) before answer e s r = r
     answered_met (outcomes.Rows rows) before answer e s r = r
+    answered_met (outcomes.Prepared statement) before answer e s r = r
     answered_met (outcomes.Fields ok) before answer e s r = r
     answered_met (outcomes.Connected n id version) before answer e s r = r
     answered_met (outcomes.Failed x) before answer e s r = cc
@@ -147,6 +168,7 @@ module _ (u : Met) (stop : Stop) (taken : List ℕ) (of_call : IsOfCall u) (met 
     failed_met (outcomes.Row row) before x e s r = cc
     failed_met (outcomes.Rows rows) before x e (inl same, rest) r = cc
     failed_met (outcomes.Rows rows) before x e (inr same, rest) r = cc
+    failed_met (outcomes.Prepared statement) before x e s r = cc
     failed_met (outcomes.Fields ok) before x e s r = absurd s
     failed_met (outcomes.Connected n id version) before x e s r = cc
     failed_met (outcomes.Failed y) before x e s r = let same : x ≡ y = cc in subst (λ (z : Error). ErrorMet z u) same r

@@ -3,19 +3,27 @@ use Rattle.std.proofs.Common.{◌≡◌, ℕ, zero, suc, List, [], ◌∷◌, �
 use Rattle.my_frame.specs.Front.{Front, Waiting, Broken, Whole}
 use Rattle.my_reply.specs.declared.err.ErrPacket.{ErrPacket}
 use Rattle.my_reply.specs.ErrPacket.{err_at}
+use Rattle.my_reply.specs.declared.replies.PrepareOk.{PrepareOk}
+use Rattle.my_reply.specs.Replies.{prepare_ok_at}
 use Rattle.my_grammar.specs.declared.login.Login.{Login}
 use Rattle.my_grammar.specs.declared.spot.Kind.{Kind}
 use Rattle.my_grammar.specs.declared.spot.Kind.TheVariants as kinds
 use Rattle.my_grammar.specs.Cut.{front_of, kind_of, is_over}
 use Rattle.my_grammar.specs.Growth.{grow}
 use Rattle.my_grammar.specs.Response.{response}
-use Rattle.my_grammar.specs.Talk.{Talk, context_of, limit_of}
+use Rattle.my_grammar.specs.Talk.{Talk, commands_in, context_of, limit_of}
+use Rattle.my_statements.specs.Cache.{Held}
 use Rattle.my_reading.specs.declared.call.Call.{Call}
-use Rattle.my_reading.specs.Commands.{command_in}
-use Rattle.my_reading.specs.Course.{Part, All, Head, Item, Set, Rest, Command, Step, Goes, Stops, unless_owed, step_of, step, run, enough, parts_of, with_command, with_front, after_payload, after_kind, after_err, is_greeting, is_rows}
-use Rattle.my_reading.specs.Place.{Place, facts_at, owed, with_talk, with_bytes, next_exchange}
+use Rattle.my_reading.specs.declared.call.Call.TheVariants as calls
+use Rattle.my_reading.specs.declared.facts.Facts.{Facts}
+use Rattle.my_reading.specs.Calls.{id_in, params_in, statement_in, text_in}
+use Rattle.my_reading.specs.Course.{Part, All, Head, Item, Set, Rest, Command, Find, Check, Reply, Keep, Give, Learn, Forget, Step, Goes, Stops, checked, closing_of, first_above, found, learned, unless_cached, unless_long, unless_owed, step_of, step, run, enough, parts_of, with_command, with_front, after_payload, after_kind, after_err, is_greeting, is_rows}
+use Rattle.my_reading.specs.Executions.{Values, Fitting, Unfitting, values_for}
+use Rattle.my_reading.specs.Facts.{prepared_by}
+use Rattle.my_reading.specs.Place.{Place, exchanges, facts_at, owed, terms_of, with_talk, with_bytes, with_statements, next_exchange}
 use Rattle.my_reading.specs.Reading.{halt_of}
 use Rattle.my_reading.specs.Rows.{row_of}
+use Rattle.my_reading.specs.Statements.{held_in, is_cached, is_mixed_text, leaving, query_of, with_columns}
 use Rattle.my_reading.specs.Tape.{Span}
 use Rattle.my_reading.specs.Told.{Told, ToldRow}
 use Rattle.std.proofs.Common.{nat_lt, length}
@@ -34,9 +42,13 @@ either_keeps bytes true s t k l = k
 either_keeps bytes false s t k l = l
 
 module _ (login : Login) (call : Call) where
-  command_keeps : (parts : List Part) (p : Place) (o : Option Talk) → Keeps p.sent (with_command call parts p o)
-  command_keeps parts p None = refl
-  command_keeps parts p (Some t) = either_keeps p.sent (nat_lt (limit_of t) (length (command_in t))) _ _ refl refl
+  long_keeps : (p : Place) (limit : ℕ) (o : Option ℕ) (s : Step) → Keeps p.sent s → Keeps p.sent (unless_long p limit o s)
+  long_keeps p limit None s k = k
+  long_keeps p limit (Some len) s k = refl
+
+  command_keeps : (other : Call) (parts : List Part) (p : Place) (o : Option Talk) → Keeps p.sent (with_command other parts p o)
+  command_keeps other parts p None = refl
+  command_keeps other parts p (Some t) = long_keeps p (limit_of t) (first_above (limit_of t) (commands_in t)) _ refl
 
   kind_keeps : (part : Part) (parts : List Part) (k : Kind) (new : Place) (row : Told) → Keeps new.sent (after_kind part parts k new row)
   kind_keeps Head parts (kinds.Good status) new row = refl
@@ -50,10 +62,15 @@ module _ (login : Login) (call : Call) where
   err_keeps p new None same = refl
   err_keeps p new (Some e) same = same
 
+  cached_keeps : (part : Part) (parts : List Part) (p new : Place) (reply : Option PrepareOk) → new.sent ≡ p.sent → Keeps p.sent (unless_cached login p reply (Goes (part ∷ parts) new))
+  cached_keeps part parts p new None same = same
+  cached_keeps part parts p new (Some ok) same = either_keeps p.sent (is_cached p.statements ok.id) _ _ refl same
+
   payload_keeps : (part : Part) (parts : List Part) (p new : Place) (payload : List ℕ) (k : Kind) → new.sent ≡ p.sent → Keeps p.sent (after_payload login part parts p new payload k)
   payload_keeps part parts p new payload kinds.Bad same = refl
   payload_keeps part parts p new payload kinds.Failed same = err_keeps p new (err_at (is_greeting (context_of p.talk).spot) payload) same
   payload_keeps part parts p new payload (kinds.Greets capabilities) same = either_keeps p.sent (nat_lt (limit_of p.talk) (length (response login payload))) _ _ refl same
+  payload_keeps part parts p new payload (kinds.Prepared params columns) same = cached_keeps part parts p new (prepare_ok_at payload) same
   payload_keeps part parts p new payload k same =
       rw (sym same) (kind_keeps part parts k new (ToldRow (row_of (context_of p.talk).rows (facts_at login p).columns payload)))
 
@@ -63,14 +80,36 @@ module _ (login : Login) (call : Call) where
   front_keeps part parts p (Whole payload rest next) =
       payload_keeps part parts p (with_talk p (grow (kind_of p.talk payload) p.talk payload) rest) payload (kind_of p.talk payload) refl
 
+  found_keeps : (parts : List Part) (p : Place) (text : List ℕ) (o : Option Held) → Keeps p.sent (found parts p text o)
+  found_keeps parts p text None = refl
+  found_keeps parts p text (Some h) = refl
+
+  checked_keeps : (parts : List Part) (p : Place) (v : Values) → Keeps p.sent (checked parts p v)
+  checked_keeps parts p (Fitting values) = refl
+  checked_keeps parts p (Unfitting e) = refl
+
+  learned_keeps : (p : Place) (facts : Facts) → (learned call p facts).sent ≡ p.sent
+  learned_keeps p facts = by_rows (is_rows (context_of p.talk).spot)
+    where
+      by_rows : (b : Bool) → (if b then with_statements (with_columns (id_in call) facts.columns p.statements) p else p).sent ≡ p.sent
+      by_rows true = refl
+      by_rows false = refl
+
   of_keeps : (parts : List Part) (p : Place) → Keeps p.sent (step_of login call parts p)
   of_keeps [] p = refl
-  of_keeps (Command ∷ parts) p = command_keeps parts p (next_exchange login call p)
+  of_keeps (Command ∷ parts) p = command_keeps call parts p (next_exchange login call p)
   of_keeps (All ∷ parts) p = either_keeps p.sent p.end_left _ _ refl (either_keeps p.sent (is_over p.talk) _ _ refl (front_keeps All parts p (front_of p.talk p.unread)))
   of_keeps (Head ∷ parts) p = either_keeps p.sent (is_rows (context_of p.talk).spot) _ _ refl (front_keeps Head parts p (front_of p.talk p.unread))
   of_keeps (Item ∷ parts) p = either_keeps p.sent p.end_left _ _ refl (either_keeps p.sent (is_over p.talk) _ _ refl (front_keeps Item parts p (front_of p.talk p.unread)))
   of_keeps (Set ∷ parts) p = either_keeps p.sent (p.end_left || is_rows (context_of p.talk).spot) _ _ refl (either_keeps p.sent (is_over p.talk) _ _ refl (front_keeps Set parts p (front_of p.talk p.unread)))
   of_keeps (Rest ∷ parts) p = either_keeps p.sent p.end_left _ _ refl (either_keeps p.sent (is_rows (context_of p.talk).spot) _ _ (front_keeps Rest parts p (front_of p.talk p.unread)) refl)
+  of_keeps (Find ∷ parts) p = either_keeps p.sent (is_mixed_text (text_in call)) _ _ refl (found_keeps parts p (text_in call) (held_in p.statements (query_of (text_in call))))
+  of_keeps (Check ∷ parts) p = checked_keeps parts p (values_for (statement_in call) (params_in call))
+  of_keeps (Reply ∷ parts) p = either_keeps p.sent (is_over p.talk) _ _ refl (front_keeps Reply parts p (front_of p.talk p.unread))
+  of_keeps (Keep ∷ parts) p = command_keeps (calls.Prepare (text_in call)) parts _ (closing_of (terms_of login (exchanges p)) (leaving (query_of (text_in call)) (prepared_by (facts_at login p)) p.statements))
+  of_keeps (Give ∷ parts) p = refl
+  of_keeps (Learn ∷ parts) p = learned_keeps p (facts_at login p)
+  of_keeps (Forget ∷ parts) p = refl
 
   step_keeps : (parts : List Part) (p : Place) → Keeps p.sent (step login call parts p)
   unfolding step

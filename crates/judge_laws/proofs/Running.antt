@@ -1,6 +1,7 @@
 -- All lines of a run, at one number.
-use Rattle.std.proofs.Common.{◌≡◌, ◌≢◌, ◌⊎◌, ◌≤◌, ◌<◌, inl, inr, ℕ, zero, suc, ◌+◌, ◌-◌, ◌==◌, List, [], ◌∷◌, ◌++◌, length, nat_lt, Bool, true, false, Option, Some, None, refl, sym, ap, ◌∙◌, subst, arith, length-append, if◌then◌else◌}
+use Rattle.std.proofs.Common.{◌≡◌, ◌≢◌, ◌⊎◌, ◌≤◌, ◌<◌, inl, inr, ℕ, zero, suc, ◌+◌, ◌-◌, ◌==◌, List, [], ◌∷◌, ◌++◌, length, nat_lt, Bool, true, false, Option, Some, None, refl, sym, ap, ◌∙◌, subst, arith, length-append, if◌then◌else◌, is_some}
 use Rattle.std.proofs.lemmas.Bool.Decides.{nat_tests}
+use Rattle.my_statements.specs.Prepared.{StatementView}
 use Rattle.my_grammar.specs.declared.login.Login.{Login}
 use Rattle.my_reading.specs.declared.call.Call.TheVariants as calls
 use Rattle.my_reading.specs.Endings.{AreCalls}
@@ -16,7 +17,7 @@ use Rattle.my_acts.specs.declared.act.Act.{Act}
 use Rattle.my_acts.specs.declared.act.Act.TheVariants.{Skips}
 use Rattle.my_acts.specs.declared.act.Status.{Status}
 use Rattle.my_acts.specs.declared.act.Status.TheVariants as status
-use Rattle.my_acts.specs.Acts.{act_ahead, act_here, act_of, act_there, act_with, dialed, is_missing, moved, moves_world, refused}
+use Rattle.my_acts.specs.Acts.{act_ahead, act_here, act_of, act_there, act_with, dialed, is_missing, is_unprepared, moved, moves_world, refused}
 use Rattle.my_client.specs.Kept.{Asked, nothing_kept}
 use Rattle.my_world.specs.World.{Plans}
 use Rattle.my_value.specs.RowParts.{RowParts}
@@ -30,7 +31,7 @@ use Rattle.judge_laws.proofs.Going.{shown_tape}
 use Rattle.judge_laws.proofs.Tying.{AtWalk}
 use Rattle.judge_laws.proofs.Gathering.{HasTape}
 use Rattle.judge_laws.proofs.Stepping.{LineSo, OpenAs, Spotted, StepSo, Tied, is_there, same_number}
-use Rattle.judge_laws.proofs.Calling.{asks_drop, asks_item, asks_next, asks_ping, asks_query, asks_quit, calls_so, collects_so, tells_so}
+use Rattle.judge_laws.proofs.Calling.{asks_close, asks_drop, asks_execute, asks_item, asks_next, asks_ping, asks_prepare, asks_query, asks_quit, calls_so, collects_so, tells_so}
 use Rattle.judge_laws.proofs.Streaming.{lets_go_so, streams_so}
 use Rattle.judge_laws.proofs.Resuming.{cancels_so, dials_so, goes_on_so}
 
@@ -113,16 +114,32 @@ either : (f : Bool → Bool) → f true ≡ false → f false ≡ false → (b :
 either f e g true = e
 either f e g false = g
 
--- a step that isn't one of a stream that isn't there
-other_act : (n : ℕ) (there : Bool) (step : Step) → moves_world step ≡ false → is_missing n there step ≡ false → (s : Status) (next : ℕ) (closed : Bool) (o : Outcome) (uses : ℕ) → act_with there s n next closed step o uses ≡ act_of s n next closed step o uses
-other_act n there step still e s next closed o uses =
-    ap (λ b. if b then moved s o uses else if is_missing n there step then refused s o uses else act_of s n next closed step o uses) still
-    ∙ ap (λ b. if b then refused s o uses else act_of s n next closed step o uses) e
+-- a step that isn't one of a stream that isn't there, nor of a statement that isn't
+pub record Plain (n : ℕ) (there prepared : Bool) (step : Step) : Type 0 where
+  pub streams : is_missing n there step ≡ false
+  pub statements : is_unprepared n prepared step ≡ false
+
+abbrev acted : Bool → Bool → Bool → Status → ℕ → ℕ → Bool → Step → Outcome → ℕ → Act
+acted moves missing unprepared s n next closed step o uses =
+    if moves then moved s o uses else if missing then refused s o uses else if unprepared then refused s o uses else act_of s n next closed step o uses
+
+other_act : (n : ℕ) (there prepared : Bool) (step : Step) → moves_world step ≡ false → Plain n there prepared step → (s : Status) (next : ℕ) (closed : Bool) (o : Outcome) (uses : ℕ)
+    → act_with there prepared s n next closed step o uses ≡ act_of s n next closed step o uses
+other_act n there prepared step still plain s next closed o uses =
+    ap (λ b. acted b (is_missing n there step) (is_unprepared n prepared step) s n next closed step o uses) still
+    ∙ ap (λ b. acted false b (is_unprepared n prepared step) s n next closed step o uses) plain.streams
+    ∙ ap (λ b. acted false false b s n next closed step o uses) plain.statements
+
+always : (n : ℕ) (there prepared : Bool) (step : Step) → is_missing n true step ≡ false → is_missing n false step ≡ false → is_unprepared n true step ≡ false → is_unprepared n false step ≡ false → Plain n there prepared step
+always n there prepared step a b c d = record { streams = either (λ z. is_missing n z step) a b there; statements = either (λ z. is_unprepared n z step) c d prepared }
 
 -- a step that names a number moves no world
 names_one : (step : Step) (m : ℕ) → target step ≡ Some m → moves_world step ≡ false
 names_one steps.Conn m e = refl
 names_one (steps.Query n text) m e = refl
+names_one (steps.Prepare n text) m e = refl
+names_one (steps.Execute n number params) m e = refl
+names_one (steps.CloseStatement n number) m e = refl
 names_one (steps.Next n) m e = refl
 names_one (steps.Collect n) m e = refl
 names_one (steps.Drop n) m e = refl
@@ -138,51 +155,51 @@ names_one (steps.Advance by) m e = cc
 names_one (steps.Random word) m e = cc
 
 -- a line is right at a number, and the walk is there after it
-pub record RunsLine (login : Login) (t : Tape) (n : ℕ) (there : Bool) (ts : List Handle) (step : Step) (o : Outcome) (us : List Use) (w : Walk) : Type 0 where
+pub record RunsLine (login : Login) (t : Tape) (n : ℕ) (there : Bool) (statement : Option StatementView) (ts : List Handle) (step : Step) (o : Outcome) (us : List Use) (w : Walk) : Type 0 where
   pub act : Act
-  pub act_is : act_with there w.spot.status n w.spot.next w.closed step o (length us) ≡ act
-  pub right : ActRight login n (shown_tape t) w step o us act
+  pub act_is : act_with there (is_some statement) w.spot.status n w.spot.next w.closed step o (length us) ≡ act
+  pub right : ActRight login n (shown_tape t) statement w step o us act
   pub placed : Placed login t n ts (after_act login (shown_tape t) w o us act)
 
-pub record RunsSo (login : Login) (t : Tape) (n : ℕ) (there : Bool) (hs ts : List Handle) (step : Step) (o : Outcome) (us : List Use) : Type 0 where
+pub record RunsSo (login : Login) (t : Tape) (n : ℕ) (there : Bool) (statement : Option StatementView) (hs ts : List Handle) (step : Step) (o : Outcome) (us : List Use) : Type 0 where
   pub back : HasTape t (at_number hs n)
-  pub forth : (w : Walk) → Placed login t n hs w → RunsLine login t n there ts step o us w
+  pub forth : (w : Walk) → Placed login t n hs w → RunsLine login t n there statement ts step o us w
 
 module _ (login : Login) (t : Tape) (all : AreCalls login (reading login t).calls) (n : ℕ) where
   -- a line that skips this number
-  skips_line : (there : Bool) (hs ts : List Handle) (step : Step) (o : Outcome) (us : List Use) → moves_world step ≡ false → is_missing n there step ≡ false → n < length hs → n < length ts → at_number ts n ≡ at_number hs n
-      → ((s : Status) (next : ℕ) (closed : Bool) → act_there s n next closed step o (length us) (target step) ≡ Skips s) → HasTape t (at_number ts n) → RunsSo login t n there hs ts step o us
-  skips_line there hs ts step o us still plain low lower same skips has = record {
+  skips_line : (there : Bool) (statement : Option StatementView) (hs ts : List Handle) (step : Step) (o : Outcome) (us : List Use) → moves_world step ≡ false → Plain n there (is_some statement) step → n < length hs → n < length ts → at_number ts n ≡ at_number hs n
+      → ((s : Status) (next : ℕ) (closed : Bool) → act_there s n next closed step o (length us) (target step) ≡ Skips s) → HasTape t (at_number ts n) → RunsSo login t n there statement hs ts step o us
+  skips_line there statement hs ts step o us still plain low lower same skips has = record {
     back = subst (HasTape t) same has;
     forth = λ w placed.
         let tied = placed.there low in
         record {
           act = Skips w.spot.status;
-          act_is = other_act n there step still plain w.spot.status w.spot.next w.closed o (length us) ∙ skips_there w.spot.status n w.spot.next w.closed step o (length us) (tied_there login t (at_number hs n) w tied) (skips w.spot.status w.spot.next w.closed);
+          act_is = other_act n there (is_some statement) step still plain w.spot.status w.spot.next w.closed o (length us) ∙ skips_there w.spot.status n w.spot.next w.closed step o (length us) (tied_there login t (at_number hs n) w tied) (skips w.spot.status w.spot.next w.closed);
           right = tt;
           placed = record { there = λ _. subst (λ (h : Handle). Tied login t h w) (sym same) tied; ahead = λ high. absurd (omega (arith, high, lower)) };
         };
   }
 
   -- a line before this number is dialed
-  ahead_line : (there : Bool) (hs ts : List Handle) (step : Step) (o : Outcome) (us : List Use) → moves_world step ≡ false → is_missing n there step ≡ false → length hs ≤ n → length ts ≤ n
-      → act_ahead (n - length hs) n o (length us) (target step) ≡ Skips (status.Ahead (n - length ts)) → RunsSo login t n there hs ts step o us
-  ahead_line there hs ts step o us still plain high higher skips = record {
+  ahead_line : (there : Bool) (statement : Option StatementView) (hs ts : List Handle) (step : Step) (o : Outcome) (us : List Use) → moves_world step ≡ false → Plain n there (is_some statement) step → length hs ≤ n → length ts ≤ n
+      → act_ahead (n - length hs) n o (length us) (target step) ≡ Skips (status.Ahead (n - length ts)) → RunsSo login t n there statement hs ts step o us
+  ahead_line there statement hs ts step o us still plain high higher skips = record {
     back = subst (HasTape t) (sym (past hs n high)) tt;
     forth = λ w placed.
         let ahead = placed.ahead high in
         record {
           act = Skips (status.Ahead (n - length ts));
-          act_is = other_act n there step still plain w.spot.status w.spot.next w.closed o (length us) ∙ ap (λ s. act_of s n w.spot.next w.closed step o (length us)) ahead.0 ∙ skips;
+          act_is = other_act n there (is_some statement) step still plain w.spot.status w.spot.next w.closed o (length us) ∙ ap (λ s. act_of s n w.spot.next w.closed step o (length us)) ahead.0 ∙ skips;
           right = tt;
           placed = record { there = λ low. absurd (omega (arith, low, higher)); ahead = λ _. (refl, ahead.1) };
         };
   }
 
   -- a step that names a number
-  module _ (there : Bool) (m : ℕ) (R : Handle → Outcome → List Use → Handle → Type 0) (step : Step) (plain : is_missing n there step ≡ false) (named : target step ≡ Some m) (absent : (o : Outcome) (us : List Use) (made : Handle) → R Absent o us made → IsRefused Absent o us made) where
-    named_line : (hs ts : List Handle) (o : Outcome) (us : List Use) → ((made : Handle) → HasTape t made → R (at_number hs m) o us made → m ≡ n → StepSo login t n (at_number hs m) made step o us)
-        → At m R hs o us ts → HasTape t (at_number ts n) → RunsSo login t n there hs ts step o us
+  module _ (there : Bool) (statement : Option StatementView) (m : ℕ) (R : Handle → Outcome → List Use → Handle → Type 0) (step : Step) (plain : Plain n there (is_some statement) step) (named : target step ≡ Some m) (absent : (o : Outcome) (us : List Use) (made : Handle) → R Absent o us made → IsRefused Absent o us made) where
+    named_line : (hs ts : List Handle) (o : Outcome) (us : List Use) → ((made : Handle) → HasTape t made → R (at_number hs m) o us made → m ≡ n → StepSo login t n statement (at_number hs m) made step o us)
+        → At m R hs o us ts → HasTape t (at_number ts n) → RunsSo login t n there statement hs ts step o us
     named_line hs ts o us here r has = by_number (less_or n (length hs)) (same_or m n)
       where
         still : moves_world step ≡ false
@@ -191,11 +208,11 @@ module _ (login : Login) (t : Tape) (all : AreCalls login (reading login t).call
         same_length : length ts ≡ length hs
         same_length = ap length r.others ∙ put_length m r.made hs
 
-        elsewhere : n < length hs → ((m == n) ≡ false) → m ≢ n → RunsSo login t n there hs ts step o us
-        elsewhere low e f = skips_line there hs ts step o us still plain low (subst (λ z. n < z) (sym same_length) low) (ap (λ (xs : List Handle). at_number xs n) r.others ∙ put_there m n r.made hs f)
+        elsewhere : n < length hs → ((m == n) ≡ false) → m ≢ n → RunsSo login t n there statement hs ts step o us
+        elsewhere low e f = skips_line there statement hs ts step o us still plain low (subst (λ z. n < z) (sym same_length) low) (ap (λ (xs : List Handle). at_number xs n) r.others ∙ put_there m n r.made hs f)
             (λ s next closed. ap (act_there s n next closed step o (length us)) named ∙ ap (λ b. if b then act_here s n next closed step o (length us) else Skips s) e) has
 
-        at_it : n < length hs → m ≡ n → RunsSo login t n there hs ts step o us
+        at_it : n < length hs → m ≡ n → RunsSo login t n there statement hs ts step o us
         at_it low e =
             let low_m : m < length hs = subst (λ z. z < length hs) (sym e) low in
             let made_is : at_number ts n ≡ r.made = ap (at_number ts) (sym e) ∙ ap (λ (xs : List Handle). at_number xs m) r.others ∙ put_here m r.made hs low_m in
@@ -207,14 +224,14 @@ module _ (login : Login) (t : Tape) (all : AreCalls login (reading login t).call
                   let l = s.forth w (subst (λ (h : Handle). Tied login t h w) (sym was) (placed.there low)) in
                   record {
                     act = l.act;
-                    act_is = other_act n there step still plain w.spot.status w.spot.next w.closed o (length us) ∙ l.act_is;
+                    act_is = other_act n there (is_some statement) step still plain w.spot.status w.spot.next w.closed o (length us) ∙ l.act_is;
                     right = l.right;
                     placed = record { there = λ _. subst (λ (h : Handle). Tied login t h (after_act login (shown_tape t) w o us l.act)) (sym made_is) l.tied; ahead = λ high. absurd (omega (arith, high, low, same_length)) };
                   };
             }
 
-        not_yet : length hs ≤ n → RunsSo login t n there hs ts step o us
-        not_yet high = ahead_line there hs ts step o us still plain high (subst (λ z. z ≤ n) (sym same_length) high) (by_target (less_or m (length hs)) ∙ ap (λ z. Skips (status.Ahead (n - z))) (sym same_length))
+        not_yet : length hs ≤ n → RunsSo login t n there statement hs ts step o us
+        not_yet high = ahead_line there statement hs ts step o us still plain high (subst (λ z. z ≤ n) (sym same_length) high) (by_target (less_or m (length hs)) ∙ ap (λ z. Skips (status.Ahead (n - z))) (sym same_length))
           where
             back_to : n - (n - length hs) ≡ length hs
             back_to = omega arith
@@ -232,22 +249,22 @@ module _ (login : Login) (t : Tape) (all : AreCalls login (reading login t).call
                 ∙ ap (λ (z : Outcome). refused (status.Ahead (n - length hs)) z (length us)) no.outcome
                 ∙ ap (λ (vs : List Use). refused (status.Ahead (n - length hs)) outcomes.NoSuchHandle (length vs)) no.uses
 
-        by_number : ((nat_lt n (length hs) ≡ true) × (n < length hs)) ⊎ ((nat_lt n (length hs) ≡ false) × (length hs ≤ n)) → (m ≡ n) ⊎ (((m == n) ≡ false) × (m ≢ n)) → RunsSo login t n there hs ts step o us
+        by_number : ((nat_lt n (length hs) ≡ true) × (n < length hs)) ⊎ ((nat_lt n (length hs) ≡ false) × (length hs ≤ n)) → (m ≡ n) ⊎ (((m == n) ≡ false) × (m ≢ n)) → RunsSo login t n there statement hs ts step o us
         by_number (inl low) (inl e) = at_it low.1 e
         by_number (inl low) (inr e) = elsewhere low.1 e.0 e.1
         by_number (inr high) e = not_yet high.1
 
   -- a step that dials
-  conn_line : (there : Bool) (plans : Plans) (hs ts : List Handle) (o : Outcome) (us : List Use) → DialsNext login plans hs o us ts → HasTape t (at_number ts n) → RunsSo login t n there hs ts steps.Conn o us
-  conn_line there plans hs ts o us r has = by_number (less_or n (length hs)) (same_or (length hs) n)
+  conn_line : (there : Bool) (statement : Option StatementView) (plans : Plans) (hs ts : List Handle) (o : Outcome) (us : List Use) → DialsNext login plans hs o us ts → HasTape t (at_number ts n) → RunsSo login t n there statement hs ts steps.Conn o us
+  conn_line there statement plans hs ts o us r has = by_number (less_or n (length hs)) (same_or (length hs) n)
     where
-      plain : is_missing n there steps.Conn ≡ false
-      plain = either (λ b. is_missing n b steps.Conn) refl refl there
+      plain : Plain n there (is_some statement) steps.Conn
+      plain = always n there (is_some statement) steps.Conn refl refl refl refl
 
       grown : length ts ≡ length hs + 1
       grown = ap length r.others ∙ length-append hs (r.made ∷ [])
 
-      at_it : length hs ≡ n → RunsSo login t n there hs ts steps.Conn o us
+      at_it : length hs ≡ n → RunsSo login t n there statement hs ts steps.Conn o us
       at_it e =
           let none : n - length hs ≡ zero = omega arith in
           let made_is : at_number ts n ≡ r.made = ap (at_number ts) (sym e) ∙ ap (λ (xs : List Handle). at_number xs (length hs)) r.others ∙ push_last hs r.made in
@@ -257,20 +274,20 @@ module _ (login : Login) (t : Tape) (all : AreCalls login (reading login t).call
             back = subst (HasTape t) (sym (past hs n high)) tt;
             forth = λ w placed.
                 let ahead = placed.ahead high in
-                let l : LineSo login t n r.made steps.Conn o us w = dials_so login t all n steps.Conn (plans.reads (length hs)) (plans.writes (length hs)) (plans.dials (length hs)) r.made o us (subst (HasTape t) made_is has) d w ahead.1
+                let l : LineSo login t n statement r.made steps.Conn o us w = dials_so login t all n statement steps.Conn (plans.reads (length hs)) (plans.writes (length hs)) (plans.dials (length hs)) r.made o us (subst (HasTape t) made_is has) d w ahead.1
                 (λ z uses. ap (λ s. act_of s n w.spot.next w.closed steps.Conn z uses) (ahead.0 ∙ ap status.Ahead none)) in
                 record {
                   act = l.act;
-                  act_is = other_act n there steps.Conn refl plain w.spot.status w.spot.next w.closed o (length us) ∙ l.act_is;
+                  act_is = other_act n there (is_some statement) steps.Conn refl plain w.spot.status w.spot.next w.closed o (length us) ∙ l.act_is;
                   right = l.right;
                   placed = record { there = λ _. subst (λ (h : Handle). Tied login t h (after_act login (shown_tape t) w o us l.act)) (sym made_is) l.tied; ahead = λ up. absurd (omega (arith, up, grown, e)) };
                 };
           }
 
-      by_number : ((nat_lt n (length hs) ≡ true) × (n < length hs)) ⊎ ((nat_lt n (length hs) ≡ false) × (length hs ≤ n)) → (length hs ≡ n) ⊎ (((length hs == n) ≡ false) × (length hs ≢ n)) → RunsSo login t n there hs ts steps.Conn o us
+      by_number : ((nat_lt n (length hs) ≡ true) × (n < length hs)) ⊎ ((nat_lt n (length hs) ≡ false) × (length hs ≤ n)) → (length hs ≡ n) ⊎ (((length hs == n) ≡ false) × (length hs ≢ n)) → RunsSo login t n there statement hs ts steps.Conn o us
       by_number (inl low) e =
           let lower : n < length ts = omega (arith, low.1, grown) in
-          skips_line there hs ts steps.Conn o us refl plain low.1 lower (ap (λ (xs : List Handle). at_number xs n) r.others ∙ push_before hs r.made n low.1) (λ s next closed. refl) has
+          skips_line there statement hs ts steps.Conn o us refl plain low.1 lower (ap (λ (xs : List Handle). at_number xs n) r.others ∙ push_before hs r.made n low.1) (λ s next closed. refl) has
       by_number (inr high) (inl e) = at_it e
       by_number (inr high) (inr e) =
           let other = e.1 in
@@ -278,7 +295,7 @@ module _ (login : Login) (t : Tape) (all : AreCalls login (reading login t).call
           let higher : length ts ≤ n = omega (arith, above, grown) in
           let some : (n - length hs) == 0 ≡ false = grind (arith, nat_tests) in
           let less : (n - length hs) - 1 ≡ n - length ts = omega (arith, grown) in
-          ahead_line there hs ts steps.Conn o us refl plain high.1 higher (ap (λ b. if b then dialed n o (length us) else Skips (status.Ahead ((n - length hs) - 1))) some ∙ ap (λ z. Skips (status.Ahead z)) less)
+          ahead_line there statement hs ts steps.Conn o us refl plain high.1 higher (ap (λ b. if b then dialed n o (length us) else Skips (status.Ahead ((n - length hs) - 1))) some ∙ ap (λ z. Skips (status.Ahead z)) less)
 
   -- a step of a stream that isn't there
   found_there : (f : Bool → Bool) (m : ℕ) → f true ≡ false → f false ≡ (m == n) → (there : Bool) → ((let q : Option ℕ = Some m in q) ≡ Some n → true ≡ there) → f there ≡ false
@@ -294,23 +311,22 @@ module _ (login : Login) (t : Tape) (all : AreCalls login (reading login t).call
   put_back zero (h ∷ hs) = refl
   put_back (suc m) (h ∷ hs) = ap (λ xs. h ∷ xs) (put_back m hs)
 
-  missed_line : (there : Bool) (m : ℕ) (step : Step) → target step ≡ Some m → is_missing n true step ≡ false → ((b : Bool) → is_missing n false step ≡ (m == n)) → (hs ts : List Handle) (o : Outcome) (us : List Use) → (target step ≡ Some n → false ≡ there)
-      → At m Misses hs o us ts → HasTape t (at_number ts n) → RunsSo login t n there hs ts step o us
-  missed_line there m step named first second hs ts o us same r has = by_same_number (same_or m n)
+  missed_line : (there : Bool) (statement : Option StatementView) (m : ℕ) (step : Step) → target step ≡ Some m → ((m == n) ≡ false → Plain n there (is_some statement) step)
+      → (m ≡ n → (s : Status) (next : ℕ) (closed : Bool) (o : Outcome) (uses : ℕ) → act_with there (is_some statement) s n next closed step o uses ≡ refused s o uses) → (hs ts : List Handle) (o : Outcome) (us : List Use)
+      → At m Misses hs o us ts → HasTape t (at_number ts n) → RunsSo login t n there statement hs ts step o us
+  missed_line there statement m step named plain misses hs ts o us r has = by_same_number (same_or m n)
     where
       unmoved : ts ≡ hs
       unmoved = r.others ∙ ap (λ (h : Handle). put_at m h hs) r.does.same ∙ put_back m hs
 
-      by_same_number : (m ≡ n) ⊎ (((m == n) ≡ false) × (m ≢ n)) → RunsSo login t n there hs ts step o us
-      by_same_number (inr other) = named_line there m Misses step (either (λ b. is_missing n b step) first (second true ∙ other.0) there) named (λ z vs made e. e) hs ts o us (λ made h d e. absurd (other.1 e)) r has
+      by_same_number : (m ≡ n) ⊎ (((m == n) ≡ false) × (m ≢ n)) → RunsSo login t n there statement hs ts step o us
+      by_same_number (inr other) = named_line there statement m Misses step (plain other.0) named (λ z vs made e. e) hs ts o us (λ made h d e. absurd (other.1 e)) r has
       by_same_number (inl is) = record {
         back = subst (λ (xs : List Handle). HasTape t (at_number xs n)) unmoved has;
         forth = λ w placed. record {
           act = Skips w.spot.status;
           act_is =
-              let here : is_missing n there step ≡ true = ap (λ b. is_missing n b step) (sym (same (named ∙ ap Some is))) ∙ second true ∙ ap (λ z. z == n) is ∙ same_number n in
-              ap (λ b. if b then moved w.spot.status o (length us) else if is_missing n there step then refused w.spot.status o (length us) else act_of w.spot.status n w.spot.next w.closed step o (length us)) (names_one step m named)
-              ∙ ap (λ b. if b then refused w.spot.status o (length us) else act_of w.spot.status n w.spot.next w.closed step o (length us)) here
+              misses is w.spot.status w.spot.next w.closed o (length us)
               ∙ ap (λ (z : Outcome). refused w.spot.status z (length us)) r.does.outcome
               ∙ ap (λ (vs : List Use). refused w.spot.status outcomes.NoSuchHandle (length vs)) r.does.uses;
           right = tt;
@@ -318,14 +334,31 @@ module _ (login : Login) (t : Tape) (all : AreCalls login (reading login t).call
         };
       }
 
+  -- of a stream
+  streamless : (there prepared : Bool) (m : ℕ) (step : Step) → target step ≡ Some m → ((b : Bool) → is_missing n false step ≡ (m == n)) → (target step ≡ Some n → false ≡ there)
+      → m ≡ n → (s : Status) (next : ℕ) (closed : Bool) (o : Outcome) (uses : ℕ) → act_with there prepared s n next closed step o uses ≡ refused s o uses
+  streamless there prepared m step named second same is s next closed o uses =
+      let here : is_missing n there step ≡ true = ap (λ b. is_missing n b step) (sym (same (named ∙ ap Some is))) ∙ second true ∙ ap (λ z. z == n) is ∙ same_number n in
+      ap (λ b. acted b (is_missing n there step) (is_unprepared n prepared step) s n next closed step o uses) (names_one step m named)
+      ∙ ap (λ b. acted false b (is_unprepared n prepared step) s n next closed step o uses) here
+
+  -- of a statement
+  unprepared : (there : Bool) (m : ℕ) (step : Step) → target step ≡ Some m → ((b : Bool) → is_missing n b step ≡ false) → is_unprepared n false step ≡ (m == n)
+      → m ≡ n → (s : Status) (next : ℕ) (closed : Bool) (o : Outcome) (uses : ℕ) → act_with there false s n next closed step o uses ≡ refused s o uses
+  unprepared there m step named plain second is s next closed o uses =
+      let here : is_unprepared n false step ≡ true = second ∙ ap (λ z. z == n) is ∙ same_number n in
+      ap (λ b. acted b (is_missing n there step) (is_unprepared n false step) s n next closed step o uses) (names_one step m named)
+      ∙ ap (λ b. acted false b (is_unprepared n false step) s n next closed step o uses) (plain there)
+      ∙ ap (λ b. acted false false b s n next closed step o uses) here
+
   -- a step that moves the world
-  moved_line : (there : Bool) (hs ts : List Handle) (step : Step) (o : Outcome) (us : List Use) → moves_world step ≡ true → Moves hs o us ts → HasTape t (at_number ts n) → RunsSo login t n there hs ts step o us
-  moved_line there hs ts step o us moving r has = record {
+  moved_line : (there : Bool) (statement : Option StatementView) (hs ts : List Handle) (step : Step) (o : Outcome) (us : List Use) → moves_world step ≡ true → Moves hs o us ts → HasTape t (at_number ts n) → RunsSo login t n there statement hs ts step o us
+  moved_line there statement hs ts step o us moving r has = record {
     back = subst (λ (xs : List Handle). HasTape t (at_number xs n)) r.same has;
     forth = λ w placed. record {
       act = Skips w.spot.status;
       act_is =
-          ap (λ b. if b then moved w.spot.status o (length us) else if is_missing n there step then refused w.spot.status o (length us) else act_of w.spot.status n w.spot.next w.closed step o (length us)) moving
+          ap (λ b. acted b (is_missing n there step) (is_unprepared n (is_some statement) step) w.spot.status n w.spot.next w.closed step o (length us)) moving
           ∙ ap (λ (z : Outcome). moved w.spot.status z (length us)) r.outcome
           ∙ ap (λ (vs : List Use). moved w.spot.status outcomes.Done (length vs)) r.uses;
       right = tt;
@@ -334,34 +367,50 @@ module _ (login : Login) (t : Tape) (all : AreCalls login (reading login t).call
   }
 
   -- each step
-  pub line_so : (there found : Bool) (plans : Plans) (hs ts : List Handle) (step : Step) (o : Outcome) (us : List Use) → (target step ≡ Some n → found ≡ there) → AreOnce hs → StepGrows login plans found hs step o us ts → HasTape t (at_number ts n)
-      → RunsSo login t n there hs ts step o us
-  line_so there found plans hs ts steps.Conn o us same once r has = conn_line there plans hs ts o us r has
-  line_so there found plans hs ts (steps.Query m text) o us same once r has = named_line there m _ (steps.Query m text) (either (λ b. is_missing n b (steps.Query m text)) refl refl there) refl (λ z vs made e. e) hs ts o us
-      (λ made h d e. subst (λ z. StepSo login t z (at_number hs m) made (steps.Query m text) o us) e (calls_so login t all m (steps.Query m text) (calls.Query text) (asks_query m text) (at_number hs m) made o us h d)) r has
-  line_so there found plans hs ts (steps.Next m) o us same once r has = named_line there m _ (steps.Next m) (either (λ b. is_missing n b (steps.Next m)) refl refl there) refl (λ z vs made e. e) hs ts o us
-      (λ made h d e. subst (λ z. StepSo login t z (at_number hs m) made (steps.Next m) o us) e (calls_so login t all m (steps.Next m) calls.NextRow (asks_next m) (at_number hs m) made o us h d)) r has
-  line_so there found plans hs ts (steps.Collect m) o us same once r has = named_line there m _ (steps.Collect m) (either (λ b. is_missing n b (steps.Collect m)) refl refl there) refl (λ z vs made e. e) hs ts o us
-      (λ made h d e. subst (λ z. StepSo login t z (at_number hs m) made (steps.Collect m) o us) e (collects_so login t all m (at_number hs m) made o us h d)) r has
-  line_so there found plans hs ts (steps.Drop m) o us same once r has = named_line there m _ (steps.Drop m) (either (λ b. is_missing n b (steps.Drop m)) refl refl there) refl (λ z vs made e. e) hs ts o us
-      (λ made h d e. subst (λ z. StepSo login t z (at_number hs m) made (steps.Drop m) o us) e (calls_so login t all m (steps.Drop m) calls.DropResult (asks_drop m) (at_number hs m) made o us h d)) r has
-  line_so there found plans hs ts (steps.Ping m) o us same once r has = named_line there m _ (steps.Ping m) (either (λ b. is_missing n b (steps.Ping m)) refl refl there) refl (λ z vs made e. e) hs ts o us
-      (λ made h d e. subst (λ z. StepSo login t z (at_number hs m) made (steps.Ping m) o us) e (calls_so login t all m (steps.Ping m) calls.Ping (asks_ping m) (at_number hs m) made o us h d)) r has
-  line_so there found plans hs ts (steps.Quit m) o us same once r has = named_line there m _ (steps.Quit m) (either (λ b. is_missing n b (steps.Quit m)) refl refl there) refl (λ z vs made e. e) hs ts o us
-      (λ made h d e. subst (λ z. StepSo login t z (at_number hs m) made (steps.Quit m) o us) e (calls_so login t all m (steps.Quit m) calls.Quit (asks_quit m) (at_number hs m) made o us h d)) r has
-  line_so there found plans hs ts (steps.Stream m) o us same once r has = named_line there m _ (steps.Stream m) (either (λ b. is_missing n b (steps.Stream m)) refl refl there) refl (λ z vs made e. e) hs ts o us
-      (λ made h d e. subst (λ z. StepSo login t z (at_number hs m) made (steps.Stream m) o us) e (streams_so login t all m (at_number hs m) made o us h d)) r has
-  line_so there true plans hs ts (steps.Item m) o us same once r has = named_line there m _ (steps.Item m) (found_there (λ b. is_missing n b (steps.Item m)) m refl refl there same) refl (λ z vs made e. e) hs ts o us
-      (λ made h d e. subst (λ z. StepSo login t z (at_number hs m) made (steps.Item m) o us) e (calls_so login t all m (steps.Item m) calls.NextRow (asks_item m) (at_number hs m) made o us h d)) r has
-  line_so there false plans hs ts (steps.Item m) o us same once r has = missed_line there m (steps.Item m) refl refl (λ b. refl) hs ts o us same r has
-  line_so there true plans hs ts (steps.Unstream m) o us same once r has = named_line there m _ (steps.Unstream m) (found_there (λ b. is_missing n b (steps.Unstream m)) m refl refl there same) refl (λ z vs made e. e) hs ts o us
-      (λ made h d e. subst (λ z. StepSo login t z (at_number hs m) made (steps.Unstream m) o us) e (lets_go_so login t all m (at_number hs m) made o us h d)) r has
-  line_so there false plans hs ts (steps.Unstream m) o us same once r has = missed_line there m (steps.Unstream m) refl refl (λ b. refl) hs ts o us same r has
-  line_so there found plans hs ts (steps.Fields m) o us same once r has = named_line there m _ (steps.Fields m) (either (λ b. is_missing n b (steps.Fields m)) refl refl there) refl (λ z vs made e. e) hs ts o us
-      (λ made h d e. subst (λ z. StepSo login t z (at_number hs m) made (steps.Fields m) o us) e (tells_so login t all m (at_number hs m) made o us h d)) r has
-  line_so there found plans hs ts (steps.Poll m) o us same once r has = named_line there m _ (steps.Poll m) (either (λ b. is_missing n b (steps.Poll m)) refl refl there) refl (λ z vs made e. e) hs ts o us
-      (λ made h d e. subst (λ z. StepSo login t z (at_number hs m) made (steps.Poll m) o us) e (goes_on_so login t all m plans (at_number hs m) made o us (at_once login hs m once) h d)) r has
-  line_so there found plans hs ts (steps.Cancel m) o us same once r has = named_line there m _ (steps.Cancel m) (either (λ b. is_missing n b (steps.Cancel m)) refl refl there) refl (λ z vs made e. e) hs ts o us
-      (λ made h d e. subst (λ z. StepSo login t z (at_number hs m) made (steps.Cancel m) o us) e (cancels_so login t all m (at_number hs m) made o us (at_once login hs m once) h d)) r has
-  line_so there found plans hs ts (steps.Advance by) o us same once r has = moved_line there hs ts (steps.Advance by) o us refl r has
-  line_so there found plans hs ts (steps.Random word) o us same once r has = moved_line there hs ts (steps.Random word) o us refl r has
+  pub line_so : (there found : Bool) (statement : Option StatementView) (plans : Plans) (hs ts : List Handle) (step : Step) (o : Outcome) (us : List Use) → (target step ≡ Some n → found ≡ there) → AreOnce hs → StepGrows login plans found statement hs step o us ts → HasTape t (at_number ts n)
+      → RunsSo login t n there statement hs ts step o us
+  line_so there found statement plans hs ts steps.Conn o us same once r has = conn_line there statement plans hs ts o us r has
+  line_so there found statement plans hs ts (steps.Query m text) o us same once r has = named_line there statement m _ (steps.Query m text) (always n there (is_some statement) (steps.Query m text) refl refl refl refl) refl (λ z vs made e. e) hs ts o us
+      (λ made h d e. subst (λ z. StepSo login t z statement (at_number hs m) made (steps.Query m text) o us) e (calls_so login t all m statement (steps.Query m text) (calls.Query text) (asks_query m statement text) (at_number hs m) made o us h d)) r has
+  line_so there found statement plans hs ts (steps.Prepare m text) o us same once r has = named_line there statement m _ (steps.Prepare m text) (always n there (is_some statement) (steps.Prepare m text) refl refl refl refl) refl (λ z vs made e. e) hs ts o us
+      (λ made h d e. subst (λ z. StepSo login t z statement (at_number hs m) made (steps.Prepare m text) o us) e (calls_so login t all m statement (steps.Prepare m text) (calls.Prepare text) (asks_prepare m statement text) (at_number hs m) made o us h d)) r has
+  line_so there found (Some prepared) plans hs ts (steps.Execute m number params) o us same once r has = named_line there (Some prepared) m _ (steps.Execute m number params) (record { streams = either (λ b. is_missing n b (steps.Execute m number params)) refl refl there; statements = refl }) refl (λ z vs made e. e) hs ts o us
+      (λ made h d e. subst (λ z. StepSo login t z (Some prepared) (at_number hs m) made (steps.Execute m number params) o us) e (calls_so login t all m (Some prepared) (steps.Execute m number params) (calls.Execute prepared params) (asks_execute m prepared number params) (at_number hs m) made o us h d)) r has
+  line_so there found None plans hs ts (steps.Execute m number params) o us same once r has = missed_line there None m (steps.Execute m number params) refl
+      (λ other. record { streams = either (λ b. is_missing n b (steps.Execute m number params)) refl refl there; statements = other })
+      (unprepared there m (steps.Execute m number params) refl (either (λ b. is_missing n b (steps.Execute m number params)) refl refl) refl) hs ts o us r has
+  line_so there found (Some prepared) plans hs ts (steps.CloseStatement m number) o us same once r has = named_line there (Some prepared) m _ (steps.CloseStatement m number) (record { streams = either (λ b. is_missing n b (steps.CloseStatement m number)) refl refl there; statements = refl }) refl (λ z vs made e. e) hs ts o us
+      (λ made h d e. subst (λ z. StepSo login t z (Some prepared) (at_number hs m) made (steps.CloseStatement m number) o us) e (calls_so login t all m (Some prepared) (steps.CloseStatement m number) (calls.CloseStmt prepared.inner.id) (asks_close m prepared number) (at_number hs m) made o us h d)) r has
+  line_so there found None plans hs ts (steps.CloseStatement m number) o us same once r has = missed_line there None m (steps.CloseStatement m number) refl
+      (λ other. record { streams = either (λ b. is_missing n b (steps.CloseStatement m number)) refl refl there; statements = other })
+      (unprepared there m (steps.CloseStatement m number) refl (either (λ b. is_missing n b (steps.CloseStatement m number)) refl refl) refl) hs ts o us r has
+  line_so there found statement plans hs ts (steps.Next m) o us same once r has = named_line there statement m _ (steps.Next m) (always n there (is_some statement) (steps.Next m) refl refl refl refl) refl (λ z vs made e. e) hs ts o us
+      (λ made h d e. subst (λ z. StepSo login t z statement (at_number hs m) made (steps.Next m) o us) e (calls_so login t all m statement (steps.Next m) calls.NextRow (asks_next m statement) (at_number hs m) made o us h d)) r has
+  line_so there found statement plans hs ts (steps.Collect m) o us same once r has = named_line there statement m _ (steps.Collect m) (always n there (is_some statement) (steps.Collect m) refl refl refl refl) refl (λ z vs made e. e) hs ts o us
+      (λ made h d e. subst (λ z. StepSo login t z statement (at_number hs m) made (steps.Collect m) o us) e (collects_so login t all m statement (at_number hs m) made o us h d)) r has
+  line_so there found statement plans hs ts (steps.Drop m) o us same once r has = named_line there statement m _ (steps.Drop m) (always n there (is_some statement) (steps.Drop m) refl refl refl refl) refl (λ z vs made e. e) hs ts o us
+      (λ made h d e. subst (λ z. StepSo login t z statement (at_number hs m) made (steps.Drop m) o us) e (calls_so login t all m statement (steps.Drop m) calls.DropResult (asks_drop m statement) (at_number hs m) made o us h d)) r has
+  line_so there found statement plans hs ts (steps.Ping m) o us same once r has = named_line there statement m _ (steps.Ping m) (always n there (is_some statement) (steps.Ping m) refl refl refl refl) refl (λ z vs made e. e) hs ts o us
+      (λ made h d e. subst (λ z. StepSo login t z statement (at_number hs m) made (steps.Ping m) o us) e (calls_so login t all m statement (steps.Ping m) calls.Ping (asks_ping m statement) (at_number hs m) made o us h d)) r has
+  line_so there found statement plans hs ts (steps.Quit m) o us same once r has = named_line there statement m _ (steps.Quit m) (always n there (is_some statement) (steps.Quit m) refl refl refl refl) refl (λ z vs made e. e) hs ts o us
+      (λ made h d e. subst (λ z. StepSo login t z statement (at_number hs m) made (steps.Quit m) o us) e (calls_so login t all m statement (steps.Quit m) calls.Quit (asks_quit m statement) (at_number hs m) made o us h d)) r has
+  line_so there found statement plans hs ts (steps.Stream m) o us same once r has = named_line there statement m _ (steps.Stream m) (always n there (is_some statement) (steps.Stream m) refl refl refl refl) refl (λ z vs made e. e) hs ts o us
+      (λ made h d e. subst (λ z. StepSo login t z statement (at_number hs m) made (steps.Stream m) o us) e (streams_so login t all m statement (at_number hs m) made o us h d)) r has
+  line_so there true statement plans hs ts (steps.Item m) o us same once r has = named_line there statement m _ (steps.Item m) (record { streams = found_there (λ b. is_missing n b (steps.Item m)) m refl refl there same; statements = either (λ b. is_unprepared n b (steps.Item m)) refl refl (is_some statement) }) refl (λ z vs made e. e) hs ts o us
+      (λ made h d e. subst (λ z. StepSo login t z statement (at_number hs m) made (steps.Item m) o us) e (calls_so login t all m statement (steps.Item m) calls.NextRow (asks_item m statement) (at_number hs m) made o us h d)) r has
+  line_so there false statement plans hs ts (steps.Item m) o us same once r has = missed_line there statement m (steps.Item m) refl
+      (λ other. record { streams = either (λ b. is_missing n b (steps.Item m)) refl other there; statements = either (λ b. is_unprepared n b (steps.Item m)) refl refl (is_some statement) })
+      (streamless there (is_some statement) m (steps.Item m) refl (λ b. refl) same) hs ts o us r has
+  line_so there true statement plans hs ts (steps.Unstream m) o us same once r has = named_line there statement m _ (steps.Unstream m) (record { streams = found_there (λ b. is_missing n b (steps.Unstream m)) m refl refl there same; statements = either (λ b. is_unprepared n b (steps.Unstream m)) refl refl (is_some statement) }) refl (λ z vs made e. e) hs ts o us
+      (λ made h d e. subst (λ z. StepSo login t z statement (at_number hs m) made (steps.Unstream m) o us) e (lets_go_so login t all m statement (at_number hs m) made o us h d)) r has
+  line_so there false statement plans hs ts (steps.Unstream m) o us same once r has = missed_line there statement m (steps.Unstream m) refl
+      (λ other. record { streams = either (λ b. is_missing n b (steps.Unstream m)) refl other there; statements = either (λ b. is_unprepared n b (steps.Unstream m)) refl refl (is_some statement) })
+      (streamless there (is_some statement) m (steps.Unstream m) refl (λ b. refl) same) hs ts o us r has
+  line_so there found statement plans hs ts (steps.Fields m) o us same once r has = named_line there statement m _ (steps.Fields m) (always n there (is_some statement) (steps.Fields m) refl refl refl refl) refl (λ z vs made e. e) hs ts o us
+      (λ made h d e. subst (λ z. StepSo login t z statement (at_number hs m) made (steps.Fields m) o us) e (tells_so login t all m statement (at_number hs m) made o us h d)) r has
+  line_so there found statement plans hs ts (steps.Poll m) o us same once r has = named_line there statement m _ (steps.Poll m) (always n there (is_some statement) (steps.Poll m) refl refl refl refl) refl (λ z vs made e. e) hs ts o us
+      (λ made h d e. subst (λ z. StepSo login t z statement (at_number hs m) made (steps.Poll m) o us) e (goes_on_so login t all m statement plans (at_number hs m) made o us (at_once login hs m once) h d)) r has
+  line_so there found statement plans hs ts (steps.Cancel m) o us same once r has = named_line there statement m _ (steps.Cancel m) (always n there (is_some statement) (steps.Cancel m) refl refl refl refl) refl (λ z vs made e. e) hs ts o us
+      (λ made h d e. subst (λ z. StepSo login t z statement (at_number hs m) made (steps.Cancel m) o us) e (cancels_so login t all m statement (at_number hs m) made o us (at_once login hs m once) h d)) r has
+  line_so there found statement plans hs ts (steps.Advance by) o us same once r has = moved_line there statement hs ts (steps.Advance by) o us refl r has
+  line_so there found statement plans hs ts (steps.Random word) o us same once r has = moved_line there statement hs ts (steps.Random word) o us refl r has

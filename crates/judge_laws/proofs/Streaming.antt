@@ -1,5 +1,6 @@
 -- A step that takes a set for a stream, or lets a stream go.
 use Rattle.std.proofs.Common.{◌≡◌, ℕ, ◌+◌, List, [], ◌∷◌, ◌++◌, length, slice_get, map, Bool, true, false, not, ◌&&◌, ◌||◌, Option, Some, None, refl, sym, ap, ◌∙◌, subst, if◌then◌else◌}
+use Rattle.my_statements.specs.Prepared.{StatementView}
 use Rattle.my_grammar.specs.declared.login.Login.{Login}
 use Rattle.my_link.specs.declared.met.Met.{Met}
 use Rattle.my_link.specs.Looks.{Looks}
@@ -52,6 +53,9 @@ use Rattle.judge_laws.proofs.Stepping.{LineSo, OnceSo, Spotted, StepSo, absent_s
 pub skip_call : (call : Call) → is_skip (kind_of call) ≡ true → call ≡ calls.SkipTaken
 skip_call calls.Connect e = cc
 skip_call (calls.Query text) e = cc
+skip_call (calls.Prepare text) e = cc
+skip_call (calls.Execute statement params) e = cc
+skip_call (calls.CloseStmt id) e = cc
 skip_call calls.NextRow e = cc
 skip_call calls.DropResult e = cc
 skip_call calls.TakeSet e = cc
@@ -64,6 +68,7 @@ skip_ready answers.Ready e = refl
 skip_ready (answers.Row row) e = cc
 skip_ready answers.SetEnd e = cc
 skip_ready answers.NoSet e = cc
+skip_ready (answers.Stmt statement) e = cc
 
 -- the call that takes a set returns that it is done, or that nothing is left
 take_acts : (answer : Answer) → may_be (kind_of calls.TakeSet) (told answer) ≡ true → taking (shown (after.Answered answer)) Polls ≡ polled (shown (after.Answered answer))
@@ -71,18 +76,21 @@ take_acts answers.Ready e = refl
 take_acts (answers.Row row) e = cc
 take_acts answers.SetEnd e = cc
 take_acts answers.NoSet e = refl
+take_acts (answers.Stmt statement) e = cc
 
 taken_line : (answer : Answer) → may_be (kind_of calls.TakeSet) (told answer) ≡ true → taking (shown (after.Answered answer)) TakesLine ≡ TakesLine status.Idle
 taken_line answers.Ready e = refl
 taken_line (answers.Row row) e = cc
 taken_line answers.SetEnd e = cc
 taken_line answers.NoSet e = refl
+taken_line (answers.Stmt statement) e = cc
 
 answered_idle : (answer : Answer) → is_pending (shown (after.Answered answer)) ≡ false
 answered_idle answers.Ready = refl
 answered_idle (answers.Row row) = refl
 answered_idle answers.SetEnd = refl
 answered_idle answers.NoSet = refl
+answered_idle (answers.Stmt statement) = refl
 
 module _ (login : Login) where
   one_take : (a : Asked) (f end : Kept) (u : Met) (stop : LinkStop) (p : After) → a.call ≡ calls.TakeSet → PollEnds login a f u stop p end → taking (shown p) Polls ≡ polled (shown p)
@@ -115,26 +123,26 @@ was_open login k b a answer same some skip ready comes = by_closed (has_closed (
         let shut = stop_closed login b a some (ap (λ ds. has_closed (made_of ds)) same ∙ e) in
         absurd (let no : (let s : Option Stop = Some (Returns ToldReady) in s) ≡ Some (Returns (ToldError connection_closed)) = sym (comes ∙ ap (λ x. Some (Returns (told x))) ready) ∙ shut ∙ ap (λ c. Some (Returns (closed_answer c))) skip in cc)
 
-module _ (login : Login) (t : Tape) (all : AreCalls login (reading login t).calls) (n : ℕ) (step : Step) (named : target step ≡ Some n) where
+module _ (login : Login) (t : Tape) (all : AreCalls login (reading login t).calls) (n : ℕ) (statement : Option StatementView) (step : Step) (named : target step ≡ Some n) where
   -- the rest of a set is passed over, and a set is taken then
   pub record SkipsSo (k : Kept) (made : Handle) (o : Outcome) (us : List Use) : Type 0 where
     pub back : HasRest t k
     pub forth : (w : Walk) → AtWalk login k w → act_of w.spot.status n w.spot.next w.closed step outcomes.Pending 1 ≡ Polls status.Open
         → ((e : Error) → act_of w.spot.status n w.spot.next w.closed step (outcomes.Failed e) 1 ≡ Polls status.Idle)
         → ((z : Outcome) → act_of w.spot.status n w.spot.next w.closed step z 2 ≡ taking z TakesLine)
-        → IsBegun (begun_in w step) (slice_get (map shown_call t.calls) w.spot.next) → LineSo login t n made step o us w
+        → IsBegun (begun_in statement w step) (slice_get (map shown_call t.calls) w.spot.next) → LineSo login t n statement made step o us w
 
   module _ (k : Kept) (a : Asked) (x : Looks) (made : Handle) (o : Outcome) (kp : k.pending ≡ Some a) (nr : a.rows ≡ None) (skip : a.call ≡ calls.SkipTaken) (has : HasTape t made) where
     -- the first poll is the last one
     held : (us : List Use) (r : PolledOnce login n a k x o us made) → shown r.after ≡ outcomes.Pending → SkipsSo k made o us
     held us r is =
-        let s : OnceSo login t all n step named k made o us = once_so login t all n step named k a x made o us kp nr has r (subst (λ z. MayEnd z a.call) (sym is) tt) in
+        let s : OnceSo login t all n statement step named k made o us = once_so login t all n statement step named k a x made o us kp nr has r (subst (λ z. MayEnd z a.call) (sym is) tt) in
         let o_is : o ≡ outcomes.Pending = r.outcome ∙ is in
         record { back = s.back; forth = λ w at pends fails twice begun. s.forth w at (subst (λ z. act_of w.spot.status n w.spot.next w.closed step z 1 ≡ polled z) (sym o_is) pends) begun }
 
     failed : (us : List Use) (e : Error) (r : PolledOnce login n a k x o us made) → shown r.after ≡ outcomes.Failed e → SkipsSo k made o us
     failed us e r is =
-        let s : OnceSo login t all n step named k made o us = once_so login t all n step named k a x made o us kp nr has r (subst (λ z. MayEnd z a.call) (sym is) tt) in
+        let s : OnceSo login t all n statement step named k made o us = once_so login t all n statement step named k a x made o us kp nr has r (subst (λ z. MayEnd z a.call) (sym is) tt) in
         let o_is : o ≡ outcomes.Failed e = r.outcome ∙ is in
         record { back = s.back; forth = λ w at pends fails twice begun. s.forth w at (subst (λ z. act_of w.spot.status n w.spot.next w.closed step z 1 ≡ polled z) (sym o_is) (fails e)) begun }
 
@@ -167,10 +175,10 @@ module _ (login : Login) (t : Tape) (all : AreCalls login (reading login t).call
                 let at_next : AtWalk login next shut = at_begin login end calls.TakeSet None shut none at_end in
                 let z : Outcome = shown q.after in
                 let s : LastSo login t all asked next q.end y q.link q.used q.after refl q.polled h n q.number shut at_next z shut.spot.next =
-                last_poll login t all asked next q.end y q.link q.used q.after refl q.polled h n q.number shut at_next z shut.spot.next (may_end z calls.TakeSet refl) (shown_by login t all n step named q.after _) in
-                subst (λ (m : Handle). LineSo login t n m step o (u ∷ vs) w) (sym q.left)
-                (subst (λ (xs : List Use). LineSo login t n (Joined true q.end q.link) step o (u ∷ xs) w) (sym q.uses)
-                (subst (λ (v : Outcome). LineSo login t n (Joined true q.end q.link) step v (u ∷ q.used ∷ []) w) (sym q.outcome) (record {
+                last_poll login t all asked next q.end y q.link q.used q.after refl q.polled h n q.number shut at_next z shut.spot.next (may_end z calls.TakeSet refl) (shown_by login t all n statement step named q.after _) in
+                subst (λ (m : Handle). LineSo login t n statement m step o (u ∷ vs) w) (sym q.left)
+                (subst (λ (xs : List Use). LineSo login t n statement (Joined true q.end q.link) step o (u ∷ xs) w) (sym q.uses)
+                (subst (λ (v : Outcome). LineSo login t n statement (Joined true q.end q.link) step v (u ∷ q.used ∷ []) w) (sym q.outcome) (record {
                   act = TakesLine (if is_pending z then status.Open else status.Idle);
                   act_is = twice z ∙ two_take login asked q.polled.following q.end q.used.met q.polled.stop q.after refl q.polled.ends;
                   right = (
@@ -184,7 +192,7 @@ module _ (login : Login) (t : Tape) (all : AreCalls login (reading login t).call
                       s.right,
                     ),
                   );
-                  tied = (shown_spot login t all n step named asked q.polled.following q.end q.used.met q.polled.stop q.after refl q.polled.pending q.polled.ends (after_last_poll login (shown_tape t) z q.used shut).spot, s.after_is);
+                  tied = (shown_spot login t all n statement step named asked q.polled.following q.end q.used.met q.polled.stop q.after refl q.polled.pending q.polled.ends (after_last_poll login (shown_tape t) z q.used shut).spot, s.after_is);
                 })));
           }
 
@@ -247,7 +255,7 @@ module _ (login : Login) (t : Tape) (all : AreCalls login (reading login t).call
     skips_so r = by_after r r.skips.after refl
 
 -- a stream's step
-module _ (login : Login) (t : Tape) (all : AreCalls login (reading login t).calls) (n : ℕ) where
+module _ (login : Login) (t : Tape) (all : AreCalls login (reading login t).calls) (n : ℕ) (statement : Option StatementView) where
   abbrev step : Step
   step = steps.Stream n
 
@@ -273,24 +281,24 @@ module _ (login : Login) (t : Tape) (all : AreCalls login (reading login t).call
         here_act status.Idle w.spot.status n w.spot.next w.closed step z uses refl (subst (λ q. Spotted t true q w.spot) none s) refl
         ∙ ap (λ c. streamed c z uses) (at.closed_is ∙ shut)
 
-    at_once : (b : Bool) → has_closed (made_of k.calls) ≡ b → skips_first login k ≡ false → Begins b login n calls.TakeSet k x o us made → StepSo login t n (Joined true k x) made step o us
+    at_once : (b : Bool) → has_closed (made_of k.calls) ≡ b → skips_first login k ≡ false → Begins b login n calls.TakeSet k x o us made → StepSo login t n statement (Joined true k x) made step o us
     at_once true shut first r =
-        closed_so login t all n step refl calls.TakeSet k x made o us none has r
-        (λ w at. ap (λ b. begun_by b step) (taken_at w at ∙ first))
+        closed_so login t all n statement step refl calls.TakeSet k x made o us none has r
+        (λ w at. ap (λ b. begun_by b statement step) (taken_at w at ∙ first))
         (λ w at e is. ap (λ b. streamed b (outcomes.Failed connection_closed) 0) (at.closed_is ∙ shut))
     at_once false shut first r =
         let f = asking k calls.TakeSet None in
         let a = asked_by k calls.TakeSet in
-        let s : OnceSo login t all n step refl f made o us = once_so login t all n step refl f a x made o us refl refl has r (may_end (shown r.after) calls.TakeSet refl) in
+        let s : OnceSo login t all n statement step refl f made o us = once_so login t all n statement step refl f a x made o us refl refl has r (may_end (shown r.after) calls.TakeSet refl) in
         record {
           back = (s.back.0, before_begin t k calls.TakeSet None s.back.0 none s.back.1);
           forth = λ w tied.
               let once : taking o Polls ≡ polled o = subst (λ z. taking z Polls ≡ polled z) (sym r.outcome) (one_take login a r.polled.following r.end r.used.met r.polled.stop r.after refl r.polled.ends) in
               s.forth w (at_begin login k calls.TakeSet None w none tied.1) (acts w tied.0 tied.1 false shut o 1 ∙ once)
-              (subst (λ b. IsBegun b (slice_get (map shown_call t.calls) w.spot.next)) (sym (ap (λ b. begun_by b step) (taken_at w tied.1 ∙ first))) (begins_here t f a w.spot.next tied.1.next_is refl s.back));
+              (subst (λ b. IsBegun b (slice_get (map shown_call t.calls) w.spot.next)) (sym (ap (λ b. begun_by b statement step) (taken_at w tied.1 ∙ first))) (begins_here t f a w.spot.next tied.1.next_is refl s.back));
         }
 
-    plain : skips_first login k ≡ false → (q : Option Asked) → k.pending ≡ q → BeginsOn q login n calls.TakeSet k x o us made → StepSo login t n (Joined true k x) made step o us
+    plain : skips_first login k ≡ false → (q : Option Asked) → k.pending ≡ q → BeginsOn q login n calls.TakeSet k x o us made → StepSo login t n statement (Joined true k x) made step o us
     plain first None e r = at_once (has_closed (made_of k.calls)) refl first (subst (λ b. Begins b login n calls.TakeSet k x o us made) (refused_by (has_closed (made_of k.calls))) r)
     plain first (Some a) e r = absurd (let no : None ≡ Some a = sym none ∙ e in cc)
 
@@ -313,51 +321,51 @@ module _ (login : Login) (t : Tape) (all : AreCalls login (reading login t).call
       skip_begun None z vs mid e r = begun_skip _ z vs mid refl r
       skip_begun (Some b) z vs mid e r = absurd (let no : None ≡ Some b = sym none ∙ e in cc)
 
-      skipping : Skips (Calls login n calls.SkipTaken (Joined true k x)) login n o us made → StepSo login t n (Joined true k x) made step o us
+      skipping : Skips (Calls login n calls.SkipTaken (Joined true k x)) login n o us made → StepSo login t n statement (Joined true k x) made step o us
       skipping r =
           let g : Skips (PolledOnce login n a f x) login n o us made = record { first = r.first; used = r.used; mid = r.mid; skips = skip_begun k.pending r.first r.used r.mid refl r.skips; later = r.later; uses = r.uses; takes = r.takes } in
-          let s : SkipsSo login t all n step refl f made o us = skips_so login t all n step refl f a x made o us refl refl refl has g in
+          let s : SkipsSo login t all n statement step refl f made o us = skips_so login t all n statement step refl f a x made o us refl refl refl has g in
           record {
             back = (s.back.0, before_begin t k calls.SkipTaken None s.back.0 none s.back.1);
             forth = λ w tied.
                 let act = acts w tied.0 tied.1 false alive in
                 s.forth w (at_begin login k calls.SkipTaken None w none tied.1) (act outcomes.Pending 1) (λ e. act (outcomes.Failed e) 1) (λ z. act z 2)
-                (subst (λ b. IsBegun b (slice_get (map shown_call t.calls) w.spot.next)) (sym (ap (λ b. begun_by b step) (taken_at w tied.1 ∙ first))) (begins_here t f a w.spot.next tied.1.next_is refl s.back));
+                (subst (λ b. IsBegun b (slice_get (map shown_call t.calls) w.spot.next)) (sym (ap (λ b. begun_by b statement step) (taken_at w tied.1 ∙ first))) (begins_here t f a w.spot.next tied.1.next_is refl s.back));
           }
 
-    takes : (b : Bool) → skips_first login k ≡ b → Takes b login n (Joined true k x) o us made → StepSo login t n (Joined true k x) made step o us
+    takes : (b : Bool) → skips_first login k ≡ b → Takes b login n (Joined true k x) o us made → StepSo login t n statement (Joined true k x) made step o us
     takes true first r = skipping first r
     takes false first r = plain first k.pending refl r
 
-  takes_on : (q : Option Asked) (k : Kept) (x : Looks) (made : Handle) (o : Outcome) (us : List Use) → k.pending ≡ q → HasTape t made → TakesOn q login n k x o us made → StepSo login t n (Joined true k x) made step o us
+  takes_on : (q : Option Asked) (k : Kept) (x : Looks) (made : Handle) (o : Outcome) (us : List Use) → k.pending ≡ q → HasTape t made → TakesOn q login n k x o us made → StepSo login t n statement (Joined true k x) made step o us
   takes_on None k x made o us e has r = takes k x made o us e has (skips_first login k) refl r
-  takes_on (Some a) k x made o us e has r = open_so login t all n step refl k x a made o us e (λ next. refl) (λ first next. refl) has r
+  takes_on (Some a) k x made o us e has r = open_so login t all n statement step refl k x a made o us e (λ next. refl) (λ first next. refl) has r
 
-  pub streams_so : (h made : Handle) (o : Outcome) (us : List Use) → HasTape t made → StreamsAt login n h o us made → StepSo login t n h made step o us
-  streams_so Absent made o us has r = absent_so login t all n step refl made o us has r
-  streams_so (Dialing left) made o us has r = dialing_so login t all n step refl left made o us refl has r
-  streams_so (Joined false k x) made o us has r = gone_so login t all n step refl k x made o us has r
+  pub streams_so : (h made : Handle) (o : Outcome) (us : List Use) → HasTape t made → StreamsAt login n h o us made → StepSo login t n statement h made step o us
+  streams_so Absent made o us has r = absent_so login t all n statement step refl made o us has r
+  streams_so (Dialing left) made o us has r = dialing_so login t all n statement step refl left made o us refl has r
+  streams_so (Joined false k x) made o us has r = gone_so login t all n statement step refl k x made o us has r
   streams_so (Joined true k x) made o us has r = takes_on k.pending k x made o us refl has r
 
   -- a stream is let go
-  lets_go_with : (q : Option Asked) (k : Kept) (x : Looks) (made : Handle) (o : Outcome) (us : List Use) → k.pending ≡ q → HasTape t made → LetsGoWith q k x o us made → StepSo login t n (Joined true k x) made (steps.Unstream n) o us
+  lets_go_with : (q : Option Asked) (k : Kept) (x : Looks) (made : Handle) (o : Outcome) (us : List Use) → k.pending ≡ q → HasTape t made → LetsGoWith q k x o us made → StepSo login t n statement (Joined true k x) made (steps.Unstream n) o us
   lets_go_with None k x made o us none has r = record {
     back = subst (HasTape t) r.left has;
     forth = λ w tied.
         let e : w.spot.status ≡ status.Idle = subst (λ q. Spotted t true q w.spot) none tied.0 in
-        subst (λ (z : Handle). LineSo login t n z (steps.Unstream n) o us w) (sym r.left)
-        (subst (λ (vs : List Use). LineSo login t n (Joined true k x) (steps.Unstream n) o vs w) (sym r.uses)
-        (subst (λ (z : Outcome). LineSo login t n (Joined true k x) (steps.Unstream n) z [] w) (sym r.outcome) (record {
+        subst (λ (z : Handle). LineSo login t n statement z (steps.Unstream n) o us w) (sym r.left)
+        (subst (λ (vs : List Use). LineSo login t n statement (Joined true k x) (steps.Unstream n) o vs w) (sym r.uses)
+        (subst (λ (z : Outcome). LineSo login t n statement (Joined true k x) (steps.Unstream n) z [] w) (sym r.outcome) (record {
           act = SkipsLine status.Idle;
           act_is = here_act status.Idle w.spot.status n w.spot.next w.closed (steps.Unstream n) outcomes.Done 0 refl e refl;
           right = tt;
           tied = (subst (λ q. Spotted t true q (with_status status.Idle w).spot) (sym none) refl, tied.1);
         })));
   }
-  lets_go_with (Some a) k x made o us e has r = open_so login t all n (steps.Unstream n) refl k x a made o us e (λ next. refl) (λ first next. refl) has r
+  lets_go_with (Some a) k x made o us e has r = open_so login t all n statement (steps.Unstream n) refl k x a made o us e (λ next. refl) (λ first next. refl) has r
 
-  pub lets_go_so : (h made : Handle) (o : Outcome) (us : List Use) → HasTape t made → LetsGo h o us made → StepSo login t n h made (steps.Unstream n) o us
-  lets_go_so Absent made o us has r = absent_so login t all n (steps.Unstream n) refl made o us has r
-  lets_go_so (Dialing left) made o us has r = dialing_so login t all n (steps.Unstream n) refl left made o us refl has r
-  lets_go_so (Joined false k x) made o us has r = gone_so login t all n (steps.Unstream n) refl k x made o us has r
+  pub lets_go_so : (h made : Handle) (o : Outcome) (us : List Use) → HasTape t made → LetsGo h o us made → StepSo login t n statement h made (steps.Unstream n) o us
+  lets_go_so Absent made o us has r = absent_so login t all n statement (steps.Unstream n) refl made o us has r
+  lets_go_so (Dialing left) made o us has r = dialing_so login t all n statement (steps.Unstream n) refl left made o us refl has r
+  lets_go_so (Joined false k x) made o us has r = gone_so login t all n statement (steps.Unstream n) refl k x made o us has r
   lets_go_so (Joined true k x) made o us has r = lets_go_with k.pending k x made o us refl has r

@@ -1,5 +1,5 @@
 -- A whole run, at one number.
-use Rattle.std.proofs.Common.{◌≡◌, ℕ, ◌+◌, ◌-◌, List, [], ◌∷◌, ◌++◌, length, map, slice_get, true, false, Option, Some, None, refl, sym, ap, ◌∙◌, subst, arith, length-append}
+use Rattle.std.proofs.Common.{◌≡◌, ℕ, ◌+◌, ◌-◌, List, [], ◌∷◌, ◌++◌, length, map, slice_get, true, false, Option, Some, None, refl, sym, ap, ◌∙◌, subst, arith, length-append, is_some}
 use Rattle.std.proofs.lemmas.List.{append_assoc, length-map}
 use Rattle.my_grammar.specs.declared.login.Login.{Login}
 use Rattle.my_value.specs.RowParts.{RowParts}
@@ -7,9 +7,8 @@ use Rattle.my_reading.specs.Endings.{AreCalls, IsCall}
 use Rattle.my_reading.specs.Reading.{reading}
 use Rattle.my_reading.specs.Tape.{Span, Tape, between}
 use Rattle.my_script.specs.declared.step.Step.{Step}
-use Rattle.my_script.specs.declared.stream.Stream.{Stream}
-use Rattle.my_script.specs.declared.stream.Stream.TheVariants.{Without}
-use Rattle.my_script.specs.Streams.{is_there, stream_by, target}
+use Rattle.my_script.specs.Numbered.{named_statement}
+use Rattle.my_script.specs.Streams.{is_there, target}
 use Rattle.my_script.specs.declared.transcript.StepAnswer.{StepAnswer}
 use Rattle.my_acts.specs.declared.act.Status.{Status}
 use Rattle.my_acts.specs.declared.act.Status.TheVariants as status
@@ -20,11 +19,13 @@ use Rattle.my_client.specs.Reads.{calls_kept, tape_kept}
 use Rattle.my_judge.specs.Reads.{read_of}
 use Rattle.my_judge.specs.Settled.{settled}
 use Rattle.my_world.specs.World.{Plans}
-use Rattle.my_steps.specs.Grows.{AreGrown, Line, handles_after, is_streamed, stream_of}
+use Rattle.my_steps.specs.Grows.{AreGrown, Line, StepGrows, handles_after, is_streamed, statements_of, stream_of}
 use Rattle.my_steps.specs.Handle.{Handle, Absent, Dialing, Joined, at_number}
 use Rattle.my_run.specs.Headline.{AnswerView, answer_view, answers_of, steps_of}
 use Rattle.run_laws.proofs.Connecting.{grown_once}
 use Rattle.my_run_judge.specs.Lines.{ActRight, AreLines, EndsUnanswered, IsOver, after_act, is_unanswered}
+use Rattle.my_run_judge.specs.declared.made.Made.{Made}
+use Rattle.my_run_judge.specs.Made.{made_by, nothing_made, statement_for}
 use Rattle.my_run_judge.specs.Seen.{TapeSeen}
 use Rattle.my_run_judge.specs.Walks.{EndsAt, EndsRight, Walk, sent_end, span_of, start}
 use Rattle.judge_laws.proofs.Going.{GoesOn, call_after, call_here, goes_here, kept_length, open_of, rest_kept, shown_call, shown_tape}
@@ -34,34 +35,38 @@ use Rattle.judge_laws.proofs.Stepping.{OpenAs, Spotted, Tied}
 use Rattle.judge_laws.proofs.Running.{Placed, RunsLine, RunsSo, line_so}
 
 -- the lines, by what is shown of their answers
-abbrev act_shown : ℕ → Stream → Walk → Step → AnswerView → Act
-act_shown n s w step v = act_with (is_there s) w.spot.status n w.spot.next w.closed step v.outcome (length v.uses)
+abbrev act_shown : ℕ → Made → Walk → Step → AnswerView → Act
+act_shown n m w step v = act_with (is_there m.stream) (is_some (statement_for m step)) w.spot.status n w.spot.next w.closed step v.outcome (length v.uses)
 
-abbrev LineShown : Login → ℕ → TapeSeen → ℕ → Stream → Walk → Step → AnswerView → Type 0
-LineShown login n t k s w step v = (v.number ≡ k + 1) × ActRight login n t w step v.outcome v.uses (act_shown n s w step v)
+abbrev LineShown : Login → ℕ → TapeSeen → ℕ → Made → Walk → Step → AnswerView → Type 0
+LineShown login n t k m w step v = (v.number ≡ k + 1) × ActRight login n t (statement_for m step) w step v.outcome v.uses (act_shown n m w step v)
 
-abbrev after_shown : Login → ℕ → TapeSeen → Stream → Walk → Step → AnswerView → Walk
-after_shown login n t s w step v = after_act login t w v.outcome v.uses (act_shown n s w step v)
+abbrev after_shown : Login → ℕ → TapeSeen → Made → Walk → Step → AnswerView → Walk
+after_shown login n t m w step v = after_act login t w v.outcome v.uses (act_shown n m w step v)
 
-abbrev pub AreShown : Login → ℕ → TapeSeen → ℕ → Stream → Walk → List Step → List AnswerView → Type 0
-AreShown login n t k s w [] [] = IsOver login t w w.spot.status
-AreShown login n t k s w [] (v ∷ vs) = ⊥
-AreShown login n t k s w (step ∷ ss) [] = ⊥
-AreShown login n t k s w (step ∷ ss) (v ∷ vs) = LineShown login n t k s w step v × AreShown login n t (k + 1) (stream_by n s step v.outcome) (after_shown login n t s w step v) ss vs
+abbrev pub AreShown : Login → ℕ → TapeSeen → ℕ → Made → Walk → List Step → List AnswerView → Type 0
+AreShown login n t k m w [] [] = IsOver login t w w.spot.status
+AreShown login n t k m w [] (v ∷ vs) = ⊥
+AreShown login n t k m w (step ∷ ss) [] = ⊥
+AreShown login n t k m w (step ∷ ss) (v ∷ vs) = LineShown login n t k m w step v × AreShown login n t (k + 1) (made_by n m step v.outcome) (after_shown login n t m w step v) ss vs
 
-pub shown_lines : (login : Login) (n : ℕ) (t : TapeSeen) (k : ℕ) (s : Stream) (w : Walk) (ss : List Step) (bs : List StepAnswer) → AreShown login n t k s w ss (map answer_view bs) → AreLines login n t k s w ss bs
-shown_lines login n t k s w [] [] r = r
-shown_lines login n t k s w [] (b ∷ bs) r = r
-shown_lines login n t k s w (step ∷ ss) [] r = r
-shown_lines login n t k s w (step ∷ ss) (b ∷ bs) r = (r.0, shown_lines login n t (k + 1) _ _ ss bs r.1)
+pub shown_lines : (login : Login) (n : ℕ) (t : TapeSeen) (k : ℕ) (m : Made) (w : Walk) (ss : List Step) (bs : List StepAnswer) → AreShown login n t k m w ss (map answer_view bs) → AreLines login n t k m w ss bs
+shown_lines login n t k m w [] [] r = r
+shown_lines login n t k m w [] (b ∷ bs) r = r
+shown_lines login n t k m w (step ∷ ss) [] r = r
+shown_lines login n t k m w (step ∷ ss) (b ∷ bs) r = (r.0, shown_lines login n t (k + 1) _ _ ss bs r.1)
+
+-- what lines made
+abbrev pub made_of : ℕ → List Line → Made
+made_of n ls = record { stream = stream_of n ls; statements = statements_of ls }
 
 module _ (login : Login) (plans : Plans) (t : Tape) (all : AreCalls login (reading login t).calls) (n : ℕ) where
   -- after these lines
   pub record RanSo (ls : List Line) : Type 0 where
     pub walk : Walk
     pub placed : Placed login t n (handles_after ls) walk
-    pub reaches : (ss : List Step) (vs : List AnswerView) → AreShown login n (shown_tape t) (length ls) (stream_of n ls) walk ss vs
-        → AreShown login n (shown_tape t) 0 Without (start login n) (steps_of ls ++ ss) (answers_of ls ++ vs)
+    pub reaches : (ss : List Step) (vs : List AnswerView) → AreShown login n (shown_tape t) (length ls) (made_of n ls) walk ss vs
+        → AreShown login n (shown_tape t) 0 nothing_made (start login n) (steps_of ls ++ ss) (answers_of ls ++ vs)
 
   pub ran : (ls : List Line) → AreGrown login plans ls → HasTape t (at_number (handles_after ls) n) → RanSo ls
   ran [] grown has = record {
@@ -74,22 +79,25 @@ module _ (login : Login) (plans : Plans) (t : Tape) (all : AreCalls login (readi
   }
   ran (l ∷ ls) grown has =
       let there = is_there (stream_of n ls) in
-      let s : RunsSo login t n there (handles_after ls) l.handles l.step l.outcome l.uses =
-      line_so login t all n there (is_streamed (target l.step) ls) plans (handles_after ls) l.handles l.step l.outcome l.uses (ap (λ q. is_streamed q ls)) (grown_once login plans ls grown.1) grown.0.answer has in
+      let statement = statement_for (made_of n ls) l.step in
+      let grows : StepGrows login plans (is_streamed (target l.step) ls) statement (handles_after ls) l.step l.outcome l.uses l.handles =
+      grown.0.answer in
+      let s : RunsSo login t n there statement (handles_after ls) l.handles l.step l.outcome l.uses =
+      line_so login t all n there (is_streamed (target l.step) ls) statement plans (handles_after ls) l.handles l.step l.outcome l.uses (ap (λ q. is_streamed q ls)) (grown_once login plans ls grown.1) grows has in
       let before : RanSo ls = ran ls grown.1 s.back in
-      let line : RunsLine login t n there l.handles l.step l.outcome l.uses before.walk = s.forth before.walk before.placed in
+      let line : RunsLine login t n there statement l.handles l.step l.outcome l.uses before.walk = s.forth before.walk before.placed in
       let view : AnswerView = record { number = l.number; outcome = l.outcome; uses = l.uses } in
       let count : length (l ∷ ls) ≡ length ls + 1 = omega arith in
       record {
         walk = after_act login (shown_tape t) before.walk l.outcome l.uses line.act;
         placed = line.placed;
         reaches = λ ss vs r.
-            subst (λ xs. AreShown login n (shown_tape t) 0 Without (start login n) xs ((answers_of ls ++ view ∷ []) ++ vs)) (sym (append_assoc (steps_of ls) (l.step ∷ []) ss))
-            (subst (λ ys. AreShown login n (shown_tape t) 0 Without (start login n) (steps_of ls ++ l.step ∷ ss) ys) (sym (append_assoc (answers_of ls) (view ∷ []) vs))
+            subst (λ xs. AreShown login n (shown_tape t) 0 nothing_made (start login n) xs ((answers_of ls ++ view ∷ []) ++ vs)) (sym (append_assoc (steps_of ls) (l.step ∷ []) ss))
+            (subst (λ ys. AreShown login n (shown_tape t) 0 nothing_made (start login n) (steps_of ls ++ l.step ∷ ss) ys) (sym (append_assoc (answers_of ls) (view ∷ []) vs))
             (before.reaches (l.step ∷ ss) (view ∷ vs) (
-              (grown.0.number, subst (ActRight login n (shown_tape t) before.walk l.step l.outcome l.uses) (sym line.act_is) line.right),
-              subst (λ act. AreShown login n (shown_tape t) (length ls + 1) (stream_of n (l ∷ ls)) (after_act login (shown_tape t) before.walk l.outcome l.uses act) ss vs) (sym line.act_is)
-                  (subst (λ m. AreShown login n (shown_tape t) m (stream_of n (l ∷ ls)) (after_act login (shown_tape t) before.walk l.outcome l.uses line.act) ss vs) count r),
+              (grown.0.number, subst (ActRight login n (shown_tape t) statement before.walk l.step l.outcome l.uses) (sym line.act_is) line.right),
+              subst (λ act. AreShown login n (shown_tape t) (length ls + 1) (made_of n (l ∷ ls)) (after_act login (shown_tape t) before.walk l.outcome l.uses act) ss vs) (sym line.act_is)
+                  (subst (λ m. AreShown login n (shown_tape t) m (made_of n (l ∷ ls)) (after_act login (shown_tape t) before.walk l.outcome l.uses line.act) ss vs) count r),
             )));
       }
 

@@ -11,4 +11,6 @@ mod runs;
 #[cfg(test)]
 mod scripts;
 #[cfg(test)]
+mod statements;
+#[cfg(test)]
 mod tables;

@@ -39,6 +39,25 @@ const HELD_ROWS: &str = "packet 0 3 0131\nwait 0\npacket 0 4 0132\npacket 0 5 fe
 const HELD_SETS: &str =
     "packet 0 3 0131\nwait 0\npacket 0 4 0132\npacket 0 5 fe00000a000000\nwait 0\npacket 0 6 01\npacket 0 7 036465660000000131000c3f0001000000088100000000\npacket 0 8 0133\npacket 0 9 fe000002000000\n";
 
+// A statement of one parameter is prepared, whose rows have one column.
+const PREPARED: &str =
+    "packet 0 1 000100000001000100000000\npacket 0 2 03646566000000013f000c3f0001000000088100000000\npacket 0 3 036465660000000131000c3f0001000000088100000000\nturn 0\n";
+
+// Its execution has a row, 5; and the second one a row that is held.
+const EXECUTED: &str =
+    "packet 0 1 01\npacket 0 2 036465660000000131000c3f0001000000088100000000\npacket 0 3 00000500000000000000\npacket 0 4 fe000002000000\nturn 0\n";
+
+const EXECUTED_HELD: &str =
+    "packet 0 1 01\npacket 0 2 036465660000000131000c3f0001000000088100000000\nwait 0\npacket 0 3 00000600000000000000\npacket 0 4 fe000002000000\nturn 0\n";
+
+// Two statements without parameters, and an OK of an execution.
+const TWO_PREPARED: &str =
+    "packet 0 1 000100000000000000000000\nturn 0\npacket 0 1 000200000000000000000000\nturn 0\npacket 0 1 00000002000000\nturn 0\n";
+
+// The reply to a statement to prepare is held.
+const HELD_REPLY: &str =
+    "packet 0 1 000100000000000100000000\nwait 0\npacket 0 2 03646566000000013f000c3f0001000000088100000000\nturn 0\npacket 0 1 00000002000000\nturn 0\n";
+
 /// A script: the word of its options, the lines of its links, and its steps.
 #[derive(Clone, Copy)]
 pub struct Script {
@@ -186,6 +205,33 @@ pub fn streamed() -> [Script; 4] {
         plain(
             [GREETING, OK_THEN_ERR, ""],
             "conn\nquery 0 X\nstream 0\nitem 0\nunstream 1\nstream 0\nquit 0\nstream 0\n",
+        ),
+    ]
+}
+
+/// A statement is prepared, executed and closed, and isn't there any more; two are prepared, of which a cached one is found
+/// again; a reply is held, and polled; parameters don't fit.
+pub fn prepared() -> [Script; 5] {
+    [
+        plain(
+            [GREETING, PREPARED, EXECUTED],
+            "conn\nexec 0 0 i:1\nprep 0 SELECT ?\nexec 0 0 i:1\nnext 0\nnext 0\nclosestmt 0 0\nexec 0 0 i:1\n",
+        ),
+        plain(
+            [GREETING, PREPARED, EXECUTED_HELD],
+            "conn\nprep 0 SELECT ?\nexec 0 0 i:1\ncollect 0\npoll 0\n",
+        ),
+        plain(
+            [GREETING, TWO_PREPARED, ""],
+            "conn\nprep 0 DO 1\nprep 0 DO 2\nprep 0 DO 1\nexec 0 1\nclosestmt 0 1\nclosestmt 0 1\n",
+        ),
+        plain(
+            [GREETING, HELD_REPLY, ""],
+            "conn\nprep 0 DO :one\npoll 0\nexecn 0 0 one=b:61\nprep 0 DO :one, ?\nfields 0\n",
+        ),
+        plain(
+            [GREETING, PREPARED, ""],
+            "conn\nprep 0 SELECT ?\nexec 0 0\nexec 0 0 i:1\n",
         ),
     ]
 }

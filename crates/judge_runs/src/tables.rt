@@ -3,7 +3,9 @@
 use crate::changes::{Change, answer_of, outcome_of, swap_answer, swap_outcome, toggle};
 use crate::plans::change_plan;
 use crate::runs::{Run, run_of};
-use crate::scripts::{Script, answered, closing, connecting, held, polled, streamed, writing};
+use crate::scripts::{
+    Script, answered, closing, connecting, held, polled, prepared, streamed, writing,
+};
 use my_frame::NoMemory;
 use my_reading::{Answer, Error};
 use my_run_judge::Found;
@@ -347,6 +349,13 @@ fn sets_that_are_taken(rt: HostRuntime) -> Result<(), Fail> {
     Ok(())
 }
 
+#[test]
+fn statements_that_are_prepared(rt: HostRuntime) -> Result<(), Fail> {
+    let found = count_all(&rt, rt.alloc(), &prepared())?;
+    assert_eq!(rt; found, refuted(481, counted(99, 0)));
+    Ok(())
+}
+
 // A stream's line whose first poll and its call are missing, as if it hadn't passed over the rest of the earlier set.
 fn skip_none(run: &mut Run, line: usize, call: usize) {
     if let Some(answer) = run.transcript.answers.as_mut_slice().get_mut(line) {
@@ -361,8 +370,8 @@ fn skip_none(run: &mut Run, line: usize, call: usize) {
     }
 }
 
-// Two lines show each other's outcome.
-fn swap_outcomes(run: &mut Run, one: usize, other: usize) {
+/// Two lines show each other's outcome.
+pub fn swap_outcomes(run: &mut Run, one: usize, other: usize) {
     let mut outcome = Outcome::Done;
     swap_outcome(&mut run.transcript, one, &mut outcome);
     swap_outcome(&mut run.transcript, other, &mut outcome);

@@ -16,6 +16,9 @@ use Rattle.my_run_judge.proofs.Doing.{not_right}
 pub dialed_one : (s : Step) → dialed_by s ≤ 1
 dialed_one steps.Conn = omega arith
 dialed_one (steps.Query n text) = omega arith
+dialed_one (steps.Prepare n text) = omega arith
+dialed_one (steps.Execute n number params) = omega arith
+dialed_one (steps.CloseStatement n number) = omega arith
 dialed_one (steps.Next n) = omega arith
 dialed_one (steps.Collect n) = omega arith
 dialed_one (steps.Drop n) = omega arith

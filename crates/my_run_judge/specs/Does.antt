@@ -1,6 +1,7 @@
 -- What the program does to the walk of a connection.
-use Rattle.std.specs.Prelude.{◌≡◌, ℕ, Bool, true, not, ◌&&◌, slice_get}
+use Rattle.std.specs.Prelude.{◌≡◌, ℕ, Option, Bool, true, not, ◌&&◌, slice_get}
 use Rattle.std.specs.Bool.{Decides}
+use Rattle.my_statements.specs.Prepared.{StatementView}
 use Rattle.my_grammar.specs.declared.login.Login.{Login}
 use Rattle.my_reading.specs.Place.{Place, first_place, is_taken}
 use Rattle.my_judge.specs.Reads.{ReadsCall}
@@ -52,7 +53,7 @@ abbrev pub IsTakenAt : Walker → Bool → Type 0
 IsTakenAt c taken = (login : Login) (p : Place) → IsAt login p c.reader.stand
     → taken ≡ not c.reader.closed && is_taken p
 
--- and the program knows whether the call in turn is the one that the step begins
-abbrev pub Begins : TapeSeen → Step → Walker → Bool → Type 0
-Begins t step c right = (login : Login) (p : Place) → IsAt login p c.reader.stand
-    → Decides right (IsBegun (begun_in (walk_of p c) step) (slice_get t.calls c.spot.next))
+-- and the program knows whether the call in turn is the one that the step begins, which names this statement or none
+abbrev pub Begins : TapeSeen → Option StatementView → Step → Walker → Bool → Type 0
+Begins t named step c right = (login : Login) (p : Place) → IsAt login p c.reader.stand
+    → Decides right (IsBegun (begun_in named (walk_of p c) step) (slice_get t.calls c.spot.next))

@@ -1,5 +1,6 @@
 pub mod Seen
 pub mod Walks
+pub mod Made
 pub mod Lines
 pub mod Does
 pub mod Verdicts

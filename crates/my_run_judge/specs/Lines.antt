@@ -1,7 +1,8 @@
 -- What a line shows at a connection, and when it is right.
-use Rattle.std.specs.Prelude.{◌≡◌, ◌+◌, ◌-◌, ◌≤◌, ◌⊎◌, ℕ, List, [], ◌∷◌, length, take, drop, slice_get, Option, Some, None, Result, Ok, Err, Bool, true, false, not, ◌&&◌}
+use Rattle.std.specs.Prelude.{◌≡◌, ◌+◌, ◌-◌, ◌≤◌, ◌⊎◌, ℕ, List, [], ◌∷◌, length, take, drop, slice_get, Option, Some, None, is_some, Result, Ok, Err, Bool, true, false, not, ◌&&◌}
 use Rattle.my_handshake.specs.Version.{version_of}
 use Rattle.my_value.specs.RowParts.{RowParts}
+use Rattle.my_statements.specs.Prepared.{StatementView}
 use Rattle.my_grammar.specs.declared.login.Login.{Login}
 use Rattle.my_link.specs.declared.met.Met.{Met}
 use Rattle.my_link.specs.Met.{nothing_met}
@@ -16,11 +17,12 @@ use Rattle.my_reading.specs.Calls.{kind_of}
 use Rattle.my_reading.specs.Errors.{io_error}
 use Rattle.my_reading.specs.Place.{Place, facts_at, is_taken}
 use Rattle.my_script.specs.declared.step.Step.{Step}
-use Rattle.my_script.specs.declared.stream.Stream.{Stream}
-use Rattle.my_script.specs.Streams.{is_skip, is_there, stream_by}
+use Rattle.my_script.specs.Streams.{is_skip, is_there}
 use Rattle.my_script.specs.declared.transcript.Outcome.{Outcome}
-use Rattle.my_script.specs.declared.transcript.Outcome.TheVariants.{Done, Pending, SetEnd, NoSet, Row, Rows, Fields, Connected, Failed, NoSuchHandle}
+use Rattle.my_script.specs.declared.transcript.Outcome.TheVariants.{Done, Pending, SetEnd, NoSet, Row, Rows, Prepared, Fields, Connected, Failed, NoSuchHandle}
 use Rattle.my_script.specs.declared.transcript.StepAnswer.{StepAnswer}
+use Rattle.my_run_judge.specs.declared.made.Made.{Made}
+use Rattle.my_run_judge.specs.Made.{made_by, statement_for}
 use Rattle.my_run_judge.specs.Meets.{LastMet, RowMet}
 use Rattle.my_run_judge.specs.Seen.{TapeSeen}
 use Rattle.my_script.specs.declared.transcript.TapeCall.{TapeCall}
@@ -63,6 +65,7 @@ IsShown SetEnd answer before = answer ≡ Some (Ok answers.SetEnd)
 IsShown NoSet answer before = answer ≡ Some (Ok answers.NoSet)
 IsShown (Row row) answer before = answer ≡ Some (Ok (answers.Row row))
 IsShown (Rows rows) answer before = IsGathered rows.items answer before
+IsShown (Prepared statement) answer before = answer ≡ Some (Ok (answers.Stmt statement))
 IsShown (Fields ok) answer before = ⊥
 IsShown (Connected n id version) answer before = answer ≡ Some (Ok answers.Ready)
 IsShown (Failed e) answer before = answer ≡ Some (Err e)
@@ -190,13 +193,13 @@ abbrev pub is_unanswered : Option TapeCall → Type 0
 is_unanswered None = ⊥
 is_unanswered (Some c) = c.answer ≡ None
 
--- the call that a line begins
-abbrev pub begun_in : Walk → Step → Option Call
-begun_in w step = begun_by (not w.closed && is_taken w.place) step
+-- the call that a line begins, with the statement that its step names
+abbrev pub begun_in : Option StatementView → Walk → Step → Option Call
+begun_in named w step = begun_by (not w.closed && is_taken w.place) named step
 
 -- a closed connection refuses the call that the line begins, which ends at once
-abbrev pub EndsAtOnce : Login → TapeSeen → Walk → Step → Outcome → Type 0
-EndsAtOnce login t w step outcome = IsBegun (begun_in w step) (slice_get t.calls w.spot.next)
+abbrev pub EndsAtOnce : Login → TapeSeen → Option StatementView → Walk → Step → Outcome → Type 0
+EndsAtOnce login t named w step outcome = IsBegun (begun_in named w step) (slice_get t.calls w.spot.next)
     × IsShownAt outcome (slice_get t.calls w.spot.next) [] × IsEnded login t false w
 
 -- the call in turn has no answer: it was cancelled, or is open
@@ -214,17 +217,17 @@ DialRight n true outcome us = (us ≡ use_of n (record nothing_met { faults = 1 
 DialRight n false outcome us = us ≡ use_of n (record nothing_met { holds = 1 }) ∷ []
 
 -- the line is right where it does this
-abbrev pub ActRight : Login → ℕ → TapeSeen → Walk → Step → Outcome → List Use → Act → Type 0
-ActRight login n t w step outcome us Wrong = ⊥
-ActRight login n t w step outcome us (Skips status) = Unit {0}
-ActRight login n t w step outcome us Tells = IsTold login w.place outcome
-ActRight login n t w step outcome us Holds = DialRight n false outcome us
-ActRight login n t w step outcome us Fails = DialRight n true outcome us
-ActRight login n t w step outcome us (Connects status) = ConnectsRight login n t w outcome us
-ActRight login n t w step outcome us (Polls status) = PollsRight login n t w (begun_in w step) outcome us
-ActRight login n t w step outcome us (Takes status) = TakesRight login n t w (begun_in w step) outcome us
-ActRight login n t w step outcome us (Ends status) = EndsAtOnce login t w step outcome
-ActRight login n t w step outcome us (Cancels status) = EndsUnanswered login t true w
+abbrev pub ActRight : Login → ℕ → TapeSeen → Option StatementView → Walk → Step → Outcome → List Use → Act → Type 0
+ActRight login n t named w step outcome us Wrong = ⊥
+ActRight login n t named w step outcome us (Skips status) = Unit {0}
+ActRight login n t named w step outcome us Tells = IsTold login w.place outcome
+ActRight login n t named w step outcome us Holds = DialRight n false outcome us
+ActRight login n t named w step outcome us Fails = DialRight n true outcome us
+ActRight login n t named w step outcome us (Connects status) = ConnectsRight login n t w outcome us
+ActRight login n t named w step outcome us (Polls status) = PollsRight login n t w (begun_in named w step) outcome us
+ActRight login n t named w step outcome us (Takes status) = TakesRight login n t w (begun_in named w step) outcome us
+ActRight login n t named w step outcome us (Ends status) = EndsAtOnce login t named w step outcome
+ActRight login n t named w step outcome us (Cancels status) = EndsUnanswered login t true w
 
 -- what was read then
 abbrev pub after_reads : Login → TapeSeen → Walk → Outcome → List Use → Act → Walk
@@ -256,15 +259,16 @@ abbrev pub after_act : Login → TapeSeen → Walk → Outcome → List Use → 
 after_act login t w outcome us act =
     let v = after_reads login t w outcome us act in with_status (status_after v.spot.status act) v
 
--- what a line does at connection n, where the earlier ones made this of a stream
-abbrev pub act_in : ℕ → Stream → Walk → Step → StepAnswer → Act
-act_in n s w step a = act_with (is_there s) w.spot.status n w.spot.next w.closed step a.outcome (length a.uses.items)
+-- what a line does at connection n, after what the earlier ones made
+abbrev pub act_in : ℕ → Made → Walk → Step → StepAnswer → Act
+act_in n m w step a = act_with (is_there m.stream) (is_some (statement_for m step)) w.spot.status n w.spot.next w.closed step
+    a.outcome (length a.uses.items)
 
-abbrev pub IsLine : Login → ℕ → TapeSeen → Stream → Walk → Step → StepAnswer → Type 0
-IsLine login n t s w step a = ActRight login n t w step a.outcome a.uses.items (act_in n s w step a)
+abbrev pub IsLine : Login → ℕ → TapeSeen → Made → Walk → Step → StepAnswer → Type 0
+IsLine login n t m w step a = ActRight login n t (statement_for m step) w step a.outcome a.uses.items (act_in n m w step a)
 
-abbrev pub after_line : Login → ℕ → TapeSeen → Stream → Walk → Step → StepAnswer → Walk
-after_line login n t s w step a = after_act login t w a.outcome a.uses.items (act_in n s w step a)
+abbrev pub after_line : Login → ℕ → TapeSeen → Made → Walk → Step → StepAnswer → Walk
+after_line login n t m w step a = after_act login t w a.outcome a.uses.items (act_in n m w step a)
 
 -- at the end all calls were read, and all bytes; the last call may be open, where the reading stops for bytes
 abbrev pub IsOver : Login → TapeSeen → Walk → Status → Type 0
@@ -275,23 +279,23 @@ IsOver login t w (Gathers first) = (w.spot.next + 1 ≡ length t.calls) × (w.sp
 IsOver login t w status = (w.spot.next ≡ length t.calls) × (w.spot.taken ≡ length t.taken)
 
 -- the line with this index
-abbrev pub LineRight : Login → ℕ → TapeSeen → ℕ → Stream → Walk → Step → StepAnswer → Type 0
-LineRight login n t k s w step a = (a.number ≡ k + 1) × IsLine login n t s w step a
+abbrev pub LineRight : Login → ℕ → TapeSeen → ℕ → Made → Walk → Step → StepAnswer → Type 0
+LineRight login n t k m w step a = (a.number ≡ k + 1) × IsLine login n t m w step a
 
 -- The lines from this one on are right: each has its number, from 1, and there is one answer for each step.
-abbrev pub AreLines : Login → ℕ → TapeSeen → ℕ → Stream → Walk → List Step → List StepAnswer → Type 0
-AreLines login n t k s w [] [] = IsOver login t w w.spot.status
-AreLines login n t k s w [] (a ∷ bs) = ⊥
-AreLines login n t k s w (step ∷ steps) [] = ⊥
-AreLines login n t k s w (step ∷ steps) (a ∷ bs) = LineRight login n t k s w step a
-    × AreLines login n t (k + 1) (stream_by n s step a.outcome) (after_line login n t s w step a) steps bs
+abbrev pub AreLines : Login → ℕ → TapeSeen → ℕ → Made → Walk → List Step → List StepAnswer → Type 0
+AreLines login n t k m w [] [] = IsOver login t w w.spot.status
+AreLines login n t k m w [] (a ∷ bs) = ⊥
+AreLines login n t k m w (step ∷ steps) [] = ⊥
+AreLines login n t k m w (step ∷ steps) (a ∷ bs) = LineRight login n t k m w step a
+    × AreLines login n t (k + 1) (made_by n m step a.outcome) (after_line login n t m w step a) steps bs
 
 -- The first line that isn't right is this one; the number of lines means the end.
-abbrev pub FirstWrong : Login → ℕ → TapeSeen → ℕ → ℕ → Stream → Walk → List Step → List StepAnswer → Type 0
-FirstWrong login n t index k s w [] [] = (index ≡ k) × (IsOver login t w w.spot.status → ⊥)
-FirstWrong login n t index k s w [] (a ∷ bs) = index ≡ k
-FirstWrong login n t index k s w (step ∷ steps) [] = index ≡ k
-FirstWrong login n t index k s w (step ∷ steps) (a ∷ bs) =
-    ((index ≡ k) × (LineRight login n t k s w step a → ⊥))
-    ⊎ (LineRight login n t k s w step a
-    × FirstWrong login n t index (k + 1) (stream_by n s step a.outcome) (after_line login n t s w step a) steps bs)
+abbrev pub FirstWrong : Login → ℕ → TapeSeen → ℕ → ℕ → Made → Walk → List Step → List StepAnswer → Type 0
+FirstWrong login n t index k m w [] [] = (index ≡ k) × (IsOver login t w w.spot.status → ⊥)
+FirstWrong login n t index k m w [] (a ∷ bs) = index ≡ k
+FirstWrong login n t index k m w (step ∷ steps) [] = index ≡ k
+FirstWrong login n t index k m w (step ∷ steps) (a ∷ bs) =
+    ((index ≡ k) × (LineRight login n t k m w step a → ⊥))
+    ⊎ (LineRight login n t k m w step a
+    × FirstWrong login n t index (k + 1) (made_by n m step a.outcome) (after_line login n t m w step a) steps bs)

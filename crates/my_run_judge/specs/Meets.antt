@@ -2,6 +2,8 @@
 use Rattle.std.specs.Prelude.{◌≡◌, ◌≤◌, ◌⊎◌, ℕ}
 use Rattle.my_frame.specs.declared.limits.TheConstants.{MOST_TAKEN}
 use Rattle.my_link.specs.declared.met.Met.{Met}
+use Rattle.my_reading.specs.declared.error.DriverError.{DriverError}
+use Rattle.my_reading.specs.declared.error.DriverError.TheVariants as drivers
 use Rattle.my_reading.specs.declared.error.Error.{Error}
 use Rattle.my_reading.specs.declared.error.Error.TheVariants as errors
 use Rattle.my_reading.specs.declared.error.IoError.{IoError}
@@ -9,7 +11,7 @@ use Rattle.my_reading.specs.declared.error.IoError.TheVariants as ios
 use Rattle.my_reading.specs.declared.error.IoKind.{IoKind}
 use Rattle.my_reading.specs.declared.error.IoKind.TheVariants as kinds
 use Rattle.my_script.specs.declared.transcript.Outcome.{Outcome}
-use Rattle.my_script.specs.declared.transcript.Outcome.TheVariants.{Done, Pending, SetEnd, NoSet, Row, Rows, Fields, Connected, Failed, NoSuchHandle}
+use Rattle.my_script.specs.declared.transcript.Outcome.TheVariants.{Done, Pending, SetEnd, NoSet, Row, Rows, Prepared, Fields, Connected, Failed, NoSuchHandle}
 
 -- these counts of bytes, faults, holds and ends; a poll counts nothing else
 abbrev pub met_at : ℕ → ℕ → ℕ → ℕ → Met
@@ -37,7 +39,7 @@ IsReady m = HasMet m 0 0 0
 abbrev pub IsHeld : Met → Type 0
 IsHeld m = HasMet m 0 1 0 ⊎ (IsReady m × (MOST_TAKEN ≤ m.taken))
 
--- the error is in the bytes, which the link may have ended after
+-- the error is in what was said so far, which the link may have ended after
 abbrev pub IsInBytes : Met → Type 0
 IsInBytes m = IsReady m ⊎ HasMet m 0 0 1
 
@@ -52,9 +54,17 @@ abbrev pub IoMet : IoError → Met → Type 0
 IoMet (ios.Io fault) m = KindMet fault.kind m
 IoMet (ios.Codec fault) m = IsInBytes m
 
--- a call that a closed connection refuses isn't polled
+-- Of the driver's own refusals a poll comes to those of a text to prepare and of parameters. A call that a closed connection refuses isn't
+-- polled, and no call of a run takes too many bytes.
+abbrev pub DriverMet : DriverError → Met → Type 0
+DriverMet drivers.MixedParams m = IsInBytes m
+DriverMet (drivers.Params e) m = IsInBytes m
+DriverMet (drivers.StmtParamsMismatch required supplied) m = IsInBytes m
+DriverMet (drivers.StmtParamsNumberExceedsLimit supplied) m = IsInBytes m
+DriverMet e m = ⊥
+
 abbrev pub ErrorMet : Error → Met → Type 0
-ErrorMet (errors.Driver e) m = ⊥
+ErrorMet (errors.Driver e) m = DriverMet e m
 ErrorMet (errors.Io e) m = IoMet e m
 ErrorMet (errors.Server e) m = IsInBytes m
 ErrorMet (errors.Url e) m = ⊥
@@ -69,6 +79,7 @@ ShownMet SetEnd m = IsReady m
 ShownMet NoSet m = IsReady m
 ShownMet (Row row) m = IsReady m
 ShownMet (Rows rows) m = IsReady m
+ShownMet (Prepared statement) m = IsReady m
 ShownMet (Fields ok) m = IsReady m
 ShownMet (Connected n id version) m = IsReady m
 ShownMet (Failed e) m = ErrorMet e m

@@ -2,13 +2,13 @@
 use Rattle.std.specs.Prelude.{◌≡◌, ◌≤◌, ◌<◌, ◌⊎◌, ◌+◌, ℕ, List, [], ◌∷◌, length, Option, Some, None, nat_lt, Bool, true, false, if◌then◌else◌}
 use Rattle.my_grammar.specs.declared.login.Login.{Login}
 use Rattle.my_script.specs.declared.step.Step.{Step}
-use Rattle.my_script.specs.declared.stream.Stream.TheVariants.{Without}
 use Rattle.my_script.specs.declared.step.Step.TheVariants.{Conn}
 use Rattle.my_script.specs.declared.transcript.StepAnswer.{StepAnswer}
 use Rattle.my_script.specs.declared.transcript.Tape.{Tape}
 use Rattle.my_run_judge.specs.declared.judging.Found.{Found}
 use Rattle.my_run_judge.specs.declared.judging.Found.TheVariants.{Right, Wrong}
 use Rattle.my_run_judge.specs.Lines.{AreLines}
+use Rattle.my_run_judge.specs.Made.{nothing_made}
 use Rattle.my_run_judge.specs.Seen.{TapeSeen, nothing_seen, seen, seen_at}
 use Rattle.my_run_judge.specs.Verdicts.{IsFound}
 use Rattle.my_run_judge.specs.Walks.{start}
@@ -32,7 +32,7 @@ AreTapes first most (t ∷ ts) =
 -- where it has none. The number after those that were dialed means all that weren't.
 pub record AreRight (login : Login) (steps : List Step) (answers : List StepAnswer) (tapes : List Tape) : Type 0 where
   pub numbered : AreTapes 0 (dialed_in steps) tapes
-  pub each : (n : ℕ) → n < dialed_in steps + 1 → AreLines login n (seen_at n tapes) 0 Without (start login n) steps answers
+  pub each : (n : ℕ) → n < dialed_in steps + 1 → AreLines login n (seen_at n tapes) 0 nothing_made (start login n) steps answers
 
 abbrev pub seen_as : Option Tape → TapeSeen
 seen_as None = nothing_seen

@@ -1,6 +1,7 @@
 //! Whether the lines of a transcript are right at a connection.
 
 ghost use Rattle.std.specs.Prelude.{◌≡◌, ◌<◌, ◌^◌, IfOk};
+ghost use Rattle.std.specs.Option.{option_copied};
 ghost use Rattle.my_run_judge.specs.Does.{Does, IsOverAt, IsSomewhere, IsStart};
 ghost use Rattle.my_run_judge.specs.Lines.{ActRight, LineRight, after_line, after_reads, status_after};
 ghost use Rattle.my_run_judge.specs.Verdicts.{EndsAs, IsFound};
@@ -8,13 +9,15 @@ ghost use Rattle.my_run_judge.specs.Walks.{Walk};
 ghost use Rattle.my_run_judge.specs.Seen.{seen};
 
 use crate::line::is_dial;
+use crate::made::Made;
 use crate::polling::is_told_by;
 use crate::walk::{Spot, Walker};
 use my_acts::{Act, Status, act_with};
 use my_frame::NoMemory;
 use my_grammar::Login;
 use my_judge::first_reader;
-use my_script::{Step, StepAnswer, Stream, Tape, is_there, stream_by};
+use my_script::{Step, StepAnswer, Tape, is_there};
+use my_statements::Statement;
 use std::alloc::Global;
 
 /// What is found of a connection in a transcript.
@@ -64,13 +67,16 @@ impl Walker {
         login: &Login,
         number: u64,
         tape: &Tape,
+        named: Option<&Statement>,
         step: &Step,
         answer: &StepAnswer,
         act: Act,
     ) -> Result<bool, NoMemory>
         requires { IsSomewhere login.now self.old }
         ensures { let said = seen tape.now in let uses = answer.now.uses.items in
-            let there = λ (w : Walk). ActRight login.now number said w step.now answer.now.outcome uses act in
+            let statement = option_copied named.entry in
+            let there = λ (w : Walk).
+            ActRight login.now number said statement w step.now answer.now.outcome uses act in
             let after = λ (w : Walk). after_reads login.now said w answer.now.outcome uses act in
             IfOk result (λ right. Does login.now there after self.old right self.new) }
     {
@@ -83,9 +89,13 @@ impl Walker {
             Act::Holds => Ok(is_dial(number, false, outcome, uses)),
             Act::Fails => Ok(is_dial(number, true, outcome, uses)),
             Act::Connects(_) => self.connects(alloc, login, number, tape, outcome, uses),
-            Act::Polls(_) => self.polls_right(alloc, login, number, tape, step, outcome, uses),
-            Act::Takes(_) => self.takes_right(alloc, login, number, tape, step, outcome, uses),
-            Act::Ends(_) => self.ends_at_once(alloc, login, tape, step, outcome),
+            Act::Polls(_) => self.polls_right(
+                alloc, login, number, tape, named, step, outcome, uses,
+            ),
+            Act::Takes(_) => self.takes_right(
+                alloc, login, number, tape, named, step, outcome, uses,
+            ),
+            Act::Ends(_) => self.ends_at_once(alloc, login, tape, named, step, outcome),
             Act::Cancels(_) => self.ends_unanswered(alloc, login, tape, true),
         }
     }
@@ -98,24 +108,26 @@ impl Walker {
         number: u64,
         tape: &Tape,
         index: usize,
-        stream: Stream,
+        made: &Made,
         step: &Step,
         answer: &StepAnswer,
     ) -> Result<bool, NoMemory>
         requires somewhere { IsSomewhere login.now self.old }
         requires index { index < 2 ^ 63 }
         ensures { let said = seen tape.now in
-            let there = λ (w : Walk). LineRight login.now number said index stream w step.now answer.now in
-            let after = λ (w : Walk). after_line login.now number said stream w step.now answer.now in
+            let there = λ (w : Walk). LineRight login.now number said index made.now w step.now answer.now in
+            let after = λ (w : Walk). after_line login.now number said made.now w step.now answer.now in
             IfOk result (λ right. Does login.now there after self.old right self.new) }
     {
         if answer.number != index as u64 + 1 {
             return Ok(false);
         }
         let spot = self.spot;
+        let named = made.statement_for(step);
         let uses = answer.uses.len();
         let act = act_with(
-            is_there(stream),
+            is_there(made.stream),
+            named.is_some(),
             spot.status,
             number,
             spot.next,
@@ -124,7 +136,7 @@ impl Walker {
             &answer.outcome,
             uses,
         );
-        let right = self.reads(alloc, login, number, tape, step, answer, act)?;
+        let right = self.reads(alloc, login, number, tape, named, step, answer, act)?;
         self.spot.status = status_after(self.spot.status, act);
         Ok(right)
     }
@@ -157,11 +169,11 @@ impl Walker {
         tape: &Tape,
         others: &[StepAnswer],
         index: usize,
-        stream: Stream,
+        made: &Made,
     ) -> Result<Found, NoMemory>
         requires { IsSomewhere login.now self.old }
         ensures { IfOk result (λ found.
-            EndsAs login.now number (seen tape.now) index stream others.now self.old found) }
+            EndsAs login.now number (seen tape.now) index made.now others.now self.old found) }
     {
         if let Some((_answer, _later)) = others.split_first() {
             return Ok(Found::Wrong(index));
@@ -188,20 +200,20 @@ impl Walker {
         let mut left = steps;
         let mut others = answers;
         let mut index = 0;
-        let mut stream = Stream::Without;
+        let mut made = Made::new(alloc);
         'lines: while let Some((step, later_steps)) = left.split_first() {
             let Some((answer, later_answers)) = others.split_first() else {
                 return Ok(Found::Wrong(index));
             };
-            if !self.line(alloc, login, number, tape, index, stream, step, answer)? {
+            if !self.line(alloc, login, number, tape, index, &made, step, answer)? {
                 return Ok(Found::Wrong(index));
             }
             left = later_steps;
             others = later_answers;
-            stream = stream_by(number, stream, step, &answer.outcome);
+            made.note(alloc, number, step, &answer.outcome)?;
             index += 1;
         }
-        let found = self.at_end(alloc, login, number, tape, others, index, stream)?;
+        let found = self.at_end(alloc, login, number, tape, others, index, &made)?;
         Ok(found)
     }
 }

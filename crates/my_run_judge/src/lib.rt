@@ -3,6 +3,7 @@
 
 mod judging;
 mod line;
+mod made;
 mod meets;
 mod polling;
 mod shown;

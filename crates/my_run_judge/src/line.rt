@@ -2,6 +2,7 @@
 
 ghost use Rattle.std.specs.Prelude.{◌≡◌, ◌∷◌, [], IfOk, drop, false};
 ghost use Rattle.std.specs.Bool.{Decides};
+ghost use Rattle.std.specs.Option.{option_copied};
 ghost use Rattle.my_run_judge.specs.Does.{Does, IsSomewhere};
 ghost use Rattle.my_run_judge.specs.Lines.{
   ArePassed,
@@ -28,6 +29,7 @@ use my_grammar::Login;
 use my_link::Met;
 use my_reading::{Error, IoError, IoFault, IoKind};
 use my_script::{Outcome, Step, Tape, Use};
+use my_statements::Statement;
 use std::alloc::Global;
 
 fn is_use(used: &Use, number: u64, met: Met) -> bool
@@ -111,17 +113,18 @@ impl Walker {
         login: &Login,
         number: u64,
         tape: &Tape,
+        named: Option<&Statement>,
         step: &Step,
         outcome: &Outcome,
         uses: &[Use],
     ) -> Result<bool, NoMemory>
         requires { IsSomewhere login.now self.old }
         ensures { let there = λ (w : Walk).
-            PollsRight login.now number (seen tape.now) w (begun_in w step.now) outcome.now uses.now in
+            PollsRight login.now number (seen tape.now) w (begun_in (option_copied named.entry) w step.now) outcome.now uses.now in
             let after = after_polls login.now (seen tape.now) outcome.now uses.now in
             IfOk result (λ right. Does login.now there after self.old right self.new) }
     {
-        if !self.begins(tape, step) {
+        if !self.begins(tape, named, step) {
             return Ok(false);
         }
         let first = first_of(self.spot.status, self.spot.next);
@@ -163,17 +166,18 @@ impl Walker {
         login: &Login,
         number: u64,
         tape: &Tape,
+        named: Option<&Statement>,
         step: &Step,
         outcome: &Outcome,
         uses: &[Use],
     ) -> Result<bool, NoMemory>
         requires { IsSomewhere login.now self.old }
         ensures { let there = λ (w : Walk).
-            TakesRight login.now number (seen tape.now) w (begun_in w step.now) outcome.now uses.now in
+            TakesRight login.now number (seen tape.now) w (begun_in (option_copied named.entry) w step.now) outcome.now uses.now in
             let after = after_polls login.now (seen tape.now) outcome.now uses.now in
             IfOk result (λ right. Does login.now there after self.old right self.new) }
     {
-        if !self.begins(tape, step) {
+        if !self.begins(tape, named, step) {
             return Ok(false);
         }
         self.takes(alloc, login, number, tape, outcome, uses)
@@ -200,7 +204,16 @@ impl Walker {
         if !is_use(dial, number, Met::nothing()) {
             return Ok(false);
         }
-        self.polls_right(alloc, login, number, tape, &Step::Conn, outcome, polls)
+        self.polls_right(
+            alloc,
+            login,
+            number,
+            tape,
+            None,
+            &Step::Conn,
+            outcome,
+            polls,
+        )
     }
 
     /// A closed connection refuses a call.
@@ -209,16 +222,18 @@ impl Walker {
         alloc: Global,
         login: &Login,
         tape: &Tape,
+        named: Option<&Statement>,
         step: &Step,
         outcome: &Outcome,
     ) -> Result<bool, NoMemory>
         requires { IsSomewhere login.now self.old }
-        ensures { let there = λ (w : Walk). EndsAtOnce login.now (seen tape.now) w step.now outcome.now in
+        ensures { let statement = option_copied named.entry in
+            let there = λ (w : Walk). EndsAtOnce login.now (seen tape.now) statement w step.now outcome.now in
             let after = ended login.now (seen tape.now) false in
             IfOk result (λ right. Does login.now there after self.old right self.new) }
     {
         let call = tape.calls.get(self.spot.next);
-        if !self.begins(tape, step) || !is_shown_at(outcome, call, &[]) {
+        if !self.begins(tape, named, step) || !is_shown_at(outcome, call, &[]) {
             return Ok(false);
         }
         self.end_call(alloc, login, tape, false)

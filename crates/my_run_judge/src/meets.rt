@@ -2,6 +2,7 @@
 
 ghost use Rattle.std.specs.Bool.{Decides};
 ghost use Rattle.my_run_judge.specs.Meets.{
+  DriverMet,
   ErrorMet,
   HasMet,
   IoMet,
@@ -16,7 +17,7 @@ ghost use Rattle.my_run_judge.specs.Meets.{
 
 use my_frame::limits::MOST_TAKEN;
 use my_link::Met;
-use my_reading::{Error, IoError, IoKind};
+use my_reading::{DriverError, Error, IoError, IoKind};
 use my_script::Outcome;
 
 // Whether bytes were met, and these counts of faults, holds and ends, and nothing else.
@@ -69,13 +70,26 @@ fn io_met(error: &IoError, met: &Met) -> bool
     }
 }
 
+fn driver_met(error: &DriverError, met: &Met) -> bool
+    ensures { Decides result (DriverMet error.now met.now) }
+{
+    match error {
+        DriverError::MixedParams
+        | DriverError::Params(_)
+        | DriverError::StmtParamsMismatch { .. }
+        | DriverError::StmtParamsNumberExceedsLimit { .. } => is_in_bytes(met),
+        _ => false,
+    }
+}
+
 fn error_met(error: &Error, met: &Met) -> bool
     ensures { Decides result (ErrorMet error.now met.now) }
 {
     match error {
         Error::Io(error) => io_met(error, met),
         Error::Server(_) => is_in_bytes(met),
-        Error::Driver(_) | Error::Url(_) | Error::Other(_) | Error::NoMemory => false,
+        Error::Driver(error) => driver_met(error, met),
+        Error::Url(_) | Error::Other(_) | Error::NoMemory => false,
     }
 }
 

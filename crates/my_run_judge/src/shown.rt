@@ -1,11 +1,11 @@
 //! What a line shows of calls, and what the tape says of them.
 
-ghost use Rattle.std.specs.Prelude.{◌≡◌, Err, Ok, Some};
+ghost use Rattle.std.specs.Prelude.{◌≡◌, Err, None, Ok, Some};
 ghost use Rattle.std.specs.Bool.{Decides};
 ghost use Rattle.std.specs.Option.{option_copied};
 ghost use Rattle.my_reading.specs.Calls.{kind_of};
 ghost use Rattle.my_script.specs.Streams.{is_skip};
-ghost use Rattle.my_acts.specs.Acts.{begun_by, taking_call};
+ghost use Rattle.my_acts.specs.Acts.{begun_by, closing_call, executing_call, taking_call};
 ghost use Rattle.my_run_judge.specs.Lines.{
   AreRows,
   IsBegun,
@@ -21,8 +21,11 @@ ghost use Rattle.my_run_judge.specs.Lines.{
 
 use my_frame::Blob;
 use my_judge::is_same_row;
+use my_params::Params;
 use my_reading::{Answer, Call, Error};
 use my_script::{Outcome, Step, TapeCall};
+use my_statements::Statement;
+use my_statements::laws::equal_statements_are_same;
 use my_value::Row;
 
 fn is_query(text: &Blob, call: &Call) -> bool
@@ -31,6 +34,68 @@ fn is_query(text: &Blob, call: &Call) -> bool
     match call {
         Call::Query(other) => other == text,
         _ => false,
+    }
+}
+
+fn is_prepare(text: &Blob, call: &Call) -> bool
+    ensures { Decides result (call.now ≡ Call.Prepare text.now) }
+{
+    match call {
+        Call::Prepare(other) => other == text,
+        _ => false,
+    }
+}
+
+fn is_same_statement(a: &Statement, b: &Statement) -> bool
+    ensures { Decides result (a.now ≡ b.now) }
+{
+    equal_statements_are_same();
+    a == b
+}
+
+fn is_same_params(a: &Params, b: &Params) -> bool
+    ensures { Decides result (a.now ≡ b.now) }
+{
+    a == b
+}
+
+fn is_execution(statement: &Statement, params: &Params, call: &Call) -> bool
+    ensures { Decides result (call.now ≡ Call.Execute statement.now params.now) }
+{
+    match call {
+        Call::Execute(other, values) => {
+            is_same_statement(other, statement) && is_same_params(values, params)
+        }
+        _ => false,
+    }
+}
+
+// Whether the call executes this statement, where it is there.
+fn is_executed(named: Option<&Statement>, params: &Params, call: &Call) -> bool
+    ensures { Decides result (IsCallOf (executing_call (option_copied named.entry) params.now) call.now) }
+{
+    match named {
+        Some(statement) => is_execution(statement, params, call),
+        None => true,
+    }
+}
+
+fn is_close(id: u32, call: &Call) -> bool
+    ensures { Decides result (call.now ≡ Call.CloseStmt id) }
+{
+    match call {
+        Call::CloseStmt(other) => *other == id,
+        _ => false,
+    }
+}
+
+// Whether the call closes this statement, where it is there.
+fn is_closed(named: Option<&Statement>, call: &Call) -> bool
+    ensures { Decides result (IsCallOf (closing_call (option_copied named.entry)) call.now) }
+{
+    match named {
+        Some(statement) => is_close(statement.id(), call),
+        None => true,
     }
 }
 
@@ -115,12 +180,15 @@ fn is_quit(call: &Call) -> bool
 }
 
 // Whether the step begins this call.
-fn begins(taken: bool, step: &Step, call: &Call) -> bool
-    ensures { Decides result (IsCallOf (begun_by taken step.now) call.now) }
+fn begins(taken: bool, named: Option<&Statement>, step: &Step, call: &Call) -> bool
+    ensures { Decides result (IsCallOf (begun_by taken (option_copied named.entry) step.now) call.now) }
 {
     match step {
         Step::Conn => is_connect(call),
         Step::Query(_, text) => is_query(text, call),
+        Step::Prepare(_, text) => is_prepare(text, call),
+        Step::Execute(_, _, params) => is_executed(named, params, call),
+        Step::CloseStatement(_, _) => is_closed(named, call),
         Step::Next(_) | Step::Collect(_) | Step::Item(_) => is_next(call),
         Step::Stream(_) => is_taking(taken, call),
         Step::Drop(_) => is_drop(call),
@@ -136,21 +204,28 @@ fn begins(taken: bool, step: &Step, call: &Call) -> bool
 }
 
 /// Whether the call in turn is the one that the step begins, if it begins one, where a stream took the set that is read
-/// or none did.
-pub fn is_begun(taken: bool, step: &Step, call: Option<&TapeCall>) -> bool
-    ensures { Decides result (IsBegun (begun_by taken step.now) (option_copied call.entry)) }
+/// or none did, and with the statement that the step names.
+pub fn is_begun(
+    taken: bool,
+    named: Option<&Statement>,
+    step: &Step,
+    call: Option<&TapeCall>,
+) -> bool
+    ensures { let begun = begun_by taken (option_copied named.entry) step.now in
+        Decides result (IsBegun begun (option_copied call.entry)) }
 {
     match call {
-        Some(call) => begins(taken, step, &call.call),
-        None => matches!(
-            step,
+        Some(call) => begins(taken, named, step, &call.call),
+        None => match step {
+            Step::Execute(_, _, _) | Step::CloseStatement(_, _) => named.is_none(),
             Step::Unstream(_)
-                | Step::Fields(_)
-                | Step::Poll(_)
-                | Step::Cancel(_)
-                | Step::Advance(_)
-                | Step::Random(_)
-        ),
+            | Step::Fields(_)
+            | Step::Poll(_)
+            | Step::Cancel(_)
+            | Step::Advance(_)
+            | Step::Random(_) => true,
+            _ => false,
+        },
     }
 }
 
@@ -180,6 +255,16 @@ fn are_rows(rows: &[Row], calls: &[TapeCall]) -> bool
         others = later_calls;
     }
     others.is_empty()
+}
+
+// Whether the call returned this statement.
+fn is_statement(statement: &Statement, answer: &Option<Result<Answer, Error>>) -> bool
+    ensures { Decides result (answer.now ≡ Some (Ok (Answer.Stmt statement.now))) }
+{
+    match answer {
+        Some(Ok(Answer::Stmt(other))) => is_same_statement(other, statement),
+        _ => false,
+    }
 }
 
 fn is_ready(answer: &Option<Result<Answer, Error>>) -> bool
@@ -237,6 +322,7 @@ fn is_shown(outcome: &Outcome, answer: &Option<Result<Answer, Error>>, before: &
         Outcome::NoSet => is_no_set(answer),
         Outcome::Row(row) => is_row(row, answer),
         Outcome::Rows(rows) => is_gathered(rows.as_slice(), answer, before),
+        Outcome::Prepared(statement) => is_statement(statement, answer),
         Outcome::Failed(error) => is_error(error, answer),
         Outcome::Pending | Outcome::Fields(_) | Outcome::NoSuchHandle => false,
     }

@@ -15,6 +15,7 @@ use my_grammar::{Login, Spot as Reading};
 use my_judge::{Ending, Reader, between};
 use my_reading::{Answer, Error};
 use my_script::{Step, Tape, TapeCall};
+use my_statements::Statement;
 use std::alloc::Global;
 
 /// Where the lines so far are at a connection.
@@ -92,11 +93,11 @@ impl Walker {
             && (stand.end_left || stand.context.spot == Reading::Rows)
     }
 
-    /// Whether the call in turn is the one that the step begins, if it begins one.
-    pub fn begins(&self, tape: &Tape, step: &Step) -> bool
-        ensures { Begins (seen tape.now) step.now self.now result }
+    /// Whether the call in turn is the one that the step begins, if it begins one, with the statement that it names.
+    pub fn begins(&self, tape: &Tape, named: Option<&Statement>, step: &Step) -> bool
+        ensures { Begins (seen tape.now) (option_copied named.entry) step.now self.now result }
     {
-        is_begun(self.is_taken(), step, tape.calls.get(self.spot.next))
+        is_begun(self.is_taken(), named, step, tape.calls.get(self.spot.next))
     }
 
     // Reads the call in turn over its bytes.

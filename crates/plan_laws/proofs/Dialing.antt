@@ -2,6 +2,8 @@
 use Rattle.std.proofs.Common.{◌≡◌, ◌≢◌, ◌⊎◌, ◌<◌, inl, inr, ℕ, ◌+◌, ◌==◌, List, [], ◌∷◌, ◌++◌, length, drop, map, Bool, true, false, Option, Some, None, refl, sym, ap, ◌∙◌, subst, arith, length-append, if◌then◌else◌}
 use Rattle.std.proofs.lemmas.Bool.Decides.{nat_tests}
 use Rattle.std.proofs.lemmas.List.{append_assoc, append-nil}
+use Rattle.my_params.specs.declared.params.Params.{Params}
+use Rattle.my_statements.specs.Prepared.{StatementView}
 use Rattle.my_grammar.specs.declared.login.Login.{Login}
 use Rattle.my_link.specs.Link.{Told}
 use Rattle.my_link.specs.declared.dialer.DialItem.{DialItem}
@@ -16,7 +18,7 @@ use Rattle.my_script.specs.declared.transcript.Use.{Use}
 use Rattle.my_world.specs.declared.line.WorldLine.{WorldLine}
 use Rattle.my_world.specs.Plan.{all_given, dials_of}
 use Rattle.my_world.specs.World.{Plans, HeldBy, FailedBy, GivenBy}
-use Rattle.my_steps.specs.Grows.{At, AreGrown, Dials, Holds, Fails, Links, GoesOn, ItemsAt, Line, StepGrows, UnstreamsAt, handles_after}
+use Rattle.my_steps.specs.Grows.{At, AreGrown, Dials, Holds, Fails, Links, ClosesAt, ExecutesAt, GoesOn, ItemsAt, Line, StepGrows, UnstreamsAt, handles_after}
 use Rattle.my_steps.specs.Handle.{Handle, Dialing, at_number}
 use Rattle.my_run.specs.Headline.{AnswerView, answer_view, answers_of, steps_of}
 use Rattle.my_run_judge.specs.Transcripts.{dialed_by}
@@ -88,8 +90,8 @@ module _ (login : Login) (plans : Plans) (lines : List WorldLine) (told : ArePla
       by_spot Over l = tt
 
   -- another number is dialed, or this one
-  conn_ahead : (there : Bool) (k : ℕ) (left : List DialItem) (hs ts : List Handle) (o : Outcome) (us : List Use) → StandsAt hs (Ahead k) left → StepGrows login plans there hs steps.Conn o us ts → LineSo (Ahead k) left steps.Conn us ts
-  conn_ahead there k left hs ts o us s r = by_test (k == 0) refl
+  conn_ahead : (there : Bool) (statement : Option StatementView) (k : ℕ) (left : List DialItem) (hs ts : List Handle) (o : Outcome) (us : List Use) → StandsAt hs (Ahead k) left → StepGrows login plans there statement hs steps.Conn o us ts → LineSo (Ahead k) left steps.Conn us ts
+  conn_ahead there statement k left hs ts o us s r = by_test (k == 0) refl
     where
       grown : length ts ≡ length hs + 1
       grown = ap length r.others ∙ length-append hs (r.made ∷ [])
@@ -106,15 +108,18 @@ module _ (login : Login) (plans : Plans) (lines : List WorldLine) (told : ArePla
           let sum : length hs + k ≡ n = s.0 in
           (tt, (omega (arith, grown, some, sum), s.1))
 
-  ahead_so : (there : Bool) (k : ℕ) (left : List DialItem) (hs ts : List Handle) (step : Step) (o : Outcome) (us : List Use) → StandsAt hs (Ahead k) left → StepGrows login plans there hs step o us ts → LineSo (Ahead k) left step us ts
-  ahead_so there k left hs ts step o us s r = by_step step r (step_dials login plans there hs ts step o us r)
+  ahead_so : (there : Bool) (statement : Option StatementView) (k : ℕ) (left : List DialItem) (hs ts : List Handle) (step : Step) (o : Outcome) (us : List Use) → StandsAt hs (Ahead k) left → StepGrows login plans there statement hs step o us ts → LineSo (Ahead k) left step us ts
+  ahead_so there statement k left hs ts step o us s r = by_step step r (step_dials login plans there statement hs ts step o us r)
     where
       stays : length ts ≡ length hs + 0 → StandsAt ts (Ahead k) left
       stays e = let sum : length hs + k ≡ n = s.0 in (omega (arith, e, sum), s.1)
 
-      by_step : (x : Step) → StepGrows login plans there hs x o us ts → length ts ≡ length hs + dialed_by x → LineSo (Ahead k) left x us ts
-      by_step steps.Conn g e = conn_ahead there k left hs ts o us s g
+      by_step : (x : Step) → StepGrows login plans there statement hs x o us ts → length ts ≡ length hs + dialed_by x → LineSo (Ahead k) left x us ts
+      by_step steps.Conn g e = conn_ahead there statement k left hs ts o us s g
       by_step (steps.Query m text) g e = (tt, stays e)
+      by_step (steps.Prepare m text) g e = (tt, stays e)
+      by_step (steps.Execute m number params) g e = (tt, stays e)
+      by_step (steps.CloseStatement m number) g e = (tt, stays e)
       by_step (steps.Next m) g e = (tt, stays e)
       by_step (steps.Collect m) g e = (tt, stays e)
       by_step (steps.Drop m) g e = (tt, stays e)
@@ -180,33 +185,44 @@ module _ (login : Login) (plans : Plans) (lines : List WorldLine) (told : ArePla
     unstreams_held true made r = r.same
     unstreams_held false made r = r.same
 
+    executes_held : (q : Option StatementView) (params : Params) (m : ℕ) (made : Handle) → ExecutesAt q login m params (Dialing (Some left)) o us made → made ≡ Dialing (Some left)
+    executes_held (Some prepared) params m made r = r.same
+    executes_held None params m made r = r.same
+
+    closes_held : (q : Option StatementView) (m : ℕ) (made : Handle) → ClosesAt q login m (Dialing (Some left)) o us made → made ≡ Dialing (Some left)
+    closes_held (Some prepared) m made r = r.same
+    closes_held None m made r = r.same
+
     unmoved : ts ≡ hs → StandsAt ts Held left
     unmoved e = subst (λ (xs : List Handle). StandsAt xs Held left) (sym e) s
 
-    held_so : (there : Bool) (step : Step) → StepGrows login plans there hs step o us ts → LineSo Held left step us ts
-    held_so there steps.Conn r =
+    held_so : (there : Bool) (statement : Option StatementView) (step : Step) → StepGrows login plans there statement hs step o us ts → LineSo Held left step us ts
+    held_so there statement steps.Conn r =
         let grown = ap length r.others ∙ length-append hs (r.made ∷ []) in
         let under = s.0 in
         (tt, (omega (arith, grown, under), ap (λ (xs : List Handle). at_number xs n) r.others ∙ push_before hs r.made n s.0 ∙ s.1))
-    held_so there (steps.Query m text) r = (tt, refused m _ (λ made d. d.same) r)
-    held_so there (steps.Next m) r = (tt, refused m _ (λ made d. d.same) r)
-    held_so there (steps.Collect m) r = (tt, refused m _ (λ made d. d.same) r)
-    held_so there (steps.Drop m) r = (tt, refused m _ (λ made d. d.same) r)
-    held_so there (steps.Ping m) r = (tt, refused m _ (λ made d. d.same) r)
-    held_so there (steps.Quit m) r = (tt, refused m _ (λ made d. d.same) r)
-    held_so there (steps.Stream m) r = (tt, refused m _ (λ made d. d.same) r)
-    held_so there (steps.Item m) r = (tt, refused m _ (items_held there m) r)
-    held_so there (steps.Unstream m) r = (tt, refused m _ (unstreams_held there) r)
-    held_so there (steps.Fields m) r = (tt, refused m _ (λ made d. d.same) r)
-    held_so there (steps.Poll m) r = polled m r
-    held_so there (steps.Cancel m) r = (tt, cancelled m _ r)
-    held_so there (steps.Advance by) r = (tt, unmoved r.same)
-    held_so there (steps.Random word) r = (tt, unmoved r.same)
+    held_so there statement (steps.Query m text) r = (tt, refused m _ (λ made d. d.same) r)
+    held_so there statement (steps.Prepare m text) r = (tt, refused m _ (λ made d. d.same) r)
+    held_so there statement (steps.Execute m number params) r = (tt, refused m _ (executes_held statement params m) r)
+    held_so there statement (steps.CloseStatement m number) r = (tt, refused m _ (closes_held statement m) r)
+    held_so there statement (steps.Next m) r = (tt, refused m _ (λ made d. d.same) r)
+    held_so there statement (steps.Collect m) r = (tt, refused m _ (λ made d. d.same) r)
+    held_so there statement (steps.Drop m) r = (tt, refused m _ (λ made d. d.same) r)
+    held_so there statement (steps.Ping m) r = (tt, refused m _ (λ made d. d.same) r)
+    held_so there statement (steps.Quit m) r = (tt, refused m _ (λ made d. d.same) r)
+    held_so there statement (steps.Stream m) r = (tt, refused m _ (λ made d. d.same) r)
+    held_so there statement (steps.Item m) r = (tt, refused m _ (items_held there m) r)
+    held_so there statement (steps.Unstream m) r = (tt, refused m _ (unstreams_held there) r)
+    held_so there statement (steps.Fields m) r = (tt, refused m _ (λ made d. d.same) r)
+    held_so there statement (steps.Poll m) r = polled m r
+    held_so there statement (steps.Cancel m) r = (tt, cancelled m _ r)
+    held_so there statement (steps.Advance by) r = (tt, unmoved r.same)
+    held_so there statement (steps.Random word) r = (tt, unmoved r.same)
 
-  line_so : (there : Bool) (spot : DialSpot) (left : List DialItem) (hs ts : List Handle) (step : Step) (o : Outcome) (us : List Use) → StandsAt hs spot left → StepGrows login plans there hs step o us ts → LineSo spot left step us ts
-  line_so there (Ahead k) left hs ts step o us s r = ahead_so there k left hs ts step o us s r
-  line_so there Held left hs ts step o us s r = held_so left hs ts o us s there step r
-  line_so there Over left hs ts step o us s r = (tt, tt)
+  line_so : (there : Bool) (statement : Option StatementView) (spot : DialSpot) (left : List DialItem) (hs ts : List Handle) (step : Step) (o : Outcome) (us : List Use) → StandsAt hs spot left → StepGrows login plans there statement hs step o us ts → LineSo spot left step us ts
+  line_so there statement (Ahead k) left hs ts step o us s r = ahead_so there statement k left hs ts step o us s r
+  line_so there statement Held left hs ts step o us s r = held_so left hs ts o us s there statement step r
+  line_so there statement Over left hs ts step o us s r = (tt, tt)
 
   -- after these lines
   record RanSo (ls : List Line) : Type 0 where
@@ -219,7 +235,7 @@ module _ (login : Login) (plans : Plans) (lines : List WorldLine) (told : ArePla
   ran [] grown = record { spot = Ahead n; left = first; stands = (omega arith, refl); reaches = λ ss vs r. r }
   ran (l ∷ ls) grown =
       let before : RanSo ls = ran ls grown.1 in
-      let line : LineSo before.spot before.left l.step l.uses l.handles = line_so _ before.spot before.left (handles_after ls) l.handles l.step l.outcome l.uses before.stands grown.0.answer in
+      let line : LineSo before.spot before.left l.step l.uses l.handles = line_so _ _ before.spot before.left (handles_after ls) l.handles l.step l.outcome l.uses before.stands grown.0.answer in
       let view : AnswerView = record { number = l.number; outcome = l.outcome; uses = l.uses } in
       record {
         spot = after_step n before.spot before.left l.step;

@@ -2,6 +2,8 @@
 use Rattle.std.proofs.Common.{ℕ, ◌≡◌, List, [], ◌∷◌, ◌++◌, Option, Some, None, Bool, true, false, refl, sym, ap, ◌∙◌, subst}
 use Rattle.std.proofs.lemmas.List.{append-nil}
 use Rattle.my_value.specs.RowParts.{RowParts}
+use Rattle.my_params.specs.declared.params.Params.{Params}
+use Rattle.my_statements.specs.Prepared.{StatementView}
 use Rattle.my_grammar.specs.declared.login.Login.{Login}
 use Rattle.my_link.specs.declared.dialer.DialItem.{DialItem}
 use Rattle.my_link.specs.declared.link.ReadItem.{ReadItem}
@@ -9,7 +11,7 @@ use Rattle.my_link.specs.declared.link.WriteItem.{WriteItem}
 use Rattle.my_link.specs.Looks.{Looks}
 use Rattle.my_reading.specs.declared.answer.Answer.TheVariants as answers
 use Rattle.my_reading.specs.declared.call.Call.{Call}
-use Rattle.my_reading.specs.declared.call.Call.TheVariants.{NextRow, TakeSet, SkipTaken}
+use Rattle.my_reading.specs.declared.call.Call.TheVariants.{Execute, CloseStmt, NextRow, TakeSet, SkipTaken}
 use Rattle.my_reading.specs.Calls.{kind_of}
 use Rattle.my_client.specs.declared.poll.After.{After}
 use Rattle.my_client.specs.declared.poll.After.TheVariants as after
@@ -18,7 +20,7 @@ use Rattle.my_script.specs.declared.transcript.Use.{Use}
 use Rattle.my_script.specs.Streams.{is_skip}
 use Rattle.my_world.specs.World.{Plans}
 use Rattle.my_client.specs.Kept.{Asked, Kept, asking, asked_by, first_asked, first_kept}
-use Rattle.my_steps.specs.Grows.{IsRefused, OnConnection, PolledOnce, IsClosed, Begins, BeginsOn, Calls, ConnectShows, Connects, HasPlan, Gathers, GathersOn, Collects, CollectsOn, CollectsAt, PollsOn, PollsCall, ThenTakes, Skips, Takes, TakesOn, StreamsAt, ItemsAt, LetsGoWith, UnstreamsAt, GoesOnWith, GoesOn, CancelsWith, Cancels, TellsWith, TellsFields, is_done, skips_first}
+use Rattle.my_steps.specs.Grows.{IsRefused, OnConnection, PolledOnce, IsClosed, Begins, BeginsOn, Calls, ConnectShows, Connects, HasPlan, Gathers, GathersOn, Collects, CollectsOn, CollectsAt, PollsOn, PollsCall, ThenTakes, Skips, Takes, TakesOn, StreamsAt, ItemsAt, LetsGoWith, UnstreamsAt, ExecutesAt, ClosesAt, GoesOnWith, GoesOn, CancelsWith, Cancels, TellsWith, TellsFields, is_done, skips_first}
 use Rattle.my_steps.specs.Grows as grows
 use Rattle.my_steps.specs.Handle.{Handle, Absent, Dialing, Joined}
 use Rattle.my_steps.specs.Sums.{failed_use, held_use, quiet}
@@ -107,6 +109,7 @@ module _ (n : ℕ) (is : List ReadItem) (ws : List WriteItem) where
   gathers_on More u us a end x y taken o t (after.Answered (answers.Row row)) more w r = more _ _ refl r
   gathers_on More u us a end x y taken o t (after.Answered answers.SetEnd) more w r = one true end x y taken u (u ∷ us) t (ap (λ (vs : List Use). u ∷ vs) r.1) w r.2
   gathers_on More u us a end x y taken o t (after.Answered answers.NoSet) more w r = one true end x y taken u (u ∷ us) t (ap (λ (vs : List Use). u ∷ vs) r.1) w r.2
+  gathers_on More u us a end x y taken o t (after.Answered (answers.Stmt prepared)) more w r = one true end x y taken u (u ∷ us) t (ap (λ (vs : List Use). u ∷ vs) r.1) w r.2
   gathers_on More u us a end x y taken o t (after.Failed e) more w r = one true end x y taken u (u ∷ us) t (ap (λ (vs : List Use). u ∷ vs) r.1) w r.2
 
   gathers : (login : Login) (us : List Use) (a : Asked) (k : Kept) (x : Looks) (o : Outcome) (t : Handle) → Gathers login n us a k x o t → WalksTo n us x k.taken t
@@ -170,6 +173,14 @@ module _ (n : ℕ) (is : List ReadItem) (ws : List WriteItem) where
   pub items_go : (b : Bool) (login : Login) (o : Outcome) (us : List Use) (h t : Handle) → ItemsAt b login n h o us t → Goes n is ws h us t
   items_go true login o us h t r = calls_go login NextRow o us h t r
   items_go false login o us h t r = refused h o us t r
+
+  pub executes_go : (q : Option StatementView) (login : Login) (params : Params) (o : Outcome) (us : List Use) (h t : Handle) → ExecutesAt q login n params h o us t → Goes n is ws h us t
+  executes_go (Some prepared) login params o us h t r = calls_go login (Execute prepared params) o us h t r
+  executes_go None login params o us h t r = refused h o us t r
+
+  pub closes_go : (q : Option StatementView) (login : Login) (o : Outcome) (us : List Use) (h t : Handle) → ClosesAt q login n h o us t → Goes n is ws h us t
+  closes_go (Some prepared) login o us h t r = calls_go login (CloseStmt prepared.inner.id) o us h t r
+  closes_go None login o us h t r = refused h o us t r
 
   lets_go_with : (q : Option Asked) (k : Kept) (x : Looks) (o : Outcome) (us : List Use) (t : Handle) → LetsGoWith q k x o us t → WalksTo n us x k.taken t
   lets_go_with None k x o us t r = rests true k k x us t r.uses refl r.left

@@ -24,6 +24,7 @@ fn login(alloc: Global) -> Login {
         wait_timeout: None,
         init: Listed::new(alloc),
         setup: Listed::new(alloc),
+        statements: 32,
     }
 }
 

@@ -1,6 +1,7 @@
 //! Connections whose dial fails, isn't ready, or gives a link that doesn't answer, and steps that move the world.
 
 use crate::lines::{Lines, Meets, dial_fault};
+use my_params::Params;
 use my_run_judge::Found;
 use my_script::{Outcome, Step};
 use std::test::Fail;
@@ -83,5 +84,29 @@ fn a_moved_world_uses_no_link(rt: HostRuntime) -> Result<(), Fail> {
     let mut lines = Lines::new(alloc);
     lines.line(alloc, Step::Random(7), Outcome::Done, &[Meets::Nothing])?;
     assert_eq!(rt; lines.found(alloc, false)?, Found::Wrong(0));
+    Ok(())
+}
+
+#[test]
+fn a_statement_is_not_there(rt: HostRuntime) -> Result<(), Fail> {
+    let alloc = rt.alloc();
+    let mut lines = Lines::new(alloc);
+    let handshake = &[Meets::Nothing, Meets::Hold];
+    lines.line(alloc, Step::Conn, Outcome::Pending, handshake)?;
+    lines.line(
+        alloc,
+        Step::Execute(0, 0, Params::Empty),
+        Outcome::NoSuchHandle,
+        &[],
+    )?;
+    lines.line(
+        alloc,
+        Step::CloseStatement(0, 0),
+        Outcome::NoSuchHandle,
+        &[],
+    )?;
+    assert_eq!(rt; lines.found(alloc, true)?, Found::Right);
+    lines.line(alloc, Step::CloseStatement(0, 0), Outcome::Done, &[])?;
+    assert_eq!(rt; lines.found(alloc, true)?, Found::Wrong(3));
     Ok(())
 }

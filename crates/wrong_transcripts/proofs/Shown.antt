@@ -1,6 +1,7 @@
 -- What a transcript shows of one connection is what the connection kept.
 use Rattle.std.proofs.Common.{◌≡◌, ℕ, ◌+◌, List, [], ◌∷◌, ◌++◌, length, map, Bool, true, false, ◌&&◌, ◌||◌, Option, Some, None, refl, sym, ap, ◌∙◌, subst, arith}
 use Rattle.std.proofs.lemmas.List.{length-append, length-map, map-append, append_assoc, append-nil}
+use Rattle.my_statements.specs.Prepared.{StatementView}
 use Rattle.my_grammar.specs.declared.login.Login.{Login}
 use Rattle.my_reading.specs.declared.answer.Answer.{Answer}
 use Rattle.my_reading.specs.declared.answer.Answer.TheVariants as answers
@@ -15,7 +16,7 @@ use Rattle.my_reply.specs.declared.ok.OkPacket.{OkPacket}
 use Rattle.my_reading.specs.Errors.{connection_closed, io_error}
 use Rattle.my_reading.specs.Reading.{reading}
 use Rattle.my_reading.specs.Tape.{Span, TapeCall, Tape as ReadTape}
-use Rattle.my_reading.specs.Told.{Told, ToldReady, ToldRow, ToldEnd, ToldNone, ToldError, Dropped, told}
+use Rattle.my_reading.specs.Told.{Told, ToldReady, ToldRow, ToldEnd, ToldNone, ToldStatement, ToldError, Dropped, told}
 use Rattle.my_session.specs.Fits.{may_be}
 use Rattle.my_session.specs.History.{has_closed}
 use Rattle.my_session.specs.Steps.{is_refused}
@@ -27,7 +28,7 @@ use Rattle.my_link.specs.Looks.{Looks}
 use Rattle.my_script.specs.declared.step.Step.{Step}
 use Rattle.my_script.specs.declared.step.Step.TheVariants as steps
 use Rattle.my_script.specs.declared.transcript.Outcome.{Outcome}
-use Rattle.my_script.specs.declared.transcript.Outcome.TheVariants.{Done, Pending, SetEnd, NoSet, Row, Rows, Fields, Connected, Failed, NoSuchHandle}
+use Rattle.my_script.specs.declared.transcript.Outcome.TheVariants.{Done, Pending, SetEnd, NoSet, Row, Rows, Prepared, Fields, Connected, Failed, NoSuchHandle}
 use Rattle.my_script.specs.declared.transcript.StepAnswer.{StepAnswer}
 use Rattle.my_script.specs.declared.transcript.Tape.{Tape}
 use Rattle.my_script.specs.declared.transcript.Use.{Use}
@@ -61,6 +62,7 @@ ending_by SetEnd = Some ToldEnd
 ending_by NoSet = Some ToldNone
 ending_by (Row row) = Some (ToldRow row)
 ending_by (Rows rows) = None
+ending_by (Prepared statement) = Some (ToldStatement statement)
 ending_by (Fields fields) = None
 ending_by (Connected number id version) = Some ToldReady
 ending_by (Failed e) = Some (ToldError e)
@@ -92,6 +94,7 @@ ending_back (Some ToldReady) s = refl
 ending_back (Some (ToldRow row)) s = refl
 ending_back (Some ToldEnd) s = refl
 ending_back (Some ToldNone) s = refl
+ending_back (Some (ToldStatement statement)) s = refl
 ending_back (Some (ToldError e)) s = refl
 ending_back (Some (Dropped closing)) s = cc
 
@@ -143,6 +146,7 @@ shown_by answers.Ready = refl
 shown_by (answers.Row row) = refl
 shown_by answers.SetEnd = refl
 shown_by answers.NoSet = refl
+shown_by (answers.Stmt statement) = refl
 
 once_went : (login : Login) (k : Kept) (call : Call) (x : Looks) (o : Outcome) (us : List Use) (t : Handle) → PolledOnce login 0 (asked_by k call) (asking k call None) x o us t → Went k call o (taken_in us) t
 unfolding ending_by
@@ -237,16 +241,19 @@ module _ (login : Login) (plans : Plans) where
   )
 
   -- one step at connection 0
-  step_went : (call : Call) → is_stepped (kind_of call) ≡ true → (k : Kept) (x : Looks) (hs : List Handle) (o : Outcome) (us : List Use) (ms : List Handle) → hs ≡ Joined true k x ∷ [] → k.pending ≡ None → (there : Bool) → StepGrows login plans there hs (step_of call) o us ms
+  step_went : (call : Call) → is_stepped (kind_of call) ≡ true → (k : Kept) (x : Looks) (hs : List Handle) (o : Outcome) (us : List Use) (ms : List Handle) → hs ≡ Joined true k x ∷ [] → k.pending ≡ None → (there : Bool) (statement : Option StatementView) → StepGrows login plans there statement hs (step_of call) o us ms
       → (h : Handle) × (ms ≡ h ∷ []) × Went k call o (taken_in us) h
-  step_went calls.Connect plain k x hs o us ms is rest there g = cc
-  step_went (calls.Query text) plain k x hs o us ms is rest there g = at_went (calls.Query text) k x hs o us ms is rest g.made g.does g.others
-  step_went calls.NextRow plain k x hs o us ms is rest there g = at_went calls.NextRow k x hs o us ms is rest g.made g.does g.others
-  step_went calls.DropResult plain k x hs o us ms is rest there g = at_went calls.DropResult k x hs o us ms is rest g.made g.does g.others
-  step_went calls.TakeSet plain k x hs o us ms is rest there g = cc
-  step_went calls.SkipTaken plain k x hs o us ms is rest there g = cc
-  step_went calls.Ping plain k x hs o us ms is rest there g = at_went calls.Ping k x hs o us ms is rest g.made g.does g.others
-  step_went calls.Quit plain k x hs o us ms is rest there g = at_went calls.Quit k x hs o us ms is rest g.made g.does g.others
+  step_went calls.Connect plain k x hs o us ms is rest there statement g = cc
+  step_went (calls.Query text) plain k x hs o us ms is rest there statement g = at_went (calls.Query text) k x hs o us ms is rest g.made g.does g.others
+  step_went (calls.Prepare text) plain k x hs o us ms is rest there statement g = at_went (calls.Prepare text) k x hs o us ms is rest g.made g.does g.others
+  step_went (calls.Execute prepared params) plain k x hs o us ms is rest there statement g = cc
+  step_went (calls.CloseStmt id) plain k x hs o us ms is rest there statement g = cc
+  step_went calls.NextRow plain k x hs o us ms is rest there statement g = at_went calls.NextRow k x hs o us ms is rest g.made g.does g.others
+  step_went calls.DropResult plain k x hs o us ms is rest there statement g = at_went calls.DropResult k x hs o us ms is rest g.made g.does g.others
+  step_went calls.TakeSet plain k x hs o us ms is rest there statement g = cc
+  step_went calls.SkipTaken plain k x hs o us ms is rest there statement g = cc
+  step_went calls.Ping plain k x hs o us ms is rest there statement g = at_went calls.Ping k x hs o us ms is rest g.made g.does g.others
+  step_went calls.Quit plain k x hs o us ms is rest there statement g = at_went calls.Quit k x hs o us ms is rest g.made g.does g.others
 
   through : (ss : List Span) → are_plain ss ≡ true → (k : Kept) (x : Looks) (hs : List Handle) → hs ≡ Joined true k x ∷ [] → (is_last ss ≡ false → k.pending ≡ None) → (vs : List AnswerView) → map (λ b. b.outcome) vs ≡ map (λ s. outcome_of s.ending) ss → map (λ b. taken_in b.uses) vs ≡ map (λ s. length s.taken) ss
       → (ts : List Handle) → Chain login plans hs (map (λ s. step_of s.call) ss) vs ts → Led k ss ts
@@ -260,7 +267,7 @@ module _ (login : Login) (plans : Plans) where
       let later = right_of (is_shown s.ending) _ others in
       let ends = left_of (is_last ss || is_told s.ending) _ later in
       let plain_on = right_of (is_last ss || is_told s.ending) _ later in
-      let g = step_went s.call begins k x hs a.outcome a.uses c.0 is (rest refl) c.1.0 c.1.1 in
+      let g = step_went s.call begins k x hs a.outcome a.uses c.0 is (rest refl) c.1.0 c.1.1 c.1.2 in
       let w = g.2 in
       let ending : w.ending ≡ s.ending = w.ending_is ∙ ap ending_by (head_same a.outcome (outcome_of s.ending) _ _ outs) ∙ ending_back s.ending shows in
       let told : is_last ss ≡ false → is_told w.ending ≡ true = λ more. ap is_told ending ∙ or_right (is_last ss) (is_told s.ending) more ends in
@@ -273,6 +280,7 @@ ready_answer answers.Ready e = refl
 ready_answer (answers.Row row) e = cc
 ready_answer answers.SetEnd e = cc
 ready_answer answers.NoSet e = cc
+ready_answer (answers.Stmt statement) e = cc
 
 connects_went : (login : Login) (x : Looks) (o : Outcome) (us : List Use) (used : Use) (t : Handle) (id : ℕ) (version : ServerVersion) → o ≡ Connected 0 id version → us ≡ quiet 0 ∷ used ∷ [] → Connects login 0 first_asked first_kept x o used t → Went nothing_kept calls.Connect o (taken_in us) t
 unfolding ending_by
@@ -333,12 +341,12 @@ connected_ending id version = refl
 led_all : (login : Login) (plans : Plans) (a : StepAnswer) (vs : List StepAnswer) (t : Tape) (s : Span) (ss : List Span) (ts : List Handle) → s.call ≡ calls.Connect → s.ending ≡ Some ToldReady → are_plain ss ≡ true → Shows a vs t s ss
     → Chain login plans [] (steps.Conn ∷ map (λ c. step_of c.call) ss) (map answer_view (a ∷ vs)) ts → Led nothing_kept (s ∷ ss) ts
 led_all login plans a vs t s ss ts connects ready plain w chain =
-    let made = dials_went login (plans.reads 0) (plans.writes 0) (plans.dials 0) a.outcome a.uses.items chain.1.1.made w.id w.version w.made chain.1.1.dials in
-    let made_so : Went nothing_kept s.call a.outcome (taken_in a.uses.items) chain.1.1.made = subst (λ (c : Call). Went nothing_kept c a.outcome (taken_in a.uses.items) chain.1.1.made) (sym connects) made in
+    let made = dials_went login (plans.reads 0) (plans.writes 0) (plans.dials 0) a.outcome a.uses.items chain.1.2.made w.id w.version w.made chain.1.2.dials in
+    let made_so : Went nothing_kept s.call a.outcome (taken_in a.uses.items) chain.1.2.made = subst (λ (c : Call). Went nothing_kept c a.outcome (taken_in a.uses.items) chain.1.2.made) (sym connects) made in
     let ending : made_so.ending ≡ s.ending = made_so.ending_is ∙ ap ending_by w.made ∙ connected_ending w.id w.version ∙ sym ready in
     let told : is_told made_so.ending ≡ true = ap is_told (ending ∙ ready) in
-    let rest = through login plans ss plain made_so.kept made_so.link chain.0 (chain.1.1.others ∙ ap (λ (x : Handle). x ∷ []) made_so.left) (λ more. made_so.rests told) (map answer_view vs) (views_outcomes vs ∙ w.outcomes) (views_taken vs ∙ w.taken) ts chain.2 in
-    joined nothing_kept s ss ts a.outcome (taken_in a.uses.items) chain.1.1.made made_so refl ending w.made_taken rest
+    let rest = through login plans ss plain made_so.kept made_so.link chain.0 (chain.1.2.others ∙ ap (λ (x : Handle). x ∷ []) made_so.left) (λ more. made_so.rests told) (map answer_view vs) (views_outcomes vs ∙ w.outcomes) (views_taken vs ∙ w.taken) ts chain.2 in
+    joined nothing_kept s ss ts a.outcome (taken_in a.uses.items) chain.1.2.made made_so refl ending w.made_taken rest
 
 -- what the connection kept is what its printed tape shows
 kept_shown : (a : StepAnswer) (vs : List StepAnswer) (t : Tape) (s : Span) (ss : List Span) (ts : List Handle) → Shows a vs t s ss → (all : Led nothing_kept (s ∷ ss) ts) → map tape_view (t ∷ []) ≡ tapes_in 0 ts → tape_kept all.kept ≡ tape_of (s ∷ ss)
@@ -394,7 +402,7 @@ shown_fields login plans before later a b vs t s ss fields connects ready plain 
     omega (arith, x, y, z, u, v) in
     let split = chain_split login plans [] (steps.Conn ∷ map (λ c. step_of c.call) ss) (map answer_view (a ∷ vs)) (steps.Fields 0) (answer_view b) ts count chain in
     let all = led_all login plans a vs t s ss split.0 connects ready plain w split.1 in
-    let told = tells all.kept.pending login all.kept all.link b.outcome b.uses.items split.3.made fields (subst (λ (hs : List Handle). TellsFields login (at_number hs 0) b.outcome b.uses.items split.3.made) all.left split.3.does) is in
-    let left : ts ≡ Joined true all.kept all.link ∷ [] = split.3.others ∙ ap (put_at 0 split.3.made) all.left ∙ ap (λ (x : Handle). x ∷ []) told.0 in
+    let told = tells all.kept.pending login all.kept all.link b.outcome b.uses.items split.4.made fields (subst (λ (hs : List Handle). TellsFields login (at_number hs 0) b.outcome b.uses.items split.4.made) all.left split.4.does) is in
+    let left : ts ≡ Joined true all.kept all.link ∷ [] = split.4.others ∙ ap (put_at 0 split.4.made) all.left ∙ ap (λ (x : Handle). x ∷ []) told.0 in
     let on : Led nothing_kept (s ∷ ss) ts = record { kept = all.kept; link = all.link; left = left; more = all.more; calls = all.calls; are = all.are } in
     told.1 ∙ ap (λ (r : ReadTape). (facts_at login (reading login r).place).ok) (kept_shown a vs t s ss ts w on h.tapes_are)

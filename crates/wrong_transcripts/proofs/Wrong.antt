@@ -54,5 +54,7 @@ are_wrong = record {
   late_link_end = none_shows _ refl tapes_are_wrong.late_link_end;
   invented_fault = none_shows _ refl tapes_are_wrong.invented_fault;
   lost_error = none_shows _ refl tapes_are_wrong.lost_error;
+  other_number = none_shows _ refl tapes_are_wrong.other_number;
+  prepared_again = none_shows _ refl tapes_are_wrong.prepared_again;
   unread_fields = λ plans before later a b answers t w is h. not_read (shown_fields root plans before later a b answers t connected (early ∷ []) (fields_of 1) refl refl refl w is h);
 }

@@ -1,3 +1,4 @@
 pub mod Shown
 pub mod Wrong
 pub mod Streams
+pub mod Statements

@@ -9,11 +9,11 @@ use Rattle.my_reading.specs.declared.call.CallKind.{CallKind}
 use Rattle.my_reading.specs.declared.call.CallKind.TheVariants as kinds
 use Rattle.my_reading.specs.Calls.{kind_of}
 use Rattle.my_reading.specs.Tape.{Span}
-use Rattle.my_reading.specs.Told.{Told, ToldReady, ToldRow, ToldEnd, ToldNone, ToldError, Dropped}
+use Rattle.my_reading.specs.Told.{Told, ToldReady, ToldRow, ToldEnd, ToldNone, ToldStatement, ToldError, Dropped}
 use Rattle.my_script.specs.declared.step.Step.{Step}
 use Rattle.my_script.specs.declared.step.Step.TheVariants as steps
 use Rattle.my_script.specs.declared.transcript.Outcome.{Outcome}
-use Rattle.my_script.specs.declared.transcript.Outcome.TheVariants.{Done, Pending, SetEnd, NoSet, Row, Fields, Connected, Failed, NoSuchHandle}
+use Rattle.my_script.specs.declared.transcript.Outcome.TheVariants.{Done, Pending, SetEnd, NoSet, Row, Prepared, Fields, Connected, Failed, NoSuchHandle}
 use Rattle.my_script.specs.declared.transcript.StepAnswer.{StepAnswer}
 use Rattle.my_script.specs.declared.transcript.Tape.{Tape}
 use Rattle.my_script.specs.declared.transcript.Use.{Use}
@@ -22,17 +22,22 @@ use Rattle.my_steps.specs.Dialing.{Course}
 use Rattle.my_run.specs.Headline.{Headline}
 use Rattle.wrong_tapes.specs.Bytes.{all_sent, all_taken, calls_from}
 
--- the calls that a step makes
+-- the calls that a step makes by itself; those of a statement are shown by none, since their steps name its number
 abbrev pub is_stepped : CallKind → Bool
 is_stepped kinds.Connect = false
 is_stepped kinds.TakeSet = false
 is_stepped kinds.SkipTaken = false
+is_stepped kinds.Execute = false
+is_stepped kinds.CloseStmt = false
 is_stepped c = true
 
 -- the step that makes a call on connection 0; those that no step makes are shown by none
 abbrev pub step_of : Call → Step
 step_of calls.Connect = steps.Conn
 step_of (calls.Query text) = steps.Query 0 text
+step_of (calls.Prepare text) = steps.Prepare 0 text
+step_of (calls.Execute statement params) = steps.Conn
+step_of (calls.CloseStmt id) = steps.Conn
 step_of calls.NextRow = steps.Next 0
 step_of calls.DropResult = steps.Drop 0
 step_of calls.TakeSet = steps.Conn
@@ -47,6 +52,7 @@ outcome_of (Some ToldReady) = Done
 outcome_of (Some (ToldRow row)) = Row row
 outcome_of (Some ToldEnd) = SetEnd
 outcome_of (Some ToldNone) = NoSet
+outcome_of (Some (ToldStatement statement)) = Prepared statement
 outcome_of (Some (ToldError e)) = Failed e
 outcome_of (Some (Dropped closing)) = NoSuchHandle
 

@@ -1,7 +1,5 @@
 -- Transcripts with a stream that no run has.
-use Rattle.std.specs.Prelude.{ℕ, ◌≡◌, ◌+◌, List, [], ◌∷◌, ◌++◌, codes, length, map, Option, Some, Ok, false}
-use Rattle.my_handshake.specs.declared.version.ServerVersion.{ServerVersion}
-use Rattle.my_value.specs.RowParts.{RowParts}
+use Rattle.std.specs.Prelude.{ℕ, ◌≡◌, ◌+◌, List, [], ◌∷◌, ◌++◌, codes, length, map, Some, Ok, false}
 use Rattle.my_link.specs.Met.{nothing_met}
 use Rattle.my_reading.specs.declared.answer.Answer.{Answer}
 use Rattle.my_reading.specs.declared.answer.Answer.TheVariants as answers

@@ -6,7 +6,7 @@ use Rattle.my_reading.specs.declared.error.IoKind.TheVariants.{Link}
 use Rattle.my_reading.specs.Errors.{io_error, unexpected_eof, invalid_data}
 use Rattle.my_reading.specs.Told.{ToldReady, ToldRow, ToldEnd, ToldNone, ToldError}
 use Rattle.my_reading.specs.Tape.{Span}
-use Rattle.wrong_tapes.specs.Bytes.{root, connected, selected, asked, asks, returned, call_with, row, one, end, fine, refusal, head, packet}
+use Rattle.wrong_tapes.specs.Bytes.{root, connected, selected, asked, asks, returned, call_with, row, one, end, fine, refusal, head, packet, prepared}
 use Rattle.wrong_tapes.specs.Right.{error}
 use Rattle.wrong_transcripts.specs.Shown.{NoFields, NoTranscript}
 
@@ -48,5 +48,8 @@ pub record AreWrong : Type 0 where
   pub invented_fault : NoneShow (selected ∷ returned NextRow [] (one 3) (ToldError (invalid_data 4)) ∷ [])
   -- `query`, `next`: the server's error is passed over
   pub lost_error : NoneShow (selected ∷ returned NextRow [] (refusal 3) ToldNone ∷ [])
+  -- `prep`: a statement with two parameters, where the server said one; `prep`, `prep`: it is prepared again, though it is cached
+  pub other_number : NoneShow (prepared 2 ∷ [])
+  pub prepared_again : NoneShow (prepared 1 ∷ prepared 1 ∷ [])
   -- `query`, `fields`: those of an end that was received and not read
   pub unread_fields : NoFields root connected (early ∷ []) (Some (record { affected = 0; insert = 0; status = record { 0 = 2 }; warnings = 1; info = [] }))

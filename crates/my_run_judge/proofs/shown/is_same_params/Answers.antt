@@ -1,0 +1,7 @@
+use Rattle.std.proofs.Common.{◌≡◌, Bool, sym, subst}
+use Rattle.std.specs.Bool.{Decides}
+use Rattle.my_run_judge.proofs.Sames.{params_same}
+use Rattle.my_run_judge.proofs.shown.is_same_params.Goals as goal
+
+pub returns : goal.returns
+returns c = subst (λ (b : Bool). Decides b (c.args.a.now ≡ c.args.b.now)) (sym c.eq.ensures) (params_same c.args.a.now c.args.b.now)
