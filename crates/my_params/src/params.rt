@@ -5,7 +5,7 @@ ghost use Rattle.std.specs.List.{list_any};
 ghost use Rattle.my_params.specs.declared.params.Params.TheVariants.{Empty, Named, Positional};
 ghost use Rattle.my_params.specs.ParamValues.{FillsTo, HasLastValues, MissesOrFails, ResolvesTo, filled, is_float, resolved, sendable};
 
-use my_frame::{Blob, Listed, NoMemory, copy_items};
+use my_frame::{Blob, Copied, Listed, NoMemory, copy_items};
 use my_value::Value;
 use my_value::shown::Lossy;
 use std::alloc::Global;
@@ -45,6 +45,12 @@ impl Params {
             Params::Positional(values) => Ok(Params::Positional(values.copy(alloc)?)),
             Params::Named(pairs) => Ok(Params::Named(copy_pairs(alloc, pairs.as_slice())?)),
         }
+    }
+}
+
+impl Copied for Params {
+    fn copy(&self, alloc: Global) -> Result<Params, NoMemory> {
+        Params::copy(self, alloc)
     }
 }
 
