@@ -13,8 +13,8 @@ use Rattle.my_grammar.specs.Response.{response}
 use Rattle.my_grammar.specs.Talk.{Talk, commands_in, context_of, limit_of, turns, number_of}
 use Rattle.my_reading.specs.declared.call.Call.{Call}
 use Rattle.my_reading.specs.declared.call.Call.TheVariants.{Prepare}
-use Rattle.my_reading.specs.Calls.{params_in, statement_in, text_in}
-use Rattle.my_reading.specs.Course.{Part, All, Head, Item, Set, Rest, Command, Find, Check, Reply, Keep, Give, Learn, Forget, Stop, Step, Goes, Stops, step, step_of, unless_owed, with_front, reads, after_payload, after_kind, after_err, unless_cached, unless_long_response, with_command, first_above, found, checked, closing_of, learned, is_greeting, is_rows, parts_of, run, halt, enough}
+use Rattle.my_reading.specs.Calls.{statement_in, text_in}
+use Rattle.my_reading.specs.Course.{Part, All, Head, Item, Set, Rest, Command, Find, Check, Run, Reply, Keep, Give, Learn, Forget, Stop, Step, Goes, Stops, step, step_of, unless_owed, with_front, reads, after_payload, after_kind, after_err, unless_cached, unless_long_response, with_command, first_above, found, checked, executed, closing_of, learned, is_greeting, is_rows, parts_of, run, halt, enough}
 use Rattle.my_reading.specs.Executions.{Values, Fitting, Unfitting, values_for}
 use Rattle.my_reading.specs.Leads.{Leads, Here, Then, LeadsToCourse}
 use Rattle.my_reading.specs.Place.{Place, exchanges, without_end, with_statements, with_talk, owed, next_exchange, facts_at, terms_of}
@@ -60,7 +60,8 @@ module _ (part : Part) (parts : List Part) (p : Place) (t : Talk) (rest : List �
       by_part Command k = omega arith
       by_part Rest k = omega arith
       by_part Find k = omega arith
-      by_part Check k = omega arith
+      by_part (Check params) k = omega arith
+      by_part (Run params) k = omega arith
       by_part Reply k = omega arith
       by_part Keep k = omega arith
       by_part Give k = omega arith
@@ -197,7 +198,8 @@ part_size login call (Rest ∷ parts) p =
 part_size login call (Find ∷ parts) p =
     let here = found_size parts p (text_in call) (held_in p.statements (query_of (text_in call))) in
     either (is_mixed_text (text_in call)) _ _ _ (λ _. omega arith) (λ _. omega (arith, here))
-part_size login call (Check ∷ parts) p = let here = checked_size parts p (values_for (statement_in call) (params_in call)) in omega (arith, here)
+part_size login call (Check params ∷ parts) p = let here = checked_size parts p (values_for (statement_in call) params) in omega (arith, here)
+part_size login call (Run params ∷ parts) p = let here = command_size call parts p (executed login call p params) in omega (arith, here)
 part_size login call (Reply ∷ parts) p =
     let here = reads_size login Reply parts p in
     either (is_over p.talk) _ _ _ (λ _. omega arith) (λ _. omega (arith, here))

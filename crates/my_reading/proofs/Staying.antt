@@ -14,8 +14,8 @@ use Rattle.my_grammar.specs.Response.{response}
 use Rattle.my_grammar.specs.Talk.{Talk, commands_in, context_of, limit_of, turns, number_of}
 use Rattle.my_reading.specs.declared.call.Call.{Call}
 use Rattle.my_reading.specs.declared.call.Call.TheVariants.{Prepare}
-use Rattle.my_reading.specs.Calls.{params_in, statement_in, text_in}
-use Rattle.my_reading.specs.Course.{Part, All, Head, Item, Set, Rest, Command, Find, Check, Reply, Keep, Give, Learn, Forget, Step, Goes, Stops, return, step, step_of, unless_owed, with_front, reads, after_payload, after_kind, after_err, unless_cached, unless_long_response, with_command, first_above, found, checked, closing_of, learned, is_greeting, is_rows}
+use Rattle.my_reading.specs.Calls.{statement_in, text_in}
+use Rattle.my_reading.specs.Course.{Part, All, Head, Item, Set, Rest, Command, Find, Check, Run, Reply, Keep, Give, Learn, Forget, Step, Goes, Stops, return, step, step_of, unless_owed, with_front, reads, after_payload, after_kind, after_err, unless_cached, unless_long_response, with_command, first_above, found, checked, executed, closing_of, learned, is_greeting, is_rows}
 use Rattle.my_reading.specs.Executions.{Values, Fitting, Unfitting, values_for}
 use Rattle.my_reading.specs.Facts.{prepared_by}
 use Rattle.my_reading.specs.Leads.{Here, Then, StepStays, LeadingStays}
@@ -62,7 +62,8 @@ module _ (login : Login) (sent taken : List ℕ) where
   kind_more Command parts k new row = refl
   kind_more Rest parts k new row = refl
   kind_more Find parts k new row = refl
-  kind_more Check parts k new row = refl
+  kind_more (Check params) parts k new row = refl
+  kind_more (Run params) parts k new row = refl
   kind_more Reply parts k new row = refl
   kind_more Keep parts k new row = refl
   kind_more Give parts k new row = refl
@@ -228,7 +229,8 @@ module _ (login : Login) (sent taken : List ℕ) where
     part_more (Find ∷ parts) e =
         either_more (is_mixed_text (text_in call)) _ _ _ _ (λ f. no_stop _ _ f)
         (λ f. found_more parts p (text_in call) (held_in p.statements (query_of (text_in call))) ∙ ap (lift sent taken) f) e
-    part_more (Check ∷ parts) e = checked_more parts p (values_for (statement_in call) (params_in call)) ∙ ap (lift sent taken) e
+    part_more (Check params ∷ parts) e = checked_more parts p (values_for (statement_in call) params) ∙ ap (lift sent taken) e
+    part_more (Run params ∷ parts) e = command_more call parts p (executed login call p params) ∙ ap (lift sent taken) e
     part_more (Reply ∷ parts) e =
         either_more (is_over p.talk) _ _ _ _ (λ f. ap (lift sent taken) f) (reads_more Reply parts p rest q) e
     part_more (Keep ∷ parts) e =

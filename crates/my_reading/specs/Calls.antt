@@ -6,13 +6,14 @@ use Rattle.my_statements.specs.Prepared.{StatementView}
 use Rattle.my_reading.specs.declared.call.Call.{Call}
 use Rattle.my_reading.specs.declared.call.Call.TheVariants as calls
 use Rattle.my_reading.specs.declared.call.CallKind.{CallKind}
-use Rattle.my_reading.specs.declared.call.CallKind.TheVariants.{Connect, Query, Prepare, Execute, CloseStmt, NextRow, DropResult, TakeSet, SkipTaken, Ping, Quit}
+use Rattle.my_reading.specs.declared.call.CallKind.TheVariants.{Connect, Query, Prepare, Execute, Batch, CloseStmt, NextRow, DropResult, TakeSet, SkipTaken, Ping, Quit}
 
 abbrev pub kind_of : Call → CallKind
 kind_of calls.Connect = Connect
 kind_of (calls.Query text) = Query
 kind_of (calls.Prepare text) = Prepare
 kind_of (calls.Execute statement params) = Execute
+kind_of (calls.Batch statement lists) = Batch
 kind_of (calls.CloseStmt id) = CloseStmt
 kind_of calls.NextRow = NextRow
 kind_of calls.DropResult = DropResult
@@ -26,7 +27,7 @@ abbrev pub blank : StatementView
 blank = record { inner = record { id = 0; connection_id = 0; num_params = 0; num_columns = 0; params = [] }; names = [] }
 
 -- what a call carries: the text of a query or of a statement to prepare, the statement that is executed with its parameters, and the id of
--- the one that is closed; nothing where it doesn't carry it
+-- the one that is closed; nothing where it doesn't carry it. A batch carries parameters for each execution of its statement.
 abbrev pub text_in : Call → List ℕ
 text_in (calls.Query text) = text
 text_in (calls.Prepare text) = text
@@ -34,14 +35,20 @@ text_in _ = []
 
 abbrev pub statement_in : Call → StatementView
 statement_in (calls.Execute statement params) = statement
+statement_in (calls.Batch statement lists) = statement
 statement_in _ = blank
 
 abbrev pub params_in : Call → Params
 params_in (calls.Execute statement params) = params
 params_in _ = Empty
 
+abbrev pub lists_in : Call → List Params
+lists_in (calls.Batch statement lists) = lists
+lists_in _ = []
+
 abbrev pub id_in : Call → ℕ
 id_in (calls.Execute statement params) = statement.inner.id
+id_in (calls.Batch statement lists) = statement.inner.id
 id_in (calls.CloseStmt id) = id
 id_in _ = 0
 
@@ -51,6 +58,7 @@ call_of Connect call = calls.Connect
 call_of Query call = calls.Query (text_in call)
 call_of Prepare call = calls.Prepare (text_in call)
 call_of Execute call = calls.Execute (statement_in call) (params_in call)
+call_of Batch call = calls.Batch (statement_in call) (lists_in call)
 call_of CloseStmt call = calls.CloseStmt (id_in call)
 call_of NextRow call = calls.NextRow
 call_of DropResult call = calls.DropResult
@@ -64,6 +72,7 @@ abbrev pub asks : CallKind → Bool
 asks Query = true
 asks Prepare = true
 asks Execute = true
+asks Batch = true
 asks CloseStmt = true
 asks Ping = true
 asks Quit = true

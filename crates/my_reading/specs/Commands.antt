@@ -12,7 +12,7 @@ use Rattle.my_grammar.specs.Talk.{Talk, Start, Queried, Preparing, Asked, Silent
 use Rattle.my_params.specs.LongData.{ahead_of}
 use Rattle.my_params.specs.Parameters.{body_of}
 use Rattle.my_reading.specs.declared.call.Call.{Call}
-use Rattle.my_reading.specs.declared.call.Call.TheVariants.{Connect, Query, Prepare, Execute, CloseStmt, NextRow, DropResult, TakeSet, SkipTaken, Ping, Quit}
+use Rattle.my_reading.specs.declared.call.Call.TheVariants.{Connect, Query, Prepare, Execute, Batch, CloseStmt, NextRow, DropResult, TakeSet, SkipTaken, Ping, Quit}
 use Rattle.my_reading.specs.Executions.{Values, Fitting, Unfitting, values_for}
 use Rattle.my_reading.specs.Statements.{Statements, known_in, query_of}
 
@@ -65,12 +65,14 @@ abbrev pub connecting : Login → Terms → ℕ → Option Talk
 connecting login terms zero = Some (Start login)
 connecting login terms (suc n) = arranging terms (slice_get (arranging_texts login) n)
 
--- the exchange that a call begins, if it begins one: connecting begins several, and n of them came before
+-- The exchange that a call begins, if it begins one: connecting begins several, and n of them came before. Those of a batch are told by
+-- the parts of the call, which have the parameters of each.
 abbrev pub opening : Login → Terms → Statements → Call → ℕ → Option Talk
 opening login terms st Connect n = connecting login terms n
 opening login terms st (Query text) n = command_of terms st (Query text)
 opening login terms st (Prepare text) n = command_of terms st (Prepare text)
 opening login terms st (Execute statement params) n = command_of terms st (Execute statement params)
+opening login terms st (Batch statement lists) n = None
 opening login terms st (CloseStmt id) n = command_of terms st (CloseStmt id)
 opening login terms st NextRow n = None
 opening login terms st DropResult n = None

@@ -18,13 +18,14 @@ use Rattle.my_grammar.specs.Response.{response}
 use Rattle.my_grammar.specs.declared.spot.Terms.{Terms}
 use Rattle.my_grammar.specs.Talk.{Talk, commands_in, context_of, limit_of}
 use Rattle.my_statements.specs.Cache.{Held}
+use Rattle.my_params.specs.declared.params.Params.{Params}
 use Rattle.my_reading.specs.declared.call.Call.{Call}
 use Rattle.my_reading.specs.declared.call.Call.TheVariants as calls
 use Rattle.my_reading.specs.declared.error.Error.{Error}
 use Rattle.my_reading.specs.declared.error.Error.TheVariants.{Driver, Server}
 use Rattle.my_reading.specs.declared.facts.Facts.{Facts}
-use Rattle.my_reading.specs.Calls.{id_in, params_in, statement_in, text_in}
-use Rattle.my_reading.specs.Commands.{arranging_texts, closing}
+use Rattle.my_reading.specs.Calls.{id_in, statement_in, text_in}
+use Rattle.my_reading.specs.Commands.{arranging_texts, closing, execution}
 use Rattle.my_reading.specs.Errors.{codec_error, invalid_data, mixed_params, server_error}
 use Rattle.my_reading.specs.Executions.{Values, Fitting, Unfitting, values_for}
 use Rattle.my_reading.specs.Facts.{prepared_by}
@@ -36,9 +37,9 @@ use Rattle.my_reading.specs.Told.{Told, ToldReady, ToldRow, ToldEnd, ToldNone, T
 
 -- A part of a call: the rest of the newest exchange is read; it is read to the head of its first set, or to its next row or end; a stream
 -- takes the set that is read or the next one; the rest of the set that is read is passed over, and its end; or the call's next command is
--- sent. Of prepared statements: the statement of the text is looked for; the parameters are looked at; the reply to a statement to prepare is
--- read; its statement is kept, and the one that has to go for it is closed; it is returned; the columns of an execution's rows are learned; or
--- a statement isn't kept any more.
+-- sent. Of prepared statements: the statement of the text is looked for; parameters are looked at; the statement of a batch is executed
+-- with parameters; the reply to a statement to prepare is read; its statement is kept, and the one that has to go for it is closed; it is
+-- returned; the columns of an execution's rows are learned; or a statement isn't kept any more.
 pub data Part : Type 0 where
   All : Part
   Head : Part
@@ -47,7 +48,8 @@ pub data Part : Type 0 where
   Rest : Part
   Command : Part
   Find : Part
-  Check : Part
+  Check : (params : Params) → Part
+  Run : (params : Params) → Part
   Reply : Part
   Keep : Part
   Give : Part
@@ -59,12 +61,18 @@ abbrev pub parts_of_texts : List (List ℕ) → List Part
 parts_of_texts [] = []
 parts_of_texts (text ∷ texts) = Command ∷ All ∷ parts_of_texts texts
 
+-- the statement is executed with each of these parameters, and each response is read whole before the next ones are looked at
+abbrev pub parts_of_lists : List Params → List Part
+parts_of_lists [] = []
+parts_of_lists (params ∷ lists) = Check params ∷ All ∷ Run params ∷ Head ∷ Learn ∷ All ∷ parts_of_lists lists
+
 -- the command table: the parts of each call, in order
 abbrev pub parts_of : Login → Call → List Part
 parts_of login calls.Connect = All ∷ parts_of_texts (arranging_texts login)
 parts_of login (calls.Query text) = All ∷ Command ∷ Head ∷ []
 parts_of login (calls.Prepare text) = Find ∷ All ∷ Command ∷ Reply ∷ Keep ∷ Give ∷ []
-parts_of login (calls.Execute statement params) = Check ∷ All ∷ Command ∷ Head ∷ Learn ∷ []
+parts_of login (calls.Execute statement params) = Check params ∷ All ∷ Command ∷ Head ∷ Learn ∷ []
+parts_of login (calls.Batch statement lists) = parts_of_lists lists
 parts_of login (calls.CloseStmt id) = Forget ∷ All ∷ Command ∷ []
 parts_of login calls.NextRow = Item ∷ []
 parts_of login calls.DropResult = All ∷ []
@@ -174,6 +182,10 @@ abbrev pub checked : List Part → Place → Values → Step
 checked parts p (Fitting values) = Goes parts p
 checked parts p (Unfitting e) = failure p (Driver e)
 
+-- the call's statement is executed with these parameters
+abbrev pub executed : Login → Call → Place → Params → Option Talk
+executed login call p params = execution (terms_of login (exchanges p)) p.statements (id_in call) (values_for (statement_in call) params)
+
 -- the exchange in which the statement that has to go is closed
 abbrev pub closing_of : Terms → Option ℕ → Option Talk
 closing_of terms None = None
@@ -214,7 +226,8 @@ step_of login call (Rest ∷ parts) p =
     then Goes (Rest ∷ parts) (without_end p)
     else (if is_rows (context_of p.talk).spot then reads login Rest parts p else Goes parts p)
 step_of login call (Find ∷ parts) p = looked_for parts p (text_in call)
-step_of login call (Check ∷ parts) p = checked parts p (values_for (statement_in call) (params_in call))
+step_of login call (Check params ∷ parts) p = checked parts p (values_for (statement_in call) params)
+step_of login call (Run params ∷ parts) p = with_command call parts p (executed login call p params)
 step_of login call (Reply ∷ parts) p = if is_over p.talk then Goes parts p else reads login Reply parts p
 step_of login call (Keep ∷ parts) p = kept login call parts p (facts_at login p)
 step_of login call (Give ∷ parts) p = return p (ToldStatement (statement_with (prepared_by (facts_at login p)) (names_of (text_in call))))

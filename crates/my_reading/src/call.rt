@@ -2,7 +2,7 @@
 
 ghost use Rattle.std.specs.Prelude.{◌≡◌, IfOk};
 
-use my_frame::{Blob, NoMemory};
+use my_frame::{Blob, Listed, NoMemory};
 use my_params::Params;
 use my_statements::Statement;
 use std::alloc::Global;
@@ -18,6 +18,8 @@ pub enum Call {
     Prepare(Blob),
     /// A statement is executed with these parameters.
     Execute(Statement, Params),
+    /// A statement is executed once with each of these parameters, and each response is read whole.
+    Batch(Statement, Listed<Params>),
     /// The statement of this id is closed.
     CloseStmt(u32),
     /// The next row of the set that is read, its end, or that nothing is left.
@@ -39,6 +41,7 @@ pub enum CallKind {
     Query,
     Prepare,
     Execute,
+    Batch,
     CloseStmt,
     NextRow,
     DropResult,
@@ -60,6 +63,7 @@ impl Call {
             Call::Query(_) => CallKind::Query,
             Call::Prepare(_) => CallKind::Prepare,
             Call::Execute(_, _) => CallKind::Execute,
+            Call::Batch(_, _) => CallKind::Batch,
             Call::CloseStmt(_) => CallKind::CloseStmt,
             Call::NextRow => CallKind::NextRow,
             Call::DropResult => CallKind::DropResult,
@@ -80,6 +84,9 @@ impl Call {
             Call::Prepare(text) => Ok(Call::Prepare(text.copy(alloc)?)),
             Call::Execute(statement, params) => {
                 Ok(Call::Execute(statement.copy(alloc)?, params.copy(alloc)?))
+            }
+            Call::Batch(statement, lists) => {
+                Ok(Call::Batch(statement.copy(alloc)?, lists.copy(alloc)?))
             }
             Call::CloseStmt(id) => Ok(Call::CloseStmt(*id)),
             Call::NextRow => Ok(Call::NextRow),

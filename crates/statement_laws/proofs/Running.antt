@@ -2,7 +2,7 @@
 use Rattle.std.proofs.Common.{◌≡◌, ℕ, suc, zero, Bool, true, false, ◌||◌, List, [], ◌∷◌, refl, arith}
 use Rattle.my_grammar.specs.declared.login.Login.{Login}
 use Rattle.my_reading.specs.declared.call.Call.{Call}
-use Rattle.my_reading.specs.declared.call.Call.TheVariants.{Connect, Query, Prepare, Execute, CloseStmt, NextRow, DropResult, TakeSet, SkipTaken, Ping, Quit}
+use Rattle.my_reading.specs.declared.call.Call.TheVariants.{Connect, Query, Prepare, Execute, Batch, CloseStmt, NextRow, DropResult, TakeSet, SkipTaken, Ping, Quit}
 use Rattle.my_reading.specs.Course.{Stop, Awaits, Step, Goes, Stops, course, enough, parts_of, run, step}
 use Rattle.my_reading.specs.Place.{Place, exchanges, first_place, with_bytes}
 use Rattle.my_reading.specs.Reading.{ReadCall, halt_of, is_closing, read_calls, reading}
@@ -47,6 +47,7 @@ answer_settles (CloseStmt id) s e = e
 answer_settles Connect s e = refl
 answer_settles (Query text) s e = refl
 answer_settles (Execute statement params) s e = refl
+answer_settles (Batch statement lists) s e = refl
 answer_settles NextRow s e = refl
 answer_settles DropResult s e = refl
 answer_settles TakeSet s e = refl

@@ -12,10 +12,11 @@ use Rattle.my_grammar.specs.Prepares.{Unanswered}
 use Rattle.my_grammar.specs.Talk.{Talk, Preparing, context_of}
 use Rattle.my_statements.specs.Cache.{Held}
 use Rattle.my_reading.specs.declared.call.Call.{Call}
-use Rattle.my_reading.specs.declared.call.Call.TheVariants.{Connect, Query, Prepare, Execute, CloseStmt, NextRow, DropResult, TakeSet, SkipTaken, Ping, Quit}
-use Rattle.my_reading.specs.Calls.{params_in, statement_in}
+use Rattle.my_reading.specs.declared.call.Call.TheVariants.{Connect, Query, Prepare, Execute, Batch, CloseStmt, NextRow, DropResult, TakeSet, SkipTaken, Ping, Quit}
+use Rattle.my_params.specs.declared.params.Params.{Params}
+use Rattle.my_reading.specs.Calls.{id_in, statement_in}
 use Rattle.my_reading.specs.Commands.{arranging, arranging_texts, closing, connecting, execution, opening}
-use Rattle.my_reading.specs.Course.{Part, All, Head, Item, Set, Rest, Command, Find, Check, Reply, Keep, Give, Learn, Forget, Step, Goes, Stops, step, step_of, unless_owed, reads, after_kind, with_command, found, checked, closing_of, learned, is_rows, parts_of, parts_of_texts, Stop, Owes, Awaits, Returns}
+use Rattle.my_reading.specs.Course.{Part, All, Head, Item, Set, Rest, Command, Find, Check, Run, Reply, Keep, Give, Learn, Forget, Step, Goes, Stops, step, step_of, unless_owed, reads, after_kind, with_command, found, checked, executed, closing_of, learned, is_rows, parts_of, parts_of_lists, parts_of_texts, Stop, Owes, Awaits, Returns}
 use Rattle.my_reading.specs.Executions.{Values, Fitting, Unfitting, values_for}
 use Rattle.my_reading.specs.Facts.{prepared_by}
 use Rattle.my_reading.specs.Place.{Place, connects_in, exchanges, facts_at, facts_of, next_exchange, owed, terms_of, with_end, with_exchange, with_statements, with_talk, without_end}
@@ -115,6 +116,7 @@ opening_plain login terms st Connect n e = connecting_plain login terms n
 opening_plain login terms st (Query text) n e = (refl, refl)
 opening_plain login terms st (Prepare text) n e = absurd (cc)
 opening_plain login terms st (Execute statement params) n e = execution_plain terms st statement.inner.id (values_for statement params)
+opening_plain login terms st (Batch statement lists) n e = tt
 opening_plain login terms st (CloseStmt id) n e = (refl, refl)
 opening_plain login terms st NextRow n e = tt
 opening_plain login terms st DropResult n e = tt
@@ -131,7 +133,8 @@ module _ (login : Login) (call : Call) (other : prepares call ≡ false) where
   steady_kind All parts e k new row w = Steady call (All ∷ parts) new e other w
   steady_kind Command parts e k new row w = Steady call (Command ∷ parts) new e other w
   steady_kind Rest parts e k new row w = Steady call (Rest ∷ parts) new e other w
-  steady_kind Check parts e k new row w = Steady call (Check ∷ parts) new e other w
+  steady_kind (Check params) parts e k new row w = Steady call (Check params ∷ parts) new e other w
+  steady_kind (Run params) parts e k new row w = Steady call (Run params ∷ parts) new e other w
   steady_kind Learn parts e k new row w = Steady call (Learn ∷ parts) new e other w
   steady_kind Head parts e (kinds.Good status) new row w = Steady call parts (with_end new) e other w
   steady_kind Head parts e _ new row w = Steady call (Head ∷ parts) new e other w
@@ -177,7 +180,9 @@ module _ (login : Login) (call : Call) (other : prepares call ≡ false) where
       (either (IsFine call) (is_over p.talk) _ _ (λ _. w) (steady_reads Set parts p e w))
   steady (Rest ∷ parts) p e w = either (IsFine call) p.end_left _ _ (Steady call (Rest ∷ parts) (without_end p) e other w)
       (either (IsFine call) (is_rows (context_of p.talk).spot) _ _ (steady_reads Rest parts p e w) (Steady call parts p e other w))
-  steady (Check ∷ parts) p e w = steady_checked parts p (values_for (statement_in call) (params_in call)) e w
+  steady (Check params ∷ parts) p e w = steady_checked parts p (values_for (statement_in call) params) e w
+  steady (Run params ∷ parts) p e w = command_has (IsFine call) p (λ s _ _. w) call parts (executed login call p params) (Steady call parts p e other w)
+      (λ t i. steady_begun t parts p (executed login call p params) (execution_plain (terms_of login (exchanges p)) p.statements (id_in call) (values_for (statement_in call) params)) i e w)
   steady (Learn ∷ parts) p e w = Steady call parts (learned call p (facts_at login p)) e other (learned_holds (λ i. ⊥) call p (facts_at login p) w)
   steady (Find ∷ parts) p e w = absurd (cc)
   steady (Reply ∷ parts) p e w = absurd (cc)
@@ -277,11 +282,16 @@ texts_plain : (texts : List (List ℕ)) → is_plain (parts_of_texts texts) ≡ 
 texts_plain [] = refl
 texts_plain (text ∷ texts) = texts_plain texts
 
+lists_plain : (lists : List Params) → is_plain (parts_of_lists lists) ≡ true
+lists_plain [] = refl
+lists_plain (params ∷ lists) = lists_plain lists
+
 pub begins_fine : (login : Login) (call : Call) (p : Place) → Holds p → Phase call (parts_of login call) p
 begins_fine login Connect p w = Steady Connect (parts_of login Connect) p (texts_plain (arranging_texts login)) refl w
 begins_fine login (Query text) p w = Steady (Query text) (parts_of login (Query text)) p refl refl w
 begins_fine login (Prepare text) p w = Finding text p w
 begins_fine login (Execute statement params) p w = Steady (Execute statement params) (parts_of login (Execute statement params)) p refl refl w
+begins_fine login (Batch statement lists) p w = Steady (Batch statement lists) (parts_of login (Batch statement lists)) p (lists_plain lists) refl w
 begins_fine login (CloseStmt id) p w = Forgetting id p w
 begins_fine login NextRow p w = Steady NextRow (parts_of login NextRow) p refl refl w
 begins_fine login DropResult p w = Steady DropResult (parts_of login DropResult) p refl refl w

@@ -31,6 +31,9 @@ are_right = record {
   limit = refl;
   password = record { first = refl; calls = (record { ends = refl; sent = refl; quiet = refl }, tt) };
   executed = record { first = refl; calls = (record { ends = refl; sent = refl; quiet = refl }, (record { ends = refl; sent = refl; quiet = refl }, (record { ends = refl; sent = refl; quiet = refl }, (record { ends = refl; sent = refl; quiet = refl }, (record { ends = refl; sent = refl; quiet = refl }, (record { ends = refl; sent = refl; quiet = refl }, (record { ends = refl; sent = refl; quiet = refl }, tt))))))) };
+  batch = record { first = refl; calls = (record { ends = refl; sent = refl; quiet = refl }, (record { ends = refl; sent = refl; quiet = refl }, (record { ends = refl; sent = refl; quiet = refl }, (record { ends = refl; sent = refl; quiet = refl }, tt)))) };
+  empty_batch = record { first = refl; calls = (record { ends = refl; sent = refl; quiet = refl }, (record { ends = refl; sent = refl; quiet = refl }, (record { ends = refl; sent = refl; quiet = refl }, (record { ends = refl; sent = refl; quiet = refl }, tt)))) };
+  cut_batch = record { first = refl; calls = (record { ends = refl; sent = refl; quiet = refl }, (record { ends = refl; sent = refl; quiet = refl }, (record { ends = refl; sent = refl; quiet = refl }, (record { ends = refl; sent = refl; quiet = refl }, tt)))) };
   one_cached = record { first = refl; calls = (record { ends = refl; sent = refl; quiet = refl }, (record { ends = refl; sent = refl; quiet = refl }, (record { ends = refl; sent = refl; quiet = refl }, tt))) };
   refused = record { first = refl; calls = (record { ends = refl; sent = refl; quiet = refl }, (record { ends = refl; sent = refl; quiet = refl }, (record { ends = refl; sent = refl; quiet = refl }, (record { ends = refl; sent = refl; quiet = refl }, (record { ends = refl; sent = refl; quiet = refl }, tt))))) };
 }

@@ -109,6 +109,9 @@ are_wrong = record {
   other_number = λ w. differs _ _ (λ e. absurd (omega arith)) w.calls.1.0.ends;
   text_row = λ w. differs _ _ (λ e. absurd (omega arith)) w.calls.1.1.1.0.ends;
   unfitting_values = λ w. false≢true w.calls.1.1.0.sent;
+  half_batch = λ w. not_cut _ _ (λ e. absurd (omega arith)) (λ e. absurd (omega arith)) (λ e. absurd (omega arith)) (λ e. absurd (omega arith)) w.calls.1.1.0.ends;
+  unread_batch = λ w. not_cut _ _ (λ e. absurd (omega arith)) (λ e. absurd (omega arith)) (λ e. absurd (omega arith)) (λ e. absurd (omega arith)) w.calls.1.1.0.ends;
+  batch_with_end = λ w. differs _ _ (λ e. absurd (omega arith)) w.calls.1.1.1.0.ends;
   silent_close = λ w. not_cut _ _ (λ e. absurd (omega arith)) (λ e. absurd (omega arith)) (λ e. absurd (omega arith)) (λ e. absurd (omega arith)) w.calls.1.0.ends;
   closing_text = λ w. differs _ _ (λ e. absurd (omega arith)) w.calls.1.1.0.ends;
 }

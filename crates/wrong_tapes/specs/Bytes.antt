@@ -1,8 +1,10 @@
 -- The bytes of which the tapes are made, and a tape from its calls.
-use Rattle.std.specs.Prelude.{ℕ, ◌+◌, List, [], ◌∷◌, ◌++◌, codes, length, Option, Some, None}
+use Rattle.std.specs.Prelude.{ℕ, zero, suc, pos, ◌+◌, List, [], ◌∷◌, ◌++◌, codes, length, Option, Some, None}
 use Rattle.my_reply.specs.declared.column.Column.{Column}
 use Rattle.my_value.specs.declared.value.Value.{Value}
-use Rattle.my_value.specs.declared.value.Value.TheVariants.{Bytes}
+use Rattle.my_value.specs.declared.value.Value.TheVariants.{Bytes, Int}
+use Rattle.my_params.specs.declared.params.Params.{Params}
+use Rattle.my_params.specs.declared.params.Params.TheVariants.{Positional}
 use Rattle.my_value.specs.RowParts.{RowParts}
 use Rattle.my_statements.specs.Prepared.{StatementView}
 use Rattle.my_grammar.specs.declared.login.Login.{Login}
@@ -101,6 +103,11 @@ prepares text = packet 0 (22 ∷ text)
 
 abbrev pub executes : List ℕ
 executes = packet 0 (23 ∷ 1 ∷ 0 ∷ 0 ∷ 0 ∷ 0 ∷ 1 ∷ 0 ∷ 0 ∷ 0 ∷ 0 ∷ 1 ∷ 8 ∷ 0 ∷ 1 ∷ 0 ∷ 0 ∷ 0 ∷ 0 ∷ 0 ∷ 0 ∷ 0 ∷ [])
+
+-- n parameters of the value 1
+abbrev pub ones : ℕ → List Params
+ones zero = []
+ones (suc n) = Positional (Int (pos 1) ∷ []) ∷ ones n
 
 abbrev pub closes : ℕ → List ℕ
 closes id = packet 0 (25 ∷ id ∷ 0 ∷ 0 ∷ 0 ∷ [])

@@ -4,7 +4,7 @@ use Rattle.std.specs.Str.Lossy.{utf8_lossy}
 use Rattle.my_value.specs.declared.value.Value.TheVariants.{Int}
 use Rattle.my_params.specs.declared.params.Params.TheVariants.{Empty, Positional}
 use Rattle.my_grammar.specs.declared.login.Login.{Login}
-use Rattle.my_reading.specs.declared.call.Call.TheVariants.{Connect, Query, Prepare, Execute, CloseStmt, NextRow, DropResult, TakeSet, SkipTaken, Ping, Quit}
+use Rattle.my_reading.specs.declared.call.Call.TheVariants.{Connect, Query, Prepare, Execute, Batch, CloseStmt, NextRow, DropResult, TakeSet, SkipTaken, Ping, Quit}
 use Rattle.my_reading.specs.declared.error.DriverError.TheVariants.{StmtParamsMismatch}
 use Rattle.my_reading.specs.declared.error.Error.TheVariants.{Driver, Server}
 use Rattle.my_reading.specs.declared.error.ServerError.{ServerError}
@@ -13,7 +13,7 @@ use Rattle.my_reading.specs.Errors.{connection_closed, mixed_params}
 use Rattle.my_reading.specs.Place.{facts_at}
 use Rattle.my_reading.specs.Reading.{reading}
 use Rattle.my_reading.specs.Told.{ToldReady, ToldRow, ToldEnd, ToldNone, ToldStatement, ToldError, Dropped}
-use Rattle.wrong_tapes.specs.Bytes.{root, frugal, login_by, connected, selected, prepared, prepared_plain, asking, asked, asks, executes, closes, returned, call_with, row, row_with, one, binary_one, end, head, fine, refusal, column, packet, response, greeting, tape_of}
+use Rattle.wrong_tapes.specs.Bytes.{root, frugal, login_by, connected, selected, prepared, prepared_plain, asking, ones, asked, asks, executes, closes, returned, call_with, row, row_with, one, binary_one, end, head, fine, refusal, column, packet, response, greeting, tape_of}
 
 -- what the server's ERR says
 abbrev pub error : ServerError
@@ -56,6 +56,14 @@ pub record AreRight : Type 0 where
   pub executed : IsTape root (tape_of (connected ∷ prepared 1 ∷ returned (Execute (asking 1) (Positional (Int (pos 1) ∷ []))) executes head ToldReady
       ∷ returned NextRow [] (binary_one 3) (ToldRow (row_with (Int (pos 1)))) ∷ returned NextRow [] (end 4) ToldEnd
       ∷ returned (Prepare (codes "SELECT ?")) [] [] (ToldStatement (asking 1)) ∷ returned (CloseStmt 1) (closes 1) [] ToldReady ∷ []))
+  -- a statement is executed twice in one call, and what each response has is read whole; then nothing is left
+  pub batch : IsTape root (tape_of (connected ∷ prepared 1 ∷ returned (Batch (asking 1) (ones 2)) (executes ++ executes)
+      (head ++ binary_one 3 ++ end 4 ++ fine 1 2) ToldReady ∷ returned NextRow [] [] ToldNone ∷ []))
+  -- where it isn't executed at all, nothing is sent or read: a query's row is there still
+  pub empty_batch : IsTape root (tape_of (connected ∷ selected ∷ returned (Batch (asking 1) []) [] [] ToldReady ∷ returned NextRow [] (one 3) (ToldRow (row (codes "1"))) ∷ []))
+  -- the second parameters don't fit, after the first execution
+  pub cut_batch : IsTape root (tape_of (connected ∷ prepared 1 ∷ returned (Batch (asking 1) (ones 1 ++ Empty ∷ [])) executes (fine 1 2) (ToldError (Driver (StmtParamsMismatch 1 0)))
+      ∷ returned NextRow [] [] (ToldError connection_closed) ∷ []))
   -- where one statement is cached, the first is closed for a second one
   pub one_cached : IsTape frugal (tape_of (connected ∷ prepared_plain (codes "DO 1") 1 [] ∷ prepared_plain (codes "DO 2") 2 (closes 1) ∷ []))
   -- a text with named parameters and marks is refused, which leaves the connection open; values that don't fit a statement close it

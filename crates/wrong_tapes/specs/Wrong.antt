@@ -2,14 +2,14 @@
 use Rattle.std.specs.Prelude.{pos, List, [], ◌∷◌, ◌++◌, codes, None, false}
 use Rattle.my_value.specs.declared.value.Value.TheVariants.{Int}
 use Rattle.my_params.specs.declared.params.Params.TheVariants.{Empty, Positional}
-use Rattle.my_reading.specs.declared.call.Call.TheVariants.{Connect, Query, Prepare, Execute, CloseStmt, NextRow, DropResult, TakeSet, SkipTaken, Ping, Quit}
+use Rattle.my_reading.specs.declared.call.Call.TheVariants.{Connect, Query, Prepare, Execute, Batch, CloseStmt, NextRow, DropResult, TakeSet, SkipTaken, Ping, Quit}
 use Rattle.my_reading.specs.declared.error.Error.TheVariants.{Server}
 use Rattle.my_reading.specs.declared.error.IoKind.TheVariants.{Link}
 use Rattle.my_reading.specs.Endings.{IsTape}
 use Rattle.my_reading.specs.Errors.{connection_closed, mixed_params, io_error, unexpected_eof, invalid_data}
 use Rattle.my_reading.specs.Told.{ToldReady, ToldRow, ToldEnd, ToldNone, ToldError, Dropped}
 use Rattle.my_reading.specs.Tape.{Span}
-use Rattle.wrong_tapes.specs.Bytes.{root, frugal, connected, selected, prepared, prepared_plain, asking, executes, closes, asked, asks, returned, call_with, row, one, end, fine, refusal, head, packet, response, greeting, tape_of}
+use Rattle.wrong_tapes.specs.Bytes.{root, frugal, connected, selected, prepared, prepared_plain, asking, ones, executes, closes, asked, asks, returned, call_with, row, one, end, fine, refusal, head, packet, response, greeting, tape_of}
 use Rattle.wrong_tapes.specs.Right.{curious, error}
 
 -- the calls are on no tape of a client that logs in as root
@@ -77,6 +77,12 @@ pub record AreWrong : Type 0 where
       ∷ returned NextRow [] (one 3) (ToldRow (row (codes "1"))) ∷ [])
   -- a statement is executed without its value
   pub unfitting_values : NoTape (connected ∷ prepared 1 ∷ returned (Execute (asking 1) Empty) executes (fine 1 2) ToldReady ∷ [])
+  -- a batch sends its statement once, where it has two lists of parameters
+  pub half_batch : NoTape (connected ∷ prepared 1 ∷ returned (Batch (asking 1) (ones 2)) executes (fine 1 2) ToldReady ∷ [])
+  -- it is ready before its last response is read whole
+  pub unread_batch : NoTape (connected ∷ prepared 1 ∷ returned (Batch (asking 1) (ones 1)) executes head ToldReady ∷ [])
+  -- the end of a lone OK is left of it
+  pub batch_with_end : NoTape (connected ∷ prepared 1 ∷ returned (Batch (asking 1) (ones 1)) executes (fine 1 2) ToldReady ∷ returned NextRow [] [] ToldEnd ∷ [])
   -- a statement is closed, and nothing is sent
   pub silent_close : NoTape (connected ∷ returned (CloseStmt 1) [] [] ToldReady ∷ [])
   -- a text with named parameters and marks closes the connection
