@@ -229,8 +229,8 @@ fn listed(alloc: Global, table: &Table, count: &mut Count) -> Result<(), NoMemor
     Ok(())
 }
 
-/// Whether the tape is accepted, each change has its verdict, and as many are refuted as should be.
-pub fn is_right(alloc: Global, table: &Table) -> Result<bool, NoMemory> {
+// Whether the tape is accepted, each change has its verdict, and as many are refuted as should be.
+fn is_right(alloc: Global, table: &Table) -> Result<bool, NoMemory> {
     let mut count = Count {
         refuted: 0,
         is_right: true,
@@ -239,4 +239,14 @@ pub fn is_right(alloc: Global, table: &Table) -> Result<bool, NoMemory> {
     listed(alloc, table, &mut count)?;
     all(alloc, table, &mut count)?;
     Ok(count.is_right && count.refuted == table.refuted)
+}
+
+/// Whether all of them are right.
+pub fn are_right(alloc: Global, tables: &[Table]) -> Result<bool, NoMemory> {
+    for table in tables {
+        if !is_right(alloc, table)? {
+            return Ok(false);
+        }
+    }
+    Ok(true)
 }

@@ -29,7 +29,7 @@ pub const OK: &[u8] = b"\x07\x00\x00\x01\x00\x00\x00\x02\x00\x00\x00";
 pub const OK_AND_MORE: &[u8] = b"\x07\x00\x00\x01\x00\x00\x00\x0a\x00\x00\x00";
 
 // A head of one column, which is named 1.
-const HEAD: &[u8] =
+pub const HEAD: &[u8] =
     b"\x01\x00\x00\x01\x01\x17\x00\x00\x02\x03def\x00\x00\x00\x011\x00\x0c\x3f\x00\x01\x00\x00\x00\x08\
     \x81\x00\x00\x00\x00";
 
@@ -49,7 +49,21 @@ pub const DO: &[u8] = b"\x05\x00\x00\x00\x03DO 1";
 // Statement 1 of `SELECT ?` is prepared, executed with the value 1, and closed.
 const PREPARE: &[u8] = b"\x09\x00\x00\x00\x16SELECT ?";
 
-const EXECUTE: &[u8] = b"\x16\x00\x00\x00\x17\x01\x00\x00\x00\x00\x01\x00\x00\x00\x00\x01\x08\x00\
+pub const EXECUTE: &[u8] =
+    b"\x16\x00\x00\x00\x17\x01\x00\x00\x00\x00\x01\x00\x00\x00\x00\x01\x08\x00\
+    \x01\x00\x00\x00\x00\x00\x00\x00";
+
+// The same with the values 1 and 2, one after the other, and with 2 and 1.
+const EXECUTE_BOTH: &[u8] =
+    b"\x16\x00\x00\x00\x17\x01\x00\x00\x00\x00\x01\x00\x00\x00\x00\x01\x08\x00\
+    \x01\x00\x00\x00\x00\x00\x00\x00\
+    \x16\x00\x00\x00\x17\x01\x00\x00\x00\x00\x01\x00\x00\x00\x00\x01\x08\x00\
+    \x02\x00\x00\x00\x00\x00\x00\x00";
+
+pub const EXECUTE_SWAPPED: &[u8] =
+    b"\x16\x00\x00\x00\x17\x01\x00\x00\x00\x00\x01\x00\x00\x00\x00\x01\x08\x00\
+    \x02\x00\x00\x00\x00\x00\x00\x00\
+    \x16\x00\x00\x00\x17\x01\x00\x00\x00\x00\x01\x00\x00\x00\x00\x01\x08\x00\
     \x01\x00\x00\x00\x00\x00\x00\x00";
 
 pub const CLOSE: &[u8] = b"\x05\x00\x00\x00\x19\x01\x00\x00\x00";
@@ -63,6 +77,12 @@ const PREPARED: &[u8] = b"\x0c\x00\x00\x01\x00\x01\x00\x00\x00\x01\x00\x01\x00\x
 // A row of an execution, with the cell 1.
 pub const BINARY_ROW: &[u8] = b"\x0a\x00\x00\x03\x00\x00\x01\x00\x00\x00\x00\x00\x00\x00";
 
+/// A set of an execution, with its row and its end.
+pub const SET: &[u8] =
+    b"\x01\x00\x00\x01\x01\x17\x00\x00\x02\x03def\x00\x00\x00\x011\x00\x0c\x3f\x00\x01\x00\x00\x00\x08\
+    \x81\x00\x00\x00\x00\x0a\x00\x00\x03\x00\x00\x01\x00\x00\x00\x00\x00\x00\x00\
+    \x07\x00\x00\x04\xfe\x00\x00\x02\x00\x00\x00";
+
 const PING: &[u8] = b"\x01\x00\x00\x00\x0e";
 
 pub const QUIT: &[u8] = b"\x01\x00\x00\x00\x01";
@@ -75,6 +95,8 @@ pub enum Said<'a> {
     Prepare(&'a [u8]),
     /// Of statement 1, with this value.
     Execute(i64),
+    /// Of statement 1, with each of these lists of values.
+    Batch(&'a [&'a [i64]]),
     CloseStmt(u32),
     NextRow,
     DropResult,
@@ -99,6 +121,8 @@ pub enum Told<'a> {
     /// ERR 1064 42000 X.
     Server,
     Closed,
+    /// So many values, where statement 1 takes one.
+    Mismatch(u64),
     /// Faults after `n` packets.
     Link(u64),
     Eof(u64),
@@ -207,6 +231,14 @@ pub const EXECUTES: Line<'static> = Line {
     call: Said::Execute(1),
     sent: EXECUTE,
     taken: [HEAD, b""],
+    ..RETURNS
+};
+
+/// Executions with the values 1 and 2: a set with a row, and an OK.
+pub const BATCHES: Line<'static> = Line {
+    call: Said::Batch(&[&[1], &[2]]),
+    sent: EXECUTE_BOTH,
+    taken: [SET, OK],
     ..RETURNS
 };
 

@@ -1,13 +1,12 @@
 //! Tapes, and how many changes of each are refuted.
 
-use crate::changes::{Table, is_right};
+use crate::changes::{Table, are_right};
 use crate::rows::{
     BINARY_ROW, CLOSE, CONNECTS, DO, DO_ONE, DOES, DROPS, END, ERR, ERR_OF_ROW, EXECUTES, Line,
     Needs, OK, OK_AND_MORE, PING_REFUSED, PINGS, PREPARE_ONE, PREPARES, QUIT, QUIT_AGAIN,
     READ_REFUSED, READS_NONE, READS_ROW, RETURNS, SELECTS, SETS_UP, Said, Told, WAITS,
 };
 use crate::tapes::{Change, SetUp};
-use std::alloc::Global;
 use std::test::Fail;
 
 const WAITING: &[Told] = &[
@@ -393,9 +392,6 @@ const TABLES: &[Table] = &[
 
 #[test]
 fn changes_of_tapes_are_refuted(rt: HostRuntime) -> Result<(), Fail> {
-    let alloc = rt.alloc();
-    for table in TABLES {
-        assert!(rt; is_right(alloc, table)?);
-    }
+    assert!(rt; are_right(rt.alloc(), TABLES)?);
     Ok(())
 }

@@ -96,10 +96,20 @@ fn statement(alloc: Global, num_params: u16) -> Result<Statement, NoMemory> {
     Ok(Statement::new(Arc::new(alloc, inner)?, Listed::new(alloc)))
 }
 
-fn params(alloc: Global, value: i64) -> Result<Params, NoMemory> {
+fn params(alloc: Global, all: &[i64]) -> Result<Params, NoMemory> {
     let mut values = Listed::new(alloc);
-    values.push(Value::Int(value))?;
+    for value in all {
+        values.push(Value::Int(*value))?;
+    }
     Ok(Params::Positional(values))
+}
+
+fn lists(alloc: Global, all: &[&[i64]]) -> Result<Listed<Params>, NoMemory> {
+    let mut lists = Listed::new(alloc);
+    for values in all {
+        lists.push(params(alloc, values)?)?;
+    }
+    Ok(lists)
 }
 
 fn call_of(alloc: Global, said: Said) -> Result<Call, NoMemory> {
@@ -107,7 +117,8 @@ fn call_of(alloc: Global, said: Said) -> Result<Call, NoMemory> {
         Said::Connect => Call::Connect,
         Said::Query(text) => Call::Query(Blob::from_slice(alloc, text)?),
         Said::Prepare(text) => Call::Prepare(Blob::from_slice(alloc, text)?),
-        Said::Execute(value) => Call::Execute(statement(alloc, 1)?, params(alloc, value)?),
+        Said::Execute(value) => Call::Execute(statement(alloc, 1)?, params(alloc, &[value])?),
+        Said::Batch(all) => Call::Batch(statement(alloc, 1)?, lists(alloc, all)?),
         Said::CloseStmt(id) => Call::CloseStmt(id),
         Said::NextRow => Call::NextRow,
         Said::DropResult => Call::DropResult,
@@ -143,6 +154,13 @@ fn ending_of(alloc: Global, told: Told) -> Result<Option<Ending>, NoMemory> {
         Told::NoSet => Some(Ending::Answered(Answer::NoSet)),
         Told::Server => Some(Ending::Failed(server_error(alloc)?)),
         Told::Closed => Some(Ending::Failed(Error::Driver(DriverError::ConnectionClosed))),
+        Told::Mismatch(supplied) => {
+            let refusal = DriverError::StmtParamsMismatch {
+                required: 1,
+                supplied,
+            };
+            Some(Ending::Failed(Error::Driver(refusal)))
+        }
         Told::Link(place) => fault(IoKind::Link, place),
         Told::Eof(place) => fault(IoKind::UnexpectedEof, place),
         Told::Unfit(place) => fault(IoKind::InvalidData, place),

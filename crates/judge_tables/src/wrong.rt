@@ -2,8 +2,8 @@
 
 use crate::changes::judged;
 use crate::rows::{
-    CONNECTS, DO, DO_ONE, END, EXECUTES, LOGGED_IN, Line, OK_AND_MORE, PREPARES, RETURNS, ROW,
-    SELECTS, Said, Told,
+    BATCHES, CONNECTS, DO, DO_ONE, END, EXECUTE, EXECUTE_SWAPPED, EXECUTES, HEAD, LOGGED_IN, Line,
+    OK_AND_MORE, PREPARES, RETURNS, ROW, SELECTS, SET, Said, Told,
 };
 use crate::tapes::{Change, SetUp, changed};
 use my_frame::NoMemory;
@@ -13,11 +13,13 @@ use std::test::Fail;
 
 // The calls of a tape, and at last the number of the one that is refuted: a set is taken where none is; none is left where
 // a set is; a set is passed over before its end; a row that was passed over is returned; the next set is passed over, too;
-// a statement is prepared again, though it is cached; a row of an execution is read as text; a close isn't sent.
+// a statement is prepared again, though it is cached; a row of an execution is read as text; a close isn't sent; of a batch
+// the second execution isn't sent, or is sent first; it is ready before its last response is read whole.
 //
 // A call is its name, its answer and what it received. `c` connects, `s` is a query that begins a set, `d` one that has
 // none, `t` takes a set, `k` passes over the rest of one, `r` reads, `p` prepares a statement, `x` executes it, and `z`
-// closes it without a byte. `R` is ready, `N` that no set is left, `1` a row.
+// closes it without a byte. Batches of the values 1 and 2: `h` sends the first execution alone, `o` sends them in the other
+// order, `u` reads no more than the head of the last response. `R` is ready, `N` that no set is left, `1` a row.
 // Received are `m` an OK that another set follows, `o` a row, `e` a set's end, `f` an OK with the next sequence id.
 const WRONG: &str = "\
 c tR 1
@@ -27,7 +29,26 @@ c s tR kRoe r1 4
 c dRm tR kRf rN 4
 c p p 2
 c p x r1o 3
-c p zR 2";
+c p zR 2
+c p h 2
+c p o 2
+c p u 2";
+
+// Batches that are refuted.
+const FIRST_ALONE: Line<'static> = Line {
+    sent: EXECUTE,
+    ..BATCHES
+};
+
+const OTHER_ORDER: Line<'static> = Line {
+    sent: EXECUTE_SWAPPED,
+    ..BATCHES
+};
+
+const UNREAD: Line<'static> = Line {
+    taken: [SET, HEAD],
+    ..BATCHES
+};
 
 fn letter(word: &str, at: usize) -> u8 {
     match word.as_bytes().get(at) {
@@ -60,6 +81,9 @@ fn line(word: &str) -> Line<'static> {
         b's' => return SELECTS,
         b'p' => return PREPARES,
         b'x' => return EXECUTES,
+        b'h' => return FIRST_ALONE,
+        b'o' => return OTHER_ORDER,
+        b'u' => return UNREAD,
         b'z' => Said::CloseStmt(1),
         b'd' => DO_ONE,
         b't' => Said::TakeSet,

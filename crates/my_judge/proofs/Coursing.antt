@@ -1,5 +1,5 @@
 -- A call, step by step.
-use Rattle.std.proofs.Common.{◌≡◌, ℕ, zero, suc, ◌+◌, ◌*◌, List, length, drop, map, refl, sym, ap, ◌∙◌, subst, arith}
+use Rattle.std.proofs.Common.{◌≡◌, ℕ, zero, suc, ◌+◌, ◌*◌, List, [], ◌∷◌, length, drop, map, refl, sym, ap, ◌∙◌, subst, arith}
 use Rattle.std.proofs.lemmas.List.{length-map}
 use Rattle.my_grammar.specs.declared.login.Login.{Login}
 use Rattle.my_reading.specs.declared.call.Call.{Call}
@@ -15,6 +15,7 @@ use Rattle.my_judge.specs.Courses.{HaltIs, CourseIs}
 use Rattle.my_judge.specs.Parts.{part_of}
 use Rattle.my_judge.specs.Stands.{IsAt, Comes, steps as code_step}
 use Rattle.my_judge.proofs.Following.{Follows, steps_follow}
+use Rattle.my_judge.proofs.Suiting.{Suit, parts_suit}
 
 -- the call is where these parts are left, and `most` steps at most
 pub record IsOn (login : Login) (call : Call) (most : ℕ) (left : List CodePart) (now : Stand) (h : Halt) : Type 0 where
@@ -24,6 +25,7 @@ pub record IsOn (login : Login) (call : Call) (most : ℕ) (left : List CodePart
 
 pub record InCourse (login : Login) (call : Call) (old : Stand) (most : ℕ) (left : List CodePart) (now : Stand) : Type 0 where
   pub on : (p : Place) → IsAt login p old → IsOn login call most left now (course login call p)
+  pub suit : Suit call (map part_of left)
 
 pub begins : (login : Login) (call : Call) (s : Stand) (left : List CodePart) (most : ℕ) → map part_of left ≡ parts_of login call → most ≡ 2 + length s.unread + 2 * length left → InCourse login call s most left s
 begins login call s left most is count = record {
@@ -36,7 +38,13 @@ begins login call s left most is count = record {
         let all : enough login call p ≡ most = omega arith in
         ap (λ n. run n login call (Goes (parts_of login call) p)) all ∙ ap (λ ps. run most login call (Goes ps p)) (sym is);
   };
+  suit = subst (Suit call) (sym is) (parts_suit login call);
 }
+
+-- without the first part
+fewer : (call : Call) (left : List CodePart) → Suit call (map part_of left) → Suit call (map part_of (drop 1 left))
+fewer call [] w = tt
+fewer call (part ∷ left) w = w.1
 
 -- one step
 one : (login : Login) (call : Call) (most : ℕ) (left : List CodePart) (p : Place) → run (suc most) login call (Goes (map part_of left) p) ≡ run most login call (step login call (map part_of left) p)
@@ -49,10 +57,10 @@ stopped login call zero p s = refl
 stopped login call (suc most) p s = refl
 
 -- what the program's step says of the reading's
-told : (login : Login) (call : Call) (left : List CodePart) (p : Place) (now new : Stand) (does : CodeStep) → IsAt login p now → Comes (code_step login call left now) does new → Follows login left new does (step login call (map part_of left) p)
-told login call left p now new does at comes =
+told : (login : Login) (call : Call) (left : List CodePart) (p : Place) (now new : Stand) (does : CodeStep) → Suit call (map part_of left) → IsAt login p now → Comes (code_step login call left now) does new → Follows login left new does (step login call (map part_of left) p)
+told login call left p now new does suit at comes =
     subst (λ (x : Stand). Follows login left x does (step login call (map part_of left) p)) comes.stand_is
-    (subst (λ (x : CodeStep). Follows login left (code_step login call left now).stand x (step login call (map part_of left) p)) comes.does_is (steps_follow login p now call left at))
+    (subst (λ (x : CodeStep). Follows login left (code_step login call left now).stand x (step login call (map part_of left) p)) comes.does_is (steps_follow login p now call left suit at))
 
 module _ (login : Login) (call : Call) (old now new : Stand) (most more : ℕ) (left : List CodePart) (count : suc more ≡ most) (on : InCourse login call old most left now) where
   -- the step from where the call is
@@ -60,21 +68,21 @@ module _ (login : Login) (call : Call) (old now new : Stand) (most more : ℕ) (
   here p at = (on.on p at).goes ∙ ap (λ n. run n login call (Goes (map part_of left) (on.on p at).place)) (sym count) ∙ one login call more left (on.on p at).place
 
   pub stays : Comes (code_step login call left now) steps.Stays new → InCourse login call old more left new
-  stays comes = record { on = λ p at. by_step p (step login call (map part_of left) (on.on p at).place) (here p at) (told login call left (on.on p at).place now new steps.Stays (on.on p at).at comes) }
+  stays comes = record { suit = on.suit; on = λ p at. by_step p (step login call (map part_of left) (on.on p at).place) (here p at) (told login call left (on.on p at).place now new steps.Stays on.suit (on.on p at).at comes) }
     where
       by_step : (p : Place) (x : Step) → course login call p ≡ run more login call x → Follows login left new steps.Stays x → IsOn login call more left new (course login call p)
       by_step p (Goes parts q) e f = record { place = q; at = f.1; goes = e ∙ ap (λ ps. run more login call (Goes ps q)) f.0 }
       by_step p (Stops q s) e f = absurd f
 
   pub passes : Comes (code_step login call left now) steps.Passes new → InCourse login call old more (drop 1 left) new
-  passes comes = record { on = λ p at. by_step p (step login call (map part_of left) (on.on p at).place) (here p at) (told login call left (on.on p at).place now new steps.Passes (on.on p at).at comes) }
+  passes comes = record { suit = fewer call left on.suit; on = λ p at. by_step p (step login call (map part_of left) (on.on p at).place) (here p at) (told login call left (on.on p at).place now new steps.Passes on.suit (on.on p at).at comes) }
     where
       by_step : (p : Place) (x : Step) → course login call p ≡ run more login call x → Follows login left new steps.Passes x → IsOn login call more (drop 1 left) new (course login call p)
       by_step p (Goes parts q) e f = record { place = q; at = f.1; goes = e ∙ ap (λ ps. run more login call (Goes ps q)) f.0 }
       by_step p (Stops q s) e f = absurd f
 
   pub halts : (stop : CodeStop) → Comes (code_step login call left now) (steps.Stops stop) new → CourseIs login call old stop new
-  halts stop comes = λ p at. by_step p (step login call (map part_of left) (on.on p at).place) (here p at) (told login call left (on.on p at).place now new (steps.Stops stop) (on.on p at).at comes)
+  halts stop comes = λ p at. by_step p (step login call (map part_of left) (on.on p at).place) (here p at) (told login call left (on.on p at).place now new (steps.Stops stop) on.suit (on.on p at).at comes)
     where
       by_step : (p : Place) (x : Step) → course login call p ≡ run more login call x → Follows login left new (steps.Stops stop) x → HaltIs login (course login call p) stop new
       by_step p (Goes parts q) e f = absurd f

@@ -110,6 +110,7 @@ closes_so kinds.Connect p spot e = refl
 closes_so kinds.Query p spot e = refl
 closes_so kinds.Prepare p spot e = refl
 closes_so kinds.Execute p spot e = refl
+closes_so kinds.Batch p spot e = refl
 closes_so kinds.CloseStmt p spot e = refl
 closes_so kinds.NextRow p spot e = ap (closes_at kinds.NextRow) e
 closes_so kinds.DropResult p spot e = ap (closes_at kinds.DropResult) e

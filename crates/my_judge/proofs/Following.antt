@@ -35,12 +35,12 @@ use Rattle.std.proofs.lemmas.List.{append_assoc}
 use Rattle.my_grammar.specs.Talk.{Talk, Asked, Preparing, Queried, Silent, commands_bytes, commands_in, turns, number_of, context_of, limit_of, Fits, login_in}
 use Rattle.my_reading.specs.declared.call.Call.{Call}
 use Rattle.my_reading.specs.declared.call.Call.TheVariants as calls
-use Rattle.my_reading.specs.Calls.{id_in, params_in, statement_in, text_in}
+use Rattle.my_reading.specs.Calls.{id_in, is_connect, kind_of as call_kind, statement_in, text_in}
 use Rattle.my_reading.specs.Commands.{arranging, arranging_texts, closing, connecting, execution, queried}
 use Rattle.my_reading.specs.Executions.{Values, Fitting, Unfitting, values_for}
 use Rattle.my_reading.specs.Facts.{prepared_by}
 use Rattle.my_reading.specs.Statements.{Statements, held_in, is_cached, is_mixed_text, known_in, leaving, names_of, query_of, statement_with, with_columns, with_fetched, with_prepared, without_statement}
-use Rattle.my_reading.specs.Course.{Step, Goes, Stops, step, step_of, unless_owed, reads, with_front, after_payload, after_kind, after_err, checked, closing_of, first_above, found, looked_for, unless_cached, unless_long, with_command, failure, is_greeting, is_rows}
+use Rattle.my_reading.specs.Course.{Step, Goes, Stops, step, step_of, unless_owed, reads, with_front, after_payload, after_kind, after_err, checked, closing_of, executed as executed_by, first_above, found, looked_for, unless_cached, unless_long, with_command, failure, is_greeting, is_rows}
 use Rattle.my_reading.specs.Errors.{codec_error}
 use Rattle.my_reading.proofs.Described.{kind_known}
 use Rattle.my_reading.specs.Place.{Place, exchanges, facts_at, facts_of, client_side, connects_in, terms_of, owed, next_exchange, with_end, with_statements, with_taken, with_talk, with_exchange}
@@ -53,8 +53,9 @@ use Rattle.my_judge.specs.declared.step.Step.{Step as CodeStep}
 use Rattle.my_judge.specs.declared.step.Step.TheVariants as steps
 use Rattle.my_judge.specs.declared.step.Stop.TheVariants as code_stops
 use Rattle.my_judge.specs.Parts.{part_of}
-use Rattle.my_judge.specs.Stands.{IsAt, Turn, stand_of, heard, asked, turn, with_end as with_left, with_taken as with_mark, after_kind as code_kind, after_err as code_err, after_greeting as code_greeting, after_payload as code_payload, after_prepared as code_prepared, with_front as code_front, with_known, reads as code_reads, arranges, begins, checks, closes_one, commands, executed, executes, finds, finds_so, unless_above, steps as code_step}
+use Rattle.my_judge.specs.Stands.{IsAt, Turn, stand_of, heard, asked, turn, with_end as with_left, with_taken as with_mark, after_kind as code_kind, after_err as code_err, after_greeting as code_greeting, after_payload as code_payload, after_prepared as code_prepared, with_front as code_front, with_known, reads as code_reads, arranges, begins, checks, checks_for, closes_one, commands, executed, executed_in, executes, executes_one, finds, finds_so, unless_above, steps as code_step}
 use Rattle.my_judge.specs.Tapes.{stop_of}
+use Rattle.my_judge.proofs.Suiting.{Suit}
 use Rattle.my_judge.proofs.Places.{limit_is, at_here, at_end, at_known, at_no_end, at_taken, at_end_taken, at_heard}
 
 -- a step of a call of which these parts are left
@@ -133,7 +134,8 @@ module _ (login : Login) (part : CodePart) (more : List CodePart) (new : Place) 
       by_part parts.Set kinds.Bad = (refl, at)
       by_part parts.Rest k = (refl, at)
       by_part parts.Find k = (refl, at)
-      by_part parts.Check k = (refl, at)
+      by_part (parts.Check params) k = (refl, at)
+      by_part (parts.Run params) k = (refl, at)
       by_part parts.Reply k = (refl, at)
       by_part parts.Keep k = (refl, at)
       by_part parts.Give k = (refl, at)
@@ -232,28 +234,26 @@ module _ (login : Login) (p : Place) (n : ℕ) (arranged : connects_in (exchange
       unless_follows login parts.Command more p (with_exchange p calls.Connect talk) s (asked spots.Head (packet_bytes (packets.Query text)) (suc n) s) here
       (asked_at calls.Connect talk _ (suc n) refl refl (ap suc arranged) (record { kinds = tt; within = tt }) refl) (first_above (limit_of talk) (commands_in talk))
 
-  -- the exchange of an execution
-  executed_at : (statement : StatementView) (params : Params) (ahead : List (List ℕ)) (command : List ℕ) (known : List Column)
-      → IsAt login (with_exchange p (calls.Execute statement params) (Queried terms command (NoSets (ByStatement ahead known)))) (executed ahead command s)
-  executed_at statement params ahead command known =
+  -- the exchange of an execution, by a call that doesn't connect
+  executed_at : (call : Call) → is_connect (call_kind call) ≡ false → (ahead : List (List ℕ)) (command : List ℕ) (known : List Column)
+      → IsAt login (with_exchange p call (Queried terms command (NoSets (ByStatement ahead known)))) (executed ahead command s)
+  executed_at call other ahead command known =
       let base : Stand = executed ahead command s in
       record {
         stand_is = ap (λ (bytes : List ℕ). let x : Stand = record { context = base.context; number = base.number; facts = base.facts; texts = base.texts; arranged = base.arranged; end_left = base.end_left; taken = base.taken; statements = base.statements; unread = base.unread; said = bytes; sent = base.sent } in x)
             (append_assoc (client_side (exchanges p)) (commands_bytes ahead) (chunks command 0) ∙ ap (λ bs. client_side (exchanges p) ++ bs) (sym (ahead_then ahead command)));
-        arranged_is = arranged;
+        arranged_is = ap (λ b. cond b (suc (connects_in (exchanges p))) (connects_in (exchanges p))) other ∙ arranged;
         fits = record { kinds = tt; within = tt };
         login_is = refl;
       }
 
-  executes_follow : (statement : StatementView) (params : Params) (more : List CodePart) (x : Values)
-      → TurnIs login (parts.Command ∷ more) (executes statement.inner.id x s) (with_command (calls.Execute statement params) (map part_of more) p (execution terms p.statements statement.inner.id x))
-  executes_follow statement params more (Unfitting e) = (refl, here)
-  executes_follow statement params more (Fitting values) =
-      let id = statement.inner.id in
-      let call : Call = calls.Execute statement params in
+  executes_follow : (call : Call) → is_connect (call_kind call) ≡ false → (id : ℕ) (part : CodePart) (more : List CodePart) (x : Values)
+      → TurnIs login (part ∷ more) (executes id x s) (with_command call (map part_of more) p (execution terms p.statements id x))
+  executes_follow call other id part more (Unfitting e) = (refl, here)
+  executes_follow call other id part more (Fitting values) =
       let talk : Talk = Queried terms (body_of id values) (NoSets (ByStatement (ahead_of id values) (known_in p.statements id))) in
-      unless_follows login parts.Command more p (with_exchange p call talk) s (executed (ahead_of id values) (body_of id values) s) here
-      (executed_at statement params (ahead_of id values) (body_of id values) (known_in p.statements id)) (first_above (limit_of talk) (commands_in talk))
+      unless_follows login part more p (with_exchange p call talk) s (executed (ahead_of id values) (body_of id values) s) here
+      (executed_at call other (ahead_of id values) (body_of id values) (known_in p.statements id)) (first_above (limit_of talk) (commands_in talk))
 
   commands_follow : (call : Call) (more : List CodePart) → TurnIs login (parts.Command ∷ more) (commands call s) (with_command call (map part_of more) p (next_exchange login call p))
   commands_follow calls.Connect more = subst (λ k. TurnIs login (parts.Command ∷ more) (commands calls.Connect s) (with_command calls.Connect (map part_of more) p (connecting login terms k))) (sym arranged)
@@ -266,7 +266,8 @@ module _ (login : Login) (p : Place) (n : ℕ) (arranged : connects_in (exchange
       let talk : Talk = Preparing terms (packet_bytes (packets.Prepare (query_of text))) Unanswered in
       unless_follows login parts.Command more p (with_exchange p (calls.Prepare text) talk) s (asked spots.Prepare (packet_bytes (packets.Prepare (query_of text))) n s) here
       (asked_at (calls.Prepare text) talk _ n refl refl arranged (record { kinds = tt; within = tt }) refl) (first_above (limit_of talk) (commands_in talk))
-  commands_follow (calls.Execute statement params) more = executes_follow statement params more (values_for statement params)
+  commands_follow (calls.Execute statement params) more = executes_follow (calls.Execute statement params) refl statement.inner.id parts.Command more (values_for statement params)
+  commands_follow (calls.Batch statement lists) more = (refl, here)
   commands_follow (calls.CloseStmt id) more =
       let talk : Talk = closing terms id in
       unless_follows login parts.Command more p (with_exchange p (calls.CloseStmt id) talk) s (asked spots.Idle (packet_bytes (packets.CloseStatement id)) n s) here
@@ -292,9 +293,31 @@ module _ (login : Login) (p : Place) (n : ℕ) (arranged : connects_in (exchange
       by_held None e = (refl, subst (λ (st : Statements). IsAt login p (with_known st s)) (sym (unfetched (query_of text) p.statements e)) here)
       by_held (Some h) e = (refl, at_known login p n arranged fits same (with_fetched (query_of text) p.statements))
 
-  checks_follow : (more : List CodePart) (x : Values) → TurnIs login (parts.Check ∷ more) (checks x s) (checked (map part_of more) p x)
-  checks_follow more (Fitting values) = (refl, here)
-  checks_follow more (Unfitting e) = (refl, here)
+  checks_follow : (part : CodePart) (more : List CodePart) (x : Values) → TurnIs login (part ∷ more) (checks x s) (checked (map part_of more) p x)
+  checks_follow part more (Fitting values) = (refl, here)
+  checks_follow part more (Unfitting e) = (refl, here)
+
+  -- parameters, in a call that executes a statement
+  params_follow : (part : CodePart) (params : Params) (call : Call) (more : List CodePart) → executed_in call ≡ Some (statement_in call)
+      → TurnIs login (part ∷ more) (checks_for (executed_in call) params s) (checked (map part_of more) p (values_for (statement_in call) params))
+  params_follow part params call more e =
+      subst (λ (o : Option StatementView). TurnIs login (part ∷ more) (checks_for o params s) (checked (map part_of more) p (values_for (statement_in call) params))) (sym e)
+      (checks_follow part more (values_for (statement_in call) params))
+
+  runs_follow : (part : CodePart) (params : Params) (call : Call) (more : List CodePart) → executed_in call ≡ Some (statement_in call)
+      → TurnIs login (part ∷ more) (executes_one (executed_in call) params s) (with_command call (map part_of more) p (executed_by login call p params))
+  runs_follow part params (calls.Execute statement others) more e = executes_follow (calls.Execute statement others) refl statement.inner.id part more (values_for statement params)
+  runs_follow part params (calls.Batch statement lists) more e = executes_follow (calls.Batch statement lists) refl statement.inner.id part more (values_for statement params)
+  runs_follow part params calls.Connect more e = cc
+  runs_follow part params (calls.Query text) more e = cc
+  runs_follow part params (calls.Prepare text) more e = cc
+  runs_follow part params (calls.CloseStmt id) more e = cc
+  runs_follow part params calls.NextRow more e = cc
+  runs_follow part params calls.DropResult more e = cc
+  runs_follow part params calls.TakeSet more e = cc
+  runs_follow part params calls.SkipTaken more e = cc
+  runs_follow part params calls.Ping more e = cc
+  runs_follow part params calls.Quit more e = cc
 
   keeps_follow : (text : List ℕ) (more : List CodePart) (st : Statements) (x : Option ℕ)
       → TurnIs login (parts.Keep ∷ more) (closes_one x (with_known st s)) (with_command (calls.Prepare text) (map part_of more) (with_statements st p) (closing_of terms x))
@@ -305,53 +328,54 @@ module _ (login : Login) (p : Place) (n : ℕ) (arranged : connects_in (exchange
       unless_follows login parts.Keep more q (with_exchange q (calls.Prepare text) talk) (with_known st s) (asked spots.Idle (packet_bytes (packets.CloseStatement id)) n (with_known st s)) (at_known login p n arranged fits same st)
       (record { stand_is = refl; arranged_is = arranged; fits = record { kinds = tt; within = tt }; login_is = refl }) (first_above (limit_of talk) (commands_in talk))
 
-  begins_follow : (call : Call) (left : List CodePart) → TurnIs login left (begins login call left s) (step_of login call (map part_of left) p)
-  begins_follow call [] = (refl, here)
-  begins_follow call (parts.Command ∷ more) = commands_follow call more
-  begins_follow call (parts.All ∷ more) = either login (parts.All ∷ more) p.end_left _ _ _ _ (λ _. (refl, at_no_end login p n arranged fits same))
+  begins_follow : (call : Call) (left : List CodePart) → Suit call (map part_of left) → TurnIs login left (begins login call left s) (step_of login call (map part_of left) p)
+  begins_follow call [] w = (refl, here)
+  begins_follow call (parts.Command ∷ more) w = commands_follow call more
+  begins_follow call (parts.All ∷ more) w = either login (parts.All ∷ more) p.end_left _ _ _ _ (λ _. (refl, at_no_end login p n arranged fits same))
       (λ _. either login (parts.All ∷ more) (is_over p.talk) _ _ _ _ (λ _. (refl, here)) (λ _. reads_follow parts.All more))
-  begins_follow call (parts.Head ∷ more) = either login (parts.Head ∷ more) (is_rows (context_of p.talk).spot) _ _ _ _ (λ _. (refl, here)) (λ _. reads_follow parts.Head more)
-  begins_follow call (parts.Item ∷ more) = either login (parts.Item ∷ more) p.end_left _ _ _ _ (λ _. (refl, at_no_end login p n arranged fits same))
+  begins_follow call (parts.Head ∷ more) w = either login (parts.Head ∷ more) (is_rows (context_of p.talk).spot) _ _ _ _ (λ _. (refl, here)) (λ _. reads_follow parts.Head more)
+  begins_follow call (parts.Item ∷ more) w = either login (parts.Item ∷ more) p.end_left _ _ _ _ (λ _. (refl, at_no_end login p n arranged fits same))
       (λ _. either login (parts.Item ∷ more) (is_over p.talk) _ _ _ _ (λ _. (refl, here)) (λ _. reads_follow parts.Item more))
-  begins_follow call (parts.Set ∷ more) = either login (parts.Set ∷ more) (p.end_left || is_rows (context_of p.talk).spot) _ _ _ _ (λ _. (refl, at_taken login p n arranged fits same))
+  begins_follow call (parts.Set ∷ more) w = either login (parts.Set ∷ more) (p.end_left || is_rows (context_of p.talk).spot) _ _ _ _ (λ _. (refl, at_taken login p n arranged fits same))
       (λ _. either login (parts.Set ∷ more) (is_over p.talk) _ _ _ _ (λ _. (refl, here)) (λ _. reads_follow parts.Set more))
-  begins_follow call (parts.Rest ∷ more) = either login (parts.Rest ∷ more) p.end_left _ _ _ _ (λ _. (refl, at_no_end login p n arranged fits same))
+  begins_follow call (parts.Rest ∷ more) w = either login (parts.Rest ∷ more) p.end_left _ _ _ _ (λ _. (refl, at_no_end login p n arranged fits same))
       (λ _. either login (parts.Rest ∷ more) (is_rows (context_of p.talk).spot) _ _ _ _ (λ _. reads_follow parts.Rest more) (λ _. (refl, here)))
-  begins_follow call (parts.Find ∷ more) = finds_follow more (text_in call)
-  begins_follow call (parts.Check ∷ more) = checks_follow more (values_for (statement_in call) (params_in call))
-  begins_follow call (parts.Reply ∷ more) = either login (parts.Reply ∷ more) (is_over p.talk) _ _ _ _ (λ _. (refl, here)) (λ _. reads_follow parts.Reply more)
-  begins_follow call (parts.Keep ∷ more) =
+  begins_follow call (parts.Find ∷ more) w = finds_follow more (text_in call)
+  begins_follow call (parts.Check params ∷ more) w = params_follow (parts.Check params) params.now call more w.0
+  begins_follow call (parts.Run params ∷ more) w = runs_follow (parts.Run params) params.now call more w.0
+  begins_follow call (parts.Reply ∷ more) w = either login (parts.Reply ∷ more) (is_over p.talk) _ _ _ _ (λ _. (refl, here)) (λ _. reads_follow parts.Reply more)
+  begins_follow call (parts.Keep ∷ more) w =
       let f = facts_at login p in
       let text = text_in call in
       keeps_follow text more (with_prepared (query_of text) (prepared_by f) f.reply.fields p.statements) (leaving (query_of text) (prepared_by f) p.statements)
-  begins_follow call (parts.Give ∷ more) = (refl, here)
-  begins_follow call (parts.Learn ∷ more) = by_rows (is_rows (context_of p.talk).spot)
+  begins_follow call (parts.Give ∷ more) w = (refl, here)
+  begins_follow call (parts.Learn ∷ more) w = by_rows (is_rows (context_of p.talk).spot)
     where
       by_rows : (b : Bool) → TurnIs login (parts.Learn ∷ more) (cond b (turn steps.Passes (with_known (with_columns (id_in call) (facts_at login p).columns p.statements) s)) (turn steps.Passes s))
           (Goes (map part_of more) (cond b (with_statements (with_columns (id_in call) (facts_at login p).columns p.statements) p) p))
       by_rows true = (refl, at_known login p n arranged fits same (with_columns (id_in call) (facts_at login p).columns p.statements))
       by_rows false = (refl, here)
-  begins_follow call (parts.Forget ∷ more) = (refl, at_known login p n arranged fits same (without_statement (id_in call) p.statements))
+  begins_follow call (parts.Forget ∷ more) w = (refl, at_known login p n arranged fits same (without_statement (id_in call) p.statements))
 
   -- while bytes are owed the call waits
   owing : (left : List CodePart) (x : Step) (bytes : List ℕ) (b : ℕ) (more : List ℕ) → bytes ≡ b ∷ more → TurnIs login left (turn (steps.Stops code_stops.Owes) s) (unless_owed bytes p x)
   owing left x [] b more e = cc
   owing left x (d ∷ bytes) b more e = (refl, here)
 
-  settled : (call : Call) (left : List CodePart) (bytes : List ℕ) → bytes ≡ [] → TurnIs login left (begins login call left s) (unless_owed bytes p (step_of login call (map part_of left) p))
-  settled call left [] e = begins_follow call left
-  settled call left (d ∷ bytes) e = cc
+  settled : (call : Call) (left : List CodePart) → Suit call (map part_of left) → (bytes : List ℕ) → bytes ≡ [] → TurnIs login left (begins login call left s) (unless_owed bytes p (step_of login call (map part_of left) p))
+  settled call left w [] e = begins_follow call left w
+  settled call left w (d ∷ bytes) e = cc
 
-  step_follows : (call : Call) (left : List CodePart) → TurnIs login left (code_step login call left s) (step login call (map part_of left) p)
+  step_follows : (call : Call) (left : List CodePart) → Suit call (map part_of left) → TurnIs login left (code_step login call left s) (step login call (map part_of left) p)
   unfolding step
-  step_follows call left = by_owed (nat_lt (length p.sent) (length (client_side (exchanges p)))) refl
+  step_follows call left w = by_owed (nat_lt (length p.sent) (length (client_side (exchanges p)))) refl
     where
       by_owed : (b : Bool) → nat_lt (length p.sent) (length (client_side (exchanges p))) ≡ b
           → TurnIs login left (cond b (turn (steps.Stops code_stops.Owes) s) (begins login call left s)) (unless_owed (owed p) p (step_of login call (map part_of left) p))
       by_owed true e = let some = some_left (length p.sent) (client_side (exchanges p)) (grind (arith, nat_tests)) in owing left (step_of login call (map part_of left) p) (owed p) some.0 some.1 some.2
-      by_owed false e = settled call left (owed p) (none_left (length p.sent) (client_side (exchanges p)) (grind (arith, nat_tests)))
+      by_owed false e = settled call left w (owed p) (none_left (length p.sent) (client_side (exchanges p)) (grind (arith, nat_tests)))
 
 -- a step of the program, wherever it stands
-pub steps_follow : (login : Login) (p : Place) (s : Stand) (call : Call) (left : List CodePart) → IsAt login p s → TurnIs login left (code_step login call left s) (step login call (map part_of left) p)
-steps_follow login p s call left at = subst (λ (x : Stand). TurnIs login left (code_step login call left x) (step login call (map part_of left) p)) (sym at.stand_is)
-    (step_follows login p s.arranged at.arranged_is at.fits at.login_is call left)
+pub steps_follow : (login : Login) (p : Place) (s : Stand) (call : Call) (left : List CodePart) → Suit call (map part_of left) → IsAt login p s → TurnIs login left (code_step login call left s) (step login call (map part_of left) p)
+steps_follow login p s call left w at = subst (λ (x : Stand). TurnIs login left (code_step login call left x) (step login call (map part_of left) p)) (sym at.stand_is)
+    (step_follows login p s.arranged at.arranged_is at.fits at.login_is call left w)

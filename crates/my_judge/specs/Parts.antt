@@ -1,6 +1,6 @@
 -- The parts of a call in the program.
 use Rattle.std.specs.Prelude.{ℕ, List, ◌∷◌}
-use Rattle.my_reading.specs.Course.{Part, All, Head, Item, Set, Rest, Command, Find, Check, Reply, Keep, Give, Learn, Forget, parts_of_texts}
+use Rattle.my_reading.specs.Course.{Part, All, Head, Item, Set, Rest, Command, Find, Check, Run, Reply, Keep, Give, Learn, Forget, parts_of_texts}
 use Rattle.my_judge.specs.declared.part.Part.{Part as CodePart}
 use Rattle.my_judge.specs.declared.part.Part.TheVariants as parts
 
@@ -12,7 +12,8 @@ part_of parts.Set = Set
 part_of parts.Rest = Rest
 part_of parts.Command = Command
 part_of parts.Find = Find
-part_of parts.Check = Check
+part_of (parts.Check params) = Check params.now
+part_of (parts.Run params) = Run params.now
 part_of parts.Reply = Reply
 part_of parts.Keep = Keep
 part_of parts.Give = Give

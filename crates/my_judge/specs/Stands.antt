@@ -11,6 +11,7 @@ use Rattle.my_reply.specs.declared.replies.PrepareOk.{PrepareOk}
 use Rattle.my_reply.specs.Replies.{prepare_ok_at}
 use Rattle.my_params.specs.LongData.{ahead_of}
 use Rattle.my_params.specs.Parameters.{body_of}
+use Rattle.my_params.specs.declared.params.Params.{Params}
 use Rattle.my_statements.specs.Prepared.{StatementView}
 use Rattle.std.specs.Option.{option_map}
 use Rattle.my_value.specs.RowParts.{RowParts}
@@ -32,7 +33,7 @@ use Rattle.my_reading.specs.declared.call.Call.TheVariants as calls
 use Rattle.my_reading.specs.declared.error.Error.{Error}
 use Rattle.my_reading.specs.declared.error.Error.TheVariants as errors
 use Rattle.my_reading.specs.Commands.{arranging_texts}
-use Rattle.my_reading.specs.Calls.{id_in, params_in, statement_in, text_in}
+use Rattle.my_reading.specs.Calls.{id_in, text_in}
 use Rattle.my_reading.specs.Course.{first_above, is_greeting, is_rows}
 use Rattle.my_reading.specs.Executions.{Values, Fitting, Unfitting, values_for}
 use Rattle.my_reading.specs.Statements.{Statements, held_in, is_cached, is_mixed_text, leaving, names_of, query_of, statement_with, with_columns, with_fetched, with_prepared, without_statement}
@@ -268,6 +269,17 @@ abbrev pub executes : ℕ → Values → Stand → Turn
 executes id (Fitting values) s = sends (ahead_of id values) (body_of id values) s
 executes id (Unfitting e) s = turn Passes s
 
+-- the statement that a call executes
+abbrev pub executed_in : Call → Option StatementView
+executed_in (calls.Execute statement params) = Some statement
+executed_in (calls.Batch statement lists) = Some statement
+executed_in _ = None
+
+-- it is executed with these parameters
+abbrev pub executes_one : Option StatementView → Params → Stand → Turn
+executes_one None params s = turn Passes s
+executes_one (Some statement) params s = executes statement.inner.id (values_for statement params) s
+
 abbrev pub closes : ℕ → Stand → Turn
 closes id s = asks spots.Idle (packet_bytes (packets.CloseStatement id)) s.arranged s
 
@@ -282,6 +294,7 @@ commands (calls.Query text) s = asks spots.Head (packet_bytes (packets.Query tex
 commands (calls.Prepare text) s = asks spots.Prepare (packet_bytes (packets.Prepare (query_of text))) s.arranged s
 commands (calls.Execute statement params) s = executes statement.inner.id (values_for statement params) s
 commands (calls.CloseStmt id) s = closes id s
+commands (calls.Batch statement lists) s = turn Passes s
 commands calls.NextRow s = turn Passes s
 commands calls.DropResult s = turn Passes s
 commands calls.TakeSet s = turn Passes s
@@ -303,6 +316,11 @@ finds text s =
 abbrev pub checks : Values → Stand → Turn
 checks (Fitting values) s = turn Passes s
 checks (Unfitting e) s = turn (failure (errors.Driver e)) s
+
+-- the parameters are looked at
+abbrev pub checks_for : Option StatementView → Params → Stand → Turn
+checks_for None params s = turn Passes s
+checks_for (Some statement) params s = checks (values_for statement params) s
 
 -- the statement that has to go is closed
 abbrev pub closes_one : Option ℕ → Stand → Turn
@@ -345,7 +363,8 @@ begins login call (parts.Rest ∷ more) s =
     then turn Stays (with_end false s)
     else (if is_rows s.context.spot then reads login parts.Rest s else turn Passes s)
 begins login call (parts.Find ∷ more) s = finds (text_in call) s
-begins login call (parts.Check ∷ more) s = checks (values_for (statement_in call) (params_in call)) s
+begins login call (parts.Check params ∷ more) s = checks_for (executed_in call) params.now s
+begins login call (parts.Run params ∷ more) s = executes_one (executed_in call) params.now s
 begins login call (parts.Reply ∷ more) s = if is_idle s.context.spot then turn Passes s else reads login parts.Reply s
 begins login call (parts.Keep ∷ more) s = keeps (text_in call) s
 begins login call (parts.Give ∷ more) s = gives (text_in call) s

@@ -2,17 +2,18 @@
 
 ghost use Rattle.std.specs.Prelude.{◌≡◌, IfOk, drop, map};
 ghost use Rattle.my_reading.specs.Commands.{arranging_texts};
-ghost use Rattle.my_reading.specs.Course.{parts_of};
+ghost use Rattle.my_reading.specs.Course.{parts_of, parts_of_lists};
 ghost use Rattle.my_judge.specs.Parts.{connecting_parts, part_of};
 
 use my_frame::{Blob, NoMemory};
 use my_grammar::Login;
+use my_params::Params;
 use my_reading::Call;
 use std::alloc::Global;
 
 /// A part of a call.
 #[derive(Clone, Copy, Debug, PartialEq, Eq)]
-pub enum Part {
+pub enum Part<'a> {
     /// The rest of the newest exchange is read.
     All,
     /// It is read to the head of its first set.
@@ -27,8 +28,10 @@ pub enum Part {
     Command,
     /// The statement of the text is looked for.
     Find,
-    /// The parameters are looked at.
-    Check,
+    /// These parameters are looked at.
+    Check(&'a Params),
+    /// The statement of a batch is executed with them.
+    Run(&'a Params),
     /// The reply to a statement to prepare is read.
     Reply,
     /// Its statement is kept, and the one that has to go for it is closed.
@@ -42,7 +45,7 @@ pub enum Part {
 }
 
 // The parts of connecting, with these queries that set the connection up.
-fn connecting_parts(alloc: Global, texts: &[Blob]) -> Result<Vec<Part>, NoMemory>
+fn connecting_parts<'a>(alloc: Global, texts: &[Blob]) -> Result<Vec<Part<'a>>, NoMemory>
     ensures { IfOk result (λ parts. map part_of parts.items ≡ connecting_parts texts.now) }
 {
     let mut parts = Vec::new(alloc);
@@ -54,13 +57,29 @@ fn connecting_parts(alloc: Global, texts: &[Blob]) -> Result<Vec<Part>, NoMemory
     Ok(parts)
 }
 
+// The parts of a batch with these lists of parameters.
+fn parts_of_lists(alloc: Global, lists: &[Params]) -> Result<Vec<Part<'_>>, NoMemory>
+    ensures { IfOk result (λ parts. map part_of parts.items ≡ parts_of_lists lists.now) }
+{
+    let mut parts = Vec::new(alloc);
+    for params in lists {
+        parts.push(Part::Check(params))?;
+        parts.push(Part::All)?;
+        parts.push(Part::Run(params))?;
+        parts.push(Part::Head)?;
+        parts.push(Part::Learn)?;
+        parts.push(Part::All)?;
+    }
+    Ok(parts)
+}
+
 /// The parts of a call, in order. `texts` are the queries that set a connection up.
-pub fn parts_of(
+pub fn parts_of<'a>(
     alloc: Global,
     login: &Login,
     texts: &[Blob],
-    call: &Call,
-) -> Result<Vec<Part>, NoMemory>
+    call: &'a Call,
+) -> Result<Vec<Part<'a>>, NoMemory>
     requires { texts.now ≡ arranging_texts login.now }
     ensures { IfOk result (λ parts. map part_of parts.items ≡ parts_of login.now call.now) }
 {
@@ -75,13 +94,14 @@ pub fn parts_of(
             Part::Keep,
             Part::Give,
         ]?),
-        Call::Execute(_, _) => Ok(vec![in alloc;
-            Part::Check,
+        Call::Execute(_, params) => Ok(vec![in alloc;
+            Part::Check(params),
             Part::All,
             Part::Command,
             Part::Head,
             Part::Learn,
         ]?),
+        Call::Batch(_, lists) => parts_of_lists(alloc, lists.as_slice()),
         Call::CloseStmt(_) => Ok(vec![in alloc; Part::Forget, Part::All, Part::Command]?),
         Call::NextRow => Ok(vec![in alloc; Part::Item]?),
         Call::DropResult => Ok(vec![in alloc; Part::All]?),
@@ -93,11 +113,10 @@ pub fn parts_of(
 }
 
 /// All but the first part.
-pub fn after_first(parts: &[Part]) -> &[Part]
+pub fn after_first<'p, 'a>(parts: &'p [Part<'a>]) -> &'p [Part<'a>]
     ensures { result.now ≡ drop 1 parts.now }
 {
-    match parts.split_first() {
-        Some((_, rest)) => rest,
-        None => parts,
-    }
+    let first = parts.len().min(1);
+    let (_, rest) = parts.split_at(first);
+    rest
 }

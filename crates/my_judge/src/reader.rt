@@ -10,6 +10,7 @@ ghost use Rattle.my_reading.specs.Tape.{between, sent_to, taken_to};
 ghost use Rattle.my_reading.specs.Told.{closes, closes_by};
 ghost use Rattle.my_judge.specs.Reads.{IsRead, IsTaken, StopIs, may_stand, span_of, with_span};
 ghost use Rattle.my_judge.specs.Settled.{IsSettled, span_with};
+ghost use Rattle.my_judge.specs.Stands.{with_bytes};
 ghost use Rattle.my_judge.specs.Tapes.{call_of, tape_of, told_of};
 
 use crate::stand::Stand;
@@ -162,6 +163,24 @@ impl Reader {
         self.stand.course(alloc, login, call)
     }
 
+    // Where the call stops over these bytes.
+    fn stop_over(
+        &mut self,
+        alloc: Global,
+        login: &Login,
+        call: &Call,
+        sent: &[u8],
+        taken: &[u8],
+    ) -> Result<Stop, NoMemory>
+        requires { self.old.stand.texts ≡ arranging_texts login.now }
+        ensures stop { let stand = with_bytes sent.now taken.now self.old.stand in
+            IfOk result (λ stop. StopIs login.now call.now (record self.old { stand = stand }) stop self.new) }
+        ensures closed { self.new.closed ≡ self.old.closed }
+    {
+        self.stand.add_bytes(sent, taken)?;
+        self.stop(alloc, login, call)
+    }
+
     // Reads a call over its bytes, and returns whether it is right.
     fn read_call(
         &mut self,
@@ -175,9 +194,9 @@ impl Reader {
         ensures { let span = with_span (call_of call.now) sent.now taken.now in
             IfOk result (λ right. IsRead login.now span self.old right self.new) }
     {
-        self.stand.add_bytes(sent, taken)?;
-        let stop = self.stop(alloc, login, &call.call)?;
+        let stop = self.stop_over(alloc, login, &call.call, sent, taken)?;
         let ends = self.stand.ends_so(call.call.kind(), &stop, &call.ending);
+        drop(stop);
         let said = self.stand.is_sent_right();
         let quiet = is_quiet(self.closed, sent, taken);
         self.closed |= is_closing(&call.call, &call.ending);
@@ -199,13 +218,20 @@ impl Reader {
         ensures { let span = span_with call.now ending sent.now taken.now in
             IfOk result (λ right. IsSettled login.now span self.old right self.new) }
     {
-        self.stand.add_bytes(sent, taken)?;
-        let stop = self.stop(alloc, login, call)?;
+        let stop = match self.stop_over(alloc, login, call, sent, taken) {
+            Ok(stop) => stop,
+            Err(NoMemory) => {
+                drop(ending);
+                return Err(NoMemory);
+            }
+        };
         let settled = self.stand.settled(call.kind(), ending);
         let ends = self.stand.ends_so(call.kind(), &stop, &settled);
+        drop(stop);
         let said = self.stand.is_sent_right();
         let quiet = is_quiet(self.closed, sent, taken);
         self.closed |= is_closing(call, &settled);
+        drop(settled);
         Ok(ends & said & quiet)
     }
 

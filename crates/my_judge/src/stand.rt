@@ -50,15 +50,31 @@ impl Stand {
     pub fn first(alloc: Global, login: &Login) -> Result<Stand, NoMemory>
         ensures { IfOk result (λ s. IsAt login.now (first_place login.now) s) }
     {
+        let facts = Facts::new(alloc, login)?;
+        let texts = match arranging_texts(alloc, login) {
+            Ok(texts) => texts,
+            Err(NoMemory) => {
+                drop(facts);
+                return Err(NoMemory);
+            }
+        };
+        let statements = match Statements::new(alloc, login) {
+            Ok(statements) => statements,
+            Err(NoMemory) => {
+                drop(facts);
+                drop(texts);
+                return Err(NoMemory);
+            }
+        };
         Ok(Stand {
             context: Context::start(login),
             number: 0,
-            facts: Facts::new(alloc, login)?,
-            texts: arranging_texts(alloc, login)?,
+            facts,
+            texts,
             arranged: 0,
             end_left: false,
             taken: false,
-            statements: Statements::new(alloc, login)?,
+            statements,
             unread: Queue::new(alloc),
             said: Queue::new(alloc),
             sent: Queue::new(alloc),

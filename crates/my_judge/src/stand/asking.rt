@@ -1,30 +1,42 @@
 //! The commands that calls send.
 
-ghost use Rattle.std.specs.Prelude.{◌≡◌, ◌∷◌, ◌++◌, [], IfOk, slice_get};
+ghost use Rattle.std.specs.Prelude.{◌≡◌, ◌∷◌, ◌++◌, ◌≤◌, [], IfOk, length, slice_get};
 ghost use Rattle.my_grammar.specs.Talk.{commands_bytes};
 ghost use Rattle.my_reading.specs.Course.{first_above};
-ghost use Rattle.my_reading.specs.Executions.{values_for};
+ghost use Rattle.my_reading.specs.Executions.{Fitting, values_for};
 ghost use Rattle.my_reading.specs.Statements.{query_of};
-ghost use Rattle.my_command.specs.Client.Packet.{client_bytes};
-ghost use Rattle.my_judge.specs.Stands.{Comes, arranges, asks, closes, commands, executes, sends};
+ghost use Rattle.my_command.specs.Client.Packet.{PartsFit, client_bytes};
+ghost use Rattle.my_judge.specs.Stands.{Comes, arranges, asks, closes, commands, executed_in, executes, executes_one};
+ghost use Rattle.my_judge.specs.Stands.{sends};
 
 use super::Stand;
+use super::preparing::executed_in;
 use super::reading::codec_failure;
 use crate::step::Step;
 use my_command::{ClientPacket, write_client};
 use my_frame::{Blob, CodecFault, NoMemory};
 use my_grammar::{Context, Queue, RowFormat, Spot, Terms};
 use my_params::{Params, ParsedNamedParams};
-use my_reading::{Call, Error, execution, values_for};
+use my_reading::{Call, Error, MOST_VALUES, execution, values_for};
 use my_statements::Statement;
+use my_value::Value;
 use std::alloc::Global;
+
+// The packet's payload.
+fn payload_of(alloc: Global, packet: ClientPacket) -> Result<Vec<u8>, NoMemory>
+    requires { PartsFit packet }
+    ensures { IfOk result (λ payload. payload.items ≡ client_bytes packet) }
+{
+    let payload = write_client(alloc, &packet);
+    drop(packet);
+    payload
+}
 
 // The payload of a query with this text.
 fn query_payload(alloc: Global, text: &Blob) -> Result<Vec<u8>, NoMemory>
     ensures { IfOk result (λ payload. payload.items ≡ client_bytes (ClientPacket.Query text.now)) }
 {
-    let packet = ClientPacket::Query(text.copy(alloc)?);
-    write_client(alloc, &packet)
+    payload_of(alloc, ClientPacket::Query(text.copy(alloc)?))
 }
 
 // The payload that prepares a statement of this text.
@@ -32,8 +44,9 @@ fn prepare_payload(alloc: Global, text: &Blob) -> Result<Vec<u8>, NoMemory>
     ensures { IfOk result (λ payload. payload.items ≡ client_bytes (ClientPacket.Prepare (query_of text.now))) }
 {
     let parsed = ParsedNamedParams::replaced(alloc, text.as_slice())?;
-    let packet = ClientPacket::Prepare(Blob::from_slice(alloc, parsed.query())?);
-    write_client(alloc, &packet)
+    let query = Blob::from_slice(alloc, parsed.query());
+    drop(parsed);
+    payload_of(alloc, ClientPacket::Prepare(query?))
 }
 
 // The length of the first payload above the limit.
@@ -117,6 +130,18 @@ impl Stand {
         Ok(Step::Passes)
     }
 
+    // A statement is executed with these values.
+    fn execute_with(&mut self, alloc: Global, id: u32, values: &[Value]) -> Result<Step, NoMemory>
+        requires { length values.now ≤ MOST_VALUES }
+        ensures { IfOk result (λ step. Comes (executes id (Fitting values.now) self.old) step self.new) }
+    {
+        let (ahead, command) = execution(alloc, id, values)?;
+        let step = self.send(alloc, ahead.as_slice(), command.as_slice());
+        drop(ahead);
+        drop(command);
+        step
+    }
+
     // A statement is executed, where the parameters fit.
     fn execute(
         &mut self,
@@ -129,11 +154,34 @@ impl Stand {
     {
         match values_for(alloc, statement, params) {
             Ok(values) => {
-                let (ahead, command) = execution(alloc, statement.id(), values.as_slice())?;
-                self.send(alloc, ahead.as_slice(), command.as_slice())
+                let step = self.execute_with(alloc, statement.id(), values.as_slice());
+                drop(values);
+                step
             }
-            Err(Error::Driver(_)) => Ok(Step::Passes),
-            Err(_) => Err(NoMemory),
+            Err(Error::Driver(refusal)) => {
+                drop(refusal);
+                Ok(Step::Passes)
+            }
+            Err(error) => {
+                drop(error);
+                Err(NoMemory)
+            }
+        }
+    }
+
+    /// The call's statement is executed with these parameters.
+    pub(super) fn run(
+        &mut self,
+        alloc: Global,
+        call: &Call,
+        params: &Params,
+    ) -> Result<Step, NoMemory>
+        ensures { let statement = executed_in call.now in
+            IfOk result (λ step. Comes (executes_one statement params.now self.old) step self.new) }
+    {
+        match executed_in(call) {
+            Some(statement) => self.execute(alloc, statement, params),
+            None => Ok(Step::Passes),
         }
     }
 
@@ -141,7 +189,7 @@ impl Stand {
     pub(super) fn close(&mut self, alloc: Global, id: u32) -> Result<Step, NoMemory>
         ensures { IfOk result (λ step. Comes (closes id self.old) step self.new) }
     {
-        let command = write_client(alloc, &ClientPacket::CloseStatement(id))?;
+        let command = payload_of(alloc, ClientPacket::CloseStatement(id))?;
         self.ask(Spot::Idle, &command, self.arranged)
     }
 
@@ -172,13 +220,17 @@ impl Stand {
             ),
             Call::Execute(statement, params) => self.execute(alloc, statement, params),
             Call::CloseStmt(id) => self.close(alloc, *id),
-            Call::NextRow | Call::DropResult | Call::TakeSet | Call::SkipTaken => Ok(Step::Passes),
+            Call::Batch(_, _)
+            | Call::NextRow
+            | Call::DropResult
+            | Call::TakeSet
+            | Call::SkipTaken => Ok(Step::Passes),
             Call::Ping => {
-                let command = write_client(alloc, &ClientPacket::Ping)?;
+                let command = payload_of(alloc, ClientPacket::Ping)?;
                 self.ask(Spot::Single, &command, arranged)
             }
             Call::Quit => {
-                let command = write_client(alloc, &ClientPacket::Quit)?;
+                let command = payload_of(alloc, ClientPacket::Quit)?;
                 self.ask(Spot::Idle, &command, arranged)
             }
         }

@@ -41,7 +41,10 @@ fn closes_at(kind: CallKind, spot: Spot) -> bool
 fn is_fault(error: &Error, kind: IoKind, place: u64) -> bool
     ensures { Decides result (error.now ≡ io_error kind place) }
 {
-    *error == Error::Io(IoError::Io(IoFault { kind, place }))
+    match error {
+        Error::Io(IoError::Io(fault)) => *fault == IoFault { kind, place },
+        _ => false,
+    }
 }
 
 /// Whether both are the same.

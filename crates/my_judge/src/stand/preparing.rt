@@ -1,17 +1,19 @@
 //! The parts of calls that keep prepared statements.
 
 ghost use Rattle.std.specs.Prelude.{◌≡◌, IfOk, OnOk};
-ghost use Rattle.my_reading.specs.Calls.{id_in, params_in, statement_in, text_in};
-ghost use Rattle.my_reading.specs.Executions.{values_for};
+ghost use Rattle.std.specs.Option.{option_copied, option_map};
+ghost use Rattle.my_reading.specs.Calls.{id_in, text_in};
 ghost use Rattle.my_reading.specs.Facts.{prepared_by};
-ghost use Rattle.my_reading.specs.Statements.{leaving, query_of, with_columns, without_statement};
-ghost use Rattle.my_judge.specs.Stands.{Comes, checks, finds, gives, keeps, learns, turn, with_kept, with_known};
+ghost use Rattle.my_reading.specs.Statements.{held_in, leaving, names_of, query_of, statement_with, with_columns};
+ghost use Rattle.my_reading.specs.Statements.{with_fetched, without_statement};
+ghost use Rattle.my_judge.specs.Stands.{Comes, checks_for, executed_in, finds, finds_so, gives, keeps, learns, turn};
+ghost use Rattle.my_judge.specs.Stands.{with_kept, with_known};
 
 use super::Stand;
 use super::reading::{answered, failure, is_rows};
 use crate::step::Step;
-use my_frame::{Listed, NoMemory, copy_items};
-use my_params::{ParseFault, ParsedNamedParams};
+use my_frame::{Blob, Listed, NoMemory, copy_items};
+use my_params::{Params, ParseFault, ParsedNamedParams};
 use my_reading::{Answer, Call, DriverError, Error, values_for};
 use my_statements::Statement;
 use std::alloc::Global;
@@ -32,10 +34,28 @@ fn id_in(call: &Call) -> u32
     ensures { result ≡ id_in call.now }
 {
     match call {
-        Call::Execute(statement, _) => statement.id(),
+        Call::Execute(statement, _) | Call::Batch(statement, _) => statement.id(),
         Call::CloseStmt(id) => *id,
         _ => 0,
     }
+}
+
+/// The statement that is executed.
+pub(super) fn executed_in(call: &Call) -> Option<&Statement>
+    ensures { option_copied result ≡ executed_in call.now }
+{
+    match call {
+        Call::Execute(statement, _) | Call::Batch(statement, _) => Some(statement),
+        _ => None,
+    }
+}
+
+fn copied(alloc: Global, bytes: &[u8]) -> Result<Vec<u8>, NoMemory>
+    ensures { IfOk result (λ copy. copy.items ≡ bytes.now) }
+{
+    let mut copy = Vec::new(alloc);
+    copy.extend_from_slice(bytes)?;
+    Ok(copy)
 }
 
 // What is prepared of a text with named parameters.
@@ -43,12 +63,37 @@ fn query_of(alloc: Global, text: &[u8]) -> Result<Vec<u8>, NoMemory>
     ensures { IfOk result (λ query. query.items ≡ query_of text.now) }
 {
     let parsed = ParsedNamedParams::replaced(alloc, text)?;
-    let mut query = Vec::new(alloc);
-    query.extend_from_slice(parsed.query())?;
-    Ok(query)
+    let query = copied(alloc, parsed.query());
+    drop(parsed);
+    query
+}
+
+// The names of its parameters.
+fn names_of(alloc: Global, text: &[u8]) -> Result<Listed<Blob>, NoMemory>
+    ensures { IfOk result (λ names. names ≡ names_of text.now) }
+{
+    let parsed = ParsedNamedParams::replaced(alloc, text)?;
+    let names = copy_items(alloc, parsed.params());
+    drop(parsed);
+    Ok(Listed::from(names?))
 }
 
 impl Stand {
+    // The statement of the query is looked for.
+    fn find_query(&mut self, alloc: Global, parsed: &ParsedNamedParams) -> Result<Step, NoMemory>
+        ensures { let p = parsed.now in
+            let s = self.old in
+            let statement = option_map (λ h. statement_with h.stmt p.names) (held_in s.statements p.query) in
+            let new = with_known (with_fetched p.query s.statements) s in
+            IfOk result (λ step. Comes (finds_so statement new) step self.new) }
+    {
+        let names = Listed::from(copy_items(alloc, parsed.params())?);
+        match self.statements.find(parsed.query(), names)? {
+            Some(statement) => Ok(answered(Answer::Stmt(statement))),
+            None => Ok(Step::Passes),
+        }
+    }
+
     /// The statement of the text is looked for.
     pub(super) fn find(&mut self, alloc: Global, call: &Call) -> Result<Step, NoMemory>
         ensures { IfOk result (λ step. Comes (finds (text_in call.now) self.old) step self.new) }
@@ -60,25 +105,34 @@ impl Stand {
             }
             Err(ParseFault::NoMemory) => return Err(NoMemory),
         };
-        let names = Listed::from(copy_items(alloc, parsed.params())?);
-        match self.statements.find(parsed.query(), names)? {
-            Some(statement) => Ok(answered(Answer::Stmt(statement))),
-            None => Ok(Step::Passes),
-        }
+        let step = self.find_query(alloc, &parsed);
+        drop(parsed);
+        step
     }
 
-    /// The parameters are looked at.
-    pub(super) fn check(&mut self, alloc: Global, call: &Call) -> Result<Step, NoMemory>
-        ensures { let values = values_for (statement_in call.now) (params_in call.now) in
-            IfOk result (λ step. Comes (checks values self.old) step self.new) }
+    /// These parameters are looked at.
+    pub(super) fn check(
+        &mut self,
+        alloc: Global,
+        call: &Call,
+        params: &Params,
+    ) -> Result<Step, NoMemory>
+        ensures { let statement = executed_in call.now in
+            IfOk result (λ step. Comes (checks_for statement params.now self.old) step self.new) }
     {
-        let Call::Execute(statement, params) = call else {
+        let Some(statement) = executed_in(call) else {
             return Ok(Step::Passes);
         };
         match values_for(alloc, statement, params) {
-            Ok(_) => Ok(Step::Passes),
-            Err(Error::Driver(error)) => Ok(failure(Error::Driver(error))),
-            Err(_) => Err(NoMemory),
+            Ok(values) => {
+                drop(values);
+                Ok(Step::Passes)
+            }
+            Err(Error::Driver(refusal)) => Ok(failure(Error::Driver(refusal))),
+            Err(error) => {
+                drop(error);
+                Err(NoMemory)
+            }
         }
     }
 
@@ -88,9 +142,22 @@ impl Stand {
             IfOk result (λ o. o ≡ leaving (query_of text.now) (prepared_by s.facts) s.statements) }
         ensures kept { OnOk result (self.new ≡ with_kept (query_of text.now) self.old) }
     {
-        let query = query_of(alloc, text)?;
         let inner = self.facts.prepared(alloc)?;
-        let fields = self.facts.prepared_fields(alloc)?;
+        let fields = match self.facts.prepared_fields(alloc) {
+            Ok(fields) => fields,
+            Err(NoMemory) => {
+                drop(inner);
+                return Err(NoMemory);
+            }
+        };
+        let query = match query_of(alloc, text) {
+            Ok(query) => query,
+            Err(NoMemory) => {
+                drop(inner);
+                drop(fields);
+                return Err(NoMemory);
+            }
+        };
         let leaving = self.statements.keep(alloc, query, inner, fields)?;
         Ok(leaving)
     }
@@ -109,10 +176,14 @@ impl Stand {
     pub(super) fn give(&mut self, alloc: Global, call: &Call) -> Result<Step, NoMemory>
         ensures { IfOk result (λ step. Comes (gives (text_in call.now) self.old) step self.new) }
     {
-        let parsed = ParsedNamedParams::replaced(alloc, text_in(call))?;
-        let names = Listed::from(copy_items(alloc, parsed.params())?);
         let inner = Arc::new(alloc, self.facts.prepared(alloc)?)?;
-        Ok(answered(Answer::Stmt(Statement::new(inner, names))))
+        match names_of(alloc, text_in(call)) {
+            Ok(names) => Ok(answered(Answer::Stmt(Statement::new(inner, names)))),
+            Err(NoMemory) => {
+                drop(inner);
+                Err(NoMemory)
+            }
+        }
     }
 
     // The columns of the rows that follow are those of the statement of this id.

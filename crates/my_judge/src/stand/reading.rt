@@ -31,7 +31,13 @@ use std::sync::Arc;
 fn server_error(alloc: Global, packet: ErrPacket) -> Result<ServerError, NoMemory>
     ensures { IfOk result (λ e. e ≡ server_error packet) }
 {
-    let state = Text::from_utf8_lossy(alloc, &packet.state)?;
+    let state = match Text::from_utf8_lossy(alloc, &packet.state) {
+        Ok(state) => state,
+        Err(_) => {
+            drop(packet);
+            return Err(NoMemory);
+        }
+    };
     Ok(ServerError {
         code: packet.code,
         state,
@@ -160,22 +166,29 @@ impl Stand {
 
     // What the part comes to after a payload of this kind, which is this row.
     fn after_kind(&mut self, part: Part, kind: Kind, row: Row) -> Step
-        ensures { Comes (after_kind part kind row self.old) result self.new }
+        ensures { Comes (after_kind part.entry kind row self.old) result self.new }
     {
         match (part, kind) {
+            (Part::Item, Kind::Row) => answered(Answer::Row(row)),
             (Part::Head, Kind::Good(_)) => {
+                drop(row);
                 self.end_left = true;
                 Step::Passes
             }
-            (Part::Item, Kind::Good(_)) => answered(Answer::SetEnd),
-            (Part::Item, Kind::End(_)) => answered(Answer::SetEnd),
-            (Part::Item, Kind::Row) => answered(Answer::Row(row)),
+            (Part::Item, Kind::Good(_) | Kind::End(_)) => {
+                drop(row);
+                answered(Answer::SetEnd)
+            }
             (Part::Set, Kind::Good(_)) => {
+                drop(row);
                 self.end_left = true;
                 self.taken = true;
                 answered(Answer::Ready)
             }
-            _ => Step::Stays,
+            _ => {
+                drop(row);
+                Step::Stays
+            }
         }
     }
 
@@ -197,8 +210,13 @@ impl Stand {
         match read_err(alloc, payload, is_greeting(self.context.spot)) {
             Ok(packet) => {
                 let error = server_error(alloc, packet)?;
-                self.hear(alloc, login, Kind::Failed, found)?;
-                Ok(failure(Error::Server(error)))
+                match self.hear(alloc, login, Kind::Failed, found) {
+                    Ok(()) => Ok(failure(Error::Server(error))),
+                    Err(NoMemory) => {
+                        drop(error);
+                        Err(NoMemory)
+                    }
+                }
             }
             Err(ReadError::Malformed) => Ok(self.unfit()),
             Err(ReadError::NoMemory) => Err(NoMemory),
@@ -274,11 +292,16 @@ impl Stand {
         ensures { let s = self.old in
             let row = row_of s.context.rows s.facts.columns found.now.payload in
             let new = heard login.now kind found.now.payload (drop found.now.span.len s.unread) s in
-            IfOk result (λ step. Comes (after_kind part kind row new) step self.new) }
+            IfOk result (λ step. Comes (after_kind part.entry kind row new) step self.new) }
     {
         let row = self.row(alloc, found.payload.as_slice())?;
-        self.hear(alloc, login, kind, found)?;
-        Ok(self.after_kind(part, kind, row))
+        match self.hear(alloc, login, kind, found) {
+            Ok(()) => Ok(self.after_kind(part, kind, row)),
+            Err(NoMemory) => {
+                drop(row);
+                Err(NoMemory)
+            }
+        }
     }
 
     // What the payload is.
@@ -300,7 +323,7 @@ impl Stand {
         requires fits { found.now.span.len ≤ length self.old.unread }
         ensures { let s = self.old in
             let rest = drop found.now.span.len s.unread in
-            IfOk result (λ step. Comes (read_payload login.now part found.now.payload rest s) step self.new) }
+            IfOk result (λ step. Comes (read_payload login.now part.entry found.now.payload rest s) step self.new) }
     {
         let kind = self.kind_here(found.payload.as_slice());
         match kind {
@@ -319,12 +342,16 @@ impl Stand {
         login: &Login,
         part: Part,
     ) -> Result<Step, NoMemory>
-        ensures { IfOk result (λ step. Comes (reads login.now part self.old) step self.new) }
+        ensures { IfOk result (λ step. Comes (reads login.now part.entry self.old) step self.new) }
     {
         let limit = self.context.terms.limit;
         match payload_in_front(alloc, self.unread.as_slice(), self.number, limit) {
             Ok(None) => Ok(Step::Stops(Stop::Awaits)),
-            Ok(Some(found)) => self.read_payload(alloc, login, part, &found),
+            Ok(Some(found)) => {
+                let step = self.read_payload(alloc, login, part, &found);
+                drop(found);
+                step
+            }
             Err(CodecError::Fault(fault)) => Ok(codec_failure(fault)),
             Err(CodecError::NoMemory) => Err(NoMemory),
         }

@@ -112,21 +112,24 @@ impl Stand {
         if self.owes() {
             return Ok(Step::Stops(Stop::Owes));
         }
-        match parts {
-            [] => Ok(answered(Answer::Ready)),
-            [Part::All, ..] => self.read_all(alloc, login, call),
-            [Part::Head, ..] => self.read_head(alloc, login, call),
-            [Part::Item, ..] => self.read_item(alloc, login, call),
-            [Part::Set, ..] => self.read_set(alloc, login, call),
-            [Part::Rest, ..] => self.read_rest(alloc, login, call),
-            [Part::Command, ..] => self.command(alloc, call),
-            [Part::Find, ..] => self.find(alloc, call),
-            [Part::Check, ..] => self.check(alloc, call),
-            [Part::Reply, ..] => self.read_reply(alloc, login, call),
-            [Part::Keep, ..] => self.keep(alloc, call),
-            [Part::Give, ..] => self.give(alloc, call),
-            [Part::Learn, ..] => self.learn(call),
-            [Part::Forget, ..] => Ok(self.forget(call)),
+        let Some(part) = parts.first() else {
+            return Ok(answered(Answer::Ready));
+        };
+        match part {
+            Part::All => self.read_all(alloc, login, call),
+            Part::Head => self.read_head(alloc, login, call),
+            Part::Item => self.read_item(alloc, login, call),
+            Part::Set => self.read_set(alloc, login, call),
+            Part::Rest => self.read_rest(alloc, login, call),
+            Part::Command => self.command(alloc, call),
+            Part::Find => self.find(alloc, call),
+            Part::Check(params) => self.check(alloc, call, params),
+            Part::Run(params) => self.run(alloc, call, params),
+            Part::Reply => self.read_reply(alloc, login, call),
+            Part::Keep => self.keep(alloc, call),
+            Part::Give => self.give(alloc, call),
+            Part::Learn => self.learn(call),
+            Part::Forget => Ok(self.forget(call)),
         }
     }
 }

@@ -10,10 +10,10 @@ pub returns-clause-kept : goal.returns-clause-kept
 returns-clause-kept c =
     let s = c.args.self.now in
     let query = query_of c.args.text.now in
-    let fields = c.in_ok-fields.fields in
+    let fields = c.in-Ok.fields in
     ap (λ (st : Statements). with_known st s) (
     c.in_ok-leaving.ensures.ok
-    ∙ ap (λ (q : List ℕ). with_prepared q c.in_ok-inner.inner fields s.statements) c.in_ok-query.ensures
+    ∙ ap (λ (q : List ℕ). with_prepared q c.in_ok-inner.inner fields s.statements) c.in-Ok-query_of.ensures
     ∙ ap (λ (inner : StmtInner). with_prepared query inner fields s.statements) c.in_ok-inner.ensures
-    ∙ ap (λ (columns : List Column). with_prepared query (prepared_by s.facts) columns s.statements) c.in_ok-fields.ensures
+    ∙ ap (λ (columns : List Column). with_prepared query (prepared_by s.facts) columns s.statements) c.in-Ok.ensures
     )

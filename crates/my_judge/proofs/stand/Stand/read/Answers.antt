@@ -19,4 +19,4 @@ returns-in-Ok-Some c =
     let framed = subst (λ (bytes : List ℕ). IsFramed bytes (front_at n limit bytes) (Ok (Some found))) c.as_slice.ensures some in
     let h : InFront n limit s.unread found = framed_in_front n limit s.unread (front_at n limit s.unread) found refl means framed in
     let e : front_at n limit s.unread ≡ Whole found.payload (drop found.span.len s.unread) found.span.next = h.front ∙ ap (λ r. Whole found.payload r found.span.next) (sym h.rest_is) in
-    subst (λ (f : Front). IfOk c.read_payload.result (λ step. Comes (with_front c.args.login.now c.args.part s f) step c.read_payload.new.self)) (sym e) c.read_payload.ensures
+    subst (λ (f : Front). IfOk c.read_payload-step.result (λ step. Comes (with_front c.args.login.now c.args.part s f) step c.read_payload-step.new.self)) (sym e) c.read_payload-step.ensures

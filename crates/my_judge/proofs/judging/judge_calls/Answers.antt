@@ -1,10 +1,10 @@
 use Rattle.std.proofs.Common.{◌≡◌, length, arith, ap}
 use Rattle.std.proofs.lemmas.List.{nil_from_length}
 use Rattle.my_judge.proofs.Judged.{at_first, texts_known, goes_on, refutes, accepts}
-use Rattle.my_judge.proofs.judging.judge.Goals as goal
+use Rattle.my_judge.proofs.judging.judge_calls.Goals as goal
 
 pub calls-init : goal.calls-init
-calls-init c = at_first c.args.login.now c.args.tape.now c.as_slice-left.result.now c.in_ok-reader.reader c.as_slice-left.ensures c.in_ok-reader.ensures
+calls-init c = at_first c.args.login.now c.args.tape.now c.as_slice-left.result.now c.args.reader.now c.as_slice-left.ensures c.requires
 
 pub take_call-requires : goal.take_call-requires
 take_call-requires c = texts_known c.args.login.now c.args.tape.now c.calls.index c.calls.left.now c.calls.reader c.calls.invariant

@@ -1,6 +1,6 @@
 use Rattle.std.proofs.Common.{length}
 use Rattle.my_judge.proofs.Judged.{Judged}
-use Rattle.my_judge.proofs.judging.judge.Given as goal
+use Rattle.my_judge.proofs.judging.judge_calls.Given as goal
 
 abbrev pub invariant-calls : goal.invariant-calls
 invariant-calls l = Judged l.login l.tape l.index l.left l.reader

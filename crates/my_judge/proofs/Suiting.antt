@@ -1,0 +1,42 @@
+-- Parameters stand in the parts of calls that execute a statement, and of no others.
+use Rattle.std.proofs.Common.{◌≡◌, ℕ, List, [], ◌∷◌, Some, refl}
+use Rattle.my_params.specs.declared.params.Params.{Params}
+use Rattle.my_grammar.specs.declared.login.Login.{Login}
+use Rattle.my_reading.specs.declared.call.Call.{Call}
+use Rattle.my_reading.specs.declared.call.Call.TheVariants.{Connect, Query, Prepare, Execute, Batch, CloseStmt, NextRow, DropResult, TakeSet, SkipTaken, Ping, Quit}
+use Rattle.my_reading.specs.Calls.{statement_in}
+use Rattle.my_reading.specs.Commands.{arranging_texts}
+use Rattle.my_reading.specs.Course.{Part, Check, Run, parts_of, parts_of_lists, parts_of_texts}
+use Rattle.my_judge.specs.Stands.{executed_in}
+
+-- a part of the call
+abbrev pub Suits : Call → Part → Type 0
+Suits call (Check params) = executed_in call ≡ Some (statement_in call)
+Suits call (Run params) = executed_in call ≡ Some (statement_in call)
+Suits call _ = Unit {0}
+
+abbrev pub Suit : Call → List Part → Type 0
+Suit call [] = Unit {0}
+Suit call (part ∷ parts) = Suits call part × Suit call parts
+
+texts_suit : (call : Call) (texts : List (List ℕ)) → Suit call (parts_of_texts texts)
+texts_suit call [] = tt
+texts_suit call (text ∷ texts) = (tt, (tt, texts_suit call texts))
+
+lists_suit : (call : Call) → executed_in call ≡ Some (statement_in call) → (lists : List Params) → Suit call (parts_of_lists lists)
+lists_suit call e [] = tt
+lists_suit call e (params ∷ lists) = (e, (tt, (e, (tt, (tt, (tt, lists_suit call e lists))))))
+
+pub parts_suit : (login : Login) (call : Call) → Suit call (parts_of login call)
+parts_suit login Connect = (tt, texts_suit Connect (arranging_texts login))
+parts_suit login (Query text) = (tt, (tt, (tt, tt)))
+parts_suit login (Prepare text) = (tt, (tt, (tt, (tt, (tt, (tt, tt))))))
+parts_suit login (Execute statement params) = (refl, (tt, (tt, (tt, (tt, tt)))))
+parts_suit login (Batch statement lists) = lists_suit (Batch statement lists) refl lists
+parts_suit login (CloseStmt id) = (tt, (tt, (tt, tt)))
+parts_suit login NextRow = (tt, tt)
+parts_suit login DropResult = (tt, tt)
+parts_suit login TakeSet = (tt, tt)
+parts_suit login SkipTaken = (tt, tt)
+parts_suit login Ping = (tt, (tt, (tt, tt)))
+parts_suit login Quit = (tt, (tt, tt))
