@@ -12,7 +12,6 @@ use Rattle.my_reading.specs.declared.answer.Answer.TheVariants as answers
 use Rattle.my_session.specs.declared.answer.SessionStep.{SessionStep}
 use Rattle.my_session.specs.declared.answer.SessionStep.TheVariants.{Send, Need, Done, Fault}
 use Rattle.my_session.specs.declared.answer.Tick.TheVariants as ticks
-use Rattle.my_reading.specs.declared.call.CallKind.{CallKind}
 use Rattle.my_session.specs.declared.task.LinkFault.{LinkFault}
 use Rattle.my_session.specs.declared.task.Task.{Task}
 use Rattle.my_session.specs.declared.task.Task.TheVariants as tasks
@@ -20,25 +19,28 @@ use Rattle.my_reading.specs.declared.error.Error.{Error}
 use Rattle.my_reading.specs.declared.error.Error.TheVariants as errors
 use Rattle.my_session.specs.declared.tables.Plan.{Plan}
 use Rattle.my_session.specs.declared.tables.Plan.TheVariants as plans
-use Rattle.my_session.specs.declared.tables.Reaction.{Reaction}
-use Rattle.my_session.specs.declared.tables.Reaction.TheVariants as reactions
-use Rattle.my_reading.specs.Calls.{call_of, text_in}
-use Rattle.my_reading.specs.declared.call.CallKind.TheVariants.{Execute}
+use Rattle.my_session.specs.declared.reactions.Reaction.{Reaction}
+use Rattle.my_session.specs.declared.reactions.Reaction.TheVariants as reactions
+use Rattle.my_reading.specs.Calls.{call_of, text_in, lists_in, statement_in}
+use Rattle.my_reading.specs.declared.call.CallKind.TheVariants.{Execute, Batch}
 use Rattle.my_reading.specs.declared.error.DriverError.{DriverError}
 use Rattle.my_reading.specs.Facts.{prepared_by}
 use Rattle.my_reading.specs.Statements.{held_in, is_mixed_text, leaving, query_of}
 use Rattle.my_statements.specs.Cache.{Held}
 use Rattle.my_session.specs.Tasks.{fault_in, is_open}
-use Rattle.my_reading.specs.Commands.{closing, command_of, connecting}
+use Rattle.my_reading.specs.Commands.{closing, command_of, connecting, execution}
 use Rattle.my_reading.specs.Errors.{invalid_data, unexpected_eof}
 use Rattle.my_session.specs.LinkErrors.{link_error}
 use Rattle.my_session.specs.Ends.{EachEnd, IsFault, Fails}
 use Rattle.my_reading.specs.Told.{ToldReady, ToldRow, ToldEnd, ToldNone, ToldStatement, ToldError, Dropped}
-use Rattle.my_session.specs.Machine.{Doing, Goes, Passes, Sends, Needs, Tells, Move, Did, Does, FaultIs, failed_by, reply_to, above, unless_above, refused, gave, passed, reacted, read_by, reading, next_terms, queued, unless_exceeds, unless_refused, refusal, is_doubled, looked, with_kept, kept, with_task, asked, arranged, planned, when_owed, next_by, next, advanced}
+use Rattle.my_session.specs.Machine.{Doing, Goes, Passes, Sends, Needs, Tells, Move, Did, Does, FaultIs, failed_by, reply_to, above, unless_above, refused, gave, passed, reacted, read_by, reading, next_terms, queued, unless_exceeds, unless_refused, refusal, is_doubled, looked, with_kept, kept, with_task, asked, arranged, planned, when_owed, next_by, next, advanced, refused_by, batched, ran}
 use Rattle.my_reading.specs.Rows.{row_at}
 use Rattle.my_session.specs.Seen.{Seen}
 use Rattle.my_session.specs.Steps.{goes_on, moved, AllGo, Steps, last_tick, with_end, failing, with_failing}
 use Rattle.my_session.specs.Tables.{react, is_breaking, plan_of}
+use Rattle.my_params.specs.declared.params.Params.{Params}
+use Rattle.std.specs.List.{slice_get}
+use Rattle.my_reading.specs.Executions.{values_for}
 
 needs : Doing → Bool
 needs Goes = false
@@ -105,10 +107,23 @@ unfolding needs
 kept_needs s None = refl
 kept_needs s (Some id) = begins_needs s tasks.Giving (closing (next_terms s) id) _
 
-asked_needs : (s : Seen) (c : CallKind) (x : Option Talk) → needs (asked s c x).does ≡ false
+asked_needs : (s : Seen) (t : Task) (x : Option Talk) → needs (asked s t x).does ≡ false
 unfolding needs
-asked_needs s c None = refl
-asked_needs s c (Some talk) = begins_needs s (tasks.Own c) talk _
+asked_needs s t None = refl
+asked_needs s t (Some talk) = begins_needs s t talk _
+
+ran_needs : (s : Seen) (n : ℕ) (o : Option Params) → needs (ran s n o).does ≡ false
+unfolding needs
+ran_needs s n None = refl
+ran_needs s n (Some params) =
+    let v = values_for (statement_in s.call) params in
+    let talk = execution (next_terms s) s.statements (statement_in s.call).inner.id v in
+    unless_refused_needs s (refused_by v) (asked s (tasks.Running n) talk) (asked_needs s (tasks.Running n) talk)
+
+batched_needs : (s : Seen) (o : Option Params) → needs (batched s o).does ≡ false
+unfolding needs
+batched_needs s None = refl
+batched_needs s (Some params) = unless_refused_needs s (refused_by (values_for (statement_in s.call) params)) (record { seen = with_task s (tasks.Cleaning Batch) s.untold; does = Goes }) refl
 
 arranged_needs : (s : Seen) (n : ℕ) (x : Option Talk) → needs (arranged s n x).does ≡ false
 unfolding needs
@@ -144,8 +159,11 @@ planned_rests s (plans.Starts t) e = cc
 planned_rests s plans.Hears e = cc
 planned_rests s plans.Finds e = absurd (no_need _ (looked_needs s (is_mixed_text (text_in s.call)) (held_in s.statements (query_of (text_in s.call)))) e)
 planned_rests s plans.Checks e = absurd (no_need _ (unless_refused_needs s (refusal Execute s.call) (record { seen = with_task s (tasks.Cleaning Execute) s.untold; does = Goes }) refl) e)
+planned_rests s plans.Batches e = absurd (no_need _ (batched_needs s (slice_get (lists_in s.call) 0)) e)
+planned_rests s (plans.Runs n) e = absurd (no_need _ (ran_needs s (suc n) (slice_get (lists_in s.call) n)) e)
+planned_rests s (plans.Notes n) e = cc
 planned_rests s plans.Forgets e = cc
-planned_rests s (plans.Asks c) e = absurd (no_need _ (unless_refused_needs s (refusal c s.call) (asked s c (command_of (next_terms s) s.statements (call_of c s.call))) (asked_needs s c (command_of (next_terms s) s.statements (call_of c s.call)))) e)
+planned_rests s (plans.Asks c) e = absurd (no_need _ (unless_refused_needs s (refusal c s.call) (asked s (tasks.Own c) (command_of (next_terms s) s.statements (call_of c s.call))) (asked_needs s (tasks.Own c) (command_of (next_terms s) s.statements (call_of c s.call)))) e)
 planned_rests s (plans.Arranges n) e = absurd (no_need _ (arranged_needs s n (connecting s.login (next_terms s) (suc n))) e)
 planned_rests s plans.Readies e = cc
 planned_rests s plans.Learns e = cc
@@ -246,6 +264,8 @@ failing_tells s fault (tasks.Cleaning c) o = refl
 failing_tells s fault (tasks.Own c) o = refl
 failing_tells s fault tasks.Giving o = refl
 failing_tells s fault (tasks.Arranging n) o = refl
+failing_tells s fault (tasks.Running n) o = refl
+failing_tells s fault (tasks.Finishing n) o = refl
 failing_tells s fault tasks.Reading o = refl
 failing_tells s fault tasks.Dropping o = refl
 failing_tells s fault tasks.Taking o = refl

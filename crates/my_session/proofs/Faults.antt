@@ -4,6 +4,7 @@ pub mod Payloads
 pub mod Places
 use Rattle.std.proofs.Common.{◌≡◌, ℕ, suc, ◌<◌, List, [], ◌∷◌, ◌++◌, length, ltb, ◌||◌, Bool, true, false, cond, Option, Some, None, inl, inr, refl, sym, ap, ◌∙◌, subst, arith}
 use Rattle.std.proofs.lemmas.Bool.Decides.{nat_tests}
+use Rattle.std.specs.List.{slice_get}
 use Rattle.my_flags.specs.declared.flags.CapabilityFlags.{CapabilityFlags}
 use Rattle.my_flags.specs.Sets.{deprecates_eof}
 use Rattle.my_reply.specs.declared.err.ErrPacket.{ErrPacket}
@@ -22,33 +23,37 @@ use Rattle.my_grammar.specs.Cut.{Cut, Trailing, front_of, kind_of, rest_in_front
 use Rattle.my_grammar.specs.CutLaws.{StopsAt}
 use Rattle.my_grammar.specs.Kinds.{kind_there}
 use Rattle.my_grammar.specs.Response.{response}
-use Rattle.my_grammar.specs.Talk.{Talk, commands_in, context_of, limit_of, origin}
+use Rattle.my_grammar.specs.Sets.{ByStatement, NoSets}
+use Rattle.my_grammar.specs.Talk.{Talk, Queried, commands_in, context_of, limit_of, origin}
+use Rattle.my_params.specs.declared.params.Params.{Params}
+use Rattle.my_params.specs.LongData.{ahead_of}
+use Rattle.my_params.specs.Parameters.{body_of}
 use Rattle.my_statements.specs.Cache.{Held}
 use Rattle.my_reading.specs.declared.error.DriverError.{DriverError}
 use Rattle.my_reading.specs.Course.{first_above}
 use Rattle.my_reading.specs.Executions.{Values, Fitting, Unfitting, values_for}
 use Rattle.my_reading.specs.Facts.{prepared_by}
-use Rattle.my_reading.specs.Statements.{held_in, is_mixed_text, leaving, query_of}
+use Rattle.my_reading.specs.Statements.{held_in, is_mixed_text, known_in, leaving, query_of}
 use Rattle.my_reading.specs.declared.call.Call.{Call}
 use Rattle.my_reading.specs.declared.call.CallKind.{CallKind}
-use Rattle.my_reading.specs.declared.call.CallKind.TheVariants.{Connect, Query, Prepare, Execute, CloseStmt, NextRow, DropResult, TakeSet, SkipTaken, Ping, Quit}
+use Rattle.my_reading.specs.declared.call.CallKind.TheVariants.{Connect, Query, Prepare, Execute, Batch, CloseStmt, NextRow, DropResult, TakeSet, SkipTaken, Ping, Quit}
 use Rattle.my_session.specs.declared.task.LinkFault.{LinkFault}
 use Rattle.my_session.specs.declared.task.LinkFault.TheVariants as faults
 use Rattle.my_session.specs.declared.task.Task.{Task}
-use Rattle.my_session.specs.declared.task.Task.TheVariants.{Nothing, Begun, Cleaning, Own, Giving, Arranging, Reading, Dropping, Taking, Skipping, Leaving, Failing}
+use Rattle.my_session.specs.declared.task.Task.TheVariants.{Nothing, Begun, Cleaning, Own, Giving, Arranging, Running, Finishing, Reading, Dropping, Taking, Skipping, Leaving, Failing}
 use Rattle.my_reading.specs.declared.error.Error.{Error}
 use Rattle.my_reading.specs.declared.error.Error.TheVariants as errors
 use Rattle.my_reading.specs.declared.facts.Facts.{Facts}
 use Rattle.my_session.specs.declared.tables.Plan.{Plan}
 use Rattle.my_session.specs.declared.tables.Plan.TheVariants as plans
-use Rattle.my_session.specs.declared.tables.Reaction.{Reaction}
-use Rattle.my_session.specs.declared.tables.Reaction.TheVariants as reactions
+use Rattle.my_session.specs.declared.reactions.Reaction.{Reaction}
+use Rattle.my_session.specs.declared.reactions.Reaction.TheVariants as reactions
 use Rattle.my_reading.specs.declared.answer.Answer.{Answer}
 use Rattle.my_reading.specs.declared.answer.Answer.TheVariants as answers
 use Rattle.my_session.specs.declared.answer.Tick.TheVariants as ticks
-use Rattle.my_reading.specs.Calls.{call_of, asks, params_in, statement_in, text_in}
+use Rattle.my_reading.specs.Calls.{call_of, asks, lists_in, params_in, statement_in, text_in}
 use Rattle.my_session.specs.Tasks.{kind_in, fault_in, is_open}
-use Rattle.my_session.specs.Causes.{Stops, Cause, SessionBecause, NothingLeft, AnswerCause, EachFault, place_in}
+use Rattle.my_session.specs.Causes.{Executes, Stops, Cause, SessionBecause, NothingLeft, AnswerCause, EachFault, place_in}
 use Rattle.my_reading.specs.Commands.{closing, command_of, connecting, execution, opening}
 use Rattle.my_session.specs.Entries.{Entry, Opens, facts_of, terms_by, connecting_in}
 use Rattle.my_reading.specs.Errors.{invalid_data, unexpected_eof}
@@ -57,21 +62,21 @@ use Rattle.my_reading.specs.Told.{Told, ToldReady, ToldRow, ToldEnd, ToldNone, T
 use Rattle.my_session.specs.History.{History}
 use Rattle.my_session.specs.Law.{in_order, talks}
 use Rattle.my_session.specs.Machine as machine
-use Rattle.my_session.specs.Machine.{Move, Doing, Goes, Sends, Needs, Tells, Did, FaultIs, advanced, reply_to, above, unless_above, refused, gave, passed, reacted, read_by, reading, next_terms, unless_exceeds, unless_refused, refusal, refused_by, is_doubled, looked, with_kept, kept, asked, arranged, planned, when_owed, next_by, next, is_greeting}
+use Rattle.my_session.specs.Machine.{Move, Doing, Goes, Sends, Needs, Tells, Did, FaultIs, advanced, reply_to, above, unless_above, refused, gave, passed, reacted, read_by, reading, next_terms, unless_exceeds, unless_refused, refusal, refused_by, is_doubled, looked, with_kept, kept, asked, batched, ran, arranged, planned, when_owed, next_by, next, is_greeting}
 use Rattle.my_reading.specs.Rows.{row_at}
 use Rattle.my_session.specs.Seen.{Seen}
-use Rattle.my_session.specs.Stands.{Stands, Heard, call_with, is_reading}
-use Rattle.my_session.specs.Tables.{plan_of, first_plan, clean_plan, own_plan, query_plan, execute_plan, prepare_plan, read_plan, drop_plan, take_plan, skip_plan, react, is_breaking}
+use Rattle.my_session.specs.Stands.{Stands, Heard, call_with, is_heading, is_reading}
+use Rattle.my_session.specs.Tables.{plan_of, ask_plan, run_plan, first_plan, clean_plan, own_plan, query_plan, execute_plan, prepare_plan, read_plan, drop_plan, take_plan, skip_plan, react, is_breaking}
 use Rattle.my_session.proofs.Faults.Payloads.{failed_reads, row_reads}
 use Rattle.my_reading.proofs.Described.{kind_is, told_columns}
 use Rattle.my_session.proofs.Faults.Places.{place_is}
-use Rattle.my_session.proofs.Faults.Misfits.{Awaits, FitsKind, react_fits, is_heading, heading_spot, cleaning_awaits, arranging_awaits, reading_awaits, dropping_awaits, connect_awaits, ping_awaits, head_awaits, column_awaits, close_awaits, execution_head_awaits, execution_column_awaits, execution_close_awaits, prepare_awaits, further_awaits, next_column_awaits, next_close_awaits, skipping_awaits}
+use Rattle.my_session.proofs.Faults.Misfits.{Awaits, FitsKind, react_fits, heading_spot, cleaning_awaits, arranging_awaits, reading_awaits, dropping_awaits, connect_awaits, ping_awaits, head_awaits, column_awaits, close_awaits, execution_head_awaits, execution_column_awaits, execution_close_awaits, running_head_awaits, running_column_awaits, running_close_awaits, finishing_awaits, prepare_awaits, further_awaits, next_column_awaits, next_close_awaits, skipping_awaits}
 use Rattle.my_session.proofs.History.{each_history}
 use Rattle.my_session.proofs.Stands.Spots.{is_known, known, row_spot}
 use Rattle.my_session.proofs.History.Stopping.{talks_found, rest_found, stopped, over_found, failed_found}
 use Rattle.my_session.proofs.Stands.Firsts.{query_talk, execute_talk}
 use Rattle.my_session.proofs.Stands.Plans.{left_false}
-use Rattle.my_session.proofs.Refusals.{refused_execution, refusal_cause}
+use Rattle.my_session.proofs.Refusals.{refused_run, values_cause}
 use Rattle.my_session.proofs.Stands.Wired.{limit_is, terms_now}
 
 module _ (s : Seen) (h : History) (st : Stands s h) (op : is_open s.task ≡ true) where
@@ -283,36 +288,38 @@ module _ (s : Seen) (h : History) (st : Stands s h) (op : is_open s.task ≡ tru
   execution_some id (Fitting values) fit none = cc
   execution_some id (Unfitting e) fit none = cc
 
-  opens_some : (c : CallKind) → asks c ≡ true → refusal c s.call ≡ None → command_of (next_terms s) s.statements (call_of c s.call) ≡ None → ⊥
-  opens_some Connect e fit none = cc
-  opens_some Query e fit none = cc
-  opens_some Prepare e fit none = cc
-  opens_some Execute e fit none = execution_some (statement_in s.call).inner.id (values_for (statement_in s.call) (params_in s.call)) fit none
-  opens_some CloseStmt e fit none = cc
-  opens_some NextRow e fit none = cc
-  opens_some DropResult e fit none = cc
-  opens_some TakeSet e fit none = cc
-  opens_some SkipTaken e fit none = cc
-  opens_some Ping e fit none = cc
-  opens_some Quit e fit none = cc
+  opens_some : (c : CallKind) → asks c ≡ true → ask_plan c ≡ plans.Asks c → refusal c s.call ≡ None → command_of (next_terms s) s.statements (call_of c s.call) ≡ None → ⊥
+  opens_some Connect e own fit none = cc
+  opens_some Query e own fit none = cc
+  opens_some Prepare e own fit none = cc
+  opens_some Execute e own fit none = execution_some (statement_in s.call).inner.id (values_for (statement_in s.call) (params_in s.call)) fit none
+  opens_some Batch e own fit none = cc
+  opens_some CloseStmt e own fit none = cc
+  opens_some NextRow e own fit none = cc
+  opens_some DropResult e own fit none = cc
+  opens_some TakeSet e own fit none = cc
+  opens_some SkipTaken e own fit none = cc
+  opens_some Ping e own fit none = cc
+  opens_some Quit e own fit none = cc
 
   -- the own command of a call is the exchange that it begins
-  opens_own : (c : CallKind) → asks c ≡ true → opening s.login (next_terms s) s.statements (call_of c s.call) (connecting_in entries) ≡ command_of (next_terms s) s.statements (call_of c s.call)
-  opens_own Connect e = cc
-  opens_own Query e = refl
-  opens_own Prepare e = refl
-  opens_own Execute e = refl
-  opens_own CloseStmt e = refl
-  opens_own NextRow e = cc
-  opens_own DropResult e = cc
-  opens_own TakeSet e = cc
-  opens_own SkipTaken e = cc
-  opens_own Ping e = refl
-  opens_own Quit e = refl
+  opens_own : (c : CallKind) → asks c ≡ true → ask_plan c ≡ plans.Asks c → opening s.login (next_terms s) s.statements (call_of c s.call) (connecting_in entries) ≡ command_of (next_terms s) s.statements (call_of c s.call)
+  opens_own Connect e own = cc
+  opens_own Query e own = refl
+  opens_own Prepare e own = refl
+  opens_own Execute e own = refl
+  opens_own Batch e own = cc
+  opens_own CloseStmt e own = refl
+  opens_own NextRow e own = cc
+  opens_own DropResult e own = cc
+  opens_own TakeSet e own = cc
+  opens_own SkipTaken e own = cc
+  opens_own Ping e own = refl
+  opens_own Quit e own = refl
 
-  asked_told : (c : CallKind) → asks c ≡ true → Some c ≡ kind_in s.task → refusal c s.call ≡ None → (o : Option Talk) → command_of (next_terms s) s.statements (call_of c s.call) ≡ o → Explained (asked s c o)
-  asked_told c asking own fit None opens = absurd (opens_some c asking fit opens)
-  asked_told c asking own fit (Some t) opens = command_told c (Own c) t own (inl (s.statements, opens_own c asking ∙ opens)) (first_above s.facts.settings.limit (commands_in t)) refl
+  asked_told : (c : CallKind) → asks c ≡ true → ask_plan c ≡ plans.Asks c → Some c ≡ kind_in s.task → refusal c s.call ≡ None → (o : Option Talk) → command_of (next_terms s) s.statements (call_of c s.call) ≡ o → Explained (asked s (Own c) o)
+  asked_told c asking alone own fit None opens = absurd (opens_some c asking alone fit opens)
+  asked_told c asking alone own fit (Some t) opens = command_told c (Own c) t own (inl (s.statements, opens_own c asking alone ∙ opens)) (first_above s.facts.settings.limit (commands_in t)) refl
 
   arranged_told : (n : ℕ) → connecting_in entries ≡ suc n → Some Connect ≡ kind_in s.task → (o : Option Talk) → connecting s.login (next_terms s) (suc n) ≡ o → Explained (arranged s n o)
   arranged_told n count own None opens = tt
@@ -322,13 +329,33 @@ module _ (s : Seen) (h : History) (st : Stands s h) (op : is_open s.task ≡ tru
   refusal_told : (c : CallKind) → Some c ≡ kind_in s.task → (o : Option DriverError) (m : Move) → refusal c s.call ≡ o → (o ≡ None → Explained m) → Explained (unless_refused s o m)
   refusal_told c own None m is told = told refl
   refusal_told c own (Some e) m is told =
-      let w = refused_execution c s.call e is in
-      refusal_cause c s.call e (fault_in s.task) h is (record {
-        statement = statement_in s.call;
-        params = params_in s.call;
-        pending = pending_here c own ∙ ap (λ d. Some (call_of d s.call)) w.0;
-        refused = w.1;
-      })
+      let w = refused_run c s.call e is in
+      values_cause (statement_in s.call) (params_in s.call) e (fault_in s.task) h w.refused (subst (λ (o : Option Call). Executes o (statement_in s.call) (params_in s.call)) (sym (pending_here c own)) w.executes)
+
+  -- so may those of an execution of a batch
+  values_told : (params : Params) → Executes h.pending (statement_in s.call) params → (o : Option DriverError) (m : Move) → refused_by (values_for (statement_in s.call) params) ≡ o → (o ≡ None → Explained m) → Explained (unless_refused s o m)
+  values_told params pending None m is told = told refl
+  values_told params pending (Some e) m is told = values_cause (statement_in s.call) params e (fault_in s.task) h is pending
+
+  listed_here : (n : ℕ) (params : Params) → Some Batch ≡ kind_in s.task → slice_get (lists_in s.call) n ≡ Some params → Executes h.pending (statement_in s.call) params
+  listed_here n params own at = inr (lists_in s.call, n, pending_here Batch own, at)
+
+  executed_told : (n number : ℕ) (params : Params) → Some Batch ≡ kind_in s.task → slice_get (lists_in s.call) number ≡ Some params → (v : Values) → values_for (statement_in s.call) params ≡ v → refused_by v ≡ None → Explained (asked s (Running n) (execution (next_terms s) s.statements (statement_in s.call).inner.id v))
+  executed_told n number params own at (Fitting values) is fit =
+      let id = (statement_in s.call).inner.id in
+      let t : Talk = Queried (next_terms s) (body_of id values) (NoSets (ByStatement (ahead_of id values) (known_in s.statements id))) in
+      command_told Batch (Running n) t own (inr (inr (record { kind = refl; place = number; params = params; listed = at; statements = s.statements; executes = ap (execution (next_terms s) s.statements id) is }))) (first_above s.facts.settings.limit (commands_in t)) refl
+  executed_told n number params own at (Unfitting e) is fit = cc
+
+  ran_told : (n number : ℕ) → Some Batch ≡ kind_in s.task → (o : Option Params) → slice_get (lists_in s.call) number ≡ o → Explained (ran s n o)
+  ran_told n number own None at = tt
+  ran_told n number own (Some params) at =
+      let v = values_for (statement_in s.call) params in
+      values_told params (listed_here number params own at) (refused_by v) (asked s (Running n) (execution (next_terms s) s.statements (statement_in s.call).inner.id v)) refl (executed_told n number params own at v refl)
+
+  batched_told : Some Batch ≡ kind_in s.task → (o : Option Params) → slice_get (lists_in s.call) 0 ≡ o → Explained (batched s o)
+  batched_told own None at = tt
+  batched_told own (Some params) at = values_told params (listed_here 0 params own at) (refused_by (values_for (statement_in s.call) params)) (record { seen = machine.with_task s (Cleaning Batch) s.untold; does = Goes }) refl (λ _. tt)
 
   -- and so may its text
   looked_told : Some Prepare ≡ kind_in s.task → (b : Bool) → is_mixed_text (text_in s.call) ≡ b → (o : Option Held) → Explained (looked s b o)
@@ -338,7 +365,7 @@ module _ (s : Seen) (h : History) (st : Stands s h) (op : is_open s.task ≡ tru
 
   closing_told : Some Prepare ≡ kind_in s.task → (id : ℕ) (o : Option ℕ) → first_above s.facts.settings.limit (commands_in (closing (next_terms s) id)) ≡ o → Explained (unless_exceeds (with_kept s) o (record { seen = machine.queued (with_kept s) Giving (closing (next_terms s) id); does = Sends }))
   closing_told own id None e = tt
-  closing_told own id (Some len) e = command_told Prepare Giving (closing (next_terms s) id) own (inr (id, refl, refl)) (Some len) e
+  closing_told own id (Some len) e = command_told Prepare Giving (closing (next_terms s) id) own (inr (inl (id, refl, refl))) (Some len) e
 
   kept_told : Some Prepare ≡ kind_in s.task → (o : Option ℕ) → Explained (kept (with_kept s) o)
   kept_told own None = tt
@@ -347,7 +374,9 @@ module _ (s : Seen) (h : History) (st : Stands s h) (op : is_open s.task ≡ tru
   -- plans that fit the task
   abbrev Suits : Plan → Type 0
   Suits plans.Reads = Awaits s.task s.context.spot
-  Suits (plans.Asks c) = (asks c ≡ true) × (Some c ≡ kind_in s.task)
+  Suits (plans.Asks c) = (asks c ≡ true) × (ask_plan c ≡ plans.Asks c) × (Some c ≡ kind_in s.task)
+  Suits plans.Batches = Some Batch ≡ kind_in s.task
+  Suits (plans.Runs n) = Some Batch ≡ kind_in s.task
   Suits (plans.Arranges n) = (connecting_in entries ≡ suc n) × (Some Connect ≡ kind_in s.task)
   Suits plans.Finds = Some Prepare ≡ kind_in s.task
   Suits plans.Checks = Some Execute ≡ kind_in s.task
@@ -362,7 +391,10 @@ module _ (s : Seen) (h : History) (st : Stands s h) (op : is_open s.task ≡ tru
   plan_told plans.Finds own = looked_told own (is_mixed_text (text_in s.call)) refl (held_in s.statements (query_of (text_in s.call)))
   plan_told plans.Checks own = refusal_told Execute own (refusal Execute s.call) (record { seen = machine.with_task s (Cleaning Execute) s.untold; does = Goes }) refl (λ _. tt)
   plan_told plans.Forgets a = tt
-  plan_told (plans.Asks c) own = refusal_told c own.1 (refusal c s.call) (asked s c (command_of (next_terms s) s.statements (call_of c s.call))) refl (λ fit. asked_told c own.0 own.1 fit (command_of (next_terms s) s.statements (call_of c s.call)) refl)
+  plan_told plans.Batches own = batched_told own (slice_get (lists_in s.call) 0) refl
+  plan_told (plans.Runs n) own = ran_told (suc n) n own (slice_get (lists_in s.call) n) refl
+  plan_told (plans.Notes n) a = tt
+  plan_told (plans.Asks c) own = refusal_told c own.2 (refusal c s.call) (asked s (Own c) (command_of (next_terms s) s.statements (call_of c s.call))) refl (λ fit. asked_told c own.0 own.1 own.2 fit (command_of (next_terms s) s.statements (call_of c s.call)) refl)
   plan_told (plans.Arranges n) own = arranged_told n own.0 own.1 _ refl
   plan_told plans.Readies a = tt
   plan_told plans.Learns a = tt
@@ -430,6 +462,22 @@ module _ (s : Seen) (h : History) (st : Stands s h) (op : is_open s.task ≡ tru
   execution_suits e (spots.Fields left) at heads = cc
   execution_suits e spots.FieldsEnd at heads = cc
 
+  run_suits : (n : ℕ) → s.task ≡ Running n → (spot : Spot) → s.context.spot ≡ spot → is_heading spot ≡ true → Suits (run_plan n spot)
+  run_suits n e spots.Idle at heads = cc
+  run_suits n e spots.Greeting at heads = cc
+  run_suits n e spots.Authentication at heads = cc
+  run_suits n e spots.Single at heads = cc
+  run_suits n e spots.Head at heads = awaits_as (Running n) e (subst (λ (x : Spot). Awaits (Running n) x) (sym at) (running_head_awaits n))
+  run_suits n e spots.Further at heads = cc
+  run_suits n e (spots.Columns left) at heads = awaits_as (Running n) e (subst (λ (x : Spot). Awaits (Running n) x) (sym at) (running_column_awaits n left))
+  run_suits n e spots.ColumnsEnd at heads = awaits_as (Running n) e (subst (λ (x : Spot). Awaits (Running n) x) (sym at) (running_close_awaits n))
+  run_suits n e spots.Rows at heads = tt
+  run_suits n e spots.Prepare at heads = cc
+  run_suits n e (spots.Parameters left columns) at heads = cc
+  run_suits n e (spots.ParametersEnd columns) at heads = cc
+  run_suits n e (spots.Fields left) at heads = cc
+  run_suits n e spots.FieldsEnd at heads = cc
+
   prepare_suits : s.task ≡ Own Prepare → is_greeting s.context.spot ≡ false → (spot : Spot) → s.context.spot ≡ spot → Suits (prepare_plan spot)
   prepare_suits e past spots.Idle at = sym (ap kind_in e)
   prepare_suits e past spots.Greeting at = awaits_as (Own Prepare) e (prepare_awaits s.context.spot (ap is_idle at) past)
@@ -451,6 +499,7 @@ module _ (s : Seen) (h : History) (st : Stands s h) (op : is_open s.task ≡ tru
   first_suits Query own = tt
   first_suits Prepare own = own
   first_suits Execute own = own
+  first_suits Batch own = own
   first_suits CloseStmt own = tt
   first_suits NextRow own = tt
   first_suits DropResult own = tt
@@ -468,6 +517,7 @@ module _ (s : Seen) (h : History) (st : Stands s h) (op : is_open s.task ≡ tru
   own_suits Execute e hd =
       let queried = execute_talk s.login (terms_by s.login st.older) (connecting_in st.older) (statement_in s.call) (params_in s.call) talk (subst (λ (c : Call). Opens s.login (terms_by s.login st.older) c (connecting_in st.older) (origin talk)) hd.tie.0 st.wire.table.0) in
       execution_suits e s.context.spot refl (ap (λ (c : Context). is_heading c.spot) st.wire.context_is ∙ heading_spot talk queried hd.at.2)
+  own_suits Batch e hd = absurd hd.at
   own_suits CloseStmt e hd = tt
   own_suits NextRow e hd = absurd hd.at
   own_suits DropResult e hd = absurd hd.at
@@ -540,13 +590,29 @@ module _ (s : Seen) (h : History) (st : Stands s h) (op : is_open s.task ≡ tru
   skip_suits e (spots.Fields left) at = tt
   skip_suits e spots.FieldsEnd at = tt
 
+  ask_suits : (c : CallKind) → asks c ≡ true → Some c ≡ kind_in s.task → Suits (ask_plan c)
+  ask_suits Connect asking own = (asking, refl, own)
+  ask_suits Query asking own = (asking, refl, own)
+  ask_suits Prepare asking own = (asking, refl, own)
+  ask_suits Execute asking own = (asking, refl, own)
+  ask_suits Batch asking own = own
+  ask_suits CloseStmt asking own = (asking, refl, own)
+  ask_suits NextRow asking own = (asking, refl, own)
+  ask_suits DropResult asking own = (asking, refl, own)
+  ask_suits TakeSet asking own = (asking, refl, own)
+  ask_suits SkipTaken asking own = (asking, refl, own)
+  ask_suits Ping asking own = (asking, refl, own)
+  ask_suits Quit asking own = (asking, refl, own)
+
   suits : (t : Task) → s.task ≡ t → fault_in t ≡ None → HeardAs t → (untold : Bool) → s.untold ≡ untold → Suits (plan_of t s.context.spot untold)
   suits Nothing e sound hd untold told = let no : false ≡ true = sym (ap is_open e) ∙ op in cc
   suits (Begun c) e sound hd untold told = first_suits c (sym (ap kind_in e))
-  suits (Cleaning c) e sound hd untold told = clean_suits (Cleaning c) e (cleaning_awaits c) (plans.Asks c) (hd.at.0, sym (ap kind_in e)) s.context.spot refl hd.at.2 untold
+  suits (Cleaning c) e sound hd untold told = clean_suits (Cleaning c) e (cleaning_awaits c) (ask_plan c) (ask_suits c hd.at.0 (sym (ap kind_in e))) s.context.spot refl hd.at.2 untold
   suits (Own c) e sound hd untold told = own_suits c e hd
   suits Giving e sound hd untold told = tt
   suits (Arranging n) e sound hd untold told = clean_suits (Arranging n) e (arranging_awaits n) (plans.Arranges n) (hd.at.1, sym (ap kind_in e)) s.context.spot refl hd.at.2 untold
+  suits (Running n) e sound hd untold told = run_suits n e s.context.spot refl hd.at.1
+  suits (Finishing n) e sound hd untold told = clean_suits (Finishing n) e (finishing_awaits n) (plans.Runs n) (sym (ap kind_in e)) s.context.spot refl hd.at.1 untold
   suits Reading e sound hd true told = tt
   suits Reading e sound hd false told = read_suits e told s.context.spot refl hd.at.1
   suits Dropping e sound hd true told = tt

@@ -9,10 +9,10 @@ use Rattle.my_session.specs.declared.answer.SessionStep.TheVariants as steps
 use Rattle.my_session.specs.declared.answer.Tick.{Tick}
 use Rattle.my_session.specs.declared.answer.Tick.TheVariants as ticks
 use Rattle.my_reading.specs.declared.call.CallKind.{CallKind}
-use Rattle.my_reading.specs.declared.call.CallKind.TheVariants.{Connect, Query, Prepare, Execute, CloseStmt, NextRow, DropResult, TakeSet, SkipTaken, Ping, Quit}
+use Rattle.my_reading.specs.declared.call.CallKind.TheVariants.{Connect, Query, Prepare, Execute, Batch, CloseStmt, NextRow, DropResult, TakeSet, SkipTaken, Ping, Quit}
 use Rattle.my_session.specs.declared.task.LinkFault.{LinkFault}
 use Rattle.my_session.specs.declared.task.Task.{Task}
-use Rattle.my_session.specs.declared.task.Task.TheVariants.{Nothing, Begun, Cleaning, Own, Giving, Arranging, Reading, Dropping, Taking, Skipping, Leaving, Failing}
+use Rattle.my_session.specs.declared.task.Task.TheVariants.{Nothing, Begun, Cleaning, Own, Giving, Arranging, Running, Finishing, Reading, Dropping, Taking, Skipping, Leaving, Failing}
 use Rattle.my_reading.specs.declared.error.Error.{Error}
 use Rattle.my_reading.specs.declared.error.Error.TheVariants as errors
 use Rattle.my_reading.specs.Calls.{asks, is_connect}
@@ -144,6 +144,7 @@ own_proper Connect spot connected count newest w = refl
 own_proper Query spot connected count newest w = refl
 own_proper Prepare spot connected count newest w = refl
 own_proper Execute spot connected count newest w = refl
+own_proper Batch spot connected count newest w = absurd w
 own_proper CloseStmt spot connected count newest w = refl
 own_proper NextRow spot connected count newest w = absurd w
 own_proper DropResult spot connected count newest w = absurd w
@@ -159,6 +160,8 @@ task_proper (Cleaning c) spot closed connected count newest w = w.0
 task_proper (Own c) spot closed connected count newest w = own_proper c spot connected count newest w
 task_proper Giving spot closed connected count newest w = refl
 task_proper (Arranging n) spot closed connected count newest w = refl
+task_proper (Running n) spot closed connected count newest w = refl
+task_proper (Finishing n) spot closed connected count newest w = refl
 task_proper Reading spot closed connected count newest w = refl
 task_proper Dropping spot closed connected count newest w = refl
 task_proper Taking spot closed connected count newest w = refl
@@ -173,6 +176,8 @@ begun_owes (Cleaning c) e = cc
 begun_owes (Own c) e = cc
 begun_owes Giving e = cc
 begun_owes (Arranging n) e = cc
+begun_owes (Running n) e = cc
+begun_owes (Finishing n) e = cc
 begun_owes Reading e = cc
 begun_owes Dropping e = cc
 begun_owes Taking e = cc

@@ -15,9 +15,9 @@ use Rattle.my_reading.specs.declared.error.ServerError.{ServerError}
 use Rattle.my_reading.specs.declared.call.Call.{Call}
 use Rattle.my_reading.specs.declared.call.Call.TheVariants as calls
 use Rattle.my_session.specs.declared.task.Task.{Task}
-use Rattle.my_session.specs.declared.task.Task.TheVariants.{Nothing, Begun, Cleaning, Own, Giving, Arranging, Reading, Dropping, Taking, Skipping, Leaving, Failing}
+use Rattle.my_session.specs.declared.task.Task.TheVariants.{Nothing, Begun, Cleaning, Own, Giving, Arranging, Running, Finishing, Reading, Dropping, Taking, Skipping, Leaving, Failing}
 use Rattle.my_reading.specs.Calls.{kind_of as call_kind, call_of}
-use Rattle.my_reading.specs.declared.call.CallKind.TheVariants.{Prepare}
+use Rattle.my_reading.specs.declared.call.CallKind.TheVariants.{Prepare, Batch}
 use Rattle.my_session.specs.Tasks.{kind_in}
 use Rattle.my_session.specs.Entries.{Entry, AllGiven, IsGiven, calls_in, owns_more, OwnsFirst, IsTied}
 use Rattle.my_session.specs.Groups.{Group}
@@ -75,6 +75,8 @@ calls_are (Cleaning c) opened spot made call older w = inr w
 calls_are (Own c) opened spot made call older w = own_open (is_greeting spot) (call_of c opened) call made (calls_in older) (sym w.0, inl w.1)
 calls_are Giving opened spot made call older w = own_open (is_greeting spot) (call_of Prepare opened) call made (calls_in older) w
 calls_are (Arranging n) opened spot made call older w = own_open (is_greeting spot) calls.Connect call made (calls_in older) w
+calls_are (Running n) opened spot made call older w = own_open (is_greeting spot) (call_of Batch opened) call made (calls_in older) w
+calls_are (Finishing n) opened spot made call older w = own_open (is_greeting spot) (call_of Batch opened) call made (calls_in older) w
 calls_are Reading opened spot made call older w = inr w
 calls_are Dropping opened spot made call older w = inr w
 calls_are Taking opened spot made call older w = inr w
@@ -94,6 +96,8 @@ rests_owe (Cleaning c) opened e = cc
 rests_owe (Own c) opened e = cc
 rests_owe Giving opened e = cc
 rests_owe (Arranging n) opened e = cc
+rests_owe (Running n) opened e = cc
+rests_owe (Finishing n) opened e = cc
 rests_owe Reading opened e = cc
 rests_owe Dropping opened e = cc
 rests_owe Taking opened e = cc

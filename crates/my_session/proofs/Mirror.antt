@@ -2,6 +2,8 @@
 pub mod Fields
 pub mod Payloads
 pub mod Commands
+pub mod Opened
+pub mod Prepared
 pub mod Plans
 pub mod Steps
 use Rattle.std.proofs.Common.{◌≡◌, List, [], ◌∷◌, true, false, inl, inr, refl, sym, subst}

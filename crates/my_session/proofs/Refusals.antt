@@ -1,18 +1,20 @@
--- Why the parameters of an execution are refused.
-use Rattle.std.proofs.Common.{◌≡◌, ℕ, ◌==◌, nat_lt, List, length, Bool, true, false, cond, Option, Some, Result, Ok, Err, refl, sym, ap, ◌∙◌}
+-- Why parameters are refused.
+use Rattle.std.proofs.Common.{◌≡◌, ℕ, ◌==◌, nat_lt, List, length, Bool, true, false, cond, Option, Some, Result, Ok, Err, inl, refl, sym, ap, ◌∙◌}
 use Rattle.my_value.specs.declared.value.Value.{Value}
 use Rattle.my_params.specs.ParamValues.{resolved}
+use Rattle.my_params.specs.declared.params.Params.{Params}
 use Rattle.my_params.specs.declared.params.ParamsError.{ParamsError}
+use Rattle.my_statements.specs.Prepared.{StatementView}
 use Rattle.my_reading.specs.declared.call.Call.{Call}
 use Rattle.my_reading.specs.declared.call.CallKind.{CallKind}
-use Rattle.my_reading.specs.declared.call.CallKind.TheVariants.{Connect, Query, Prepare, Execute, CloseStmt, NextRow, DropResult, TakeSet, SkipTaken, Ping, Quit}
+use Rattle.my_reading.specs.declared.call.CallKind.TheVariants.{Connect, Query, Prepare, Execute, Batch, CloseStmt, NextRow, DropResult, TakeSet, SkipTaken, Ping, Quit}
 use Rattle.my_reading.specs.declared.error.DriverError.{DriverError}
 use Rattle.my_reading.specs.declared.error.DriverError.TheVariants as drivers
 use Rattle.my_reading.specs.declared.executing.TheConstants.{MOST_VALUES}
-use Rattle.my_reading.specs.Calls.{params_in, statement_in}
+use Rattle.my_reading.specs.Calls.{call_of, params_in, statement_in}
 use Rattle.my_reading.specs.Executions.{Values, Fitting, Unfitting, if_as_many, values_of, values_for}
 use Rattle.my_reading.specs.Told.{closes_driver}
-use Rattle.my_session.specs.Causes.{DriverCause, IsUnfitting}
+use Rattle.my_session.specs.Causes.{DriverCause, Executes, IsUnfitting}
 use Rattle.my_session.specs.Fits.{OwnDriver}
 use Rattle.my_session.specs.History.{History}
 use Rattle.my_session.specs.Machine.{refusal, refused_by}
@@ -49,32 +51,28 @@ unfit_by : (v : Values) (e : DriverError) → refused_by v ≡ Some e → v ≡ 
 unfit_by (Fitting values) e is = cc
 unfit_by (Unfitting x) e is = let same : x ≡ e = cc in ap Unfitting same
 
--- only an execution is refused so
-pub refused_execution : (c : CallKind) (call : Call) (e : DriverError) → refusal c call ≡ Some e → (c ≡ Execute) × (values_for (statement_in call) (params_in call) ≡ Unfitting e)
-refused_execution Connect call e is = cc
-refused_execution Query call e is = cc
-refused_execution Prepare call e is = cc
-refused_execution Execute call e is = (refl, unfit_by (values_for (statement_in call) (params_in call)) e is)
-refused_execution CloseStmt call e is = cc
-refused_execution NextRow call e is = cc
-refused_execution DropResult call e is = cc
-refused_execution TakeSet call e is = cc
-refused_execution SkipTaken call e is = cc
-refused_execution Ping call e is = cc
-refused_execution Quit call e is = cc
+-- values that are refused
+values_are : (statement : StatementView) (params : Params) (e : DriverError) → refused_by (values_for statement params) ≡ Some e → is_params e ≡ true
+values_are statement params e is = refused_is (values_for statement params) e (values_refused statement.inner.num_params (resolved params statement.names)) is
 
-refusal_is : (c : CallKind) (call : Call) (e : DriverError) → refusal c call ≡ Some e → is_params e ≡ true
-refusal_is Connect call e is = cc
-refusal_is Query call e is = cc
-refusal_is Prepare call e is = cc
-refusal_is Execute call e is = refused_is (values_for (statement_in call) (params_in call)) e (values_refused (statement_in call).inner.num_params (resolved (params_in call) (statement_in call).names)) is
-refusal_is CloseStmt call e is = cc
-refusal_is NextRow call e is = cc
-refusal_is DropResult call e is = cc
-refusal_is TakeSet call e is = cc
-refusal_is SkipTaken call e is = cc
-refusal_is Ping call e is = cc
-refusal_is Quit call e is = cc
+-- only the parameters of an execution are refused so
+pub record IsRefused (c : CallKind) (call : Call) (e : DriverError) : Type 0 where
+  pub executes : Executes (Some (call_of c call)) (statement_in call) (params_in call)
+  pub refused : refused_by (values_for (statement_in call) (params_in call)) ≡ Some e
+
+pub refused_run : (c : CallKind) (call : Call) (e : DriverError) → refusal c call ≡ Some e → IsRefused c call e
+refused_run Connect call e is = cc
+refused_run Query call e is = cc
+refused_run Prepare call e is = cc
+refused_run Execute call e is = record { executes = inl refl; refused = is }
+refused_run Batch call e is = cc
+refused_run CloseStmt call e is = cc
+refused_run NextRow call e is = cc
+refused_run DropResult call e is = cc
+refused_run TakeSet call e is = cc
+refused_run SkipTaken call e is = cc
+refused_run Ping call e is = cc
+refused_run Quit call e is = cc
 
 params_close : (e : DriverError) → is_params e ≡ true → closes_driver e ≡ true
 params_close drivers.ConnectionClosed w = cc
@@ -125,11 +123,18 @@ params_cause drivers.InvalidParsecSalt made h w u = cc
 params_cause drivers.NoClientSslFlagFromServer made h w u = cc
 
 -- each of them closes the session, is one of the session's own, and has its cause
+pub values_close : (statement : StatementView) (params : Params) (e : DriverError) → refused_by (values_for statement params) ≡ Some e → closes_driver e ≡ true
+values_close statement params e is = params_close e (values_are statement params e is)
+
+pub values_own : (statement : StatementView) (params : Params) (e : DriverError) → refused_by (values_for statement params) ≡ Some e → OwnDriver e
+values_own statement params e is = params_own e (values_are statement params e is)
+
+pub values_cause : (statement : StatementView) (params : Params) (e : DriverError) (made : Option LinkFault) (h : History) → refused_by (values_for statement params) ≡ Some e → Executes h.pending statement params → DriverCause made h e
+values_cause statement params e made h is pending =
+    params_cause e made h (values_are statement params e is) (record { statement = statement; params = params; pending = pending; refused = unfit_by (values_for statement params) e is })
+
 pub refusal_closes : (c : CallKind) (call : Call) (e : DriverError) → refusal c call ≡ Some e → closes_driver e ≡ true
-refusal_closes c call e is = params_close e (refusal_is c call e is)
+refusal_closes c call e is = let w = refused_run c call e is in values_close (statement_in call) (params_in call) e w.refused
 
 pub refusal_own : (c : CallKind) (call : Call) (e : DriverError) → refusal c call ≡ Some e → OwnDriver e
-refusal_own c call e is = params_own e (refusal_is c call e is)
-
-pub refusal_cause : (c : CallKind) (call : Call) (e : DriverError) (made : Option LinkFault) (h : History) → refusal c call ≡ Some e → IsUnfitting h e → DriverCause made h e
-refusal_cause c call e made h is u = params_cause e made h (refusal_is c call e is) u
+refusal_own c call e is = let w = refused_run c call e is in values_own (statement_in call) (params_in call) e w.refused

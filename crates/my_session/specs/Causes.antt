@@ -1,6 +1,6 @@
 -- Why a call returned an error, in the words of what the grammar finds in the bytes taken.
 -- MySQL client/server protocol, "MySQL Packets" (sequence ids and lengths of packets) and "ERR_Packet".
-use Rattle.std.specs.Prelude.{◌≡◌, ℕ, ◌-◌, ◌^◌, ◌<◌, min, List, [], ◌∷◌, ◌++◌, ◌⊎◌, length, Option, Some, true, false}
+use Rattle.std.specs.Prelude.{◌≡◌, ℕ, ◌-◌, ◌^◌, ◌<◌, min, List, [], ◌∷◌, ◌++◌, ◌⊎◌, length, slice_get, Option, Some, true, false}
 use Rattle.my_flags.specs.declared.flags.CapabilityFlags.{CapabilityFlags}
 use Rattle.my_frame.specs.declared.fault.CodecFault.{CodecFault}
 use Rattle.my_frame.specs.declared.fault.CodecFault.TheVariants.{TooLarge}
@@ -87,11 +87,16 @@ pub record IsLongCommand (login : Login) (h : History) (es : List Entry) (fault 
   pub above : first_above (terms_by login es).limit (commands_in talk) ≡ Some len
   pub fault_is : fault ≡ TooLarge len (terms_by login es).limit
 
--- The parameters of the open call, an execution, are refused so.
+-- the open call executes this statement with these parameters: it is an execution, or a batch that has them
+abbrev pub Executes : Option Call → StatementView → Params → Type 0
+Executes open_call statement params = (open_call ≡ Some (calls.Execute statement params))
+    ⊎ ((lists : List Params) × (place : ℕ) × (open_call ≡ Some (calls.Batch statement lists)) × (slice_get lists place ≡ Some params))
+
+-- Parameters of the open call, an execution or a batch, are refused so.
 pub record IsUnfitting (h : History) (e : DriverError) : Type 0 where
   pub statement : StatementView
   pub params : Params
-  pub pending : h.pending ≡ Some (calls.Execute statement params)
+  pub pending : Executes h.pending statement params
   pub refused : values_for statement params ≡ Unfitting e
 
 -- The open call is to prepare a text with both names and marks.

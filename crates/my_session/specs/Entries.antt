@@ -1,5 +1,5 @@
 -- The exchanges of a session, the newest first, and the command table.
-use Rattle.std.specs.Prelude.{◌≡◌, ℕ, suc, List, [], ◌∷◌, ◌++◌, Option, Some, None, Bool, true, false, not, ◌||◌, ◌⊎◌, if◌then◌else◌}
+use Rattle.std.specs.Prelude.{◌≡◌, ℕ, suc, List, [], ◌∷◌, ◌++◌, slice_get, is_some, Option, Some, None, Bool, true, false, not, ◌||◌, ◌⊎◌, if◌then◌else◌}
 use Rattle.my_flags.specs.declared.flags.CapabilityFlags.{CapabilityFlags}
 use Rattle.my_flags.specs.Sets.{deprecates_eof}
 use Rattle.my_grammar.specs.declared.login.Login.{Login}
@@ -10,12 +10,15 @@ use Rattle.my_grammar.specs.FitSets.{FitSets}
 use Rattle.my_grammar.specs.Growth.{not_greets}
 use Rattle.my_grammar.specs.Sets.{Sets, ByText, NoSets}
 use Rattle.my_grammar.specs.Talk.{Talk, Queried, turns, server_bytes, client_bytes, context_of, packets_of, Fits, origin}
+use Rattle.my_params.specs.declared.params.Params.{Params}
 use Rattle.my_reading.specs.declared.call.Call.{Call}
+use Rattle.my_reading.specs.declared.call.Call.TheVariants as calls
 use Rattle.my_reading.specs.declared.call.CallKind.{CallKind}
 use Rattle.my_reading.specs.declared.call.CallKind.TheVariants as callkinds
 use Rattle.my_reading.specs.declared.facts.Facts.{Facts}
-use Rattle.my_reading.specs.Calls.{kind_of, is_connect}
-use Rattle.my_reading.specs.Commands.{closing, opening}
+use Rattle.my_reading.specs.Calls.{kind_of, id_in, is_connect, lists_in, statement_in}
+use Rattle.my_reading.specs.Commands.{closing, execution, opening}
+use Rattle.my_reading.specs.Executions.{values_for}
 use Rattle.my_reading.specs.Statements.{Statements}
 use Rattle.my_reading.specs.Facts.{first_facts, facts_by}
 use Rattle.my_session.specs.Groups.{Group, groups, IsEarlier}
@@ -56,12 +59,21 @@ abbrev pub connecting_in : List Entry → ℕ
 connecting_in [] = 0
 connecting_in (e ∷ es) = if is_connect (kind_of e.call) then suc (connecting_in es) else connecting_in es
 
+-- The exchange is one of a batch: its statement is executed with some of its parameters.
+pub record IsRun (terms : Terms) (call : Call) (t : Talk) : Type 0 where
+  pub kind : kind_of call ≡ callkinds.Batch
+  pub place : ℕ
+  pub params : Params
+  pub listed : slice_get (lists_in call) place ≡ Some params
+  pub statements : Statements
+  pub executes : execution terms statements (id_in call) (values_for (statement_in call) params) ≡ Some t
+
 -- The exchange is the one that the table has for the call, and for its place among those of connecting, where some prepared statements are
--- known; or it is the close of a statement, which a call that prepares one may begin, too. Which statements are known, and which of them is
--- closed, says the reading of the connection (`Mirror`).
+-- known; or it is the close of a statement, which a call that prepares one may begin, too, or one of a batch. Which statements are known, which of them is
+-- closed, and which execution of a batch comes when, says the reading of the connection (`Mirror`).
 abbrev pub Opens : Login → Terms → Call → ℕ → Talk → Type 0
 Opens login terms call n t = ((st : Statements) × (opening login terms st call n ≡ Some t))
-    ⊎ ((id : ℕ) × (kind_of call ≡ callkinds.Prepare) × (closing terms id ≡ t))
+    ⊎ (((id : ℕ) × (kind_of call ≡ callkinds.Prepare) × (closing terms id ≡ t)) ⊎ IsRun terms call t)
 
 -- so is each exchange
 abbrev pub Follow : Login → List Entry → Type 0
@@ -107,27 +119,29 @@ abbrev pub givens : List Entry → List (List Group)
 givens [] = []
 givens (e ∷ es) = onto e.given (givens es)
 
--- the calls that are answered only after an exchange of their own
-abbrev pub needs_own : CallKind → Bool
-needs_own callkinds.NextRow = false
-needs_own callkinds.DropResult = false
-needs_own callkinds.TakeSet = false
-needs_own callkinds.SkipTaken = false
-needs_own callkinds.Quit = false
+-- the calls that are answered only after an exchange of their own; a batch without any parameters has none
+abbrev pub needs_own : Call → Bool
+needs_own calls.NextRow = false
+needs_own calls.DropResult = false
+needs_own calls.TakeSet = false
+needs_own calls.SkipTaken = false
+needs_own calls.Quit = false
+needs_own (calls.Batch statement lists) = is_some (slice_get lists 0)
 needs_own _ = true
 
-abbrev pub may_lack : Told → CallKind → Bool
-may_lack ToldReady c = not (needs_own c)
-may_lack _ c = true
+abbrev pub may_lack : Told → Call → Bool
+may_lack ToldReady call = not (needs_own call)
+may_lack _ call = true
 
 abbrev pub calls_in : List Entry → List Call
 calls_in [] = []
 calls_in (e ∷ es) = e.call ∷ calls_in es
 
--- connecting may have more than one exchange, and a statement to prepare its own and the close of another one
+-- connecting may have more than one exchange, a statement to prepare its own and the close of another one, and a batch one for each execution
 abbrev pub owns_more : CallKind → Bool
 owns_more callkinds.Connect = true
 owns_more callkinds.Prepare = true
+owns_more callkinds.Batch = true
 owns_more _ = false
 
 -- the first of these exchanges is the call's own
@@ -135,11 +149,11 @@ abbrev pub OwnsFirst : Call → List Call → (List Call → Type 0) → Type 0
 OwnsFirst call [] rest = ⊥
 OwnsFirst call (c ∷ cs) rest = (call ≡ c) × (rest cs ⊎ ((owns_more (kind_of call) ≡ true) × OwnsFirst call cs rest))
 
--- The exchanges are those of the calls, in their order, at most one each but for connecting and preparing; a command that was accepted has one.
+-- The exchanges are those of the calls, in their order, at most one each but for connecting, preparing and batches; a command that was accepted has one.
 abbrev pub IsTied : List Made → List Call → Type 0
 IsTied [] [] = Unit {0}
 IsTied [] (c ∷ cs) = ⊥
-IsTied (m ∷ ms) cs = ((may_lack m.what (kind_of m.call) ≡ true) × IsTied ms cs) ⊎ OwnsFirst m.call cs (IsTied ms)
+IsTied (m ∷ ms) cs = ((may_lack m.what m.call ≡ true) × IsTied ms cs) ⊎ OwnsFirst m.call cs (IsTied ms)
 
 -- whether the connection was made
 abbrev pub connects : Told → CallKind → Bool

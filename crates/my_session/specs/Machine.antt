@@ -1,5 +1,5 @@
 -- The machine: one move of an open call, as a function.
-use Rattle.std.specs.Prelude.{◌≡◌, ℕ, suc, ◌⊎◌, nat_lt, List, [], ◌∷◌, ◌++◌, length, drop, Option, Some, None, Bool, true, false, ◌&&◌, ◌||◌, Result, Ok, Err, if◌then◌else◌}
+use Rattle.std.specs.Prelude.{◌≡◌, ℕ, suc, ◌⊎◌, nat_lt, List, [], ◌∷◌, ◌++◌, length, drop, slice_get, Option, Some, None, Bool, true, false, ◌&&◌, ◌||◌, Result, Ok, Err, Vec, if◌then◌else◌}
 use Rattle.my_frame.specs.declared.fault.CodecFault.TheVariants.{TooLarge}
 use Rattle.my_reply.specs.declared.err.ErrPacket.{ErrPacket}
 use Rattle.my_frame.specs.declared.read_error.ReadError.{ReadError}
@@ -9,7 +9,9 @@ use Rattle.my_frame.specs.Front.{Front, Waiting, Broken, Whole, front_at}
 use Rattle.my_reply.specs.ErrPacket.{err_at}
 use Rattle.my_reply.specs.declared.replies.PrepareOk.{PrepareOk}
 use Rattle.my_reply.specs.Replies.{prepare_ok_at}
+use Rattle.my_params.specs.declared.params.Params.{Params}
 use Rattle.my_value.specs.RowParts.{RowParts}
+use Rattle.my_value.specs.declared.value.Value.{Value}
 use Rattle.my_grammar.specs.declared.login.Login.{Login}
 use Rattle.my_grammar.specs.declared.spot.Spot.{Spot}
 use Rattle.my_grammar.specs.declared.spot.Terms.{Terms}
@@ -21,25 +23,26 @@ use Rattle.my_grammar.specs.Kinds.{kind_there}
 use Rattle.my_grammar.specs.Response.{response}
 use Rattle.my_grammar.specs.Talk.{Talk, turns, number_of, client_bytes, commands_bytes, commands_in, context_of}
 use Rattle.my_statements.specs.Cache.{Held}
+use Rattle.my_statements.specs.Prepared.{StatementView}
 use Rattle.my_reading.specs.declared.call.Call.{Call}
 use Rattle.my_reading.specs.declared.call.CallKind.{CallKind}
-use Rattle.my_reading.specs.declared.call.CallKind.TheVariants.{Prepare, Execute, CloseStmt}
+use Rattle.my_reading.specs.declared.call.CallKind.TheVariants.{Prepare, Execute, Batch, CloseStmt}
 use Rattle.my_reading.specs.declared.error.DriverError.{DriverError}
 use Rattle.my_session.specs.declared.task.LinkFault.{LinkFault}
 use Rattle.my_session.specs.declared.task.Task.{Task}
 use Rattle.my_session.specs.declared.task.Task.TheVariants as tasks
 use Rattle.my_session.specs.declared.tables.Plan.{Plan}
 use Rattle.my_session.specs.declared.tables.Plan.TheVariants as plans
-use Rattle.my_session.specs.declared.tables.Reaction.{Reaction}
-use Rattle.my_session.specs.declared.tables.Reaction.TheVariants as reactions
+use Rattle.my_session.specs.declared.reactions.Reaction.{Reaction}
+use Rattle.my_session.specs.declared.reactions.Reaction.TheVariants as reactions
 use Rattle.my_reading.specs.declared.error.Error.{Error}
 use Rattle.my_reading.specs.declared.error.Error.TheVariants as errors
 use Rattle.my_session.specs.declared.session.receiving.Arrival.{Arrival}
 use Rattle.my_session.specs.declared.answer.Tick.{Tick}
 use Rattle.my_session.specs.declared.answer.Tick.TheVariants as ticks
-use Rattle.my_reading.specs.Calls.{call_of, id_in, params_in, statement_in, text_in}
+use Rattle.my_reading.specs.Calls.{call_of, id_in, lists_in, params_in, statement_in, text_in}
 use Rattle.my_session.specs.Tasks.{fault_in}
-use Rattle.my_reading.specs.Commands.{closing, command_of, connecting}
+use Rattle.my_reading.specs.Commands.{closing, command_of, connecting, execution}
 use Rattle.my_reading.specs.Course.{first_above}
 pub use Rattle.my_reading.specs.Course.{is_greeting}
 use Rattle.my_reading.specs.Place.{is_rows}
@@ -220,10 +223,10 @@ commanded s t spot rows ahead command =
 abbrev pub begins : Seen → Task → Talk → Move
 begins s t talk = unless_exceeds s (first_above s.facts.settings.limit (commands_in talk)) (record { seen = queued s t talk; does = Sends })
 
--- the own command of a call
-abbrev pub asked : Seen → CallKind → Option Talk → Move
-asked s c None = record { seen = with_task s tasks.Nothing s.untold; does = Tells ToldNone }
-asked s c (Some talk) = begins s (tasks.Own c) talk
+-- the command of a call, which goes on with this task
+abbrev pub asked : Seen → Task → Option Talk → Move
+asked s t None = record { seen = with_task s tasks.Nothing s.untold; does = Tells ToldNone }
+asked s t (Some talk) = begins s t talk
 
 -- why the parameters of an execution are refused, where they are
 abbrev pub refused_by : Values → Option DriverError
@@ -247,6 +250,20 @@ looked s false (Some h) = record {
   seen = with_statements (with_task s tasks.Nothing s.untold) (with_fetched (query_of (text_in s.call)) s.statements);
   does = Tells (ToldStatement (statement_with h.stmt (names_of (text_in s.call))));
 }
+
+-- the statement of the call is executed with these values, unless the parameters are refused
+abbrev pub executed : Seen → Task → Values → Move
+executed s t v = unless_refused s (refused_by v) (asked s t (execution (next_terms s) s.statements (statement_in s.call).inner.id v))
+
+-- a batch begins with the parameters of its first execution; where there is none, it is done
+abbrev pub batched : Seen → Option Params → Move
+batched s None = record { seen = with_task s tasks.Nothing s.untold; does = Tells ToldReady }
+batched s (Some params) = unless_refused s (refused_by (values_for (statement_in s.call) params)) (record { seen = with_task s (tasks.Cleaning Batch) s.untold; does = Goes })
+
+-- the next execution of a batch, after which this many were sent; where none is left, the batch is done
+abbrev pub ran : Seen → ℕ → Option Params → Move
+ran s n None = record { seen = with_task s tasks.Nothing s.untold; does = Tells ToldReady }
+ran s n (Some params) = executed s (tasks.Running n) (values_for (statement_in s.call) params)
 
 -- the statement that was prepared is kept
 abbrev pub with_kept : Seen → Seen
@@ -272,12 +289,18 @@ planned s plans.Forgets = record {
   seen = with_statements (with_task s (tasks.Cleaning CloseStmt) s.untold) (without_statement (id_in s.call) s.statements);
   does = Goes;
 }
-planned s (plans.Asks c) = unless_refused s (refusal c s.call) (asked s c (command_of (next_terms s) s.statements (call_of c s.call)))
+planned s plans.Batches = batched s (slice_get (lists_in s.call) 0)
+planned s (plans.Asks c) = unless_refused s (refusal c s.call) (asked s (tasks.Own c) (command_of (next_terms s) s.statements (call_of c s.call)))
+planned s (plans.Runs n) = ran s (suc n) (slice_get (lists_in s.call) n)
 planned s (plans.Arranges n) = arranged s n (connecting s.login (next_terms s) (suc n))
 planned s plans.Readies = record { seen = with_task s tasks.Nothing s.untold; does = Tells ToldReady }
 planned s plans.Learns = record {
   seen = with_statements (with_task s tasks.Nothing s.untold) (with_columns (id_in (call_of Execute s.call)) s.facts.columns s.statements);
   does = Tells ToldReady;
+}
+planned s (plans.Notes n) = record {
+  seen = with_statements (with_task s (tasks.Finishing n) s.untold) (with_columns (id_in (call_of Batch s.call)) s.facts.columns s.statements);
+  does = Goes;
 }
 planned s plans.Keeps = kept (with_kept s) (leaving (query_of (text_in s.call)) (prepared_by s.facts) s.statements)
 planned s plans.Gives = record {
@@ -369,3 +392,11 @@ abbrev pub ReadsRow : Option RowParts → Result RowParts ReadError → Type 0
 ReadsRow row (Ok r) = row ≡ Some r
 ReadsRow row (Err reads.Malformed) = row ≡ None
 ReadsRow row (Err reads.NoMemory) = Unit {0}
+
+-- the values of the next execution of a batch, or why its parameters are refused, unless memory ran out; none where it has no more
+abbrev pub GivesNext : {A : Type 0} → Result (Option (Vec Value A)) Error → StatementView → Option Params → Type 0
+GivesNext (Ok None) statement o = o ≡ None
+GivesNext (Ok (Some v)) statement o = (params : Params) × (o ≡ Some params) × (values_for statement params ≡ Fitting v.items)
+GivesNext (Err (errors.Driver e)) statement o = (params : Params) × (o ≡ Some params) × (values_for statement params ≡ Unfitting e)
+GivesNext (Err errors.NoMemory) statement o = Unit {0}
+GivesNext (Err _) statement o = ⊥

@@ -1,5 +1,5 @@
 -- Where a session stands in the reading of its connection.
-use Rattle.std.specs.Prelude.{◌≡◌, ◌⊎◌, ℕ, suc, ◌&&◌, not, List, [], ◌∷◌, ◌++◌, drop, Some, None, Bool, true, false}
+use Rattle.std.specs.Prelude.{◌≡◌, ◌⊎◌, ℕ, suc, ◌&&◌, not, List, [], ◌∷◌, ◌++◌, drop, slice_get, Option, Some, None, Bool, true, false}
 use Rattle.my_frame.specs.FrontLaws.{AreBytes}
 use Rattle.my_grammar.specs.declared.login.Login.{Login}
 use Rattle.my_grammar.specs.declared.spot.Context.{Context}
@@ -9,13 +9,17 @@ use Rattle.my_grammar.specs.Talk.{turns, number_of, context_of, Fits, login_in}
 use Rattle.my_reading.specs.declared.call.Call.{Call}
 use Rattle.my_reading.specs.declared.call.Call.TheVariants as calls
 use Rattle.my_reading.specs.declared.call.CallKind.{CallKind}
-use Rattle.my_reading.specs.declared.call.CallKind.TheVariants.{Connect, Query, Prepare, Execute, CloseStmt, NextRow, DropResult, TakeSet, SkipTaken, Ping, Quit}
+use Rattle.my_reading.specs.declared.call.CallKind.TheVariants.{Connect, Query, Prepare, Execute, Batch, CloseStmt, NextRow, DropResult, TakeSet, SkipTaken, Ping, Quit}
+use Rattle.my_params.specs.declared.params.Params.{Params}
+use Rattle.my_statements.specs.Prepared.{StatementView}
+use Rattle.my_reading.specs.declared.error.DriverError.{DriverError}
 use Rattle.my_reading.specs.declared.error.Error.{Error}
 use Rattle.my_reading.specs.declared.error.Error.TheVariants as errors
 use Rattle.my_reading.specs.declared.facts.Facts.{Facts}
-use Rattle.my_reading.specs.Calls.{kind_of, call_of, asks}
+use Rattle.my_reading.specs.Calls.{kind_of, call_of, asks, lists_in, statement_in}
+use Rattle.my_reading.specs.Executions.{values_for}
 use Rattle.my_reading.specs.Commands.{arranging_texts}
-use Rattle.my_reading.specs.Course.{Part, All, Head, Item, Set, Rest, Command, Reply, Keep, Give, Learn, Owes, Awaits, Returns, Stops, step, parts_of, parts_of_texts, is_greeting}
+use Rattle.my_reading.specs.Course.{Part, All, Head, Item, Set, Rest, Command, Run, Reply, Keep, Give, Learn, Owes, Awaits, Returns, Stops, step, parts_of, parts_of_lists, parts_of_texts, is_greeting}
 use Rattle.my_reading.specs.Errors.{unexpected_eof}
 use Rattle.my_reading.specs.Leads.{Leads}
 use Rattle.my_reading.specs.Place.{Place, exchanges, facts_at, client_side, connects_in}
@@ -26,7 +30,7 @@ use Rattle.my_session.specs.declared.answer.Tick.{Tick}
 use Rattle.my_session.specs.declared.answer.Tick.TheVariants as ticks
 use Rattle.my_session.specs.declared.task.Task.{Task}
 use Rattle.my_session.specs.declared.task.Task.TheVariants as tasks
-use Rattle.my_session.specs.Machine.{Doing, Goes, Passes, Sends, Needs, Tells, Move, next, refusal}
+use Rattle.my_session.specs.Machine.{Doing, Goes, Passes, Sends, Needs, Tells, Move, next, refusal, refused_by}
 use Rattle.my_session.specs.Seen.{Seen}
 use Rattle.my_session.specs.Stands.{is_shaking, owes, call_with}
 use Rattle.my_session.specs.Tasks.{kind_in, fault_in}
@@ -37,6 +41,7 @@ own_parts login Connect = All ∷ parts_of_texts (arranging_texts login)
 own_parts login Query = Head ∷ []
 own_parts login Prepare = Reply ∷ Keep ∷ Give ∷ []
 own_parts login Execute = Head ∷ Learn ∷ []
+own_parts login Batch = []
 own_parts login CloseStmt = []
 own_parts login NextRow = Item ∷ []
 own_parts login DropResult = All ∷ []
@@ -45,31 +50,45 @@ own_parts login SkipTaken = Rest ∷ []
 own_parts login Ping = All ∷ []
 own_parts login Quit = []
 
--- what is left of the open call
-abbrev pub parts_left : Login → Task → List Part
-parts_left login tasks.Nothing = []
-parts_left login (tasks.Begun c) = parts_of login (call_of c calls.Connect)
-parts_left login (tasks.Cleaning c) = All ∷ Command ∷ own_parts login c
-parts_left login (tasks.Own c) = own_parts login c
-parts_left login tasks.Giving = Give ∷ []
-parts_left login (tasks.Arranging n) = All ∷ parts_of_texts (drop n (arranging_texts login))
-parts_left login tasks.Reading = Item ∷ []
-parts_left login tasks.Dropping = All ∷ []
-parts_left login tasks.Taking = Set ∷ []
-parts_left login tasks.Skipping = Rest ∷ []
-parts_left login tasks.Leaving = []
-parts_left login (tasks.Failing c fault) = []
+-- what is left of a batch after the parameters of its next execution were looked at
+abbrev pub parts_of_runs : List Params → List Part
+parts_of_runs [] = []
+parts_of_runs (params ∷ lists) = Run params ∷ Head ∷ Learn ∷ All ∷ parts_of_lists lists
+
+-- what is left of a call after it cleaned
+abbrev pub ask_parts : Login → CallKind → Call → List Part
+ask_parts login Batch call = parts_of_runs (lists_in call)
+ask_parts login c call = Command ∷ own_parts login c
+
+-- what is left of the open call, which carries what this one does
+abbrev pub parts_left : Login → Call → Task → List Part
+parts_left login call tasks.Nothing = []
+parts_left login call (tasks.Begun c) = parts_of login (call_of c call)
+parts_left login call (tasks.Cleaning c) = All ∷ ask_parts login c call
+parts_left login call (tasks.Own c) = own_parts login c
+parts_left login call tasks.Giving = Give ∷ []
+parts_left login call (tasks.Arranging n) = All ∷ parts_of_texts (drop n (arranging_texts login))
+parts_left login call (tasks.Running n) = Head ∷ Learn ∷ All ∷ parts_of_lists (drop n (lists_in call))
+parts_left login call (tasks.Finishing n) = All ∷ parts_of_lists (drop n (lists_in call))
+parts_left login call tasks.Reading = Item ∷ []
+parts_left login call tasks.Dropping = All ∷ []
+parts_left login call tasks.Taking = Set ∷ []
+parts_left login call tasks.Skipping = Rest ∷ []
+parts_left login call tasks.Leaving = []
+parts_left login call (tasks.Failing c fault) = []
 
 -- tasks that pass over an end that is left before they read
 abbrev pub passes_end : Task → Bool
 passes_end (tasks.Cleaning c) = true
 passes_end (tasks.Arranging n) = true
+passes_end (tasks.Finishing n) = true
 passes_end t = false
 
 -- a call's own exchange, or what follows it
 abbrev pub is_own : Task → Bool
 is_own (tasks.Own c) = true
 is_own tasks.Giving = true
+is_own (tasks.Running n) = true
 is_own t = false
 
 -- where a task is, while `count` exchanges are those of connecting
@@ -78,6 +97,7 @@ OwnStandsAt Connect spot count = (is_shaking spot ≡ true) × (count ≡ 1)
 OwnStandsAt Query spot count = is_greeting spot ≡ false
 OwnStandsAt Prepare spot count = is_greeting spot ≡ false
 OwnStandsAt Execute spot count = is_greeting spot ≡ false
+OwnStandsAt Batch spot count = ⊥
 OwnStandsAt CloseStmt spot count = is_greeting spot ≡ false
 OwnStandsAt NextRow spot count = ⊥
 OwnStandsAt DropResult spot count = ⊥
@@ -97,6 +117,8 @@ TaskStandsAt (tasks.Cleaning c) spot count = (asks c ≡ true) × (is_greeting s
 TaskStandsAt (tasks.Own c) spot count = OwnStandsAt c spot count
 TaskStandsAt tasks.Giving spot count = is_greeting spot ≡ false
 TaskStandsAt (tasks.Arranging n) spot count = (is_greeting spot ≡ false) × (count ≡ suc n)
+TaskStandsAt (tasks.Running n) spot count = is_greeting spot ≡ false
+TaskStandsAt (tasks.Finishing n) spot count = is_greeting spot ≡ false
 TaskStandsAt tasks.Reading spot count = is_greeting spot ≡ false
 TaskStandsAt tasks.Dropping spot count = is_greeting spot ≡ false
 TaskStandsAt tasks.Taking spot count = is_greeting spot ≡ false
@@ -118,6 +140,17 @@ pub record Mirrors (context : Context) (number : ℕ) (unread owed : List ℕ) (
   pub owed_is : closed ≡ false → owed ≡ unsent
   pub first : is_greeting context.spot ≡ true → (p.call ≡ calls.Connect) × (p.older ≡ []) × (p.end_left ≡ false)
 
+-- why the parameters of the next execution of a batch are refused, where there is one
+abbrev pub refused_at : StatementView → Option Params → Option DriverError
+refused_at statement None = None
+refused_at statement (Some params) = refused_by (values_for statement params)
+
+-- why a call that cleans would be refused
+abbrev pub refusal_at : Task → Call → Option DriverError
+refusal_at (tasks.Cleaning Batch) call = refused_at (statement_in call) (slice_get (lists_in call) 0)
+refusal_at (tasks.Cleaning c) call = refusal c call
+refusal_at t call = None
+
 -- The session stands at this place of the reading.
 pub record StandsAt (s : Seen) (p : Place) : Type 0 where
   pub mirrors : Mirrors s.context s.number s.unread s.owed s.closed s.facts s.login p
@@ -127,7 +160,7 @@ pub record StandsAt (s : Seen) (p : Place) : Type 0 where
   pub task_at : TaskStandsAt s.task s.context.spot (connects_in (exchanges p))
   pub statements_are : s.closed ≡ false → s.statements ≡ p.statements
   -- the parameters of an execution were looked at before anything is sent
-  pub checked : s.task ≡ tasks.Cleaning Execute → refusal Execute s.call ≡ None
+  pub checked : refusal_at s.task s.call ≡ None
   pub settled : owes s.task ≡ false → s.owed ≡ []
 
 -- Of its open call these parts are left there.
@@ -136,7 +169,7 @@ pub record OpenAt (s : Seen) (call : Call) (parts : List Part) (p : Place) : Typ
   pub alive : s.closed ≡ false
   pub sound : fault_in s.task ≡ None
   pub call_is : call_with (kind_in s.task) s.call ≡ Some call
-  pub parts_are : parts ≡ parts_left s.login s.task
+  pub parts_are : parts ≡ parts_left s.login s.call s.task
 
 -- the call returned what it comes to at this place
 pub record ReturnsAt (login : Login) (call : Call) (parts : List Part) (q : Place) (t : Told) (new : Seen) : Type 0 where

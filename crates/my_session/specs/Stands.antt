@@ -10,7 +10,7 @@ use Rattle.my_grammar.specs.Talk.{Talk, turns, number_of, server_bytes, client_b
 use Rattle.my_reading.specs.declared.call.Call.{Call}
 use Rattle.my_reading.specs.declared.call.Call.TheVariants as calls
 use Rattle.my_reading.specs.declared.call.CallKind.{CallKind}
-use Rattle.my_reading.specs.declared.call.CallKind.TheVariants.{Connect, Query, Prepare, Execute, CloseStmt, NextRow, DropResult, TakeSet, SkipTaken, Ping, Quit}
+use Rattle.my_reading.specs.declared.call.CallKind.TheVariants.{Connect, Query, Prepare, Execute, Batch, CloseStmt, NextRow, DropResult, TakeSet, SkipTaken, Ping, Quit}
 use Rattle.my_session.specs.declared.task.Task.{Task}
 use Rattle.my_session.specs.declared.task.Task.TheVariants as tasks
 use Rattle.my_reading.specs.declared.facts.Facts.{Facts}
@@ -62,6 +62,14 @@ is_reading spots.ColumnsEnd = true
 is_reading spots.Rows = true
 is_reading s = false
 
+-- the places to the rows of a response's first set
+abbrev pub is_heading : Spot → Bool
+is_heading spots.Head = true
+is_heading (spots.Columns left) = true
+is_heading spots.ColumnsEnd = true
+is_heading spots.Rows = true
+is_heading s = false
+
 -- the places that the handshake passes
 abbrev pub is_shaking : Spot → Bool
 is_shaking spots.Greeting = true
@@ -90,6 +98,7 @@ abbrev pub owes : Task → Bool
 owes (tasks.Own c) = true
 owes tasks.Giving = true
 owes (tasks.Arranging n) = true
+owes (tasks.Running n) = true
 owes (tasks.Failing c fault) = true
 owes _ = false
 
@@ -131,6 +140,7 @@ OwnAt Connect spot connected count newest = (connected ≡ false) × (is_shaking
 OwnAt Query spot connected count newest = (connected ≡ true) × (newest.given ≡ None) × (is_first (sets_of newest.talk) ≡ true)
 OwnAt Prepare spot connected count newest = (connected ≡ true) × (is_greeting spot ≡ false)
 OwnAt Execute spot connected count newest = (connected ≡ true) × (newest.given ≡ None) × (is_first (sets_of newest.talk) ≡ true)
+OwnAt Batch spot connected count newest = ⊥
 OwnAt CloseStmt spot connected count newest = (connected ≡ true) × (spot ≡ spots.Idle) × (is_lone (sets_of newest.talk) ≡ false)
 OwnAt NextRow spot connected count newest = ⊥
 OwnAt DropResult spot connected count newest = ⊥
@@ -152,6 +162,8 @@ TaskIs (tasks.Cleaning c) spot closed connected count newest = (asks c ≡ true)
 TaskIs (tasks.Own c) spot closed connected count newest = OwnAt c spot connected count newest
 TaskIs tasks.Giving spot closed connected count newest = (connected ≡ true) × (spot ≡ spots.Idle)
 TaskIs (tasks.Arranging n) spot closed connected count newest = (connected ≡ false) × (count ≡ suc n) × (is_greeting spot ≡ false) × (is_idle spot ≡ true → is_answered newest.talk ≡ true)
+TaskIs (tasks.Running n) spot closed connected count newest = (connected ≡ true) × (is_heading spot ≡ true)
+TaskIs (tasks.Finishing n) spot closed connected count newest = (connected ≡ true) × (is_greeting spot ≡ false)
 TaskIs tasks.Reading spot closed connected count newest = (connected ≡ true) × (is_reading spot ≡ true)
 TaskIs tasks.Dropping spot closed connected count newest = (connected ≡ true) × (is_reading spot ≡ true)
 TaskIs tasks.Taking spot closed connected count newest = (connected ≡ true) × (is_reading spot ≡ true)
@@ -164,11 +176,13 @@ abbrev pub begun_of : Spot → Call → List Entry → List Call
 begun_of spot call older = if is_greeting spot then calls_in older else call ∷ calls_in older
 
 -- The newest exchange is the open call's own, or an earlier call's. While it connects, all are its own that began since; and so are those of a
--- statement that was prepared.
+-- statement that was prepared, and those of a batch.
 abbrev pub TieIs : Task → Call → Spot → List Made → Call → List Entry → Type 0
 TieIs (tasks.Own c) opened spot made call older = (call ≡ call_of c opened) × IsTied made (calls_in older)
 TieIs tasks.Giving opened spot made call older = OwnsFirst (call_of Prepare opened) (call ∷ calls_in older) (IsTied made)
 TieIs (tasks.Arranging n) opened spot made call older = OwnsFirst calls.Connect (call ∷ calls_in older) (IsTied made)
+TieIs (tasks.Running n) opened spot made call older = OwnsFirst (call_of Batch opened) (call ∷ calls_in older) (IsTied made)
+TieIs (tasks.Finishing n) opened spot made call older = OwnsFirst (call_of Batch opened) (call ∷ calls_in older) (IsTied made)
 TieIs (tasks.Failing c fault) opened spot made call older = OwnsFirst (call_of c opened) (call ∷ calls_in older) (IsTied made) ⊎ IsTied made (begun_of spot call older)
 TieIs _ opened spot made call older = IsTied made (begun_of spot call older)
 

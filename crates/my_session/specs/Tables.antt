@@ -1,19 +1,19 @@
 -- What a task does next where no bytes are owed, and what it makes of a payload: one line for each case.
 -- MySQL internals, "Command Phase": a command's response is read whole before the next command is sent; "COM_QUERY Response": OK, ERR, or columns, rows and an end, once more where the status says that more results follow.
-use Rattle.std.specs.Prelude.{Bool, true, false, if◌then◌else◌}
+use Rattle.std.specs.Prelude.{ℕ, Bool, true, false, if◌then◌else◌}
 use Rattle.my_grammar.specs.declared.spot.Spot.{Spot}
 use Rattle.my_grammar.specs.declared.spot.Spot.TheVariants as spots
 use Rattle.my_grammar.specs.declared.spot.Kind.{Kind}
 use Rattle.my_grammar.specs.declared.spot.Kind.TheVariants as kinds
 use Rattle.my_reading.specs.declared.call.CallKind.{CallKind}
-use Rattle.my_reading.specs.declared.call.CallKind.TheVariants.{Connect, Query, Prepare, Execute, CloseStmt, NextRow, DropResult, TakeSet, SkipTaken, Ping, Quit}
+use Rattle.my_reading.specs.declared.call.CallKind.TheVariants.{Connect, Query, Prepare, Execute, Batch, CloseStmt, NextRow, DropResult, TakeSet, SkipTaken, Ping, Quit}
 pub use Rattle.my_reading.specs.Endings.{awaits_head}
 use Rattle.my_session.specs.declared.task.Task.{Task}
-use Rattle.my_session.specs.declared.task.Task.TheVariants.{Nothing, Begun, Cleaning, Own, Giving, Arranging, Reading, Dropping, Taking, Skipping, Leaving, Failing}
+use Rattle.my_session.specs.declared.task.Task.TheVariants.{Nothing, Begun, Cleaning, Own, Giving, Arranging, Running, Finishing, Reading, Dropping, Taking, Skipping, Leaving, Failing}
 use Rattle.my_session.specs.declared.tables.Plan.{Plan}
 use Rattle.my_session.specs.declared.tables.Plan.TheVariants as plans
-use Rattle.my_session.specs.declared.tables.Reaction.{Reaction}
-use Rattle.my_session.specs.declared.tables.Reaction.TheVariants as reactions
+use Rattle.my_session.specs.declared.reactions.Reaction.{Reaction}
+use Rattle.my_session.specs.declared.reactions.Reaction.TheVariants as reactions
 
 -- a call that sends a command cleans first
 abbrev pub first_task : CallKind → Task
@@ -21,6 +21,7 @@ first_task Connect = Own Connect
 first_task Query = Cleaning Query
 first_task Prepare = Cleaning Prepare
 first_task Execute = Cleaning Execute
+first_task Batch = Cleaning Batch
 first_task CloseStmt = Cleaning CloseStmt
 first_task NextRow = Reading
 first_task DropResult = Dropping
@@ -29,11 +30,12 @@ first_task SkipTaken = Skipping
 first_task Ping = Cleaning Ping
 first_task Quit = Cleaning Quit
 
--- what a call does first: a statement to prepare is looked for in the cache, parameters are looked at, and a statement to close isn't kept
--- any more
+-- what a call does first: a statement to prepare is looked for in the cache, parameters are looked at, those of a batch's first execution
+-- among them, and a statement to close isn't kept any more
 abbrev pub first_plan : CallKind → Plan
 first_plan Prepare = plans.Finds
 first_plan Execute = plans.Checks
+first_plan Batch = plans.Batches
 first_plan CloseStmt = plans.Forgets
 first_plan c = plans.Starts (first_task c)
 
@@ -41,6 +43,11 @@ first_plan c = plans.Starts (first_task c)
 abbrev pub clean_plan : Plan → Spot → Bool → Plan
 clean_plan p spots.Idle untold = if untold then plans.Hears else p
 clean_plan p s untold = plans.Reads
+
+-- what a call sends first of its own
+abbrev pub ask_plan : CallKind → Plan
+ask_plan Batch = plans.Runs 0
+ask_plan c = plans.Asks c
 
 abbrev pub read_plan : Spot → Plan
 read_plan spots.Idle = plans.NoMore
@@ -71,6 +78,11 @@ abbrev pub execute_plan : Spot → Plan
 execute_plan spots.Rows = plans.Learns
 execute_plan s = plans.Reads
 
+-- of an execution of a batch the columns are known once its rows begin, and the rest is read whole
+abbrev pub run_plan : ℕ → Spot → Plan
+run_plan n spots.Rows = plans.Notes n
+run_plan n s = plans.Reads
+
 -- the reply to a statement to prepare is read whole, and then the statement is kept
 abbrev pub prepare_plan : Spot → Plan
 prepare_plan spots.Idle = plans.Keeps
@@ -88,10 +100,12 @@ own_plan _ s = plans.Reads
 abbrev pub plan_of : Task → Spot → Bool → Plan
 plan_of Nothing s untold = plans.NoMore
 plan_of (Begun c) s untold = first_plan c
-plan_of (Cleaning c) s untold = clean_plan (plans.Asks c) s untold
+plan_of (Cleaning c) s untold = clean_plan (ask_plan c) s untold
 plan_of (Own c) s untold = own_plan c s
 plan_of Giving s untold = plans.Gives
 plan_of (Arranging n) s untold = clean_plan (plans.Arranges n) s untold
+plan_of (Running n) s untold = run_plan n s
+plan_of (Finishing n) s untold = clean_plan (plans.Runs n) s untold
 plan_of Reading s untold = if untold then plans.Ends else read_plan s
 plan_of Dropping s untold = if untold then plans.Passes else drop_plan s
 plan_of Taking s untold = if untold then plans.Takes else take_plan s
@@ -121,18 +135,26 @@ react_connect (kinds.Good status) = reactions.Goes (Arranging 0)
 react_connect kinds.Failed = reactions.Refuses
 react_connect k = reactions.Breaks
 
--- A query's answer, and that of a statement that is executed. No payload of a prepare reply comes where a query's head, a row, a set's rest or its next set is awaited. The reading of a tape goes on
--- at such a payload (`after_kind`), and so do these tables.
+-- A head that a task reads, and what becomes of a lone OK. No payload of a prepare reply comes where a head, a row or a set's rest is awaited. The reading of a
+-- tape goes on at such a payload (`after_kind`), and so do these tables.
+abbrev pub react_head : Reaction → Task → Kind → Reaction
+react_head good t (kinds.Good status) = good
+react_head good t kinds.Failed = reactions.Refuses
+react_head good t (kinds.Count n) = reactions.Goes t
+react_head good t kinds.Column = reactions.Goes t
+react_head good t kinds.ColumnsDone = reactions.Goes t
+react_head good t (kinds.Prepared params columns) = reactions.Goes t
+react_head good t kinds.Parameter = reactions.Goes t
+react_head good t kinds.Field = reactions.Goes t
+react_head good t k = reactions.Breaks
+
+-- a query's answer, and that of a statement that is executed
 abbrev pub react_query : CallKind → Kind → Reaction
-react_query c (kinds.Good status) = reactions.Readies true
-react_query c kinds.Failed = reactions.Refuses
-react_query c (kinds.Count n) = reactions.Goes (Own c)
-react_query c kinds.Column = reactions.Goes (Own c)
-react_query c kinds.ColumnsDone = reactions.Goes (Own c)
-react_query c (kinds.Prepared params columns) = reactions.Goes (Own c)
-react_query c kinds.Parameter = reactions.Goes (Own c)
-react_query c kinds.Field = reactions.Goes (Own c)
-react_query c k = reactions.Breaks
+react_query c k = react_head (reactions.Readies true) (Own c) k
+
+-- the head of the response to an execution of a batch
+abbrev pub react_running : ℕ → Kind → Reaction
+react_running n k = react_head (reactions.Goes (Finishing n)) (Running n) k
 
 abbrev pub react_ping : Kind → Reaction
 react_ping (kinds.Good status) = reactions.Readies false
@@ -177,15 +199,7 @@ react_dropping kinds.Bad = reactions.Breaks
 
 -- the head of the next set, which a stream takes
 abbrev pub react_taking : Kind → Reaction
-react_taking (kinds.Good status) = reactions.Takes
-react_taking kinds.Failed = reactions.Refuses
-react_taking (kinds.Count n) = reactions.Goes Taking
-react_taking kinds.Column = reactions.Goes Taking
-react_taking kinds.ColumnsDone = reactions.Goes Taking
-react_taking (kinds.Prepared params columns) = reactions.Goes Taking
-react_taking kinds.Parameter = reactions.Goes Taking
-react_taking kinds.Field = reactions.Goes Taking
-react_taking k = reactions.Breaks
+react_taking k = react_head reactions.Takes Taking k
 
 -- the rest of a set
 abbrev pub react_skipping : Kind → Reaction
@@ -198,6 +212,8 @@ abbrev pub react : Task → Kind → Reaction
 react (Cleaning c) k = react_whole (Cleaning c) k
 react (Own c) k = react_own c k
 react (Arranging n) k = react_whole (Arranging n) k
+react (Running n) k = react_running n k
+react (Finishing n) k = react_whole (Finishing n) k
 react Reading k = react_reading k
 react Dropping k = react_dropping k
 react Taking k = react_taking k
@@ -222,6 +238,8 @@ closes_when_cancelled (Cleaning c) s = true
 closes_when_cancelled (Own c) s = true
 closes_when_cancelled Giving s = true
 closes_when_cancelled (Arranging n) s = true
+closes_when_cancelled (Running n) s = true
+closes_when_cancelled (Finishing n) s = true
 closes_when_cancelled Reading s = awaits_head s
 closes_when_cancelled Dropping s = awaits_head s
 closes_when_cancelled Taking s = awaits_head s

@@ -4,6 +4,8 @@
 mod answer;
 mod law;
 mod login;
+mod reactions;
+mod routine;
 mod session;
 mod tables;
 mod task;
@@ -14,6 +16,11 @@ pub use law::{
     each_whole_call,
 };
 pub use login::login_for;
+pub use reactions::Reaction;
+pub use routine::{
+    ExecBulkRoutine, ExecRoutine, NextSetRoutine, PingRoutine, PrepareRoutine, QueryRoutine,
+    Routine,
+};
 pub use session::Session;
-pub use tables::{Plan, Reaction};
+pub use tables::Plan;
 pub use task::{LinkFault, Task};

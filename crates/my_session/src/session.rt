@@ -88,6 +88,7 @@ fn failing(task: Task, fault: LinkFault) -> Task
         }
         Task::Giving => Task::Failing(CallKind::Prepare, fault),
         Task::Arranging(_) => Task::Failing(CallKind::Connect, fault),
+        Task::Running(_) | Task::Finishing(_) => Task::Failing(CallKind::Batch, fault),
         Task::Reading => Task::Failing(CallKind::NextRow, fault),
         Task::Dropping => Task::Failing(CallKind::DropResult, fault),
         Task::Taking => Task::Failing(CallKind::TakeSet, fault),
@@ -161,6 +162,7 @@ impl Session {
         ensures lifetime { self.new.lifetime ≡ self.old.lifetime }
     {
         if is_refused(self.closed, &call) {
+            drop(call);
             return Err(Error::Driver(DriverError::ConnectionClosed));
         }
         self.task = if self.closed {

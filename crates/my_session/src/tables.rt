@@ -1,10 +1,10 @@
-//! What a task does next, and what it makes of a payload.
+//! What a task does next where no bytes are owed, and where it closes the session.
 
 ghost use Rattle.std.specs.Prelude.{◌≡◌, true, false};
-ghost use Rattle.my_session.specs.Tables.{plan_of, react, react_query, react_whole, first_plan, first_task, clean_plan, own_plan, is_breaking, is_connecting, closes_when_cancelled};
+ghost use Rattle.my_session.specs.Tables.{plan_of, first_plan, first_task, ask_plan, clean_plan, own_plan, run_plan, is_connecting, closes_when_cancelled};
 
 use crate::task::Task;
-use my_grammar::{Kind, Spot};
+use my_grammar::Spot;
 use my_reading::CallKind;
 
 /// What is done where no bytes are owed.
@@ -18,12 +18,17 @@ pub enum Plan {
     Finds,
     /// The parameters of an execution are looked at.
     Checks,
+    /// The parameters of a batch's first execution are looked at; where there is none, the call is answered.
+    Batches,
     /// A statement isn't kept any more.
     Forgets,
     /// The end of a lone OK that no read returned is dropped.
     Hears,
     /// The call's own command is owed.
     Asks(CallKind),
+    /// The next execution of a batch is owed, after this many others, unless its parameters are refused; where none is
+    /// left, the call is answered.
+    Runs(usize),
     /// The next query that sets the connection up is owed, after this many others; where none is left, the
     /// connection is made.
     Arranges(usize),
@@ -31,6 +36,9 @@ pub enum Plan {
     Readies,
     /// The call is answered: its rows follow, and their columns are known from now on.
     Learns,
+    /// The columns of the rows that follow are known from now on; this many executions of a batch were sent, and the rest is
+    /// read.
+    Notes(usize),
     /// The statement that was prepared is kept, and the one that has to go for it is closed.
     Keeps,
     /// The call is answered by the statement that was prepared.
@@ -49,29 +57,6 @@ pub enum Plan {
     NoMore,
 }
 
-/// What is made of a payload.
-#[derive(Clone, Copy, Debug, PartialEq, Eq)]
-pub enum Reaction {
-    /// The call goes on with this task.
-    Goes(Task),
-    /// The call is answered; whether the end of a lone OK is left for a read to return.
-    Readies(bool),
-    /// The call is answered: a stream took the lone OK, whose end is left for a read to return.
-    Takes,
-    /// The row is the call's answer.
-    Gives,
-    /// The set's end is the call's answer.
-    Ends,
-    /// The row is passed over.
-    PassesRow,
-    /// The set's end is passed over.
-    PassesEnd,
-    /// The server's error ends the call.
-    Refuses,
-    /// The payload fits no case.
-    Breaks,
-}
-
 fn first_task(call: CallKind) -> Task
     ensures { result ≡ first_task call }
 {
@@ -80,6 +65,7 @@ fn first_task(call: CallKind) -> Task
         CallKind::Query
         | CallKind::Prepare
         | CallKind::Execute
+        | CallKind::Batch
         | CallKind::CloseStmt
         | CallKind::Ping
         | CallKind::Quit => Task::Cleaning(call),
@@ -96,6 +82,7 @@ fn first_plan(call: CallKind) -> Plan
     match call {
         CallKind::Prepare => Plan::Finds,
         CallKind::Execute => Plan::Checks,
+        CallKind::Batch => Plan::Batches,
         CallKind::CloseStmt => Plan::Forgets,
         CallKind::Connect
         | CallKind::Query
@@ -155,11 +142,41 @@ fn own_plan(call: CallKind, spot: Spot) -> Plan
         CallKind::CloseStmt => Plan::Readies,
         CallKind::Quit => Plan::Quits,
         CallKind::Connect
+        | CallKind::Batch
         | CallKind::NextRow
         | CallKind::DropResult
         | CallKind::TakeSet
         | CallKind::SkipTaken
         | CallKind::Ping => Plan::Reads,
+    }
+}
+
+// What a call sends first of its own.
+fn ask_plan(call: CallKind) -> Plan
+    ensures { result ≡ ask_plan call }
+{
+    match call {
+        CallKind::Batch => Plan::Runs(0),
+        CallKind::Connect
+        | CallKind::Query
+        | CallKind::Prepare
+        | CallKind::Execute
+        | CallKind::CloseStmt
+        | CallKind::NextRow
+        | CallKind::DropResult
+        | CallKind::TakeSet
+        | CallKind::SkipTaken
+        | CallKind::Ping
+        | CallKind::Quit => Plan::Asks(call),
+    }
+}
+
+fn run_plan(sent: usize, spot: Spot) -> Plan
+    ensures { result ≡ run_plan sent spot }
+{
+    match spot {
+        Spot::Rows => Plan::Notes(sent),
+        _ => Plan::Reads,
     }
 }
 
@@ -218,183 +235,17 @@ pub fn plan_for(task: Task, spot: Spot, untold: bool) -> Plan
     match task {
         Task::Nothing | Task::Failing(_, _) => Plan::NoMore,
         Task::Begun(call) => first_plan(call),
-        Task::Cleaning(call) => clean_plan(Plan::Asks(call), spot, untold),
+        Task::Cleaning(call) => clean_plan(ask_plan(call), spot, untold),
         Task::Own(call) => own_plan(call, spot),
         Task::Giving => Plan::Gives,
         Task::Arranging(sent) => clean_plan(Plan::Arranges(sent), spot, untold),
+        Task::Running(sent) => run_plan(sent, spot),
+        Task::Finishing(sent) => clean_plan(Plan::Runs(sent), spot, untold),
         Task::Reading => read_plan(spot, untold),
         Task::Dropping => drop_plan(spot, untold),
         Task::Taking => take_plan(spot, untold),
         Task::Skipping => skip_plan(spot, untold),
         Task::Leaving => Plan::Quits,
-    }
-}
-
-// A response that is read whole, while nobody is given its rows.
-fn react_whole(task: Task, kind: Kind) -> Reaction
-    ensures { result ≡ react_whole task kind }
-{
-    match kind {
-        Kind::Good(_)
-        | Kind::Count(_)
-        | Kind::Column
-        | Kind::ColumnsDone
-        | Kind::Row
-        | Kind::End(_)
-        | Kind::Prepared { .. }
-        | Kind::Parameter
-        | Kind::Field => Reaction::Goes(task),
-        Kind::Failed => Reaction::Refuses,
-        Kind::Greets(_) | Kind::Bad => Reaction::Breaks,
-    }
-}
-
-fn react_connect(kind: Kind) -> Reaction
-    ensures { result ≡ react (Task.Own CallKind.Connect) kind }
-{
-    match kind {
-        Kind::Greets(_) => Reaction::Goes(Task::Own(CallKind::Connect)),
-        Kind::Good(_) => Reaction::Goes(Task::Arranging(0)),
-        Kind::Failed => Reaction::Refuses,
-        _ => Reaction::Breaks,
-    }
-}
-
-fn react_query(call: CallKind, kind: Kind) -> Reaction
-    ensures { result ≡ react_query call kind }
-{
-    match kind {
-        Kind::Good(_) => Reaction::Readies(true),
-        Kind::Count(_)
-        | Kind::Column
-        | Kind::ColumnsDone
-        | Kind::Prepared { .. }
-        | Kind::Parameter
-        | Kind::Field => Reaction::Goes(Task::Own(call)),
-        Kind::Failed => Reaction::Refuses,
-        Kind::Greets(_) | Kind::Row | Kind::End(_) | Kind::Bad => Reaction::Breaks,
-    }
-}
-
-fn react_ping(kind: Kind) -> Reaction
-    ensures { result ≡ react (Task.Own CallKind.Ping) kind }
-{
-    match kind {
-        Kind::Good(_) => Reaction::Readies(false),
-        Kind::Failed => Reaction::Refuses,
-        _ => Reaction::Breaks,
-    }
-}
-
-fn react_own(call: CallKind, kind: Kind) -> Reaction
-    ensures { result ≡ react (Task.Own call) kind }
-{
-    match call {
-        CallKind::Connect => react_connect(kind),
-        CallKind::Query | CallKind::Execute => react_query(call, kind),
-        CallKind::Prepare => react_whole(Task::Own(call), kind),
-        CallKind::Ping => react_ping(kind),
-        CallKind::CloseStmt
-        | CallKind::NextRow
-        | CallKind::DropResult
-        | CallKind::TakeSet
-        | CallKind::SkipTaken
-        | CallKind::Quit => Reaction::Breaks,
-    }
-}
-
-fn react_reading(kind: Kind) -> Reaction
-    ensures { result ≡ react Task.Reading kind }
-{
-    match kind {
-        Kind::Good(_) | Kind::End(_) => Reaction::Ends,
-        Kind::Count(_)
-        | Kind::Column
-        | Kind::ColumnsDone
-        | Kind::Prepared { .. }
-        | Kind::Parameter
-        | Kind::Field => Reaction::Goes(Task::Reading),
-        Kind::Row => Reaction::Gives,
-        Kind::Failed => Reaction::Refuses,
-        Kind::Greets(_) | Kind::Bad => Reaction::Breaks,
-    }
-}
-
-fn react_dropping(kind: Kind) -> Reaction
-    ensures { result ≡ react Task.Dropping kind }
-{
-    match kind {
-        Kind::Good(_) | Kind::End(_) => Reaction::PassesEnd,
-        Kind::Count(_)
-        | Kind::Column
-        | Kind::ColumnsDone
-        | Kind::Prepared { .. }
-        | Kind::Parameter
-        | Kind::Field => Reaction::Goes(Task::Dropping),
-        Kind::Row => Reaction::PassesRow,
-        Kind::Failed => Reaction::Refuses,
-        Kind::Greets(_) | Kind::Bad => Reaction::Breaks,
-    }
-}
-
-fn react_taking(kind: Kind) -> Reaction
-    ensures { result ≡ react Task.Taking kind }
-{
-    match kind {
-        Kind::Good(_) => Reaction::Takes,
-        Kind::Count(_)
-        | Kind::Column
-        | Kind::ColumnsDone
-        | Kind::Prepared { .. }
-        | Kind::Parameter
-        | Kind::Field => Reaction::Goes(Task::Taking),
-        Kind::Failed => Reaction::Refuses,
-        Kind::Greets(_) | Kind::Row | Kind::End(_) | Kind::Bad => Reaction::Breaks,
-    }
-}
-
-fn react_skipping(kind: Kind) -> Reaction
-    ensures { result ≡ react Task.Skipping kind }
-{
-    match kind {
-        Kind::Row => Reaction::PassesRow,
-        Kind::End(_) => Reaction::PassesEnd,
-        Kind::Failed => Reaction::Refuses,
-        _ => Reaction::Breaks,
-    }
-}
-
-/// What the task makes of a payload of this kind.
-pub fn react_to(task: Task, kind: Kind) -> Reaction
-    ensures { result ≡ react task kind }
-{
-    match task {
-        Task::Nothing | Task::Begun(_) | Task::Giving | Task::Leaving | Task::Failing(_, _) => {
-            Reaction::Breaks
-        }
-        Task::Cleaning(_) | Task::Arranging(_) => react_whole(task, kind),
-        Task::Own(call) => react_own(call, kind),
-        Task::Reading => react_reading(kind),
-        Task::Dropping => react_dropping(kind),
-        Task::Taking => react_taking(kind),
-        Task::Skipping => react_skipping(kind),
-    }
-}
-
-/// Whether the payload fits no case.
-pub fn is_breaking(reaction: Reaction) -> bool
-    ensures { result ≡ is_breaking reaction }
-{
-    match reaction {
-        Reaction::Breaks => true,
-        Reaction::Goes(_)
-        | Reaction::Readies(_)
-        | Reaction::Takes
-        | Reaction::Gives
-        | Reaction::Ends
-        | Reaction::PassesRow
-        | Reaction::PassesEnd
-        | Reaction::Refuses => false,
     }
 }
 
@@ -427,6 +278,8 @@ pub fn closes_when_cancelled(task: Task, spot: Spot) -> bool
         | Task::Own(_)
         | Task::Giving
         | Task::Arranging(_)
+        | Task::Running(_)
+        | Task::Finishing(_)
         | Task::Failing(_, _) => true,
         Task::Reading | Task::Dropping | Task::Taking | Task::Skipping => awaits_head(spot),
     }

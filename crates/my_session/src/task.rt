@@ -27,6 +27,10 @@ pub enum Task {
     Giving,
     /// The connection is set up: this many queries of the client's own were sent. Their answers are read whole.
     Arranging(usize),
+    /// This many executions of a batch were sent. The last response is read to its rows or a lone OK.
+    Running(usize),
+    /// This many executions of a batch were sent. The rest of the last response is read whole.
+    Finishing(usize),
     /// The next row is awaited.
     Reading,
     /// What is left is passed over.

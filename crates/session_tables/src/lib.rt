@@ -3,6 +3,8 @@
 #![tactic(auto)]
 
 #[cfg(test)]
+mod batches;
+#[cfg(test)]
 mod connects;
 #[cfg(test)]
 mod examples;
@@ -16,6 +18,8 @@ mod library;
 mod play;
 #[cfg(test)]
 mod prepares;
+#[cfg(test)]
+mod routines;
 #[cfg(test)]
 mod statements;
 #[cfg(test)]

@@ -221,17 +221,17 @@ fn end_link(session: &mut Session, then: Then) -> bool
     }
 }
 
-// Steps the open call until it is answered or waits in vain.
+// Steps the open call until it is answered or waits in vain. Where bytes are awaited, the next part is received.
 fn go_on(
     alloc: Global,
     session: &mut Session,
-    bytes: &[u8],
+    parts: &[&[u8]],
     then: Then,
     text: &mut String,
 ) -> Result<Option<Statement>, NoMemory>
     requires { is_open session.old.seen.task ≡ true }
 {
-    let mut given = false;
+    let mut given: usize = 0;
     'steps: for _ in 0..100 {
         match session.step(alloc, 0) {
             SessionStep::Send => {
@@ -239,15 +239,18 @@ fn go_on(
                 let count = session.owed().len();
                 session.sent(count);
             }
-            SessionStep::Need => {
-                if !given {
+            SessionStep::Need => match parts.get(given) {
+                Some(bytes) => {
                     session.take(bytes)?;
-                    given = true;
-                } else if !end_link(session, then) {
-                    text.push_str("waits")?;
-                    return Ok(None);
+                    given = given.saturating_add(1);
                 }
-            }
+                None => {
+                    if !end_link(session, then) {
+                        text.push_str("waits")?;
+                        return Ok(None);
+                    }
+                }
+            },
             SessionStep::Done(answer) => return show_end(text, Ok(answer)),
             SessionStep::Fault(error) => return show_end(text, Err(error)),
         }
@@ -255,8 +258,26 @@ fn go_on(
     Ok(None)
 }
 
-/// Begins a call and steps it, and adds what was sent, and the answer. These bytes are received meanwhile. A statement that it
-/// is answered is returned.
+/// Begins a call and steps it, and adds what was sent, and the answer. These parts are received meanwhile, each where bytes are
+/// awaited. A statement that it is answered is returned.
+pub fn play_parts(
+    alloc: Global,
+    session: &mut Session,
+    call: Call,
+    parts: &[&[u8]],
+    then: Then,
+    text: &mut String,
+) -> Result<Option<Statement>, NoMemory> {
+    if session.is_open() || !session.may_begin(call.kind()) {
+        return Ok(None);
+    }
+    match session.begin(call) {
+        Ok(()) => go_on(alloc, session, parts, then, text),
+        Err(error) => show_end(text, Err(error)),
+    }
+}
+
+/// The same with bytes that are received at once.
 pub fn play(
     alloc: Global,
     session: &mut Session,
@@ -265,13 +286,7 @@ pub fn play(
     then: Then,
     text: &mut String,
 ) -> Result<Option<Statement>, NoMemory> {
-    if session.is_open() || !session.may_begin(call.kind()) {
-        return Ok(None);
-    }
-    match session.begin(call) {
-        Ok(()) => go_on(alloc, session, bytes, then, text),
-        Err(error) => show_end(text, Err(error)),
-    }
+    play_parts(alloc, session, call, &[bytes], then, text)
 }
 
 /// Begins a call and steps it, and adds what was sent, and the answer. These bytes are received meanwhile.

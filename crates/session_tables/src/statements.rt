@@ -24,7 +24,8 @@ fn without_blanks(alloc: Global, text: &str) -> Result<String, NoMemory> {
     Ok(shown)
 }
 
-fn options(alloc: Global, cached: u64, limit: u64) -> Result<Opts, NoMemory> {
+/// The options of a client that keeps this many statements, and of whose payloads none is longer than `limit`.
+pub fn options(alloc: Global, cached: u64, limit: u64) -> Result<Opts, NoMemory> {
     let user = String::from_str(alloc, "root")?;
     let builder = OptsBuilder::new(alloc)?
         .user(Some(user))
@@ -121,11 +122,12 @@ fn three_of_300_statements_are_kept(rt: HostRuntime) -> Result<(), Fail> {
     Ok(())
 }
 
-const ONE_PARAMETER: &str = "0c000001 00 01000000 0000 0100 00 0000 \
+/// The reply to a statement with one parameter.
+pub const ONE_PARAMETER: &str = "0c000001 00 01000000 0000 0100 00 0000 \
     17000002 0364656600000001 3f 000c3f0000000000fd8000000000";
 
-// A session that is connected prepares a statement.
-fn prepared(
+/// A session connects and prepares a statement.
+pub fn prepared(
     alloc: Global,
     session: &mut Session,
     reply: &str,
@@ -190,11 +192,13 @@ fn a_long_value_is_sent_ahead(rt: HostRuntime) -> Result<(), Fail> {
 const ONE_COLUMN: &str = "0c000001 00 01000000 0100 0000 00 0000 \
     17000002 0364656600000001 31 000c3f0001000000088100000000";
 
-const TWO_COLUMNS: &str = "01000001 02 17000002 0364656600000001 31 000c3f0001000000088100000000 \
+/// The head of a set of two columns.
+pub const TWO_COLUMNS: &str =
+    "01000001 02 17000002 0364656600000001 31 000c3f0001000000088100000000 \
     17000003 0364656600000001 32 000c3f0001000000088100000000";
 
-// How many columns are known of the statement's rows.
-fn columns_in(session: &Session, statement: &Statement) -> Option<usize> {
+/// How many columns are known of the statement's rows.
+pub fn columns_in(session: &Session, statement: &Statement) -> Option<usize> {
     match session.columns_of(statement) {
         None => None,
         Some(columns) => Some(columns.len()),

@@ -1,6 +1,7 @@
 -- What a task that reads awaits: each payload that it doesn't take fits no case there.
-use Rattle.std.proofs.Common.{◌≡◌, ℕ, Bool, true, false, refl, sym, ◌∙◌}
+use Rattle.std.proofs.Common.{◌≡◌, ℕ, true, false, refl, sym, ◌∙◌}
 use Rattle.my_flags.specs.declared.flags.CapabilityFlags.{CapabilityFlags}
+use Rattle.my_flags.specs.declared.flags.StatusFlags.{StatusFlags}
 use Rattle.my_grammar.specs.declared.spot.Kind.{Kind}
 use Rattle.my_grammar.specs.declared.spot.Kind.TheVariants as kinds
 use Rattle.my_grammar.specs.declared.spot.Spot.{Spot}
@@ -11,15 +12,15 @@ use Rattle.my_grammar.specs.Sets.{Sets, NoSets, Lone, Failed, Heading, Headed, B
 use Rattle.my_grammar.specs.Talk.{Talk, Start, Unwelcome, Greeted, Settled, Asked, Replied, Queried, Preparing, Silent, context_of}
 use Rattle.my_grammar.proofs.Growth.Known.{is_greeting_kind, is_single_kind, is_head_kind, is_column_kind, is_close_kind, is_row_kind}
 use Rattle.my_reading.specs.declared.call.CallKind.{CallKind}
-use Rattle.my_reading.specs.declared.call.CallKind.TheVariants.{Connect, Query, Prepare, Execute, CloseStmt, NextRow, DropResult, TakeSet, SkipTaken, Ping, Quit}
+use Rattle.my_reading.specs.declared.call.CallKind.TheVariants.{Connect, Query, Prepare, Execute, Batch, CloseStmt, NextRow, DropResult, TakeSet, SkipTaken, Ping, Quit}
 use Rattle.my_session.specs.declared.task.Task.{Task}
-use Rattle.my_session.specs.declared.task.Task.TheVariants.{Nothing, Begun, Cleaning, Own, Giving, Arranging, Reading, Dropping, Taking, Skipping, Leaving, Failing}
-use Rattle.my_session.specs.declared.tables.Reaction.{Reaction}
-use Rattle.my_session.specs.declared.tables.Reaction.TheVariants as reactions
+use Rattle.my_session.specs.declared.task.Task.TheVariants.{Nothing, Begun, Cleaning, Own, Giving, Arranging, Running, Finishing, Reading, Dropping, Taking, Skipping, Leaving, Failing}
+use Rattle.my_session.specs.declared.reactions.Reaction.{Reaction}
+use Rattle.my_session.specs.declared.reactions.Reaction.TheVariants as reactions
 use Rattle.my_session.specs.Entries.{sets_of}
 use Rattle.my_session.specs.Machine.{is_greeting}
-use Rattle.my_session.specs.Stands.{is_first, is_shaking}
-use Rattle.my_session.specs.Tables.{react, react_whole, react_connect, react_query, react_ping, react_own, is_breaking}
+use Rattle.my_session.specs.Stands.{is_first, is_heading, is_shaking}
+use Rattle.my_session.specs.Tables.{react, react_head, react_whole, react_connect, react_query, react_ping, react_own, is_breaking}
 use Rattle.my_session.proofs.Stands.Spots.{is_known}
 use Rattle.my_session.proofs.Stands.Firsts.{is_queried}
 
@@ -44,19 +45,19 @@ connect_fits kinds.Parameter = tt
 connect_fits kinds.Field = tt
 connect_fits kinds.Bad = tt
 
-query_fits : (c : CallKind) (k : Kind) → FitsKind (react_query c k) k
-query_fits c (kinds.Greets n) = tt
-query_fits c (kinds.Good status) = tt
-query_fits c kinds.Failed = refl
-query_fits c (kinds.Count n) = tt
-query_fits c kinds.Column = tt
-query_fits c kinds.ColumnsDone = tt
-query_fits c kinds.Row = tt
-query_fits c (kinds.End status) = tt
-query_fits c (kinds.Prepared params columns) = tt
-query_fits c kinds.Parameter = tt
-query_fits c kinds.Field = tt
-query_fits c kinds.Bad = tt
+head_fits : (good : Reaction) (t : Task) (k : Kind) → ((status : StatusFlags) → FitsKind good (kinds.Good status)) → FitsKind (react_head good t k) k
+head_fits good t (kinds.Greets n) g = tt
+head_fits good t (kinds.Good status) g = g status
+head_fits good t kinds.Failed g = refl
+head_fits good t (kinds.Count n) g = tt
+head_fits good t kinds.Column g = tt
+head_fits good t kinds.ColumnsDone g = tt
+head_fits good t kinds.Row g = tt
+head_fits good t (kinds.End status) g = tt
+head_fits good t (kinds.Prepared params columns) g = tt
+head_fits good t kinds.Parameter g = tt
+head_fits good t kinds.Field g = tt
+head_fits good t kinds.Bad g = tt
 
 ping_fits : (k : Kind) → FitsKind (react_ping k) k
 ping_fits (kinds.Greets n) = tt
@@ -88,9 +89,10 @@ whole_fits t kinds.Bad = tt
 
 own_fits : (c : CallKind) (k : Kind) → FitsKind (react_own c k) k
 own_fits Connect k = connect_fits k
-own_fits Query k = query_fits Query k
+own_fits Query k = head_fits (reactions.Readies true) (Own Query) k (λ _. tt)
 own_fits Prepare k = whole_fits (Own Prepare) k
-own_fits Execute k = query_fits Execute k
+own_fits Execute k = head_fits (reactions.Readies true) (Own Execute) k (λ _. tt)
+own_fits Batch k = tt
 own_fits CloseStmt k = tt
 own_fits NextRow k = tt
 own_fits DropResult k = tt
@@ -106,6 +108,8 @@ react_fits (Cleaning c) k = whole_fits (Cleaning c) k
 react_fits (Own c) k = own_fits c k
 react_fits Giving k = tt
 react_fits (Arranging n) k = whole_fits (Arranging n) k
+react_fits (Running n) k = head_fits (reactions.Goes (Finishing n)) (Running n) k (λ _. tt)
+react_fits (Finishing n) k = whole_fits (Finishing n) k
 react_fits Reading (kinds.Greets n) = tt
 react_fits Reading (kinds.Good status) = tt
 react_fits Reading kinds.Failed = refl
@@ -130,18 +134,7 @@ react_fits Dropping (kinds.Prepared params columns) = tt
 react_fits Dropping kinds.Parameter = tt
 react_fits Dropping kinds.Field = tt
 react_fits Dropping kinds.Bad = tt
-react_fits Taking (kinds.Greets n) = tt
-react_fits Taking (kinds.Good status) = tt
-react_fits Taking kinds.Failed = refl
-react_fits Taking (kinds.Count n) = tt
-react_fits Taking kinds.Column = tt
-react_fits Taking kinds.ColumnsDone = tt
-react_fits Taking kinds.Row = tt
-react_fits Taking (kinds.End status) = tt
-react_fits Taking (kinds.Prepared params columns) = tt
-react_fits Taking kinds.Parameter = tt
-react_fits Taking kinds.Field = tt
-react_fits Taking kinds.Bad = tt
+react_fits Taking k = head_fits reactions.Takes Taking k (λ _. tt)
 react_fits Skipping (kinds.Greets n) = tt
 react_fits Skipping (kinds.Good status) = tt
 react_fits Skipping kinds.Failed = refl
@@ -310,20 +303,20 @@ close_breaks c kinds.Parameter e b = cc
 close_breaks c kinds.Field e b = cc
 close_breaks c kinds.Bad e b = refl
 
--- a stream takes what a query does
-taking_breaks : (k : Kind) → is_breaking (react Taking k) ≡ is_breaking (react_query Query k)
-taking_breaks (kinds.Greets n) = refl
-taking_breaks (kinds.Good status) = refl
-taking_breaks kinds.Failed = refl
-taking_breaks (kinds.Count n) = refl
-taking_breaks kinds.Column = refl
-taking_breaks kinds.ColumnsDone = refl
-taking_breaks kinds.Row = refl
-taking_breaks (kinds.End status) = refl
-taking_breaks (kinds.Prepared params columns) = refl
-taking_breaks kinds.Parameter = refl
-taking_breaks kinds.Field = refl
-taking_breaks kinds.Bad = refl
+-- what reads a head breaks where a query does
+pub head_like : (good : Reaction) (t : Task) → is_breaking good ≡ false → (k : Kind) → is_breaking (react_head good t k) ≡ is_breaking (react_query Query k)
+head_like good t goes (kinds.Greets n) = refl
+head_like good t goes (kinds.Good status) = goes
+head_like good t goes kinds.Failed = refl
+head_like good t goes (kinds.Count n) = refl
+head_like good t goes kinds.Column = refl
+head_like good t goes kinds.ColumnsDone = refl
+head_like good t goes kinds.Row = refl
+head_like good t goes (kinds.End status) = refl
+head_like good t goes (kinds.Prepared params columns) = refl
+head_like good t goes kinds.Parameter = refl
+head_like good t goes kinds.Field = refl
+head_like good t goes kinds.Bad = refl
 
 -- rows, or their end, are passed over
 skipping_breaks : (k : Kind) → is_row_kind k ≡ true → is_breaking (react Skipping k) ≡ true → is_bad k ≡ true
@@ -345,6 +338,9 @@ cleaning_awaits c spot waits past = record { waits = waits; breaks = whole_break
 
 pub arranging_awaits : (n : ℕ) (spot : Spot) → is_idle spot ≡ false → is_greeting spot ≡ false → Awaits (Arranging n) spot
 arranging_awaits n spot waits past = record { waits = waits; breaks = whole_breaks (Arranging n) spot past }
+
+pub finishing_awaits : (n : ℕ) (spot : Spot) → is_idle spot ≡ false → is_greeting spot ≡ false → Awaits (Finishing n) spot
+finishing_awaits n spot waits past = record { waits = waits; breaks = whole_breaks (Finishing n) spot past }
 
 pub reading_awaits : (spot : Spot) → is_idle spot ≡ false → is_greeting spot ≡ false → Awaits Reading spot
 reading_awaits spot waits past = record { waits = waits; breaks = reading_breaks spot past }
@@ -372,13 +368,6 @@ connect_awaits (spots.Fields left) e = cc
 connect_awaits spots.FieldsEnd e = cc
 
 -- where the head of a query's first set is awaited, or is whole
-abbrev pub is_heading : Spot → Bool
-is_heading spots.Head = true
-is_heading (spots.Columns left) = true
-is_heading spots.ColumnsEnd = true
-is_heading spots.Rows = true
-is_heading s = false
-
 heading_sets : (x : Sets) → is_first x ≡ true → is_heading (spot_in x) ≡ true
 heading_sets (NoSets asking) e = refl
 heading_sets (Lone older p status) e = cc
@@ -419,19 +408,29 @@ execution_column_awaits left = record { waits = refl; breaks = column_breaks Exe
 pub execution_close_awaits : Awaits (Own Execute) spots.ColumnsEnd
 execution_close_awaits = record { waits = refl; breaks = close_breaks Execute }
 
+-- and of an execution of a batch
+pub running_head_awaits : (n : ℕ) → Awaits (Running n) spots.Head
+running_head_awaits n = record { waits = refl; breaks = λ k e b. head_breaks Query k e (sym (head_like (reactions.Goes (Finishing n)) (Running n) refl k) ∙ b) }
+
+pub running_column_awaits : (n left : ℕ) → Awaits (Running n) (spots.Columns left)
+running_column_awaits n left = record { waits = refl; breaks = λ k e b. column_breaks Query k e (sym (head_like (reactions.Goes (Finishing n)) (Running n) refl k) ∙ b) }
+
+pub running_close_awaits : (n : ℕ) → Awaits (Running n) spots.ColumnsEnd
+running_close_awaits n = record { waits = refl; breaks = λ k e b. close_breaks Query k e (sym (head_like (reactions.Goes (Finishing n)) (Running n) refl k) ∙ b) }
+
 -- the reply to a statement to prepare
 pub prepare_awaits : (spot : Spot) → is_idle spot ≡ false → is_greeting spot ≡ false → Awaits (Own Prepare) spot
 prepare_awaits spot waits past = record { waits = waits; breaks = whole_breaks (Own Prepare) spot past }
 
 -- the head of a further set is awaited, or a part of it
 pub further_awaits : Awaits Taking spots.Further
-further_awaits = record { waits = refl; breaks = λ k e b. head_breaks Query k e (sym (taking_breaks k) ∙ b) }
+further_awaits = record { waits = refl; breaks = λ k e b. head_breaks Query k e (sym (head_like reactions.Takes Taking refl k) ∙ b) }
 
 pub next_column_awaits : (left : ℕ) → Awaits Taking (spots.Columns left)
-next_column_awaits left = record { waits = refl; breaks = λ k e b. column_breaks Query k e (sym (taking_breaks k) ∙ b) }
+next_column_awaits left = record { waits = refl; breaks = λ k e b. column_breaks Query k e (sym (head_like reactions.Takes Taking refl k) ∙ b) }
 
 pub next_close_awaits : Awaits Taking spots.ColumnsEnd
-next_close_awaits = record { waits = refl; breaks = λ k e b. close_breaks Query k e (sym (taking_breaks k) ∙ b) }
+next_close_awaits = record { waits = refl; breaks = λ k e b. close_breaks Query k e (sym (head_like reactions.Takes Taking refl k) ∙ b) }
 
 pub skipping_awaits : Awaits Skipping spots.Rows
 skipping_awaits = record { waits = refl; breaks = skipping_breaks }

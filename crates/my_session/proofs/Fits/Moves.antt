@@ -2,7 +2,7 @@
 use Rattle.std.proofs.Common.{◌≡◌, ◌||◌, Bool, true, false, Option, Some, None, refl, ◌∙◌}
 use Rattle.my_reading.specs.declared.call.CallKind.{CallKind}
 use Rattle.my_session.specs.declared.task.Task.{Task}
-use Rattle.my_session.specs.declared.task.Task.TheVariants.{Nothing, Begun, Cleaning, Own, Giving, Arranging, Reading, Dropping, Taking, Skipping, Leaving, Failing}
+use Rattle.my_session.specs.declared.task.Task.TheVariants.{Nothing, Begun, Cleaning, Own, Giving, Arranging, Running, Finishing, Reading, Dropping, Taking, Skipping, Leaving, Failing}
 use Rattle.my_reading.specs.declared.error.Error.{Error}
 use Rattle.my_reading.specs.Calls.{asks, is_connect}
 use Rattle.my_session.specs.Tasks.{kind_in, fault_in}
@@ -20,6 +20,8 @@ is_proper (Cleaning c) = asks c
 is_proper (Own c) = asks c || is_connect c
 is_proper Giving = true
 is_proper (Arranging n) = true
+is_proper (Running n) = true
+is_proper (Finishing n) = true
 is_proper Reading = true
 is_proper Dropping = true
 is_proper Taking = true

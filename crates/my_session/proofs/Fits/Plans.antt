@@ -17,22 +17,24 @@ use Rattle.my_reading.specs.Executions.{Values, Fitting, Unfitting, values_for}
 use Rattle.my_reading.specs.Facts.{prepared_by}
 use Rattle.my_reading.specs.Statements.{held_in, is_mixed_text, known_in, leaving, names_of, query_of, statement_with}
 use Rattle.my_reading.specs.declared.call.CallKind.{CallKind}
-use Rattle.my_reading.specs.declared.call.CallKind.TheVariants.{Connect, Query, Prepare, Execute, CloseStmt, NextRow, DropResult, TakeSet, SkipTaken, Ping, Quit}
+use Rattle.my_reading.specs.declared.call.CallKind.TheVariants.{Connect, Query, Prepare, Execute, Batch, CloseStmt, NextRow, DropResult, TakeSet, SkipTaken, Ping, Quit}
 use Rattle.my_session.specs.declared.task.Task.{Task}
-use Rattle.my_session.specs.declared.task.Task.TheVariants.{Nothing, Begun, Cleaning, Own, Giving, Arranging, Reading, Dropping, Taking, Skipping, Leaving, Failing}
+use Rattle.my_session.specs.declared.task.Task.TheVariants.{Nothing, Begun, Cleaning, Own, Giving, Arranging, Running, Finishing, Reading, Dropping, Taking, Skipping, Leaving, Failing}
 use Rattle.my_session.specs.declared.tables.Plan.{Plan}
 use Rattle.my_session.specs.declared.tables.Plan.TheVariants as plans
-use Rattle.my_reading.specs.Calls.{asks, call_of, id_in, params_in, statement_in, text_in}
+use Rattle.my_reading.specs.Calls.{asks, call_of, id_in, params_in, statement_in, text_in, lists_in}
 use Rattle.my_session.specs.Tasks.{kind_in, fault_in}
 use Rattle.my_reading.specs.Commands.{closing, command_of, connecting, execution}
 use Rattle.my_session.specs.Fits.{may_be_told, is_begun}
 use Rattle.my_reading.specs.Told.{ToldReady, ToldEnd, ToldNone, ToldStatement}
-use Rattle.my_session.specs.Machine.{Goes, Sends, Move, next_terms, unless_exceeds, unless_refused, refusal, refused_by, looked, with_kept, kept, asked, arranged, queued, planned, with_task}
+use Rattle.my_session.specs.Machine.{Goes, Sends, Move, next_terms, unless_exceeds, unless_refused, refusal, refused_by, looked, with_kept, kept, asked, batched, ran, arranged, queued, planned, with_task}
 use Rattle.my_session.specs.Seen.{Seen}
-use Rattle.my_session.specs.Tables.{plan_of, clean_plan, own_plan, query_plan, execute_plan, prepare_plan, read_plan, drop_plan, take_plan, skip_plan, first_plan}
+use Rattle.my_session.specs.Tables.{plan_of, clean_plan, ask_plan, run_plan, own_plan, query_plan, execute_plan, prepare_plan, read_plan, drop_plan, take_plan, skip_plan, first_plan}
 use Rattle.my_session.proofs.Fits.Moves.{is_proper, GoesOn, going, IsOn, on_here, on_task, on_taken, on_statements, on_fell, MoveFits, any_error, failed_fits}
 use Rattle.my_session.proofs.Fits.Reacts.{reading_fits}
-use Rattle.my_session.proofs.Refusals.{refusal_own}
+use Rattle.my_session.proofs.Refusals.{refusal_own, values_own}
+use Rattle.my_params.specs.declared.params.Params.{Params}
+use Rattle.std.specs.List.{slice_get}
 
 begins_if : (s n : Seen) (c : Option CallKind) (u : Task) (talk : Talk) (long : Option ℕ) → IsOn s n → is_begun u ≡ false → fault_in u ≡ None → MoveFits c s (unless_exceeds n long (record { seen = queued n u talk; does = Sends }))
 begins_if s n c u talk (Some len) on stepped sound = record { fits = any_error c _; is_on = on_fell s n on; own = λ _. tt }
@@ -43,26 +45,40 @@ refusal_fits : (s : Seen) (kind : Option CallKind) (c : CallKind) (o : Option Dr
 refusal_fits s kind c None m is f = f refl
 refusal_fits s kind c (Some e) m is f = failed_fits s (errors.Driver e) kind (λ _. refusal_own c s.call e is)
 
-executed_fits : (s : Seen) (id : ℕ) (v : Values) → refused_by v ≡ None → MoveFits (Some Execute) s (asked s Execute (execution (next_terms s) s.statements id v))
-executed_fits s id (Fitting values) fit = begins_if s s (Some Execute) (Own Execute) (Queried (next_terms s) (body_of id values) (NoSets (ByStatement (ahead_of id values) (known_in s.statements id)))) _ (on_here s) refl refl
-executed_fits s id (Unfitting e) fit = cc
+values_fit : (s : Seen) (kind : Option CallKind) (params : Params) (o : Option DriverError) (m : Move) → refused_by (values_for (statement_in s.call) params) ≡ o → (o ≡ None → MoveFits kind s m) → MoveFits kind s (unless_refused s o m)
+values_fit s kind params None m is f = f refl
+values_fit s kind params (Some e) m is f = failed_fits s (errors.Driver e) kind (λ _. values_own (statement_in s.call) params e is)
 
-asked_fits : (s : Seen) (c : CallKind) → asks c ≡ true → refusal c s.call ≡ None → MoveFits (Some c) s (asked s c (command_of (next_terms s) s.statements (call_of c s.call)))
-asked_fits s Connect a r = cc
-asked_fits s Query a r = begins_if s s (Some Query) (Own Query) (Queried (next_terms s) (packet_bytes (packets.Query (text_in s.call))) (NoSets ByText)) _ (on_here s) refl refl
-asked_fits s Prepare a r = begins_if s s (Some Prepare) (Own Prepare) (Preparing (next_terms s) (packet_bytes (packets.Prepare (query_of (text_in s.call)))) Unanswered) _ (on_here s) refl refl
-asked_fits s Execute a r = executed_fits s (statement_in s.call).inner.id (values_for (statement_in s.call) (params_in s.call)) r
-asked_fits s CloseStmt a r = begins_if s s (Some CloseStmt) (Own CloseStmt) (closing (next_terms s) (id_in s.call)) _ (on_here s) refl refl
-asked_fits s NextRow a r = cc
-asked_fits s DropResult a r = cc
-asked_fits s TakeSet a r = cc
-asked_fits s SkipTaken a r = cc
-asked_fits s Ping a r = begins_if s s (Some Ping) (Own Ping) (Asked (next_terms s) (packet_bytes packets.Ping)) _ (on_here s) refl refl
-asked_fits s Quit a r = begins_if s s (Some Quit) (Own Quit) (Silent (next_terms s) (packet_bytes packets.Quit)) _ (on_here s) refl refl
+executed_fits : (s : Seen) (c : Option CallKind) (u : Task) (id : ℕ) (v : Values) → is_begun u ≡ false → fault_in u ≡ None → refused_by v ≡ None → MoveFits c s (asked s u (execution (next_terms s) s.statements id v))
+executed_fits s c u id (Fitting values) stepped sound fit = begins_if s s c u (Queried (next_terms s) (body_of id values) (NoSets (ByStatement (ahead_of id values) (known_in s.statements id)))) _ (on_here s) stepped sound
+executed_fits s c u id (Unfitting e) stepped sound fit = cc
+
+asked_fits : (s : Seen) (c : CallKind) → asks c ≡ true → ask_plan c ≡ plans.Asks c → refusal c s.call ≡ None → MoveFits (Some c) s (asked s (Own c) (command_of (next_terms s) s.statements (call_of c s.call)))
+asked_fits s Connect a o r = cc
+asked_fits s Query a o r = begins_if s s (Some Query) (Own Query) (Queried (next_terms s) (packet_bytes (packets.Query (text_in s.call))) (NoSets ByText)) _ (on_here s) refl refl
+asked_fits s Prepare a o r = begins_if s s (Some Prepare) (Own Prepare) (Preparing (next_terms s) (packet_bytes (packets.Prepare (query_of (text_in s.call)))) Unanswered) _ (on_here s) refl refl
+asked_fits s Execute a o r = executed_fits s (Some Execute) (Own Execute) (statement_in s.call).inner.id (values_for (statement_in s.call) (params_in s.call)) refl refl r
+asked_fits s Batch a o r = cc
+asked_fits s CloseStmt a o r = begins_if s s (Some CloseStmt) (Own CloseStmt) (closing (next_terms s) (id_in s.call)) _ (on_here s) refl refl
+asked_fits s NextRow a o r = cc
+asked_fits s DropResult a o r = cc
+asked_fits s TakeSet a o r = cc
+asked_fits s SkipTaken a o r = cc
+asked_fits s Ping a o r = begins_if s s (Some Ping) (Own Ping) (Asked (next_terms s) (packet_bytes packets.Ping)) _ (on_here s) refl refl
+asked_fits s Quit a o r = begins_if s s (Some Quit) (Own Quit) (Silent (next_terms s) (packet_bytes packets.Quit)) _ (on_here s) refl refl
 
 arranged_fits : (s : Seen) (c : Option CallKind) (n : ℕ) (o : Option Talk) → may_be_told c ToldReady ≡ true → MoveFits c s (arranged s n o)
 arranged_fits s c n None f = record { fits = f; is_on = on_task s s Nothing s.untold (on_here s); own = λ _. tt }
 arranged_fits s c n (Some talk) f = begins_if s s c (Arranging (suc n)) talk _ (on_here s) refl refl
+
+-- an execution of a batch
+ran_fits : (s : Seen) (n : ℕ) (o : Option Params) → MoveFits (Some Batch) s (ran s n o)
+ran_fits s n None = record { fits = refl; is_on = on_task s s Nothing s.untold (on_here s); own = λ _. tt }
+ran_fits s n (Some params) = values_fit s (Some Batch) params (refused_by (values_for (statement_in s.call) params)) _ refl (λ fit. executed_fits s (Some Batch) (Running n) (statement_in s.call).inner.id (values_for (statement_in s.call) params) refl refl fit)
+
+batched_fits : (s : Seen) (o : Option Params) → MoveFits (Some Batch) s (batched s o)
+batched_fits s None = record { fits = refl; is_on = on_task s s Nothing s.untold (on_here s); own = λ _. tt }
+batched_fits s (Some params) = values_fit s (Some Batch) params (refused_by (values_for (statement_in s.call) params)) _ refl (λ _. record { fits = going (Some Batch) (Cleaning Batch) refl refl refl refl; is_on = on_task s s (Cleaning Batch) s.untold (on_here s); own = λ _. tt })
 
 -- a statement that is looked for, or kept
 looked_fits : (s : Seen) (mixed : Bool) (o : Option Held) → MoveFits (Some Prepare) s (looked s mixed o)
@@ -79,7 +95,10 @@ abbrev PlanFits : Task → Option CallKind → Plan → Type 0
 PlanFits t c plans.Reads = is_begun t ≡ false
 PlanFits t c (plans.Starts u) = GoesOn c u
 PlanFits t c plans.Hears = is_begun t ≡ false
-PlanFits t c (plans.Asks d) = (asks d ≡ true) × (Some d ≡ c)
+PlanFits t c (plans.Asks d) = (asks d ≡ true) × (ask_plan d ≡ plans.Asks d) × (Some d ≡ c)
+PlanFits t c (plans.Runs n) = Some Batch ≡ c
+PlanFits t c plans.Batches = Some Batch ≡ c
+PlanFits t c (plans.Notes n) = Some Batch ≡ c
 PlanFits t c (plans.Arranges n) = may_be_told c ToldReady ≡ true
 PlanFits t c plans.Readies = may_be_told c ToldReady ≡ true
 PlanFits t c plans.Finds = Some Prepare ≡ c
@@ -102,7 +121,10 @@ planned_fits s plans.Hears a e f = record { fits = going (kind_in s.task) s.task
 planned_fits s plans.Finds a e f = subst (λ (k : Option CallKind). MoveFits k s (looked s (is_mixed_text (text_in s.call)) (held_in s.statements (query_of (text_in s.call))))) f (looked_fits s (is_mixed_text (text_in s.call)) (held_in s.statements (query_of (text_in s.call))))
 planned_fits s plans.Checks a e f = refusal_fits s (kind_in s.task) Execute (refusal Execute s.call) (record { seen = with_task s (Cleaning Execute) s.untold; does = Goes }) refl (λ _. record { fits = going (kind_in s.task) (Cleaning Execute) refl f refl refl; is_on = on_task s s (Cleaning Execute) s.untold (on_here s); own = λ _. tt })
 planned_fits s plans.Forgets a e f = record { fits = going (kind_in s.task) (Cleaning CloseStmt) refl f refl refl; is_on = on_statements s (with_task s (Cleaning CloseStmt) s.untold) _ (on_task s s (Cleaning CloseStmt) s.untold (on_here s)); own = λ _. tt }
-planned_fits s (plans.Asks c) a e f = refusal_fits s (kind_in s.task) c (refusal c s.call) (asked s c (command_of (next_terms s) s.statements (call_of c s.call))) refl (λ none. subst (λ (k : Option CallKind). MoveFits k s (asked s c (command_of (next_terms s) s.statements (call_of c s.call)))) f.1 (asked_fits s c f.0 none))
+planned_fits s (plans.Asks c) a e f = refusal_fits s (kind_in s.task) c (refusal c s.call) (asked s (Own c) (command_of (next_terms s) s.statements (call_of c s.call))) refl (λ none. subst (λ (k : Option CallKind). MoveFits k s (asked s (Own c) (command_of (next_terms s) s.statements (call_of c s.call)))) f.2 (asked_fits s c f.0 f.1 none))
+planned_fits s plans.Batches a e f = subst (λ (k : Option CallKind). MoveFits k s (batched s (slice_get (lists_in s.call) 0))) f (batched_fits s (slice_get (lists_in s.call) 0))
+planned_fits s (plans.Runs n) a e f = subst (λ (k : Option CallKind). MoveFits k s (ran s (suc n) (slice_get (lists_in s.call) n))) f (ran_fits s (suc n) (slice_get (lists_in s.call) n))
+planned_fits s (plans.Notes n) a e f = record { fits = going (kind_in s.task) (Finishing n) refl f refl refl; is_on = on_statements s (with_task s (Finishing n) s.untold) _ (on_task s s (Finishing n) s.untold (on_here s)); own = λ _. tt }
 planned_fits s (plans.Arranges n) a e f = arranged_fits s (kind_in s.task) n (connecting s.login (next_terms s) (suc n)) f
 planned_fits s plans.Readies a e f = record { fits = f; is_on = on_task s s Nothing s.untold (on_here s); own = λ _. tt }
 planned_fits s plans.Learns a e f = record { fits = f; is_on = on_statements s (with_task s Nothing s.untold) _ (on_task s s Nothing s.untold (on_here s)); own = λ _. tt }
@@ -120,6 +142,7 @@ first_plan_fits t Connect = going (Some Connect) (Own Connect) refl refl refl re
 first_plan_fits t Query = going (Some Query) (Cleaning Query) refl refl refl refl
 first_plan_fits t Prepare = refl
 first_plan_fits t Execute = refl
+first_plan_fits t Batch = refl
 first_plan_fits t CloseStmt = refl
 first_plan_fits t NextRow = going (Some NextRow) Reading refl refl refl refl
 first_plan_fits t DropResult = going (Some DropResult) Dropping refl refl refl refl
@@ -198,6 +221,7 @@ own_plan_fits Connect spot = refl
 own_plan_fits Query spot = query_plan_fits spot
 own_plan_fits Prepare spot = prepare_plan_fits spot
 own_plan_fits Execute spot = execute_plan_fits spot
+own_plan_fits Batch spot = refl
 own_plan_fits CloseStmt spot = refl
 own_plan_fits NextRow spot = refl
 own_plan_fits DropResult spot = refl
@@ -270,13 +294,45 @@ skip_plan_fits (spots.ParametersEnd columns) = refl
 skip_plan_fits (spots.Fields left) = refl
 skip_plan_fits spots.FieldsEnd = refl
 
+ask_plan_fits : (t : Task) (c : CallKind) → asks c ≡ true → PlanFits t (Some c) (ask_plan c)
+ask_plan_fits t Connect a = (a, refl, refl)
+ask_plan_fits t Query a = (a, refl, refl)
+ask_plan_fits t Prepare a = (a, refl, refl)
+ask_plan_fits t Execute a = (a, refl, refl)
+ask_plan_fits t Batch a = refl
+ask_plan_fits t CloseStmt a = (a, refl, refl)
+ask_plan_fits t NextRow a = (a, refl, refl)
+ask_plan_fits t DropResult a = (a, refl, refl)
+ask_plan_fits t TakeSet a = (a, refl, refl)
+ask_plan_fits t SkipTaken a = (a, refl, refl)
+ask_plan_fits t Ping a = (a, refl, refl)
+ask_plan_fits t Quit a = (a, refl, refl)
+
+run_plan_fits : (n : ℕ) (spot : Spot) → PlanFits (Running n) (Some Batch) (run_plan n spot)
+run_plan_fits n spots.Idle = refl
+run_plan_fits n spots.Greeting = refl
+run_plan_fits n spots.Authentication = refl
+run_plan_fits n spots.Single = refl
+run_plan_fits n spots.Head = refl
+run_plan_fits n spots.Further = refl
+run_plan_fits n (spots.Columns left) = refl
+run_plan_fits n spots.ColumnsEnd = refl
+run_plan_fits n spots.Rows = refl
+run_plan_fits n spots.Prepare = refl
+run_plan_fits n (spots.Parameters left columns) = refl
+run_plan_fits n (spots.ParametersEnd columns) = refl
+run_plan_fits n (spots.Fields left) = refl
+run_plan_fits n spots.FieldsEnd = refl
+
 pub plan_fits : (t : Task) (spot : Spot) (untold : Bool) → is_proper t ≡ true → fault_in t ≡ None → PlanFits t (kind_in t) (plan_of t spot untold)
 plan_fits Nothing spot untold a e = refl
 plan_fits (Begun c) spot untold a e = first_plan_fits (Begun c) c
-plan_fits (Cleaning c) spot untold a e = clean_plan_fits (Cleaning c) (Some c) (plans.Asks c) refl (a, refl) spot untold
+plan_fits (Cleaning c) spot untold a e = clean_plan_fits (Cleaning c) (Some c) (ask_plan c) refl (ask_plan_fits (Cleaning c) c a) spot untold
 plan_fits (Own c) spot untold a e = own_plan_fits c spot
 plan_fits Giving spot untold a e = refl
 plan_fits (Arranging n) spot untold a e = clean_plan_fits (Arranging n) (Some Connect) (plans.Arranges n) refl refl spot untold
+plan_fits (Running n) spot untold a e = run_plan_fits n spot
+plan_fits (Finishing n) spot untold a e = clean_plan_fits (Finishing n) (Some Batch) (plans.Runs n) refl refl spot untold
 plan_fits Reading spot true a e = refl
 plan_fits Reading spot false a e = read_plan_fits spot
 plan_fits Dropping spot true a e = refl

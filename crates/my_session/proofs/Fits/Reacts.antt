@@ -8,20 +8,19 @@ use Rattle.my_grammar.specs.declared.spot.Kind.{Kind}
 use Rattle.my_grammar.specs.declared.spot.Kind.TheVariants as kinds
 use Rattle.my_grammar.specs.Kinds.{kind_there}
 use Rattle.my_reading.specs.declared.call.CallKind.{CallKind}
-use Rattle.my_reading.specs.declared.call.CallKind.TheVariants.{Connect, Query, Prepare, Execute, CloseStmt, NextRow, DropResult, TakeSet, SkipTaken, Ping, Quit}
+use Rattle.my_reading.specs.declared.call.CallKind.TheVariants.{Connect, Query, Prepare, Execute, Batch, CloseStmt, NextRow, DropResult, TakeSet, SkipTaken, Ping, Quit}
 use Rattle.my_session.specs.declared.task.Task.{Task}
-use Rattle.my_session.specs.declared.task.Task.TheVariants.{Nothing, Begun, Cleaning, Own, Giving, Arranging, Reading, Dropping, Taking, Skipping, Leaving, Failing}
-use Rattle.my_session.specs.declared.tables.Reaction.{Reaction}
-use Rattle.my_session.specs.declared.tables.Reaction.TheVariants as reactions
+use Rattle.my_session.specs.declared.task.Task.TheVariants.{Nothing, Begun, Cleaning, Own, Giving, Arranging, Running, Finishing, Reading, Dropping, Taking, Skipping, Leaving, Failing}
+use Rattle.my_session.specs.declared.reactions.Reaction.{Reaction}
+use Rattle.my_session.specs.declared.reactions.Reaction.TheVariants as reactions
 use Rattle.my_session.specs.Tasks.{kind_in, fault_in}
 use Rattle.my_reading.specs.Errors.{invalid_data, unexpected_eof}
-use Rattle.my_reading.specs.Calls.{asks, is_connect}
-use Rattle.my_session.specs.Fits.{may_be, may_be_told, is_begun}
+use Rattle.my_session.specs.Fits.{may_be_told, is_begun}
 use Rattle.my_reading.specs.Told.{ToldReady, ToldRow, ToldEnd}
 use Rattle.my_session.specs.Machine.{Needs, Move, fell, advanced, with_task, failed_by, reply_to, above, unless_above, refused, gave, passed, reacted, read_by, is_doubled, reading}
 use Rattle.my_reading.specs.Rows.{row_at}
 use Rattle.my_session.specs.Seen.{Seen}
-use Rattle.my_session.specs.Tables.{react, react_query, react_whole, is_breaking, is_connecting}
+use Rattle.my_session.specs.Tables.{react, react_whole, is_breaking, is_connecting, react_head}
 use Rattle.my_session.proofs.Fits.Moves.{is_proper, GoesOn, going, IsOn, on_here, on_task, on_taken, on_fell, MoveFits, any_error, failed_fits}
 
 -- what a reaction may be to a payload
@@ -64,19 +63,19 @@ connect_react kinds.Parameter = tt
 connect_react kinds.Field = tt
 connect_react kinds.Bad = tt
 
-query_react : (c : CallKind) (k : Kind) → asks c ≡ true → may_be c ToldReady ≡ true → ReactionFits (Own c) (Some c) (react_query c k)
-query_react c (kinds.Greets n) proper ready = tt
-query_react c (kinds.Good status) proper ready = ready
-query_react c kinds.Failed proper ready = tt
-query_react c (kinds.Count n) proper ready = going (Some c) (Own c) (ap (λ b. b || is_connect c) proper) refl refl refl
-query_react c kinds.Column proper ready = going (Some c) (Own c) (ap (λ b. b || is_connect c) proper) refl refl refl
-query_react c kinds.ColumnsDone proper ready = going (Some c) (Own c) (ap (λ b. b || is_connect c) proper) refl refl refl
-query_react c kinds.Row proper ready = tt
-query_react c (kinds.End status) proper ready = tt
-query_react c (kinds.Prepared params columns) proper ready = going (Some c) (Own c) (ap (λ b. b || is_connect c) proper) refl refl refl
-query_react c kinds.Parameter proper ready = going (Some c) (Own c) (ap (λ b. b || is_connect c) proper) refl refl refl
-query_react c kinds.Field proper ready = going (Some c) (Own c) (ap (λ b. b || is_connect c) proper) refl refl refl
-query_react c kinds.Bad proper ready = tt
+head_react : (t : Task) (good : Reaction) (k : Kind) → GoesOn (kind_in t) t → ReactionFits t (kind_in t) good → ReactionFits t (kind_in t) (react_head good t k)
+head_react t good (kinds.Greets n) on ready = tt
+head_react t good (kinds.Good status) on ready = ready
+head_react t good kinds.Failed on ready = tt
+head_react t good (kinds.Count n) on ready = on
+head_react t good kinds.Column on ready = on
+head_react t good kinds.ColumnsDone on ready = on
+head_react t good kinds.Row on ready = tt
+head_react t good (kinds.End status) on ready = tt
+head_react t good (kinds.Prepared params columns) on ready = on
+head_react t good kinds.Parameter on ready = on
+head_react t good kinds.Field on ready = on
+head_react t good kinds.Bad on ready = tt
 
 ping_react : (k : Kind) → ReactionFits (Own Ping) (Some Ping) (react (Own Ping) k)
 ping_react (kinds.Greets n) = tt
@@ -120,20 +119,6 @@ dropping_react kinds.Parameter = going (Some DropResult) Dropping refl refl refl
 dropping_react kinds.Field = going (Some DropResult) Dropping refl refl refl refl
 dropping_react kinds.Bad = tt
 
-taking_react : (k : Kind) → ReactionFits Taking (Some TakeSet) (react Taking k)
-taking_react (kinds.Greets n) = tt
-taking_react (kinds.Good status) = refl
-taking_react kinds.Failed = tt
-taking_react (kinds.Count n) = going (Some TakeSet) Taking refl refl refl refl
-taking_react kinds.Column = going (Some TakeSet) Taking refl refl refl refl
-taking_react kinds.ColumnsDone = going (Some TakeSet) Taking refl refl refl refl
-taking_react kinds.Row = tt
-taking_react (kinds.End status) = tt
-taking_react (kinds.Prepared params columns) = going (Some TakeSet) Taking refl refl refl refl
-taking_react kinds.Parameter = going (Some TakeSet) Taking refl refl refl refl
-taking_react kinds.Field = going (Some TakeSet) Taking refl refl refl refl
-taking_react kinds.Bad = tt
-
 skipping_react : (k : Kind) → ReactionFits Skipping (Some SkipTaken) (react Skipping k)
 skipping_react (kinds.Greets n) = tt
 skipping_react (kinds.Good status) = tt
@@ -150,9 +135,10 @@ skipping_react kinds.Bad = tt
 
 own_react : (c : CallKind) (k : Kind) → ReactionFits (Own c) (Some c) (react (Own c) k)
 own_react Connect k = connect_react k
-own_react Query k = query_react Query k refl refl
+own_react Query k = head_react (Own Query) (reactions.Readies true) k (going (Some Query) (Own Query) refl refl refl refl) refl
 own_react Prepare k = whole_react (Own Prepare) k refl refl refl
-own_react Execute k = query_react Execute k refl refl
+own_react Execute k = head_react (Own Execute) (reactions.Readies true) k (going (Some Execute) (Own Execute) refl refl refl refl) refl
+own_react Batch k = tt
 own_react CloseStmt k = tt
 own_react NextRow k = tt
 own_react DropResult k = tt
@@ -168,9 +154,11 @@ react_fits (Cleaning c) k a = whole_react (Cleaning c) k a refl refl
 react_fits (Own c) k a = own_react c k
 react_fits Giving k a = tt
 react_fits (Arranging n) k a = whole_react (Arranging n) k a refl refl
+react_fits (Running n) k a = head_react (Running n) (reactions.Goes (Finishing n)) k (going (Some Batch) (Running n) refl refl refl refl) (going (Some Batch) (Finishing n) refl refl refl refl)
+react_fits (Finishing n) k a = whole_react (Finishing n) k a refl refl
 react_fits Reading k a = reading_react k
 react_fits Dropping k a = dropping_react k
-react_fits Taking k a = taking_react k
+react_fits Taking k a = head_react Taking reactions.Takes k (going (Some TakeSet) Taking refl refl refl refl) refl
 react_fits Skipping k a = skipping_react k
 react_fits Leaving k a = tt
 react_fits (Failing c fault) k a = tt

@@ -8,6 +8,7 @@ use Rattle.my_grammar.specs.declared.spot.Terms.{Terms}
 use Rattle.my_grammar.specs.Cut.{is_over, is_idle}
 use Rattle.my_grammar.specs.Prepares.{Unanswered}
 use Rattle.my_grammar.specs.Sets.{ByStatement, ByText, NoSets}
+use Rattle.my_params.specs.declared.params.Params.{Params}
 use Rattle.my_params.specs.LongData.{ahead_of}
 use Rattle.my_params.specs.Parameters.{body_of}
 use Rattle.my_reading.specs.declared.error.DriverError.{DriverError}
@@ -17,23 +18,25 @@ use Rattle.my_grammar.specs.Talk.{Talk, Asked, Preparing, Queried, Silent, comma
 use Rattle.my_reading.specs.declared.call.Call.{Call}
 use Rattle.my_reading.specs.declared.call.Call.TheVariants as calls
 use Rattle.my_reading.specs.declared.call.CallKind.{CallKind}
-use Rattle.my_reading.specs.declared.call.CallKind.TheVariants.{Connect, Query, Prepare, Execute, CloseStmt, NextRow, DropResult, TakeSet, SkipTaken, Ping, Quit}
-use Rattle.my_reading.specs.Calls.{kind_of, call_of, asks, id_in, params_in, statement_in, text_in}
+use Rattle.my_reading.specs.declared.call.CallKind.TheVariants.{Connect, Query, Prepare, Execute, Batch, CloseStmt, NextRow, DropResult, TakeSet, SkipTaken, Ping, Quit}
+use Rattle.my_reading.specs.Calls.{kind_of, call_of, asks, id_in, lists_in, params_in, statement_in, text_in}
 use Rattle.my_reading.specs.Commands.{arranging, arranging_texts, closing, command_of, connecting, execution, opening}
-use Rattle.my_reading.specs.Course.{Part, All, Head, Command, Reply, Keep, Give, Learn, Goes, step, return, first_above, unless_long, with_command, reads, parts_of_texts, is_greeting}
+use Rattle.my_reading.specs.Course.{Part, All, Head, Command, Check, Run, Reply, Keep, Give, Learn, Goes, step, return, first_above, unless_long, with_command, checked, reads, parts_of_lists, parts_of_texts, is_greeting}
 use Rattle.my_reading.specs.Leads.{Here, Then}
 use Rattle.my_reading.specs.Place.{Place, exchanges, connects_in, next_exchange, terms_of, with_exchange, without_end}
 use Rattle.my_reading.specs.Told.{ToldReady, closes}
 use Rattle.my_session.specs.declared.tables.Plan.TheVariants as plans
 use Rattle.my_session.specs.declared.task.Task.{Task}
 use Rattle.my_session.specs.declared.task.Task.TheVariants as tasks
-use Rattle.my_session.specs.Machine.{Sends, queued, begins, unless_exceeds, unless_refused, refusal, refused_by, asked, arranged, planned, next_terms}
-use Rattle.my_session.specs.Mirror.{Mirrors, MoveReads, TaskStandsAt, own_parts, parts_left}
+use Rattle.my_session.specs.Machine.{Sends, Tells, queued, begins, unless_exceeds, unless_refused, refused_by, asked, executed, ran, arranged, planned, with_task, next_terms}
+use Rattle.my_session.specs.Mirror.{Mirrors, MoveReads, TaskStandsAt, ask_parts, parts_left, parts_of_runs, refusal_at, refused_at}
 use Rattle.my_session.specs.Seen.{Seen}
 use Rattle.my_session.specs.Stands.{owes, call_with}
+use Rattle.my_session.specs.Tables.{ask_plan}
 use Rattle.my_session.specs.Tasks.{kind_in, fault_in}
 use Rattle.my_session.proofs.Mirror.Fields.{mirrors_asked, step_here, owes_here, terms_here}
 use Rattle.my_session.proofs.Mirror.Payloads.{fallen_at}
+use Rattle.my_session.proofs.Refusals.{values_close}
 use Rattle.my_session.proofs.Steps.Going.{some_bytes, some_execution}
 
 -- a list that isn't empty has a first element
@@ -41,18 +44,18 @@ some_first : (xs : List ℕ) → xs ≢ [] → (b : ℕ) × (bytes : List ℕ) �
 some_first [] e = absurd (e refl)
 some_first (b ∷ bytes) e = (b, bytes, refl)
 
--- the texts from the n-th on
-texts_end : (texts : List (List ℕ)) (n : ℕ) → slice_get texts n ≡ None → drop n texts ≡ []
-texts_end [] zero e = refl
-texts_end [] (suc n) e = refl
-texts_end (t ∷ texts) zero e = cc
-texts_end (t ∷ texts) (suc n) e = texts_end texts n e
+-- the items from the n-th on
+pub items_end : {A : Type 0} (texts : List A) (n : ℕ) → slice_get texts n ≡ None → drop n texts ≡ []
+items_end [] zero e = refl
+items_end [] (suc n) e = refl
+items_end (t ∷ texts) zero e = cc
+items_end (t ∷ texts) (suc n) e = items_end texts n e
 
-texts_go_on : (texts : List (List ℕ)) (n : ℕ) (text : List ℕ) → slice_get texts n ≡ Some text → drop n texts ≡ text ∷ drop (suc n) texts
-texts_go_on [] zero text e = cc
-texts_go_on [] (suc n) text e = cc
-texts_go_on (t ∷ texts) zero text e = let same : t ≡ text = cc in ap (λ x. x ∷ texts) same
-texts_go_on (t ∷ texts) (suc n) text e = texts_go_on texts n text e
+pub items_go_on : {A : Type 0} (texts : List A) (n : ℕ) (text : A) → slice_get texts n ≡ Some text → drop n texts ≡ text ∷ drop (suc n) texts
+items_go_on [] zero text e = cc
+items_go_on [] (suc n) text e = cc
+items_go_on (t ∷ texts) zero text e = let same : t ≡ text = cc in ap (λ x. x ∷ texts) same
+items_go_on (t ∷ texts) (suc n) text e = items_go_on texts n text e
 
 module _ (s : Seen) (call : Call) (p : Place) (m : Mirrors s.context s.number s.unread s.owed s.closed s.facts s.login p) (marked : p.taken ≡ s.taken) (known_are : s.statements ≡ p.statements)
     (alive : s.closed ≡ false) (nothing : s.owed ≡ []) (call_is : call_with (kind_in s.task) s.call ≡ Some call)
@@ -68,8 +71,8 @@ module _ (s : Seen) (call : Call) (p : Place) (m : Mirrors s.context s.number s.
   pub done : step s.login call [] p ≡ return p ToldReady
   done = step_here s.context s.number s.unread s.owed s.closed s.facts s.login p call [] alive m nothing
 
-  module _ (u : Task) (rest : List Part) (who : Call) (talk : Talk) (same : kind_in u ≡ kind_in s.task) (sound : fault_in u ≡ None) (owe : owes u ≡ true) (off : u ≡ tasks.Cleaning Execute → ⊥)
-      (left : rest ≡ parts_left s.login u) (fits : Fits talk) (packets : packets_of talk ≡ []) (log : login_in s.login talk ≡ s.login) (past : is_greeting (context_of talk).spot ≡ false)
+  module _ (u : Task) (rest : List Part) (who : Call) (talk : Talk) (same : kind_in u ≡ kind_in s.task) (sound : fault_in u ≡ None) (owe : owes u ≡ true) (checks : refusal_at u s.call ≡ None)
+      (left : rest ≡ parts_left s.login s.call u) (fits : Fits talk) (packets : packets_of talk ≡ []) (log : login_in s.login talk ≡ s.login) (past : is_greeting (context_of talk).spot ≡ false)
       (some : client_bytes (turns talk) ≢ []) (stands : TaskStandsAt u (context_of talk).spot (connects_in (exchanges (with_exchange p who talk)))) where
     -- an exchange begins where the reading begins it
     pub begins_here : (parts : List Part) (start : Place) (long : Option ℕ) → step s.login call parts start ≡ unless_long p s.facts.settings.limit long (Goes rest (with_exchange p who talk))
@@ -100,7 +103,7 @@ module _ (s : Seen) (call : Call) (p : Place) (m : Mirrors s.context s.number s.
                 task_at = stands;
                 settled = λ no. let stop : true ≡ false = sym owe ∙ no in cc;
                 statements_are = λ _. known_are;
-                checked = λ is. absurd (off is);
+                checked = checks;
               };
               alive = alive;
               sound = sound;
@@ -111,8 +114,8 @@ module _ (s : Seen) (call : Call) (p : Place) (m : Mirrors s.context s.number s.
         }
 
   -- the next command is sent
-  module _ (u : Task) (rest : List Part) (talk : Talk) (opens : next_exchange s.login call p ≡ Some talk) (same : kind_in u ≡ kind_in s.task) (sound : fault_in u ≡ None) (owe : owes u ≡ true) (off : u ≡ tasks.Cleaning Execute → ⊥)
-      (left : rest ≡ parts_left s.login u) (limit : limit_of talk ≡ s.facts.settings.limit)
+  module _ (u : Task) (rest : List Part) (talk : Talk) (opens : next_exchange s.login call p ≡ Some talk) (same : kind_in u ≡ kind_in s.task) (sound : fault_in u ≡ None) (owe : owes u ≡ true) (checks : refusal_at u s.call ≡ None)
+      (left : rest ≡ parts_left s.login s.call u) (limit : limit_of talk ≡ s.facts.settings.limit)
       (fits : Fits talk) (packets : packets_of talk ≡ []) (log : login_in s.login talk ≡ s.login) (past : is_greeting (context_of talk).spot ≡ false)
       (some : client_bytes (turns talk) ≢ []) (stands : TaskStandsAt u (context_of talk).spot (connects_in (exchanges (with_exchange p call talk)))) where
     commanded : step s.login call (Command ∷ rest) p ≡ unless_long p s.facts.settings.limit (first_above s.facts.settings.limit (commands_in talk)) (Goes rest (with_exchange p call talk))
@@ -123,7 +126,7 @@ module _ (s : Seen) (call : Call) (p : Place) (m : Mirrors s.context s.number s.
 
     begun : MoveReads s call (All ∷ Command ∷ rest) p (begins s u talk)
     begun =
-        let w = begins_here u rest call talk same sound owe off left fits packets log past some stands (Command ∷ rest) p (first_above s.facts.settings.limit (commands_in talk)) commanded in
+        let w = begins_here u rest call talk same sound owe checks left fits packets log past some stands (Command ∷ rest) p (first_above s.facts.settings.limit (commands_in talk)) commanded in
         record {
           rest = w.rest;
           place = w.place;
@@ -141,30 +144,118 @@ module _ (s : Seen) (call : Call) (p : Place) (m : Mirrors s.context s.number s.
       ∙ e
 
   executes : s.task ≡ tasks.Cleaning Execute → call ≡ call_of Execute s.call → (v : Values) → values_for (statement_in s.call) (params_in s.call) ≡ v → refused_by v ≡ None
-      → MoveReads s call (All ∷ Command ∷ Head ∷ Learn ∷ []) p (asked s Execute (execution (next_terms s) s.statements (statement_in s.call).inner.id v))
+      → MoveReads s call (All ∷ Command ∷ Head ∷ Learn ∷ []) p (asked s (tasks.Own Execute) (execution (next_terms s) s.statements (statement_in s.call).inner.id v))
   executes task is (Fitting values) e fit =
       let id = (statement_in s.call).inner.id in
       let talk : Talk = Queried (next_terms s) (body_of id values) (NoSets (ByStatement (ahead_of id values) (known_in s.statements id))) in
-      begun (tasks.Own Execute) (Head ∷ Learn ∷ []) talk (opens_own Execute talk is (λ _ _ _. refl) (ap (execution (next_terms s) s.statements id) e)) (ap kind_in (sym task)) refl refl (λ no. cc) refl refl (record { kinds = tt; within = tt }) refl refl refl
+      begun (tasks.Own Execute) (Head ∷ Learn ∷ []) talk (opens_own Execute talk is (λ _ _ _. refl) (ap (execution (next_terms s) s.statements id) e)) (ap kind_in (sym task)) refl refl refl refl refl (record { kinds = tt; within = tt }) refl refl refl
       (some_execution (next_terms s) (ahead_of id values) (known_in s.statements id) (body_of id values)) refl
   executes task is (Unfitting e) x fit = cc
 
-  pub asks_reads : (c : CallKind) → s.task ≡ tasks.Cleaning c → asks c ≡ true → call ≡ call_of c s.call → (c ≡ Execute → refusal Execute s.call ≡ None) → MoveReads s call (All ∷ Command ∷ own_parts s.login c) p (planned s (plans.Asks c))
+  -- a batch: its next execution is sent
+  module _ (n : ℕ) (params : Params) (listed : slice_get (lists_in s.call) n ≡ Some params) (batch : kind_in s.task ≡ Some Batch) (is : call ≡ call_of Batch s.call) where
+    abbrev running : List Part
+    running = Head ∷ Learn ∷ All ∷ parts_of_lists (drop (suc n) (lists_in s.call))
+
+    runs : (v : Values) → values_for (statement_in s.call) params ≡ v → refused_by v ≡ None
+        → MoveReads s call (Run params ∷ running) p (asked s (tasks.Running (suc n)) (execution (next_terms s) s.statements (statement_in s.call).inner.id v))
+    runs (Fitting values) e fit =
+        let id = (statement_in s.call).inner.id in
+        let talk : Talk = Queried (next_terms s) (body_of id values) (NoSets (ByStatement (ahead_of id values) (known_in s.statements id))) in
+        let sends : step s.login call (Run params ∷ running) p ≡ unless_long p s.facts.settings.limit (first_above s.facts.settings.limit (commands_in talk)) (Goes running (with_exchange p call talk)) =
+        step_here s.context s.number s.unread s.owed s.closed s.facts s.login p call (Run params ∷ running) alive m nothing
+        ∙ ap (λ x. with_command call running p (execution (terms_of s.login (exchanges p)) p.statements (id_in x) (values_for (statement_in x) params))) is
+        ∙ ap (λ t. with_command call running p (execution t p.statements id (values_for (statement_in s.call) params))) (terms_here s.context s.number s.unread s.owed s.closed s.facts s.login p m)
+        ∙ ap (λ known. with_command call running p (execution (next_terms s) known id (values_for (statement_in s.call) params))) (sym known_are)
+        ∙ ap (λ v. with_command call running p (execution (next_terms s) s.statements id v)) e in
+        begins_here (tasks.Running (suc n)) running call talk (sym batch) refl refl refl refl (record { kinds = tt; within = tt }) refl refl refl
+        (some_execution (next_terms s) (ahead_of id values) (known_in s.statements id) (body_of id values)) refl
+        (Run params ∷ running) p (first_above s.facts.settings.limit (commands_in talk)) sends
+    runs (Unfitting e) x fit = cc
+
+    -- after the rest of the older exchange
+    runs_after : refused_by (values_for (statement_in s.call) params) ≡ None → MoveReads s call (All ∷ Run params ∷ running) p (executed s (tasks.Running (suc n)) (values_for (statement_in s.call) params))
+    runs_after fit =
+        let v = values_for (statement_in s.call) params in
+        let w = runs v refl fit in
+        subst (λ (o : Option DriverError). MoveReads s call (All ∷ Run params ∷ running) p (unless_refused s o (asked s (tasks.Running (suc n)) (execution (next_terms s) s.statements (statement_in s.call).inner.id v)))) (sym fit)
+        (record {
+          rest = w.rest;
+          place = w.place;
+          leads = Then (All ∷ Run params ∷ running) p (Run params ∷ running) p w.rest w.place (passed (Run params ∷ running)) w.leads;
+          comes = w.comes;
+        })
+
+    abbrev checking : List Part
+    checking = Check params ∷ All ∷ Run params ∷ running
+
+    checks_it : (v : Values) → values_for (statement_in s.call) params ≡ v → step s.login call checking p ≡ checked (All ∷ Run params ∷ running) p v
+    checks_it v e =
+        step_here s.context s.number s.unread s.owed s.closed s.facts s.login p call checking alive m nothing
+        ∙ ap (λ (x : Call). checked (All ∷ Run params ∷ running) p (values_for (statement_in x) params)) is
+        ∙ ap (checked (All ∷ Run params ∷ running) p) e
+
+    -- and after the parameters were looked at
+    runs_checked : (v : Values) → values_for (statement_in s.call) params ≡ v → MoveReads s call (All ∷ checking) p (executed s (tasks.Running (suc n)) v)
+    runs_checked (Fitting values) e =
+        let w = runs_after (ap refused_by e) in
+        subst (λ v. MoveReads s call (All ∷ checking) p (executed s (tasks.Running (suc n)) v)) e (record {
+          rest = w.rest;
+          place = w.place;
+          leads = Then (All ∷ checking) p checking p w.rest w.place (passed checking) (Then checking p (All ∷ Run params ∷ running) p w.rest w.place (checks_it (Fitting values) e) w.leads);
+          comes = w.comes;
+        })
+    runs_checked (Unfitting x) e = record {
+      rest = checking;
+      place = p;
+      leads = Then (All ∷ checking) p checking p checking p (passed checking) (Here checking p);
+      comes = inl (record { place = p; stops = checks_it (Unfitting x) e; at = fallen_at s p s m marked; closed_is = sym (values_close (statement_in s.call) params x (ap refused_by e)) });
+    }
+
+  -- the call is done once the rest is read
+  ends_after : closes ToldReady (kind_of call) ≡ false → MoveReads s call (All ∷ []) p (record { seen = with_task s tasks.Nothing s.untold; does = Tells ToldReady })
+  ends_after stays_open = record {
+    rest = [];
+    place = p;
+    leads = Then (All ∷ []) p [] p [] p (passed []) (Here [] p);
+    comes = inl (record {
+      place = p;
+      stops = done;
+      at = record { mirrors = m; end_is = λ _ _. none_left ∙ sym (ap (λ b. b && true) told); taken_is = marked; own_end = λ no. cc; task_at = tt; settled = λ _. nothing; statements_are = λ _. known_are; checked = refl };
+      closed_is = alive ∙ sym stays_open;
+    });
+  }
+
+  -- the first execution of a batch
+  first_runs : kind_in s.task ≡ Some Batch → call ≡ call_of Batch s.call → (o : Option Params) → slice_get (lists_in s.call) 0 ≡ o → refused_at (statement_in s.call) o ≡ None → MoveReads s call (All ∷ parts_of_runs (lists_in s.call)) p (ran s 1 o)
+  first_runs batch is None e fit = subst (λ xs. MoveReads s call (All ∷ parts_of_runs xs) p (ran s 1 None)) (sym (items_end (lists_in s.call) 0 e)) (ends_after (ap (λ c. closes ToldReady (kind_of c)) is))
+  first_runs batch is (Some params) e fit =
+      subst (λ xs. MoveReads s call (All ∷ parts_of_runs xs) p (ran s 1 (Some params))) (sym (items_go_on (lists_in s.call) 0 params e)) (runs_after 0 params e batch is fit)
+
+  -- the next one, whose parameters are looked at first, or none
+  pub runs_on : (n : ℕ) → kind_in s.task ≡ Some Batch → call ≡ call_of Batch s.call → (o : Option Params) → slice_get (lists_in s.call) n ≡ o → MoveReads s call (All ∷ parts_of_lists (drop n (lists_in s.call))) p (ran s (suc n) o)
+  runs_on n batch is None e = subst (λ xs. MoveReads s call (All ∷ parts_of_lists xs) p (ran s (suc n) None)) (sym (items_end (lists_in s.call) n e)) (ends_after (ap (λ c. closes ToldReady (kind_of c)) is))
+  runs_on n batch is (Some params) e =
+      subst (λ xs. MoveReads s call (All ∷ parts_of_lists xs) p (ran s (suc n) (Some params))) (sym (items_go_on (lists_in s.call) n params e))
+      (runs_checked n params e batch is (values_for (statement_in s.call) params) refl)
+
+  pub asks_reads : (c : CallKind) → s.task ≡ tasks.Cleaning c → asks c ≡ true → call ≡ call_of c s.call → refusal_at (tasks.Cleaning c) s.call ≡ None → MoveReads s call (All ∷ ask_parts s.login c s.call) p (planned s (ask_plan c))
   asks_reads Connect task sends is fit = cc
   asks_reads Query task sends is fit =
       let talk : Talk = Queried (next_terms s) (packet_bytes (packets.Query (text_in s.call))) (NoSets ByText) in
-      begun (tasks.Own Query) (Head ∷ []) talk (opens_own Query talk is (λ _ _ _. refl) refl) (ap kind_in (sym task)) refl refl (λ no. cc) refl refl (record { kinds = tt; within = tt }) refl refl refl
+      begun (tasks.Own Query) (Head ∷ []) talk (opens_own Query talk is (λ _ _ _. refl) refl) (ap kind_in (sym task)) refl refl refl refl refl (record { kinds = tt; within = tt }) refl refl refl
       (some_bytes (packet_bytes (packets.Query (text_in s.call))) 0) refl
   asks_reads Prepare task sends is fit =
       let talk : Talk = Preparing (next_terms s) (packet_bytes (packets.Prepare (query_of (text_in s.call)))) Unanswered in
-      begun (tasks.Own Prepare) (Reply ∷ Keep ∷ Give ∷ []) talk (opens_own Prepare talk is (λ _ _ _. refl) refl) (ap kind_in (sym task)) refl refl (λ no. cc) refl refl (record { kinds = tt; within = tt }) refl refl refl
+      begun (tasks.Own Prepare) (Reply ∷ Keep ∷ Give ∷ []) talk (opens_own Prepare talk is (λ _ _ _. refl) refl) (ap kind_in (sym task)) refl refl refl refl refl (record { kinds = tt; within = tt }) refl refl refl
       (some_bytes (packet_bytes (packets.Prepare (query_of (text_in s.call)))) 0) refl
   asks_reads Execute task sends is fit =
-      subst (λ (o : Option DriverError). MoveReads s call (All ∷ Command ∷ Head ∷ Learn ∷ []) p (unless_refused s o (asked s Execute (command_of (next_terms s) s.statements (call_of Execute s.call))))) (sym (fit refl))
-      (executes task is (values_for (statement_in s.call) (params_in s.call)) refl (fit refl))
+      subst (λ (o : Option DriverError). MoveReads s call (All ∷ Command ∷ Head ∷ Learn ∷ []) p (unless_refused s o (asked s (tasks.Own Execute) (command_of (next_terms s) s.statements (call_of Execute s.call))))) (sym fit)
+      (executes task is (values_for (statement_in s.call) (params_in s.call)) refl fit)
+  asks_reads Batch task sends is fit = first_runs (ap kind_in task) is (slice_get (lists_in s.call) 0) refl fit
   asks_reads CloseStmt task sends is fit =
       let talk : Talk = closing (next_terms s) (id_in s.call) in
-      begun (tasks.Own CloseStmt) [] talk (opens_own CloseStmt talk is (λ _ _ _. refl) refl) (ap kind_in (sym task)) refl refl (λ no. cc) refl refl (record { kinds = tt; within = tt }) refl refl refl
+      begun (tasks.Own CloseStmt) [] talk (opens_own CloseStmt talk is (λ _ _ _. refl) refl) (ap kind_in (sym task)) refl refl refl refl refl (record { kinds = tt; within = tt }) refl refl refl
       (some_bytes (packet_bytes (packets.CloseStatement (id_in s.call))) 0) refl
   asks_reads NextRow task sends is fit = cc
   asks_reads DropResult task sends is fit = cc
@@ -172,27 +263,17 @@ module _ (s : Seen) (call : Call) (p : Place) (m : Mirrors s.context s.number s.
   asks_reads SkipTaken task sends is fit = cc
   asks_reads Ping task sends is fit =
       let talk : Talk = Asked (next_terms s) (packet_bytes packets.Ping) in
-      begun (tasks.Own Ping) (All ∷ []) talk (opens_own Ping talk is (λ _ _ _. refl) refl) (ap kind_in (sym task)) refl refl (λ no. cc) refl refl (record { kinds = tt; within = tt }) refl refl refl
+      begun (tasks.Own Ping) (All ∷ []) talk (opens_own Ping talk is (λ _ _ _. refl) refl) (ap kind_in (sym task)) refl refl refl refl refl (record { kinds = tt; within = tt }) refl refl refl
       (some_bytes (packet_bytes packets.Ping) 0) refl
   asks_reads Quit task sends is fit =
       let talk : Talk = Silent (next_terms s) (packet_bytes packets.Quit) in
-      begun (tasks.Own Quit) [] talk (opens_own Quit talk is (λ _ _ _. refl) refl) (ap kind_in (sym task)) refl refl (λ no. cc) refl refl (record { kinds = tt; within = tt }) refl refl refl
+      begun (tasks.Own Quit) [] talk (opens_own Quit talk is (λ _ _ _. refl) refl) (ap kind_in (sym task)) refl refl refl refl refl (record { kinds = tt; within = tt }) refl refl refl
       (some_bytes (packet_bytes packets.Quit) 0) refl
 
   module _ (n : ℕ) (task : s.task ≡ tasks.Arranging n) (count : connects_in (exchanges p) ≡ suc n) (is : call ≡ calls.Connect) where
     arranges : (x : Option (List ℕ)) → slice_get (arranging_texts s.login) n ≡ x
         → MoveReads s call (All ∷ parts_of_texts (drop n (arranging_texts s.login))) p (arranged s n (arranging (next_terms s) x))
-    arranges None e = subst (λ xs. MoveReads s call (All ∷ parts_of_texts xs) p (arranged s n None)) (sym (texts_end (arranging_texts s.login) n e)) (record {
-      rest = [];
-      place = p;
-      leads = Then (All ∷ []) p [] p [] p (passed []) (Here [] p);
-      comes = inl (record {
-        place = p;
-        stops = done;
-        at = record { mirrors = m; end_is = λ _ _. none_left ∙ sym (ap (λ b. b && true) told); taken_is = marked; own_end = λ no. cc; task_at = tt; settled = λ _. nothing; statements_are = λ _. known_are; checked = λ no. cc };
-        closed_is = alive ∙ ap (λ c. closes ToldReady (kind_of c)) (sym is);
-      });
-    })
+    arranges None e = subst (λ xs. MoveReads s call (All ∷ parts_of_texts xs) p (arranged s n None)) (sym (items_end (arranging_texts s.login) n e)) (ends_after (ap (λ c. closes ToldReady (kind_of c)) is))
     arranges (Some text) e =
         let talk : Talk = Queried (next_terms s) (packet_bytes (packets.Query text)) (NoSets ByText) in
         let opens : next_exchange s.login call p ≡ Some talk =
@@ -200,8 +281,8 @@ module _ (s : Seen) (call : Call) (p : Place) (m : Mirrors s.context s.number s.
         ∙ ap (λ k. connecting s.login (terms_of s.login (exchanges p)) k) count
         ∙ ap (arranging (terms_of s.login (exchanges p))) e
         ∙ ap (λ t. arranging t (Some text)) (terms_here s.context s.number s.unread s.owed s.closed s.facts s.login p m) in
-        subst (λ xs. MoveReads s call (All ∷ parts_of_texts xs) p (arranged s n (Some talk))) (sym (texts_go_on (arranging_texts s.login) n text e))
-        (begun (tasks.Arranging (suc n)) (All ∷ parts_of_texts (drop (suc n) (arranging_texts s.login))) talk opens (ap kind_in (sym task)) refl refl (λ no. cc) refl refl (record { kinds = tt; within = tt }) refl refl refl
+        subst (λ xs. MoveReads s call (All ∷ parts_of_texts xs) p (arranged s n (Some talk))) (sym (items_go_on (arranging_texts s.login) n text e))
+        (begun (tasks.Arranging (suc n)) (All ∷ parts_of_texts (drop (suc n) (arranging_texts s.login))) talk opens (ap kind_in (sym task)) refl refl refl refl refl (record { kinds = tt; within = tt }) refl refl refl
         (some_bytes (packet_bytes (packets.Query text)) 0)
         (refl, ap (λ (c : Call). connects_in (exchanges (with_exchange p c talk))) is ∙ ap suc count))
 

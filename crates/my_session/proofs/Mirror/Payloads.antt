@@ -23,24 +23,26 @@ use Rattle.my_grammar.specs.Response.{response}
 use Rattle.my_grammar.specs.Talk.{context_of}
 use Rattle.my_reading.specs.declared.call.Call.{Call}
 use Rattle.my_reading.specs.declared.call.CallKind.{CallKind}
-use Rattle.my_reading.specs.declared.call.CallKind.TheVariants.{Connect, Query, Prepare, Execute, CloseStmt, NextRow, DropResult, TakeSet, SkipTaken, Ping, Quit}
+use Rattle.my_reading.specs.declared.call.CallKind.TheVariants.{Connect, Prepare, NextRow, TakeSet, SkipTaken, Ping}
 use Rattle.my_reading.specs.declared.error.Error.TheVariants as errors
 use Rattle.my_reading.specs.declared.facts.Facts.{Facts}
-use Rattle.my_reading.specs.Calls.{kind_of as call_kind, is_connect}
+use Rattle.my_reading.specs.Calls.{kind_of as call_kind, id_in, is_connect}
 use Rattle.my_reading.specs.Commands.{arranging_texts}
-use Rattle.my_reading.specs.Course.{Part, All, Head, Item, Set, Rest, Reply, Keep, Give, Step, Goes, step, step_of, unless_cached, failure, unfit, return, with_front, reads, after_payload, parts_of_texts, is_rows, is_greeting}
+use Rattle.my_reading.specs.Course.{Part, All, Head, Item, Set, Rest, Reply, Keep, Give, Learn, Step, Goes, step, step_of, unless_cached, failure, unfit, return, with_front, reads, after_payload, parts_of_texts, is_rows, is_greeting}
 use Rattle.my_reading.specs.Errors.{codec_error, invalid_data, server_error}
 use Rattle.my_reading.specs.Leads.{Leads, Here, Then}
-use Rattle.my_reading.specs.Place.{Place, exchanges, facts_at, facts_of, connects_in, with_end, with_taken, with_talk}
+use Rattle.my_reading.specs.Place.{Place, exchanges, facts_at, facts_of, connects_in, with_end, with_statements as place_with, with_taken, with_talk}
 use Rattle.my_reading.specs.Rows.{row_at, row_or}
+use Rattle.my_reading.specs.Statements.{with_columns}
 use Rattle.my_reading.specs.Told.{Told, ToldReady, ToldRow, ToldEnd, ToldError, closes}
+use Rattle.my_session.specs.declared.reactions.Reaction.{Reaction}
 use Rattle.my_session.specs.declared.task.Task.{Task}
 use Rattle.my_session.specs.declared.task.Task.TheVariants as tasks
-use Rattle.my_session.specs.Machine.{Goes as MachineGoes, Passes, Tells, Move, advanced, fell, failed_by, with_task, with_taken as with_mark, refused, gave, passed, reacted, above, unless_above, refusal, reply_to, reply_bytes}
-use Rattle.my_session.specs.Mirror.{Mirrors, StandsAt, OpenAt, MoveReads, TaskStandsAt, own_parts, parts_left}
+use Rattle.my_session.specs.Machine.{Goes as MachineGoes, Passes, Tells, Move, advanced, fell, failed_by, with_task, with_taken as with_mark, refused, gave, passed, reacted, above, unless_above, reply_to, reply_bytes}
+use Rattle.my_session.specs.Mirror.{Mirrors, StandsAt, OpenAt, MoveReads, TaskStandsAt, own_parts, parts_left, refusal_at}
 use Rattle.my_session.specs.Seen.{Seen}
 use Rattle.my_session.specs.Stands.{owes, call_with, is_shaking}
-use Rattle.my_session.specs.Tables.{react, react_query, react_whole, is_breaking, is_connecting}
+use Rattle.my_session.specs.Tables.{react, react_head, react_whole, is_breaking, is_connecting}
 use Rattle.my_session.specs.Tasks.{kind_in, fault_in}
 use Rattle.my_session.proofs.Faults.Payloads.{row_reads}
 use Rattle.my_reading.proofs.Described.{told_columns}
@@ -58,7 +60,7 @@ fallen_at s q n m marked = record {
   task_at = tt;
   settled = λ _. refl;
   statements_are = λ no. cc;
-  checked = λ no. cc;
+  checked = refl;
 }
 
 -- a greeting comes in its place alone
@@ -161,23 +163,6 @@ good_not_rows (spots.ParametersEnd columns) d status e = cc
 good_not_rows (spots.Fields left) d status e = cc
 good_not_rows spots.FieldsEnd d status e = cc
 
--- only connecting isn't connected yet
-own_connects : (c : CallKind) (t : Task) → t ≡ tasks.Own c → is_connecting t ≡ is_connect c
-own_connects c t e = ap is_connecting e ∙ by_call c
-  where
-    by_call : (d : CallKind) → is_connecting (tasks.Own d) ≡ is_connect d
-    by_call Connect = refl
-    by_call Query = refl
-    by_call Prepare = refl
-    by_call Execute = refl
-    by_call CloseStmt = refl
-    by_call NextRow = refl
-    by_call DropResult = refl
-    by_call TakeSet = refl
-    by_call SkipTaken = refl
-    by_call Ping = refl
-    by_call Quit = refl
-
 no_rows : (b : Bool) (x : Spot) → x ≡ spots.Rows → is_rows x ≡ b → b ≡ false → ⊥
 no_rows b x e f g = let h : is_rows x ≡ true = ap is_rows e in let i : true ≡ false = sym h ∙ f ∙ g in cc
 
@@ -220,9 +205,9 @@ module _ (s : Seen) (call : Call) (p : Place) (m : Mirrors s.context s.number s.
       (kind_here s.context s.number s.unread s.owed s.closed s.facts s.login p payload m ∙ e)
 
   -- the session goes on with this task
-  goes_to : (t : Task) (k : Kind) → (t ≡ tasks.Cleaning Execute → refusal Execute s.call ≡ None) → kind_there s.context s.facts.columns payload ≡ k → is_bad k ≡ false → kind_in t ≡ kind_in s.task → fault_in t ≡ None
+  goes_to : (t : Task) (k : Kind) → refusal_at t s.call ≡ None → kind_there s.context s.facts.columns payload ≡ k → is_bad k ≡ false → kind_in t ≡ kind_in s.task → fault_in t ≡ None
       → TaskStandsAt t (spot_by k) (connects_in (exchanges p)) → (owes t ≡ false → not_greets k ≡ true)
-      → OpenAt (with_task (following k) t false) call (parts_left s.login t) (new k)
+      → OpenAt (with_task (following k) t false) call (parts_left s.login s.call t) (new k)
   goes_to t k checks e good same sound stands quiet = record {
     at = record { mirrors = mirrors_new k e good; end_is = λ _ _. refl; taken_is = taken_new k e good; own_end = λ _. refl; task_at = stands; settled = λ no. none_owed k (quiet no); statements_are = λ _. known_are; checked = checks };
     alive = alive;
@@ -232,16 +217,16 @@ module _ (s : Seen) (call : Call) (p : Place) (m : Mirrors s.context s.number s.
   }
 
   -- the session goes on with its task
-  stays : (t : Task) (k : Kind) → (t ≡ tasks.Cleaning Execute → refusal Execute s.call ≡ None) → s.task ≡ t → kind_there s.context s.facts.columns payload ≡ k → is_bad k ≡ false → fault_in t ≡ None
+  stays : (t : Task) (k : Kind) → refusal_at t s.call ≡ None → s.task ≡ t → kind_there s.context s.facts.columns payload ≡ k → is_bad k ≡ false → fault_in t ≡ None
       → TaskStandsAt t (spot_by k) (connects_in (exchanges p)) → (owes t ≡ false → not_greets k ≡ true)
-      → OpenAt (following k) call (parts_left s.login t) (new k)
+      → OpenAt (following k) call (parts_left s.login s.call t) (new k)
   stays t k checks task e good sound stands quiet =
-      subst (λ (u : Task). OpenAt (with_task (following k) u false) call (parts_left s.login t) (new k)) (sym task)
+      subst (λ (u : Task). OpenAt (with_task (following k) u false) call (parts_left s.login s.call t) (new k)) (sym task)
       (goes_to t k checks e good (ap kind_in (sym task)) sound stands quiet)
 
   -- the call ends, and the session rests
   rests_at : (k : Kind) → kind_there s.context s.facts.columns payload ≡ k → is_bad k ≡ false → not_greets k ≡ true → StandsAt (with_task (following k) tasks.Nothing false) (new k)
-  rests_at k e good quiet = record { mirrors = mirrors_new k e good; end_is = λ _ _. refl; taken_is = taken_new k e good; own_end = λ _. refl; task_at = tt; settled = λ _. none_owed k quiet; statements_are = λ _. known_are; checked = λ no. cc }
+  rests_at k e good quiet = record { mirrors = mirrors_new k e good; end_is = λ _ _. refl; taken_is = taken_new k e good; own_end = λ _. refl; task_at = tt; settled = λ _. none_owed k quiet; statements_are = λ _. known_are; checked = refl }
 
   one : (parts more : List Part) (q : Place) → step s.login call parts p ≡ Goes more q → Leads s.login call parts p more q
   one parts more q e = Then parts p more q more q e (Here more q)
@@ -298,7 +283,7 @@ module _ (s : Seen) (call : Call) (p : Place) (m : Mirrors s.context s.number s.
     all_is : (k : Kind) → kind_there s.context s.facts.columns payload ≡ k → step s.login call (All ∷ parts) p ≡ after_payload s.login All parts p (new k) payload k
     all_is k e = reading ∙ reads_it All parts k e
 
-    all_goes : (t : Task) (k : Kind) → (t ≡ tasks.Cleaning Execute → refusal Execute s.call ≡ None) → All ∷ parts ≡ parts_left s.login t → kind_there s.context s.facts.columns payload ≡ k → is_bad k ≡ false → not_greets k ≡ true → kind_in t ≡ kind_in s.task → fault_in t ≡ None
+    all_goes : (t : Task) (k : Kind) → refusal_at t s.call ≡ None → All ∷ parts ≡ parts_left s.login s.call t → kind_there s.context s.facts.columns payload ≡ k → is_bad k ≡ false → not_greets k ≡ true → kind_in t ≡ kind_in s.task → fault_in t ≡ None
         → TaskStandsAt t (spot_by k) (connects_in (exchanges p)) → step s.login call (All ∷ parts) p ≡ Goes (All ∷ parts) (new k)
         → MoveReads s call (All ∷ parts) p (record { seen = with_task (following k) t false; does = MachineGoes })
     all_goes t k checks left e good quiet same sound stands stepped = record {
@@ -309,7 +294,7 @@ module _ (s : Seen) (call : Call) (p : Place) (m : Mirrors s.context s.number s.
     }
 
     -- a response that is read whole
-    whole_reads : (t : Task) → (t ≡ tasks.Cleaning Execute → refusal Execute s.call ≡ None) → All ∷ parts ≡ parts_left s.login t → kind_in t ≡ kind_in s.task → fault_in t ≡ None → is_greeting s.context.spot ≡ false
+    whole_reads : (t : Task) → refusal_at t s.call ≡ None → All ∷ parts ≡ parts_left s.login s.call t → kind_in t ≡ kind_in s.task → fault_in t ≡ None → is_greeting s.context.spot ≡ false
         → ((k : Kind) → TaskStandsAt t (spot_by k) (connects_in (exchanges p)))
         → (b : Bool) → is_connecting s.task ≡ b → is_connect (call_kind call) ≡ b
         → (k : Kind) → kind_there s.context s.facts.columns payload ≡ k
@@ -337,7 +322,7 @@ module _ (s : Seen) (call : Call) (p : Place) (m : Mirrors s.context s.number s.
       place = new k;
       leads = one (All ∷ parts) (All ∷ parts) (new k) stepped;
       comes = subst (λ xs. OpenAt (following k) call (All ∷ xs) (new k)) (sym none)
-          (stays tasks.Dropping k (λ no. cc) task e good refl (not_greeting s.context.spot (deprecates_eof s.context.terms.kept) k) (λ _. quiet));
+          (stays tasks.Dropping k refl task e good refl (not_greeting s.context.spot (deprecates_eof s.context.terms.kept) k) (λ _. quiet));
     }
 
   -- a payload that is a row reads as one
@@ -358,7 +343,7 @@ module _ (s : Seen) (call : Call) (p : Place) (m : Mirrors s.context s.number s.
 
     drop_goes : (k : Kind) → kind_there s.context s.facts.columns payload ≡ k → is_bad k ≡ false → not_greets k ≡ true → step s.login call (All ∷ []) p ≡ Goes (All ∷ []) (new k)
         → MoveReads s call (All ∷ []) p (record { seen = with_task (following k) tasks.Dropping false; does = MachineGoes })
-    drop_goes k e good quiet stepped = all_goes [] reading tasks.Dropping k (λ no. cc) refl e good quiet (ap kind_in (sym task)) refl (not_greeting s.context.spot (deprecates_eof s.context.terms.kept) k) stepped
+    drop_goes k e good quiet stepped = all_goes [] reading tasks.Dropping k refl refl e good quiet (ap kind_in (sym task)) refl (not_greeting s.context.spot (deprecates_eof s.context.terms.kept) k) stepped
 
     pub dropping_reads : (k : Kind) → kind_there s.context s.facts.columns payload ≡ k → MoveReads s call (All ∷ []) p (move_at tasks.Dropping k)
     dropping_reads (kinds.Greets n) e = absurd (no_greeting [] n past e)
@@ -395,7 +380,7 @@ module _ (s : Seen) (call : Call) (p : Place) (m : Mirrors s.context s.number s.
           rest = own_parts s.login Connect;
           place = new (kinds.Greets n);
           leads = one (own_parts s.login Connect) (own_parts s.login Connect) (new (kinds.Greets n)) (f ∙ rw i refl);
-          comes = goes_to (tasks.Own Connect) (kinds.Greets n) (λ no. cc) e refl (ap kind_in (sym task)) refl (ap is_shaking (authenticates s.context.spot (knows (kinds.Greets n) e)), first) (λ no. cc);
+          comes = goes_to (tasks.Own Connect) (kinds.Greets n) refl e refl (ap kind_in (sym task)) refl (ap is_shaking (authenticates s.context.spot (knows (kinds.Greets n) e)), first) (λ no. cc);
         })
           where
             authenticates : (x : Spot) → is_known x (kinds.Greets n) ≡ true → spot_after (deprecates_eof s.context.terms.kept) x (kinds.Greets n) ≡ spots.Authentication
@@ -417,7 +402,7 @@ module _ (s : Seen) (call : Call) (p : Place) (m : Mirrors s.context s.number s.
     pub connect_reads : (k : Kind) → kind_there s.context s.facts.columns payload ≡ k → MoveReads s call (own_parts s.login Connect) p (move_at (tasks.Own Connect) k)
     unfolding is_simple
     connect_reads (kinds.Greets n) e = greets n e (nat_lt s.context.terms.limit (length (response s.login payload))) refl
-    connect_reads (kinds.Good status) e = all_goes setting_up reading (tasks.Arranging 0) (kinds.Good status) (λ no. cc) refl e refl refl (ap kind_in (sym task)) refl
+    connect_reads (kinds.Good status) e = all_goes setting_up reading (tasks.Arranging 0) (kinds.Good status) refl refl e refl refl (ap kind_in (sym task)) refl
         (not_greeting s.context.spot (deprecates_eof s.context.terms.kept) (kinds.Good status), first) (all_is setting_up reading (kinds.Good status) e)
     connect_reads kinds.Failed e = errs (own_parts s.login Connect) (err_at (is_greeting s.context.spot) payload) refl e true (ap is_connecting task) connect (all_is setting_up reading kinds.Failed e)
     connect_reads (kinds.Count n) e = absurd (simple_shaking s.context.spot (kinds.Count n) shaking refl (knows (kinds.Count n) e))
@@ -466,60 +451,99 @@ module _ (s : Seen) (call : Call) (p : Place) (m : Mirrors s.context s.number s.
     ping_reads kinds.Field e = absurd (simple_single kinds.Field refl (subst (λ x. is_known x kinds.Field ≡ true) single (knows kinds.Field e)))
     ping_reads kinds.Bad e = unfits (All ∷ []) (all_is [] reading kinds.Bad e)
 
-  -- the head of the first set of a query or of an execution, which has something to do after it
-  module _ (c : CallKind) (after : List Part) (own : Head ∷ after ≡ own_parts s.login c) (reading : step s.login call (Head ∷ after) p ≡ reads s.login Head after p) (task : s.task ≡ tasks.Own c) (past : is_greeting s.context.spot ≡ false)
-      (before : is_rows s.context.spot ≡ false) (query : call_kind call ≡ c) (other : is_connect c ≡ false) (stays_open : closes ToldReady c ≡ false)
-      (stands : (k : Kind) → TaskStandsAt (tasks.Own c) (spot_by k) (connects_in (exchanges p)))
-      (finish : (q : Place) → step s.login call after q ≡ step_of s.login call after q → is_rows (context_of q.talk).spot ≡ false → Leads s.login call after q [] q) where
-    head_is : (k : Kind) → kind_there s.context s.facts.columns payload ≡ k → step s.login call (Head ∷ after) p ≡ after_payload s.login Head after p (new k) payload k
-    head_is k e = reading ∙ reads_it Head after k e
-
-    readies : (status : StatusFlags) → kind_there s.context s.facts.columns payload ≡ kinds.Good status → MoveReads s call (Head ∷ after) p (record { seen = with_task (following (kinds.Good status)) tasks.Nothing true; does = Tells ToldReady })
-    readies status e =
-        let k : Kind = kinds.Good status in
-        let n = following k in
-        let q : Place = with_end (new k) in
-        let w = mirrors_with_end n.context n.number rest n.owed s.closed n.facts s.login (new k) (not_greeting s.context.spot (deprecates_eof s.context.terms.kept) k) (mirrors_new k e refl) in
-        let here : (parts : List Part) → step s.login call parts q ≡ step_of s.login call parts q =
-        λ parts. step_here n.context n.number rest n.owed s.closed n.facts s.login q call parts alive w (none_owed k refl) in
-        let off : is_rows (context_of q.talk).spot ≡ false =
-        ap (λ (x : Context). is_rows x.spot) (sym w.context_is) ∙ good_not_rows s.context.spot (deprecates_eof s.context.terms.kept) status (knows k e) in
-        record {
-          rest = [];
-          place = q;
-          leads = Then (Head ∷ after) p after q [] q (head_is k e) (finish q (here after) off);
-          comes = inl (record {
-            place = q;
-            stops = here [];
-            at = record { mirrors = w; end_is = λ _ _. refl; taken_is = taken_new k e refl; own_end = λ no. cc; task_at = tt; settled = λ _. none_owed k refl; statements_are = λ _. known_are; checked = λ no. cc };
-            closed_is = alive ∙ sym stays_open ∙ ap (closes ToldReady) (sym query);
-          });
-        }
+  -- the head of a first set, after which the session goes on with the same task, or does what it does after a lone OK
+  module _ (t : Task) (good : Reaction) (after : List Part) (left : Head ∷ after ≡ parts_left s.login s.call t) (checks : refusal_at t s.call ≡ None) (sound : fault_in t ≡ None)
+      (reading : step s.login call (Head ∷ after) p ≡ reads s.login Head after p) (task : s.task ≡ t) (past : is_greeting s.context.spot ≡ false)
+      (before : is_rows s.context.spot ≡ false) (off : is_connecting t ≡ false) (other : is_connect (call_kind call) ≡ false)
+      (stands : (k : Kind) → TaskStandsAt t (spot_by k) (connects_in (exchanges p)))
+      (on_good : (status : StatusFlags) → kind_there s.context s.facts.columns payload ≡ kinds.Good status
+      → MoveReads s call (Head ∷ after) p (cond (is_breaking good) (failed_by s (invalid_data s.facts.place)) (reacted s (following (kinds.Good status)) payload good))) where
+    heads_is : (k : Kind) → kind_there s.context s.facts.columns payload ≡ k → step s.login call (Head ∷ after) p ≡ after_payload s.login Head after p (new k) payload k
+    heads_is k e = reading ∙ reads_it Head after k e
 
     head_goes : (k : Kind) → kind_there s.context s.facts.columns payload ≡ k → is_bad k ≡ false → not_greets k ≡ true → step s.login call (Head ∷ after) p ≡ Goes (Head ∷ after) (new k)
-        → MoveReads s call (Head ∷ after) p (record { seen = with_task (following k) (tasks.Own c) false; does = MachineGoes })
-    head_goes k e good quiet stepped = record {
+        → MoveReads s call (Head ∷ after) p (record { seen = with_task (following k) t false; does = MachineGoes })
+    head_goes k e good_kind quiet stepped = record {
       rest = Head ∷ after;
       place = new k;
       leads = one (Head ∷ after) (Head ∷ after) (new k) stepped;
-      comes = subst (λ xs. OpenAt (with_task (following k) (tasks.Own c) false) call xs (new k)) (sym own)
-          (goes_to (tasks.Own c) k (λ no. cc) e good (ap kind_in (sym task)) refl (stands k) (λ _. quiet));
+      comes = subst (λ xs. OpenAt (with_task (following k) t false) call xs (new k)) (sym left)
+          (goes_to t k checks e good_kind (ap kind_in (sym task)) sound (stands k) (λ _. quiet));
     }
 
-    pub query_reads : (k : Kind) → kind_there s.context s.facts.columns payload ≡ k → MoveReads s call (Head ∷ after) p (cond (is_breaking (react_query c k)) (failed_by s (invalid_data s.facts.place))
-        (unless_above s (above s.context.terms.limit (reply_to s.login k payload)) (reacted s (following k) payload (react_query c k))))
-    query_reads (kinds.Greets n) e = absurd (no_greeting [] n past e)
-    query_reads (kinds.Good status) e = readies status e
-    query_reads kinds.Failed e = errs (Head ∷ after) (err_at (is_greeting s.context.spot) payload) refl e (is_connect c) (own_connects c s.task task) (ap is_connect query) (head_is kinds.Failed e)
-    query_reads (kinds.Count n) e = head_goes (kinds.Count n) e refl refl (head_is (kinds.Count n) e)
-    query_reads kinds.Column e = head_goes kinds.Column e refl refl (head_is kinds.Column e)
-    query_reads kinds.ColumnsDone e = head_goes kinds.ColumnsDone e refl refl (head_is kinds.ColumnsDone e)
-    query_reads kinds.Row e = absurd (no_rows _ s.context.spot (row_spot s.context.spot (knows kinds.Row e)) refl before)
-    query_reads (kinds.End status) e = absurd (no_rows _ s.context.spot (end_spot s.context.spot status (knows (kinds.End status) e)) refl before)
-    query_reads (kinds.Prepared params columns) e = head_goes (kinds.Prepared params columns) e refl refl (head_is (kinds.Prepared params columns) e ∙ alone params columns e _)
-    query_reads kinds.Parameter e = head_goes kinds.Parameter e refl refl (head_is kinds.Parameter e)
-    query_reads kinds.Field e = head_goes kinds.Field e refl refl (head_is kinds.Field e)
-    query_reads kinds.Bad e = unfits (Head ∷ after) (head_is kinds.Bad e)
+    pub head_reads : (k : Kind) → kind_there s.context s.facts.columns payload ≡ k → MoveReads s call (Head ∷ after) p (cond (is_breaking (react_head good t k)) (failed_by s (invalid_data s.facts.place))
+        (unless_above s (above s.context.terms.limit (reply_to s.login k payload)) (reacted s (following k) payload (react_head good t k))))
+    head_reads (kinds.Greets n) e = absurd (no_greeting [] n past e)
+    head_reads (kinds.Good status) e = on_good status e
+    head_reads kinds.Failed e = errs (Head ∷ after) (err_at (is_greeting s.context.spot) payload) refl e false (ap is_connecting task ∙ off) other (heads_is kinds.Failed e)
+    head_reads (kinds.Count n) e = head_goes (kinds.Count n) e refl refl (heads_is (kinds.Count n) e)
+    head_reads kinds.Column e = head_goes kinds.Column e refl refl (heads_is kinds.Column e)
+    head_reads kinds.ColumnsDone e = head_goes kinds.ColumnsDone e refl refl (heads_is kinds.ColumnsDone e)
+    head_reads kinds.Row e = absurd (no_rows _ s.context.spot (row_spot s.context.spot (knows kinds.Row e)) refl before)
+    head_reads (kinds.End status) e = absurd (no_rows _ s.context.spot (end_spot s.context.spot status (knows (kinds.End status) e)) refl before)
+    head_reads (kinds.Prepared params columns) e = head_goes (kinds.Prepared params columns) e refl refl (heads_is (kinds.Prepared params columns) e ∙ alone params columns e _)
+    head_reads kinds.Parameter e = head_goes kinds.Parameter e refl refl (heads_is kinds.Parameter e)
+    head_reads kinds.Field e = head_goes kinds.Field e refl refl (heads_is kinds.Field e)
+    head_reads kinds.Bad e = unfits (Head ∷ after) (heads_is kinds.Bad e)
+
+  -- a lone OK in the head's place
+  module _ (status : StatusFlags) (e : kind_there s.context s.facts.columns payload ≡ kinds.Good status) (after : List Part) (reading : step s.login call (Head ∷ after) p ≡ reads s.login Head after p) where
+    abbrev lone : Kind
+    lone = kinds.Good status
+
+    abbrev ended : Place
+    ended = with_end (new lone)
+
+    lone_mirrors : Mirrors (following lone).context (following lone).number rest (following lone).owed s.closed (following lone).facts s.login ended
+    lone_mirrors =
+        mirrors_with_end (following lone).context (following lone).number rest (following lone).owed s.closed (following lone).facts s.login (new lone)
+        (not_greeting s.context.spot (deprecates_eof s.context.terms.kept) lone) (mirrors_new lone e refl)
+
+    lone_here : (parts : List Part) → step s.login call parts ended ≡ step_of s.login call parts ended
+    lone_here parts = step_here (following lone).context (following lone).number rest (following lone).owed s.closed (following lone).facts s.login ended call parts alive lone_mirrors (none_owed lone refl)
+
+    -- no rows follow
+    lone_off : is_rows (context_of (new lone).talk).spot ≡ false
+    lone_off =
+        ap (λ (x : Context). is_rows x.spot) (sym (mirrors_new lone e refl).context_is)
+        ∙ good_not_rows s.context.spot (deprecates_eof s.context.terms.kept) status (knows lone e)
+
+    lone_is : step s.login call (Head ∷ after) p ≡ Goes after ended
+    lone_is = reading ∙ reads_it Head after lone e
+
+    -- the call is answered, after something that changes nothing
+    pub readies : (c : CallKind) → call_kind call ≡ c → closes ToldReady c ≡ false → (finish : (q : Place) → step s.login call after q ≡ step_of s.login call after q → is_rows (context_of q.talk).spot ≡ false → Leads s.login call after q [] q)
+        → MoveReads s call (Head ∷ after) p (record { seen = with_task (following lone) tasks.Nothing true; does = Tells ToldReady })
+    readies c is stays_open finish = record {
+      rest = [];
+      place = ended;
+      leads = Then (Head ∷ after) p after ended [] ended lone_is (finish ended (lone_here after) lone_off);
+      comes = inl (record {
+        place = ended;
+        stops = lone_here [];
+        at = record { mirrors = lone_mirrors; end_is = λ _ _. refl; taken_is = taken_new lone e refl; own_end = λ no. cc; task_at = tt; settled = λ _. none_owed lone refl; statements_are = λ _. known_are; checked = refl };
+        closed_is = alive ∙ sym stays_open ∙ ap (closes ToldReady) (sym is);
+      });
+    }
+
+  -- an execution of a batch has no rows: the rest is read whole
+  pub finishes : (status : StatusFlags) → kind_there s.context s.facts.columns payload ≡ kinds.Good status → (n : ℕ) (parts : List Part) → All ∷ parts ≡ parts_left s.login s.call (tasks.Finishing n) → s.task ≡ tasks.Running n
+      → step s.login call (Head ∷ Learn ∷ All ∷ parts) p ≡ reads s.login Head (Learn ∷ All ∷ parts) p
+      → MoveReads s call (Head ∷ Learn ∷ All ∷ parts) p (record { seen = with_task (following (kinds.Good status)) (tasks.Finishing n) false; does = MachineGoes })
+  finishes status e n parts left task reading =
+      let k : Kind = kinds.Good status in
+      let q : Place = with_end (new k) in
+      record {
+        rest = All ∷ parts;
+        place = new k;
+        leads = Then (Head ∷ Learn ∷ All ∷ parts) p (Learn ∷ All ∷ parts) q (All ∷ parts) (new k) (lone_is status e (Learn ∷ All ∷ parts) reading)
+            (Then (Learn ∷ All ∷ parts) q (All ∷ parts) q (All ∷ parts) (new k)
+            (lone_here status e (Learn ∷ All ∷ parts) reading (Learn ∷ All ∷ parts)
+            ∙ ap (λ b. Goes (All ∷ parts) (cond b (place_with (with_columns (id_in call) (facts_at s.login q).columns q.statements) q) q)) (lone_off status e (Learn ∷ All ∷ parts) reading))
+            (Then (All ∷ parts) q (All ∷ parts) (new k) (All ∷ parts) (new k) (lone_here status e (Learn ∷ All ∷ parts) reading (All ∷ parts)) (Here (All ∷ parts) (new k))));
+        comes = subst (λ xs. OpenAt (with_task (following k) (tasks.Finishing n) false) call xs (new k)) (sym left)
+            (goes_to (tasks.Finishing n) k refl e refl (ap kind_in (sym task)) refl (not_greeting s.context.spot (deprecates_eof s.context.terms.kept) k) (λ _. refl));
+      }
 
   -- the reply to a statement to prepare
   module _ (reading : step s.login call (Reply ∷ Keep ∷ Give ∷ []) p ≡ reads s.login Reply (Keep ∷ Give ∷ []) p) (task : s.task ≡ tasks.Own Prepare) (past : is_greeting s.context.spot ≡ false) (prepare : call_kind call ≡ Prepare) where
@@ -535,7 +559,7 @@ module _ (s : Seen) (call : Call) (p : Place) (m : Mirrors s.context s.number s.
       rest = replying;
       place = new k;
       leads = one replying replying (new k) stepped;
-      comes = goes_to (tasks.Own Prepare) k (λ no. cc) e good (ap kind_in (sym task)) refl (not_greeting s.context.spot (deprecates_eof s.context.terms.kept) k) (λ _. quiet);
+      comes = goes_to (tasks.Own Prepare) k refl e good (ap kind_in (sym task)) refl (not_greeting s.context.spot (deprecates_eof s.context.terms.kept) k) (λ _. quiet);
     }
 
     pub reply_reads : (k : Kind) → kind_there s.context s.facts.columns payload ≡ k → MoveReads s call replying p (move_at (tasks.Own Prepare) k)
@@ -563,7 +587,7 @@ module _ (s : Seen) (call : Call) (p : Place) (m : Mirrors s.context s.number s.
       rest = Item ∷ [];
       place = new k;
       leads = one (Item ∷ []) (Item ∷ []) (new k) stepped;
-      comes = goes_to tasks.Reading k (λ no. cc) e good (ap kind_in (sym task)) refl (not_greeting s.context.spot (deprecates_eof s.context.terms.kept) k) (λ _. quiet);
+      comes = goes_to tasks.Reading k refl e good (ap kind_in (sym task)) refl (not_greeting s.context.spot (deprecates_eof s.context.terms.kept) k) (λ _. quiet);
     }
 
     ends : (k : Kind) → kind_there s.context s.facts.columns payload ≡ k → is_bad k ≡ false → not_greets k ≡ true → step s.login call (Item ∷ []) p ≡ return (new k) ToldEnd
@@ -603,7 +627,7 @@ module _ (s : Seen) (call : Call) (p : Place) (m : Mirrors s.context s.number s.
       rest = Set ∷ [];
       place = new k;
       leads = one (Set ∷ []) (Set ∷ []) (new k) stepped;
-      comes = goes_to tasks.Taking k (λ no. cc) e good (ap kind_in (sym task)) refl (not_greeting s.context.spot (deprecates_eof s.context.terms.kept) k) (λ _. quiet);
+      comes = goes_to tasks.Taking k refl e good (ap kind_in (sym task)) refl (not_greeting s.context.spot (deprecates_eof s.context.terms.kept) k) (λ _. quiet);
     }
 
     takes_lone : (status : StatusFlags) → kind_there s.context s.facts.columns payload ≡ kinds.Good status → MoveReads s call (Set ∷ []) p (move_at tasks.Taking (kinds.Good status))
@@ -613,7 +637,7 @@ module _ (s : Seen) (call : Call) (p : Place) (m : Mirrors s.context s.number s.
         let w = mirrors_with_end n.context n.number rest n.owed s.closed n.facts s.login (new k) (not_greeting s.context.spot (deprecates_eof s.context.terms.kept) k) (mirrors_new k e refl) in
         let v = mirrors_with_taken n.context n.number rest n.owed s.closed n.facts s.login (with_end (new k)) w in
         returns (Set ∷ []) ToldReady (with_mark (with_task n tasks.Nothing true)) (with_taken (with_end (new k))) (set_is k e)
-        (record { mirrors = v; end_is = λ _ _. refl; taken_is = refl; own_end = λ no. cc; task_at = tt; settled = λ _. none_owed k refl; statements_are = λ _. known_are; checked = λ no. cc })
+        (record { mirrors = v; end_is = λ _ _. refl; taken_is = refl; own_end = λ no. cc; task_at = tt; settled = λ _. none_owed k refl; statements_are = λ _. known_are; checked = refl })
         (alive ∙ ap (closes ToldReady) (sym take))
 
     pub taking_reads : (k : Kind) → kind_there s.context s.facts.columns payload ≡ k → MoveReads s call (Set ∷ []) p (move_at tasks.Taking k)
@@ -642,7 +666,7 @@ module _ (s : Seen) (call : Call) (p : Place) (m : Mirrors s.context s.number s.
       rest = Rest ∷ [];
       place = new k;
       leads = one (Rest ∷ []) (Rest ∷ []) (new k) stepped;
-      comes = stays tasks.Skipping k (λ no. cc) task e good refl (not_greeting s.context.spot (deprecates_eof s.context.terms.kept) k) (λ _. quiet);
+      comes = stays tasks.Skipping k refl task e good refl (not_greeting s.context.spot (deprecates_eof s.context.terms.kept) k) (λ _. quiet);
     }
 
     skips_row : (x : Option RowParts) → row_at s.context.rows s.facts.columns payload ≡ x → kind_there s.context s.facts.columns payload ≡ kinds.Row → MoveReads s call (Rest ∷ []) p (passed s (following kinds.Row) x)
@@ -666,7 +690,7 @@ module _ (s : Seen) (call : Call) (p : Place) (m : Mirrors s.context s.number s.
     skipping_reads kinds.Field e = let no = among_rows kinds.Field e in cc
     skipping_reads kinds.Bad e = unfits (Rest ∷ []) (rest_is kinds.Bad e)
 
-  pub whole_reads_all : (parts : List Part) → step s.login call (All ∷ parts) p ≡ reads s.login All parts p → (t : Task) → (t ≡ tasks.Cleaning Execute → refusal Execute s.call ≡ None) → All ∷ parts ≡ parts_left s.login t → kind_in t ≡ kind_in s.task → fault_in t ≡ None
+  pub whole_reads_all : (parts : List Part) → step s.login call (All ∷ parts) p ≡ reads s.login All parts p → (t : Task) → refusal_at t s.call ≡ None → All ∷ parts ≡ parts_left s.login s.call t → kind_in t ≡ kind_in s.task → fault_in t ≡ None
       → is_greeting s.context.spot ≡ false → ((k : Kind) → TaskStandsAt t (spot_by k) (connects_in (exchanges p))) → (b : Bool) → is_connecting s.task ≡ b → is_connect (call_kind call) ≡ b
       → (k : Kind) → kind_there s.context s.facts.columns payload ≡ k
       → MoveReads s call (All ∷ parts) p (cond (is_breaking (react_whole t k)) (failed_by s (invalid_data s.facts.place))

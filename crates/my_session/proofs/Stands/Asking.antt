@@ -1,5 +1,5 @@
 -- The command that a call sends next keeps the relation to histories: its own, or one that sets the connection up.
-use Rattle.std.proofs.Common.{◌≡◌, ℕ, suc, List, [], ◌∷◌, ◌++◌, length, ◌||◌, true, false, cond, Option, Some, None, inl, inr, refl, sym, ap, ◌∙◌, subst, arith}
+use Rattle.std.proofs.Common.{◌≡◌, ◌⊎◌, ℕ, suc, List, [], ◌∷◌, ◌++◌, length, ◌||◌, not, is_some, true, false, cond, Option, Some, None, inl, inr, refl, sym, ap, ◌∙◌, subst, arith}
 use Rattle.std.specs.List.{slice_get}
 use Rattle.my_command.specs.declared.client.ClientPacket.TheVariants as packets
 use Rattle.my_command.specs.Client.Packet.{client_bytes as packet_bytes}
@@ -10,6 +10,7 @@ use Rattle.my_grammar.specs.declared.login.Login.{Login}
 use Rattle.my_grammar.specs.declared.spot.Terms.{Terms}
 use Rattle.my_grammar.specs.Prepares.{Unanswered}
 use Rattle.my_grammar.specs.Sets.{ByStatement, ByText, NoSets}
+use Rattle.my_params.specs.declared.params.Params.{Params}
 use Rattle.my_params.specs.LongData.{ahead_of}
 use Rattle.my_params.specs.Parameters.{body_of}
 use Rattle.my_reading.specs.declared.error.DriverError.{DriverError}
@@ -20,34 +21,36 @@ use Rattle.my_grammar.specs.Talk.{Talk, Asked, Preparing, Queried, Silent, turns
 use Rattle.my_reading.specs.declared.call.Call.{Call}
 use Rattle.my_reading.specs.declared.call.Call.TheVariants as calls
 use Rattle.my_reading.specs.declared.call.CallKind.{CallKind}
-use Rattle.my_reading.specs.declared.call.CallKind.TheVariants.{Connect, Query, Prepare, Execute, CloseStmt, NextRow, DropResult, TakeSet, SkipTaken, Ping, Quit}
+use Rattle.my_reading.specs.declared.call.CallKind.TheVariants.{Connect, Query, Prepare, Execute, Batch, CloseStmt, NextRow, DropResult, TakeSet, SkipTaken, Ping, Quit}
 use Rattle.my_session.specs.declared.task.Task.{Task}
-use Rattle.my_session.specs.declared.task.Task.TheVariants.{Nothing, Cleaning, Own, Giving, Arranging}
+use Rattle.my_session.specs.declared.task.Task.TheVariants.{Nothing, Cleaning, Own, Giving, Arranging, Running, Finishing}
 use Rattle.my_reading.specs.declared.error.Error.{Error}
 use Rattle.my_session.specs.declared.tables.Plan.TheVariants as plans
-use Rattle.my_reading.specs.Calls.{kind_of, call_of, asks, id_in, is_connect, params_in, statement_in, text_in}
+use Rattle.my_reading.specs.Calls.{kind_of, call_of, asks, id_in, is_connect, lists_in, params_in, statement_in, text_in}
 use Rattle.my_session.specs.Tasks.{kind_in, is_open}
 use Rattle.my_reading.specs.Commands.{arranging, arranging_texts, closing, command_of, connecting, execution, opening}
-use Rattle.my_session.specs.Entries.{Opens, terms_by, has_connected, connecting_in}
+use Rattle.my_session.specs.Entries.{Opens, OwnsFirst, IsTied, terms_by, calls_in, has_connected, connecting_in}
 use Rattle.my_reading.specs.Errors.{codec_error}
 use Rattle.my_reading.specs.Told.{ToldReady, closes_by}
 use Rattle.my_session.specs.History.{History}
-use Rattle.my_session.specs.Machine.{Move, Sends, with_task, failed_by, queued, unless_exceeds, unless_refused, refusal, refused_by, next_terms, begins, asked, arranged, planned, is_greeting}
+use Rattle.my_session.specs.Machine.{Move, Sends, with_task, failed_by, queued, unless_exceeds, unless_refused, refusal, refused_by, next_terms, begins, asked, ran, arranged, planned, is_greeting}
 use Rattle.my_session.specs.Seen.{Seen}
 use Rattle.my_session.specs.ServerErrors.{errors_in, errors_of}
 use Rattle.my_session.specs.Stands.{Stands, Heard, TaskIs, TieIs, IsArranged, call_with, is_left, keeps, owes}
 use Rattle.my_session.specs.Steps.{is_settled}
-use Rattle.my_session.proofs.Refusals.{refusal_closes}
+use Rattle.my_session.specs.Tables.{ask_plan}
+use Rattle.my_session.proofs.Refusals.{refusal_closes, values_close}
 use Rattle.my_session.proofs.Stands.Arranged.{all_sent}
 use Rattle.my_session.proofs.Stands.Keeps.{Keeps}
 use Rattle.my_session.proofs.Stands.Reacts.{fell_stands}
-use Rattle.my_session.proofs.Stands.Ties.{answered_stands, owns_all, all_begun}
+use Rattle.my_session.proofs.Stands.Ties.{answered_stands, owns_all, all_begun, none_waits, quiet_more, arranged_more}
 use Rattle.my_session.proofs.Stands.Wired.{wire_queued}
 
 -- what connecting begins is by the table
 connect_opens : (login : Login) (terms : Terms) (c : Call) (n : ℕ) (t : Talk) → c ≡ calls.Connect → Opens login terms c n t → connecting login terms n ≡ Some t
 connect_opens login terms c n t e (inl w) = subst (λ (x : Call). opening login terms w.0 x n ≡ Some t) e w.1
-connect_opens login terms c n t e (inr w) = let no : Connect ≡ Prepare = ap kind_of (sym e) ∙ w.1 in cc
+connect_opens login terms c n t e (inr (inl w)) = let no : Connect ≡ Prepare = ap kind_of (sym e) ∙ w.1 in cc
+connect_opens login terms c n t e (inr (inr w)) = let no : Connect ≡ Batch = ap kind_of (sym e) ∙ w.kind in cc
 
 module _ (s : Seen) (h : History) (st : Stands s h) (open_still : s.closed ≡ false) (nothing : s.owed ≡ []) (op : is_open s.task ≡ true) where
   abbrev HeardAs : Task → Type 0
@@ -91,7 +94,7 @@ module _ (s : Seen) (h : History) (st : Stands s h) (open_still : s.closed ≡ f
       (refl, all_begun s.context.spot h.calls st.newest.call st.older hd.at.2 hd.tie)
       (λ made. (ap (λ b. cond b (suc (connecting_in (st.newest ∷ st.older))) (connecting_in (st.newest ∷ st.older))) other ∙ (st.arranged made).0, λ own. let no : true ≡ false = sym own ∙ other in cc)))
 
-  executes : HeardAs (Cleaning Execute) → s.context.spot ≡ spots.Idle → (v : Values) → values_for (statement_in s.call) (params_in s.call) ≡ v → refused_by v ≡ None → Keeps (asked s Execute (execution (next_terms s) s.statements (statement_in s.call).inner.id v)) h
+  executes : HeardAs (Cleaning Execute) → s.context.spot ≡ spots.Idle → (v : Values) → values_for (statement_in s.call) (params_in s.call) ≡ v → refused_by v ≡ None → Keeps (asked s (Own Execute) (execution (next_terms s) s.statements (statement_in s.call).inner.id v)) h
   executes hd idle (Fitting values) is fit =
       let id = (statement_in s.call).inner.id in
       let ahead = ahead_of id values in
@@ -104,26 +107,107 @@ module _ (s : Seen) (h : History) (st : Stands s h) (open_still : s.closed ≡ f
   refused_or c None m is keep = keep refl
   refused_or c (Some e) m is keep = fails (errors.Driver e) (λ _. refusal_closes c s.call e is)
 
-  asked_keep : (c : CallKind) → HeardAs (Cleaning c) → s.context.spot ≡ spots.Idle → refusal c s.call ≡ None → Keeps (asked s c (command_of (next_terms s) s.statements (call_of c s.call))) h
-  asked_keep Connect hd idle fit = let no : asks Connect ≡ true = hd.at.0 in cc
-  asked_keep Query hd idle fit = commands Query (Queried (next_terms s) (packet_bytes (packets.Query (text_in s.call))) (NoSets ByText)) hd idle refl (inl (s.statements, refl)) refl (record { kinds = tt; within = tt }) refl refl refl refl refl (hd.at.1, refl, refl)
-  asked_keep Prepare hd idle fit = commands Prepare (Preparing (next_terms s) (packet_bytes (packets.Prepare (query_of (text_in s.call)))) Unanswered) hd idle refl (inl (s.statements, refl)) refl (record { kinds = tt; within = tt }) refl refl refl refl refl (hd.at.1, refl)
-  asked_keep Execute hd idle fit = executes hd idle (values_for (statement_in s.call) (params_in s.call)) refl fit
-  asked_keep CloseStmt hd idle fit = commands CloseStmt (closing (next_terms s) (id_in s.call)) hd idle refl (inl (s.statements, refl)) refl (record { kinds = tt; within = tt }) refl refl refl refl refl (hd.at.1, refl, refl)
-  asked_keep NextRow hd idle fit = let no : asks NextRow ≡ true = hd.at.0 in cc
-  asked_keep DropResult hd idle fit = let no : asks DropResult ≡ true = hd.at.0 in cc
-  asked_keep TakeSet hd idle fit = let no : asks TakeSet ≡ true = hd.at.0 in cc
-  asked_keep SkipTaken hd idle fit = let no : asks SkipTaken ≡ true = hd.at.0 in cc
-  asked_keep Ping hd idle fit = commands Ping (Asked (next_terms s) (packet_bytes packets.Ping)) hd idle refl (inl (s.statements, refl)) refl (record { kinds = tt; within = tt }) refl refl refl refl refl (hd.at.1, refl)
-  asked_keep Quit hd idle fit = commands Quit (Silent (next_terms s) (packet_bytes packets.Quit)) hd idle refl (inl (s.statements, refl)) refl (record { kinds = tt; within = tt }) refl refl refl refl refl hd.at.1
+  asked_keep : (c : CallKind) → HeardAs (Cleaning c) → s.context.spot ≡ spots.Idle → ask_plan c ≡ plans.Asks c → refusal c s.call ≡ None → Keeps (asked s (Own c) (command_of (next_terms s) s.statements (call_of c s.call))) h
+  asked_keep Connect hd idle own fit = let no : asks Connect ≡ true = hd.at.0 in cc
+  asked_keep Query hd idle own fit = commands Query (Queried (next_terms s) (packet_bytes (packets.Query (text_in s.call))) (NoSets ByText)) hd idle refl (inl (s.statements, refl)) refl (record { kinds = tt; within = tt }) refl refl refl refl refl (hd.at.1, refl, refl)
+  asked_keep Prepare hd idle own fit = commands Prepare (Preparing (next_terms s) (packet_bytes (packets.Prepare (query_of (text_in s.call)))) Unanswered) hd idle refl (inl (s.statements, refl)) refl (record { kinds = tt; within = tt }) refl refl refl refl refl (hd.at.1, refl)
+  asked_keep Execute hd idle own fit = executes hd idle (values_for (statement_in s.call) (params_in s.call)) refl fit
+  asked_keep Batch hd idle own fit = cc
+  asked_keep CloseStmt hd idle own fit = commands CloseStmt (closing (next_terms s) (id_in s.call)) hd idle refl (inl (s.statements, refl)) refl (record { kinds = tt; within = tt }) refl refl refl refl refl (hd.at.1, refl, refl)
+  asked_keep NextRow hd idle own fit = let no : asks NextRow ≡ true = hd.at.0 in cc
+  asked_keep DropResult hd idle own fit = let no : asks DropResult ≡ true = hd.at.0 in cc
+  asked_keep TakeSet hd idle own fit = let no : asks TakeSet ≡ true = hd.at.0 in cc
+  asked_keep SkipTaken hd idle own fit = let no : asks SkipTaken ≡ true = hd.at.0 in cc
+  asked_keep Ping hd idle own fit = commands Ping (Asked (next_terms s) (packet_bytes packets.Ping)) hd idle refl (inl (s.statements, refl)) refl (record { kinds = tt; within = tt }) refl refl refl refl refl (hd.at.1, refl)
+  asked_keep Quit hd idle own fit = commands Quit (Silent (next_terms s) (packet_bytes packets.Quit)) hd idle refl (inl (s.statements, refl)) refl (record { kinds = tt; within = tt }) refl refl refl refl refl hd.at.1
 
-  pub asks_keep : (c : CallKind) → HeardAs (Cleaning c) → s.untold ≡ false → s.context.spot ≡ spots.Idle → Keeps (planned s (plans.Asks c)) h
-  asks_keep c hd told idle = refused_or c (refusal c s.call) (asked s c (command_of (next_terms s) s.statements (call_of c s.call))) refl (asked_keep c hd idle)
+  asks_own : (c : CallKind) → HeardAs (Cleaning c) → s.context.spot ≡ spots.Idle → ask_plan c ≡ plans.Asks c → Keeps (planned s (plans.Asks c)) h
+  asks_own c hd idle own = refused_or c (refusal c s.call) (asked s (Own c) (command_of (next_terms s) s.statements (call_of c s.call))) refl (asked_keep c hd idle own)
+
+  -- unless these parameters are refused
+  pub values_or : (params : Params) (o : Option DriverError) (m : Move) → refused_by (values_for (statement_in s.call) params) ≡ o → (o ≡ None → Keeps m h) → Keeps (unless_refused s o m) h
+  values_or params None m is keep = keep refl
+  values_or params (Some e) m is keep = fails (errors.Driver e) (λ _. values_close (statement_in s.call) params e is)
+
+  -- a batch, whose newest exchange is one of its own or an earlier call's
+  module _ (n : ℕ) (t : Task) (hd : HeardAs t) (is_batch : kind_in t ≡ Some Batch) (made : has_connected h.calls ≡ true) (told : s.untold ≡ false) (idle : s.context.spot ≡ spots.Idle)
+      (tie : OwnsFirst (call_of Batch s.call) (st.newest.call ∷ calls_in st.older) (IsTied h.calls) ⊎ IsTied h.calls (st.newest.call ∷ calls_in st.older))
+      (answer_tie : slice_get (lists_in s.call) n ≡ None → IsTied (record { call = call_of Batch s.call; what = ToldReady } ∷ h.calls) (st.newest.call ∷ calls_in st.older)) where
+    -- the exchanges of the call, with one more
+    more_tie : OwnsFirst (call_of Batch s.call) (st.newest.call ∷ calls_in st.older) (IsTied h.calls) ⊎ IsTied h.calls (st.newest.call ∷ calls_in st.older) → OwnsFirst (call_of Batch s.call) (call_of Batch s.call ∷ st.newest.call ∷ calls_in st.older) (IsTied h.calls)
+    more_tie (inl w) = (refl, inr (refl, w))
+    more_tie (inr w) = (refl, inl w)
+
+    runs_with : (params : Params) → slice_get (lists_in s.call) n ≡ Some params → (v : Values) → values_for (statement_in s.call) params ≡ v → refused_by v ≡ None → Keeps (asked s (Running (suc n)) (execution (next_terms s) s.statements (statement_in s.call).inner.id v)) h
+    runs_with params at (Fitting values) is fit =
+        let id = (statement_in s.call).inner.id in
+        let known = known_in s.statements id in
+        let talk : Talk = Queried (next_terms s) (body_of id values) (NoSets (ByStatement (ahead_of id values) known)) in
+        unless_long (Running (suc n)) talk _ (queues t (Running (suc n)) (call_of Batch s.call) talk hd (sym is_batch) refl refl idle
+        (inr (inr (record { kind = refl; place = n; params = params; listed = at; statements = s.statements; executes = ap (execution (next_terms s) s.statements id) is })))
+        refl (record { kinds = tt; within = tt }) (commands_silent (body_of id values) (ByStatement (ahead_of id values) known)) refl refl refl refl (made, refl)
+        (more_tie tie) (λ all. ((st.arranged all).0, λ own. cc)))
+    runs_with params at (Unfitting e) is fit = cc
+
+    -- no list is left: the batch is done
+    ran_all : slice_get (lists_in s.call) n ≡ None → Keeps (ran s (suc n) None) h
+    ran_all none = answered_stands (with_task s Nothing s.untold) h (call_of Batch s.call) ToldReady (hd.pending_is ∙ ap (λ k. call_with k s.call) is_batch) (record {
+      newest = st.newest;
+      older = st.older;
+      wire = st.wire;
+      heard = record {
+        pending_is = refl;
+        closed_is = hd.closed_is;
+        alive = λ no. cc;
+        given_is = hd.given_is;
+        errors = hd.errors;
+        each = hd.each;
+        lone = hd.lone;
+        fresh = λ _ _ left. let no : false ≡ true = sym (ap (λ b. b || is_left s.context.spot) told ∙ ap is_left idle) ∙ left in cc;
+        at = λ _. subst (λ b. cond b (is_settled s.context.spot) (is_greeting s.context.spot) ≡ true) (sym made) (ap is_settled idle);
+        first = hd.first;
+        tie = none_waits s.context.spot (record { call = call_of Batch s.call; what = ToldReady } ∷ h.calls) st.newest.call st.older (ap is_greeting idle) (answer_tie none);
+      };
+      arranged = arranged_more s.login (record { call = call_of Batch s.call; what = ToldReady }) h.calls st.newest st.older refl st.arranged;
+      ended_is = st.ended_is;
+      settled = λ _. nothing;
+    })
+
+    runs_by : (o : Option Params) → slice_get (lists_in s.call) n ≡ o → Keeps (ran s (suc n) o) h
+    runs_by None at = ran_all at
+    runs_by (Some params) at =
+        let v = values_for (statement_in s.call) params in
+        values_or params (refused_by v) (asked s (Running (suc n)) (execution (next_terms s) s.statements (statement_in s.call).inner.id v)) refl (runs_with params at v refl)
+
+  -- the first execution of a batch
+  first_runs : HeardAs (Cleaning Batch) → s.untold ≡ false → s.context.spot ≡ spots.Idle → Keeps (planned s (plans.Runs 0)) h
+  first_runs hd told idle =
+      let older_tie = all_begun s.context.spot h.calls st.newest.call st.older hd.at.2 hd.tie in
+      runs_by 0 (Cleaning Batch) hd refl hd.at.1 told idle (inr older_tie)
+      (λ none. quiet_more (record { call = call_of Batch s.call; what = ToldReady }) h.calls (st.newest.call ∷ calls_in st.older) (ap (λ o. not (is_some o)) none) older_tie) (slice_get (lists_in s.call) 0) refl
+
+  -- the next one, or none
+  pub runs_keep : (n : ℕ) → HeardAs (Finishing n) → s.untold ≡ false → s.context.spot ≡ spots.Idle → Keeps (planned s (plans.Runs n)) h
+  runs_keep n hd told idle = runs_by n (Finishing n) hd refl hd.at.0 told idle (inl hd.tie) (λ _. inr hd.tie) (slice_get (lists_in s.call) n) refl
+
+  pub asks_keep : (c : CallKind) → HeardAs (Cleaning c) → s.untold ≡ false → s.context.spot ≡ spots.Idle → Keeps (planned s (ask_plan c)) h
+  asks_keep Connect hd told idle = asks_own Connect hd idle refl
+  asks_keep Query hd told idle = asks_own Query hd idle refl
+  asks_keep Prepare hd told idle = asks_own Prepare hd idle refl
+  asks_keep Execute hd told idle = asks_own Execute hd idle refl
+  asks_keep Batch hd told idle = first_runs hd told idle
+  asks_keep CloseStmt hd told idle = asks_own CloseStmt hd idle refl
+  asks_keep NextRow hd told idle = asks_own NextRow hd idle refl
+  asks_keep DropResult hd told idle = asks_own DropResult hd idle refl
+  asks_keep TakeSet hd told idle = asks_own TakeSet hd idle refl
+  asks_keep SkipTaken hd told idle = asks_own SkipTaken hd idle refl
+  asks_keep Ping hd told idle = asks_own Ping hd idle refl
+  asks_keep Quit hd told idle = asks_own Quit hd idle refl
 
   -- the close of the statement that has to go for one that was prepared
   pub closes_keep : (id : ℕ) → HeardAs (Own Prepare) → s.context.spot ≡ spots.Idle → Keeps (begins s Giving (closing (next_terms s) id)) h
   closes_keep id hd idle =
-      unless_long Giving (closing (next_terms s) id) _ (queues (Own Prepare) Giving (call_of Prepare s.call) (closing (next_terms s) id) hd refl refl refl idle (inr (id, refl, refl)) refl (record { kinds = tt; within = tt }) refl refl refl refl refl (hd.at.0, refl)
+      unless_long Giving (closing (next_terms s) id) _ (queues (Own Prepare) Giving (call_of Prepare s.call) (closing (next_terms s) id) hd refl refl refl idle (inr (inl (id, refl, refl))) refl (record { kinds = tt; within = tt }) refl refl refl refl refl (hd.at.0, refl)
       (refl, inr (refl, (sym hd.tie.0, inl hd.tie.1)))
       (λ made. ((st.arranged made).0, λ own. cc)))
 

@@ -17,9 +17,11 @@ use Rattle.my_reading.proofs.Described.{kind_is}
 use Rattle.my_grammar.specs.Kinds.{kind_there}
 use Rattle.my_reading.specs.declared.call.Call.TheVariants as calls
 use Rattle.my_reading.specs.declared.call.CallKind.{CallKind}
-use Rattle.my_reading.specs.declared.call.CallKind.TheVariants.{Connect, Query, Prepare, Execute, CloseStmt, NextRow, DropResult, TakeSet, SkipTaken, Ping, Quit}
+use Rattle.my_reading.specs.declared.call.CallKind.TheVariants.{Connect, Query, Prepare, Execute, Batch, CloseStmt, NextRow, DropResult, TakeSet, SkipTaken, Ping, Quit}
+use Rattle.my_session.specs.declared.reactions.Reaction.{Reaction}
+use Rattle.my_session.specs.declared.reactions.Reaction.TheVariants as reactions
 use Rattle.my_session.specs.declared.task.Task.{Task}
-use Rattle.my_session.specs.declared.task.Task.TheVariants.{Nothing, Begun, Cleaning, Own, Giving, Arranging, Reading, Dropping, Taking, Skipping, Leaving, Failing}
+use Rattle.my_session.specs.declared.task.Task.TheVariants.{Nothing, Begun, Cleaning, Own, Giving, Arranging, Running, Finishing, Reading, Dropping, Taking, Skipping, Leaving, Failing}
 use Rattle.my_reading.specs.declared.error.Error.TheVariants as errors
 use Rattle.my_reading.specs.Calls.{kind_of, call_of, is_connect}
 use Rattle.my_session.specs.Tasks.{kind_in, is_open}
@@ -33,10 +35,10 @@ use Rattle.my_session.specs.Seen.{Seen}
 use Rattle.my_session.specs.ServerErrors.{error_onto, errors_in}
 use Rattle.my_session.specs.Stands.{Stands, Heard, TaskIs, TieIs, begun_of, is_reading, is_shaking, keeps}
 use Rattle.my_session.specs.Steps.{is_settled}
-use Rattle.my_session.specs.Tables.{react, react_whole, react_connect, react_query, react_ping, react_own, react_reading, react_dropping, react_taking, react_skipping, is_breaking, is_connecting}
+use Rattle.my_session.specs.Tables.{react, react_whole, react_connect, react_head, react_query, react_running, react_ping, react_own, react_reading, react_dropping, react_taking, react_skipping, is_breaking, is_connecting}
 use Rattle.my_session.proofs.Stands.Blames.{is_failed, failed_blames}
-use Rattle.my_session.proofs.Stands.Reacts.{fell_stands, goes, refuses, refuses_connect, newest_by, answers, is_query, is_execution, pongs, readies, first_parts, shows, heads, row_gives, end_gives, good_gives, left_lone, knows, tied_on, tied_now}
-use Rattle.my_session.proofs.Stands.Spots.{row_spot, end_spot, good_spot, not_greeting, settled_more, greets_on, settled_not_greeting, settled_reads, reading_after}
+use Rattle.my_session.proofs.Stands.Reacts.{fell_stands, goes, refuses, refuses_connect, newest_by, answers, is_query, is_execution, pongs, part_calm, readies, first_parts, shows, heads, row_gives, end_gives, good_gives, left_lone, knows, tied_on, tied_now}
+use Rattle.my_session.proofs.Stands.Spots.{row_spot, end_spot, good_spot, not_greeting, settled_more, greets_on, settled_not_greeting, settled_reads, reading_after, heading_after}
 use Rattle.my_session.proofs.Stands.Ties.{answered_stands, noted_stands, taken_stands, closed_tie, all_begun, none_waits, quiet_more, asks_not}
 use Rattle.my_session.proofs.Stands.Views.{is_part}
 
@@ -52,6 +54,8 @@ is_reader (Cleaning c) = false
 is_reader (Own c) = false
 is_reader Giving = false
 is_reader (Arranging n) = false
+is_reader (Running n) = false
+is_reader (Finishing n) = false
 is_reader Reading = true
 is_reader Dropping = true
 is_reader Taking = true
@@ -76,25 +80,25 @@ module _ (s : Seen) (h : History) (st : Stands s h) (open_still : s.closed ≡ f
       ∙ ap (λ (c : Context). error_onto (err_at (is_greeting c.spot) p) (errors_in st.newest.talk)) st.wire.context_is
       ∙ sym (failed_blames st.newest.talk p (sym (kind_is st.newest.talk (facts_of s.login st.older) s.context s.facts p st.wire.fits st.wire.context_is st.wire.facts_are) ∙ e))
 
-  refuse : (t : Task) (c : CallKind) (x : Option ErrPacket) → err_at (is_greeting s.context.spot) p ≡ x → HeardAs t → kind_there s.context s.facts.columns p ≡ kinds.Failed → kind_in t ≡ Some c → is_connecting s.task ≡ false → is_connect (kind_of (call_of c s.call)) ≡ false → has_connected h.calls ≡ true → ((y : Told) → may_lack y (kind_of (call_of c s.call)) ≡ true → IsTied (record { call = call_of c s.call; what = y } ∷ h.calls) (begun_of (spot_after (deprecates_eof s.context.terms.kept) s.context.spot kinds.Failed) st.newest.call st.older)) → Keeps (refused s (after kinds.Failed) x) h
+  refuse : (t : Task) (c : CallKind) (x : Option ErrPacket) → err_at (is_greeting s.context.spot) p ≡ x → HeardAs t → kind_there s.context s.facts.columns p ≡ kinds.Failed → kind_in t ≡ Some c → is_connecting s.task ≡ false → is_connect (kind_of (call_of c s.call)) ≡ false → has_connected h.calls ≡ true → ((y : Told) → may_lack y (call_of c s.call) ≡ true → IsTied (record { call = call_of c s.call; what = y } ∷ h.calls) (begun_of (spot_after (deprecates_eof s.context.terms.kept) s.context.spot kinds.Failed) st.newest.call st.older)) → Keeps (refused s (after kinds.Failed) x) h
   refuse t c None is hd e call off not made tie = invalid
   refuse t c (Some x) is hd e call off not made tie =
       subst (λ (b : Bool). Stands (cond b (fell (after kinds.Failed)) (with_task (after kinds.Failed) Nothing false)) (answered h (ToldError (errors.Server (server_error x))))) (sym off)
       (refuses s h st open_still nothing p rest next whole t c (server_error x) e (blames x e is) call not made hd (tie (ToldError (errors.Server (server_error x))) refl))
 
-  refuse_connect : (t : Task) (x : Option ErrPacket) → err_at (is_greeting s.context.spot) p ≡ x → HeardAs t → kind_there s.context s.facts.columns p ≡ kinds.Failed → kind_in t ≡ Some Connect → is_connecting s.task ≡ true → ((y : Told) → may_lack y Connect ≡ true → IsTied (record { call = calls.Connect; what = y } ∷ h.calls) (begun_of (spot_after (deprecates_eof s.context.terms.kept) s.context.spot kinds.Failed) st.newest.call st.older)) → Keeps (refused s (after kinds.Failed) x) h
+  refuse_connect : (t : Task) (x : Option ErrPacket) → err_at (is_greeting s.context.spot) p ≡ x → HeardAs t → kind_there s.context s.facts.columns p ≡ kinds.Failed → kind_in t ≡ Some Connect → is_connecting s.task ≡ true → ((y : Told) → may_lack y calls.Connect ≡ true → IsTied (record { call = calls.Connect; what = y } ∷ h.calls) (begun_of (spot_after (deprecates_eof s.context.terms.kept) s.context.spot kinds.Failed) st.newest.call st.older)) → Keeps (refused s (after kinds.Failed) x) h
   refuse_connect t None is hd e call on tie = invalid
   refuse_connect t (Some x) is hd e call on tie =
       subst (λ (b : Bool). Stands (cond b (fell (after kinds.Failed)) (with_task (after kinds.Failed) Nothing false)) (answered h (ToldError (errors.Server (server_error x))))) (sym on)
       (refuses_connect s h st open_still nothing p rest next whole t (server_error x) e (blames x e is) call hd (tie (ToldError (errors.Server (server_error x))) refl))
 
   -- the tie of a call that reads after other exchanges
-  tied_after : (k : Kind) (c : CallKind) → is_greeting s.context.spot ≡ false → IsTied h.calls (begun_of s.context.spot st.newest.call st.older) → (y : Told) → may_lack y (kind_of (call_of c s.call)) ≡ true → IsTied (record { call = call_of c s.call; what = y } ∷ h.calls) (begun_of (spot_after (deprecates_eof s.context.terms.kept) s.context.spot k) st.newest.call st.older)
+  tied_after : (k : Kind) (c : CallKind) → is_greeting s.context.spot ≡ false → IsTied h.calls (begun_of s.context.spot st.newest.call st.older) → (y : Told) → may_lack y (call_of c s.call) ≡ true → IsTied (record { call = call_of c s.call; what = y } ∷ h.calls) (begun_of (spot_after (deprecates_eof s.context.terms.kept) s.context.spot k) st.newest.call st.older)
   tied_after k c past t y lack =
       none_waits (spot_after (deprecates_eof s.context.terms.kept) s.context.spot k) (record { call = call_of c s.call; what = y } ∷ h.calls) st.newest.call st.older (not_greeting s.context.spot (deprecates_eof s.context.terms.kept) k)
       (quiet_more (record { call = call_of c s.call; what = y }) h.calls (st.newest.call ∷ calls_in st.older) lack (all_begun s.context.spot h.calls st.newest.call st.older past t))
 
-  tied_own : (k : Kind) (t : Task) (c : CallKind) → kind_in t ≡ Some c → TieIs t s.call (spot_after (deprecates_eof s.context.terms.kept) s.context.spot k) h.calls st.newest.call st.older → (y : Told) → may_lack y (kind_of (call_of c s.call)) ≡ true → IsTied (record { call = call_of c s.call; what = y } ∷ h.calls) (begun_of (spot_after (deprecates_eof s.context.terms.kept) s.context.spot k) st.newest.call st.older)
+  tied_own : (k : Kind) (t : Task) (c : CallKind) → kind_in t ≡ Some c → TieIs t s.call (spot_after (deprecates_eof s.context.terms.kept) s.context.spot k) h.calls st.newest.call st.older → (y : Told) → may_lack y (call_of c s.call) ≡ true → IsTied (record { call = call_of c s.call; what = y } ∷ h.calls) (begun_of (spot_after (deprecates_eof s.context.terms.kept) s.context.spot k) st.newest.call st.older)
   tied_own k t c call tie y lack = closed_tie t c s.call (spot_after (deprecates_eof s.context.terms.kept) s.context.spot k) h.calls st.newest.call st.older (record { call = call_of c s.call; what = y }) call refl lack tie
 
   -- a response that is read whole
@@ -146,33 +150,48 @@ module _ (s : Seen) (h : History) (st : Stands s h) (open_still : s.closed ≡ f
   connect_keeps kinds.Field hd on e b = cc
   connect_keeps kinds.Bad hd on e b = cc
 
-  query_keeps : (c : CallKind) → ((status : StatusFlags) → kind_there s.context s.facts.columns p ≡ kinds.Good status → Stands (with_task (after (kinds.Good status)) Nothing true) (answered h ToldReady)) → ((k : Kind) → kind_there s.context s.facts.columns p ≡ k → is_part k ≡ true → is_bad k ≡ false → not_greets k ≡ true → Stands (with_task (after k) (Own c) false) h) → (kind_there s.context s.facts.columns p ≡ kinds.Failed → Keeps (refused s (after kinds.Failed) (err_at (is_greeting s.context.spot) p)) h) → (k : Kind) → kind_there s.context s.facts.columns p ≡ k → is_breaking (react_query c k) ≡ false → Keeps (reacted s (after k) p (react_query c k)) h
-  query_keeps c ready part fails (kinds.Greets n) e b = cc
-  query_keeps c ready part fails (kinds.Good status) e b = ready status e
-  query_keeps c ready part fails kinds.Failed e b = fails e
-  query_keeps c ready part fails (kinds.Count n) e b = part (kinds.Count n) e refl refl refl
-  query_keeps c ready part fails kinds.Column e b = part kinds.Column e refl refl refl
-  query_keeps c ready part fails kinds.ColumnsDone e b = part kinds.ColumnsDone e refl refl refl
-  query_keeps c ready part fails kinds.Row e b = cc
-  query_keeps c ready part fails (kinds.End status) e b = cc
-  query_keeps c ready part fails (kinds.Prepared params columns) e b = part (kinds.Prepared params columns) e refl refl refl
-  query_keeps c ready part fails kinds.Parameter e b = part kinds.Parameter e refl refl refl
-  query_keeps c ready part fails kinds.Field e b = part kinds.Field e refl refl refl
-  query_keeps c ready part fails kinds.Bad e b = cc
+  head_keeps : (good : Reaction) (t : Task) → ((status : StatusFlags) → kind_there s.context s.facts.columns p ≡ kinds.Good status → Keeps (reacted s (after (kinds.Good status)) p good) h) → ((k : Kind) → kind_there s.context s.facts.columns p ≡ k → is_part k ≡ true → is_bad k ≡ false → not_greets k ≡ true → Stands (with_task (after k) t false) h) → (kind_there s.context s.facts.columns p ≡ kinds.Failed → Keeps (refused s (after kinds.Failed) (err_at (is_greeting s.context.spot) p)) h) → (k : Kind) → kind_there s.context s.facts.columns p ≡ k → is_breaking (react_head good t k) ≡ false → Keeps (reacted s (after k) p (react_head good t k)) h
+  head_keeps good t ready part fails (kinds.Greets n) e b = cc
+  head_keeps good t ready part fails (kinds.Good status) e b = ready status e
+  head_keeps good t ready part fails kinds.Failed e b = fails e
+  head_keeps good t ready part fails (kinds.Count n) e b = part (kinds.Count n) e refl refl refl
+  head_keeps good t ready part fails kinds.Column e b = part kinds.Column e refl refl refl
+  head_keeps good t ready part fails kinds.ColumnsDone e b = part kinds.ColumnsDone e refl refl refl
+  head_keeps good t ready part fails kinds.Row e b = cc
+  head_keeps good t ready part fails (kinds.End status) e b = cc
+  head_keeps good t ready part fails (kinds.Prepared params columns) e b = part (kinds.Prepared params columns) e refl refl refl
+  head_keeps good t ready part fails kinds.Parameter e b = part kinds.Parameter e refl refl refl
+  head_keeps good t ready part fails kinds.Field e b = part kinds.Field e refl refl refl
+  head_keeps good t ready part fails kinds.Bad e b = cc
 
   own_query_keeps : (k : Kind) → HeardAs (Own Query) → is_connecting s.task ≡ false → kind_there s.context s.facts.columns p ≡ k → is_breaking (react_query Query k) ≡ false → Keeps (reacted s (after k) p (react_query Query k)) h
   own_query_keeps k hd off e b =
       let queried = is_query s h st open_still nothing p rest next whole hd in
-      query_keeps Query (λ status f. readies s h st open_still nothing p rest next whole Query hd hd.at queried status f (λ gs. refl) refl refl)
+      head_keeps (reactions.Readies true) (Own Query) (λ status f. readies s h st open_still nothing p rest next whole Query hd hd.at queried status f (λ gs. refl) refl refl)
       (λ x f part good quiet. first_parts s h st open_still nothing p rest next whole Query hd hd.at queried x f part good quiet (λ first. (hd.at.0, hd.at.1, first)))
       (λ f. refuse (Own Query) Query (err_at (is_greeting s.context.spot) p) refl hd f refl off refl hd.at.0 (tied_own kinds.Failed (Own Query) Query refl hd.tie)) k e b
 
   own_execution_keeps : (k : Kind) → HeardAs (Own Execute) → is_connecting s.task ≡ false → kind_there s.context s.facts.columns p ≡ k → is_breaking (react_query Execute k) ≡ false → Keeps (reacted s (after k) p (react_query Execute k)) h
   own_execution_keeps k hd off e b =
       let queried = is_execution s h st open_still nothing p rest next whole hd in
-      query_keeps Execute (λ status f. readies s h st open_still nothing p rest next whole Execute hd hd.at queried status f (λ gs. refl) refl refl)
+      head_keeps (reactions.Readies true) (Own Execute) (λ status f. readies s h st open_still nothing p rest next whole Execute hd hd.at queried status f (λ gs. refl) refl refl)
       (λ x f part good quiet. first_parts s h st open_still nothing p rest next whole Execute hd hd.at queried x f part good quiet (λ first. (hd.at.0, hd.at.1, first)))
       (λ f. refuse (Own Execute) Execute (err_at (is_greeting s.context.spot) p) refl hd f refl off refl hd.at.0 (tied_own kinds.Failed (Own Execute) Execute refl hd.tie)) k e b
+
+  -- the head of the response to an execution of a batch, and the rest, of which callers are given nothing
+  running_keeps : (n : ℕ) (k : Kind) → HeardAs (Running n) → is_connecting s.task ≡ false → kind_there s.context s.facts.columns p ≡ k → is_breaking (react_running n k) ≡ false → Keeps (reacted s (after k) p (react_running n k)) h
+  running_keeps n k hd off e b =
+      let following = λ (x : Kind). not_greeting s.context.spot (deprecates_eof s.context.terms.kept) x in
+      head_keeps (reactions.Goes (Finishing n)) (Running n)
+      (λ status f. goes s h st open_still nothing p rest next whole (Running n) (Finishing n) (kinds.Good status) f refl refl refl refl hd (hd.at.0, following (kinds.Good status)) hd.tie (λ _. refl) (λ _. refl))
+      (λ x f part good quiet. goes s h st open_still nothing p rest next whole (Running n) (Running n) x f good (part_calm x part) refl refl hd
+      (hd.at.0, heading_after s.context.spot (deprecates_eof s.context.terms.kept) x hd.at.1 (knows s h st open_still nothing p rest next whole x f) part) hd.tie (λ _. quiet) (λ _. quiet))
+      (λ f. refuse (Running n) Batch (err_at (is_greeting s.context.spot) p) refl hd f refl off refl hd.at.0 (tied_own kinds.Failed (Running n) Batch refl hd.tie)) k e b
+
+  finishing_keeps : (n : ℕ) (k : Kind) → HeardAs (Finishing n) → is_connecting s.task ≡ false → kind_there s.context s.facts.columns p ≡ k → is_breaking (react_whole (Finishing n) k) ≡ false → Keeps (reacted s (after k) p (react_whole (Finishing n) k)) h
+  finishing_keeps n k hd off e b =
+      whole_keeps (Finishing n) refl hd (λ x _ _ _. (hd.at.0, not_greeting s.context.spot (deprecates_eof s.context.terms.kept) x)) (λ x. hd.tie)
+      (λ f. refuse (Finishing n) Batch (err_at (is_greeting s.context.spot) p) refl hd f refl off refl hd.at.0 (tied_own kinds.Failed (Finishing n) Batch refl hd.tie)) k e b
 
   -- the reply to a statement to prepare
   prepare_keeps : (k : Kind) → HeardAs (Own Prepare) → is_connecting s.task ≡ false → kind_there s.context s.facts.columns p ≡ k → is_breaking (react_whole (Own Prepare) k) ≡ false → Keeps (reacted s (after k) p (react_whole (Own Prepare) k)) h
@@ -199,6 +218,7 @@ module _ (s : Seen) (h : History) (st : Stands s h) (open_still : s.closed ≡ f
   own_keeps Query k task hd e b = own_query_keeps k hd (ap is_connecting task) e b
   own_keeps Prepare k task hd e b = prepare_keeps k hd (ap is_connecting task) e b
   own_keeps Execute k task hd e b = own_execution_keeps k hd (ap is_connecting task) e b
+  own_keeps Batch k task hd e b = cc
   own_keeps CloseStmt k task hd e b = cc
   own_keeps NextRow k task hd e b = cc
   own_keeps DropResult k task hd e b = cc
@@ -298,20 +318,13 @@ module _ (s : Seen) (h : History) (st : Stands s h) (open_still : s.closed ≡ f
         (tied_on s h st open_still nothing told p rest next whole Taking TakeSet refl refl hd.at.1 hd.at.0 hd hd.tie k h.calls (tied_now s h st open_still nothing told p rest next whole Taking TakeSet refl refl hd.at.1 hd.at.0 hd hd.tie))
 
     taking_keeps : (k : Kind) → kind_there s.context s.facts.columns p ≡ k → is_breaking (react_taking k) ≡ false → Keeps (reacted s (after k) p (react_taking k)) h
-    taking_keeps (kinds.Greets n) e b = cc
-    taking_keeps (kinds.Good status) e b = taken_stands (with_task (after (kinds.Good status)) Nothing true) (answered h ToldReady)
+    taking_keeps =
+        head_keeps reactions.Takes Taking
+        (λ status e. taken_stands (with_task (after (kinds.Good status)) Nothing true) (answered h ToldReady)
         (answered_stands (with_task (after (kinds.Good status)) Nothing true) h calls.TakeSet ToldReady hd.pending_is
-        (left_lone s h st open_still nothing told p rest next whole Taking TakeSet refl refl hd.at.1 hd.at.0 hd hd.tie status e refl refl refl refl))
-    taking_keeps kinds.Failed e b = refuse Taking TakeSet (err_at (is_greeting s.context.spot) p) refl hd e refl (ap is_connecting task) refl hd.at.0 (tied_after kinds.Failed TakeSet (settled_not_greeting s.context.spot hd.at.1) hd.tie)
-    taking_keeps (kinds.Count n) e b = take_head (kinds.Count n) e refl refl refl
-    taking_keeps kinds.Column e b = take_head kinds.Column e refl refl refl
-    taking_keeps kinds.ColumnsDone e b = take_head kinds.ColumnsDone e refl refl refl
-    taking_keeps kinds.Row e b = cc
-    taking_keeps (kinds.End status) e b = cc
-    taking_keeps (kinds.Prepared params columns) e b = take_head (kinds.Prepared params columns) e refl refl refl
-    taking_keeps kinds.Parameter e b = take_head kinds.Parameter e refl refl refl
-    taking_keeps kinds.Field e b = take_head kinds.Field e refl refl refl
-    taking_keeps kinds.Bad e b = cc
+        (left_lone s h st open_still nothing told p rest next whole Taking TakeSet refl refl hd.at.1 hd.at.0 hd hd.tie status e refl refl refl refl)))
+        take_head
+        (λ e. refuse Taking TakeSet (err_at (is_greeting s.context.spot) p) refl hd e refl (ap is_connecting task) refl hd.at.0 (tied_after kinds.Failed TakeSet (settled_not_greeting s.context.spot hd.at.1) hd.tie))
 
   -- a passing over the rest of a set
   module _ (told : s.untold ≡ false) (task : s.task ≡ Skipping) (hd : HeardAs Skipping) where
@@ -352,6 +365,8 @@ module _ (s : Seen) (h : History) (st : Stands s h) (open_still : s.closed ≡ f
   react_keeps (Own c) task hd told k e b = own_keeps c k task hd e b
   react_keeps Giving task hd told k e b = cc
   react_keeps (Arranging n) task hd told k e b = arranging_keeps n k hd (ap is_connecting task) e b
+  react_keeps (Running n) task hd told k e b = running_keeps n k hd (ap is_connecting task) e b
+  react_keeps (Finishing n) task hd told k e b = finishing_keeps n k hd (ap is_connecting task) e b
   react_keeps Reading task hd told k e b = reading_keeps (told refl) task hd k e b
   react_keeps Dropping task hd told k e b = dropping_keeps (told refl) task hd k e b
   react_keeps Taking task hd told k e b = taking_keeps (told refl) task hd k e b

@@ -8,11 +8,11 @@ use Rattle.my_grammar.specs.Talk.{Start}
 use Rattle.my_reading.specs.declared.call.Call.{Call}
 use Rattle.my_reading.specs.declared.call.Call.TheVariants as calls
 use Rattle.my_reading.specs.declared.call.CallKind.{CallKind}
-use Rattle.my_reading.specs.declared.call.CallKind.TheVariants.{Connect, Query, Prepare, Execute, CloseStmt, NextRow, DropResult, TakeSet, SkipTaken, Ping, Quit}
+use Rattle.my_reading.specs.declared.call.CallKind.TheVariants.{Connect, Query, Prepare, Execute, Batch, CloseStmt, NextRow, DropResult, TakeSet, SkipTaken, Ping, Quit}
 use Rattle.my_session.specs.declared.task.LinkFault.{LinkFault}
 use Rattle.my_session.specs.declared.task.LinkFault.TheVariants.{NoMemory}
 use Rattle.my_session.specs.declared.task.Task.{Task}
-use Rattle.my_session.specs.declared.task.Task.TheVariants.{Nothing, Begun, Cleaning, Own, Giving, Arranging, Reading, Dropping, Taking, Skipping, Leaving, Failing}
+use Rattle.my_session.specs.declared.task.Task.TheVariants.{Nothing, Begun, Cleaning, Own, Giving, Arranging, Running, Finishing, Reading, Dropping, Taking, Skipping, Leaving, Failing}
 use Rattle.my_reading.specs.Calls.{kind_of, call_of, is_quit}
 use Rattle.my_reading.specs.Statements.{first_statements}
 use Rattle.my_session.specs.Tasks.{kind_in, is_open}
@@ -75,6 +75,7 @@ call_is calls.Connect = refl
 call_is (calls.Query q) = refl
 call_is (calls.Prepare q) = refl
 call_is (calls.Execute statement params) = refl
+call_is (calls.Batch statement lists) = refl
 call_is (calls.CloseStmt id) = refl
 call_is calls.NextRow = refl
 call_is calls.DropResult = refl
@@ -96,6 +97,7 @@ begun_at Connect spot connected e at = first_at spot connected e at
 begun_at Query spot connected e at = later_at spot connected e at
 begun_at Prepare spot connected e at = later_at spot connected e at
 begun_at Execute spot connected e at = later_at spot connected e at
+begun_at Batch spot connected e at = later_at spot connected e at
 begun_at CloseStmt spot connected e at = later_at spot connected e at
 begun_at NextRow spot connected e at = later_at spot connected e at
 begun_at DropResult spot connected e at = later_at spot connected e at
@@ -109,6 +111,7 @@ quits calls.Connect opened e = cc
 quits (calls.Query q) opened e = cc
 quits (calls.Prepare q) opened e = cc
 quits (calls.Execute statement params) opened e = cc
+quits (calls.Batch statement lists) opened e = cc
 quits (calls.CloseStmt id) opened e = cc
 quits calls.NextRow opened e = cc
 quits calls.DropResult opened e = cc
@@ -211,6 +214,8 @@ fails_as (Cleaning d) c fault e = let same : d ≡ c = cc in ap (λ (x : CallKin
 fails_as (Own d) c fault e = let same : d ≡ c = cc in ap (λ (x : CallKind). Failing x fault) same
 fails_as Giving c fault e = let same : Prepare ≡ c = cc in ap (λ (x : CallKind). Failing x fault) same
 fails_as (Arranging n) c fault e = let same : Connect ≡ c = cc in ap (λ (x : CallKind). Failing x fault) same
+fails_as (Running n) c fault e = let same : Batch ≡ c = cc in ap (λ (x : CallKind). Failing x fault) same
+fails_as (Finishing n) c fault e = let same : Batch ≡ c = cc in ap (λ (x : CallKind). Failing x fault) same
 fails_as Reading c fault e = let same : NextRow ≡ c = cc in ap (λ (x : CallKind). Failing x fault) same
 fails_as Dropping c fault e = let same : DropResult ≡ c = cc in ap (λ (x : CallKind). Failing x fault) same
 fails_as Taking c fault e = let same : TakeSet ≡ c = cc in ap (λ (x : CallKind). Failing x fault) same
@@ -225,6 +230,8 @@ fail_tie (Cleaning d) c fault opened spot made call older e t = inr t
 fail_tie (Own d) c fault opened spot made call older e t = let same : d ≡ c = cc in inl (sym (t.0 ∙ ap (λ (x : CallKind). call_of x opened) same), inl t.1)
 fail_tie Giving c fault opened spot made call older e t = let same : Prepare ≡ c = cc in inl (subst (λ (x : CallKind). OwnsFirst (call_of x opened) (call ∷ calls_in older) (IsTied made)) same t)
 fail_tie (Arranging n) c fault opened spot made call older e t = let same : Connect ≡ c = cc in inl (subst (λ (x : CallKind). OwnsFirst (call_of x opened) (call ∷ calls_in older) (IsTied made)) same t)
+fail_tie (Running n) c fault opened spot made call older e t = let same : Batch ≡ c = cc in inl (subst (λ (x : CallKind). OwnsFirst (call_of x opened) (call ∷ calls_in older) (IsTied made)) same t)
+fail_tie (Finishing n) c fault opened spot made call older e t = let same : Batch ≡ c = cc in inl (subst (λ (x : CallKind). OwnsFirst (call_of x opened) (call ∷ calls_in older) (IsTied made)) same t)
 fail_tie Reading c fault opened spot made call older e t = inr t
 fail_tie Dropping c fault opened spot made call older e t = inr t
 fail_tie Taking c fault opened spot made call older e t = inr t
@@ -295,6 +302,8 @@ no_task (Cleaning c) e = cc
 no_task (Own c) e = cc
 no_task Giving e = cc
 no_task (Arranging n) e = cc
+no_task (Running n) e = cc
+no_task (Finishing n) e = cc
 no_task Reading e = cc
 no_task Dropping e = cc
 no_task Taking e = cc
@@ -334,6 +343,7 @@ begun_rests Connect spot connected at = subst (λ b. cond b (is_settled spot) (i
 begun_rests Query spot connected at = rest_as spot connected at.0 at.1
 begun_rests Prepare spot connected at = rest_as spot connected at.0 at.1
 begun_rests Execute spot connected at = rest_as spot connected at.0 at.1
+begun_rests Batch spot connected at = rest_as spot connected at.0 at.1
 begun_rests CloseStmt spot connected at = rest_as spot connected at.0 at.1
 begun_rests NextRow spot connected at = rest_as spot connected at.0 at.1
 begun_rests DropResult spot connected at = rest_as spot connected at.0 at.1
@@ -349,6 +359,8 @@ task_rests (Cleaning c) spot closed connected count newest off at e = cc
 task_rests (Own c) spot closed connected count newest off at e = cc
 task_rests Giving spot closed connected count newest off at e = cc
 task_rests (Arranging n) spot closed connected count newest off at e = cc
+task_rests (Running n) spot closed connected count newest off at e = cc
+task_rests (Finishing n) spot closed connected count newest off at e = cc
 task_rests Reading spot closed connected count newest off at e = rest_as spot connected at.0 (settled_by spot at.1 off)
 task_rests Dropping spot closed connected count newest off at e = rest_as spot connected at.0 (settled_by spot at.1 off)
 task_rests Taking spot closed connected count newest off at e = rest_as spot connected at.0 (settled_by spot at.1 off)
@@ -363,6 +375,8 @@ task_keeps (Cleaning c) spot closed connected count newest off at e op = cc
 task_keeps (Own c) spot closed connected count newest off at e op = cc
 task_keeps Giving spot closed connected count newest off at e op = cc
 task_keeps (Arranging n) spot closed connected count newest off at e op = cc
+task_keeps (Running n) spot closed connected count newest off at e op = cc
+task_keeps (Finishing n) spot closed connected count newest off at e op = cc
 task_keeps Reading spot closed connected count newest off at e op = refl
 task_keeps Dropping spot closed connected count newest off at e op = refl
 task_keeps Taking spot closed connected count newest off at e op = refl
@@ -377,6 +391,8 @@ task_owes (Cleaning c) spot off = refl
 task_owes (Own c) spot off = cc
 task_owes Giving spot off = cc
 task_owes (Arranging n) spot off = cc
+task_owes (Running n) spot off = cc
+task_owes (Finishing n) spot off = cc
 task_owes Reading spot off = refl
 task_owes Dropping spot off = refl
 task_owes Taking spot off = refl

@@ -1,5 +1,6 @@
 -- What is done where no payload is read keeps the relation to histories, and so does each move.
-use Rattle.std.proofs.Common.{◌≡◌, ℕ, List, [], ◌∷◌, ◌||◌, Bool, true, false, cond, Option, Some, None, ◌⊎◌, inl, inr, refl, sym, ap, ◌∙◌, subst}
+use Rattle.std.proofs.Common.{◌≡◌, ℕ, List, [], ◌∷◌, ◌||◌, not, is_some, Bool, true, false, cond, Option, Some, None, ◌⊎◌, inl, inr, refl, sym, ap, ◌∙◌, subst}
+use Rattle.std.specs.List.{slice_get}
 use Rattle.my_flags.specs.Sets.{has_more_results}
 use Rattle.my_frame.specs.Front.{Front, Waiting, Broken, Whole, front_at}
 use Rattle.my_frame.specs.FrontLaws.{AreBytes, IsWhole}
@@ -12,17 +13,19 @@ use Rattle.my_grammar.specs.Sets.{context_in, Sets, NoSets, Lone, Failed, Headin
 use Rattle.my_grammar.specs.declared.spot.Context.{Context}
 use Rattle.my_grammar.specs.declared.spot.Terms.{Terms}
 use Rattle.my_grammar.specs.Talk.{Talk, Start, Unwelcome, Greeted, Settled, Asked, Replied, Queried, Preparing, Silent, context_of}
+use Rattle.my_params.specs.declared.params.Params.{Params}
 use Rattle.my_reading.specs.declared.call.Call.TheVariants as calls
 use Rattle.my_reading.specs.declared.call.CallKind.{CallKind}
-use Rattle.my_reading.specs.declared.call.CallKind.TheVariants.{Connect, Query, Prepare, Execute, CloseStmt, NextRow, DropResult, TakeSet, SkipTaken, Ping, Quit}
+use Rattle.my_reading.specs.declared.call.CallKind.TheVariants.{Connect, Query, Prepare, Execute, Batch, CloseStmt, NextRow, DropResult, TakeSet, SkipTaken, Ping, Quit}
 use Rattle.my_session.specs.declared.task.LinkFault.{LinkFault}
 use Rattle.my_session.specs.declared.task.LinkFault.TheVariants as faults
 use Rattle.my_session.specs.declared.task.Task.{Task}
-use Rattle.my_session.specs.declared.task.Task.TheVariants.{Nothing, Begun, Cleaning, Own, Giving, Arranging, Reading, Dropping, Taking, Skipping, Leaving, Failing}
+use Rattle.my_session.specs.declared.task.Task.TheVariants.{Nothing, Begun, Cleaning, Own, Giving, Arranging, Running, Finishing, Reading, Dropping, Taking, Skipping, Leaving, Failing}
 use Rattle.my_reading.specs.declared.error.Error.{Error}
 use Rattle.my_session.specs.declared.tables.Plan.{Plan}
 use Rattle.my_session.specs.declared.tables.Plan.TheVariants as plans
-use Rattle.my_reading.specs.Calls.{kind_of, call_of, id_in, text_in}
+use Rattle.my_reading.specs.Calls.{kind_of, call_of, id_in, lists_in, statement_in, text_in}
+use Rattle.my_reading.specs.Executions.{values_for}
 use Rattle.my_reading.specs.Facts.{prepared_by}
 use Rattle.my_reading.specs.Statements.{held_in, is_mixed_text, leaving, names_of, query_of, statement_with, with_columns, with_fetched, without_statement}
 use Rattle.my_statements.specs.Cache.{Held}
@@ -33,16 +36,16 @@ use Rattle.my_session.specs.LinkErrors.{link_error}
 use Rattle.my_session.specs.Groups.{Group, groups, with_stop, stop_given, given, given_after}
 use Rattle.my_reading.specs.Told.{Told, ToldReady, ToldEnd, ToldNone, ToldStatement, ToldError, closes, closes_by}
 use Rattle.my_session.specs.History.{History, Made, answered, noted, has_closed}
-use Rattle.my_session.specs.Machine.{Move, Goes, Needs, is_doubled, looked, with_kept, kept, refusal, advanced, with_task, failed_by, reply_to, above, unless_above, reacted, read_by, reading, planned, when_owed, next_by, next, is_greeting}
+use Rattle.my_session.specs.Machine.{Move, Goes, Needs, is_doubled, looked, with_kept, kept, batched, refusal, refused_by, advanced, with_task, failed_by, reply_to, above, unless_above, reacted, read_by, reading, planned, when_owed, next_by, next, is_greeting}
 use Rattle.my_session.specs.Seen.{Seen}
 use Rattle.my_session.specs.ServerErrors.{errors_told, with_told}
 use Rattle.my_session.specs.Stands.{Stands, Heard, TaskIs, TieIs, call_with, begun_of, is_first, is_left, is_shaking, is_lone, keeps, known_part, is_alive, owes}
 use Rattle.my_session.specs.Steps.{is_settled}
-use Rattle.my_session.specs.Tables.{react, is_breaking, plan_of, clean_plan, own_plan, query_plan, execute_plan, prepare_plan, read_plan, drop_plan, take_plan, skip_plan, first_plan}
-use Rattle.my_session.proofs.Stands.Asking.{asks_keep, arranges_keep, refused_or, closes_keep}
+use Rattle.my_session.specs.Tables.{react, is_breaking, plan_of, ask_plan, run_plan, clean_plan, own_plan, query_plan, execute_plan, prepare_plan, read_plan, drop_plan, take_plan, skip_plan, first_plan}
+use Rattle.my_session.proofs.Stands.Asking.{asks_keep, runs_keep, arranges_keep, refused_or, values_or, closes_keep}
 use Rattle.my_session.proofs.Stands.Keeps.{Keeps, is_reader, react_keeps}
 use Rattle.my_session.proofs.Stands.Reacts.{falls, fell_stands}
-use Rattle.my_session.proofs.Stands.Spots.{settled_reads, settled_not_greeting}
+use Rattle.my_session.proofs.Stands.Spots.{settled_reads, settled_not_greeting, heading_not_greeting}
 use Rattle.my_session.proofs.Stands.Ties.{answered_stands, noted_stands, taken_stands, known_stands, own_after, owns_all, at_greeting, quiet_more, arranged_more, first_count}
 use Rattle.my_session.proofs.Stands.Firsts.{given_first, first_groups}
 use Rattle.my_session.proofs.Stands.Views.{given_all}
@@ -156,7 +159,7 @@ module _ (s : Seen) (h : History) (st : Stands s h) (open_still : s.closed ≡ f
   rest_at made e _ = subst (λ b. cond b (is_settled s.context.spot) (is_greeting s.context.spot) ≡ true) (sym made) e
 
   -- a call ends that gives nothing
-  quiet : (t : Task) (c : CallKind) (w : Told) → HeardAs t → kind_in t ≡ Some c → keeps t ≡ true → closes w (kind_of (call_of c s.call)) ≡ false → may_lack w (kind_of (call_of c s.call)) ≡ true → connects w (kind_of (call_of c s.call)) ≡ false → given_after w (kind_of (call_of c s.call)) (given h.calls) ≡ given h.calls → with_told w (errors_told h.calls) ≡ errors_told h.calls → has_connected h.calls ≡ true → is_settled s.context.spot ≡ true → IsTied h.calls (begun_of s.context.spot st.newest.call st.older) → Stands (with_task s Nothing s.untold) (answered h w)
+  quiet : (t : Task) (c : CallKind) (w : Told) → HeardAs t → kind_in t ≡ Some c → keeps t ≡ true → closes w (kind_of (call_of c s.call)) ≡ false → may_lack w (call_of c s.call) ≡ true → connects w (kind_of (call_of c s.call)) ≡ false → given_after w (kind_of (call_of c s.call)) (given h.calls) ≡ given h.calls → with_told w (errors_told h.calls) ≡ errors_told h.calls → has_connected h.calls ≡ true → is_settled s.context.spot ≡ true → IsTied h.calls (begun_of s.context.spot st.newest.call st.older) → Stands (with_task s Nothing s.untold) (answered h w)
   quiet t c w hd call kept still lack quiet_one none silent made settled tie = answered_stands (with_task s Nothing s.untold) h (call_of c s.call) w (hd.pending_is ∙ ap (λ k. call_with k s.call) call) (record {
     newest = st.newest;
     older = st.older;
@@ -187,12 +190,19 @@ module _ (s : Seen) (h : History) (st : Stands s h) (open_still : s.closed ≡ f
       let found : Told = ToldStatement (statement_with x.stmt (names_of (text_in s.call))) in
       known_stands (with_task s Nothing s.untold) (answered h found) (with_fetched (query_of (text_in s.call)) s.statements) (quiet (Begun Prepare) Prepare found hd refl refl refl refl refl refl refl hd.at.0 hd.at.1 hd.tie)
 
+  -- a batch begins with the parameters of its first execution; where there is none, it is done
+  batched_keeps : HeardAs (Begun Batch) → (o : Option Params) → slice_get (lists_in s.call) 0 ≡ o → Keeps (batched s o) h
+  batched_keeps hd None at = quiet (Begun Batch) Batch ToldReady hd refl refl refl (ap (λ o. not (is_some o)) at) refl refl refl hd.at.0 hd.at.1 hd.tie
+  batched_keeps hd (Some params) at = values_or s h st open_still nothing op params (refused_by (values_for (statement_in s.call) params)) (record { seen = with_task s (Cleaning Batch) s.untold; does = Goes }) refl
+      (λ _. starts Batch (Cleaning Batch) hd refl refl (refl, hd.at.0, settled_not_greeting s.context.spot (settled_reads s.context.spot hd.at.1)) hd.tie)
+
   first_keeps : (c : CallKind) → HeardAs (Begun c) → Keeps (planned s (first_plan c)) h
   first_keeps Connect hd = starts Connect (Own Connect) hd refl refl (hd.at.0, ap is_shaking hd.at.1, first_count st.newest st.older (hd.first (ap is_greeting hd.at.1)).0 (hd.first (ap is_greeting hd.at.1)).1) ((hd.first (ap is_greeting hd.at.1)).0, at_greeting s.context.spot h.calls st.newest.call st.older (ap is_greeting hd.at.1) hd.tie)
   first_keeps Query hd = starts Query (Cleaning Query) hd refl refl (refl, hd.at.0, settled_not_greeting s.context.spot (settled_reads s.context.spot hd.at.1)) hd.tie
   first_keeps Prepare hd = looked_keeps hd (is_mixed_text (text_in s.call)) (held_in s.statements (query_of (text_in s.call)))
   first_keeps Execute hd = refused_or s h st open_still nothing op Execute (refusal Execute s.call) (record { seen = with_task s (Cleaning Execute) s.untold; does = Goes }) refl
       (λ _. starts Execute (Cleaning Execute) hd refl refl (refl, hd.at.0, settled_not_greeting s.context.spot (settled_reads s.context.spot hd.at.1)) hd.tie)
+  first_keeps Batch hd = batched_keeps hd (slice_get (lists_in s.call) 0) refl
   first_keeps CloseStmt hd = known_stands (with_task s (Cleaning CloseStmt) s.untold) h (without_statement (id_in s.call) s.statements)
       (starts CloseStmt (Cleaning CloseStmt) hd refl refl (refl, hd.at.0, settled_not_greeting s.context.spot (settled_reads s.context.spot hd.at.1)) hd.tie)
   first_keeps NextRow hd = starts NextRow Reading hd refl refl (hd.at.0, settled_reads s.context.spot hd.at.1) hd.tie
@@ -270,6 +280,46 @@ module _ (s : Seen) (h : History) (st : Stands s h) (open_still : s.closed ≡ f
   -- so is an execution, whose columns are known then
   learns : HeardAs (Own Execute) → s.context.spot ≡ spots.Rows → Keeps (planned s plans.Learns) h
   learns hd rows = known_stands (with_task s Nothing s.untold) (answered h ToldReady) (with_columns (id_in (call_of Execute s.call)) s.facts.columns s.statements) (readied Execute hd hd.at (λ gs. refl) refl refl rows)
+
+  -- the rows of an execution of a batch are read whole
+  known_now : (n : ℕ) → s.task ≡ Running n → HeardAs (Running n) → Keeps (planned s (plans.Notes n)) h
+  known_now n task hd = known_stands (with_task s (Finishing n) s.untold) h (with_columns (id_in (call_of Batch s.call)) s.facts.columns s.statements) (record {
+    newest = st.newest;
+    older = st.older;
+    wire = st.wire;
+    heard = record {
+      pending_is = hd.pending_is;
+      closed_is = hd.closed_is;
+      alive = λ _. open_still;
+      given_is = hd.given_is;
+      errors = hd.errors;
+      each = hd.each;
+      lone = hd.lone;
+      fresh = λ _ no _. cc;
+      at = (hd.at.0, heading_not_greeting s.context.spot hd.at.1);
+      first = hd.first;
+      tie = hd.tie;
+    };
+    arranged = st.arranged;
+    ended_is = st.ended_is;
+    settled = λ _. nothing;
+  })
+
+  runs : AreBytes s.unread → (n : ℕ) → s.task ≡ Running n → HeardAs (Running n) → (spot : Spot) → Keeps (planned s (run_plan n spot)) h
+  runs bytes n task hd spots.Idle = reads bytes (not_reader (Running n) task refl)
+  runs bytes n task hd spots.Greeting = reads bytes (not_reader (Running n) task refl)
+  runs bytes n task hd spots.Authentication = reads bytes (not_reader (Running n) task refl)
+  runs bytes n task hd spots.Single = reads bytes (not_reader (Running n) task refl)
+  runs bytes n task hd spots.Head = reads bytes (not_reader (Running n) task refl)
+  runs bytes n task hd spots.Further = reads bytes (not_reader (Running n) task refl)
+  runs bytes n task hd (spots.Columns left) = reads bytes (not_reader (Running n) task refl)
+  runs bytes n task hd spots.ColumnsEnd = reads bytes (not_reader (Running n) task refl)
+  runs bytes n task hd spots.Rows = known_now n task hd
+  runs bytes n task hd spots.Prepare = reads bytes (not_reader (Running n) task refl)
+  runs bytes n task hd (spots.Parameters left columns) = reads bytes (not_reader (Running n) task refl)
+  runs bytes n task hd (spots.ParametersEnd columns) = reads bytes (not_reader (Running n) task refl)
+  runs bytes n task hd (spots.Fields left) = reads bytes (not_reader (Running n) task refl)
+  runs bytes n task hd spots.FieldsEnd = reads bytes (not_reader (Running n) task refl)
 
   -- the close of a statement has no reply
   closed : HeardAs (Own CloseStmt) → Keeps (planned s plans.Readies) h
@@ -403,6 +453,7 @@ module _ (s : Seen) (h : History) (st : Stands s h) (open_still : s.closed ≡ f
   owns bytes Query task hd = queries bytes task hd s.context.spot refl
   owns bytes Prepare task hd = prepares bytes task hd s.context.spot refl
   owns bytes Execute task hd = executions bytes task hd s.context.spot refl
+  owns bytes Batch task hd = absurd hd.at
   owns bytes CloseStmt task hd = closed hd
   owns bytes NextRow task hd = absurd hd.at
   owns bytes DropResult task hd = absurd hd.at
@@ -532,10 +583,12 @@ module _ (s : Seen) (h : History) (st : Stands s h) (open_still : s.closed ≡ f
   plan_keeps : AreBytes s.unread → fault_in s.task ≡ None → (t : Task) → s.task ≡ t → HeardAs t → Keeps (planned s (plan_of t s.context.spot s.untold)) h
   plan_keeps bytes sound Nothing task hd = let no : false ≡ true = sym (ap is_open task) ∙ op in cc
   plan_keeps bytes sound (Begun c) task hd = first_keeps c hd
-  plan_keeps bytes sound (Cleaning c) task hd = cleans bytes (Cleaning c) task refl refl (plans.Asks c) (asks_keep s h st open_still nothing op c hd) s.context.spot refl s.untold refl
+  plan_keeps bytes sound (Cleaning c) task hd = cleans bytes (Cleaning c) task refl refl (ask_plan c) (asks_keep s h st open_still nothing op c hd) s.context.spot refl s.untold refl
   plan_keeps bytes sound (Own c) task hd = owns bytes c task hd
   plan_keeps bytes sound Giving task hd = gives_it hd
   plan_keeps bytes sound (Arranging n) task hd = cleans bytes (Arranging n) task refl refl (plans.Arranges n) (arranges_keep s h st open_still nothing op n hd) s.context.spot refl s.untold refl
+  plan_keeps bytes sound (Running n) task hd = runs bytes n task hd s.context.spot
+  plan_keeps bytes sound (Finishing n) task hd = cleans bytes (Finishing n) task refl refl (plans.Runs n) (runs_keep s h st open_still nothing op n hd) s.context.spot refl s.untold refl
   plan_keeps bytes sound Reading task hd = reading_plan bytes task hd s.untold refl
   plan_keeps bytes sound Dropping task hd = dropping_plan bytes task hd s.untold refl
   plan_keeps bytes sound Taking task hd = taking_plan bytes task hd s.untold refl
@@ -561,6 +614,8 @@ module _ (s : Seen) (h : History) (st : Stands s h) (bytes : AreBytes s.unread) 
   alive_or (Own c) task sound = inl (st.heard.alive (ap is_alive task))
   alive_or Giving task sound = inl (st.heard.alive (ap is_alive task))
   alive_or (Arranging n) task sound = inl (st.heard.alive (ap is_alive task))
+  alive_or (Running n) task sound = inl (st.heard.alive (ap is_alive task))
+  alive_or (Finishing n) task sound = inl (st.heard.alive (ap is_alive task))
   alive_or Reading task sound = inl (st.heard.alive (ap is_alive task))
   alive_or Dropping task sound = inl (st.heard.alive (ap is_alive task))
   alive_or Taking task sound = inl (st.heard.alive (ap is_alive task))

@@ -42,7 +42,7 @@ use Rattle.my_session.proofs.Stands.Views.{given_on, given_all, is_part, part_gr
 use Rattle.my_session.proofs.Stands.Wired.{wire_read, wire_fell, talk_grows, silent}
 
 -- a call ends and closes the session
-pub falls : (s : Seen) (h : History) (t : Told) (c : CallKind) → kind_in s.task ≡ Some c → closes t (kind_of (call_of c s.call)) ≡ true → may_lack t (kind_of (call_of c s.call)) ≡ true → given_after t (kind_of (call_of c s.call)) (given h.calls) ≡ given h.calls → with_told t (errors_told h.calls) ≡ errors_told h.calls → Stands s h → Stands (fell s) (answered h t)
+pub falls : (s : Seen) (h : History) (t : Told) (c : CallKind) → kind_in s.task ≡ Some c → closes t (kind_of (call_of c s.call)) ≡ true → may_lack t (call_of c s.call) ≡ true → given_after t (kind_of (call_of c s.call)) (given h.calls) ≡ given h.calls → with_told t (errors_told h.calls) ≡ errors_told h.calls → Stands s h → Stands (fell s) (answered h t)
 falls s h t c call fatal lack none silent st =
     let hd = st.heard in
     answered_stands (fell s) h (call_of c s.call) t (hd.pending_is ∙ ap (λ k. call_with k s.call) call) (record {
@@ -85,7 +85,7 @@ or_false true = refl
 or_false false = refl
 
 -- a part of a head is no ERR
-part_calm : (k : Kind) → is_part k ≡ true → is_failed k ≡ false
+pub part_calm : (k : Kind) → is_part k ≡ true → is_failed k ≡ false
 part_calm (Greets c) e = refl
 part_calm (Good status) e = refl
 part_calm Failed e = cc
@@ -275,7 +275,7 @@ module _ (s : Seen) (h : History) (st : Stands s h) (open_still : s.closed ≡ f
   tied_now = all_begun s.context.spot h.calls st.newest.call st.older (settled_not_greeting s.context.spot reads) tied
 
   -- an item or an end is returned, or passed over
-  pub shows : (u : Task) (k : Kind) (w : Told) → kind_there s.context s.facts.columns p ≡ k → is_bad k ≡ false → owes u ≡ false → not_greets k ≡ true → closes w (kind_of (call_of c s.call)) ≡ false → may_lack w (kind_of (call_of c s.call)) ≡ true → is_failed k ≡ false → with_told w (errors_told h.calls) ≡ errors_told h.calls → connects w (kind_of (call_of c s.call)) || has_connected h.calls ≡ true → given_after w (kind_of (call_of c s.call)) (groups (sets_of st.newest.talk) ∷ givens st.older) ≡ groups (sets_of (grow k st.newest.talk p)) ∷ givens st.older → ((m : List Made) → has_connected m ≡ true → TaskIs u (spot_by s h st open_still nothing p rest next whole k) s.closed (has_connected m) (connecting_in (st.newest ∷ st.older)) (newest_by s h st open_still nothing p rest next whole k (Some (groups (sets_of (grow k st.newest.talk p)))))) → ((m : List Made) → IsTied m (begun_of (spot_by s h st open_still nothing p rest next whole k) st.newest.call st.older) → TieIs u s.call (spot_by s h st open_still nothing p rest next whole k) m st.newest.call st.older) → Stands (with_task (advanced s k p rest next) u false) (record { sent = h.sent; taken = h.taken; calls = record { call = call_of c s.call; what = w } ∷ h.calls; pending = call_with (kind_in u) s.call; ended = h.ended; lost = h.lost })
+  pub shows : (u : Task) (k : Kind) (w : Told) → kind_there s.context s.facts.columns p ≡ k → is_bad k ≡ false → owes u ≡ false → not_greets k ≡ true → closes w (kind_of (call_of c s.call)) ≡ false → may_lack w (call_of c s.call) ≡ true → is_failed k ≡ false → with_told w (errors_told h.calls) ≡ errors_told h.calls → connects w (kind_of (call_of c s.call)) || has_connected h.calls ≡ true → given_after w (kind_of (call_of c s.call)) (groups (sets_of st.newest.talk) ∷ givens st.older) ≡ groups (sets_of (grow k st.newest.talk p)) ∷ givens st.older → ((m : List Made) → has_connected m ≡ true → TaskIs u (spot_by s h st open_still nothing p rest next whole k) s.closed (has_connected m) (connecting_in (st.newest ∷ st.older)) (newest_by s h st open_still nothing p rest next whole k (Some (groups (sets_of (grow k st.newest.talk p)))))) → ((m : List Made) → IsTied m (begun_of (spot_by s h st open_still nothing p rest next whole k) st.newest.call st.older) → TieIs u s.call (spot_by s h st open_still nothing p rest next whole k) m st.newest.call st.older) → Stands (with_task (advanced s k p rest next) u false) (record { sent = h.sent; taken = h.taken; calls = record { call = call_of c s.call; what = w } ∷ h.calls; pending = call_with (kind_in u) s.call; ended = h.ended; lost = h.lost })
   shows u k w e good owe quiet still lack calm silent con gave at tie = lands s h st open_still nothing p rest next whole k u false (Some (groups (sets_of (grow k st.newest.talk p)))) _ (call_with (kind_in u) s.call) e good (record {
     pending_is = refl;
     closed_is = hd.closed_is ∙ ap (λ b. (b || has_closed h.calls) || h.lost) (sym still);
@@ -319,7 +319,7 @@ module _ (s : Seen) (h : History) (st : Stands s h) (open_still : s.closed ≡ f
   good_gives status e = good_groups st.newest.talk p status (talk_spot spots.Further (good_spot s.context.spot status reads (knows s h st open_still nothing p rest next whole (Good status) e)))
 
   -- a stream takes a lone OK, whose end is left to be returned
-  pub left_lone : (status : StatusFlags) → kind_there s.context s.facts.columns p ≡ Good status → closes ToldReady (kind_of (call_of c s.call)) ≡ false → may_lack ToldReady (kind_of (call_of c s.call)) ≡ true → connects ToldReady (kind_of (call_of c s.call)) ≡ false → given_after ToldReady (kind_of (call_of c s.call)) (given h.calls) ≡ given h.calls → Stands (with_task (advanced s (Good status) p rest next) tasks.Nothing true) (record { sent = h.sent; taken = h.taken; calls = record { call = call_of c s.call; what = ToldReady } ∷ h.calls; pending = None; ended = h.ended; lost = h.lost })
+  pub left_lone : (status : StatusFlags) → kind_there s.context s.facts.columns p ≡ Good status → closes ToldReady (kind_of (call_of c s.call)) ≡ false → may_lack ToldReady (call_of c s.call) ≡ true → connects ToldReady (kind_of (call_of c s.call)) ≡ false → given_after ToldReady (kind_of (call_of c s.call)) (given h.calls) ≡ given h.calls → Stands (with_task (advanced s (Good status) p rest next) tasks.Nothing true) (record { sent = h.sent; taken = h.taken; calls = record { call = call_of c s.call; what = ToldReady } ∷ h.calls; pending = None; ended = h.ended; lost = h.lost })
   left_lone status e still lack con gave =
       let further : s.context.spot ≡ spots.Further = good_spot s.context.spot status reads (knows s h st open_still nothing p rest next whole (Good status) e) in
       let settled_here : is_settled (spot_by s h st open_still nothing p rest next whole (Good status)) ≡ true = ap (λ (x : Spot). is_settled (spot_after (deprecates_eof s.context.terms.kept) x (Good status))) further ∙ settled_more status in

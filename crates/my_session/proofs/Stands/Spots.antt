@@ -7,14 +7,15 @@ use Rattle.my_grammar.specs.declared.spot.Kind.{Kind}
 use Rattle.my_grammar.specs.declared.spot.Kind.TheVariants.{Greets, Good, Failed, Count, Column, ColumnsDone, Row, End, Prepared, Parameter, Field, Bad}
 use Rattle.my_grammar.specs.declared.spot.Spot.{Spot}
 use Rattle.my_grammar.specs.declared.spot.Spot.TheVariants as spots
-use Rattle.my_grammar.specs.Contexts.{is_bad, more, spot_after, after_columns}
+use Rattle.my_grammar.specs.Contexts.{is_bad, more, spot_after, after_columns, after_head, after_row}
 use Rattle.my_reply.specs.declared.column.Column.{Column as AnyColumn}
 use Rattle.my_grammar.specs.declared.spot.RowFormat.{RowFormat}
 use Rattle.my_grammar.specs.Kinds.{kind_by, greeting_kind, single_kind, head_kind, column_kind, columns_end_kind, row_kind, prepare_kind, parameter_kind, field_kind}
 use Rattle.my_grammar.proofs.Growth.Known.{is_greeting_kind, is_single_kind, is_head_kind, is_column_kind, is_close_kind, is_row_kind, is_prepare_kind, is_parameter_kind, is_field_kind, known_greeting, known_single, known_head, known_column, known_close, known_row, known_prepare, known_parameter, known_field, is_then}
 use Rattle.my_session.specs.Machine.{is_greeting}
-use Rattle.my_session.specs.Stands.{is_left, is_reading, is_shaking}
+use Rattle.my_session.specs.Stands.{is_heading, is_left, is_reading, is_shaking}
 use Rattle.my_session.specs.Steps.{is_settled}
+use Rattle.my_session.proofs.Stands.Views.{is_part}
 
 -- the kinds that a place knows
 abbrev pub is_known : Spot → Kind → Bool
@@ -363,3 +364,69 @@ settled_not_greeting (spots.Parameters left columns) e = refl
 settled_not_greeting (spots.ParametersEnd columns) e = refl
 settled_not_greeting (spots.Fields left) e = refl
 settled_not_greeting spots.FieldsEnd e = refl
+
+-- a part of a head is followed by another one, or by rows
+head_heading : (k : Kind) → is_head_kind k ≡ true → is_part k ≡ true → is_heading (after_head k) ≡ true
+head_heading (Greets c) e part = cc
+head_heading (Good status) e part = cc
+head_heading Failed e part = cc
+head_heading (Count n) e part = refl
+head_heading Column e part = cc
+head_heading ColumnsDone e part = cc
+head_heading Row e part = cc
+head_heading (End status) e part = cc
+head_heading (Prepared params columns) e part = cc
+head_heading Parameter e part = cc
+head_heading Field e part = cc
+head_heading Bad e part = cc
+
+column_heading : (d last : Bool) (n : ℕ) → is_heading (cond last (after_columns d) (spots.Columns n)) ≡ true
+column_heading true true n = refl
+column_heading false true n = refl
+column_heading d false n = refl
+
+rows_heading : (k : Kind) → is_row_kind k ≡ true → is_part k ≡ true → is_heading (after_row k) ≡ true
+rows_heading (Greets c) e part = cc
+rows_heading (Good status) e part = cc
+rows_heading Failed e part = cc
+rows_heading (Count n) e part = cc
+rows_heading Column e part = cc
+rows_heading ColumnsDone e part = cc
+rows_heading Row e part = cc
+rows_heading (End status) e part = cc
+rows_heading (Prepared params columns) e part = cc
+rows_heading Parameter e part = cc
+rows_heading Field e part = cc
+rows_heading Bad e part = cc
+
+pub heading_after : (s : Spot) (d : Bool) (k : Kind) → is_heading s ≡ true → is_known s k ≡ true → is_part k ≡ true → is_heading (spot_after d s k) ≡ true
+heading_after spots.Idle d k i e part = cc
+heading_after spots.Greeting d k i e part = cc
+heading_after spots.Authentication d k i e part = cc
+heading_after spots.Single d k i e part = cc
+heading_after spots.Head d k i e part = head_heading k e part
+heading_after spots.Further d k i e part = cc
+heading_after (spots.Columns left) d k i e part = column_heading d (leb left 1) (left - 1)
+heading_after spots.ColumnsEnd d k i e part = refl
+heading_after spots.Rows d k i e part = rows_heading k e part
+heading_after spots.Prepare d k i e part = cc
+heading_after (spots.Parameters left columns) d k i e part = cc
+heading_after (spots.ParametersEnd columns) d k i e part = cc
+heading_after (spots.Fields left) d k i e part = cc
+heading_after spots.FieldsEnd d k i e part = cc
+
+pub heading_not_greeting : (s : Spot) → is_heading s ≡ true → is_greeting s ≡ false
+heading_not_greeting spots.Idle e = cc
+heading_not_greeting spots.Greeting e = cc
+heading_not_greeting spots.Authentication e = cc
+heading_not_greeting spots.Single e = cc
+heading_not_greeting spots.Head e = refl
+heading_not_greeting spots.Further e = cc
+heading_not_greeting (spots.Columns left) e = refl
+heading_not_greeting spots.ColumnsEnd e = refl
+heading_not_greeting spots.Rows e = refl
+heading_not_greeting spots.Prepare e = cc
+heading_not_greeting (spots.Parameters left columns) e = cc
+heading_not_greeting (spots.ParametersEnd columns) e = cc
+heading_not_greeting (spots.Fields left) e = cc
+heading_not_greeting spots.FieldsEnd e = cc

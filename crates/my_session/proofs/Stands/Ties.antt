@@ -5,7 +5,7 @@ use Rattle.my_grammar.specs.declared.spot.Spot.{Spot}
 use Rattle.my_reading.specs.declared.call.Call.{Call}
 use Rattle.my_reading.specs.declared.call.Call.TheVariants as calls
 use Rattle.my_reading.specs.declared.call.CallKind.{CallKind}
-use Rattle.my_reading.specs.declared.call.CallKind.TheVariants.{Connect, Query, Prepare, Execute, CloseStmt, NextRow, DropResult, TakeSet, SkipTaken, Ping, Quit}
+use Rattle.my_reading.specs.declared.call.CallKind.TheVariants.{Connect, Query, Prepare, Execute, Batch, CloseStmt, NextRow, DropResult, TakeSet, SkipTaken, Ping, Quit}
 use Rattle.my_session.specs.declared.task.Task.{Task}
 use Rattle.my_session.specs.declared.task.Task.TheVariants as tasks
 use Rattle.my_reading.specs.Calls.{kind_of, call_of, is_connect, asks}
@@ -41,6 +41,8 @@ kind_there_is (tasks.Cleaning c) e = (c, refl)
 kind_there_is (tasks.Own c) e = (c, refl)
 kind_there_is tasks.Giving e = (Prepare, refl)
 kind_there_is (tasks.Arranging n) e = (Connect, refl)
+kind_there_is (tasks.Running n) e = (Batch, refl)
+kind_there_is (tasks.Finishing n) e = (Batch, refl)
 kind_there_is tasks.Reading e = (NextRow, refl)
 kind_there_is tasks.Dropping e = (DropResult, refl)
 kind_there_is tasks.Taking e = (TakeSet, refl)
@@ -53,6 +55,7 @@ asks_not Connect opened e = cc
 asks_not Query opened e = refl
 asks_not Prepare opened e = refl
 asks_not Execute opened e = refl
+asks_not Batch opened e = refl
 asks_not CloseStmt opened e = refl
 asks_not NextRow opened e = cc
 asks_not DropResult opened e = cc
@@ -62,32 +65,35 @@ asks_not Ping opened e = refl
 asks_not Quit opened e = refl
 
 -- after the first of the exchanges that a call owns
-owns_after : (made : List Made) (m : Made) (older : List Call) → may_lack m.what (kind_of m.call) ≡ true → IsTied made older ⊎ ((owns_more (kind_of m.call) ≡ true) × OwnsFirst m.call older (IsTied made)) → IsTied (m ∷ made) older
+owns_after : (made : List Made) (m : Made) (older : List Call) → may_lack m.what m.call ≡ true → IsTied made older ⊎ ((owns_more (kind_of m.call) ≡ true) × OwnsFirst m.call older (IsTied made)) → IsTied (m ∷ made) older
 owns_after made m older lack (inl t) = inl (lack, t)
 owns_after made m older lack (inr o) = inr o.1
 
 -- exchanges of one's own; the login is none before the greeting
-owns_tie : (greeting : Bool) (made : List Made) (m : Made) (call : Call) (older : List Call) → may_lack m.what (kind_of m.call) ≡ true → OwnsFirst m.call (call ∷ older) (IsTied made) → IsTied (m ∷ made) (cond greeting older (call ∷ older))
+owns_tie : (greeting : Bool) (made : List Made) (m : Made) (call : Call) (older : List Call) → may_lack m.what m.call ≡ true → OwnsFirst m.call (call ∷ older) (IsTied made) → IsTied (m ∷ made) (cond greeting older (call ∷ older))
 owns_tie true made m call older lack o = owns_after made m older lack o.1
 owns_tie false made m call older lack o = inr o
 
 owns_as : (c d : Call) (cs : List Call) (made : List Made) → d ≡ c → OwnsFirst c cs (IsTied made) → OwnsFirst d cs (IsTied made)
 owns_as c d cs made same o = subst (λ (x : Call). OwnsFirst x cs (IsTied made)) (sym same) o
 
+-- the answer of a call that owns all exchanges from some one on, of which the newest may be the login before the greeting
+owned_tie : (d c : CallKind) (opened : Call) (spot : Spot) (made : List Made) (call : Call) (older : List Entry) (m : Made) → d ≡ c → m.call ≡ call_of c opened → may_lack m.what m.call ≡ true → OwnsFirst (call_of d opened) (call ∷ calls_in older) (IsTied made) → IsTied (m ∷ made) (begun_of spot call older)
+owned_tie d c opened spot made call older m same e lack t =
+    owns_tie (is_greeting spot) made m call (calls_in older) lack (owns_as (call_of d opened) m.call (call ∷ calls_in older) made (e ∙ ap (λ (x : CallKind). call_of x opened) (sym same)) t)
+
 -- the answer of a call that may lack an exchange
-pub closed_tie : (t : Task) (c : CallKind) (opened : Call) (spot : Spot) (made : List Made) (call : Call) (older : List Entry) (m : Made) → kind_in t ≡ Some c → m.call ≡ call_of c opened → may_lack m.what (kind_of m.call) ≡ true → TieIs t opened spot made call older → IsTied (m ∷ made) (begun_of spot call older)
+pub closed_tie : (t : Task) (c : CallKind) (opened : Call) (spot : Spot) (made : List Made) (call : Call) (older : List Entry) (m : Made) → kind_in t ≡ Some c → m.call ≡ call_of c opened → may_lack m.what m.call ≡ true → TieIs t opened spot made call older → IsTied (m ∷ made) (begun_of spot call older)
 closed_tie tasks.Nothing c opened spot made call older m k e lack t = cc
 closed_tie (tasks.Begun d) c opened spot made call older m k e lack t = inl (lack, t)
 closed_tie (tasks.Cleaning d) c opened spot made call older m k e lack t = inl (lack, t)
 closed_tie (tasks.Own d) c opened spot made call older m k e lack t =
     let same : d ≡ c = cc in
     owns_tie (is_greeting spot) made m call (calls_in older) lack (e ∙ ap (λ (x : CallKind). call_of x opened) (sym same) ∙ sym t.0, inl t.1)
-closed_tie (tasks.Arranging n) c opened spot made call older m k e lack t =
-    let same : Connect ≡ c = cc in
-    owns_tie (is_greeting spot) made m call (calls_in older) lack (owns_as calls.Connect m.call (call ∷ calls_in older) made (e ∙ ap (λ (x : CallKind). call_of x opened) (sym same)) t)
-closed_tie tasks.Giving c opened spot made call older m k e lack t =
-    let same : Prepare ≡ c = cc in
-    owns_tie (is_greeting spot) made m call (calls_in older) lack (owns_as (call_of Prepare opened) m.call (call ∷ calls_in older) made (e ∙ ap (λ (x : CallKind). call_of x opened) (sym same)) t)
+closed_tie (tasks.Arranging n) c opened spot made call older m k e lack t = let same : Connect ≡ c = cc in owned_tie Connect c opened spot made call older m same e lack t
+closed_tie tasks.Giving c opened spot made call older m k e lack t = let same : Prepare ≡ c = cc in owned_tie Prepare c opened spot made call older m same e lack t
+closed_tie (tasks.Running n) c opened spot made call older m k e lack t = let same : Batch ≡ c = cc in owned_tie Batch c opened spot made call older m same e lack t
+closed_tie (tasks.Finishing n) c opened spot made call older m k e lack t = let same : Batch ≡ c = cc in owned_tie Batch c opened spot made call older m same e lack t
 closed_tie tasks.Reading c opened spot made call older m k e lack t = inl (lack, t)
 closed_tie tasks.Dropping c opened spot made call older m k e lack t = inl (lack, t)
 closed_tie tasks.Taking c opened spot made call older m k e lack t = inl (lack, t)
@@ -96,7 +102,7 @@ closed_tie tasks.Leaving c opened spot made call older m k e lack t = inl (lack,
 closed_tie (tasks.Failing d fault) c opened spot made call older m k e lack t =
     let same : d ≡ c = cc in
     elim t as (λ _. IsTied (m ∷ made) (begun_of spot call older)) [
-      | inl w ↦ owns_tie (is_greeting spot) made m call (calls_in older) lack (owns_as (call_of d opened) m.call (call ∷ calls_in older) made (e ∙ ap (λ (x : CallKind). call_of x opened) (sym same)) w)
+      | inl w ↦ owned_tie d c opened spot made call older m same e lack w
       | inr w ↦ inl (lack, w)
     ]
 
@@ -118,7 +124,7 @@ own_after spot made m call older e same t = none_waits spot (m ∷ made) call ol
 pub owns_all : (spot : Spot) (made : List Made) (m : Made) (c call : Call) (older : List Entry) → is_greeting spot ≡ false → m.call ≡ c → OwnsFirst c (call ∷ calls_in older) (IsTied made) → IsTied (m ∷ made) (begun_of spot call older)
 owns_all spot made m c call older e same o = none_waits spot (m ∷ made) call older e (inr (owns_as c m.call (call ∷ calls_in older) made same o))
 
-pub quiet_more : (m : Made) (made : List Made) (cs : List Call) → may_lack m.what (kind_of m.call) ≡ true → IsTied made cs → IsTied (m ∷ made) cs
+pub quiet_more : (m : Made) (made : List Made) (cs : List Call) → may_lack m.what m.call ≡ true → IsTied made cs → IsTied (m ∷ made) cs
 quiet_more m made cs lack t = inl (lack, t)
 
 -- an answer that doesn't say that the connection was made
@@ -130,6 +136,7 @@ closes_unmade ToldReady Connect e = cc
 closes_unmade ToldReady Query e = refl
 closes_unmade ToldReady Prepare e = refl
 closes_unmade ToldReady Execute e = refl
+closes_unmade ToldReady Batch e = refl
 closes_unmade ToldReady CloseStmt e = refl
 closes_unmade ToldReady NextRow e = refl
 closes_unmade ToldReady DropResult e = refl

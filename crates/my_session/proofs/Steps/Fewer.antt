@@ -6,12 +6,11 @@ use Rattle.my_reply.specs.declared.err.ErrPacket.{ErrPacket}
 use Rattle.my_grammar.specs.declared.spot.Kind.{Kind}
 use Rattle.my_grammar.specs.Kinds.{kind_there}
 use Rattle.my_grammar.specs.Talk.{Talk}
-use Rattle.my_reading.specs.declared.call.CallKind.{CallKind}
-use Rattle.my_reading.specs.declared.call.CallKind.TheVariants.{Execute}
+use Rattle.my_reading.specs.declared.call.CallKind.TheVariants.{Execute, Batch}
 use Rattle.my_statements.specs.Cache.{Held}
 use Rattle.my_reading.specs.declared.error.DriverError.{DriverError}
-use Rattle.my_reading.specs.Calls.{call_of, text_in}
-use Rattle.my_reading.specs.Commands.{closing, command_of, connecting}
+use Rattle.my_reading.specs.Calls.{call_of, text_in, lists_in, statement_in}
+use Rattle.my_reading.specs.Commands.{closing, command_of, connecting, execution}
 use Rattle.my_reading.specs.Facts.{prepared_by}
 use Rattle.my_reading.specs.Statements.{held_in, is_mixed_text, leaving, query_of}
 use Rattle.my_reading.specs.Errors.{invalid_data, unexpected_eof}
@@ -20,19 +19,22 @@ use Rattle.my_session.specs.declared.answer.SessionStep.{SessionStep}
 use Rattle.my_session.specs.declared.answer.Tick.{Tick}
 use Rattle.my_session.specs.declared.tables.Plan.{Plan}
 use Rattle.my_session.specs.declared.tables.Plan.TheVariants as plans
-use Rattle.my_session.specs.declared.tables.Reaction.{Reaction}
-use Rattle.my_session.specs.declared.tables.Reaction.TheVariants as reactions
+use Rattle.my_session.specs.declared.reactions.Reaction.{Reaction}
+use Rattle.my_session.specs.declared.reactions.Reaction.TheVariants as reactions
 use Rattle.my_session.specs.declared.task.LinkFault.{LinkFault}
 use Rattle.my_session.specs.declared.task.Task.{Task}
-use Rattle.my_session.specs.declared.task.Task.TheVariants.{Nothing, Cleaning, Own, Giving, Arranging}
+use Rattle.my_session.specs.declared.task.Task.TheVariants.{Nothing, Cleaning, Own, Giving, Arranging, Running}
 use Rattle.my_session.specs.Machine as machine
-use Rattle.my_session.specs.Machine.{Move, Sends, Needs, Does, advanced, reply_to, above, unless_above, refused, gave, passed, reacted, read_by, reading, next_terms, unless_exceeds, unless_refused, refusal, is_doubled, looked, with_kept, kept, asked, arranged, planned, when_owed, next_by, next}
+use Rattle.my_session.specs.Machine.{Move, Sends, Needs, Does, advanced, reply_to, above, unless_above, refused, gave, passed, reacted, read_by, reading, next_terms, unless_exceeds, unless_refused, refusal, is_doubled, looked, with_kept, kept, asked, arranged, planned, when_owed, next_by, next, refused_by, batched, ran}
 use Rattle.my_session.specs.Seen.{Seen}
 use Rattle.my_session.specs.Steps.{Steps, last_tick, moved}
 use Rattle.my_session.specs.Tables.{is_breaking, is_connecting, plan_of, react}
 use Rattle.my_session.specs.Tasks.{fault_in}
 use Rattle.my_grammar.proofs.Cutting.Fronts.{takes_whole}
 use Rattle.my_session.proofs.Steps.Passing.{does_seen}
+use Rattle.my_params.specs.declared.params.Params.{Params}
+use Rattle.std.specs.List.{slice_get}
+use Rattle.my_reading.specs.Executions.{values_for}
 
 module _ (s : Seen) where
   abbrev Fewer : Move → Type 0
@@ -90,9 +92,9 @@ module _ (s : Seen) where
   begins_if n u talk (Some len) few = few
   begins_if n u talk None few = few
 
-  asked_fewer : (c : CallKind) (talk : Option Talk) → Fewer (asked s c talk)
-  asked_fewer c None = omega arith
-  asked_fewer c (Some talk) = begins_if s (Own c) talk _ (omega arith)
+  asked_fewer : (u : Task) (talk : Option Talk) → Fewer (asked s u talk)
+  asked_fewer u None = omega arith
+  asked_fewer u (Some talk) = begins_if s u talk _ (omega arith)
 
   arranged_fewer : (n : ℕ) (talk : Option Talk) → Fewer (arranged s n talk)
   arranged_fewer n None = omega arith
@@ -101,6 +103,17 @@ module _ (s : Seen) where
   unless_refused_fewer : (e : Option DriverError) (m : Move) → Fewer m → Fewer (unless_refused s e m)
   unless_refused_fewer None m few = few
   unless_refused_fewer (Some e) m few = omega arith
+
+  ran_fewer : (n : ℕ) (o : Option Params) → Fewer (ran s n o)
+  ran_fewer n None = omega arith
+  ran_fewer n (Some params) =
+      let v = values_for (statement_in s.call) params in
+      let talk = execution (next_terms s) s.statements (statement_in s.call).inner.id v in
+      unless_refused_fewer (refused_by v) (asked s (Running n) talk) (asked_fewer (Running n) talk)
+
+  batched_fewer : (o : Option Params) → Fewer (batched s o)
+  batched_fewer None = omega arith
+  batched_fewer (Some params) = unless_refused_fewer (refused_by (values_for (statement_in s.call) params)) (record { seen = machine.with_task s (Cleaning Batch) s.untold; does = machine.Goes }) (omega arith)
 
   looked_fewer : (mixed : Bool) (o : Option Held) → Fewer (looked s mixed o)
   looked_fewer true o = omega arith
@@ -117,8 +130,11 @@ module _ (s : Seen) where
   plan_fewer plans.Hears = omega arith
   plan_fewer plans.Finds = looked_fewer (is_mixed_text (text_in s.call)) (held_in s.statements (query_of (text_in s.call)))
   plan_fewer plans.Checks = unless_refused_fewer (refusal Execute s.call) (record { seen = machine.with_task s (Cleaning Execute) s.untold; does = machine.Goes }) (omega arith)
+  plan_fewer plans.Batches = batched_fewer (slice_get (lists_in s.call) 0)
+  plan_fewer (plans.Runs n) = ran_fewer (suc n) (slice_get (lists_in s.call) n)
+  plan_fewer (plans.Notes n) = omega arith
   plan_fewer plans.Forgets = omega arith
-  plan_fewer (plans.Asks c) = unless_refused_fewer (refusal c s.call) (asked s c (command_of (next_terms s) s.statements (call_of c s.call))) (asked_fewer c (command_of (next_terms s) s.statements (call_of c s.call)))
+  plan_fewer (plans.Asks c) = unless_refused_fewer (refusal c s.call) (asked s (Own c) (command_of (next_terms s) s.statements (call_of c s.call))) (asked_fewer (Own c) (command_of (next_terms s) s.statements (call_of c s.call)))
   plan_fewer (plans.Arranges n) = arranged_fewer n (connecting s.login (next_terms s) (suc n))
   plan_fewer plans.Readies = omega arith
   plan_fewer plans.Learns = omega arith

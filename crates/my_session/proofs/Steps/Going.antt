@@ -27,28 +27,29 @@ use Rattle.my_reading.specs.Facts.{prepared_by}
 use Rattle.my_reading.specs.Statements.{held_in, is_mixed_text, known_in, leaving, query_of}
 use Rattle.my_grammar.proofs.Cutting.Fronts.{takes_whole}
 use Rattle.my_reading.specs.declared.call.CallKind.{CallKind}
-use Rattle.my_reading.specs.declared.call.CallKind.TheVariants.{Connect, Query, Prepare, Execute, CloseStmt, NextRow, DropResult, TakeSet, SkipTaken, Ping, Quit}
+use Rattle.my_reading.specs.declared.call.CallKind.TheVariants.{Connect, Query, Prepare, Execute, Batch, CloseStmt, NextRow, DropResult, TakeSet, SkipTaken, Ping, Quit}
 use Rattle.my_session.specs.declared.task.LinkFault.{LinkFault}
 use Rattle.my_session.specs.declared.task.Task.{Task}
-use Rattle.my_session.specs.declared.task.Task.TheVariants.{Nothing, Begun, Cleaning, Own, Giving, Arranging, Reading, Dropping, Taking, Skipping, Leaving, Failing}
+use Rattle.my_session.specs.declared.task.Task.TheVariants.{Nothing, Begun, Cleaning, Own, Giving, Arranging, Running, Finishing, Reading, Dropping, Taking, Skipping, Leaving, Failing}
 use Rattle.my_reading.specs.declared.error.Error.{Error}
 use Rattle.my_reading.specs.declared.error.Error.TheVariants as errors
 use Rattle.my_session.specs.declared.tables.Plan.{Plan}
 use Rattle.my_session.specs.declared.tables.Plan.TheVariants as plans
-use Rattle.my_session.specs.declared.tables.Reaction.{Reaction}
-use Rattle.my_session.specs.declared.tables.Reaction.TheVariants as reactions
+use Rattle.my_session.specs.declared.reactions.Reaction.{Reaction}
+use Rattle.my_session.specs.declared.reactions.Reaction.TheVariants as reactions
 use Rattle.my_session.specs.declared.answer.Tick.{Tick}
 use Rattle.my_session.specs.declared.answer.Tick.TheVariants as ticks
-use Rattle.my_reading.specs.Calls.{call_of, id_in, params_in, statement_in, text_in}
+use Rattle.my_reading.specs.Calls.{call_of, id_in, params_in, statement_in, text_in, lists_in}
 use Rattle.my_session.specs.Tasks.{is_open, fault_in}
 use Rattle.my_reading.specs.Commands.{arranging, arranging_texts, closing, command_of, execution}
 use Rattle.my_reading.specs.Errors.{invalid_data, unexpected_eof}
 use Rattle.my_session.specs.Machine as machine
-use Rattle.my_session.specs.Machine.{Move, Doing, Goes, Sends, Needs, Tells, Did, Does, FaultIs, fell, with_task, advanced, reply_to, above, unless_above, refused, gave, passed, reacted, read_by, read_kind, reading, next_terms, unless_exceeds, unless_refused, refusal, is_doubled, looked, with_kept, kept, asked, arranged, planned, when_owed, next_by, next, doing}
+use Rattle.my_session.specs.Machine.{Move, Doing, Goes, Sends, Needs, Tells, Did, Does, FaultIs, fell, with_task, advanced, reply_to, above, unless_above, refused, gave, passed, reacted, read_by, read_kind, reading, next_terms, unless_exceeds, unless_refused, refusal, is_doubled, looked, with_kept, kept, asked, arranged, planned, when_owed, next_by, next, doing, refused_by, batched, ran}
 use Rattle.my_reading.specs.Rows.{row_at}
 use Rattle.my_session.specs.Seen.{Seen}
 use Rattle.my_session.specs.Steps.{rank, left_to_do, TickIs}
-use Rattle.my_session.specs.Tables.{plan_of, react, react_whole, react_connect, react_query, react_ping, react_own, is_breaking, is_connecting, first_plan, clean_plan, own_plan, query_plan, execute_plan, prepare_plan, read_plan, drop_plan, take_plan, skip_plan}
+use Rattle.my_session.specs.Tables.{plan_of, react, react_whole, react_connect, react_ping, react_own, is_breaking, is_connecting, first_plan, clean_plan, own_plan, query_plan, execute_plan, prepare_plan, read_plan, drop_plan, take_plan, skip_plan, ask_plan, run_plan, react_head}
+use Rattle.my_params.specs.declared.params.Params.{Params}
 
 -- what a move leaves
 abbrev pub MoveIs : Seen → Seen → Doing → Type 0
@@ -60,7 +61,7 @@ MoveIs old new (Tells t) = new.task ≡ Nothing
 
 -- the tasks that a reaction goes on to
 abbrev GoesOn : Reaction → Type 0
-GoesOn (reactions.Goes u) = (is_open u ≡ true) × (rank u false ≤ 1)
+GoesOn (reactions.Goes u) = (is_open u ≡ true) × (rank u false ≤ 2)
 GoesOn r = Unit {0}
 
 connect_goes : (k : Kind) → GoesOn (react_connect k)
@@ -77,19 +78,19 @@ connect_goes kinds.Parameter = tt
 connect_goes kinds.Field = tt
 connect_goes kinds.Bad = tt
 
-query_goes : (c : CallKind) (k : Kind) → GoesOn (react_query c k)
-query_goes c (kinds.Greets n) = tt
-query_goes c (kinds.Good status) = tt
-query_goes c kinds.Failed = tt
-query_goes c (kinds.Count n) = (refl, omega arith)
-query_goes c kinds.Column = (refl, omega arith)
-query_goes c kinds.ColumnsDone = (refl, omega arith)
-query_goes c kinds.Row = tt
-query_goes c (kinds.End status) = tt
-query_goes c (kinds.Prepared params columns) = (refl, omega arith)
-query_goes c kinds.Parameter = (refl, omega arith)
-query_goes c kinds.Field = (refl, omega arith)
-query_goes c kinds.Bad = tt
+head_goes : (good : Reaction) (t : Task) (k : Kind) → GoesOn good → is_open t ≡ true → rank t false ≤ 2 → GoesOn (react_head good t k)
+head_goes good t (kinds.Greets n) g op low = tt
+head_goes good t (kinds.Good status) g op low = g
+head_goes good t kinds.Failed g op low = tt
+head_goes good t (kinds.Count n) g op low = (op, low)
+head_goes good t kinds.Column g op low = (op, low)
+head_goes good t kinds.ColumnsDone g op low = (op, low)
+head_goes good t kinds.Row g op low = tt
+head_goes good t (kinds.End status) g op low = tt
+head_goes good t (kinds.Prepared params columns) g op low = (op, low)
+head_goes good t kinds.Parameter g op low = (op, low)
+head_goes good t kinds.Field g op low = (op, low)
+head_goes good t kinds.Bad g op low = tt
 
 ping_goes : (k : Kind) → GoesOn (react_ping k)
 ping_goes (kinds.Greets n) = tt
@@ -105,7 +106,7 @@ ping_goes kinds.Parameter = tt
 ping_goes kinds.Field = tt
 ping_goes kinds.Bad = tt
 
-whole_goes : (t : Task) → is_open t ≡ true → rank t false ≤ 1 → (k : Kind) → GoesOn (react_whole t k)
+whole_goes : (t : Task) → is_open t ≡ true → rank t false ≤ 2 → (k : Kind) → GoesOn (react_whole t k)
 whole_goes t op low (kinds.Greets n) = tt
 whole_goes t op low (kinds.Good status) = (op, low)
 whole_goes t op low kinds.Failed = tt
@@ -121,9 +122,10 @@ whole_goes t op low kinds.Bad = tt
 
 own_goes : (c : CallKind) (k : Kind) → GoesOn (react_own c k)
 own_goes Connect k = connect_goes k
-own_goes Query k = query_goes Query k
+own_goes Query k = head_goes (reactions.Readies true) (Own Query) k tt refl (omega arith)
 own_goes Prepare k = whole_goes (Own Prepare) refl (omega arith) k
-own_goes Execute k = query_goes Execute k
+own_goes Execute k = head_goes (reactions.Readies true) (Own Execute) k tt refl (omega arith)
+own_goes Batch k = tt
 own_goes CloseStmt k = tt
 own_goes NextRow k = tt
 own_goes DropResult k = tt
@@ -139,6 +141,8 @@ react_goes (Cleaning c) k = whole_goes (Cleaning c) refl (omega arith) k
 react_goes (Own c) k = own_goes c k
 react_goes Giving k = tt
 react_goes (Arranging n) k = whole_goes (Arranging n) refl (omega arith) k
+react_goes (Running n) k = head_goes (reactions.Goes (Finishing n)) (Running n) k (refl, omega arith) refl (omega arith)
+react_goes (Finishing n) k = whole_goes (Finishing n) refl (omega arith) k
 react_goes Reading (kinds.Greets n) = tt
 react_goes Reading (kinds.Good status) = tt
 react_goes Reading kinds.Failed = tt
@@ -163,18 +167,7 @@ react_goes Dropping (kinds.Prepared params columns) = (refl, omega arith)
 react_goes Dropping kinds.Parameter = (refl, omega arith)
 react_goes Dropping kinds.Field = (refl, omega arith)
 react_goes Dropping kinds.Bad = tt
-react_goes Taking (kinds.Greets n) = tt
-react_goes Taking (kinds.Good status) = tt
-react_goes Taking kinds.Failed = tt
-react_goes Taking (kinds.Count n) = (refl, omega arith)
-react_goes Taking kinds.Column = (refl, omega arith)
-react_goes Taking kinds.ColumnsDone = (refl, omega arith)
-react_goes Taking kinds.Row = tt
-react_goes Taking (kinds.End status) = tt
-react_goes Taking (kinds.Prepared params columns) = (refl, omega arith)
-react_goes Taking kinds.Parameter = (refl, omega arith)
-react_goes Taking kinds.Field = (refl, omega arith)
-react_goes Taking kinds.Bad = tt
+react_goes Taking k = head_goes reactions.Takes Taking k tt refl (omega arith)
 react_goes Skipping (kinds.Greets n) = tt
 react_goes Skipping (kinds.Good status) = tt
 react_goes Skipping kinds.Failed = tt
@@ -197,6 +190,8 @@ rank_false (Cleaning c) untold = omega arith
 rank_false (Own c) untold = omega arith
 rank_false Giving untold = omega arith
 rank_false (Arranging n) untold = omega arith
+rank_false (Running n) untold = omega arith
+rank_false (Finishing n) untold = omega arith
 rank_false Reading untold = omega arith
 rank_false Dropping untold = omega arith
 rank_false Taking untold = omega arith
@@ -274,6 +269,8 @@ FitsTask t untold plans.Hears = rank t false < rank t untold
 FitsTask t untold plans.Passes = rank t false < rank t untold
 FitsTask t untold plans.Finds = rank (Cleaning Prepare) untold < rank t untold
 FitsTask t untold plans.Checks = rank (Cleaning Execute) untold < rank t untold
+FitsTask t untold plans.Batches = rank (Cleaning Batch) untold < rank t untold
+FitsTask t untold (plans.Notes n) = rank (Finishing n) untold < rank t untold
 FitsTask t untold plans.Forgets = rank (Cleaning CloseStmt) untold < rank t untold
 FitsTask t untold plans.Keeps = rank Giving false < rank t untold
 FitsTask t untold p = Unit {0}
@@ -300,15 +297,16 @@ begins_if : (old s : Seen) (u : Task) (talk : Talk) (long : Option ℕ) → s.ow
 begins_if old s u talk (Some len) none op some = refl
 begins_if old s u talk None none op some = (op, λ e. some (sym (ap (λ bs. bs ++ client_bytes (turns talk)) none) ∙ e))
 
-executed_is : (s : Seen) (id : ℕ) (v : Values) → s.owed ≡ [] → MoveIs s (asked s Execute (execution (next_terms s) s.statements id v)).seen (asked s Execute (execution (next_terms s) s.statements id v)).does
-executed_is s id (Fitting values) none = begins_if s s (Own Execute) (Queried (next_terms s) (body_of id values) (NoSets (ByStatement (ahead_of id values) (known_in s.statements id)))) _ none refl (some_execution (next_terms s) (ahead_of id values) (known_in s.statements id) (body_of id values))
-executed_is s id (Unfitting e) none = refl
+executed_is : (s : Seen) (u : Task) (id : ℕ) (v : Values) → s.owed ≡ [] → is_open u ≡ true → MoveIs s (asked s u (execution (next_terms s) s.statements id v)).seen (asked s u (execution (next_terms s) s.statements id v)).does
+executed_is s u id (Fitting values) none op = begins_if s s u (Queried (next_terms s) (body_of id values) (NoSets (ByStatement (ahead_of id values) (known_in s.statements id)))) _ none op (some_execution (next_terms s) (ahead_of id values) (known_in s.statements id) (body_of id values))
+executed_is s u id (Unfitting e) none op = refl
 
-asked_is : (s : Seen) (c : CallKind) (call : Call) → s.owed ≡ [] → MoveIs s (asked s c (command_of (next_terms s) s.statements (call_of c call))).seen (asked s c (command_of (next_terms s) s.statements (call_of c call))).does
+asked_is : (s : Seen) (c : CallKind) (call : Call) → s.owed ≡ [] → MoveIs s (asked s (Own c) (command_of (next_terms s) s.statements (call_of c call))).seen (asked s (Own c) (command_of (next_terms s) s.statements (call_of c call))).does
 asked_is s Connect call none = refl
 asked_is s Query call none = begins_if s s (Own Query) (Queried (next_terms s) (packet_bytes (packets.Query (text_in call))) (NoSets ByText)) _ none refl (some_bytes (packet_bytes (packets.Query (text_in call))) 0)
 asked_is s Prepare call none = begins_if s s (Own Prepare) (Preparing (next_terms s) (packet_bytes (packets.Prepare (query_of (text_in call)))) Unanswered) _ none refl (some_bytes (packet_bytes (packets.Prepare (query_of (text_in call)))) 0)
-asked_is s Execute call none = executed_is s (statement_in call).inner.id (values_for (statement_in call) (params_in call)) none
+asked_is s Execute call none = executed_is s (Own Execute) (statement_in call).inner.id (values_for (statement_in call) (params_in call)) none refl
+asked_is s Batch call none = refl
 asked_is s CloseStmt call none = begins_if s s (Own CloseStmt) (closing (next_terms s) (id_in call)) _ none refl (some_bytes (packet_bytes (packets.CloseStatement (id_in call))) 0)
 asked_is s NextRow call none = refl
 asked_is s DropResult call none = refl
@@ -325,6 +323,17 @@ unless_refused_is : (s : Seen) (e : Option DriverError) (m : Move) → MoveIs s 
 unless_refused_is s None m i = i
 unless_refused_is s (Some e) m i = refl
 
+ran_is : (s : Seen) (n : ℕ) (o : Option Params) → s.owed ≡ [] → MoveIs s (ran s n o).seen (ran s n o).does
+ran_is s n None none = refl
+ran_is s n (Some params) none =
+    let v = values_for (statement_in s.call) params in
+    let id = (statement_in s.call).inner.id in
+    unless_refused_is s (refused_by v) (asked s (Running n) (execution (next_terms s) s.statements id v)) (executed_is s (Running n) id v none refl)
+
+batched_is : (s : Seen) (o : Option Params) → rank (Cleaning Batch) s.untold < rank s.task s.untold → MoveIs s (batched s o).seen (batched s o).does
+batched_is s None less = refl
+batched_is s (Some params) less = unless_refused_is s (refused_by (values_for (statement_in s.call) params)) (record { seen = with_task s (Cleaning Batch) s.untold; does = Goes }) (refl, omega (arith, less))
+
 looked_is : (s : Seen) (mixed : Bool) (o : Option Held) → rank (Cleaning Prepare) s.untold < rank s.task s.untold → MoveIs s (looked s mixed o).seen (looked s mixed o).does
 looked_is s true o less = refl
 looked_is s false None less = (refl, omega arith)
@@ -340,8 +349,11 @@ plan_is s (plans.Starts u) op none f = let less = f.1 in (f.0, omega arith)
 plan_is s plans.Hears op none f = (op, omega arith)
 plan_is s plans.Finds op none f = looked_is s (is_mixed_text (text_in s.call)) (held_in s.statements (query_of (text_in s.call))) f
 plan_is s plans.Checks op none f = unless_refused_is s (refusal Execute s.call) (record { seen = with_task s (Cleaning Execute) s.untold; does = Goes }) (refl, omega (arith, f))
+plan_is s plans.Batches op none f = batched_is s (slice_get (lists_in s.call) 0) f
+plan_is s (plans.Runs n) op none f = ran_is s (suc n) (slice_get (lists_in s.call) n) none
+plan_is s (plans.Notes n) op none f = (refl, omega (arith, f))
 plan_is s plans.Forgets op none f = (refl, omega (arith, f))
-plan_is s (plans.Asks c) op none f = unless_refused_is s (refusal c s.call) (asked s c (command_of (next_terms s) s.statements (call_of c s.call))) (asked_is s c s.call none)
+plan_is s (plans.Asks c) op none f = unless_refused_is s (refusal c s.call) (asked s (Own c) (command_of (next_terms s) s.statements (call_of c s.call))) (asked_is s c s.call none)
 plan_is s (plans.Arranges n) op none f = arranged_is s n (slice_get (arranging_texts s.login) n) none
 plan_is s plans.Readies op none f = refl
 plan_is s plans.Learns op none f = refl
@@ -388,6 +400,7 @@ first_fits Connect untold = (refl, omega arith)
 first_fits Query untold = (refl, rank_cleaning Query untold)
 first_fits Prepare untold = rank_cleaning Prepare untold
 first_fits Execute untold = rank_cleaning Execute untold
+first_fits Batch untold = rank_cleaning Batch untold
 first_fits CloseStmt untold = rank_cleaning CloseStmt untold
 first_fits NextRow untold = (refl, omega arith)
 first_fits DropResult untold = (refl, rank_dropping untold)
@@ -449,6 +462,7 @@ own_fits Connect spot untold = tt
 own_fits Query spot untold = query_fits spot untold
 own_fits Prepare spot untold = prepare_fits spot untold
 own_fits Execute spot untold = execute_fits spot untold
+own_fits Batch spot untold = tt
 own_fits CloseStmt spot untold = tt
 own_fits NextRow spot untold = tt
 own_fits DropResult spot untold = tt
@@ -521,13 +535,49 @@ skip_fits (spots.ParametersEnd columns) = tt
 skip_fits (spots.Fields left) = tt
 skip_fits spots.FieldsEnd = tt
 
+ask_fits : (t : Task) (c : CallKind) → FitsTask t false (ask_plan c)
+ask_fits t Connect = tt
+ask_fits t Query = tt
+ask_fits t Prepare = tt
+ask_fits t Execute = tt
+ask_fits t Batch = tt
+ask_fits t CloseStmt = tt
+ask_fits t NextRow = tt
+ask_fits t DropResult = tt
+ask_fits t TakeSet = tt
+ask_fits t SkipTaken = tt
+ask_fits t Ping = tt
+ask_fits t Quit = tt
+
+rank_finishing : (n : ℕ) (untold : Bool) → rank (Finishing n) untold < 2
+rank_finishing n true = omega arith
+rank_finishing n false = omega arith
+
+run_fits : (n : ℕ) (spot : Spot) (untold : Bool) → FitsTask (Running n) untold (run_plan n spot)
+run_fits n spots.Idle untold = tt
+run_fits n spots.Greeting untold = tt
+run_fits n spots.Authentication untold = tt
+run_fits n spots.Single untold = tt
+run_fits n spots.Head untold = tt
+run_fits n spots.Further untold = tt
+run_fits n (spots.Columns left) untold = tt
+run_fits n spots.ColumnsEnd untold = tt
+run_fits n spots.Rows untold = rank_finishing n untold
+run_fits n spots.Prepare untold = tt
+run_fits n (spots.Parameters left columns) untold = tt
+run_fits n (spots.ParametersEnd columns) untold = tt
+run_fits n (spots.Fields left) untold = tt
+run_fits n spots.FieldsEnd untold = tt
+
 plan_fits : (t : Task) (spot : Spot) (untold : Bool) → FitsTask t untold (plan_of t spot untold)
 plan_fits Nothing spot untold = tt
 plan_fits (Begun c) spot untold = first_fits c untold
-plan_fits (Cleaning c) spot untold = cleaning_fits (Cleaning c) (plans.Asks c) (omega arith) tt spot untold
+plan_fits (Cleaning c) spot untold = cleaning_fits (Cleaning c) (ask_plan c) (omega arith) (ask_fits (Cleaning c) c) spot untold
 plan_fits (Own c) spot untold = own_fits c spot untold
 plan_fits Giving spot untold = tt
 plan_fits (Arranging n) spot untold = cleaning_fits (Arranging n) (plans.Arranges n) (omega arith) tt spot untold
+plan_fits (Running n) spot untold = run_fits n spot untold
+plan_fits (Finishing n) spot untold = cleaning_fits (Finishing n) (plans.Runs n) (omega arith) tt spot untold
 plan_fits Reading spot true = tt
 plan_fits Reading spot false = read_fits spot
 plan_fits Dropping spot true = omega arith

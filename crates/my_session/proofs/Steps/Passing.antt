@@ -10,14 +10,14 @@ use Rattle.my_grammar.specs.declared.spot.Kind.TheVariants as kinds
 use Rattle.my_grammar.specs.Kinds.{kind_there}
 use Rattle.my_grammar.specs.Talk.{Talk}
 use Rattle.my_reading.specs.declared.call.CallKind.{CallKind}
-use Rattle.my_reading.specs.declared.call.CallKind.TheVariants.{Connect, Query, Prepare, Execute, CloseStmt, NextRow, DropResult, TakeSet, SkipTaken, Ping, Quit}
+use Rattle.my_reading.specs.declared.call.CallKind.TheVariants.{Connect, Query, Prepare, Execute, Batch, CloseStmt, NextRow, DropResult, TakeSet, SkipTaken, Ping, Quit}
 use Rattle.my_session.specs.declared.task.LinkFault.{LinkFault}
 use Rattle.my_session.specs.declared.task.Task.{Task}
-use Rattle.my_session.specs.declared.task.Task.TheVariants.{Nothing, Begun, Cleaning, Own, Giving, Arranging, Reading, Dropping, Taking, Skipping, Leaving, Failing}
+use Rattle.my_session.specs.declared.task.Task.TheVariants.{Nothing, Begun, Cleaning, Own, Giving, Arranging, Running, Finishing, Reading, Dropping, Taking, Skipping, Leaving, Failing}
 use Rattle.my_session.specs.declared.tables.Plan.{Plan}
 use Rattle.my_session.specs.declared.tables.Plan.TheVariants as plans
-use Rattle.my_session.specs.declared.tables.Reaction.{Reaction}
-use Rattle.my_session.specs.declared.tables.Reaction.TheVariants as reactions
+use Rattle.my_session.specs.declared.reactions.Reaction.{Reaction}
+use Rattle.my_session.specs.declared.reactions.Reaction.TheVariants as reactions
 use Rattle.my_reading.specs.declared.error.Error.{Error}
 use Rattle.my_reading.specs.declared.error.Error.TheVariants as errors
 use Rattle.my_session.specs.declared.answer.Tick.{Tick}
@@ -25,18 +25,21 @@ use Rattle.my_session.specs.declared.answer.Tick.TheVariants as ticks
 use Rattle.my_session.specs.Tasks.{kind_in, fault_in}
 use Rattle.my_statements.specs.Cache.{Held}
 use Rattle.my_reading.specs.declared.error.DriverError.{DriverError}
-use Rattle.my_reading.specs.Calls.{call_of, text_in}
-use Rattle.my_reading.specs.Commands.{closing, command_of, connecting}
+use Rattle.my_reading.specs.Calls.{call_of, text_in, lists_in, statement_in}
+use Rattle.my_reading.specs.Commands.{closing, command_of, connecting, execution}
 use Rattle.my_reading.specs.Facts.{prepared_by}
 use Rattle.my_reading.specs.Statements.{held_in, is_mixed_text, leaving, query_of}
 use Rattle.my_reading.specs.Errors.{invalid_data, unexpected_eof}
 use Rattle.my_session.specs.Machine as machine
-use Rattle.my_session.specs.Machine.{Move, Doing, Goes, Sends, Needs, Tells, Did, Does, FaultIs, advanced, reply_to, above, unless_above, refused, gave, passed, reacted, read_by, reading, next_terms, unless_exceeds, unless_refused, refusal, is_doubled, looked, with_kept, kept, asked, arranged, planned, when_owed, next_by, next, doing}
+use Rattle.my_session.specs.Machine.{Move, Doing, Goes, Sends, Needs, Tells, Did, Does, FaultIs, advanced, reply_to, above, unless_above, refused, gave, passed, reacted, read_by, reading, next_terms, unless_exceeds, unless_refused, refusal, is_doubled, looked, with_kept, kept, asked, arranged, planned, when_owed, next_by, next, doing, refused_by, batched, ran}
 use Rattle.my_session.specs.Passed.{IsItem, is_passing}
 use Rattle.my_reading.specs.Rows.{row_at}
 use Rattle.my_session.specs.Seen.{Seen}
 use Rattle.my_session.specs.Steps.{goes_on}
-use Rattle.my_session.specs.Tables.{plan_of, react, react_whole, react_connect, react_query, react_ping, react_own, is_breaking, is_connecting, first_plan, clean_plan, own_plan, query_plan, execute_plan, prepare_plan, read_plan, drop_plan, take_plan, skip_plan}
+use Rattle.my_session.specs.Tables.{plan_of, react, react_whole, react_connect, react_ping, react_own, is_breaking, is_connecting, first_plan, clean_plan, own_plan, query_plan, execute_plan, prepare_plan, read_plan, drop_plan, take_plan, skip_plan, ask_plan, run_plan, react_head}
+use Rattle.my_params.specs.declared.params.Params.{Params}
+use Rattle.std.specs.List.{slice_get}
+use Rattle.my_reading.specs.Executions.{values_for}
 
 -- A move that goes on stays with the call, which wasn't made to fail, and passes over a row or an end only for a call that does.
 abbrev pub MovesOn : Option CallKind → Seen → Doing → Type 0
@@ -67,19 +70,19 @@ connect_stays kinds.Parameter = tt
 connect_stays kinds.Field = tt
 connect_stays kinds.Bad = tt
 
-query_stays : (c : CallKind) (k : Kind) → StaysIn (Some c) (react_query c k)
-query_stays c (kinds.Greets n) = tt
-query_stays c (kinds.Good status) = tt
-query_stays c kinds.Failed = tt
-query_stays c (kinds.Count n) = (refl, refl)
-query_stays c kinds.Column = (refl, refl)
-query_stays c kinds.ColumnsDone = (refl, refl)
-query_stays c kinds.Row = tt
-query_stays c (kinds.End status) = tt
-query_stays c (kinds.Prepared params columns) = (refl, refl)
-query_stays c kinds.Parameter = (refl, refl)
-query_stays c kinds.Field = (refl, refl)
-query_stays c kinds.Bad = tt
+head_stays : (good : Reaction) (t : Task) (k : Kind) → StaysIn (kind_in t) good → fault_in t ≡ None → StaysIn (kind_in t) (react_head good t k)
+head_stays good t (kinds.Greets n) g sound = tt
+head_stays good t (kinds.Good status) g sound = g
+head_stays good t kinds.Failed g sound = tt
+head_stays good t (kinds.Count n) g sound = (refl, sound)
+head_stays good t kinds.Column g sound = (refl, sound)
+head_stays good t kinds.ColumnsDone g sound = (refl, sound)
+head_stays good t kinds.Row g sound = tt
+head_stays good t (kinds.End status) g sound = tt
+head_stays good t (kinds.Prepared params columns) g sound = (refl, sound)
+head_stays good t kinds.Parameter g sound = (refl, sound)
+head_stays good t kinds.Field g sound = (refl, sound)
+head_stays good t kinds.Bad g sound = tt
 
 ping_stays : (k : Kind) → StaysIn (Some Ping) (react_ping k)
 ping_stays (kinds.Greets n) = tt
@@ -111,9 +114,10 @@ whole_stays t sound kinds.Bad = tt
 
 own_stays : (c : CallKind) (k : Kind) → StaysIn (Some c) (react_own c k)
 own_stays Connect k = connect_stays k
-own_stays Query k = query_stays Query k
+own_stays Query k = head_stays (reactions.Readies true) (Own Query) k tt refl
 own_stays Prepare k = whole_stays (Own Prepare) refl k
-own_stays Execute k = query_stays Execute k
+own_stays Execute k = head_stays (reactions.Readies true) (Own Execute) k tt refl
+own_stays Batch k = tt
 own_stays CloseStmt k = tt
 own_stays NextRow k = tt
 own_stays DropResult k = tt
@@ -129,6 +133,8 @@ react_stays (Cleaning c) k = whole_stays (Cleaning c) refl k
 react_stays (Own c) k = own_stays c k
 react_stays Giving k = tt
 react_stays (Arranging n) k = whole_stays (Arranging n) refl k
+react_stays (Running n) k = head_stays (reactions.Goes (Finishing n)) (Running n) k (refl, refl) refl
+react_stays (Finishing n) k = whole_stays (Finishing n) refl k
 react_stays Reading (kinds.Greets n) = tt
 react_stays Reading (kinds.Good status) = tt
 react_stays Reading kinds.Failed = tt
@@ -153,18 +159,7 @@ react_stays Dropping (kinds.Prepared params columns) = (refl, refl)
 react_stays Dropping kinds.Parameter = (refl, refl)
 react_stays Dropping kinds.Field = (refl, refl)
 react_stays Dropping kinds.Bad = tt
-react_stays Taking (kinds.Greets n) = tt
-react_stays Taking (kinds.Good status) = tt
-react_stays Taking kinds.Failed = tt
-react_stays Taking (kinds.Count n) = (refl, refl)
-react_stays Taking kinds.Column = (refl, refl)
-react_stays Taking kinds.ColumnsDone = (refl, refl)
-react_stays Taking kinds.Row = tt
-react_stays Taking (kinds.End status) = tt
-react_stays Taking (kinds.Prepared params columns) = (refl, refl)
-react_stays Taking kinds.Parameter = (refl, refl)
-react_stays Taking kinds.Field = (refl, refl)
-react_stays Taking kinds.Bad = tt
+react_stays Taking k = head_stays reactions.Takes Taking k tt refl
 react_stays Skipping (kinds.Greets n) = tt
 react_stays Skipping (kinds.Good status) = tt
 react_stays Skipping kinds.Failed = tt
@@ -186,6 +181,8 @@ Suits kind (plans.Starts u) = (kind_in u ≡ kind) × (fault_in u ≡ None)
 Suits kind plans.Passes = is_passing kind ≡ true
 Suits kind plans.Finds = Some Prepare ≡ kind
 Suits kind plans.Checks = Some Execute ≡ kind
+Suits kind plans.Batches = Some Batch ≡ kind
+Suits kind (plans.Notes n) = Some Batch ≡ kind
 Suits kind plans.Forgets = Some CloseStmt ≡ kind
 Suits kind plans.Keeps = Some Prepare ≡ kind
 Suits kind p = Unit {0}
@@ -195,6 +192,7 @@ first_suits Connect = (refl, refl)
 first_suits Query = (refl, refl)
 first_suits Prepare = refl
 first_suits Execute = refl
+first_suits Batch = refl
 first_suits CloseStmt = refl
 first_suits NextRow = (refl, refl)
 first_suits DropResult = (refl, refl)
@@ -273,6 +271,7 @@ own_suits Connect spot = tt
 own_suits Query spot = query_suits spot
 own_suits Prepare spot = prepare_suits spot
 own_suits Execute spot = execute_suits spot
+own_suits Batch spot = tt
 own_suits CloseStmt spot = tt
 own_suits NextRow spot = tt
 own_suits DropResult spot = tt
@@ -345,13 +344,45 @@ skip_suits (spots.ParametersEnd columns) = tt
 skip_suits (spots.Fields left) = tt
 skip_suits spots.FieldsEnd = tt
 
+ask_suits : (c : CallKind) → Suits (Some c) (ask_plan c)
+ask_suits Connect = tt
+ask_suits Query = tt
+ask_suits Prepare = tt
+ask_suits Execute = tt
+ask_suits Batch = tt
+ask_suits CloseStmt = tt
+ask_suits NextRow = tt
+ask_suits DropResult = tt
+ask_suits TakeSet = tt
+ask_suits SkipTaken = tt
+ask_suits Ping = tt
+ask_suits Quit = tt
+
+run_suits : (n : ℕ) (spot : Spot) → Suits (Some Batch) (run_plan n spot)
+run_suits n spots.Idle = tt
+run_suits n spots.Greeting = tt
+run_suits n spots.Authentication = tt
+run_suits n spots.Single = tt
+run_suits n spots.Head = tt
+run_suits n spots.Further = tt
+run_suits n (spots.Columns left) = tt
+run_suits n spots.ColumnsEnd = tt
+run_suits n spots.Rows = refl
+run_suits n spots.Prepare = tt
+run_suits n (spots.Parameters left columns) = tt
+run_suits n (spots.ParametersEnd columns) = tt
+run_suits n (spots.Fields left) = tt
+run_suits n spots.FieldsEnd = tt
+
 plan_suits : (t : Task) (spot : Spot) (untold : Bool) → Suits (kind_in t) (plan_of t spot untold)
 plan_suits Nothing spot untold = tt
 plan_suits (Begun c) spot untold = first_suits c
-plan_suits (Cleaning c) spot untold = cleaning_suits (Some c) (plans.Asks c) tt spot untold
+plan_suits (Cleaning c) spot untold = cleaning_suits (Some c) (ask_plan c) (ask_suits c) spot untold
 plan_suits (Own c) spot untold = own_suits c spot
 plan_suits Giving spot untold = tt
 plan_suits (Arranging n) spot untold = cleaning_suits (Some Connect) (plans.Arranges n) tt spot untold
+plan_suits (Running n) spot untold = run_suits n spot
+plan_suits (Finishing n) spot untold = cleaning_suits (Some Batch) (plans.Runs n) tt spot untold
 plan_suits Reading spot true = tt
 plan_suits Reading spot false = read_suits spot
 plan_suits Dropping spot true = refl
@@ -423,9 +454,9 @@ module _ (s : Seen) (sound : fault_in s.task ≡ None) where
   begins_if n u talk (Some len) same = (tt, same)
   begins_if n u talk None same = (tt, same)
 
-  asked_stays : (c : CallKind) (talk : Option Talk) → Stays (asked s c talk)
-  asked_stays c None = (tt, refl)
-  asked_stays c (Some talk) = begins_if s (Own c) talk _ refl
+  asked_stays : (u : Task) (talk : Option Talk) → Stays (asked s u talk)
+  asked_stays u None = (tt, refl)
+  asked_stays u (Some talk) = begins_if s u talk _ refl
 
   arranged_stays : (n : ℕ) (talk : Option Talk) → Stays (arranged s n talk)
   arranged_stays n None = (tt, refl)
@@ -434,6 +465,17 @@ module _ (s : Seen) (sound : fault_in s.task ≡ None) where
   unless_refused_stays : (e : Option DriverError) (m : Move) → Stays m → Stays (unless_refused s e m)
   unless_refused_stays None m i = i
   unless_refused_stays (Some e) m i = (tt, refl)
+
+  ran_stays : (n : ℕ) (o : Option Params) → Stays (ran s n o)
+  ran_stays n None = (tt, refl)
+  ran_stays n (Some params) =
+      let v = values_for (statement_in s.call) params in
+      let talk = execution (next_terms s) s.statements (statement_in s.call).inner.id v in
+      unless_refused_stays (refused_by v) (asked s (Running n) talk) (asked_stays (Running n) talk)
+
+  batched_stays : (o : Option Params) → Some Batch ≡ kind_in s.task → Stays (batched s o)
+  batched_stays None i = (tt, refl)
+  batched_stays (Some params) i = unless_refused_stays (refused_by (values_for (statement_in s.call) params)) (record { seen = machine.with_task s (Cleaning Batch) s.untold; does = Goes }) ((i, refl), refl)
 
   looked_stays : (mixed : Bool) (o : Option Held) → Some Prepare ≡ kind_in s.task → Stays (looked s mixed o)
   looked_stays true o i = (tt, refl)
@@ -450,8 +492,11 @@ module _ (s : Seen) (sound : fault_in s.task ≡ None) where
   plan_stays plans.Hears i = ((refl, sound), refl)
   plan_stays plans.Finds i = looked_stays (is_mixed_text (text_in s.call)) (held_in s.statements (query_of (text_in s.call))) i
   plan_stays plans.Checks i = unless_refused_stays (refusal Execute s.call) (record { seen = machine.with_task s (Cleaning Execute) s.untold; does = Goes }) ((i, refl), refl)
+  plan_stays plans.Batches i = batched_stays (slice_get (lists_in s.call) 0) i
+  plan_stays (plans.Runs n) i = ran_stays (suc n) (slice_get (lists_in s.call) n)
+  plan_stays (plans.Notes n) i = ((i, refl), refl)
   plan_stays plans.Forgets i = ((i, refl), refl)
-  plan_stays (plans.Asks c) i = unless_refused_stays (refusal c s.call) (asked s c (command_of (next_terms s) s.statements (call_of c s.call))) (asked_stays c (command_of (next_terms s) s.statements (call_of c s.call)))
+  plan_stays (plans.Asks c) i = unless_refused_stays (refusal c s.call) (asked s (Own c) (command_of (next_terms s) s.statements (call_of c s.call))) (asked_stays (Own c) (command_of (next_terms s) s.statements (call_of c s.call)))
   plan_stays (plans.Arranges n) i = arranged_stays n (connecting s.login (next_terms s) (suc n))
   plan_stays plans.Readies i = (tt, refl)
   plan_stays plans.Learns i = (tt, refl)

@@ -6,7 +6,7 @@ ghost use Rattle.my_reading.specs.Calls.{text_in};
 ghost use Rattle.my_reading.specs.Statements.{names_of, query_of};
 
 use super::Session;
-use super::calling::{executed_id, id_in, text_in, values_in};
+use super::calling::{executed_id, id_in, text_in, values_at, values_in};
 use crate::answer::Tick;
 use crate::tables::Plan;
 use crate::task::Task;
@@ -40,13 +40,14 @@ pub fn query_in(alloc: Global, text: &[u8]) -> Result<Vec<u8>, NoMemory>
 impl Session {
     ghost use Rattle.my_session.specs.Machine.{Does, planned, with_kept, fell};
     ghost use Rattle.my_reading.specs.Facts.{prepared_by};
-    ghost use Rattle.my_reading.specs.Calls.{call_of, id_in};
+    ghost use Rattle.my_reading.specs.Calls.{statement_in};
     ghost use Rattle.my_reading.specs.Statements.{held_in, leaving, statement_with, with_columns, with_fetched};
 
     // The statement of the call's text, where it is cached; it is the one that was used last from now on.
     fn look(&mut self, alloc: Global) -> Result<Option<Statement>, NoMemory>
         ensures found { let s = self.old.seen in let text = text_in s.call in
-            IfOk result (λ o. o ≡ option_map (λ h. statement_with h.stmt (names_of text)) (held_in s.statements (query_of text))) }
+            let known = held_in s.statements (query_of text) in
+            IfOk result (λ o. o ≡ option_map (λ h. statement_with h.stmt (names_of text)) known) }
         ensures ok { let s = self.old.seen in
             OnOk result (self.new.seen ≡ record s { statements = with_fetched (query_of (text_in s.call)) s.statements }) }
         ensures err { OnErr result (self.new.seen ≡ self.old.seen) }
@@ -65,7 +66,7 @@ impl Session {
         ensures lifetime { self.new.lifetime ≡ self.old.lifetime }
     {
         match ParsedNamedParams::parse(alloc, text_in(&self.call)) {
-            Ok(_) => {}
+            Ok(parsed) => drop(parsed),
             Err(ParseFault::MixedParams) => {
                 self.task = Task::Nothing;
                 return Tick::Fault(Error::Driver(DriverError::MixedParams));
@@ -88,8 +89,25 @@ impl Session {
         ensures lifetime { self.new.lifetime ≡ self.old.lifetime }
     {
         match values_in(alloc, &self.call) {
-            Ok(_) => {
+            Ok(values) => {
+                drop(values);
                 self.task = Task::Cleaning(CallKind::Execute);
+                Tick::Goes
+            }
+            Err(error) => self.fault(error),
+        }
+    }
+
+    // A batch begins: the parameters of its first execution are looked at.
+    pub(super) fn begin_batch(&mut self, alloc: Global) -> Tick
+        ensures does { Does (planned self.old.seen Plan.Batches) self.old.seen self.new.seen result }
+        ensures lifetime { self.new.lifetime ≡ self.old.lifetime }
+    {
+        match values_at(alloc, &self.call, 0) {
+            Ok(None) => self.answer(Answer::Ready),
+            Ok(Some(values)) => {
+                drop(values);
+                self.task = Task::Cleaning(CallKind::Batch);
                 Tick::Goes
             }
             Err(error) => self.fault(error),
@@ -108,7 +126,7 @@ impl Session {
 
     // The rows of the statement that is executed have the columns that were read last.
     fn learn(&mut self) -> Result<(), NoMemory>
-        ensures ok { let s = self.old.seen in let id = id_in (call_of CallKind.Execute s.call) in
+        ensures ok { let s = self.old.seen in let id = (statement_in s.call).inner.id in
             OnOk result (self.new.seen ≡ record s { statements = with_columns id s.facts.columns s.statements }) }
         ensures err { OnErr result (self.new.seen ≡ self.old.seen) }
         ensures lifetime { self.new.lifetime ≡ self.old.lifetime }
@@ -125,6 +143,20 @@ impl Session {
     {
         match self.learn() {
             Ok(()) => self.answer(Answer::Ready),
+            Err(NoMemory) => self.fault(Error::NoMemory),
+        }
+    }
+
+    // The rows of an execution of a batch follow, and are read whole.
+    pub(super) fn note_columns(&mut self, sent: usize) -> Tick
+        ensures does { Does (planned self.old.seen (Plan.Notes sent)) self.old.seen self.new.seen result }
+        ensures lifetime { self.new.lifetime ≡ self.old.lifetime }
+    {
+        match self.learn() {
+            Ok(()) => {
+                self.task = Task::Finishing(sent);
+                Tick::Goes
+            }
             Err(NoMemory) => self.fault(Error::NoMemory),
         }
     }
@@ -157,7 +189,9 @@ impl Session {
             }
             Ok(Some(id)) => {
                 let packet = ClientPacket::CloseStatement(id);
-                self.command(alloc, Task::Giving, Spot::Idle, &packet)
+                let tick = self.command(alloc, Task::Giving, Spot::Idle, &packet);
+                drop(packet);
+                tick
             }
             Err(NoMemory) => self.fault(Error::NoMemory),
         }

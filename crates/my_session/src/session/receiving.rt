@@ -8,7 +8,8 @@ ghost use Rattle.my_session.specs.Machine.{above};
 use super::Session;
 use super::payload::{FoundPayload, find_payload};
 use crate::answer::Tick;
-use crate::tables::{Reaction, is_breaking, is_connecting, react_to};
+use crate::reactions::{Reaction, is_breaking, react_to};
+use crate::tables::is_connecting;
 use crate::task::Task;
 use my_frame::{Blob, CodecError, CodecFault, NoMemory, ReadError, Text};
 use my_grammar::{Kind, Spot, kind_at, login_response};
@@ -51,12 +52,17 @@ fn is_rows(spot: Spot) -> bool
 fn server_error(alloc: Global, packet: ErrPacket) -> Result<ServerError, NoMemory>
     ensures { IfOk result (λ e. e ≡ server_error packet) }
 {
-    let state = Text::from_utf8_lossy(alloc, &packet.state)?;
-    Ok(ServerError {
-        code: packet.code,
-        state,
-        message: packet.message,
-    })
+    match Text::from_utf8_lossy(alloc, &packet.state) {
+        Ok(state) => Ok(ServerError {
+            code: packet.code,
+            state,
+            message: packet.message,
+        }),
+        Err(NoMemory) => {
+            drop(packet);
+            Err(NoMemory)
+        }
+    }
 }
 
 impl Session {
@@ -139,7 +145,10 @@ impl Session {
                 self.untold = untold;
                 tick
             }
-            Err(NoMemory) => self.fault(Error::NoMemory),
+            Err(NoMemory) => {
+                drop(tick);
+                self.fault(Error::NoMemory)
+            }
         }
     }
 
@@ -167,8 +176,13 @@ impl Session {
         ensures arrives { IfOk result (λ a. IsArrival self.now.seen a) }
         ensures same { IfOk result (λ a. (a.found ≡ found) × (a.kind ≡ kind)) }
     {
-        let reply = self.reply(alloc, kind, found.in_bytes(self.unread.as_slice()))?;
-        Ok(Arrival { found, kind, reply })
+        match self.reply(alloc, kind, found.in_bytes(self.unread.as_slice())) {
+            Ok(reply) => Ok(Arrival { found, kind, reply }),
+            Err(NoMemory) => {
+                drop(found);
+                Err(NoMemory)
+            }
+        }
     }
 
     // Whether the server's greeting is still awaited.
@@ -194,6 +208,7 @@ impl Session {
             Err(NoMemory) => return self.fault(Error::NoMemory),
         };
         if self.advance(alloc, arrival).is_err() {
+            drop(error);
             return self.fault(Error::NoMemory);
         }
         if connecting {
@@ -351,10 +366,15 @@ impl Session {
         let kind = self.kind_of(&found);
         let reaction = react_to(self.task, kind);
         if is_breaking(reaction) || self.is_doubled(kind, &found) {
+            drop(found);
             return self.io_fault(IoKind::InvalidData);
         }
         match self.arrival(alloc, kind, found) {
-            Ok(arrival) => self.arrive(alloc, reaction, &arrival),
+            Ok(arrival) => {
+                let tick = self.arrive(alloc, reaction, &arrival);
+                drop(arrival);
+                tick
+            }
             Err(NoMemory) => self.fault(Error::NoMemory),
         }
     }

@@ -8,7 +8,7 @@ ghost use Rattle.my_grammar.specs.Talk.{commands_bytes};
 ghost use Rattle.my_reading.specs.Course.{first_above};
 
 use super::Session;
-use super::calling::{executed_id, id_in, text_in, values_in};
+use super::calling::{executed_id, id_in, text_in, values_at, values_in};
 use super::preparing::query_in;
 use crate::answer::Tick;
 use crate::tables::Plan;
@@ -160,7 +160,11 @@ impl Session {
         ensures lifetime { self.new.lifetime ≡ self.old.lifetime }
     {
         match write_client(alloc, packet) {
-            Ok(command) => self.queue(task, spot, RowFormat::Text, &[], &command),
+            Ok(command) => {
+                let tick = self.queue(task, spot, RowFormat::Text, &[], &command);
+                drop(command);
+                tick
+            }
             Err(NoMemory) => self.fault(Error::NoMemory),
         }
     }
@@ -170,7 +174,11 @@ impl Session {
         ensures lifetime { self.new.lifetime ≡ self.old.lifetime }
     {
         match query_packet(alloc, text_in(&self.call)) {
-            Ok(packet) => self.command(alloc, Task::Own(CallKind::Query), Spot::Head, &packet),
+            Ok(packet) => {
+                let tick = self.command(alloc, Task::Own(CallKind::Query), Spot::Head, &packet);
+                drop(packet);
+                tick
+            }
             Err(NoMemory) => self.fault(Error::NoMemory),
         }
     }
@@ -182,29 +190,37 @@ impl Session {
         match query_in(alloc, text_in(&self.call)) {
             Ok(query) => {
                 let packet = ClientPacket::Prepare(Blob::from(query));
-                self.command(alloc, Task::Own(CallKind::Prepare), Spot::Prepare, &packet)
+                let own = Task::Own(CallKind::Prepare);
+                let tick = self.command(alloc, own, Spot::Prepare, &packet);
+                drop(packet);
+                tick
             }
             Err(NoMemory) => self.fault(Error::NoMemory),
         }
     }
 
     // The values are sent to the statement that is executed.
-    fn execute(&mut self, alloc: Global, values: &[Value]) -> Tick
+    fn execute(&mut self, alloc: Global, task: Task, values: &[Value]) -> Tick
         requires { length values.now ≤ MOST_VALUES }
         ensures does { let s = self.old.seen in
             let id = (statement_in s.call).inner.id in
-            Does (asked s CallKind.Execute (execution (next_terms s) s.statements id (Fitting values.now)))
+            Does (asked s task (execution (next_terms s) s.statements id (Fitting values.now)))
             s self.new.seen result }
         ensures lifetime { self.new.lifetime ≡ self.old.lifetime }
     {
         match execution(alloc, executed_id(&self.call), values) {
-            Ok((ahead, command)) => self.queue(
-                Task::Own(CallKind::Execute),
-                Spot::Head,
-                RowFormat::Binary,
-                ahead.as_slice(),
-                command.as_slice(),
-            ),
+            Ok((ahead, command)) => {
+                let tick = self.queue(
+                    task,
+                    Spot::Head,
+                    RowFormat::Binary,
+                    ahead.as_slice(),
+                    command.as_slice(),
+                );
+                drop(ahead);
+                drop(command);
+                tick
+            }
             Err(NoMemory) => self.fault(Error::NoMemory),
         }
     }
@@ -214,7 +230,27 @@ impl Session {
         ensures lifetime { self.new.lifetime ≡ self.old.lifetime }
     {
         match values_in(alloc, &self.call) {
-            Ok(values) => self.execute(alloc, &values),
+            Ok(values) => {
+                let tick = self.execute(alloc, Task::Own(CallKind::Execute), &values);
+                drop(values);
+                tick
+            }
+            Err(error) => self.fault(error),
+        }
+    }
+
+    // The next execution of a batch is owed, after `sent` others; where none is left, the batch is done.
+    pub(super) fn run(&mut self, alloc: Global, sent: usize) -> Tick
+        ensures does { Does (planned self.old.seen (Plan.Runs sent)) self.old.seen self.new.seen result }
+        ensures lifetime { self.new.lifetime ≡ self.old.lifetime }
+    {
+        match values_at(alloc, &self.call, sent) {
+            Ok(None) => self.answer(Answer::Ready),
+            Ok(Some(values)) => {
+                let tick = self.execute(alloc, Task::Running(sent + 1), &values);
+                drop(values);
+                tick
+            }
             Err(error) => self.fault(error),
         }
     }
@@ -236,6 +272,7 @@ impl Session {
             CallKind::Ping => self.command(alloc, own, Spot::Single, &ClientPacket::Ping),
             CallKind::Quit => self.command(alloc, own, Spot::Idle, &ClientPacket::Quit),
             CallKind::Connect
+            | CallKind::Batch
             | CallKind::NextRow
             | CallKind::DropResult
             | CallKind::TakeSet
@@ -254,7 +291,11 @@ impl Session {
             return self.answer(Answer::Ready);
         };
         match query_packet(alloc, text) {
-            Ok(packet) => self.command(alloc, Task::Arranging(sent + 1), Spot::Head, &packet),
+            Ok(packet) => {
+                let tick = self.command(alloc, Task::Arranging(sent + 1), Spot::Head, &packet);
+                drop(packet);
+                tick
+            }
             Err(NoMemory) => self.fault(Error::NoMemory),
         }
     }

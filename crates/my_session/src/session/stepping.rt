@@ -23,6 +23,8 @@ fn fault_in(task: Task) -> Option<LinkFault>
         | Task::Own(_)
         | Task::Giving
         | Task::Arranging(_)
+        | Task::Running(_)
+        | Task::Finishing(_)
         | Task::Reading
         | Task::Dropping
         | Task::Taking
@@ -102,6 +104,9 @@ impl Session {
             Plan::Asks(call) => self.ask(alloc, call),
             Plan::Finds => self.find(alloc),
             Plan::Checks => self.check(alloc),
+            Plan::Batches => self.begin_batch(alloc),
+            Plan::Runs(sent) => self.run(alloc, sent),
+            Plan::Notes(sent) => self.note_columns(sent),
             Plan::Forgets => self.forget(),
             Plan::Learns => self.learn_columns(),
             Plan::Keeps => self.keep(alloc),
