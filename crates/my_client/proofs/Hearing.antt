@@ -9,7 +9,7 @@ use Rattle.my_grammar.specs.declared.login.Login.{Login}
 use Rattle.my_reading.specs.declared.call.Call.{Call}
 use Rattle.my_reading.specs.declared.call.Call.TheVariants as calls
 use Rattle.my_reading.specs.declared.call.CallKind.{CallKind}
-use Rattle.my_reading.specs.declared.call.CallKind.TheVariants.{Connect, Query, Prepare, Execute, CloseStmt, NextRow, DropResult, TakeSet, SkipTaken, Ping, Quit}
+use Rattle.my_reading.specs.declared.call.CallKind.TheVariants.{Connect, Query, Prepare, Execute, Batch, CloseStmt, NextRow, DropResult, TakeSet, SkipTaken, Ping, Quit}
 use Rattle.my_session.specs.declared.task.LinkFault.{LinkFault}
 use Rattle.my_reading.specs.Calls.{kind_of, call_of}
 use Rattle.my_session.specs.Fits.{may_be}
@@ -21,6 +21,7 @@ use Rattle.my_session.specs.Stands.{Stands, call_with}
 use Rattle.my_session.specs.Steps.{with_owed, with_unread, with_end, with_failing}
 use Rattle.my_client.specs.declared.tape.DoneCall.{DoneCall}
 use Rattle.my_client.specs.declared.tape.Said.{Said}
+use Rattle.my_client.proofs.TapeRead.Sessions.{kind_back}
 use Rattle.my_client.specs.Kept.{Asked, Kept, IsOf, IsHeard, told_by, made_of, passes_over, is_note, answers_in, call_in, ended_by}
 
 -- a call that ended is the newest of the history
@@ -44,6 +45,7 @@ answer_counts Connect t m = refl
 answer_counts Query t m = refl
 answer_counts Prepare t m = refl
 answer_counts Execute t m = refl
+answer_counts Batch t m = refl
 answer_counts CloseStmt t m = refl
 answer_counts NextRow t m = refl
 answer_counts DropResult ToldReady m = refl
@@ -78,6 +80,7 @@ noted_by (Some Connect) carried p t ms e passing i = cc
 noted_by (Some Query) carried p t ms e passing i = cc
 noted_by (Some Prepare) carried p t ms e passing i = cc
 noted_by (Some Execute) carried p t ms e passing i = cc
+noted_by (Some Batch) carried p t ms e passing i = cc
 noted_by (Some CloseStmt) carried p t ms e passing i = cc
 noted_by (Some NextRow) carried p t ms e passing i = cc
 noted_by (Some DropResult) carried p t ms e passing i = answers_noted DropResult p t ms e (item_noted DropResult t refl i)
@@ -97,19 +100,6 @@ passing_of k h kind carried (t ∷ ts) p a w =
       pending_is = u.pending_is;
       lost_is = u.lost_is;
     }
-
-kind_back : (c : CallKind) (carried : Call) → kind_of (call_of c carried) ≡ c
-kind_back Connect carried = refl
-kind_back Query carried = refl
-kind_back Prepare carried = refl
-kind_back Execute carried = refl
-kind_back CloseStmt carried = refl
-kind_back NextRow carried = refl
-kind_back DropResult carried = refl
-kind_back TakeSet carried = refl
-kind_back SkipTaken carried = refl
-kind_back Ping carried = refl
-kind_back Quit carried = refl
 
 -- the open call's kind is the task's
 pub asked_kind : (call : Call) (kind : Option CallKind) (carried : Call) → Some call ≡ call_with kind carried → kind ≡ Some (kind_of call)

@@ -72,10 +72,15 @@ pub fn begin_conn<L: Link + Drop>(
 {
     let deadline = opts.pool_opts().new_deadline(now, random);
     let mut conn = new_conn(alloc, opts, link, deadline)?;
-    ask(&mut conn, Call::Connect, None)?;
-    match conn.session.begin(Call::Connect) {
-        Ok(()) => Ok(conn),
-        Err(_) => unreachable!(),
+    match ask(&mut conn, Call::Connect, None) {
+        Ok(()) => match conn.session.begin(Call::Connect) {
+            Ok(()) => Ok(conn),
+            Err(_) => unreachable!(),
+        },
+        Err(NoMemory) => {
+            drop(conn);
+            Err(NoMemory)
+        }
     }
 }
 
@@ -97,7 +102,7 @@ pub fn note<L>(conn: &mut TapedConn<L>, said: Said)
     ensures session { conn.new.session ≡ conn.old.session }
     ensures link { conn.new.link ≡ conn.old.link }
 {
-    let _ = conn.tape.note(said);
+    drop(conn.tape.note(said));
 }
 
 /// Cancels the open call. It takes no memory.
@@ -129,6 +134,7 @@ pub fn is_connecting<L>(conn: &TapedConn<L>) -> bool
             Call::Query(_)
             | Call::Prepare(_)
             | Call::Execute(_, _)
+            | Call::Batch(_, _)
             | Call::CloseStmt(_)
             | Call::NextRow
             | Call::DropResult

@@ -33,6 +33,11 @@ pub fn drive<L: Link>(
         &mut conn.tape,
         now,
     )?;
-    let rows = conn.tape.keep(alloc, &after)?;
-    Ok((after, met, rows))
+    match conn.tape.keep(alloc, &after) {
+        Ok(rows) => Ok((after, met, rows)),
+        Err(NoMemory) => {
+            drop(after);
+            Err(NoMemory)
+        }
+    }
 }

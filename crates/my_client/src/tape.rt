@@ -7,6 +7,7 @@ use my_frame::NoMemory;
 use my_reading::{Answer, Call, Error};
 use my_value::Row;
 use std::alloc::Global;
+use std::mem;
 
 /// How a call ended.
 #[derive(Drop)]
@@ -75,15 +76,18 @@ impl Tape {
             kept_in self.new ≡ asking (kept_in self.old) call (option_map (λ rows. rows.items) rows)) }
         ensures same { OnErr result (kept_in self.new ≡ kept_in self.old) }
     {
-        self.calls.reserve(1)?;
-        let sent_from = self.sent.len() as u64;
-        let taken_from = self.taken.len() as u64;
-        self.pending = Some(OpenCall {
+        if self.calls.reserve(1).is_err() {
+            drop(call);
+            drop(rows);
+            return Err(NoMemory);
+        }
+        let open = OpenCall {
             call,
-            sent_from,
-            taken_from,
+            sent_from: self.sent.len() as u64,
+            taken_from: self.taken.len() as u64,
             rows,
-        });
+        };
+        drop(mem::replace(&mut self.pending, Some(open)));
         Ok(())
     }
 
@@ -95,7 +99,10 @@ impl Tape {
         ensures still { (kept_in self.old).pending ≡ None → kept_in self.new ≡ kept_in self.old }
     {
         match self.pending.take() {
-            None => None,
+            None => {
+                drop(said);
+                None
+            }
             Some(open) => {
                 self.calls.push_reserved(DoneCall {
                     call: open.call,

@@ -7,7 +7,7 @@ use Rattle.my_reading.specs.Errors.{connection_closed}
 use Rattle.my_reading.specs.declared.answer.Answer.{Answer}
 use Rattle.my_reading.specs.declared.call.Call.{Call}
 use Rattle.my_reading.specs.declared.call.CallKind.{CallKind}
-use Rattle.my_reading.specs.declared.call.CallKind.TheVariants.{Connect, Query, Prepare, Execute, CloseStmt, NextRow, DropResult, TakeSet, SkipTaken, Ping, Quit}
+use Rattle.my_reading.specs.declared.call.CallKind.TheVariants.{Connect, Query, Prepare, Execute, Batch, CloseStmt, NextRow, DropResult, TakeSet, SkipTaken, Ping, Quit}
 use Rattle.my_reading.specs.declared.error.Error.{Error}
 use Rattle.my_reading.specs.declared.error.DriverError.TheVariants.{TooLong}
 use Rattle.my_reading.specs.declared.error.Error.TheVariants as errors
@@ -42,6 +42,7 @@ no_pending Connect e = cc
 no_pending Query e = cc
 no_pending Prepare e = cc
 no_pending Execute e = cc
+no_pending Batch e = cc
 no_pending CloseStmt e = cc
 no_pending NextRow e = cc
 no_pending DropResult e = cc
@@ -155,6 +156,7 @@ module _ {L : Type 0} (look : L → Looks) (kind : CallKind) (call : Call) (old 
       by_kind Query f = f
       by_kind Prepare f = f
       by_kind Execute f = f
+      by_kind Batch f = f
       by_kind CloseStmt f = f
       by_kind NextRow f = f
       by_kind DropResult f = f

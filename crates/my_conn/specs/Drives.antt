@@ -41,7 +41,7 @@ abbrev pub lost_result : CallKind → Result Answer Error
 lost_result Quit = Ok answers.Ready
 lost_result _ = Err connection_closed
 
--- A call that waits, at the moment that the connection was told. For all that the connection may have done before there is what it did
+-- A call that waits, at the moment that was set. For all that the connection may have done before there is what it did
 -- then: the same, and this call. It is lost where memory ran out, and where the call was given up.
 pub record DriveIs {L : Type 0} (look : L → Looks) (c : CallKind) (call : Call) (old new : ConnSeen L) (r : Result Answer Error)
     : Type 0 where
@@ -63,7 +63,7 @@ pub record DriveIs {L : Type 0} (look : L → Looks) (c : CallKind) (call : Call
   pub pending : new.pending ≡ None
   pub fits : ResultFits c r
 
--- what a caller is told of it
+-- what a caller gets of its result
 abbrev pub waited_by : {A : Type 0} → (Answer → A) → Result Answer Error → Result A Error
 waited_by answer_of (Ok answer) = Ok (answer_of answer)
 waited_by answer_of (Err error) = Err error
@@ -82,7 +82,7 @@ NextIs look old new result = WaitIs look next_of kinds.NextRow calls.NextRow old
 abbrev pub TakeIs : {L : Type 0} → (L → Looks) → ConnSeen L → ConnSeen L → Result Bool Error → Type 0
 TakeIs look old new result = WaitIs look taken_of kinds.TakeSet calls.TakeSet old new result
 
--- what a caller is told of a statement that was prepared: the one that is the answer
+-- what a caller gets of a statement that was prepared: the one that is the answer
 abbrev pub PreparedBy : Result Answer Error → Result StatementView Error → Type 0
 PreparedBy r (Ok statement) = r ≡ Ok (answers.Stmt statement)
 PreparedBy r (Err error) = r ≡ Err error

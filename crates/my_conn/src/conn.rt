@@ -86,6 +86,7 @@ fn lost_answer(kind: CallKind) -> After
         | CallKind::Query
         | CallKind::Prepare
         | CallKind::Execute
+        | CallKind::Batch
         | CallKind::CloseStmt
         | CallKind::NextRow
         | CallKind::DropResult
@@ -223,14 +224,14 @@ impl<L> Conn<L> {
         self.tape.take()
     }
 
-    /// The moment of calls that wait, in milliseconds: the last one that it was told.
+    /// The moment of calls that wait, in milliseconds, as it was set last.
     pub fn now(&self) -> u64
         ensures { result ≡ self.now.fixed.now }
     {
         self.fixed.now
     }
 
-    /// Tells the moment of calls that wait, in milliseconds.
+    /// Sets the moment of calls that wait, in milliseconds.
     pub fn set_now(&mut self, now: u64)
         ensures { self.new ≡ record self.old { fixed = record self.old.fixed { now = now } } }
     {
@@ -244,21 +245,21 @@ impl<L> Conn<L> {
         self.fixed.pooled
     }
 
-    /// Tells whether a pool has handed it out.
+    /// Sets whether a pool has handed it out.
     pub fn set_pooled(&mut self, on: bool)
         ensures { self.new ≡ record self.old { fixed = record self.old.fixed { pooled = on } } }
     {
         self.fixed.pooled = on;
     }
 
-    /// Whether it is to be reset once a pool has it back: what was told last, and before that what the options say.
+    /// Whether it is to be reset once a pool has it back: as it was set last, and before that as the options say.
     pub fn reset_flag(&self) -> bool
         ensures { result ≡ self.now.fixed.reset }
     {
         self.fixed.reset
     }
 
-    /// Tells whether it is to be reset once a pool has it back.
+    /// Sets whether it is to be reset once a pool has it back.
     pub fn reset_connection(&mut self, on: bool)
         ensures { self.new ≡ record self.old { fixed = record self.old.fixed { reset = on } } }
     {
@@ -302,7 +303,7 @@ impl<L: Link> Conn<L> {
             Err(NoMemory) => {
                 // It is closed, and what the tape keeps isn't what it did any more.
                 self.lost = true;
-                self.tape = None;
+                drop(self.tape.take());
                 self.pending = None;
                 (After::Failed(Error::NoMemory), Met::nothing())
             }
@@ -346,7 +347,7 @@ impl<L> Conn<L> {
         ensures { self.new ≡ record self.old { lost = true; tape = None; pending = None } }
     {
         self.lost = true;
-        self.tape = None;
+        drop(self.tape.take());
         self.pending = None;
     }
 }

@@ -11,7 +11,7 @@ ghost use Rattle.my_conn.specs.Drives.{DoneIs, DriveIs, NextIs, PrepareIs};
 
 use crate::conn::Conn;
 use my_client::After;
-use my_frame::Blob;
+use my_frame::{Blob, Listed};
 use my_line::{TOO_LONG, never_holds};
 use my_link::BlockingLink;
 use my_params::Params;
@@ -30,7 +30,7 @@ pub enum NextAnswer {
     NoSet,
 }
 
-/// What a read was answered. It is never answered that it is done, nor by a statement.
+/// What a caller gets of a read's answer. `Ready` and `Stmt` are never answers of a read.
 pub fn next_answer(given: Answer) -> NextAnswer
     ensures { result ≡ next_of given }
 {
@@ -39,11 +39,14 @@ pub fn next_answer(given: Answer) -> NextAnswer
         Answer::SetEnd => NextAnswer::SetEnd,
         Answer::NoSet => NextAnswer::NoSet,
         Answer::Ready => NextAnswer::NoSet,
-        Answer::Stmt(_) => NextAnswer::NoSet,
+        Answer::Stmt(statement) => {
+            drop(statement);
+            NextAnswer::NoSet
+        }
     }
 }
 
-/// The statement by which a statement to prepare was answered.
+/// The statement that is the answer to a statement to prepare.
 pub fn statement_answer(given: Answer) -> Statement
     requires { may_be kinds.Prepare (told given) ≡ true }
     ensures { given ≡ answers.Stmt result }
@@ -70,15 +73,16 @@ impl<L: BlockingLink> Conn<L> {
         let mut spent = 0u64;
         'polls: loop {
             if spent >= TOO_LONG {
+                drop(next);
                 self.give_up();
                 return Err(Error::Driver(DriverError::TooLong));
             }
             never_holds(self.link());
-            let (after, met) = self.poll_call(alloc, kind, next.take(), now);
+            let (after, met) = self.poll_call(alloc, kind, next, now);
             never_holds(self.link());
             spent += met.taken;
             match after {
-                After::Pending => {}
+                After::Pending => next = None,
                 After::Answered(answer) => return Ok(answer),
                 After::Failed(error) => return Err(error),
             }
@@ -91,7 +95,10 @@ impl<L: BlockingLink> Conn<L> {
         ensures { DoneIs L.looks kind call self.old self.new result }
     {
         match self.drive(alloc, kind, call) {
-            Ok(_) => return Ok(()),
+            Ok(answer) => {
+                drop(answer);
+                return Ok(());
+            }
             Err(error) => return Err(error),
         }
     }
@@ -128,6 +135,20 @@ impl<L: BlockingLink> Conn<L> {
     {
         let call = Call::Execute(statement, params);
         self.wait(alloc, CallKind::Execute, call)
+    }
+
+    /// Executes a statement once with each of these parameters, and waits until each result is read whole.
+    pub fn execute_batch(
+        &mut self,
+        alloc: Global,
+        statement: Statement,
+        lists: Vec<Params>,
+    ) -> Result<(), Error>
+        requires { self.old.pending ≡ None }
+        ensures { DoneIs L.looks kinds.Batch (calls.Batch statement lists.items) self.old self.new result }
+    {
+        let call = Call::Batch(statement, Listed::from(lists));
+        self.wait(alloc, CallKind::Batch, call)
     }
 
     /// Closes a statement: it isn't cached any more, and the server forgets it.

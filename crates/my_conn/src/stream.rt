@@ -26,7 +26,11 @@ impl<L: BlockingLink> Conn<L> {
         ensures { TakeIs L.looks self.old self.new result }
     {
         match self.drive(alloc, CallKind::TakeSet, Call::TakeSet) {
-            Ok(answer) => return Ok(taken_answer(&answer)),
+            Ok(answer) => {
+                let taken = taken_answer(&answer);
+                drop(answer);
+                return Ok(taken);
+            }
             Err(error) => return Err(error),
         }
     }
@@ -37,7 +41,10 @@ impl<L: BlockingLink> Conn<L> {
         ensures { SkipIs L.looks self.old self.new result }
     {
         match self.drive(alloc, CallKind::SkipTaken, Call::SkipTaken) {
-            Ok(_) => return self.take_set(alloc),
+            Ok(answer) => {
+                drop(answer);
+                return self.take_set(alloc);
+            }
             Err(error) => return Err(error),
         }
     }

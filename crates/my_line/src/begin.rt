@@ -1,5 +1,6 @@
 //! A call on a session, from its beginning to its end, noted on the tape, where one is kept.
 ghost use Rattle.std.specs.Prelude.{◌≡◌, Some, None, true, false, is_some, IfOk, OnOk};
+ghost use Rattle.my_link.specs.Met.{nothing_met};
 ghost use Rattle.my_reading.specs.Calls.{kind_of};
 ghost use Rattle.my_session.specs.Tasks.{is_open};
 ghost use Rattle.my_session.specs.Steps.{AtBegun};
@@ -16,7 +17,7 @@ ghost use Rattle.my_line.specs.Cancels.{EachCancel};
 use my_client::{After, Said, Tape, poll_session};
 use my_frame::NoMemory;
 use my_link::{Link, Met};
-use my_reading::Call;
+use my_reading::{Call, Error};
 use my_session::Session;
 use std::alloc::Global;
 
@@ -44,7 +45,7 @@ fn note_after(alloc: Global, tape: &mut Option<Tape>, after: &After) -> Result<(
     match tape {
         None => Ok(()),
         Some(tape) => {
-            let _ = tape.keep(alloc, after)?;
+            drop(tape.keep(alloc, after)?);
             Ok(())
         }
     }
@@ -65,14 +66,12 @@ fn poll_noted<L: Link>(
     ensures made { made_in session.new ≡ made_in session.old }
 {
     match tape {
-        Some(kept) => {
-            let (after, met) = poll_session(alloc, session, link, kept, now)?;
-            Ok((after, met))
-        }
+        Some(kept) => poll_session(alloc, session, link, kept, now),
         None => {
             let mut none = None;
-            let (after, met) = poll_session(alloc, session, link, &mut none, now)?;
-            Ok((after, met))
+            let polled = poll_session(alloc, session, link, &mut none, now);
+            drop(none);
+            polled
         }
     }
 }
@@ -92,8 +91,35 @@ pub(crate) fn poll_open<L: Link>(
     ensures made { made_in session.new ≡ made_in session.old }
 {
     let (after, met) = poll_noted(alloc, session, link, tape, now)?;
-    note_after(alloc, tape, &after)?;
-    Ok((after, met))
+    match note_after(alloc, tape, &after) {
+        Ok(()) => Ok((after, met)),
+        Err(NoMemory) => {
+            drop(after);
+            Err(NoMemory)
+        }
+    }
+}
+
+// Notes that the call that began is refused with this error, and returns what it comes to.
+fn note_refusal(
+    alloc: Global,
+    tape: &mut Option<Tape>,
+    error: Error,
+) -> Result<(After, Met), NoMemory>
+    ensures after { IfOk result (λ p. p.0 ≡ After.Failed error) }
+    ensures met { IfOk result (λ p. p.1 ≡ nothing_met) }
+    ensures noted { OnOk result ((k : Kept) (a : Asked) → Agrees tape.old k → k.pending ≡ Some a
+        → Agrees tape.new (kept_after k a (After.Failed error))) }
+    ensures keeps { OnOk result (is_some tape.new ≡ is_some tape.old) }
+{
+    let after = After::Failed(error);
+    match note_after(alloc, tape, &after) {
+        Ok(()) => Ok((after, Met::nothing())),
+        Err(NoMemory) => {
+            drop(after);
+            Err(NoMemory)
+        }
+    }
 }
 
 // Begins a call, and polls it once.
@@ -112,14 +138,14 @@ fn begin_call<L: Link>(
     ensures leaves { IfOk result (λ p. Leaves now p.1.taken session.old session.new tape.old tape.new) }
     ensures made { made_in session.new ≡ made_in session.old }
 {
-    note_call(alloc, tape, &call)?;
-    match session.begin(call) {
-        Ok(()) => poll_open(alloc, session, link, tape, now),
-        Err(error) => {
-            let after = After::Failed(error);
-            let met = Met::nothing();
-            note_after(alloc, tape, &after)?;
-            Ok((after, met))
+    match note_call(alloc, tape, &call) {
+        Ok(()) => match session.begin(call) {
+            Ok(()) => poll_open(alloc, session, link, tape, now),
+            Err(error) => note_refusal(alloc, tape, error),
+        },
+        Err(NoMemory) => {
+            drop(call);
+            Err(NoMemory)
         }
     }
 }
@@ -154,7 +180,7 @@ fn note_cancel(tape: &mut Option<Tape>, closing: bool)
     match tape {
         None => {}
         Some(tape) => {
-            let _ = tape.note(Said::Cancelled(closing));
+            drop(tape.note(Said::Cancelled(closing)));
         }
     }
 }

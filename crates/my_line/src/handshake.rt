@@ -49,7 +49,10 @@ pub fn shake_hands<L: BlockingLink>(
                 spent += met.taken;
                 match after {
                     After::Pending => {}
-                    After::Answered(_) => return Ok(()),
+                    After::Answered(answer) => {
+                        drop(answer);
+                        return Ok(());
+                    }
                     After::Failed(error) => return Err(error),
                 }
             }

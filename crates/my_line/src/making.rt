@@ -33,21 +33,25 @@ pub fn make<L: Link, A: AfterConnect>(
     let mut at = first;
     let mut next = None;
     'calls: for _ in 0..u64::MAX {
-        match poll_once(alloc, session, link, tape, next.take(), now) {
+        match poll_once(alloc, session, link, tape, next, now) {
             Err(NoMemory) => return Err(Error::NoMemory),
             Ok((after, _met)) => match after {
                 After::Pending => return Ok(Some(at)),
                 After::Failed(error) => return Err(error),
-                After::Answered(_) => match follow(alloc, aid, at) {
-                    Err(error) => return Err(error),
-                    Ok(None) => return Ok(None),
-                    Ok(Some((to, call))) => {
-                        at = to;
-                        next = Some(call);
+                After::Answered(answer) => {
+                    drop(answer);
+                    match follow(alloc, aid, at) {
+                        Err(error) => return Err(error),
+                        Ok(None) => return Ok(None),
+                        Ok(Some((to, call))) => {
+                            at = to;
+                            next = Some(call);
+                        }
                     }
-                },
+                }
             },
         }
     }
+    drop(next);
     Err(Error::NoMemory)
 }

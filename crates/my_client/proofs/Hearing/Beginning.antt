@@ -5,9 +5,9 @@ use Rattle.my_value.specs.RowParts.{RowParts}
 use Rattle.my_reading.specs.declared.call.Call.{Call}
 use Rattle.my_reading.specs.declared.call.Call.TheVariants as calls
 use Rattle.my_reading.specs.declared.call.CallKind.{CallKind}
-use Rattle.my_reading.specs.declared.call.CallKind.TheVariants.{Connect, Query, Prepare, Execute, CloseStmt, NextRow, DropResult, TakeSet, SkipTaken, Ping, Quit}
+use Rattle.my_reading.specs.declared.call.CallKind.TheVariants.{Connect, Query, Prepare, Execute, Batch, CloseStmt, NextRow, DropResult, TakeSet, SkipTaken, Ping, Quit}
 use Rattle.my_session.specs.declared.task.Task.{Task}
-use Rattle.my_session.specs.declared.task.Task.TheVariants.{Nothing, Begun, Cleaning, Own, Giving, Arranging, Reading, Dropping, Taking, Skipping, Leaving, Failing}
+use Rattle.my_session.specs.declared.task.Task.TheVariants.{Nothing, Begun, Cleaning, Own, Giving, Arranging, Running, Finishing, Reading, Dropping, Taking, Skipping, Leaving, Failing}
 use Rattle.my_grammar.specs.declared.spot.Spot.{Spot}
 use Rattle.my_reading.specs.Calls.{kind_of, call_of, is_quit}
 use Rattle.my_reading.specs.Course.{is_greeting}
@@ -37,6 +37,7 @@ note_keeps Connect t n = cc
 note_keeps Query t n = cc
 note_keeps Prepare t n = cc
 note_keeps Execute t n = cc
+note_keeps Batch t n = cc
 note_keeps CloseStmt t n = cc
 note_keeps NextRow t n = cc
 note_keeps DropResult ToldReady n = cc
@@ -82,6 +83,8 @@ open_call (Cleaning c) carried p None o e f = let no : Some (call_of c carried) 
 open_call (Own c) carried p None o e f = let no : Some (call_of c carried) ≡ None = sym e ∙ f in cc
 open_call Giving carried p None o e f = let no : Some (call_of Prepare carried) ≡ None = sym e ∙ f in cc
 open_call (Arranging n) carried p None o e f = let no : Some (call_of Connect carried) ≡ None = sym e ∙ f in cc
+open_call (Running n) carried p None o e f = let no : Some (call_of Batch carried) ≡ None = sym e ∙ f in cc
+open_call (Finishing n) carried p None o e f = let no : Some (call_of Batch carried) ≡ None = sym e ∙ f in cc
 open_call Reading carried p None o e f = let no : Some (call_of NextRow carried) ≡ None = sym e ∙ f in cc
 open_call Dropping carried p None o e f = let no : Some (call_of DropResult carried) ≡ None = sym e ∙ f in cc
 open_call Taking carried p None o e f = let no : Some (call_of TakeSet carried) ≡ None = sym e ∙ f in cc
@@ -100,6 +103,8 @@ no_call (Cleaning c) carried p (Some a) o e f = cc
 no_call (Own c) carried p (Some a) o e f = cc
 no_call Giving carried p (Some a) o e f = cc
 no_call (Arranging n) carried p (Some a) o e f = cc
+no_call (Running n) carried p (Some a) o e f = cc
+no_call (Finishing n) carried p (Some a) o e f = cc
 no_call Reading carried p (Some a) o e f = cc
 no_call Dropping carried p (Some a) o e f = cc
 no_call Taking carried p (Some a) o e f = cc
@@ -118,6 +123,7 @@ begun_stands Connect spot connected p w first =
 begun_stands Query spot connected p w first = settled_not_greeting spot (settled_reads spot w.1)
 begun_stands Prepare spot connected p w first = settled_not_greeting spot (settled_reads spot w.1)
 begun_stands Execute spot connected p w first = settled_not_greeting spot (settled_reads spot w.1)
+begun_stands Batch spot connected p w first = settled_not_greeting spot (settled_reads spot w.1)
 begun_stands CloseStmt spot connected p w first = settled_not_greeting spot (settled_reads spot w.1)
 begun_stands NextRow spot connected p w first = settled_not_greeting spot (settled_reads spot w.1)
 begun_stands DropResult spot connected p w first = settled_not_greeting spot (settled_reads spot w.1)
@@ -133,6 +139,8 @@ idle_task (Cleaning c) e = cc
 idle_task (Own c) e = cc
 idle_task Giving e = cc
 idle_task (Arranging n) e = cc
+idle_task (Running n) e = cc
+idle_task (Finishing n) e = cc
 idle_task Reading e = cc
 idle_task Dropping e = cc
 idle_task Taking e = cc

@@ -2,7 +2,7 @@
 use Rattle.std.proofs.Common.{◌≡◌, List, [], ◌∷◌, ◌||◌, Bool, true, false, cond, None, refl, sym, ap, ◌∙◌, subst}
 use Rattle.my_grammar.specs.declared.login.Login.{Login}
 use Rattle.my_reading.specs.declared.call.CallKind.{CallKind}
-use Rattle.my_reading.specs.declared.call.CallKind.TheVariants.{Connect, Query, Prepare, Execute, CloseStmt, NextRow, DropResult, TakeSet, SkipTaken, Ping, Quit}
+use Rattle.my_reading.specs.declared.call.CallKind.TheVariants.{Connect, Query, Prepare, Execute, Batch, CloseStmt, NextRow, DropResult, TakeSet, SkipTaken, Ping, Quit}
 use Rattle.my_session.specs.declared.task.Task.{Task}
 use Rattle.my_session.specs.declared.task.Task.TheVariants.{Nothing}
 use Rattle.my_reading.specs.Calls.{kind_of, is_connect}
@@ -27,6 +27,7 @@ note_joins Connect t n = cc
 note_joins Query t n = cc
 note_joins Prepare t n = cc
 note_joins Execute t n = cc
+note_joins Batch t n = cc
 note_joins CloseStmt t n = cc
 note_joins NextRow t n = cc
 note_joins DropResult ToldReady n = cc
@@ -74,6 +75,7 @@ at_begun Connect spot e s = cc
 at_begun Query spot e s = s
 at_begun Prepare spot e s = s
 at_begun Execute spot e s = s
+at_begun Batch spot e s = s
 at_begun CloseStmt spot e s = s
 at_begun NextRow spot e s = s
 at_begun DropResult spot e s = s
@@ -92,6 +94,7 @@ connect_ready Connect (answers.Stmt statement) e m = cc
 connect_ready Query answer e m = cc
 connect_ready Prepare answer e m = cc
 connect_ready Execute answer e m = cc
+connect_ready Batch answer e m = cc
 connect_ready CloseStmt answer e m = cc
 connect_ready NextRow answer e m = cc
 connect_ready DropResult answer e m = cc

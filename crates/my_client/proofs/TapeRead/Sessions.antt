@@ -11,7 +11,7 @@ use Rattle.my_reading.specs.declared.answer.Answer.{Answer}
 use Rattle.my_reading.specs.declared.call.Call.{Call}
 use Rattle.my_reading.specs.declared.call.Call.TheVariants as calls
 use Rattle.my_reading.specs.declared.call.CallKind.{CallKind}
-use Rattle.my_reading.specs.declared.call.CallKind.TheVariants.{Connect, Query, Prepare, Execute, CloseStmt, NextRow, DropResult, TakeSet, SkipTaken, Ping, Quit}
+use Rattle.my_reading.specs.declared.call.CallKind.TheVariants.{Connect, Query, Prepare, Execute, Batch, CloseStmt, NextRow, DropResult, TakeSet, SkipTaken, Ping, Quit}
 use Rattle.my_reading.specs.declared.error.Error.{Error}
 use Rattle.my_reading.specs.declared.error.Error.TheVariants as errors
 use Rattle.my_reading.specs.Calls.{asks, kind_of, call_of, is_quit}
@@ -239,23 +239,25 @@ broke_read login s r t k a e log some op is made v w =
     breaks_open login s t k a e w (f.0 ∙ ap (λ (x : Seen). io_error Link x.facts.place) is) log
     (subst (λ (x : Seen). StandsAt x w.so_far.place) (sym gone) (fallen_at s w.so_far.place (with_failing s faults.Link) w.so_far.at.at.mirrors w.so_far.at.at.taken_is)) (ap (λ (x : Seen). x.closed) gone)
 
+-- a call of a kind, with what another carries, is of that kind
+pub kind_back : (c : CallKind) (carried : Call) → kind_of (call_of c carried) ≡ c
+kind_back Connect carried = refl
+kind_back Query carried = refl
+kind_back Prepare carried = refl
+kind_back Execute carried = refl
+kind_back Batch carried = refl
+kind_back CloseStmt carried = refl
+kind_back NextRow carried = refl
+kind_back DropResult carried = refl
+kind_back TakeSet carried = refl
+kind_back SkipTaken carried = refl
+kind_back Ping carried = refl
+kind_back Quit carried = refl
+
 -- the open call is cancelled
 module _ (s : Seen) (call : Call) (parts : List Part) (p : Place) (o : OpenAt s call parts p) (stepped : is_begun s.task ≡ false) (shut : s.task ≡ tasks.Leaving → s.closed ≡ true) where
   kind_is : (c : CallKind) → kind_in s.task ≡ Some c → kind_of call ≡ c
-  kind_is c e = let same : Some (call_of c s.call) ≡ Some call = sym (ap (λ k. call_with k s.call) e) ∙ o.call_is in let is : call ≡ call_of c s.call = cc in ap kind_of is ∙ back c s.call
-    where
-      back : (c : CallKind) (carried : Call) → kind_of (call_of c carried) ≡ c
-      back Connect carried = refl
-      back Query carried = refl
-      back Prepare carried = refl
-      back Execute carried = refl
-      back CloseStmt carried = refl
-      back NextRow carried = refl
-      back DropResult carried = refl
-      back TakeSet carried = refl
-      back SkipTaken carried = refl
-      back Ping carried = refl
-      back Quit carried = refl
+  kind_is c e = let same : Some (call_of c s.call) ≡ Some call = sym (ap (λ k. call_with k s.call) e) ∙ o.call_is in let is : call ≡ call_of c s.call = cc in ap kind_of is ∙ kind_back c s.call
 
   spot_is : s.context.spot ≡ (context_of p.talk).spot
   spot_is = ap (λ (c : Context). c.spot) o.at.mirrors.context_is
@@ -265,6 +267,7 @@ module _ (s : Seen) (call : Call) (parts : List Part) (p : Place) (o : OpenAt s 
   closes_asking Query e = refl
   closes_asking Prepare e = refl
   closes_asking Execute e = refl
+  closes_asking Batch e = refl
   closes_asking CloseStmt e = refl
   closes_asking NextRow e = cc
   closes_asking DropResult e = cc
@@ -278,6 +281,7 @@ module _ (s : Seen) (call : Call) (parts : List Part) (p : Place) (o : OpenAt s 
   closes_own Query w = refl
   closes_own Prepare w = refl
   closes_own Execute w = refl
+  closes_own Batch w = refl
   closes_own CloseStmt w = refl
   closes_own NextRow w = absurd w
   closes_own DropResult w = absurd w
@@ -293,6 +297,8 @@ module _ (s : Seen) (call : Call) (parts : List Part) (p : Place) (o : OpenAt s 
   closes_is (tasks.Own c) e w = sym (ap (λ k. closes_cancelled k p) (kind_is c (ap kind_in e)) ∙ closes_own c w)
   closes_is tasks.Giving e w = sym (ap (λ k. closes_cancelled k p) (kind_is Prepare (ap kind_in e)))
   closes_is (tasks.Arranging n) e w = sym (ap (λ k. closes_cancelled k p) (kind_is Connect (ap kind_in e)))
+  closes_is (tasks.Running n) e w = sym (ap (λ k. closes_cancelled k p) (kind_is Batch (ap kind_in e)))
+  closes_is (tasks.Finishing n) e w = sym (ap (λ k. closes_cancelled k p) (kind_is Batch (ap kind_in e)))
   closes_is tasks.Reading e w = ap awaits_head spot_is ∙ sym (ap (λ k. closes_cancelled k p) (kind_is NextRow (ap kind_in e)))
   closes_is tasks.Dropping e w = ap awaits_head spot_is ∙ sym (ap (λ k. closes_cancelled k p) (kind_is DropResult (ap kind_in e)))
   closes_is tasks.Taking e w = ap awaits_head spot_is ∙ sym (ap (λ k. closes_cancelled k p) (kind_is TakeSet (ap kind_in e)))
@@ -307,6 +313,8 @@ module _ (s : Seen) (call : Call) (parts : List Part) (p : Place) (o : OpenAt s 
   keeps_end (tasks.Own c) e f = refl
   keeps_end tasks.Giving e f = refl
   keeps_end (tasks.Arranging n) e f = cc
+  keeps_end (tasks.Running n) e f = cc
+  keeps_end (tasks.Finishing n) e f = cc
   keeps_end tasks.Reading e f = refl
   keeps_end tasks.Dropping e f = refl
   keeps_end tasks.Taking e f = refl
@@ -321,6 +329,8 @@ module _ (s : Seen) (call : Call) (parts : List Part) (p : Place) (o : OpenAt s 
   owes_not (tasks.Own c) e f = cc
   owes_not tasks.Giving e f = cc
   owes_not (tasks.Arranging n) e f = cc
+  owes_not (tasks.Running n) e f = cc
+  owes_not (tasks.Finishing n) e f = cc
   owes_not tasks.Reading e f = refl
   owes_not tasks.Dropping e f = refl
   owes_not tasks.Taking e f = refl
@@ -338,7 +348,7 @@ module _ (s : Seen) (call : Call) (parts : List Part) (p : Place) (o : OpenAt s 
       own_end = λ no. cc;
       task_at = tt;
       statements_are = o.at.statements_are;
-      checked = λ no. cc;
+      checked = refl;
       settled = λ _. o.at.settled (owes_not s.task refl e);
     },
     o.alive,
@@ -366,6 +376,7 @@ module _ (login : Login) (s t : Seen) (k : Kept) (call : Call) where
   back_whole (calls.Query q) = refl
   back_whole (calls.Prepare q) = refl
   back_whole (calls.Execute statement params) = refl
+  back_whole (calls.Batch statement lists) = refl
   back_whole (calls.CloseStmt id) = refl
   back_whole calls.NextRow = refl
   back_whole calls.DropResult = refl
@@ -373,19 +384,6 @@ module _ (login : Login) (s t : Seen) (k : Kept) (call : Call) where
   back_whole calls.SkipTaken = refl
   back_whole calls.Ping = refl
   back_whole calls.Quit = refl
-
-  parts_back : (c : Call) (l : Login) → parts_of l c ≡ parts_of l (call_of (kind_of c) calls.Connect)
-  parts_back calls.Connect l = refl
-  parts_back (calls.Query q) l = refl
-  parts_back (calls.Prepare q) l = refl
-  parts_back (calls.Execute statement params) l = refl
-  parts_back (calls.CloseStmt id) l = refl
-  parts_back calls.NextRow l = refl
-  parts_back calls.DropResult l = refl
-  parts_back calls.TakeSet l = refl
-  parts_back calls.SkipTaken l = refl
-  parts_back calls.Ping l = refl
-  parts_back calls.Quit l = refl
 
   -- the session with this task
   abbrev asked_with : Bool → Seen
@@ -409,13 +407,13 @@ module _ (login : Login) (s t : Seen) (k : Kept) (call : Call) where
         own_end = λ no. cc;
         task_at = at;
         statements_are = w.at.statements_are;
-        checked = λ no. cc;
+        checked = refl;
         settled = λ _. w.at.settled (ap owes idle);
       };
       alive = c;
       sound = refl;
       call_is = ap Some (back_whole call);
-      parts_are = parts_back call s.login;
+      parts_are = sym (ap (parts_of s.login) (back_whole call));
     }
 
     pub begin_open : (rows : Option (List RowParts)) → s.closed ≡ false → BegunStandsAt (kind_of call) s.context.spot (connects_in (exchanges w.place)) → OpenRead login t (asking k call rows) (record { call = call; sent_from = length k.sent; taken_from = length k.taken; rows = rows })
@@ -429,7 +427,7 @@ module _ (login : Login) (s t : Seen) (k : Kept) (call : Call) where
     }
 
     leaving_at : (b : Bool) → s.closed ≡ true → b ≡ true → StandsAt (asked_with b) w.place
-    leaving_at true c f = record { mirrors = w.at.mirrors; end_is = λ no _. let stop : true ≡ false = sym c ∙ no in cc; taken_is = w.at.taken_is; own_end = λ no. cc; task_at = tt; statements_are = λ no. let stop : true ≡ false = sym c ∙ no in cc; checked = λ no. cc; settled = λ _. w.at.settled (ap owes idle) }
+    leaving_at true c f = record { mirrors = w.at.mirrors; end_is = λ no _. let stop : true ≡ false = sym c ∙ no in cc; taken_is = w.at.taken_is; own_end = λ no. cc; task_at = tt; statements_are = λ no. let stop : true ≡ false = sym c ∙ no in cc; checked = refl; settled = λ _. w.at.settled (ap owes idle) }
     leaving_at false c f = cc
 
     pub begin_quit : (rows : Option (List RowParts)) → s.closed ≡ true → kind_of call ≡ Quit → QuitRead login t (asking k call rows) (record { call = call; sent_from = length k.sent; taken_from = length k.taken; rows = rows })
@@ -465,7 +463,7 @@ fresh_read login s e = record {
     own_end = λ _. refl;
     task_at = tt;
     statements_are = λ _. refl;
-    checked = λ no. cc;
+    checked = refl;
     settled = λ _. refl;
   });
 }

@@ -5,18 +5,18 @@ use Rattle.my_client.specs.Kept.{Kept}
 use Rattle.my_client.proofs.Driving.{drives_for, rests_by, rows_for}
 use Rattle.my_client.proofs.driver.drive.Goals as goal
 
-pub returns-clause-drives : goal.returns-clause-drives
-returns-clause-drives g c =
+pub returns-in-Ok-clause-drives : goal.returns-in-Ok-clause-drives
+returns-in-Ok-clause-drives g c =
     let w = c.in_ok-after.ensures.polls (kept_of c.args.conn.now) refl in
     drives_for _ c.args.conn.now.session.seen c.poll_session.new.session.seen (g.L.Link.looks c.args.conn.now.link) (g.L.Link.looks c.poll_session.new.link) (kept_of c.args.conn.now) (kept_in c.keep.new.self) c.in_ok-after.met c.in_ok-after.after w
-    (subst (λ (k : Kept). KeepsBy k (kept_in c.keep.new.self) c.in_ok-after.after) w.noted c.in_ok-rows.ensures.kept)
+    (subst (λ (k : Kept). KeepsBy k (kept_in c.keep.new.self) c.in_ok-after.after) w.noted c.in-Ok.ensures.kept)
 
-pub returns-clause-rows : goal.returns-clause-rows
-returns-clause-rows g c =
+pub returns-in-Ok-clause-rows : goal.returns-in-Ok-clause-rows
+returns-in-Ok-clause-rows g c =
     let w = c.in_ok-after.ensures.polls (kept_of c.args.conn.now) refl in
-    rows_for _ _ _ _ _ (kept_of c.args.conn.now) c.in_ok-after.met c.in_ok-after.after w (option_map (λ v. v.items) c.in_ok-rows.rows) (subst (λ (k : Kept). RowsBy k c.in_ok-after.after (option_map (λ v. v.items) c.in_ok-rows.rows)) w.noted c.in_ok-rows.ensures.rows)
+    rows_for _ _ _ _ _ (kept_of c.args.conn.now) c.in_ok-after.met c.in_ok-after.after w (option_map (λ v. v.items) c.in-Ok.rows) (subst (λ (k : Kept). RowsBy k c.in_ok-after.after (option_map (λ v. v.items) c.in-Ok.rows)) w.noted c.in-Ok.ensures.rows)
 
-pub returns-clause-rests : goal.returns-clause-rests
-returns-clause-rests g c =
+pub returns-in-Ok-clause-rests : goal.returns-in-Ok-clause-rests
+returns-in-Ok-clause-rests g c =
     let w = c.in_ok-after.ensures.polls (kept_of c.args.conn.now) refl in
     rests_by c.poll_session.new.session.seen c.in_ok-after.met w.polls.stop c.in_ok-after.after w.polls.cause

@@ -1,8 +1,7 @@
-use Rattle.std.proofs.Common.{ℕ, ◌≡◌, ◌+◌, Option, None, Ok, Err, refl, sym, ap, ◌∙◌, subst, arith}
+use Rattle.std.proofs.Common.{ℕ, ◌≡◌, ◌+◌, None, Ok, Err, refl, sym, ap, ◌∙◌, subst, arith}
 use Rattle.my_link.specs.declared.met.Met.{Met}
-use Rattle.my_reading.specs.declared.call.Call.{Call}
 use Rattle.my_client.specs.declared.poll.After.{After}
-use Rattle.my_line.specs.Calls.{MayPoll, pending_after}
+use Rattle.my_line.specs.Calls.{pending_after}
 use Rattle.my_line.proofs.Waiting.{Results}
 use Rattle.my_conn.specs.Calls.{CallIs}
 use Rattle.my_conn.specs.Conn.{ConnSeen}
@@ -19,12 +18,11 @@ polls-preserved g c =
     let u = c.poll_call-after in
     let look = g.L.Link.looks in
     let m : Met = u.result.1 in
-    let at : CallIs look c.now-now.result c.args.kind c.polls.next c.polls.self u.new.self m u.result.0 = subst (λ (n : Option Call). CallIs look c.now-now.result c.args.kind n c.polls.self u.new.self m u.result.0) c.take.ensures.value u.ensures in
-    let is : CallIs look c.args.self.now.fixed.now c.args.kind c.polls.next c.polls.self u.new.self m u.result.0 = subst (λ (i : ℕ). CallIs look i c.args.kind c.polls.next c.polls.self u.new.self m u.result.0) c.now-now.ensures at in
+    let is : CallIs look c.args.self.now.fixed.now c.args.kind c.polls.next c.polls.self u.new.self m u.result.0 = subst (λ (i : ℕ). CallIs look i c.args.kind c.polls.next c.polls.self u.new.self m u.result.0) c.now-now.ensures u.ensures in
     let on : DriveSoFar look c.args.call None c.args.self.now u.new.self (c.polls.spent + m.taken) = goes_on look c.args.kind c.args.call c.args.self.now u.new.self m u.result.0 c.polls.next c.polls.self c.polls.spent c.polls.invariant.so is c.in-Pending.is (subst (λ l. (look l).counts.holds ≡ 0) c.link.ensures c.never_holds.ensures) (subst (λ l. (look l).counts.holds ≡ 0) c.link-in-polls.ensures c.never_holds-in-polls.ensures) in
     record {
-      may = subst (λ (n : Option Call). MayPoll c.args.kind n u.new.self.pending) (sym c.take.ensures.after) (is.pending ∙ ap (pending_after c.args.kind) c.in-Pending.is);
-      so = subst (λ (n : Option Call). DriveSoFar look c.args.call n c.args.self.now u.new.self (c.polls.spent + m.taken)) (sym c.take.ensures.after) on;
+      may = is.pending ∙ ap (pending_after c.args.kind) c.in-Pending.is;
+      so = on;
       room = omega (arith, c.if-spent-ge-TOO_LONG.false, is.within);
     }
 
@@ -33,8 +31,7 @@ returns-in-Answered g c =
     let u = c.poll_call-after in
     let look = g.L.Link.looks in
     let m : Met = u.result.1 in
-    let at : CallIs look c.now-now.result c.args.kind c.polls.next c.polls.self u.new.self m u.result.0 = subst (λ (n : Option Call). CallIs look c.now-now.result c.args.kind n c.polls.self u.new.self m u.result.0) c.take.ensures.value u.ensures in
-    let is : CallIs look c.args.self.now.fixed.now c.args.kind c.polls.next c.polls.self u.new.self m u.result.0 = subst (λ (i : ℕ). CallIs look i c.args.kind c.polls.next c.polls.self u.new.self m u.result.0) c.now-now.ensures at in
+    let is : CallIs look c.args.self.now.fixed.now c.args.kind c.polls.next c.polls.self u.new.self m u.result.0 = subst (λ (i : ℕ). CallIs look i c.args.kind c.polls.next c.polls.self u.new.self m u.result.0) c.now-now.ensures u.ensures in
     drive_is look c.args.kind c.args.call c.args.self.now u.new.self m u.result.0 c.polls.next c.polls.self c.polls.spent c.polls.invariant.so is _ (subst (λ (p : After). Results p (Ok c.in-Answered.answer)) (sym c.in-Answered.is) refl)
 
 pub returns-in-Failed : goal.returns-in-Failed
@@ -42,6 +39,5 @@ returns-in-Failed g c =
     let u = c.poll_call-after in
     let look = g.L.Link.looks in
     let m : Met = u.result.1 in
-    let at : CallIs look c.now-now.result c.args.kind c.polls.next c.polls.self u.new.self m u.result.0 = subst (λ (n : Option Call). CallIs look c.now-now.result c.args.kind n c.polls.self u.new.self m u.result.0) c.take.ensures.value u.ensures in
-    let is : CallIs look c.args.self.now.fixed.now c.args.kind c.polls.next c.polls.self u.new.self m u.result.0 = subst (λ (i : ℕ). CallIs look i c.args.kind c.polls.next c.polls.self u.new.self m u.result.0) c.now-now.ensures at in
+    let is : CallIs look c.args.self.now.fixed.now c.args.kind c.polls.next c.polls.self u.new.self m u.result.0 = subst (λ (i : ℕ). CallIs look i c.args.kind c.polls.next c.polls.self u.new.self m u.result.0) c.now-now.ensures u.ensures in
     drive_is look c.args.kind c.args.call c.args.self.now u.new.self m u.result.0 c.polls.next c.polls.self c.polls.spent c.polls.invariant.so is _ (subst (λ (p : After). Results p (Err c.in-Failed.error)) (sym c.in-Failed.is) refl)
