@@ -2,7 +2,7 @@
 
 ghost use Rattle.std.specs.Prelude.{◌≡◌, None};
 
-use crate::held::{execution_of, text_of};
+use crate::held::{batch_of, execution_of, text_of};
 use crate::library::count_rows;
 use crate::told::{
     failed, of_check, of_columns, of_done, of_facts, of_life, of_marks, of_moment, of_prepared,
@@ -38,6 +38,20 @@ fn execute<L: BlockingLink>(
     }
 }
 
+fn batch<L: BlockingLink>(
+    alloc: Global,
+    conn: &mut Conn<L>,
+    held: &Option<Statement>,
+    step: u8,
+) -> u8
+    requires { conn.old.pending ≡ None }
+{
+    match batch_of(alloc, held, step) {
+        Ok(Some((statement, lists))) => of_done(conn.execute_batch(alloc, statement, lists)),
+        Ok(None) | Err(_) => b'?',
+    }
+}
+
 // A step with a prepared statement.
 fn drive_held<L: BlockingLink>(
     alloc: Global,
@@ -53,6 +67,7 @@ fn drive_held<L: BlockingLink>(
             Err(_) => b'?',
         },
         b'X' | b'Z' => execute(alloc, conn, held, step),
+        b'B' | b'T' | b'N' => batch(alloc, conn, held, step),
         b'Y' => match held.take() {
             Some(statement) => of_done(conn.close_statement(alloc, statement)),
             None => b'?',

@@ -40,3 +40,32 @@ pub fn execution_of(
         }
     }
 }
+
+// The parameters of each execution of a batch: `B` has two, `T` two of which the second lacks its value, and `N` none.
+fn lists_of(alloc: Global, step: u8) -> Result<Vec<Params>, NoMemory> {
+    let mut lists = Vec::new(alloc);
+    let steps: &[u8] = match step {
+        b'B' => b"XX",
+        b'T' => b"XZ",
+        _ => b"",
+    };
+    for step in steps {
+        lists.push(params_of(alloc, *step)?)?;
+    }
+    Ok(lists)
+}
+
+/// A second holder of the statement that is held, and the parameters of each execution of a batch.
+pub fn batch_of(
+    alloc: Global,
+    held: &Option<Statement>,
+    step: u8,
+) -> Result<Option<(Statement, Vec<Params>)>, NoMemory> {
+    match held {
+        None => Ok(None),
+        Some(statement) => {
+            let copy = statement.copy(alloc)?;
+            Ok(Some((copy, lists_of(alloc, step)?)))
+        }
+    }
+}

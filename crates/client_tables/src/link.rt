@@ -81,6 +81,15 @@ pub fn piece(letter: u8) -> &'static [u8] {
     }
 }
 
+/// How many bytes these letters stand for.
+pub fn count_bytes(letters: &str) -> usize {
+    let mut count = 0usize;
+    for letter in letters.as_bytes() {
+        count = count.saturating_add(piece(*letter).len());
+    }
+    count
+}
+
 /// Whether bytes are those of these letters.
 pub fn is_of(bytes: &[u8], letters: &str) -> bool {
     let mut rest = bytes;
@@ -115,9 +124,30 @@ fn prepare(alloc: Global, world: &mut MemWorld, letter: u8) -> Result<(), NoMemo
     world.prepare(&line)
 }
 
-fn prepare_all(alloc: Global, world: &mut MemWorld, plan: &str) -> Result<(), NoMemory> {
+fn prepare_bytes(alloc: Global, world: &mut MemWorld, bytes: &[u8]) -> Result<(), NoMemory> {
+    let line = WorldLine::Bytes(0, Blob::from_slice(alloc, bytes)?);
+    world.prepare(&line)
+}
+
+// A wait stands before the byte of the number `hold`, if there are as many.
+fn prepare_all(
+    alloc: Global,
+    world: &mut MemWorld,
+    plan: &str,
+    hold: usize,
+) -> Result<(), NoMemory> {
+    let mut before = 0usize;
     for letter in plan.as_bytes() {
-        prepare(alloc, world, *letter)?;
+        let bytes = piece(*letter);
+        let cut = hold.saturating_sub(before);
+        if before <= hold && cut < bytes.len() {
+            prepare_bytes(alloc, world, &bytes[..cut])?;
+            prepare(alloc, world, b'w')?;
+            prepare_bytes(alloc, world, &bytes[cut..])?;
+        } else {
+            prepare(alloc, world, *letter)?;
+        }
+        before = before.saturating_add(bytes.len());
     }
     Ok(())
 }
@@ -129,10 +159,15 @@ fn dial(world: &mut MemWorld, target: &Target) -> Option<MemLink> {
     }
 }
 
-/// A link that plays these letters in order; none where the dial fails.
-pub fn link_of(alloc: Global, target: &Target, plan: &str) -> Result<Option<MemLink>, NoMemory> {
+/// A link that plays these letters in order, and isn't ready once before the byte of the number `hold`; none where the dial fails.
+pub fn link_of(
+    alloc: Global,
+    target: &Target,
+    plan: &str,
+    hold: usize,
+) -> Result<Option<MemLink>, NoMemory> {
     let mut world = MemWorld::new(alloc);
-    let link = match prepare_all(alloc, &mut world, plan) {
+    let link = match prepare_all(alloc, &mut world, plan, hold) {
         Ok(()) => Ok(dial(&mut world, target)),
         Err(NoMemory) => Err(NoMemory),
     };

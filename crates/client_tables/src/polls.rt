@@ -4,7 +4,7 @@ ghost use Rattle.std.specs.Prelude.{◌≡◌, None};
 ghost use Rattle.my_line.specs.Calls.{MayPoll};
 
 use crate::aid::Script;
-use crate::held::{execution_of, text_of};
+use crate::held::{batch_of, execution_of, text_of};
 use crate::told::{
     of_check, of_columns, of_done, of_facts, of_life, of_marks, of_moment, of_prepared, of_read,
     of_rest, of_server, of_short_life, of_taken, of_tape,
@@ -39,13 +39,13 @@ pub fn made<L: Link + Drop>(
 }
 
 // Polls a call while it is pending, at most `polls` times, at the moment 7, and cancels it then.
-fn play<C: Returns, L: Link>(
+fn play<K: Drop, R: Returns + Drop, L: Link>(
     alloc: Global,
     conn: &mut Conn<L>,
-    call: CallState<C>,
+    call: CallState<K, R>,
     polls: u64,
-) -> Option<Result<C::Answer, Error>>
-    requires { MayPoll C.KIND call.call conn.old.pending }
+) -> Option<Result<R, Error>>
+    requires { MayPoll call.kind call.call conn.old.pending }
 {
     let mut call = call;
     'polls: for _ in 0..polls {
@@ -123,6 +123,23 @@ fn execute<L: Link>(
     }
 }
 
+fn batch<L: Link>(
+    alloc: Global,
+    conn: &mut Conn<L>,
+    held: &Option<Statement>,
+    step: u8,
+    polls: u64,
+) -> u8
+    requires { conn.old.pending ≡ None }
+{
+    match batch_of(alloc, held, step) {
+        Ok(Some((statement, lists))) => {
+            done(play(alloc, conn, ExecCall::batch(statement, lists), polls))
+        }
+        Ok(None) | Err(_) => b'?',
+    }
+}
+
 fn close<L: Link>(alloc: Global, conn: &mut Conn<L>, held: &mut Option<Statement>, polls: u64) -> u8
     requires { conn.old.pending ≡ None }
 {
@@ -145,6 +162,7 @@ fn poll_held<L: Link>(
     match step {
         b'P' | b'M' => prepare(alloc, conn, held, step, polls),
         b'X' | b'Z' => execute(alloc, conn, held, step, polls),
+        b'B' | b'T' | b'N' => batch(alloc, conn, held, step, polls),
         b'Y' => close(alloc, conn, held, polls),
         b'o' => of_columns(conn, held),
         _ => b'?',

@@ -1,7 +1,7 @@
 //! Conversations, polled and waiting, and how they are cut or fail.
 
 use crate::drives::{driven, ended};
-use crate::link::link_of;
+use crate::link::{count_bytes, link_of};
 use crate::polls::{made, polled};
 use crate::told::{failed, is_kept, is_none, of_error};
 use my_conn::{Conn, Connected, Connecting};
@@ -25,7 +25,8 @@ use std::test::Fail;
 // the options, `l` the connection's life, `h` a short one, `t` the tape is taken; `y` whether something is unread, `m` the moment of
 // the last payload, `f` what a pool tells the connection.
 // Of prepared statements: `P` prepares one with a name, which is held from then on, `M` one of a text with a name and a mark; `X`
-// executes the one that is held, with 42, `Z` without its value; `Y` closes it; `o` whether the columns of its rows are known.
+// executes the one that is held, with 42, `Z` without its value; `B` executes it with 42 twice, `T` first with 42 and then without its
+// value, `N` for no list; `Y` closes it; `o` whether the columns of its rows are known.
 // Returned: `k` done, or a set is taken, `r` a row, `e` the end of a set, `n` that nothing is there, `.` pending; `S` a server's error, `L` a
 // fault of the link, `U` an end that came too early, `C` that the connection is closed; `A` alive, `D` dead; `c` closed; `R` that the caller
 // refused; `y` and `n` for `y` and `o`; `5` and `7` for `m`; `s` a statement; `M` that names and marks are mixed, `P` that a value is missing.
@@ -79,6 +80,15 @@ gtktwh2j aP 12 ks la gkh2j kk
 gtkteto aPp 111 kSk lap gkeo kek
 gtkto aMp 111 kMk lp gko kek
 gtkth2j aPoZop 111111 ksyPnC la gkh2j kkee
+gtkth2jt12b4t12b4to aPBoyrp 1111111 kskynnk laxxp gkh2j12b412b4o kkkkk
+gtkth2jt12b4tototo aPXBp 11111 kskkk laxxxp gkh2j12b4ooo kkkkk
+gtkth2jt12b4to aPXNrp 111111 kskkrk laxp gkh2j12b4o kkkkkk
+gtkth2jto aPNp 1111 kskk lap gkh2jo kkkk
+gtkth2jto aPTp 1111 ksPC lax gkh2jo kkee
+gtkth2jtoteto aPBp 1111 ksSk laxxp gkh2joeo kkek
+gtkth2jtotwo aPB 112 ksk laxx gkh2joo kkk
+gtkth2jtow aPBp 1111 ks.C laxx gkh2jo kkXe
+gtkth2jtoz aPBp 1111 ksUC laxx gkh2jo kkee
 gtkto a 1 k ls gko kkk s
 gtktoto amp 111 k5k lsp gkoo kkkk s
 gtkt1234to a 1 k lqs gk1234o kkkkk qs
@@ -121,7 +131,14 @@ gtktoto amfqm k5kk7
 gtkth2jt12bn0 aPoXorrrY ksykyrrek
 gtkth2jt12b4to aPXPrrMp ksksreMk
 gtkteth2j aPPZp kSsPC
+gtkth2jt12b4t12b4to aPBoyrp kskynnk
+gtkth2jto aPNp kskk
+gtkth2jto aPTp ksPC
+gtkth2jtoteto aPBp ksSk
 gtk eh kk";
+
+// A row as those that are polled. It plays the same where the link isn't ready before any one of its bytes.
+const HELD: &str = "gtkth2jt12b4to aPBr 2222 kskn laxx gkh2j12b4o kkkk";
 
 // The options of each connection.
 const URL: &str = "mysql://root@localhost?max_allowed_packet=4194304&wait_timeout=28800";
@@ -144,6 +161,8 @@ struct Row<'a> {
     taken: &'a str,
     calls: &'a str,
     texts: &'a str,
+    // The number of the byte before which the link isn't ready.
+    hold: usize,
 }
 
 fn word(row: &str, number: usize) -> &str {
@@ -165,6 +184,7 @@ fn polled_row(row: &str) -> Row<'_> {
         taken: word(row, 5),
         calls: word(row, 6),
         texts: word(row, 7),
+        hold: usize::MAX,
     }
 }
 
@@ -178,6 +198,7 @@ fn waiting_row(row: &str) -> Row<'_> {
         taken: "-",
         calls: "-",
         texts: "",
+        hold: usize::MAX,
     }
 }
 
@@ -250,9 +271,9 @@ fn opts_of(alloc: Global) -> Result<Opts, NoMemory> {
     }
 }
 
-fn link_for(alloc: Global, opts: &Opts, plan: &str) -> Result<MemLink, NoMemory> {
+fn link_for(alloc: Global, opts: &Opts, row: &Row) -> Result<MemLink, NoMemory> {
     let target = opts.target(alloc)?;
-    let dialed = link_of(alloc, &target, plan);
+    let dialed = link_of(alloc, &target, row.plan, row.hold);
     drop(target);
     match dialed {
         Ok(Some(link)) => Ok(link),
@@ -262,7 +283,7 @@ fn link_for(alloc: Global, opts: &Opts, plan: &str) -> Result<MemLink, NoMemory>
 
 fn begun(alloc: Global, row: &Row) -> Result<Connecting<MemLink>, NoMemory> {
     let opts = opts_of(alloc)?;
-    match link_for(alloc, &opts, row.plan) {
+    match link_for(alloc, &opts, row) {
         Ok(link) => Connecting::new(alloc, opts, link, 3, 0, row.sent != "-"),
         Err(NoMemory) => {
             drop(opts);
@@ -319,9 +340,9 @@ fn new_by(
     }
 }
 
-fn waiting_link(alloc: Global, plan: &str) -> Result<ReadyLink<MemLink>, NoMemory> {
+fn waiting_link(alloc: Global, row: &Row) -> Result<ReadyLink<MemLink>, NoMemory> {
     let opts = opts_of(alloc)?;
-    let link = link_for(alloc, &opts, plan);
+    let link = link_for(alloc, &opts, row);
     drop(opts);
     Ok(ReadyLink::new(link?))
 }
@@ -336,7 +357,7 @@ fn ends_right(alloc: Global, conn: Conn<ReadyLink<MemLink>>, row: &Row) -> bool 
 }
 
 fn is_driven(alloc: Global, row: &Row) -> Result<bool, NoMemory> {
-    let link = waiting_link(alloc, row.plan)?;
+    let link = waiting_link(alloc, row)?;
     match new_by(alloc, link, at(row.steps, 0)) {
         Ok(conn) => Ok(ends_right(alloc, conn, row)),
         Err(error) => Ok(at(row.says, 0) == failed(error)),
@@ -355,6 +376,15 @@ fn waits_right(alloc: Global, row: &Row) -> bool {
 fn talks_are_polled(rt: HostRuntime) -> Result<(), Fail> {
     for row in POLLED.split('\n') {
         assert!(rt; polls_right(rt.alloc(), &polled_row(row)), "{row}");
+    }
+    Ok(())
+}
+
+#[test]
+fn talks_are_held(rt: HostRuntime) -> Result<(), Fail> {
+    let row = polled_row(HELD);
+    for hold in 0..count_bytes(row.taken) {
+        assert!(rt; polls_right(rt.alloc(), &Row { hold, ..row }), "{hold}");
     }
     Ok(())
 }

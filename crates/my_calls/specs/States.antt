@@ -9,12 +9,22 @@ use Rattle.my_packets.specs.declared.poll.Poll.TheVariants as polls
 use Rattle.my_reading.specs.declared.answer.Answer.{Answer}
 use Rattle.my_reading.specs.declared.call.Call.{Call}
 use Rattle.my_reading.specs.declared.call.CallKind.{CallKind}
+use Rattle.my_reading.specs.Calls.{kind_of}
 use Rattle.my_reading.specs.declared.error.Error.{Error}
 use Rattle.my_client.specs.declared.poll.After.{After}
 use Rattle.my_client.specs.declared.poll.After.TheVariants.{Pending, Answered, Failed}
 use Rattle.my_conn.specs.Calls.{CallIs}
 use Rattle.my_conn.specs.Cancels.{CancelIs}
 use Rattle.my_conn.specs.Conn.{ConnSeen}
+
+-- the kind of a call, and the call itself where it didn't begin yet
+pub record StateSeen : Type 0 where
+  pub kind : CallKind
+  pub call : Option Call
+
+-- before the first poll
+abbrev pub first_state : Call → StateSeen
+first_state call = record { kind = kind_of call; call = Some call }
 
 -- by what the poll of a call came to, and what its answer gives a caller
 abbrev pub ReturnedBy : {A : Type 0} → (Answer → A → Type 0) → After → Poll (Result A Error) → Type 0

@@ -54,7 +54,11 @@ impl StreamCall {
         let (after, _met) = conn.poll_call(alloc, CallKind::TakeSet, call, now);
         match after {
             After::Pending => return Poll::Pending,
-            After::Answered(answer) => return Poll::Ready(Ok(taken_answer(&answer))),
+            After::Answered(answer) => {
+                let taken = taken_answer(&answer);
+                drop(answer);
+                return Poll::Ready(Ok(taken));
+            }
             After::Failed(error) => return Poll::Ready(Err(error)),
         }
     }
@@ -75,7 +79,10 @@ impl StreamCall {
         let (after, _met) = conn.poll_call(alloc, CallKind::SkipTaken, call, now);
         match after {
             After::Pending => return Poll::Pending,
-            After::Answered(_) => return self.take(alloc, conn, Some(Call::TakeSet), now),
+            After::Answered(answer) => {
+                drop(answer);
+                return self.take(alloc, conn, Some(Call::TakeSet), now);
+            }
             After::Failed(error) => return Poll::Ready(Err(error)),
         }
     }
