@@ -27,7 +27,7 @@ use my_script::{Outcome, Step, target};
 /// What the lines so far made of a connection.
 #[derive(Clone, Copy, Debug, PartialEq, Eq)]
 pub enum Status {
-    /// It isn't dialed yet, and so many others are dialed first.
+    /// It isn't dialed yet, and this many others are dialed first.
     Ahead(u64),
     /// Steps may not name it any more.
     Absent,
@@ -48,7 +48,7 @@ pub enum Act {
     Wrong,
     /// Nothing that its tape shows.
     Skips(Status),
-    /// It tells the last OK.
+    /// It shows the last OK.
     Tells,
     /// The dial isn't ready.
     Holds,

@@ -1,4 +1,4 @@
--- Prepared statements by their numbers: they are told by the steps and their answers alone.
+-- Prepared statements by their numbers, which follow from the steps and their answers alone.
 use Rattle.std.specs.Prelude.{ℕ, List, [], ◌∷◌, ◌++◌, Option, Some, None, slice_get, slice_set}
 use Rattle.my_statements.specs.Prepared.{StatementView}
 use Rattle.my_script.specs.declared.step.Step.{Step}

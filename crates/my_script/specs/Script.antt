@@ -6,6 +6,7 @@ use Rattle.my_script.specs.declared.step.Step.TheVariants.{Conn, Advance, Random
 use Rattle.my_world.specs.declared.line.WorldLine.{WorldLine}
 use Rattle.my_script.specs.declared.reading.line.Item.{Item}
 use Rattle.my_script.specs.declared.reading.line.Item.TheVariants.{Nothing, Plans, Steps, Wrong}
+use Rattle.my_script.specs.declared.reading.script.BadLine.{BadLine}
 use Rattle.my_script.specs.declared.reading.script.Read.{Read}
 use Rattle.my_script.specs.declared.reading.script.Read.TheVariants as reads
 use Rattle.my_script.specs.declared.reading.script.Sofar.{Sofar}
@@ -73,3 +74,8 @@ StandsIn plans (Bad n text) = Unit {0}
 abbrev pub read_as : Read → Script
 read_as (reads.Good s) = Good s.plan.items s.steps.items
 read_as (reads.Bad line) = Bad line.number line.text
+
+-- the lines that were read, where all read, or the first one that doesn't
+abbrev pub read_into : List WorldLine → List Step → Option BadLine → Script
+read_into plan steps None = Good plan steps
+read_into plan steps (Some line) = Bad line.number line.text

@@ -1,4 +1,4 @@
--- What the lines of a run make of a stream at a connection: it is told by the steps and their answers alone.
+-- What the lines of a run make of a stream at a connection: it follows from the steps and their answers alone.
 use Rattle.std.specs.Prelude.{ℕ, ◌==◌, Option, Some, None, Bool, true, false, if◌then◌else◌}
 use Rattle.my_reading.specs.declared.call.CallKind.{CallKind}
 use Rattle.my_reading.specs.declared.call.CallKind.TheVariants.{SkipTaken}

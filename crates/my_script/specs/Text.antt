@@ -26,12 +26,12 @@ prepared_text number s =
     codes "stmt " ++ decimal number ++ named_text (codes " id=") s.inner.id ++ named_text (codes " params=") s.inner.num_params
     ++ named_text (codes " columns=") s.inner.num_columns
 
--- how many statements were prepared up to an answer, after so many before it
+-- how many statements were prepared up to and with an answer, by how many were before it
 abbrev pub prepared_by : ℕ → Outcome → ℕ
 prepared_by prepared (Prepared statement) = prepared + 1
 prepared_by prepared outcome = prepared
 
--- an answer's text, where so many statements were prepared before it: this is the number of the next one
+-- an answer's text, where this many statements were prepared before it: their count is the number of the next one
 abbrev pub outcome_text : ℕ → Outcome → List ℕ
 outcome_text prepared Done = codes "ok"
 outcome_text prepared Pending = codes "pending"
@@ -49,7 +49,7 @@ outcome_text prepared NoSuchHandle = codes "refused NoSuchHandle"
 unfoldable pub answer_text : ℕ → ℕ → Outcome → List ℕ
 answer_text prepared number outcome = decimal number ++ (32 ∷ outcome_text prepared outcome) ++ 10 ∷ []
 
--- answers, after so many statements that were prepared
+-- answers, where this many statements were prepared before them
 abbrev pub answers_text : ℕ → List StepAnswer → List ℕ
 answers_text prepared [] = []
 answers_text prepared (a ∷ rest) = answer_text prepared a.number a.outcome ++ answers_text (prepared_by prepared a.outcome) rest

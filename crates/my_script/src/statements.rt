@@ -1,4 +1,4 @@
-//! Prepared statements by their numbers, as the lines of a run tell them.
+//! Prepared statements by their numbers, as they follow from the lines of a run.
 ghost use Rattle.std.specs.Prelude.{◌≡◌, [], ◌∷◌, ◌++◌, IfOk, OnErr, OnOk, Some};
 ghost use Rattle.std.specs.Option.{option_copied};
 ghost use Rattle.my_script.specs.Numbered.{named_statement, spent, spent_by, statement_at, statements_by};
@@ -8,6 +8,7 @@ use my_frame::NoMemory;
 use my_statements::Statement;
 use std::alloc::Global;
 use std::marker::Model;
+use std::mem;
 
 /// The number of the statement that a step names.
 pub fn named_statement(step: &Step) -> Option<u64>
@@ -70,7 +71,7 @@ impl NumberedStatements {
         ensures { self.new ≡ spent number self.old }
     {
         if let Some(place) = self.given.get_mut(number as usize) {
-            *place = None;
+            drop(mem::replace(place, None));
         }
     }
 

@@ -1,4 +1,4 @@
-//! Streams of connections' sets, as the lines of a run tell them.
+//! Streams of connections' sets, as they follow from the lines of a run.
 ghost use Rattle.std.specs.Prelude.{◌≡◌};
 ghost use Rattle.my_script.specs.Streams.{after_cancel, after_item, after_poll, after_step, after_taking, is_there, stream_after, stream_by, target};
 

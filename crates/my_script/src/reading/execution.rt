@@ -47,18 +47,28 @@ fn pair(alloc: Global, word: &[u8]) -> Result<Option<(Blob, Value)>, NoMemory>
     };
     match value(alloc, rest)? {
         None => Ok(None),
-        Some(value) => Ok(Some((Blob::from_slice(alloc, pieces.first)?, value))),
+        Some(value) => match Blob::from_slice(alloc, pieces.first) {
+            Ok(name) => Ok(Some((name, value))),
+            Err(error) => {
+                drop(value);
+                Err(error)
+            }
+        },
     }
 }
 
 fn with_value(mut values: Listed<Value>, value: Option<Value>) -> Result<Option<Params>, NoMemory>
     ensures { IfOk result (λ more. more ≡ option_map (λ v. Positional (values ++ v ∷ [])) value) }
 {
-    match value {
-        None => Ok(None),
-        Some(value) => {
-            values.push(value)?;
-            Ok(Some(Params::Positional(values)))
+    let Some(value) = value else {
+        drop(values);
+        return Ok(None);
+    };
+    match values.push(value) {
+        Ok(()) => Ok(Some(Params::Positional(values))),
+        Err(error) => {
+            drop(values);
+            Err(error)
         }
     }
 }
@@ -69,11 +79,15 @@ fn with_pair(
 ) -> Result<Option<Params>, NoMemory>
     ensures { IfOk result (λ more. more ≡ option_map (λ p. Named (pairs ++ p ∷ [])) pair) }
 {
-    match pair {
-        None => Ok(None),
-        Some(pair) => {
-            pairs.push(pair)?;
-            Ok(Some(Params::Named(pairs)))
+    let Some(pair) = pair else {
+        drop(pairs);
+        return Ok(None);
+    };
+    match pairs.push(pair) {
+        Ok(()) => Ok(Some(Params::Named(pairs))),
+        Err(error) => {
+            drop(pairs);
+            Err(error)
         }
     }
 }
@@ -84,8 +98,20 @@ fn with_word(alloc: Global, params: Params, word: &[u8]) -> Result<Option<Params
 {
     match params {
         Params::Empty => Ok(None),
-        Params::Positional(values) => with_value(values, value(alloc, word)?),
-        Params::Named(pairs) => with_pair(pairs, pair(alloc, word)?),
+        Params::Positional(values) => match value(alloc, word) {
+            Ok(value) => with_value(values, value),
+            Err(error) => {
+                drop(values);
+                Err(error)
+            }
+        },
+        Params::Named(pairs) => match pair(alloc, word) {
+            Ok(pair) => with_pair(pairs, pair),
+            Err(error) => {
+                drop(pairs);
+                Err(error)
+            }
+        },
     }
 }
 

@@ -3,7 +3,7 @@ ghost use Rattle.std.specs.Prelude.{◌≡◌};
 ghost use Rattle.my_script.specs.Keyword.{moving_keyword_of, statement_keyword_of, step_keyword_of, keyword_of};
 
 /// The word that a line begins with.
-#[derive(Clone, Copy, Debug, PartialEq, Eq)]
+#[derive(Clone, Copy)]
 pub enum Keyword {
     Packet,
     Drip,

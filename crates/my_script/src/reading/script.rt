@@ -1,6 +1,6 @@
 //! Reads all lines of a script.
-ghost use Rattle.std.specs.Prelude.{◌≡◌, IfOk, OnOk, take};
-ghost use Rattle.my_script.specs.Script.{Script as Scripts, front, with_item, admitted as admits, admitted_step, admitted_moving, read_as, script_of, StandsIn};
+ghost use Rattle.std.specs.Prelude.{◌≡◌, [], IfOk, OnOk, take};
+ghost use Rattle.my_script.specs.Script.{Script as Scripts, front, with_item, admitted as admits, admitted_step, admitted_moving, read_as, read_into, script_of, StandsIn};
 
 use super::cut::cut;
 use super::line::{Item, read_line};
@@ -133,16 +133,17 @@ fn add(script: &mut Script, item: Item) -> Result<(), NoMemory>
     }
 }
 
-/// Reads all lines. World lines stand before the first step; they and the steps that move the world read only where it
-/// `plans`.
-pub fn read_script(alloc: Global, plans: bool, bytes: &[u8]) -> Result<Read, NoMemory>
-    ensures read { IfOk result (λ read. read_as read ≡ script_of plans bytes.now) }
-    ensures stands { IfOk result (λ read. StandsIn plans (read_as read)) }
+// Reads the lines into a script, up to the first that doesn't read.
+fn read_lines(
+    alloc: Global,
+    plans: bool,
+    script: &mut Script,
+    bytes: &[u8],
+) -> Result<Option<BadLine>, NoMemory>
+    requires plan { script.old.plan.items ≡ [] }
+    requires steps { script.old.steps.items ≡ [] }
+    ensures { IfOk result (λ bad. read_into script.new.plan.items script.new.steps.items bad ≡ script_of plans bytes.now) }
 {
-    let mut script = Script {
-        plan: Vec::new(alloc),
-        steps: Vec::new(alloc),
-    };
     let mut sofar = Sofar {
         stepped: false,
         conns: 0,
@@ -153,12 +154,36 @@ pub fn read_script(alloc: Global, plans: bool, bytes: &[u8]) -> Result<Read, NoM
         let pieces = cut(b'\n', text);
         let item = read_line(alloc, pieces.first)?;
         let Some(after) = admitted(plans, sofar, &item) else {
-            return Ok(Read::Bad(bad_line(alloc, number, pieces.first)?));
+            drop(item);
+            return Ok(Some(bad_line(alloc, number, pieces.first)?));
         };
         sofar = after;
-        add(&mut script, item)?;
+        add(script, item)?;
         number += 1;
         rest = pieces.rest;
     }
-    Ok(Read::Good(script))
+    Ok(None)
+}
+
+/// Reads all lines. World lines stand before the first step; they and the steps that move the world read only where it
+/// `plans`.
+pub fn read_script(alloc: Global, plans: bool, bytes: &[u8]) -> Result<Read, NoMemory>
+    ensures read { IfOk result (λ read. read_as read ≡ script_of plans bytes.now) }
+    ensures stands { IfOk result (λ read. StandsIn plans (read_as read)) }
+{
+    let mut script = Script {
+        plan: Vec::new(alloc),
+        steps: Vec::new(alloc),
+    };
+    match read_lines(alloc, plans, &mut script, bytes) {
+        Ok(None) => Ok(Read::Good(script)),
+        Ok(Some(line)) => {
+            drop(script);
+            Ok(Read::Bad(line))
+        }
+        Err(error) => {
+            drop(script);
+            Err(error)
+        }
+    }
 }

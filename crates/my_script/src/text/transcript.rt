@@ -64,7 +64,7 @@ fn push_prepared(
     push_named(alloc, out, b" columns=", statement.num_columns() as u64)
 }
 
-// How many statements were prepared up to an answer, after so many before it.
+// How many statements were prepared up to and with an answer, by how many were before it.
 fn prepared_by(prepared: u64, outcome: &Outcome) -> u64
     requires { prepared < 2 ^ 64 - 1 }
     ensures number { result ≡ prepared_by prepared outcome.now }
@@ -76,7 +76,7 @@ fn prepared_by(prepared: u64, outcome: &Outcome) -> u64
     }
 }
 
-// An answer's text, where so many statements were prepared before it.
+// An answer's text, where this many statements were prepared before it.
 fn push_outcome(
     alloc: Global,
     out: &mut Vec<u8>,

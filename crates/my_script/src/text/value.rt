@@ -1,5 +1,7 @@
 //! Values and rows as text.
-ghost use Rattle.std.specs.Prelude.{◌≡◌, ◌++◌, ◌∷◌, [], OnOk, if◌then◌else◌, ◌<◌, ◌≤◌, length, slice_get, drop};
+ghost use Rattle.std.specs.Prelude.{◌≡◌, ◌++◌, ◌∷◌, [], OnOk, if◌then◌else◌, ◌<◌, ◌≤◌, codes, length, slice_get, drop};
+ghost use Rattle.std.specs.Fmt.{decimal, signed_decimal};
+ghost use Rattle.my_script.specs.TextParts.{marked};
 ghost use Rattle.my_script.specs.ValueText.{date_text, clock_text, bits_text, value_text, cell_text, cells_text, joined_text, boxed_text, boxes_text, rows_text, row_text};
 
 use super::parts::{push_bytes, push_decimal, push_hex, push_marked, push_signed};
@@ -56,6 +58,61 @@ fn push_bits(alloc: Global, out: &mut Vec<u8>, letter: u8, bits: &[u8]) -> Resul
     push_hex(alloc, out, bits)
 }
 
+fn push_int(alloc: Global, out: &mut Vec<u8>, n: i64) -> Result<(), AllocError>
+    ensures { OnOk result (out.new.items ≡ out.old.items ++ (codes "i:" ++ signed_decimal n)) }
+{
+    out.extend_from_slice(b"i:")?;
+    push_signed(alloc, out, n)
+}
+
+fn push_uint(alloc: Global, out: &mut Vec<u8>, n: u64) -> Result<(), AllocError>
+    ensures { OnOk result (out.new.items ≡ out.old.items ++ (codes "u:" ++ decimal n)) }
+{
+    out.extend_from_slice(b"u:")?;
+    push_decimal(alloc, out, n)
+}
+
+// A date and a time of day.
+fn push_moment(
+    alloc: Global,
+    out: &mut Vec<u8>,
+    year: u16,
+    month: u8,
+    day: u8,
+    hour: u8,
+    minute: u8,
+    second: u8,
+    micros: u32,
+) -> Result<(), AllocError>
+    ensures { OnOk result (out.new.items ≡ out.old.items
+        ++ (codes "D:" ++ date_text year month day ++ clock_text hour minute second micros)) }
+{
+    out.extend_from_slice(b"D:")?;
+    push_date(alloc, out, year, month, day)?;
+    push_clock(alloc, out, hour, minute, second, micros)
+}
+
+// A span of time, which may be negative.
+fn push_span(
+    alloc: Global,
+    out: &mut Vec<u8>,
+    negative: bool,
+    days: u32,
+    hours: u8,
+    minutes: u8,
+    seconds: u8,
+    micros: u32,
+) -> Result<(), AllocError>
+    ensures { let sign = if negative then 1 else 0 in
+        OnOk result (out.new.items ≡ out.old.items
+        ++ (codes "T:" ++ decimal sign ++ marked 95 days ++ clock_text hours minutes seconds micros)) }
+{
+    out.extend_from_slice(b"T:")?;
+    push_decimal(alloc, out, sign_digit(negative))?;
+    push_marked(alloc, out, b'_', days as u64)?;
+    push_clock(alloc, out, hours, minutes, seconds, micros)
+}
+
 /// A value as text.
 pub fn push_value(alloc: Global, out: &mut Vec<u8>, value: &Value) -> Result<(), AllocError>
     ensures { OnOk result (out.new.items ≡ out.old.items ++ value_text value.now) }
@@ -63,26 +120,19 @@ pub fn push_value(alloc: Global, out: &mut Vec<u8>, value: &Value) -> Result<(),
     match value {
         Value::NULL => out.extend_from_slice(b"NULL"),
         Value::Bytes(bytes) => push_bytes(alloc, out, bytes.as_slice()),
-        Value::Int(n) => {
-            out.extend_from_slice(b"i:")?;
-            push_signed(alloc, out, *n)
-        }
-        Value::UInt(n) => {
-            out.extend_from_slice(b"u:")?;
-            push_decimal(alloc, out, *n)
-        }
+        Value::Int(n) => push_int(alloc, out, *n),
+        Value::UInt(n) => push_uint(alloc, out, *n),
         Value::FloatBits(bits) => push_bits(alloc, out, b'f', &bits.to_be_bytes()),
         Value::DoubleBits(bits) => push_bits(alloc, out, b'd', &bits.to_be_bytes()),
         Value::Date(year, month, day, hour, minute, second, micros) => {
-            out.extend_from_slice(b"D:")?;
-            push_date(alloc, out, *year, *month, *day)?;
-            push_clock(alloc, out, *hour, *minute, *second, *micros)
+            push_moment(
+                alloc, out, *year, *month, *day, *hour, *minute, *second, *micros,
+            )
         }
         Value::Time(negative, days, hours, minutes, seconds, micros) => {
-            out.extend_from_slice(b"T:")?;
-            push_decimal(alloc, out, sign_digit(*negative))?;
-            push_marked(alloc, out, b'_', *days as u64)?;
-            push_clock(alloc, out, *hours, *minutes, *seconds, *micros)
+            push_span(
+                alloc, out, *negative, *days, *hours, *minutes, *seconds, *micros,
+            )
         }
     }
 }

@@ -2,7 +2,7 @@ use Rattle.std.proofs.Common.{◌≡◌, ◌+◌, ◌≤◌, length}
 use Rattle.my_script.specs.Cut.{pieces_left}
 use Rattle.my_script.specs.Script.{front, script_from, script_of}
 use Rattle.my_script.proofs.Scripts.{text_of, left_over}
-use Rattle.my_script.proofs.reading.script.read_script.Given as goal
+use Rattle.my_script.proofs.reading.script.read_lines.Given as goal
 
 abbrev pub invariant-lines : goal.invariant-lines
 invariant-lines l = record {
