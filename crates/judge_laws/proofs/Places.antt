@@ -16,8 +16,8 @@ use Rattle.my_statements.specs.Cache.{Held}
 use Rattle.my_reading.specs.declared.call.Call.{Call}
 use Rattle.my_reading.specs.declared.call.Call.TheVariants as calls
 use Rattle.my_reading.specs.declared.facts.Facts.{Facts}
-use Rattle.my_reading.specs.Calls.{id_in, params_in, statement_in, text_in}
-use Rattle.my_reading.specs.Course.{Part, All, Head, Item, Set, Rest, Command, Find, Check, Reply, Keep, Give, Learn, Forget, Step, Goes, Stops, checked, closing_of, first_above, found, learned, unless_cached, unless_long, unless_owed, step_of, step, run, enough, parts_of, with_command, with_front, after_payload, after_kind, after_err, is_greeting, is_rows}
+use Rattle.my_reading.specs.Calls.{id_in, statement_in, text_in}
+use Rattle.my_reading.specs.Course.{Part, All, Head, Item, Set, Rest, Command, Find, Check, Run, Reply, Keep, Give, Learn, Forget, Step, Goes, Stops, checked, executed, closing_of, first_above, found, learned, unless_cached, unless_long, unless_owed, step_of, step, run, enough, parts_of, with_command, with_front, after_payload, after_kind, after_err, is_greeting, is_rows}
 use Rattle.my_reading.specs.Executions.{Values, Fitting, Unfitting, values_for}
 use Rattle.my_reading.specs.Facts.{prepared_by}
 use Rattle.my_reading.specs.Place.{Place, exchanges, facts_at, owed, terms_of, with_talk, with_bytes, with_statements, next_exchange}
@@ -104,7 +104,8 @@ module _ (login : Login) (call : Call) where
   of_keeps (Set ∷ parts) p = either_keeps p.sent (p.end_left || is_rows (context_of p.talk).spot) _ _ refl (either_keeps p.sent (is_over p.talk) _ _ refl (front_keeps Set parts p (front_of p.talk p.unread)))
   of_keeps (Rest ∷ parts) p = either_keeps p.sent p.end_left _ _ refl (either_keeps p.sent (is_rows (context_of p.talk).spot) _ _ (front_keeps Rest parts p (front_of p.talk p.unread)) refl)
   of_keeps (Find ∷ parts) p = either_keeps p.sent (is_mixed_text (text_in call)) _ _ refl (found_keeps parts p (text_in call) (held_in p.statements (query_of (text_in call))))
-  of_keeps (Check ∷ parts) p = checked_keeps parts p (values_for (statement_in call) (params_in call))
+  of_keeps (Check params ∷ parts) p = checked_keeps parts p (values_for (statement_in call) params)
+  of_keeps (Run params ∷ parts) p = command_keeps call parts p (executed login call p params)
   of_keeps (Reply ∷ parts) p = either_keeps p.sent (is_over p.talk) _ _ refl (front_keeps Reply parts p (front_of p.talk p.unread))
   of_keeps (Keep ∷ parts) p = command_keeps (calls.Prepare (text_in call)) parts _ (closing_of (terms_of login (exchanges p)) (leaving (query_of (text_in call)) (prepared_by (facts_at login p)) p.statements))
   of_keeps (Give ∷ parts) p = refl

@@ -81,6 +81,7 @@ is_connecting calls.Connect e = refl
 is_connecting (calls.Query text) e = cc
 is_connecting (calls.Prepare text) e = cc
 is_connecting (calls.Execute prepared params) e = cc
+is_connecting (calls.Batch prepared lists) e = cc
 is_connecting (calls.CloseStmt id) e = cc
 is_connecting calls.NextRow e = cc
 is_connecting calls.DropResult e = cc
@@ -216,6 +217,7 @@ module _ (login : Login) (t : Tape) (all : AreCalls login (reading login t).call
           not_next (calls.Query text) e f = cc
           not_next (calls.Prepare text) e f = cc
           not_next (calls.Execute prepared params) e f = cc
+          not_next (calls.Batch prepared lists) e f = cc
           not_next (calls.CloseStmt id) e f = cc
           not_next calls.NextRow e f = cc
           not_next calls.DropResult e f = cc

@@ -55,6 +55,7 @@ skip_call calls.Connect e = cc
 skip_call (calls.Query text) e = cc
 skip_call (calls.Prepare text) e = cc
 skip_call (calls.Execute statement params) e = cc
+skip_call (calls.Batch statement lists) e = cc
 skip_call (calls.CloseStmt id) e = cc
 skip_call calls.NextRow e = cc
 skip_call calls.DropResult e = cc

@@ -3,6 +3,7 @@
 ghost use Rattle.std.specs.Prelude.{◌≡◌, ◌<◌, ◌^◌, IfOk};
 ghost use Rattle.std.specs.Option.{option_copied};
 ghost use Rattle.my_run_judge.specs.Does.{Does, IsOverAt, IsSomewhere, IsStart};
+ghost use Rattle.my_run_judge.specs.Made.{nothing_made};
 ghost use Rattle.my_run_judge.specs.Lines.{ActRight, LineRight, after_line, after_reads, status_after};
 ghost use Rattle.my_run_judge.specs.Verdicts.{EndsAs, IsFound};
 ghost use Rattle.my_run_judge.specs.Walks.{Walk};
@@ -191,21 +192,22 @@ impl Walker {
         login: &Login,
         number: u64,
         tape: &Tape,
+        made: &mut Made,
         steps: &[Step],
         answers: &[StepAnswer],
     ) -> Result<Found, NoMemory>
-        requires { IsStart login.now number self.old }
+        requires start { IsStart login.now number self.old }
+        requires made { made.old ≡ nothing_made }
         ensures { IfOk result (λ found. IsFound login.now number (seen tape.now) steps.now answers.now found) }
     {
         let mut left = steps;
         let mut others = answers;
         let mut index = 0;
-        let mut made = Made::new(alloc);
         'lines: while let Some((step, later_steps)) = left.split_first() {
             let Some((answer, later_answers)) = others.split_first() else {
                 return Ok(Found::Wrong(index));
             };
-            if !self.line(alloc, login, number, tape, index, &made, step, answer)? {
+            if !self.line(alloc, login, number, tape, index, made, step, answer)? {
                 return Ok(Found::Wrong(index));
             }
             left = later_steps;
@@ -213,7 +215,7 @@ impl Walker {
             made.note(alloc, number, step, &answer.outcome)?;
             index += 1;
         }
-        let found = self.at_end(alloc, login, number, tape, others, index, &made)?;
+        let found = self.at_end(alloc, login, number, tape, others, index, made)?;
         Ok(found)
     }
 }
@@ -232,5 +234,9 @@ pub fn judge_connection(
     ensures exact { IfOk result (λ found. IsFound login.now number (seen tape.now) steps.now answers.now found) }
 {
     let mut walker = first_walker(alloc, login, number)?;
-    walker.all_lines(alloc, login, number, tape, steps, answers)
+    let mut made = Made::new(alloc);
+    let found = walker.all_lines(alloc, login, number, tape, &mut made, steps, answers);
+    drop(made);
+    drop(walker);
+    found
 }

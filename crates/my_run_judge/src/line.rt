@@ -51,12 +51,12 @@ fn is_dial_fault(outcome: &Outcome) -> bool
     ensures { Decides result (IsDialFault outcome.now) }
 {
     match outcome {
-        Outcome::Failed(error) => {
-            *error
-                == Error::Io(IoError::Io(IoFault {
+        Outcome::Failed(Error::Io(IoError::Io(fault))) => {
+            *fault
+                == IoFault {
                     kind: IoKind::Dial,
                     place: 0,
-                }))
+                }
         }
         _ => false,
     }
@@ -119,8 +119,9 @@ impl Walker {
         uses: &[Use],
     ) -> Result<bool, NoMemory>
         requires { IsSomewhere login.now self.old }
-        ensures { let there = λ (w : Walk).
-            PollsRight login.now number (seen tape.now) w (begun_in (option_copied named.entry) w step.now) outcome.now uses.now in
+        ensures { let statement = option_copied named.entry in
+            let there = λ (w : Walk).
+            PollsRight login.now number (seen tape.now) w (begun_in statement w step.now) outcome.now uses.now in
             let after = after_polls login.now (seen tape.now) outcome.now uses.now in
             IfOk result (λ right. Does login.now there after self.old right self.new) }
     {
@@ -172,8 +173,9 @@ impl Walker {
         uses: &[Use],
     ) -> Result<bool, NoMemory>
         requires { IsSomewhere login.now self.old }
-        ensures { let there = λ (w : Walk).
-            TakesRight login.now number (seen tape.now) w (begun_in (option_copied named.entry) w step.now) outcome.now uses.now in
+        ensures { let statement = option_copied named.entry in
+            let there = λ (w : Walk).
+            TakesRight login.now number (seen tape.now) w (begun_in statement w step.now) outcome.now uses.now in
             let after = after_polls login.now (seen tape.now) outcome.now uses.now in
             IfOk result (λ right. Does login.now there after self.old right self.new) }
     {

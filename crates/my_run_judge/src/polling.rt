@@ -97,7 +97,7 @@ fn is_last_ok(facts: &Facts, ok: &Option<OkPacket>) -> bool
     *ok == facts.ok
 }
 
-/// Whether the line tells what the server said.
+/// Whether the line shows what the server said.
 pub fn is_told_by(facts: &Facts, outcome: &Outcome) -> bool
     ensures { Decides result (IsToldBy facts.now outcome.now) }
 {

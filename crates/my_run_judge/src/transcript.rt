@@ -102,7 +102,9 @@ fn judge_number(
         Some(tape) => tape,
         None => &none,
     };
-    judge_connection(alloc, login, number, tape, steps, answers)
+    let found = judge_connection(alloc, login, number, tape, steps, answers);
+    drop(none);
+    found
 }
 
 /// The earlier of two findings; a wrong line is earlier than that all is right.

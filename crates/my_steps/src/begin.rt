@@ -1,8 +1,10 @@
 //! A step that begins a call on a connection.
-ghost use Rattle.std.specs.Prelude.{◌≡◌, [], true, false, IfOk, OnOk};
+ghost use Rattle.std.specs.Prelude.{◌≡◌, [], None, true, false, IfOk, OnOk};
 ghost use Rattle.my_reading.specs.Calls.{is_connect, kind_of};
 ghost use Rattle.my_session.specs.Tasks.{is_open};
+ghost use Rattle.my_client.specs.Conn.{kept_of};
 ghost use Rattle.my_client.specs.Drives.{EachEnded};
+ghost use Rattle.my_client.specs.Kept.{asking};
 ghost use Rattle.my_client.specs.Ready.{ConnReady};
 ghost use Rattle.my_client.specs.declared.tape.Said.TheVariants as says;
 ghost use Rattle.my_steps.specs.Did.{EachPolled, EachDid};
@@ -27,7 +29,8 @@ pub(crate) fn poll_open<L: Link>(
     requires { is_open conn.old.session.seen.task ≡ true }
     ensures { IfOk result (λ d. EachPolled L.looks number conn.old conn.new d) }
 {
-    let (after, met, _rows) = drive(alloc, conn, now)?;
+    let (after, met, rows) = drive(alloc, conn, now)?;
+    drop(rows);
     used_once(alloc, shown(after), Use { number, met })
 }
 
@@ -43,9 +46,26 @@ pub(crate) fn refused_call<L>(
     ensures session { conn.new.session ≡ conn.old.session }
     ensures link { conn.new.link ≡ conn.old.link }
 {
-    let copy = error.copy(alloc)?;
-    note(conn, Said::Failed(copy));
-    Ok(unused(alloc, Outcome::Failed(error)))
+    match error.copy(alloc) {
+        Ok(copy) => {
+            note(conn, Said::Failed(copy));
+            Ok(unused(alloc, Outcome::Failed(error)))
+        }
+        Err(full) => {
+            drop(error);
+            Err(full)
+        }
+    }
+}
+
+// The connection keeps that this call is open.
+fn keep_asked<L>(alloc: Global, conn: &mut TapedConn<L>, call: &Call) -> Result<(), NoMemory>
+    ensures kept { OnOk result (kept_of conn.new ≡ asking (kept_of conn.old) call.now None) }
+    ensures session { conn.new.session ≡ conn.old.session }
+    ensures link { conn.new.link ≡ conn.old.link }
+{
+    let copy = call.copy(alloc)?;
+    ask(conn, copy, None)
 }
 
 /// Begins a call other than the handshake, and polls it.
@@ -61,10 +81,13 @@ pub(crate) fn begin_call<L: Link>(
     ensures { IfOk result (λ d. EachDid L.looks number (BeginWork call) conn.old (ThereAt conn.new) d) }
 {
     if conn.session.is_open() {
+        drop(call);
         return Ok(unused(alloc, Outcome::NoSuchHandle));
     }
-    let copy = call.copy(alloc)?;
-    ask(conn, copy, None)?;
+    if let Err(error) = keep_asked(alloc, conn, &call) {
+        drop(call);
+        return Err(error);
+    }
     match conn.session.begin(call) {
         Ok(()) => poll_open(alloc, conn, number, now),
         Err(error) => refused_call(alloc, conn, error),

@@ -59,13 +59,21 @@ pub(crate) fn poll_connect<L: Link>(
     requires { is_open conn.old.session.seen.task ≡ true }
     ensures { IfOk result (λ w. EachJoins L.looks number uses.items conn.old (placed w.there conn.new) w.did) }
 {
-    let (after, met, _rows) = drive(alloc, conn, now)?;
-    uses.push(Use { number, met })?;
-    let (there, outcome) = settle(conn, number, after);
-    Ok(Worked {
-        there,
-        did: StepResult { outcome, uses },
-    })
+    let (after, met, rows) = drive(alloc, conn, now)?;
+    drop(rows);
+    match uses.push(Use { number, met }) {
+        Ok(()) => {
+            let (there, outcome) = settle(conn, number, after);
+            Ok(Worked {
+                there,
+                did: StepResult { outcome, uses },
+            })
+        }
+        Err(error) => {
+            drop(after);
+            Err(error.into())
+        }
+    }
 }
 
 // Polls the first call, after the dial that gave the link.
@@ -169,7 +177,9 @@ pub(crate) fn dial_at<N: World>(
 {
     let target = opts.target(alloc)?;
     let random = world.random();
-    dial_to(alloc, opts, &target, world, number, Given { now, random })
+    let dialed = dial_to(alloc, opts, &target, world, number, Given { now, random });
+    drop(target);
+    dialed
 }
 
 /// Dials the link of the next number, and connects over it.

@@ -1,4 +1,4 @@
-//! A step that tells the server's last OK packet.
+//! A step that shows the server's last OK packet.
 ghost use Rattle.std.specs.Prelude.{IfOk};
 ghost use Rattle.my_steps.specs.Did.{EachDid};
 ghost use Rattle.my_steps.specs.declared.slot.Slot.TheVariants.{There as ThereAt};
@@ -11,7 +11,7 @@ use my_link::Link;
 use my_script::Outcome;
 use std::alloc::Global;
 
-/// Tells the last OK packet, unless a call is open.
+/// Shows the last OK packet, unless a call is open.
 pub(crate) fn tell<L: Link>(
     alloc: Global,
     conn: &TapedConn<L>,

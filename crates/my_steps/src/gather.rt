@@ -75,9 +75,13 @@ fn add_row<L>(
     ensures link { OnOk result (conn.new.link ≡ conn.old.link) }
 {
     let mut all = rows_so_far(alloc, rows);
-    all.push(row)?;
-    ask_next(conn, all)?;
-    Ok(())
+    match all.push(row) {
+        Ok(()) => ask_next(conn, all),
+        Err(error) => {
+            drop(all);
+            Err(error.into())
+        }
+    }
 }
 
 fn go_on<L>(
@@ -92,9 +96,18 @@ fn go_on<L>(
     ensures { IfOk result (λ g. Goes conn.old conn.new (option_map (λ rows. rows.items) rows) after g) }
 {
     match after {
-        After::Pending => Ok(Gathering::Over(Outcome::Pending)),
-        After::Failed(error) => Ok(Gathering::Over(Outcome::Failed(error))),
-        After::Answered(Answer::Ready) => Ok(Gathering::Over(Outcome::Done)),
+        After::Pending => {
+            drop(rows);
+            Ok(Gathering::Over(Outcome::Pending))
+        }
+        After::Failed(error) => {
+            drop(rows);
+            Ok(Gathering::Over(Outcome::Failed(error)))
+        }
+        After::Answered(Answer::Ready) => {
+            drop(rows);
+            Ok(Gathering::Over(Outcome::Done))
+        }
         After::Answered(Answer::SetEnd) => {
             Ok(Gathering::Over(Outcome::Rows(rows_so_far(alloc, rows))))
         }
@@ -103,6 +116,7 @@ fn go_on<L>(
         }
         // No call that gathers rows is answered so.
         After::Answered(Answer::Stmt(statement)) => {
+            drop(rows);
             Ok(Gathering::Over(Outcome::Prepared(statement)))
         }
         After::Answered(Answer::Row(row)) => {
@@ -126,7 +140,11 @@ pub(crate) fn gather<L: Link>(
     let mut uses = Vec::new(alloc);
     'rows: loop {
         let (after, met, rows) = drive(alloc, conn, now)?;
-        uses.push(Use { number, met })?;
+        if let Err(error) = uses.push(Use { number, met }) {
+            drop(after);
+            drop(rows);
+            return Err(error.into());
+        }
         // What each poll met is kept, and fits into memory.
         prove!(uses.len() <= usize::MAX);
         match go_on(alloc, conn, after, rows)? {

@@ -161,17 +161,23 @@ fn carry_out<N: World>(
 {
     match order {
         Order::Dial => connect(alloc, opts, world, slots, now),
-        Order::Move(line) => move_world(alloc, world, &line),
+        Order::Move(line) => {
+            let moved = move_world(alloc, world, &line);
+            drop(line);
+            moved
+        }
         Order::Visit(Errand { number, work }) => {
             work_at(alloc, opts, world, slots, number, now, work)
         }
     }
 }
 
-/// Does a step at the number that it names, where a stream is there or none, with the statement that it names; a `conn` takes
-/// the next number, and a step that moves the world needs one that takes a plan. All polls of a step are at one moment.
+/// Does a step at the number that it names, where a stream is there or none, with the statement that it names; a `conn`
+/// takes the next number, and a step that moves the world needs one that takes a plan. All polls of a step are at one
+/// moment.
 ///
-/// What the step comes to is what `StepGrows` lets it come to after the earlier ones, for any plans that the world told.
+/// What the step comes to is what `StepGrows` lets it come to after the earlier ones, for any plans that the world
+/// told.
 pub fn run_step<N: World>(
     alloc: Global,
     opts: &Opts,
@@ -193,7 +199,8 @@ pub fn run_step<N: World>(
     ensures steps { IfOk result (λ d.
         StepsOn N.L.looks (login_of opts.now) (N.seen world.old).plans (N.seen world.new).plans
         slots.old.items slots.new.items
-        (λ plans hs o us ts. StepGrows (login_of opts.now) plans there (option_copied named.entry) hs step.now o us ts) d) }
+        (λ plans hs o us ts.
+        StepGrows (login_of opts.now) plans there (option_copied named.entry) hs step.now o us ts) d) }
 {
     let order = order_for(alloc, step, there, named)?;
     let now = world.now();

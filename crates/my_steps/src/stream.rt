@@ -33,6 +33,7 @@ pub(crate) fn is_skipping<L>(conn: &TapedConn<L>) -> bool
             | Call::Query(_)
             | Call::Prepare(_)
             | Call::Execute(_, _)
+            | Call::Batch(_, _)
             | Call::CloseStmt(_)
             | Call::NextRow
             | Call::DropResult

@@ -125,21 +125,22 @@ fn work_held<N: World>(
     world: &mut N,
     number: u64,
     now: u64,
-    work: Work,
+    work: &Work,
 ) -> Result<(Slot<N::L>, StepResult), NoMemory>
     ensures others { SameBut number (N.seen world.old).plans (N.seen world.new).plans }
     ensures takes { (N.seen world.new).takes ≡ (N.seen world.old).takes }
-    ensures chance { OnOk result ((N.seen world.new).chance ≡ chance_dialed (is_poll work) (N.seen world.old).chance) }
+    ensures chance { OnOk result (
+        (N.seen world.new).chance ≡ chance_dialed (is_poll work.now) (N.seen world.old).chance) }
     ensures counts { IfOk result (λ r. DialsTo (N.seen world.old).dials (N.seen world.new).dials
-        (dial_met (is_poll work) r.1.uses.items)) }
+        (dial_met (is_poll work.now) r.1.uses.items)) }
     ensures did { IfOk result (λ r. DoesAt N.L.looks (login_of opts.now)
-        (N.seen world.old).plans (N.seen world.new).plans number work HeldAt r.0 r.1) }
+        (N.seen world.old).plans (N.seen world.new).plans number work.now HeldAt r.0 r.1) }
 {
     match work {
-        Work::Poll => return dial_at(alloc, opts, world, number, now),
-        Work::Cancel => return Ok((Slot::Gone, unused(alloc, Outcome::Done))),
+        Work::Poll => dial_at(alloc, opts, world, number, now),
+        Work::Cancel => Ok((Slot::Gone, unused(alloc, Outcome::Done))),
         Work::Begin(_) | Work::Collect | Work::Take | Work::LetGo | Work::Miss | Work::Fields => {
-            return Ok((Slot::Held, unused(alloc, Outcome::NoSuchHandle)));
+            Ok((Slot::Held, unused(alloc, Outcome::NoSuchHandle)))
         }
     }
 }
@@ -166,7 +167,11 @@ fn work_on<N: World>(
 {
     match slot {
         Slot::There(conn) => work_conn(alloc, conn, number, now, work),
-        Slot::Held => work_held(alloc, opts, world, number, now, work),
+        Slot::Held => {
+            let worked = work_held(alloc, opts, world, number, now, &work);
+            drop(work);
+            worked
+        }
         Slot::Gone => {
             drop(work);
             return Ok((Slot::Gone, unused(alloc, Outcome::NoSuchHandle)));

@@ -247,6 +247,7 @@ module _ (login : Login) (plans : Plans) where
   step_went (calls.Query text) plain k x hs o us ms is rest there statement g = at_went (calls.Query text) k x hs o us ms is rest g.made g.does g.others
   step_went (calls.Prepare text) plain k x hs o us ms is rest there statement g = at_went (calls.Prepare text) k x hs o us ms is rest g.made g.does g.others
   step_went (calls.Execute prepared params) plain k x hs o us ms is rest there statement g = cc
+  step_went (calls.Batch prepared lists) plain k x hs o us ms is rest there statement g = cc
   step_went (calls.CloseStmt id) plain k x hs o us ms is rest there statement g = cc
   step_went calls.NextRow plain k x hs o us ms is rest there statement g = at_went calls.NextRow k x hs o us ms is rest g.made g.does g.others
   step_went calls.DropResult plain k x hs o us ms is rest there statement g = at_went calls.DropResult k x hs o us ms is rest g.made g.does g.others

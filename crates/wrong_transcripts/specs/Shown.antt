@@ -28,6 +28,7 @@ is_stepped kinds.Connect = false
 is_stepped kinds.TakeSet = false
 is_stepped kinds.SkipTaken = false
 is_stepped kinds.Execute = false
+is_stepped kinds.Batch = false
 is_stepped kinds.CloseStmt = false
 is_stepped c = true
 
@@ -37,6 +38,7 @@ step_of calls.Connect = steps.Conn
 step_of (calls.Query text) = steps.Query 0 text
 step_of (calls.Prepare text) = steps.Prepare 0 text
 step_of (calls.Execute statement params) = steps.Conn
+step_of (calls.Batch statement lists) = steps.Conn
 step_of (calls.CloseStmt id) = steps.Conn
 step_of calls.NextRow = steps.Next 0
 step_of calls.DropResult = steps.Drop 0

@@ -77,22 +77,20 @@ not_refused true f = let no : false ≡ true = f refl in cc
 not_refused false f = refl
 
 -- the same, where what was kept and the link are told by equations
-pub begun_so : {L : Type 0} (look : L → Looks) (login : Login) (n : ℕ) (call copy : Call) (c b d : TapedConn L) (s t : Seen) (o : Outcome) (us : List Use) → copy ≡ call → is_open c.session.seen.task ≡ false → is_refused s.closed (kind_of call) ≡ false → s ≡ c.session.seen → t ≡ begun s call → ((h : History) → Stands s h → Stands t (began h call)) → kept_of b ≡ asking (kept_of c) copy None → b.link ≡ c.link → StandsBy login c → ((a : Asked) → IsAsked login t (kept_of b) a → OpenPolled login n a d.session.seen (look b.link) (look d.link) (kept_of b) (kept_of d) o us) → Did look login (Calls login n call) o us (There c) (There d)
-begun_so look login n call copy c b d s t o us same idle open_still seen is st kept link w polled =
-    let here : kept_of b ≡ asking (kept_of c) call None = kept ∙ ap (λ (x : Call). asking (kept_of c) x None) same in
+pub begun_so : {L : Type 0} (look : L → Looks) (login : Login) (n : ℕ) (call : Call) (c b d : TapedConn L) (s t : Seen) (o : Outcome) (us : List Use) → is_open c.session.seen.task ≡ false → is_refused s.closed (kind_of call) ≡ false → s ≡ c.session.seen → t ≡ begun s call → ((h : History) → Stands s h → Stands t (began h call)) → kept_of b ≡ asking (kept_of c) call None → b.link ≡ c.link → StandsBy login c → ((a : Asked) → IsAsked login t (kept_of b) a → OpenPolled login n a d.session.seen (look b.link) (look d.link) (kept_of b) (kept_of d) o us) → Did look login (Calls login n call) o us (There c) (There d)
+begun_so look login n call c b d s t o us idle open_still seen is st kept link w polled =
     let rests : Rests login s (kept_of c) = subst (λ (s : Seen). Rests login s (kept_of c)) (sym seen) w.rests in
-    let asked : IsAsked login t (kept_of b) (asked_by (kept_of c) call) = subst (λ (k : Kept). IsAsked login t k (asked_by (kept_of c) call)) (sym here) (begins login s t (kept_of c) call None (ap (λ (x : Seen). is_open x.task) seen ∙ idle) is st rests) in
+    let asked : IsAsked login t (kept_of b) (asked_by (kept_of c) call) = subst (λ (k : Kept). IsAsked login t k (asked_by (kept_of c) call)) (sym kept) (begins login s t (kept_of c) call None (ap (λ (x : Seen). is_open x.task) seen ∙ idle) is st rests) in
     let p : OpenPolled login n (asked_by (kept_of c) call) d.session.seen (look b.link) (look d.link) (kept_of b) (kept_of d) o us = polled (asked_by (kept_of c) call) asked in
     begun_did look login n call c d o us idle (ap (λ (s : Seen). is_refused s.closed (kind_of call)) (sym seen) ∙ open_still) w
     (subst (λ (l : _). OpenPolled login n (asked_by (kept_of c) call) d.session.seen (look l) (look d.link) (asking (kept_of c) call None) (kept_of d) o us) link
-    (subst (λ (k : Kept). OpenPolled login n (asked_by (kept_of c) call) d.session.seen (look b.link) (look d.link) k (kept_of d) o us) here p))
+    (subst (λ (k : Kept). OpenPolled login n (asked_by (kept_of c) call) d.session.seen (look b.link) (look d.link) k (kept_of d) o us) kept p))
 
-pub closed_so : {L : Type 0} (look : L → Looks) (login : Login) (n : ℕ) (call copy : Call) (c b d : TapedConn L) (s t : Seen) (e : Error) (o : Outcome) (us : List Use) → copy ≡ call → is_open c.session.seen.task ≡ false → is_refused s.closed (kind_of call) ≡ true → s ≡ c.session.seen → t ≡ s → ((h : History) → Stands s h → Stands t (answered (began h call) (ToldError connection_closed))) → kept_of b ≡ asking (kept_of c) copy None → b.link ≡ c.link → e ≡ connection_closed → ((a : Asked) → (kept_of b).pending ≡ Some a → kept_of d ≡ ended_by (kept_of b) a (says.Failed e)) → d.session.seen ≡ t → d.link ≡ b.link → StandsBy login c → o ≡ Failed e → us ≡ [] → Did look login (Calls login n call) o us (There c) (There d)
-closed_so look login n call copy c b d s t e o us same idle shut seen is st kept link why noted session dlink w shown none =
-    let here : kept_of b ≡ asking (kept_of c) call None = kept ∙ ap (λ (x : Call). asking (kept_of c) x None) same in
+pub closed_so : {L : Type 0} (look : L → Looks) (login : Login) (n : ℕ) (call : Call) (c b d : TapedConn L) (s t : Seen) (e : Error) (o : Outcome) (us : List Use) → is_open c.session.seen.task ≡ false → is_refused s.closed (kind_of call) ≡ true → s ≡ c.session.seen → t ≡ s → ((h : History) → Stands s h → Stands t (answered (began h call) (ToldError connection_closed))) → kept_of b ≡ asking (kept_of c) call None → b.link ≡ c.link → e ≡ connection_closed → ((a : Asked) → (kept_of b).pending ≡ Some a → kept_of d ≡ ended_by (kept_of b) a (says.Failed e)) → d.session.seen ≡ t → d.link ≡ b.link → StandsBy login c → o ≡ Failed e → us ≡ [] → Did look login (Calls login n call) o us (There c) (There d)
+closed_so look login n call c b d s t e o us idle shut seen is st kept link why noted session dlink w shown none =
     let rests : Rests login s (kept_of c) = subst (λ (s : Seen). Rests login s (kept_of c)) (sym seen) w.rests in
     let following : Rests login t (ended_by (asking (kept_of c) call None) (asked_by (kept_of c) call) (says.Failed connection_closed)) = refuses login s t (kept_of c) call (ap (λ (x : Seen). is_open x.task) seen ∙ idle) shut is st rests in
-    let end : kept_of d ≡ ended_by (asking (kept_of c) call None) (asked_by (kept_of c) call) (says.Failed connection_closed) = noted (asked_by (kept_of c) call) (ap (λ (k : Kept). k.pending) here) ∙ ap (λ (k : Kept). ended_by k (asked_by (kept_of c) call) (says.Failed e)) here ∙ ap (λ (x : Error). ended_by (asking (kept_of c) call None) (asked_by (kept_of c) call) (says.Failed x)) why in
+    let end : kept_of d ≡ ended_by (asking (kept_of c) call None) (asked_by (kept_of c) call) (says.Failed connection_closed) = noted (asked_by (kept_of c) call) (ap (λ (k : Kept). k.pending) kept) ∙ ap (λ (k : Kept). ended_by k (asked_by (kept_of c) call) (says.Failed e)) kept ∙ ap (λ (x : Error). ended_by (asking (kept_of c) call None) (asked_by (kept_of c) call) (says.Failed x)) why in
     closed_did look login n call c d o us idle (ap (λ (s : Seen). is_refused s.closed (kind_of call)) (sym seen) ∙ shut) w
     (subst (λ (s : Seen). Rests login s (ended_by (asking (kept_of c) call None) (asked_by (kept_of c) call) (says.Failed connection_closed))) (sym session) following)
     (session ∙ is ∙ seen) end (dlink ∙ link) (shown ∙ ap Failed why) none

@@ -5,5 +5,5 @@ use Rattle.my_steps.proofs.Working.Ordering.{carries_known, stepped_moved}
 use Rattle.my_steps.proofs.step.carry_out.Goals as goal
 
 pub returns-in-Move-clause-steps : goal.returns-in-Move-clause-steps
-returns-in-Move-clause-steps g c = did_kept c.move_world.result _ _ _ _ c.move_world.ensures.outcome c.move_world.ensures.uses c.move_world.ensures.plans
-    (λ d e f same plans awaited w. carries_known g.N.L.Link.looks (login_of c.args.opts.now) plans (g.N.Dialer.seen c.args.world.now).plans (g.N.Dialer.seen c.move_world.new.world).plans c.args.order (Move c.in-Move.line) c.args.slots.now.items c.args.slots.now.items d c.in-Move.is (stepped_moved g.N.L.Link.looks (login_of c.args.opts.now) plans (g.N.Dialer.seen c.args.world.now).plans (g.N.Dialer.seen c.move_world.new.world).plans d.outcome d.uses.items c.args.slots.now.items same e f awaited w))
+returns-in-Move-clause-steps g c = did_kept c.move_world-moved.result _ _ _ _ c.move_world-moved.ensures.outcome c.move_world-moved.ensures.uses c.move_world-moved.ensures.plans
+    (λ d e f same plans awaited w. carries_known g.N.L.Link.looks (login_of c.args.opts.now) plans (g.N.Dialer.seen c.args.world.now).plans (g.N.Dialer.seen c.move_world-moved.new.world).plans c.args.order (Move c.in-Move.line) c.args.slots.now.items c.args.slots.now.items d c.in-Move.is (stepped_moved g.N.L.Link.looks (login_of c.args.opts.now) plans (g.N.Dialer.seen c.args.world.now).plans (g.N.Dialer.seen c.move_world-moved.new.world).plans d.outcome d.uses.items c.args.slots.now.items same e f awaited w))

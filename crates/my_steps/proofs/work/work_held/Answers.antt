@@ -7,10 +7,10 @@ use Rattle.my_steps.proofs.Working.{work_at_is, held_did, dropped_did}
 use Rattle.my_steps.proofs.work.work_held.Goals as goal
 
 pub returns-in-Poll-clause-did : goal.returns-in-Poll-clause-did
-returns-in-Poll-clause-did g c = IfOk-weaker c.dial_at.result _ _ (λ r f plans awaited w. work_at_is g.N.L.Link.looks (login_of c.args.opts.now) plans (g.N.Dialer.seen c.args.world.now).plans (g.N.Dialer.seen c.dial_at.new.world).plans c.args.number c.args.work works.Poll r.1.outcome r.1.uses.items Held r.0 c.in-Poll.is (dial_resumed g.N.L.Link.looks (login_of c.args.opts.now) c.args.number plans (g.N.Dialer.seen c.args.world.now).plans (g.N.Dialer.seen c.dial_at.new.world).plans r.0 r.1.outcome r.1.uses.items awaited f)) c.dial_at.ensures.dialed
+returns-in-Poll-clause-did g c = IfOk-weaker c.dial_at.result _ _ (λ r f plans awaited w. work_at_is g.N.L.Link.looks (login_of c.args.opts.now) plans (g.N.Dialer.seen c.args.world.now).plans (g.N.Dialer.seen c.dial_at.new.world).plans c.args.number c.args.work.now works.Poll r.1.outcome r.1.uses.items Held r.0 c.in-Poll.is (dial_resumed g.N.L.Link.looks (login_of c.args.opts.now) c.args.number plans (g.N.Dialer.seen c.args.world.now).plans (g.N.Dialer.seen c.dial_at.new.world).plans r.0 r.1.outcome r.1.uses.items awaited f)) c.dial_at.ensures.dialed
 
 pub returns-in-Cancel-clause-did : goal.returns-in-Cancel-clause-did
-returns-in-Cancel-clause-did g c = λ plans awaited w. work_at_is g.N.L.Link.looks (login_of c.args.opts.now) plans (g.N.Dialer.seen c.args.world.now).plans (g.N.Dialer.seen c.args.world.now).plans c.args.number c.args.work works.Cancel c.unused.result.outcome c.unused.result.uses.items Held Gone c.in-Cancel.is (dropped_did g.N.L.Link.looks (login_of c.args.opts.now) plans (g.N.Dialer.seen c.args.world.now).plans c.args.number c.unused.result.outcome c.unused.result.uses.items c.unused.ensures.outcome c.unused.ensures.uses)
+returns-in-Cancel-clause-did g c = λ plans awaited w. work_at_is g.N.L.Link.looks (login_of c.args.opts.now) plans (g.N.Dialer.seen c.args.world.now).plans (g.N.Dialer.seen c.args.world.now).plans c.args.number c.args.work.now works.Cancel c.unused.result.outcome c.unused.result.uses.items Held Gone c.in-Cancel.is (dropped_did g.N.L.Link.looks (login_of c.args.opts.now) plans (g.N.Dialer.seen c.args.world.now).plans c.args.number c.unused.result.outcome c.unused.result.uses.items c.unused.ensures.outcome c.unused.ensures.uses)
 
 pub returns-in-Begin-clause-did : goal.returns-in-Begin-clause-did
-returns-in-Begin-clause-did g c = λ plans awaited w. held_did g.N.L.Link.looks (login_of c.args.opts.now) plans (g.N.Dialer.seen c.args.world.now).plans c.args.number c.args.work c.unused-in-Begin.result.outcome c.unused-in-Begin.result.uses.items c.in-Begin.is c.unused-in-Begin.ensures.outcome c.unused-in-Begin.ensures.uses awaited
+returns-in-Begin-clause-did g c = λ plans awaited w. held_did g.N.L.Link.looks (login_of c.args.opts.now) plans (g.N.Dialer.seen c.args.world.now).plans c.args.number c.args.work.now c.unused-in-Begin.result.outcome c.unused-in-Begin.result.uses.items c.in-Begin.is c.unused-in-Begin.ensures.outcome c.unused-in-Begin.ensures.uses awaited

@@ -11,7 +11,7 @@ pub returns-in-There-clause-did : goal.returns-in-There-clause-did
 returns-in-There-clause-did g c = did_ok c.work_conn.result _ _ _ c.work_conn.ensures.did c.work_conn.ensures.linked (λ r f has plans awaited w. there_did g.N.L.Link.looks (login_of c.args.opts.now) plans (g.N.Dialer.seen c.args.world.now).plans c.args.number c.args.work r.1.outcome r.1.uses.items c.args.slot c.in-There.conn r.0 c.in-There.is has w (f (login_of c.args.opts.now)))
 
 pub returns-in-Held-clause-did : goal.returns-in-Held-clause-did
-returns-in-Held-clause-did g c = IfOk-weaker c.work_held.result _ _ (λ r f plans awaited w. in_held g.N.L.Link.looks (login_of c.args.opts.now) plans (g.N.Dialer.seen c.args.world.now).plans (g.N.Dialer.seen c.work_held.new.world).plans c.args.number c.args.work r.1.outcome r.1.uses.items c.args.slot r.0 c.in-Held.is (f plans (subst (λ (s : Slot g.row.N-L.Denot). IsAwaited plans (g.N.Dialer.seen c.args.world.now).plans c.args.number s) c.in-Held.is awaited) tt)) c.work_held.ensures.did
+returns-in-Held-clause-did g c = IfOk-weaker c.work_held-worked.result _ _ (λ r f plans awaited w. in_held g.N.L.Link.looks (login_of c.args.opts.now) plans (g.N.Dialer.seen c.args.world.now).plans (g.N.Dialer.seen c.work_held-worked.new.world).plans c.args.number c.args.work r.1.outcome r.1.uses.items c.args.slot r.0 c.in-Held.is (f plans (subst (λ (s : Slot g.row.N-L.Denot). IsAwaited plans (g.N.Dialer.seen c.args.world.now).plans c.args.number s) c.in-Held.is awaited) tt)) c.work_held-worked.ensures.did
 
 pub returns-in-Gone-clause-did : goal.returns-in-Gone-clause-did
 returns-in-Gone-clause-did g c = λ plans awaited w. gone_did g.N.L.Link.looks (login_of c.args.opts.now) plans (g.N.Dialer.seen c.args.world.now).plans c.args.number c.args.work c.unused.result.outcome c.unused.result.uses.items c.args.slot c.in-Gone.is c.unused.ensures.outcome c.unused.ensures.uses
