@@ -14,7 +14,9 @@ use Rattle.my_grammar.specs.Talk.{Talk, commands_in, context_of, limit_of, turns
 use Rattle.my_reading.specs.declared.call.Call.{Call}
 use Rattle.my_reading.specs.declared.call.Call.TheVariants.{Prepare}
 use Rattle.my_reading.specs.Calls.{statement_in, text_in}
-use Rattle.my_reading.specs.Course.{Part, All, Head, Item, Set, Rest, Command, Find, Check, Run, Reply, Keep, Give, Learn, Forget, Stop, Step, Goes, Stops, step, step_of, unless_owed, with_front, reads, after_payload, after_kind, after_err, unless_cached, unless_long_response, with_command, first_above, found, checked, executed, closing_of, learned, is_greeting, is_rows, parts_of, run, halt, enough}
+use Rattle.my_reading.specs.Course.{Part, All, Head, Item, Set, Rest, Command, Find, Check, Run, Reply, Keep, Give, Learn, Forget, Offered, Clear, Text, Flag, Stop, Step, Goes, Stops, step, step_of, unless_owed, with_front, reads, after_payload, after_kind, after_err, unless_cached, unless_long_response, with_command, first_above, found, checked, executed, closing_of, learned, offered, is_greeting, is_rows, parts_of, run, halt, enough}
+use Rattle.my_handshake.specs.Version.{version_of}
+use Rattle.my_reading.specs.Commands.{queried}
 use Rattle.my_reading.specs.Executions.{Values, Fitting, Unfitting, values_for}
 use Rattle.my_reading.specs.Leads.{Leads, Here, Then, LeadsToCourse}
 use Rattle.my_reading.specs.Place.{Place, exchanges, without_end, with_statements, with_talk, owed, next_exchange, facts_at, terms_of}
@@ -25,6 +27,7 @@ use Rattle.my_reply.specs.Replies.{prepare_ok_at}
 use Rattle.my_statements.specs.Cache.{Held}
 use Rattle.my_reading.specs.Rows.{row_of}
 use Rattle.my_reading.specs.Told.{Told, ToldRow}
+use Rattle.my_reading.specs.Versions.{can_reset}
 
 -- an end that is left counts as one
 weight : Bool → ℕ
@@ -67,6 +70,10 @@ module _ (part : Part) (parts : List Part) (p : Place) (t : Talk) (rest : List �
       by_part Give k = omega arith
       by_part Learn k = omega arith
       by_part Forget k = omega arith
+      by_part Offered k = omega arith
+      by_part Clear k = omega arith
+      by_part (Text text) k = omega arith
+      by_part (Flag flag) k = omega arith
       by_part Head (kinds.Good status) = omega arith
       by_part Head (kinds.Greets n) = omega arith
       by_part Head kinds.Failed = omega arith
@@ -172,6 +179,11 @@ unfolding size_of size weight
 checked_size parts p (Fitting values) = omega arith
 checked_size parts p (Unfitting e) = omega arith
 
+offered_size : (parts : List Part) (p : Place) (b : Bool) → size_of (offered parts p b) ≤ size parts p
+unfolding size_of size weight
+offered_size parts p true = omega arith
+offered_size parts p false = omega arith
+
 quiet_size : (parts : List Part) (p : Place) → p.end_left ≡ true → size parts (without_end p) < size parts p
 unfolding size weight
 quiet_size parts p e = let one : weight p.end_left ≡ 1 = ap weight e in omega (arith, one)
@@ -215,6 +227,10 @@ part_size login call (Learn ∷ parts) p = by_rows (is_rows (context_of p.talk).
     by_rows true e = rw e (omega arith)
     by_rows false e = rw e (omega arith)
 part_size login call (Forget ∷ parts) p = omega arith
+part_size login call (Offered ∷ parts) p = let here = offered_size parts p (can_reset (version_of (facts_at login p).version)) in omega (arith, here)
+part_size login call (Clear ∷ parts) p = omega arith
+part_size login call (Text text ∷ parts) p = let here = command_size call parts p (Some (queried (terms_of login (exchanges p)) text)) in omega (arith, here)
+part_size login call (Flag flag ∷ parts) p = omega arith
 
 some_size : (parts : List Part) (p : Place) → 0 < size parts p
 unfolding size

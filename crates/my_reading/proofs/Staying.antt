@@ -15,7 +15,9 @@ use Rattle.my_grammar.specs.Talk.{Talk, commands_in, context_of, limit_of, turns
 use Rattle.my_reading.specs.declared.call.Call.{Call}
 use Rattle.my_reading.specs.declared.call.Call.TheVariants.{Prepare}
 use Rattle.my_reading.specs.Calls.{statement_in, text_in}
-use Rattle.my_reading.specs.Course.{Part, All, Head, Item, Set, Rest, Command, Find, Check, Run, Reply, Keep, Give, Learn, Forget, Step, Goes, Stops, return, step, step_of, unless_owed, with_front, reads, after_payload, after_kind, after_err, unless_cached, unless_long_response, with_command, first_above, found, checked, executed, closing_of, learned, is_greeting, is_rows}
+use Rattle.my_reading.specs.Course.{Part, All, Head, Item, Set, Rest, Command, Find, Check, Run, Reply, Keep, Give, Learn, Forget, Offered, Clear, Text, Flag, Step, Goes, Stops, return, step, step_of, unless_owed, with_front, reads, after_payload, after_kind, after_err, unless_cached, unless_long_response, with_command, first_above, found, checked, executed, closing_of, learned, offered, is_greeting, is_rows}
+use Rattle.my_handshake.specs.Version.{version_of}
+use Rattle.my_reading.specs.Commands.{queried}
 use Rattle.my_reading.specs.Executions.{Values, Fitting, Unfitting, values_for}
 use Rattle.my_reading.specs.Facts.{prepared_by}
 use Rattle.my_reading.specs.Leads.{Here, Then, StepStays, LeadingStays}
@@ -26,6 +28,7 @@ use Rattle.my_reply.specs.Replies.{prepare_ok_at}
 use Rattle.my_statements.specs.Cache.{Held}
 use Rattle.my_reading.specs.Rows.{row_of}
 use Rattle.my_reading.specs.Told.{Told, ToldRow}
+use Rattle.my_reading.specs.Versions.{can_reset}
 
 -- the same step, with more bytes
 lift : List ℕ → List ℕ → Step → Step
@@ -69,6 +72,10 @@ module _ (login : Login) (sent taken : List ℕ) where
   kind_more Give parts k new row = refl
   kind_more Learn parts k new row = refl
   kind_more Forget parts k new row = refl
+  kind_more Offered parts k new row = refl
+  kind_more Clear parts k new row = refl
+  kind_more (Text text) parts k new row = refl
+  kind_more (Flag flag) parts k new row = refl
   kind_more Head parts (kinds.Good status) new row = refl
   kind_more Head parts (kinds.Greets n) new row = refl
   kind_more Head parts kinds.Failed new row = refl
@@ -190,6 +197,11 @@ module _ (login : Login) (sent taken : List ℕ) where
   checked_more parts p (Fitting values) = refl
   checked_more parts p (Unfitting e) = refl
 
+  offered_more : (parts : List Part) (p : Place) (b : Bool) → offered parts (more p) b ≡ lift sent taken (offered parts p b)
+  unfolding lift
+  offered_more parts p true = refl
+  offered_more parts p false = refl
+
   learned_more : (call : Call) (p : Place) → learned call (more p) (facts_at login (more p)) ≡ more (learned call p (facts_at login p))
   learned_more call p = by_rows (is_rows (context_of p.talk).spot) refl
     where
@@ -241,6 +253,10 @@ module _ (login : Login) (sent taken : List ℕ) where
     part_more (Give ∷ parts) e = cc
     part_more (Learn ∷ parts) e = ap (Goes parts) (learned_more call p) ∙ ap (lift sent taken) e
     part_more (Forget ∷ parts) e = ap (lift sent taken) e
+    part_more (Offered ∷ parts) e = offered_more parts p (can_reset (version_of (facts_at login p).version)) ∙ ap (lift sent taken) e
+    part_more (Clear ∷ parts) e = ap (lift sent taken) e
+    part_more (Text text ∷ parts) e = command_more call parts p (Some (queried (terms_of login (exchanges p)) text)) ∙ ap (lift sent taken) e
+    part_more (Flag flag ∷ parts) e = cc
 
 pub step_stays : StepStays
 unfolding step

@@ -6,7 +6,7 @@ use Rattle.my_statements.specs.Prepared.{StatementView}
 use Rattle.my_reading.specs.declared.call.Call.{Call}
 use Rattle.my_reading.specs.declared.call.Call.TheVariants as calls
 use Rattle.my_reading.specs.declared.call.CallKind.{CallKind}
-use Rattle.my_reading.specs.declared.call.CallKind.TheVariants.{Connect, Query, Prepare, Execute, Batch, CloseStmt, NextRow, DropResult, TakeSet, SkipTaken, Ping, Quit}
+use Rattle.my_reading.specs.declared.call.CallKind.TheVariants.{Connect, Query, Prepare, Execute, Batch, CloseStmt, NextRow, DropResult, TakeSet, SkipTaken, Ping, Reset, Quit}
 
 abbrev pub kind_of : Call → CallKind
 kind_of calls.Connect = Connect
@@ -20,6 +20,7 @@ kind_of calls.DropResult = DropResult
 kind_of calls.TakeSet = TakeSet
 kind_of calls.SkipTaken = SkipTaken
 kind_of calls.Ping = Ping
+kind_of calls.Reset = Reset
 kind_of calls.Quit = Quit
 
 -- a statement of no text
@@ -65,6 +66,7 @@ call_of DropResult call = calls.DropResult
 call_of TakeSet call = calls.TakeSet
 call_of SkipTaken call = calls.SkipTaken
 call_of Ping call = calls.Ping
+call_of Reset call = calls.Reset
 call_of Quit call = calls.Quit
 
 -- the calls that send a command of their own
@@ -75,6 +77,7 @@ asks Execute = true
 asks Batch = true
 asks CloseStmt = true
 asks Ping = true
+asks Reset = true
 asks Quit = true
 asks _ = false
 

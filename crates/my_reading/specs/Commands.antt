@@ -1,6 +1,6 @@
 -- The command that a call sends, as the exchange that it begins with a client's packet.
 -- MySQL internals, "Text Protocol", "Prepared Statements" and "Utility Commands": COM_QUERY, COM_STMT_PREPARE, COM_STMT_EXECUTE,
--- COM_STMT_SEND_LONG_DATA, COM_STMT_CLOSE, COM_PING, COM_QUIT.
+-- COM_STMT_SEND_LONG_DATA, COM_STMT_CLOSE, COM_PING, COM_RESET_CONNECTION, COM_QUIT.
 use Rattle.std.specs.Prelude.{ℕ, zero, suc, List, [], ◌∷◌, ◌++◌, reverse, slice_get, codes, Option, Some, None}
 use Rattle.my_command.specs.declared.client.ClientPacket.TheVariants as packets
 use Rattle.my_command.specs.Client.Packet.{client_bytes as packet_bytes}
@@ -12,7 +12,7 @@ use Rattle.my_grammar.specs.Talk.{Talk, Start, Queried, Preparing, Asked, Silent
 use Rattle.my_params.specs.LongData.{ahead_of}
 use Rattle.my_params.specs.Parameters.{body_of}
 use Rattle.my_reading.specs.declared.call.Call.{Call}
-use Rattle.my_reading.specs.declared.call.Call.TheVariants.{Connect, Query, Prepare, Execute, Batch, CloseStmt, NextRow, DropResult, TakeSet, SkipTaken, Ping, Quit}
+use Rattle.my_reading.specs.declared.call.Call.TheVariants.{Connect, Query, Prepare, Execute, Batch, CloseStmt, NextRow, DropResult, TakeSet, SkipTaken, Ping, Reset, Quit}
 use Rattle.my_reading.specs.Executions.{Values, Fitting, Unfitting, values_for}
 use Rattle.my_reading.specs.Statements.{Statements, known_in, query_of}
 
@@ -37,6 +37,7 @@ command_of terms st (Prepare text) = Some (Preparing terms (packet_bytes (packet
 command_of terms st (Execute statement params) = execution terms st statement.inner.id (values_for statement params)
 command_of terms st (CloseStmt id) = Some (closing terms id)
 command_of terms st Ping = Some (Asked terms (packet_bytes packets.Ping))
+command_of terms st Reset = Some (Asked terms (packet_bytes packets.ResetConnection))
 command_of terms st Quit = Some (Silent terms (packet_bytes packets.Quit))
 command_of terms st _ = None
 
@@ -51,10 +52,14 @@ abbrev pub at_most_one : Option (List ℕ) → List (List ℕ)
 at_most_one None = []
 at_most_one (Some text) = text ∷ []
 
+-- the queries that set a session of the server up, in the order in which they are sent: from the last text to the first
+abbrev pub setup_texts : Login → List (List ℕ)
+setup_texts login = reverse login.setup
+
 -- The queries that set a connection up once the login is settled, in the order in which they are sent: the settings are asked for, and
 -- then each of the two lists is sent from its last text to its first.
 abbrev pub arranging_texts : Login → List (List ℕ)
-arranging_texts login = at_most_one (settings_text login.packet_limit login.wait_timeout) ++ (reverse login.init ++ reverse login.setup)
+arranging_texts login = at_most_one (settings_text login.packet_limit login.wait_timeout) ++ (reverse login.init ++ setup_texts login)
 
 abbrev pub arranging : Terms → Option (List ℕ) → Option Talk
 arranging terms None = None
@@ -66,7 +71,7 @@ connecting login terms zero = Some (Start login)
 connecting login terms (suc n) = arranging terms (slice_get (arranging_texts login) n)
 
 -- The exchange that a call begins, if it begins one: connecting begins several, and n of them came before. Those of a batch are told by
--- the parts of the call, which have the parameters of each.
+-- the parts of the call, which have the parameters of each, and so are the queries that follow a reset, of which this is the first command.
 abbrev pub opening : Login → Terms → Statements → Call → ℕ → Option Talk
 opening login terms st Connect n = connecting login terms n
 opening login terms st (Query text) n = command_of terms st (Query text)
@@ -79,4 +84,5 @@ opening login terms st DropResult n = None
 opening login terms st TakeSet n = None
 opening login terms st SkipTaken n = None
 opening login terms st Ping n = command_of terms st Ping
+opening login terms st Reset n = command_of terms st Reset
 opening login terms st Quit n = command_of terms st Quit

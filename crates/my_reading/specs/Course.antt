@@ -15,6 +15,7 @@ use Rattle.my_grammar.specs.declared.spot.Spot.TheVariants as spots
 use Rattle.my_grammar.specs.Cut.{front_of, kind_of, is_over}
 use Rattle.my_grammar.specs.Growth.{grow}
 use Rattle.my_grammar.specs.Response.{response}
+use Rattle.my_handshake.specs.Version.{version_of}
 use Rattle.my_grammar.specs.declared.spot.Terms.{Terms}
 use Rattle.my_grammar.specs.Talk.{Talk, commands_in, context_of, limit_of}
 use Rattle.my_statements.specs.Cache.{Held}
@@ -25,21 +26,23 @@ use Rattle.my_reading.specs.declared.error.Error.{Error}
 use Rattle.my_reading.specs.declared.error.Error.TheVariants.{Driver, Server}
 use Rattle.my_reading.specs.declared.facts.Facts.{Facts}
 use Rattle.my_reading.specs.Calls.{id_in, statement_in, text_in}
-use Rattle.my_reading.specs.Commands.{arranging_texts, closing, execution}
+use Rattle.my_reading.specs.Commands.{arranging_texts, closing, execution, queried, setup_texts}
 use Rattle.my_reading.specs.Errors.{codec_error, invalid_data, mixed_params, server_error}
 use Rattle.my_reading.specs.Executions.{Values, Fitting, Unfitting, values_for}
 use Rattle.my_reading.specs.Facts.{prepared_by}
 use Rattle.my_reading.specs.Place.{Place, exchanges, facts_at, owed, terms_of, without_end, with_end, with_statements, with_taken, with_talk, with_exchange, next_exchange}
-use Rattle.my_reading.specs.Statements.{held_in, is_cached, is_mixed_text, leaving, names_of, query_of, statement_with, with_columns, with_fetched, with_prepared, without_statement}
+use Rattle.my_reading.specs.Statements.{cleared, held_in, is_cached, is_mixed_text, leaving, names_of, query_of, statement_with, with_columns, with_fetched, with_prepared, without_statement}
 pub use Rattle.my_reading.specs.Place.{is_rows}
 use Rattle.my_reading.specs.Rows.{row_of}
-use Rattle.my_reading.specs.Told.{Told, ToldReady, ToldRow, ToldEnd, ToldNone, ToldStatement, ToldError}
+use Rattle.my_reading.specs.Told.{Told, ToldReady, ToldRow, ToldEnd, ToldNone, ToldStatement, ToldFlag, ToldError}
+use Rattle.my_reading.specs.Versions.{can_reset}
 
 -- A part of a call: the rest of the newest exchange is read; it is read to the head of its first set, or to its next row or end; a stream
 -- takes the set that is read or the next one; the rest of the set that is read is passed over, and its end; or the call's next command is
 -- sent. Of prepared statements: the statement of the text is looked for; parameters are looked at; the statement of a batch is executed
 -- with parameters; the reply to a statement to prepare is read; its statement is kept, and the one that has to go for it is closed; it is
--- returned; the columns of an execution's rows are learned; or a statement isn't kept any more.
+-- returned; the columns of an execution's rows are learned; or a statement isn't kept any more. Of a reset: the server has the command, or
+-- nothing is sent and `false` is returned; no statement is kept any more; a query of the client's own is sent; or a flag is returned.
 pub data Part : Type 0 where
   All : Part
   Head : Part
@@ -55,6 +58,10 @@ pub data Part : Type 0 where
   Give : Part
   Learn : Part
   Forget : Part
+  Offered : Part
+  Clear : Part
+  Text : (text : List ℕ) → Part
+  Flag : (flag : Bool) → Part
 
 -- each query that sets a connection up is sent, and its response read whole
 abbrev pub parts_of_texts : List (List ℕ) → List Part
@@ -65,6 +72,12 @@ parts_of_texts (text ∷ texts) = Command ∷ All ∷ parts_of_texts texts
 abbrev pub parts_of_lists : List Params → List Part
 parts_of_lists [] = []
 parts_of_lists (params ∷ lists) = Check params ∷ All ∷ Run params ∷ Head ∷ Learn ∷ All ∷ parts_of_lists lists
+
+-- Each of these queries of the client's own is sent, once the response before it was read whole, and so is the response to the last; then
+-- come further parts.
+abbrev pub parts_of_queries : List (List ℕ) → List Part → List Part
+parts_of_queries [] parts = All ∷ parts
+parts_of_queries (text ∷ texts) parts = All ∷ Text text ∷ parts_of_queries texts parts
 
 -- the command table: the parts of each call, in order
 abbrev pub parts_of : Login → Call → List Part
@@ -79,6 +92,7 @@ parts_of login calls.DropResult = All ∷ []
 parts_of login calls.TakeSet = Set ∷ []
 parts_of login calls.SkipTaken = Rest ∷ []
 parts_of login calls.Ping = All ∷ Command ∷ All ∷ []
+parts_of login calls.Reset = Offered ∷ All ∷ Command ∷ All ∷ Clear ∷ parts_of_queries (setup_texts login) (Flag true ∷ [])
 parts_of login calls.Quit = All ∷ Command ∷ []
 
 -- where a call stops: bytes are to be sent, more bytes are awaited, or it returns this
@@ -204,6 +218,15 @@ learned call p f =
     then with_statements (with_columns (id_in call) f.columns p.statements) p
     else p
 
+-- a server that can't reset its session is sent nothing
+abbrev pub offered : List Part → Place → Bool → Step
+offered parts p true = Goes parts p
+offered parts p false = return p (ToldFlag false)
+
+-- a query of the client's own
+abbrev pub asked : Login → Call → List Part → Place → List ℕ → Step
+asked login call parts p text = with_command call parts p (Some (queried (terms_of login (exchanges p)) text))
+
 -- what the first part comes to where nothing is owed; without a part the call is done
 abbrev pub step_of : Login → Call → List Part → Place → Step
 step_of login call [] p = return p ToldReady
@@ -233,6 +256,10 @@ step_of login call (Keep ∷ parts) p = kept login call parts p (facts_at login 
 step_of login call (Give ∷ parts) p = return p (ToldStatement (statement_with (prepared_by (facts_at login p)) (names_of (text_in call))))
 step_of login call (Learn ∷ parts) p = Goes parts (learned call p (facts_at login p))
 step_of login call (Forget ∷ parts) p = Goes parts (with_statements (without_statement (id_in call) p.statements) p)
+step_of login call (Offered ∷ parts) p = offered parts p (can_reset (version_of (facts_at login p).version))
+step_of login call (Clear ∷ parts) p = Goes parts (with_statements (cleared p.statements) p)
+step_of login call (Text text ∷ parts) p = asked login call parts p text
+step_of login call (Flag flag ∷ parts) p = return p (ToldFlag flag)
 
 -- while bytes are owed nothing else is done
 abbrev pub unless_owed : List ℕ → Place → Step → Step

@@ -1,6 +1,7 @@
 pub mod Calls
 pub mod Statements
 pub mod Executions
+pub mod Versions
 pub mod Commands
 pub mod Errors
 pub mod Told

@@ -87,6 +87,10 @@ columns_or (Some columns) = columns
 abbrev pub known_in : Statements → ℕ → List Column
 known_in st id = columns_or (known_of id st.known)
 
+-- after the server's session was reset none is cached; the columns of statements' rows stay known
+abbrev pub cleared : Statements → Statements
+cleared st = record { cache = cached [] st.cache.capacity; known = st.known }
+
 -- of a connection that is closed nothing is known
 abbrev pub emptied : Statements → Statements
 emptied st = record { cache = cached [] st.cache.capacity; known = [] }

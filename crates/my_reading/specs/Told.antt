@@ -3,7 +3,7 @@ use Rattle.std.specs.Prelude.{Bool, true, false}
 use Rattle.my_value.specs.RowParts.{RowParts}
 use Rattle.my_statements.specs.Prepared.{StatementView}
 use Rattle.my_reading.specs.declared.answer.Answer.{Answer}
-use Rattle.my_reading.specs.declared.answer.Answer.TheVariants.{Ready, Row, SetEnd, NoSet, Stmt}
+use Rattle.my_reading.specs.declared.answer.Answer.TheVariants.{Ready, Row, SetEnd, NoSet, Stmt, Flag}
 use Rattle.my_reading.specs.declared.call.CallKind.{CallKind}
 use Rattle.my_reading.specs.declared.error.DriverError.{DriverError}
 use Rattle.my_reading.specs.declared.error.DriverError.TheVariants as drivers
@@ -18,6 +18,7 @@ pub data Told : Type 0 where
   ToldEnd : Told
   ToldNone : Told
   ToldStatement : (statement : StatementView) → Told
+  ToldFlag : (flag : Bool) → Told
   ToldError : (e : Error) → Told
   Dropped : (closing : Bool) → Told
 
@@ -27,6 +28,7 @@ told (Row r) = ToldRow r
 told SetEnd = ToldEnd
 told NoSet = ToldNone
 told (Stmt statement) = ToldStatement statement
+told (Flag flag) = ToldFlag flag
 
 -- the refusal of a closed session changes nothing, and neither does that of a text with named parameters and marks; all other driver's
 -- errors close the session

@@ -19,6 +19,8 @@ pub enum Answer {
     NoSet,
     /// The statement that was prepared, or was cached.
     Stmt(Statement),
+    /// Whether the server has the command of the call: it was reset, or nothing was sent.
+    Flag(bool),
 }
 
 impl Answer {
@@ -32,6 +34,7 @@ impl Answer {
             Answer::SetEnd => Ok(Answer::SetEnd),
             Answer::NoSet => Ok(Answer::NoSet),
             Answer::Stmt(statement) => Ok(Answer::Stmt(statement.copy(alloc)?)),
+            Answer::Flag(flag) => Ok(Answer::Flag(*flag)),
         }
     }
 }

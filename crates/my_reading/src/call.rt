@@ -31,6 +31,8 @@ pub enum Call {
     /// Passes over the rest of the set that is read, and its end.
     SkipTaken,
     Ping,
+    /// The server's session is reset, where the server can, and the queries that set a connection up are sent again.
+    Reset,
     Quit,
 }
 
@@ -48,6 +50,7 @@ pub enum CallKind {
     TakeSet,
     SkipTaken,
     Ping,
+    Reset,
     Quit,
 }
 
@@ -70,6 +73,7 @@ impl Call {
             Call::TakeSet => CallKind::TakeSet,
             Call::SkipTaken => CallKind::SkipTaken,
             Call::Ping => CallKind::Ping,
+            Call::Reset => CallKind::Reset,
             Call::Quit => CallKind::Quit,
         }
     }
@@ -94,6 +98,7 @@ impl Call {
             Call::TakeSet => Ok(Call::TakeSet),
             Call::SkipTaken => Ok(Call::SkipTaken),
             Call::Ping => Ok(Call::Ping),
+            Call::Reset => Ok(Call::Reset),
             Call::Quit => Ok(Call::Quit),
         }
     }

@@ -10,6 +10,7 @@ mod law;
 mod row;
 mod settings;
 mod statements;
+mod version;
 
 pub use answer::Answer;
 pub use call::{Call, CallKind};
@@ -24,3 +25,4 @@ pub use my_statements::SetColumns;
 pub use row::read_row;
 pub use settings::{Settings, Stage};
 pub use statements::Statements;
+pub use version::can_reset;

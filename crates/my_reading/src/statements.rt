@@ -28,7 +28,7 @@ impl Model for Statements {
 }
 
 impl Statements {
-    ghost use Rattle.my_reading.specs.Statements.{emptied, first_statements, held_in, is_cached, leaving, statement_with, with_columns, with_fetched, with_prepared, with_put, without_statement};
+    ghost use Rattle.my_reading.specs.Statements.{cleared, emptied, first_statements, held_in, is_cached, leaving, statement_with, with_columns, with_fetched, with_prepared, with_put, without_statement};
 
     /// Of a connection that prepared none.
     pub fn new(alloc: Global, login: &Login) -> Result<Statements, NoMemory>
@@ -115,6 +115,13 @@ impl Statements {
         ensures { self.new ≡ without_statement id self.old }
     {
         self.cache.remove(id);
+    }
+
+    /// The server's session was reset: no statement is cached any more.
+    pub fn forget_all(&mut self)
+        ensures { self.new ≡ cleared self.old }
+    {
+        self.cache.clear();
     }
 
     /// Of a connection that is closed nothing is known.

@@ -18,7 +18,7 @@ use Rattle.my_reading.specs.Told.{ToldStatement}
 use Rattle.my_reading.proofs.Leading.{leads_to_course}
 use Rattle.statement_laws.specs.Found.{CachedIsReturned, OthersAreAskedFor}
 use Rattle.statement_laws.specs.Kept.{is_answered}
-use Rattle.statement_laws.proofs.Stepping.{answer_leaves_open}
+use Rattle.statement_laws.proofs.Phases.{answer_leaves_open}
 use Rattle.statement_laws.proofs.Having.{StopsHave, begun_has, either, reads_have}
 
 -- what follows the looking for it
@@ -78,11 +78,11 @@ module _ (login : Login) (text : List ℕ) (n : ℕ) where
   part_has parts p (Looks q none low) = either Has (is_mixed_text text) _ _ (λ h. absurd (cc)) (found_has q (held_in q.statements (query_of text)) none low)
   part_has parts p (Clears q low) = either Has q.end_left _ _ (Clears (without_end q) low) (either Has (is_over q.talk) _ _ (Sends q low)
       (reads_have Has q (stops q) login All (Command ∷ Reply ∷ Keep ∷ Give ∷ [])
-      (λ k b more _ _. Clears (with_talk q (grow k q.talk b) more) low) (λ k b more row _ _. Clears (with_talk q (grow k q.talk b) more) low) (λ b more x h. absurd (cc))))
+      (λ k b more _. Clears (with_talk q (grow k q.talk b) more) low) (λ k b more row _. Clears (with_talk q (grow k q.talk b) more) low) (λ b more x h. absurd (cc))))
   part_has parts p (Sends q low) = sent_has q (next_exchange login (Prepare text) q) refl low
   part_has parts p (Hears q low) = either Has (is_over q.talk) _ _ (Keeps q low)
       (reads_have Has q (stops q) login Reply (Keep ∷ Give ∷ [])
-      (λ k b more _ _. Hears (with_talk q (grow k q.talk b) more) low) (λ k b more row _ _. Hears (with_talk q (grow k q.talk b) more) low) (λ b more x h. absurd (cc)))
+      (λ k b more _. Hears (with_talk q (grow k q.talk b) more) low) (λ k b more row _. Hears (with_talk q (grow k q.talk b) more) low) (λ b more x h. absurd (cc)))
   part_has parts p (Keeps q low) =
       let f = facts_at login q in
       closed_has (with_statements (with_prepared (query_of text) (prepared_by f) f.reply.fields q.statements) q) (terms_of login (exchanges q))

@@ -8,6 +8,7 @@ use Rattle.my_reply.specs.Replies.{prepare_ok_at}
 use Rattle.my_grammar.specs.declared.login.Login.{Login}
 use Rattle.my_grammar.specs.declared.spot.Kind.{Kind}
 use Rattle.my_grammar.specs.declared.spot.Kind.TheVariants as kinds
+use Rattle.my_grammar.specs.Contexts.{is_bad}
 use Rattle.my_grammar.specs.Cut.{front_of, kind_of}
 use Rattle.my_grammar.specs.Growth.{grow}
 use Rattle.my_grammar.specs.Response.{response}
@@ -25,6 +26,13 @@ use Rattle.statement_laws.proofs.Talks.{ComesFresh, is_failed}
 -- a property of steps that each stop at a place has by which a call that prepares a statement closes the session, or is left open
 abbrev pub StopsHave : (Step → Type 0) → Place → Type 0
 StopsHave R p = (s : Stop) → leaves_open s ≡ false → R (Stops p s)
+
+-- A payload of this kind comes in its place: it is no ERR, and a head of a statement has the id of none that is cached.
+pub record Comes (p : Place) (k : Kind) (q : List ℕ) : Type 0 where
+  pub kind_is : kind_of p.talk q ≡ k
+  pub fits : is_bad k ≡ false
+  pub good : is_failed k ≡ false
+  pub fresh : ComesFresh (λ ok. is_cached p.statements ok.id ≡ false) k q
 
 pub either : (R : Step → Type 0) (b : Bool) (x y : Step) → R x → R y → R (cond b x y)
 either R true x y v w = v
@@ -46,19 +54,19 @@ module _ (R : Step → Type 0) (p : Place) (stops : StopsHave R p) where
 
   -- where each payload more has the property, reading has it
   module _ (login : Login) (part : Part) (parts : List Part)
-      (again : (k : Kind) (q rest : List ℕ) → is_failed k ≡ false → ComesFresh (λ ok. is_cached p.statements ok.id ≡ false) k q
-      → R (Goes (part ∷ parts) (with_talk p (grow k p.talk q) rest)))
-      (other : (k : Kind) (q rest : List ℕ) (row : Told) → is_failed k ≡ false → ComesFresh (λ ok. is_cached p.statements ok.id ≡ false) k q
-      → R (after_kind part parts k (with_talk p (grow k p.talk q) rest) row))
+      (again : (k : Kind) (q rest : List ℕ) → Comes p k q → R (Goes (part ∷ parts) (with_talk p (grow k p.talk q) rest)))
+      (other : (k : Kind) (q rest : List ℕ) (row : Told) → Comes p k q → R (after_kind part parts k (with_talk p (grow k p.talk q) rest) row))
       (refused : (q rest : List ℕ) (e : ErrPacket) → R (failure (with_talk p (grow kinds.Failed p.talk q) rest) (Server (server_error e)))) where
     err_has : (q : List ℕ) (rest : List ℕ) (o : Option ErrPacket) → R (after_err login p (with_talk p (grow kinds.Failed p.talk q) rest) o)
     err_has q rest None = stops _ refl
     err_has q rest (Some e) = refused q rest e
 
-    head_has : (q rest : List ℕ) (params columns : ℕ) (o : Option PrepareOk) → prepare_ok_at q ≡ o
+    head_has : (q rest : List ℕ) (params columns : ℕ) → kind_of p.talk q ≡ kinds.Prepared params columns → (o : Option PrepareOk) → prepare_ok_at q ≡ o
         → R (unless_cached login p o (Goes (part ∷ parts) (with_talk p (grow (kinds.Prepared params columns) p.talk q) rest)))
-    head_has q rest params columns None e = again (kinds.Prepared params columns) q rest refl (subst (λ o. IfSome o (λ ok. is_cached p.statements ok.id ≡ false)) (sym e) tt)
-    head_has q rest params columns (Some ok) e = by_id (again (kinds.Prepared params columns) q rest refl) (is_cached p.statements ok.id) refl
+    head_has q rest params columns i None e =
+        again (kinds.Prepared params columns) q rest (record { kind_is = i; fits = refl; good = refl; fresh = subst (λ o. IfSome o (λ ok. is_cached p.statements ok.id ≡ false)) (sym e) tt })
+    head_has q rest params columns i (Some ok) e =
+        by_id (λ f. again (kinds.Prepared params columns) q rest (record { kind_is = i; fits = refl; good = refl; fresh = f })) (is_cached p.statements ok.id) refl
       where
         by_id : (IfSome (prepare_ok_at q) (λ ok. is_cached p.statements ok.id ≡ false) → R (Goes (part ∷ parts) (with_talk p (grow (kinds.Prepared params columns) p.talk q) rest)))
             → (b : Bool) → is_cached p.statements ok.id ≡ b
@@ -66,25 +74,25 @@ module _ (R : Step → Type 0) (p : Place) (stops : StopsHave R p) where
         by_id go true i = stops _ refl
         by_id go false i = go (subst (λ o. IfSome o (λ ok. is_cached p.statements ok.id ≡ false)) (sym e) i)
 
-    payload_has : (q rest : List ℕ) (k : Kind) → R (after_payload login part parts p (with_talk p (grow k p.talk q) rest) q k)
-    payload_has q rest kinds.Bad = stops _ refl
-    payload_has q rest kinds.Failed = err_has q rest (err_at (is_greeting (context_of p.talk).spot) q)
-    payload_has q rest (kinds.Greets n) =
-        either R (nat_lt (limit_of p.talk) (length (response login q))) _ _ (stops _ refl) (again (kinds.Greets n) q rest refl tt)
-    payload_has q rest (kinds.Prepared params columns) = head_has q rest params columns (prepare_ok_at q) refl
-    payload_has q rest (kinds.Good status) = other (kinds.Good status) q rest _ refl tt
-    payload_has q rest (kinds.Count n) = other (kinds.Count n) q rest _ refl tt
-    payload_has q rest kinds.Column = other kinds.Column q rest _ refl tt
-    payload_has q rest kinds.ColumnsDone = other kinds.ColumnsDone q rest _ refl tt
-    payload_has q rest kinds.Row = other kinds.Row q rest _ refl tt
-    payload_has q rest (kinds.End status) = other (kinds.End status) q rest _ refl tt
-    payload_has q rest kinds.Parameter = other kinds.Parameter q rest _ refl tt
-    payload_has q rest kinds.Field = other kinds.Field q rest _ refl tt
+    payload_has : (q rest : List ℕ) (k : Kind) → kind_of p.talk q ≡ k → R (after_payload login part parts p (with_talk p (grow k p.talk q) rest) q k)
+    payload_has q rest kinds.Bad e = stops _ refl
+    payload_has q rest kinds.Failed e = err_has q rest (err_at (is_greeting (context_of p.talk).spot) q)
+    payload_has q rest (kinds.Greets n) e = either R (nat_lt (limit_of p.talk) (length (response login q))) _ _ (stops _ refl)
+        (again (kinds.Greets n) q rest (record { kind_is = e; fits = refl; good = refl; fresh = tt }))
+    payload_has q rest (kinds.Prepared params columns) e = head_has q rest params columns e (prepare_ok_at q) refl
+    payload_has q rest (kinds.Good status) e = other (kinds.Good status) q rest _ (record { kind_is = e; fits = refl; good = refl; fresh = tt })
+    payload_has q rest (kinds.Count n) e = other (kinds.Count n) q rest _ (record { kind_is = e; fits = refl; good = refl; fresh = tt })
+    payload_has q rest kinds.Column e = other kinds.Column q rest _ (record { kind_is = e; fits = refl; good = refl; fresh = tt })
+    payload_has q rest kinds.ColumnsDone e = other kinds.ColumnsDone q rest _ (record { kind_is = e; fits = refl; good = refl; fresh = tt })
+    payload_has q rest kinds.Row e = other kinds.Row q rest _ (record { kind_is = e; fits = refl; good = refl; fresh = tt })
+    payload_has q rest (kinds.End status) e = other (kinds.End status) q rest _ (record { kind_is = e; fits = refl; good = refl; fresh = tt })
+    payload_has q rest kinds.Parameter e = other kinds.Parameter q rest _ (record { kind_is = e; fits = refl; good = refl; fresh = tt })
+    payload_has q rest kinds.Field e = other kinds.Field q rest _ (record { kind_is = e; fits = refl; good = refl; fresh = tt })
 
     front_has : (x : Front) → R (with_front login part parts p x)
     front_has Waiting = stops Awaits refl
     front_has (Broken fault) = stops _ refl
-    front_has (Whole q rest next) = payload_has q rest (kind_of p.talk q)
+    front_has (Whole q rest next) = payload_has q rest (kind_of p.talk q) refl
 
     pub reads_have : R (reads login part parts p)
     reads_have = front_has (front_of p.talk p.unread)

@@ -14,8 +14,8 @@ use Rattle.my_reading.specs.Calls.{id_in}
 use Rattle.my_reading.specs.Commands.{closing}
 use Rattle.my_reading.specs.Course.{learned, is_rows}
 use Rattle.my_reading.specs.Place.{Exchange, Place, exchanges, with_exchange, with_statements, with_talk}
-use Rattle.my_reading.specs.Statements.{Statements, held_in, is_cached, leaving, with_columns, with_fetched, with_new, with_prepared, without_statement}
-use Rattle.statement_laws.specs.Kept.{EachIsKept, IsClosed, IsKept, prepared_in}
+use Rattle.my_reading.specs.Statements.{Statements, cleared, held_in, is_cached, leaving, with_columns, with_fetched, with_new, with_prepared, without_statement}
+use Rattle.statement_laws.specs.Kept.{EachIsKept, IsFreed, IsKept, Resets, prepared_in}
 use Rattle.statement_laws.proofs.Lists.{any_fronted, any_left, few_fronted, few_left, new_few, new_is_there, stays_or_leaves}
 use Rattle.statement_laws.proofs.Talks.{IsFresh, grown_done, grown_fresh, is_open, is_failed, ComesFresh, refused_done}
 
@@ -49,9 +49,9 @@ none_some P None e = tt
 none_some P (Some id) e = absurd (cc)
 
 -- one exchange more in front of both
-closed_further : (since later : List Exchange) (e : Exchange) → ((id : ℕ) → IsClosed id since → IsClosed id later) → (id : ℕ) → IsClosed id (e ∷ since) → IsClosed id (e ∷ later)
-closed_further since later e f id (inl x) = inl x
-closed_further since later e f id (inr x) = inr (f id x)
+freed_further : (since later : List Exchange) (e : Exchange) → ((id : ℕ) → IsFreed id since → IsFreed id later) → (id : ℕ) → IsFreed id (e ∷ since) → IsFreed id (e ∷ later)
+freed_further since later e f id (inl x) = inl x
+freed_further since later e f id (inr x) = inr (f id x)
 
 kept_further : (Q : ℕ → Type 0) (st : Statements) (later : List Exchange) (e : Exchange) (id : ℕ) → IsKept st later id ⊎ Q id → IsKept st (e ∷ later) id ⊎ Q id
 kept_further Q st later e id (inl (inl x)) = inl (inl x)
@@ -59,30 +59,30 @@ kept_further Q st later e id (inl (inr (inl x))) = inl (inr (inl (inr x)))
 kept_further Q st later e id (inl (inr (inr x))) = inl (inr (inr x))
 kept_further Q st later e id (inr x) = inr x
 
--- Where other statements are cached and other exchanges are newer, each statement is kept that is cached still or was closed.
+-- Where other statements are cached and other exchanges are newer, each statement is kept that is cached still or was freed.
 module _ (P Q : ℕ → Type 0) (st new : Statements) (empty : st.cache.capacity ≡ 0 → new.cache.capacity ≡ 0) where
   one_moves : (since later : List Exchange) → ((id : ℕ) → is_cached st id ≡ true → IsKept new later id ⊎ Q id)
-      → ((id : ℕ) → IsClosed id since → IsClosed id later) → ((id : ℕ) → P id → IsKept new later id ⊎ Q id)
+      → ((id : ℕ) → IsFreed id since → IsFreed id later) → ((id : ℕ) → P id → IsKept new later id ⊎ Q id)
       → (id : ℕ) → IsKept st since id ⊎ P id → IsKept new later id ⊎ Q id
-  one_moves since later cached closed but id (inl (inl x)) = cached id x
-  one_moves since later cached closed but id (inl (inr (inl x))) = inl (inr (inl (closed id x)))
-  one_moves since later cached closed but id (inl (inr (inr x))) = inl (inr (inr (empty x)))
-  one_moves since later cached closed but id (inr x) = but id x
+  one_moves since later cached freed but id (inl (inl x)) = cached id x
+  one_moves since later cached freed but id (inl (inr (inl x))) = inl (inr (inl (freed id x)))
+  one_moves since later cached freed but id (inl (inr (inr x))) = inl (inr (inr (empty x)))
+  one_moves since later cached freed but id (inr x) = but id x
 
   each_moves : (since later : List Exchange) → ((id : ℕ) → is_cached st id ≡ true → IsKept new later id ⊎ Q id)
-      → ((id : ℕ) → IsClosed id since → IsClosed id later) → ((id : ℕ) → P id → IsKept new later id ⊎ Q id)
+      → ((id : ℕ) → IsFreed id since → IsFreed id later) → ((id : ℕ) → P id → IsKept new later id ⊎ Q id)
       → (es : List Exchange) → EachBut P st since es → EachBut Q new later es
-  each_moves since later cached closed but [] w = tt
-  each_moves since later cached closed but (e ∷ es) w = (
-    some_weaker (λ id. IsKept st since id ⊎ P id) (λ id. IsKept new later id ⊎ Q id) (one_moves since later cached closed but) (prepared_in e.talk) w.0,
-    each_moves (e ∷ since) (e ∷ later) (λ id x. kept_further Q new later e id (cached id x)) (closed_further since later e closed)
+  each_moves since later cached freed but [] w = tt
+  each_moves since later cached freed but (e ∷ es) w = (
+    some_weaker (λ id. IsKept st since id ⊎ P id) (λ id. IsKept new later id ⊎ Q id) (one_moves since later cached freed but) (prepared_in e.talk) w.0,
+    each_moves (e ∷ since) (e ∷ later) (λ id x. kept_further Q new later e id (cached id x)) (freed_further since later e freed)
         (λ id x. kept_further Q new later e id (but id x)) es w.1,
   )
 
 -- the same statements
-each_stays : (P : ℕ → Type 0) (st : Statements) (since later : List Exchange) → ((id : ℕ) → IsClosed id since → IsClosed id later)
+each_stays : (P : ℕ → Type 0) (st : Statements) (since later : List Exchange) → ((id : ℕ) → IsFreed id since → IsFreed id later)
     → (es : List Exchange) → EachBut P st since es → EachBut P st later es
-each_stays P st since later closed es w = each_moves P P st st (λ e. e) since later (λ id x. inl (inl x)) closed (λ id x. inr x) es w
+each_stays P st since later freed es w = each_moves P P st st (λ e. e) since later (λ id x. inl (inl x)) freed (λ id x. inr x) es w
 
 pub each_is_kept : (st : Statements) (since es : List Exchange) → EachBut (λ id. ⊥) st since es → EachIsKept st since es
 each_is_kept st since [] w = tt
@@ -94,20 +94,24 @@ each_is_kept st since (e ∷ es) w =
     is_left id (inr x) = absurd x
 
 -- after a payload
-closed_grown : (p : Place) (k : Kind) (q rest : List ℕ) (id : ℕ) → IsClosed id (newest_of p) → IsClosed id (newest_of (with_talk p (grow k p.talk q) rest))
-closed_grown p k q rest id (inl w) = inl (w.0, ap (λ x. grow k x q) w.1)
-closed_grown p k q rest id (inr w) = inr w
+pub grown_resets : (k : Kind) (t : Talk) (q : List ℕ) → Resets t → Resets (grow k t q)
+grown_resets k t q w = (w.0, w.1, w.2, ap (λ x. grow k x q) w.3)
+
+freed_grown : (p : Place) (k : Kind) (q rest : List ℕ) (id : ℕ) → IsFreed id (newest_of p) → IsFreed id (newest_of (with_talk p (grow k p.talk q) rest))
+freed_grown p k q rest id (inl (inl w)) = inl (inl (w.0, ap (λ x. grow k x q) w.1))
+freed_grown p k q rest id (inl (inr w)) = inl (inr (grown_resets k p.talk q w))
+freed_grown p k q rest id (inr w) = inr w
 
 pub grown_holds : (P : ℕ → Type 0) (p : Place) (k : Kind) (q rest : List ℕ) → HoldsBut P p → HoldsBut P (with_talk p (grow k p.talk q) rest)
 grown_holds P p k q rest w =
     let new = with_talk p (grow k p.talk q) rest in
     let d = grown_done (λ id. IsKept p.statements [] id ⊎ P id) k p.talk q (w.0.0, w.1) in
-    ((d.0, each_stays P p.statements (newest_of p) (newest_of new) (closed_grown p k q rest) p.older w.0.1), d.1, w.2)
+    ((d.0, each_stays P p.statements (newest_of p) (newest_of new) (freed_grown p k q rest) p.older w.0.1), d.1, w.2)
 
 pub grown_before : (query : List ℕ) (p : Place) (k : Kind) (q rest : List ℕ) → is_failed k ≡ false
     → ComesFresh (λ ok. is_cached p.statements ok.id ≡ false) k q → HoldsBefore query p → HoldsBefore query (with_talk p (grow k p.talk q) rest)
 grown_before query p k q rest e fresh w = (
-  each_stays (λ id. ⊥) p.statements (newest_of p) (newest_of (with_talk p (grow k p.talk q) rest)) (closed_grown p k q rest) p.older w.0,
+  each_stays (λ id. ⊥) p.statements (newest_of p) (newest_of (with_talk p (grow k p.talk q) rest)) (freed_grown p k q rest) p.older w.0,
   grown_fresh (λ ok. is_cached p.statements ok.id ≡ false) k p.talk q e fresh w.1,
   w.2,
   w.3,
@@ -117,7 +121,7 @@ grown_before query p k q rest e fresh w = (
 pub refused_holds : (query : List ℕ) (p : Place) (q rest : List ℕ) → HoldsBefore query p → Holds (with_talk p (grow kinds.Failed p.talk q) rest)
 refused_holds query p q rest w =
     let d = refused_done (λ ok. is_cached p.statements ok.id ≡ false) (λ id. IsKept p.statements [] id ⊎ ⊥) p.talk q w.1 in
-    ((d.0, each_stays (λ id. ⊥) p.statements (newest_of p) (newest_of (with_talk p (grow kinds.Failed p.talk q) rest)) (closed_grown p kinds.Failed q rest) p.older w.0), d.1, w.3)
+    ((d.0, each_stays (λ id. ⊥) p.statements (newest_of p) (newest_of (with_talk p (grow kinds.Failed p.talk q) rest)) (freed_grown p kinds.Failed q rest) p.older w.0), d.1, w.3)
 
 -- after an exchange began
 pub opened_holds : (P : ℕ → Type 0) (p : Place) (call : Call) (t : Talk) → prepared_in t ≡ None → is_open t ≡ false → HoldsBut P p → HoldsBut P (with_exchange p call t)
@@ -143,7 +147,7 @@ closing_holds P p call terms id one w =
       (
         tt,
         each_moves P (λ i. ⊥) p.statements p.statements (λ e. e) [] since (λ i x. inl (inl x)) (λ i x. absurd x)
-            (λ i x. inl (inr (inl (inl (terms, ap (λ n. closing terms n) (sym (one i x))))))) (exchanges p) w.0,
+            (λ i x. inl (inr (inl (inl (inl (terms, ap (λ n. closing terms n) (sym (one i x)))))))) (exchanges p) w.0,
       ),
       refl,
       w.2,
@@ -167,6 +171,18 @@ forgotten_holds p id w =
     still : (i : ℕ) → (is_cached (without_statement id p.statements) i ≡ true) ⊎ (i ≡ id) → IsKept (without_statement id p.statements) [] i ⊎ (i ≡ id)
     still i (inl x) = inl (inl x)
     still i (inr x) = inr x
+
+-- after the server's session was reset
+pub cleared_holds : (p : Place) → Resets p.talk → Holds p → Holds (with_statements (cleared p.statements) p)
+cleared_holds p reset w = (
+  (
+    none_some (λ i. IsKept (cleared p.statements) [] i ⊎ ⊥) (prepared_in p.talk) (ap prepared_in reset.3),
+    each_moves (λ i. ⊥) (λ i. ⊥) p.statements (cleared p.statements) (λ e. e) (newest_of p) (newest_of p)
+        (λ i x. inl (inr (inl (inl (inr reset))))) (λ i x. x) (λ i x. absurd x) p.older w.0.1,
+  ),
+  w.1,
+  omega arith,
+)
 
 pub fetched_holds : (p : Place) (query : List ℕ) → Holds p → Holds (with_statements (with_fetched query p.statements) p)
 fetched_holds p query w =

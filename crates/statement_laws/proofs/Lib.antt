@@ -2,7 +2,11 @@ pub mod Lists
 pub mod Talks
 pub mod Having
 pub mod Holding
+pub mod Phases
+pub mod Resetting
 pub mod Stepping
 pub mod Running
 pub mod Ending
 pub mod Finding
+pub mod Beside
+pub mod Batching

@@ -2,14 +2,15 @@
 use Rattle.std.proofs.Common.{◌≡◌, ℕ, suc, zero, Bool, true, false, ◌||◌, List, [], ◌∷◌, refl, arith}
 use Rattle.my_grammar.specs.declared.login.Login.{Login}
 use Rattle.my_reading.specs.declared.call.Call.{Call}
-use Rattle.my_reading.specs.declared.call.Call.TheVariants.{Connect, Query, Prepare, Execute, Batch, CloseStmt, NextRow, DropResult, TakeSet, SkipTaken, Ping, Quit}
+use Rattle.my_reading.specs.declared.call.Call.TheVariants.{Connect, Query, Prepare, Execute, Batch, CloseStmt, NextRow, DropResult, TakeSet, SkipTaken, Ping, Reset, Quit}
 use Rattle.my_reading.specs.Course.{Stop, Awaits, Step, Goes, Stops, course, enough, parts_of, run, step}
 use Rattle.my_reading.specs.Place.{Place, exchanges, first_place, with_bytes}
 use Rattle.my_reading.specs.Reading.{ReadCall, halt_of, is_closing, read_calls, reading}
 use Rattle.my_reading.specs.Tape.{Span, spans}
 use Rattle.statement_laws.specs.Kept.{AllReturned, AllSettled, SettledAreKept, StatementsAreKept, is_answered, is_settled}
 use Rattle.statement_laws.proofs.Holding.{Holds, each_is_kept}
-use Rattle.statement_laws.proofs.Stepping.{IsFine, answer_leaves_open, begins_fine, step_fine, stopped_fine}
+use Rattle.statement_laws.proofs.Phases.{IsFine, answer_leaves_open, stopped_fine}
+use Rattle.statement_laws.proofs.Stepping.{begins_fine, step_fine}
 
 run_holds : (n : ℕ) (login : Login) (call : Call) (s : Step) → IsFine call s → is_settled call (run n login call s).stop ≡ true → Holds (run n login call s).place
 unfolding run
@@ -53,6 +54,7 @@ answer_settles DropResult s e = refl
 answer_settles TakeSet s e = refl
 answer_settles SkipTaken s e = refl
 answer_settles Ping s e = refl
+answer_settles Reset s e = refl
 answer_settles Quit s e = refl
 
 pub or_settled : (closed b : Bool) → b ≡ true → (closed || b) ≡ true

@@ -1,5 +1,5 @@
 -- Each step of a call keeps its statements, by the parts that are left.
-use Rattle.std.proofs.Common.{◌≡◌, ℕ, suc, zero, Bool, true, false, cond, ◌&&◌, ◌||◌, Option, Some, None, IfSome, List, [], ◌∷◌, slice_get, refl, subst}
+use Rattle.std.proofs.Common.{◌≡◌, ℕ, suc, zero, Bool, true, false, cond, ◌||◌, Option, Some, None, IfSome, List, [], ◌∷◌, slice_get, refl, subst}
 use Rattle.my_command.specs.declared.client.ClientPacket.TheVariants as packets
 use Rattle.my_command.specs.Client.Packet.{client_bytes as packet_bytes}
 use Rattle.my_grammar.specs.declared.login.Login.{Login}
@@ -12,85 +12,24 @@ use Rattle.my_grammar.specs.Prepares.{Unanswered}
 use Rattle.my_grammar.specs.Talk.{Talk, Preparing, context_of}
 use Rattle.my_statements.specs.Cache.{Held}
 use Rattle.my_reading.specs.declared.call.Call.{Call}
-use Rattle.my_reading.specs.declared.call.Call.TheVariants.{Connect, Query, Prepare, Execute, Batch, CloseStmt, NextRow, DropResult, TakeSet, SkipTaken, Ping, Quit}
+use Rattle.my_reading.specs.declared.call.Call.TheVariants.{Connect, Query, Prepare, Execute, Batch, CloseStmt, NextRow, DropResult, TakeSet, SkipTaken, Ping, Reset, Quit}
 use Rattle.my_params.specs.declared.params.Params.{Params}
 use Rattle.my_reading.specs.Calls.{id_in, statement_in}
-use Rattle.my_reading.specs.Commands.{arranging, arranging_texts, closing, connecting, execution, opening}
-use Rattle.my_reading.specs.Course.{Part, All, Head, Item, Set, Rest, Command, Find, Check, Run, Reply, Keep, Give, Learn, Forget, Step, Goes, Stops, step, step_of, unless_owed, reads, after_kind, with_command, found, checked, executed, closing_of, learned, is_rows, parts_of, parts_of_lists, parts_of_texts, Stop, Owes, Awaits, Returns}
+use Rattle.my_reading.specs.Commands.{arranging, arranging_texts, closing, connecting, execution, opening, queried, setup_texts}
+use Rattle.my_reading.specs.Course.{Part, All, Head, Item, Set, Rest, Command, Find, Check, Run, Reply, Keep, Give, Learn, Forget, Offered, Clear, Text, Flag, Goes, step, step_of, unless_owed, reads, after_kind, with_command, found, checked, executed, closing_of, learned, offered, is_rows, parts_of, parts_of_lists, parts_of_queries, parts_of_texts, Owes}
 use Rattle.my_reading.specs.Executions.{Values, Fitting, Unfitting, values_for}
 use Rattle.my_reading.specs.Facts.{prepared_by}
 use Rattle.my_reading.specs.Place.{Place, connects_in, exchanges, facts_at, facts_of, next_exchange, owed, terms_of, with_end, with_exchange, with_statements, with_talk, without_end}
-use Rattle.my_reading.specs.Statements.{Statements, held_in, is_cached, is_mixed_text, leaving, query_of, with_prepared, without_statement}
-use Rattle.my_reading.specs.Told.{Told, ToldReady, ToldRow, ToldEnd, ToldNone, ToldStatement, ToldError, Dropped}
-use Rattle.statement_laws.specs.Kept.{is_answered, is_settled, leaves_open, prepared_in}
-use Rattle.statement_laws.proofs.Having.{StopsHave, begun_has, command_has, either, reads_have}
-use Rattle.statement_laws.proofs.Holding.{Holds, HoldsBefore, HoldsBut, closing_holds, fetched_holds, forgotten_holds, grown_before, grown_holds, learned_holds, opened_before, opened_holds, prepared_holds, refused_holds, weaker_holds}
-use Rattle.statement_laws.proofs.Talks.{ComesFresh, is_failed, is_open, over_is_done, whole_talk}
-
--- the parts that touch no statement that is cached
-abbrev is_plain_part : Part → Bool
-is_plain_part Find = false
-is_plain_part Reply = false
-is_plain_part Keep = false
-is_plain_part Give = false
-is_plain_part Forget = false
-is_plain_part _ = true
-
-abbrev is_plain : List Part → Bool
-is_plain [] = true
-is_plain (part ∷ parts) = is_plain_part part && is_plain parts
-
-abbrev prepares : Call → Bool
-prepares (Prepare text) = true
-prepares _ = false
-
--- What holds before each of a call's parts.
-pub data Phase : Call → List Part → Place → Type 0 where
-  Steady : (call : Call) (parts : List Part) (p : Place) → is_plain parts ≡ true → prepares call ≡ false → Holds p → Phase call parts p
-  Finding : (text : List ℕ) (p : Place) → Holds p → Phase (Prepare text) (Find ∷ All ∷ Command ∷ Reply ∷ Keep ∷ Give ∷ []) p
-  Clearing : (text : List ℕ) (p : Place) → Holds p → held_in p.statements (query_of text) ≡ None → Phase (Prepare text) (All ∷ Command ∷ Reply ∷ Keep ∷ Give ∷ []) p
-  Asking : (text : List ℕ) (p : Place) → Holds p → held_in p.statements (query_of text) ≡ None → Phase (Prepare text) (Command ∷ Reply ∷ Keep ∷ Give ∷ []) p
-  Replying : (text : List ℕ) (p : Place) → HoldsBefore (query_of text) p → Phase (Prepare text) (Reply ∷ Keep ∷ Give ∷ []) p
-  Keeping : (text : List ℕ) (p : Place) → HoldsBefore (query_of text) p → is_over p.talk ≡ true → Phase (Prepare text) (Keep ∷ Give ∷ []) p
-  Giving : (text : List ℕ) (p : Place) → Holds p → Phase (Prepare text) (Give ∷ []) p
-  Forgetting : (id : ℕ) (p : Place) → Holds p → Phase (CloseStmt id) (Forget ∷ All ∷ Command ∷ []) p
-  Passing : (id : ℕ) (p : Place) → HoldsBut (λ i. i ≡ id) p → Phase (CloseStmt id) (All ∷ Command ∷ []) p
-  Closing : (id : ℕ) (p : Place) → HoldsBut (λ i. i ≡ id) p → Phase (CloseStmt id) (Command ∷ []) p
-
--- a step leads to the next phase, or the call stops where all is kept, unless what it prepares or closes isn't settled
-abbrev pub IsFine : Call → Step → Type 0
-IsFine call (Goes parts p) = Phase call parts p
-IsFine call (Stops p s) = is_settled call s ≡ true → Holds p
-
-pub answer_leaves_open : (s : Stop) → is_answered s ≡ true → leaves_open s ≡ true
-answer_leaves_open Owes e = absurd (cc)
-answer_leaves_open Awaits e = absurd (cc)
-answer_leaves_open (Returns ToldReady) e = refl
-answer_leaves_open (Returns (ToldRow row)) e = refl
-answer_leaves_open (Returns ToldEnd) e = refl
-answer_leaves_open (Returns ToldNone) e = refl
-answer_leaves_open (Returns (ToldStatement statement)) e = refl
-answer_leaves_open (Returns (ToldError x)) e = absurd (cc)
-answer_leaves_open (Returns (Dropped closing)) e = absurd (cc)
-
--- A call that prepares or closes a statement isn't settled where it closes the session, or is left open.
-preparing_stops : (text : List ℕ) (p : Place) → StopsHave (IsFine (Prepare text)) p
-preparing_stops text p s e h = absurd (cc)
-
-closing_stops : (id : ℕ) (p : Place) → StopsHave (IsFine (CloseStmt id)) p
-closing_stops id p s e h = let open_left = answer_leaves_open s h in absurd (cc)
-
-pub stopped_fine : (c : Call) (parts : List Part) (p : Place) → Phase c parts p → StopsHave (IsFine c) p
-stopped_fine c parts p (Steady d ps q e other w) = λ s _ _. w
-stopped_fine c parts p (Finding text q w) = preparing_stops text q
-stopped_fine c parts p (Clearing text q w e) = preparing_stops text q
-stopped_fine c parts p (Asking text q w e) = preparing_stops text q
-stopped_fine c parts p (Replying text q w) = preparing_stops text q
-stopped_fine c parts p (Keeping text q w e) = preparing_stops text q
-stopped_fine c parts p (Giving text q w) = preparing_stops text q
-stopped_fine c parts p (Forgetting id q w) = closing_stops id q
-stopped_fine c parts p (Passing id q w) = closing_stops id q
-stopped_fine c parts p (Closing id q w) = closing_stops id q
+use Rattle.my_reading.specs.Statements.{Statements, cleared, held_in, is_cached, is_mixed_text, leaving, query_of, with_prepared, without_statement}
+use Rattle.my_handshake.specs.Version.{version_of}
+use Rattle.my_reading.specs.Versions.{can_reset}
+use Rattle.my_reading.specs.Told.{Told}
+use Rattle.statement_laws.specs.Kept.{prepared_in}
+use Rattle.statement_laws.proofs.Having.{Comes, begun_has, command_has, either, reads_have}
+use Rattle.statement_laws.proofs.Holding.{Holds, HoldsBefore, HoldsBut, cleared_holds, closing_holds, fetched_holds, forgotten_holds, grown_before, grown_holds, learned_holds, opened_before, opened_holds, prepared_holds, refused_holds, weaker_holds}
+use Rattle.statement_laws.proofs.Talks.{is_open, over_is_done, whole_talk}
+use Rattle.statement_laws.proofs.Phases.{IsFine, Phase, Steady, Finding, Clearing, Asking, Replying, Keeping, Giving, Forgetting, Passing, Closing, Offering, Readying, Commanding, Awaiting, Emptying, closing_stops, is_plain, prepares, preparing_stops, stopped_fine}
+use Rattle.statement_laws.proofs.Resetting.{awaiting, commanding, offering, readying}
 
 -- what other calls begin prepares nothing
 PreparesNothing : Talk → Type 0
@@ -123,6 +62,7 @@ opening_plain login terms st DropResult n e = tt
 opening_plain login terms st TakeSet n e = tt
 opening_plain login terms st SkipTaken n e = tt
 opening_plain login terms st Ping n e = (refl, refl)
+opening_plain login terms st Reset n e = (refl, refl)
 opening_plain login terms st Quit n e = (refl, refl)
 
 -- a call that prepares nothing, at each of its parts
@@ -136,6 +76,9 @@ module _ (login : Login) (call : Call) (other : prepares call ≡ false) where
   steady_kind (Check params) parts e k new row w = Steady call (Check params ∷ parts) new e other w
   steady_kind (Run params) parts e k new row w = Steady call (Run params ∷ parts) new e other w
   steady_kind Learn parts e k new row w = Steady call (Learn ∷ parts) new e other w
+  steady_kind Offered parts e k new row w = Steady call (Offered ∷ parts) new e other w
+  steady_kind (Text text) parts e k new row w = Steady call (Text text ∷ parts) new e other w
+  steady_kind (Flag flag) parts e k new row w = Steady call (Flag flag ∷ parts) new e other w
   steady_kind Head parts e (kinds.Good status) new row w = Steady call parts (with_end new) e other w
   steady_kind Head parts e _ new row w = Steady call (Head ∷ parts) new e other w
   steady_kind Item parts e (kinds.Good status) new row w = λ _. w
@@ -149,11 +92,12 @@ module _ (login : Login) (call : Call) (other : prepares call ≡ false) where
   steady_kind Keep parts e k new row w = absurd (cc)
   steady_kind Give parts e k new row w = absurd (cc)
   steady_kind Forget parts e k new row w = absurd (cc)
+  steady_kind Clear parts e k new row w = absurd (cc)
 
   steady_reads : (part : Part) (parts : List Part) (p : Place) → is_plain (part ∷ parts) ≡ true → Holds p → IsFine call (reads login part parts p)
   steady_reads part parts p e w = reads_have (IsFine call) p (λ s _ _. w) login part parts
-      (λ k q rest _ _. Steady call (part ∷ parts) (with_talk p (grow k p.talk q) rest) e other (grown_holds (λ i. ⊥) p k q rest w))
-      (λ k q rest row _ _. steady_kind part parts e k (with_talk p (grow k p.talk q) rest) row (grown_holds (λ i. ⊥) p k q rest w))
+      (λ k q rest _. Steady call (part ∷ parts) (with_talk p (grow k p.talk q) rest) e other (grown_holds (λ i. ⊥) p k q rest w))
+      (λ k q rest row _. steady_kind part parts e k (with_talk p (grow k p.talk q) rest) row (grown_holds (λ i. ⊥) p k q rest w))
       (λ q rest e _. grown_holds (λ i. ⊥) p kinds.Failed q rest w)
 
   steady_checked : (parts : List Part) (p : Place) (v : Values) → is_plain parts ≡ true → Holds p → IsFine call (checked parts p v)
@@ -167,6 +111,16 @@ module _ (login : Login) (call : Call) (other : prepares call ≡ false) where
   steady_begun t parts p (Some u) v i e w =
       let same : u ≡ t = cc in
       Steady call parts (with_exchange p call t) e other (opened_holds (λ i. ⊥) p call t (subst (λ x. prepared_in x ≡ None) same v.0) (subst (λ x. is_open x ≡ false) same v.1) w)
+
+  steady_offered : (parts : List Part) (p : Place) (b : Bool) → is_plain parts ≡ true → Holds p → IsFine call (offered parts p b)
+  steady_offered parts p true e w = Steady call parts p e other w
+  steady_offered parts p false e w = λ _. w
+
+  steady_asked : (parts : List Part) (p : Place) (terms : Terms) (text : List ℕ) → is_plain parts ≡ true → Holds p
+      → IsFine call (with_command call parts p (Some (queried terms text)))
+  steady_asked parts p terms text e w =
+      let t = queried terms text in
+      begun_has (IsFine call) p (λ s _ _. w) call parts t (Steady call parts (with_exchange p call t) e other (opened_holds (λ i. ⊥) p call t refl refl w))
 
   steady : (parts : List Part) (p : Place) → is_plain parts ≡ true → Holds p → IsFine call (step_of login call parts p)
   steady [] p e w = λ _. w
@@ -189,6 +143,10 @@ module _ (login : Login) (call : Call) (other : prepares call ≡ false) where
   steady (Keep ∷ parts) p e w = absurd (cc)
   steady (Give ∷ parts) p e w = absurd (cc)
   steady (Forget ∷ parts) p e w = absurd (cc)
+  steady (Offered ∷ parts) p e w = steady_offered parts p (can_reset (version_of (facts_at login p).version)) e w
+  steady (Text text ∷ parts) p e w = steady_asked parts p (terms_of login (exchanges p)) text e w
+  steady (Flag flag ∷ parts) p e w = λ _. w
+  steady (Clear ∷ parts) p e w = absurd (cc)
 
 -- a call that prepares a statement
 module _ (login : Login) (text : List ℕ) where
@@ -208,8 +166,8 @@ module _ (login : Login) (text : List ℕ) where
   clearing : (p : Place) → Holds p → held_in p.statements (query_of text) ≡ None → IsFine asking_call (step_of login asking_call (All ∷ asked) p)
   clearing p w e = either (IsFine asking_call) p.end_left _ _ (Clearing text (without_end p) w e)
       (either (IsFine asking_call) (is_over p.talk) _ _ (Asking text p w e) (reads_have (IsFine asking_call) p (preparing_stops text p) login All asked
-      (λ k q rest _ _. Clearing text (with_talk p (grow k p.talk q) rest) (grown_holds (λ i. ⊥) p k q rest w) e)
-      (λ k q rest row _ _. Clearing text (with_talk p (grow k p.talk q) rest) (grown_holds (λ i. ⊥) p k q rest w) e)
+      (λ k q rest _. Clearing text (with_talk p (grow k p.talk q) rest) (grown_holds (λ i. ⊥) p k q rest w) e)
+      (λ k q rest row _. Clearing text (with_talk p (grow k p.talk q) rest) (grown_holds (λ i. ⊥) p k q rest w) e)
       (λ q rest x _. grown_holds (λ i. ⊥) p kinds.Failed q rest w)))
 
   asking : (p : Place) → Holds p → held_in p.statements (query_of text) ≡ None → IsFine asking_call (step_of login asking_call asked p)
@@ -221,13 +179,12 @@ module _ (login : Login) (text : List ℕ) where
   replying : (p : Place) → HoldsBefore (query_of text) p → IsFine asking_call (step_of login asking_call (Reply ∷ Keep ∷ Give ∷ []) p)
   replying p w = by_over (is_over p.talk) refl
     where
-      again : (k : Kind) (q rest : List ℕ) → is_failed k ≡ false → ComesFresh (λ ok. is_cached p.statements ok.id ≡ false) k q
-          → Phase (Prepare text) (Reply ∷ Keep ∷ Give ∷ []) (with_talk p (grow k p.talk q) rest)
-      again k q rest e fresh = Replying text (with_talk p (grow k p.talk q) rest) (grown_before (query_of text) p k q rest e fresh w)
+      again : (k : Kind) (q rest : List ℕ) → Comes p k q → Phase (Prepare text) (Reply ∷ Keep ∷ Give ∷ []) (with_talk p (grow k p.talk q) rest)
+      again k q rest c = Replying text (with_talk p (grow k p.talk q) rest) (grown_before (query_of text) p k q rest c.good c.fresh w)
 
       by_over : (b : Bool) → is_over p.talk ≡ b → IsFine asking_call (cond b (Goes (Keep ∷ Give ∷ []) p) (reads login Reply (Keep ∷ Give ∷ []) p))
       by_over true e = Keeping text p w e
-      by_over false e = reads_have (IsFine asking_call) p (preparing_stops text p) login Reply (Keep ∷ Give ∷ []) again (λ k q rest row x fresh. again k q rest x fresh)
+      by_over false e = reads_have (IsFine asking_call) p (preparing_stops text p) login Reply (Keep ∷ Give ∷ []) again (λ k q rest row c. again k q rest c)
           (λ q rest x _. refused_holds (query_of text) p q rest w)
 
   closed : (p : Place) (terms : Terms) (o : Option ℕ) → HoldsBut (λ i. o ≡ Some i) p → IsFine asking_call (with_command asking_call (Give ∷ []) p (closing_of terms o))
@@ -248,8 +205,8 @@ module _ (login : Login) (id : ℕ) where
   passing : (p : Place) → HoldsBut (λ i. i ≡ id) p → IsFine (CloseStmt id) (step_of login (CloseStmt id) (All ∷ Command ∷ []) p)
   passing p w = either (IsFine (CloseStmt id)) p.end_left _ _ (Passing id (without_end p) w)
       (either (IsFine (CloseStmt id)) (is_over p.talk) _ _ (Closing id p w) (reads_have (IsFine (CloseStmt id)) p (closing_stops id p) login All (Command ∷ [])
-      (λ k q rest _ _. Passing id (with_talk p (grow k p.talk q) rest) (grown_holds (λ i. i ≡ id) p k q rest w))
-      (λ k q rest row _ _. Passing id (with_talk p (grow k p.talk q) rest) (grown_holds (λ i. i ≡ id) p k q rest w))
+      (λ k q rest _. Passing id (with_talk p (grow k p.talk q) rest) (grown_holds (λ i. i ≡ id) p k q rest w))
+      (λ k q rest row _. Passing id (with_talk p (grow k p.talk q) rest) (grown_holds (λ i. i ≡ id) p k q rest w))
       (λ q rest x h. absurd (cc))))
 
   closing_begun : (p : Place) → HoldsBut (λ i. i ≡ id) p → IsFine (CloseStmt id) (step_of login (CloseStmt id) (Command ∷ []) p)
@@ -269,6 +226,11 @@ part_fine login c parts p (Giving text q w) = λ _. w
 part_fine login c parts p (Forgetting id q w) = Passing id (with_statements (without_statement id q.statements) q) (forgotten_holds q id w)
 part_fine login c parts p (Passing id q w) = passing login id q w
 part_fine login c parts p (Closing id q w) = closing_begun login id q w
+part_fine login c parts p (Offering ps q e w) = offering login ps e q (can_reset (version_of (facts_at login q).version)) w
+part_fine login c parts p (Readying ps q e w) = readying login ps e q w
+part_fine login c parts p (Commanding ps q e w) = commanding login ps e q w
+part_fine login c parts p (Awaiting ps q e w r) = awaiting login ps e q w r
+part_fine login c parts p (Emptying ps q e w r) = Steady Reset ps (with_statements (cleared q.statements) q) e refl (cleared_holds q r w)
 
 pub step_fine : (login : Login) (call : Call) (parts : List Part) (p : Place) → Phase call parts p → IsFine call (step login call parts p)
 unfolding step
@@ -286,6 +248,10 @@ lists_plain : (lists : List Params) → is_plain (parts_of_lists lists) ≡ true
 lists_plain [] = refl
 lists_plain (params ∷ lists) = lists_plain lists
 
+queries_plain : (texts : List (List ℕ)) (parts : List Part) → is_plain parts ≡ true → is_plain (parts_of_queries texts parts) ≡ true
+queries_plain [] parts e = e
+queries_plain (text ∷ texts) parts e = queries_plain texts parts e
+
 pub begins_fine : (login : Login) (call : Call) (p : Place) → Holds p → Phase call (parts_of login call) p
 begins_fine login Connect p w = Steady Connect (parts_of login Connect) p (texts_plain (arranging_texts login)) refl w
 begins_fine login (Query text) p w = Steady (Query text) (parts_of login (Query text)) p refl refl w
@@ -298,4 +264,5 @@ begins_fine login DropResult p w = Steady DropResult (parts_of login DropResult)
 begins_fine login TakeSet p w = Steady TakeSet (parts_of login TakeSet) p refl refl w
 begins_fine login SkipTaken p w = Steady SkipTaken (parts_of login SkipTaken) p refl refl w
 begins_fine login Ping p w = Steady Ping (parts_of login Ping) p refl refl w
+begins_fine login Reset p w = Offering (parts_of_queries (setup_texts login) (Flag true ∷ [])) p (queries_plain (setup_texts login) (Flag true ∷ []) refl) w
 begins_fine login Quit p w = Steady Quit (parts_of login Quit) p refl refl w

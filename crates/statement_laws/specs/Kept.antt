@@ -1,13 +1,18 @@
 -- What became of each statement that a connection's calls prepared.
--- MySQL client/server protocol, "COM_STMT_CLOSE": a statement that isn't closed stays at the server while the connection lasts.
+-- MySQL client/server protocol, "COM_STMT_CLOSE": a statement that isn't closed stays at the server while the connection lasts, unless
+-- "COM_RESET_CONNECTION" resets its session, which frees all statements.
 use Rattle.std.specs.Prelude.{◌≡◌, ◌⊎◌, ℕ, List, [], ◌∷◌, Option, Some, None, IfSome, Bool, true, false, not, ◌||◌}
 use Rattle.std.specs.List.{AllByRecursion}
 use Rattle.std.specs.Option.{option_map}
+use Rattle.my_flags.specs.declared.flags.StatusFlags.{StatusFlags}
+use Rattle.my_command.specs.declared.client.ClientPacket.TheVariants.{ResetConnection}
+use Rattle.my_command.specs.Client.Packet.{client_bytes}
 use Rattle.my_reply.specs.Replies.{prepare_ok_at}
 use Rattle.my_grammar.specs.declared.login.Login.{Login}
+use Rattle.my_grammar.specs.declared.spot.Kind.TheVariants.{Good}
 use Rattle.my_grammar.specs.declared.spot.Terms.{Terms}
 use Rattle.my_grammar.specs.Prepares.{Reply, Complete}
-use Rattle.my_grammar.specs.Talk.{Talk, Preparing}
+use Rattle.my_grammar.specs.Talk.{Talk, Preparing, Replied}
 use Rattle.my_reading.specs.declared.call.Call.{Call}
 use Rattle.my_reading.specs.declared.call.Call.TheVariants.{Prepare, CloseStmt}
 use Rattle.my_reading.specs.declared.call.CallKind.TheVariants as kinds
@@ -29,17 +34,25 @@ abbrev pub prepared_in : Talk → Option ℕ
 prepared_in (Preparing terms command reply) = id_in_reply reply
 prepared_in _ = None
 
--- the statement was closed in one of these exchanges
-abbrev pub IsClosed : ℕ → List Exchange → Type 0
-IsClosed id [] = ⊥
-IsClosed id (e ∷ es) = ((terms : Terms) × (e.talk ≡ closing terms id)) ⊎ IsClosed id es
+-- the exchange closes the statement
+abbrev pub Closes : ℕ → Talk → Type 0
+Closes id t = (terms : Terms) × (t ≡ closing terms id)
 
--- the statement is cached, or was closed in one of these exchanges, or the cache keeps none
+-- the exchange resets the server's session: an OK answers the command, and no ERR
+abbrev pub Resets : Talk → Type 0
+Resets t = (terms : Terms) × (ok : List ℕ) × (status : StatusFlags) × (t ≡ Replied terms (client_bytes ResetConnection) ok (Good status))
+
+-- the server freed the statement in one of these exchanges: it was closed, or the session was reset
+abbrev pub IsFreed : ℕ → List Exchange → Type 0
+IsFreed id [] = ⊥
+IsFreed id (e ∷ es) = (Closes id e.talk ⊎ Resets e.talk) ⊎ IsFreed id es
+
+-- the statement is cached, or was freed in one of these exchanges, or the cache keeps none
 abbrev pub IsKept : Statements → List Exchange → ℕ → Type 0
-IsKept st since id = (is_cached st id ≡ true) ⊎ (IsClosed id since ⊎ (st.cache.capacity ≡ 0))
+IsKept st since id = (is_cached st id ≡ true) ⊎ (IsFreed id since ⊎ (st.cache.capacity ≡ 0))
 
--- Of exchanges, the newest first, each statement that one prepared is cached, or was closed in a newer one, these among them, or the
--- cache keeps none.
+-- Of exchanges, the newest first, each statement that one prepared is cached, or was freed in a newer one, these among them, or the cache
+-- keeps none.
 abbrev pub EachIsKept : Statements → List Exchange → List Exchange → Type 0
 EachIsKept st since [] = Unit {0}
 EachIsKept st since (e ∷ es) = IfSome (prepared_in e.talk) (IsKept st since) × EachIsKept st (e ∷ since) es
@@ -57,7 +70,7 @@ is_answered _ = false
 abbrev pub AllReturned : List ReadCall → Type 0
 AllReturned calls = AllByRecursion (λ c. is_answered c.halt.stop ≡ true) calls
 
--- Where each call so far returned with no error, each statement that a call prepared is cached, or was closed after that, or the cache
+-- Where each call so far returned with no error, each statement that a call prepared is cached, or was freed after that, or the cache
 -- keeps none.
 abbrev pub StatementsAreKept : Type 0
 StatementsAreKept = (login : Login) (t : Tape) → AllReturned (reading login t).calls

@@ -3,9 +3,10 @@
 
 ghost use Rattle.statement_laws.specs.Kept.{OpenAreKept, SettledAreKept, StatementsAreKept};
 ghost use Rattle.statement_laws.specs.Found.{CachedIsReturned, OthersAreAskedFor};
+ghost use Rattle.statement_laws.specs.Batches.{BatchesAreExecutions};
 
-/// Each statement that a call of a connection prepared is cached, or was closed after it was prepared, or the cache
-/// keeps none. It is so where each call so far returned with no error (`returned`); where each that was to prepare a
+/// Each statement that a call of a connection prepared is cached, or was closed after it was prepared, or the server's
+/// session was reset since, or the cache keeps none. It is so where each call so far returned with no error (`returned`); where each that was to prepare a
 /// statement returned it or was refused, and each that was to close one returned (`settled`); and on each connection
 /// that is open, unless a call is, or one that was to close a statement ended with an error (`while_open`).
 pub fn statements_are_kept()
@@ -19,4 +20,10 @@ pub fn statements_are_kept()
 pub fn cached_is_returned_at_once()
     ensures cached { CachedIsReturned }
     ensures others { OthersAreAskedFor }
+{}
+
+/// A batch comes to what its executions come to, one call after the other, each with what is left of it dropped, up to the
+/// first that doesn't return ready: it stops so, at the same place but for the calls that began its exchanges.
+pub fn batches_are_executions()
+    ensures { BatchesAreExecutions }
 {}

@@ -12,7 +12,7 @@ use Rattle.my_reading.specs.declared.error.IoKind.{IoKind}
 use Rattle.my_reading.specs.declared.error.IoKind.TheVariants as kinds
 use Rattle.my_reading.specs.Endings.{IsCut, IsOpen, IsCancelled, IsLinkFailure, IsLinkEnd, cancelling}
 use Rattle.my_reading.specs.Reading.{ReadCall}
-use Rattle.my_reading.specs.Told.{Told, ToldReady, ToldRow, ToldEnd, ToldNone, ToldStatement, ToldError, Dropped}
+use Rattle.my_reading.specs.Told.{Told, ToldReady, ToldRow, ToldEnd, ToldNone, ToldStatement, ToldFlag, ToldError, Dropped}
 use Rattle.wrong_tapes.specs.Wrong.{AreWrong}
 use Rattle.my_frame.specs.Writing.{le_bytes, len_bytes, text_bytes, text0_bytes, short_bytes}
 use Rattle.my_frame.specs.Front.{front_within, front_from}
@@ -61,6 +61,8 @@ mark (Some ToldEnd) = 3
 mark (Some ToldNone) = 4
 mark (Some (Dropped true)) = 5
 mark (Some (Dropped false)) = 6
+mark (Some (ToldFlag true)) = 7
+mark (Some (ToldFlag false)) = 8
 mark (Some (ToldError e)) = error_mark e
 mark (Some (ToldRow row)) = cell row.cells
 mark (Some (ToldStatement statement)) = 21 + statement.inner.num_params
@@ -114,4 +116,10 @@ are_wrong = record {
   batch_with_end = λ w. differs _ _ (λ e. absurd (omega arith)) w.calls.1.1.1.0.ends;
   silent_close = λ w. not_cut _ _ (λ e. absurd (omega arith)) (λ e. absurd (omega arith)) (λ e. absurd (omega arith)) (λ e. absurd (omega arith)) w.calls.1.0.ends;
   closing_text = λ w. differs _ _ (λ e. absurd (omega arith)) w.calls.1.1.0.ends;
+  silent_reset = λ w. not_cut _ _ (λ e. absurd (omega arith)) (λ e. absurd (omega arith)) (λ e. absurd (omega arith)) (λ e. absurd (omega arith)) w.calls.1.0.ends;
+  early_reset = λ w. not_cut _ _ (λ e. absurd (omega arith)) (λ e. absurd (omega arith)) (λ e. absurd (omega arith)) (λ e. absurd (omega arith)) w.calls.1.0.ends;
+  idle_reset = λ w. not_cut _ _ (λ e. absurd (omega arith)) (λ e. absurd (omega arith)) (λ e. absurd (omega arith)) (λ e. absurd (omega arith)) w.calls.1.0.ends;
+  other_order = λ w. false≢true w.calls.1.0.sent;
+  half_reset = λ w. not_cut _ _ (λ e. absurd (omega arith)) (λ e. absurd (omega arith)) (λ e. absurd (omega arith)) (λ e. absurd (omega arith)) w.calls.1.0.ends;
+  kept_over_reset = λ w. not_cut _ _ (λ e. absurd (omega arith)) (λ e. absurd (omega arith)) (λ e. absurd (omega arith)) (λ e. absurd (omega arith)) w.calls.1.1.1.0.ends;
 }

@@ -1,5 +1,5 @@
 -- The bytes of which the tapes are made, and a tape from its calls.
-use Rattle.std.specs.Prelude.{ℕ, zero, suc, pos, ◌+◌, List, [], ◌∷◌, ◌++◌, codes, length, Option, Some, None}
+use Rattle.std.specs.Prelude.{ℕ, zero, suc, pos, ◌+◌, List, [], ◌∷◌, ◌++◌, codes, length, Option, Some, None, Bool}
 use Rattle.my_reply.specs.declared.column.Column.{Column}
 use Rattle.my_value.specs.declared.value.Value.{Value}
 use Rattle.my_value.specs.declared.value.Value.TheVariants.{Bytes, Int}
@@ -9,9 +9,9 @@ use Rattle.my_value.specs.RowParts.{RowParts}
 use Rattle.my_statements.specs.Prepared.{StatementView}
 use Rattle.my_grammar.specs.declared.login.Login.{Login}
 use Rattle.my_reading.specs.declared.call.Call.{Call}
-use Rattle.my_reading.specs.declared.call.Call.TheVariants.{Connect, Query, Prepare}
+use Rattle.my_reading.specs.declared.call.Call.TheVariants.{Connect, Query, Prepare, Reset}
 use Rattle.my_reading.specs.Tape.{Tape, TapeCall, Span}
-use Rattle.my_reading.specs.Told.{Told, ToldReady, ToldStatement}
+use Rattle.my_reading.specs.Told.{Told, ToldReady, ToldStatement, ToldFlag}
 
 -- a packet of a short payload
 abbrev pub packet : ℕ → List ℕ → List ℕ
@@ -20,10 +20,13 @@ packet n payload = length payload ∷ 0 ∷ 0 ∷ n ∷ payload
 abbrev pub plugin : List ℕ
 plugin = codes "mysql_native_password" ++ 0 ∷ []
 
--- version 8.0.36, connection 7
-abbrev pub greeting : List ℕ
-greeting = packet 0 (10 ∷ codes "8.0.36" ++ 0 ∷ 7 ∷ 0 ∷ 0 ∷ 0 ∷ codes "abcdefgh" ++ 0 ∷ 139 ∷ 162 ∷ 45 ∷ 2 ∷ 0 ∷ 31 ∷ 1 ∷ 21
+-- a server of this version, connection 7
+abbrev pub greeting_of : List ℕ → List ℕ
+greeting_of version = packet 0 (10 ∷ version ++ 0 ∷ 7 ∷ 0 ∷ 0 ∷ 0 ∷ codes "abcdefgh" ++ 0 ∷ 139 ∷ 162 ∷ 45 ∷ 2 ∷ 0 ∷ 31 ∷ 1 ∷ 21
     ∷ 0 ∷ 0 ∷ 0 ∷ 0 ∷ 0 ∷ 0 ∷ 0 ∷ 0 ∷ 0 ∷ 0 ∷ codes "ijklmnopqrst" ++ 0 ∷ plugin)
+
+abbrev pub greeting : List ℕ
+greeting = greeting_of (codes "8.0.36")
 
 -- an OK with number n and this status
 abbrev pub fine : ℕ → ℕ → List ℕ
@@ -61,9 +64,9 @@ row text = row_with (Bytes text)
 abbrev pub binary_one : ℕ → List ℕ
 binary_one n = packet n (0 ∷ 0 ∷ 1 ∷ 0 ∷ 0 ∷ 0 ∷ 0 ∷ 0 ∷ 0 ∷ 0 ∷ [])
 
--- who logs in, and how many statements are cached at most
-abbrev pub login_with : Option (List ℕ) → Option ℕ → Option ℕ → ℕ → Login
-login_with password limit wait statements = record {
+-- who logs in, how many statements are cached at most, and the queries that set a connection up and follow each reset
+abbrev pub login_with : Option (List ℕ) → Option ℕ → Option ℕ → ℕ → List (List ℕ) → Login
+login_with password limit wait statements setup = record {
   user = Some (codes "root");
   password = password;
   database = None;
@@ -73,20 +76,24 @@ login_with password limit wait statements = record {
   packet_limit = limit;
   wait_timeout = wait;
   init = [];
-  setup = [];
+  setup = setup;
   statements = statements;
 }
 
 -- with both settings, with neither, and with a password
 abbrev pub login_by : Option (List ℕ) → Option ℕ → Option ℕ → Login
-login_by password limit wait = login_with password limit wait 32
+login_by password limit wait = login_with password limit wait 32 []
 
 abbrev pub root : Login
 root = login_by None (Some 4194304) (Some 28800)
 
 -- with a cache of one statement
 abbrev pub frugal : Login
-frugal = login_with None (Some 4194304) (Some 28800) 1
+frugal = login_with None (Some 4194304) (Some 28800) 1 []
+
+-- with two queries that set its connection up
+abbrev pub orderly : Login
+orderly = login_with None (Some 4194304) (Some 28800) 32 (codes "DO 1" ∷ codes "DO 2" ∷ [])
 
 -- the response to the greeting, with these bytes of the password
 abbrev pub response : List ℕ → List ℕ
@@ -96,6 +103,14 @@ response scramble = packet 1 (129 ∷ 162 ∷ 15 ∷ 1 ∷ 0 ∷ 0 ∷ 64 ∷ 0 
 -- the packet of a query
 abbrev pub asks : List ℕ → List ℕ
 asks text = packet 0 (3 ∷ text)
+
+-- both queries that set a connection up, the last one first
+abbrev pub set_up_queries : List ℕ
+set_up_queries = asks (codes "DO 2") ++ asks (codes "DO 1")
+
+-- the packet that resets a session
+abbrev pub resets : List ℕ
+resets = packet 0 (31 ∷ [])
 
 -- the packet that prepares a statement, that executes statement 1 with the value 1, and that closes a statement
 abbrev pub prepares : List ℕ → List ℕ
@@ -132,6 +147,14 @@ returned call sent taken t = call_with call sent taken (Some t)
 
 abbrev pub connected : Span
 connected = returned Connect (response []) (greeting ++ fine 2 2) ToldReady
+
+-- with the queries that set it up
+abbrev pub arranged : Span
+arranged = returned Connect (response [] ++ set_up_queries) (greeting ++ fine 2 2 ++ fine 1 2 ++ fine 1 2) ToldReady
+
+-- a reset, for which this is sent and received, and that the server had the command or hadn't
+abbrev pub reset : List ℕ → List ℕ → Bool → Span
+reset sent taken flag = returned Reset sent taken (ToldFlag flag)
 
 abbrev pub asked : List ℕ → List ℕ → Span
 asked text taken = returned (Query text) (asks text) taken ToldReady

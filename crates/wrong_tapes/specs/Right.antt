@@ -4,7 +4,7 @@ use Rattle.std.specs.Str.Lossy.{utf8_lossy}
 use Rattle.my_value.specs.declared.value.Value.TheVariants.{Int}
 use Rattle.my_params.specs.declared.params.Params.TheVariants.{Empty, Positional}
 use Rattle.my_grammar.specs.declared.login.Login.{Login}
-use Rattle.my_reading.specs.declared.call.Call.TheVariants.{Connect, Query, Prepare, Execute, Batch, CloseStmt, NextRow, DropResult, TakeSet, SkipTaken, Ping, Quit}
+use Rattle.my_reading.specs.declared.call.Call.TheVariants.{Connect, Query, Prepare, Execute, Batch, CloseStmt, NextRow, DropResult, TakeSet, SkipTaken, Ping, Reset, Quit}
 use Rattle.my_reading.specs.declared.error.DriverError.TheVariants.{StmtParamsMismatch}
 use Rattle.my_reading.specs.declared.error.Error.TheVariants.{Driver, Server}
 use Rattle.my_reading.specs.declared.error.ServerError.{ServerError}
@@ -13,7 +13,7 @@ use Rattle.my_reading.specs.Errors.{connection_closed, mixed_params}
 use Rattle.my_reading.specs.Place.{facts_at}
 use Rattle.my_reading.specs.Reading.{reading}
 use Rattle.my_reading.specs.Told.{ToldReady, ToldRow, ToldEnd, ToldNone, ToldStatement, ToldError, Dropped}
-use Rattle.wrong_tapes.specs.Bytes.{root, frugal, login_by, connected, selected, prepared, prepared_plain, asking, ones, asked, asks, executes, closes, returned, call_with, row, row_with, one, binary_one, end, head, fine, refusal, column, packet, response, greeting, tape_of}
+use Rattle.wrong_tapes.specs.Bytes.{root, frugal, orderly, login_by, connected, arranged, selected, prepared, prepared_plain, reset, asking, ones, asked, asks, executes, closes, resets, set_up_queries, returned, call_with, row, row_with, one, binary_one, end, head, fine, refusal, column, packet, response, greeting, greeting_of, tape_of}
 
 -- what the server's ERR says
 abbrev pub error : ServerError
@@ -69,3 +69,13 @@ pub record AreRight : Type 0 where
   -- a text with named parameters and marks is refused, which leaves the connection open; values that don't fit a statement close it
   pub refused : IsTape root (tape_of (connected ∷ returned (Prepare (codes "?:a")) [] [] (ToldError mixed_params) ∷ prepared 1
       ∷ returned (Execute (asking 1) Empty) [] [] (ToldError (Driver (StmtParamsMismatch 1 0))) ∷ returned NextRow [] [] (ToldError connection_closed) ∷ []))
+  -- a reset, after which the queries that set the connection up are sent from the last to the first
+  pub reset_whole : IsTape orderly (tape_of (arranged ∷ reset (resets ++ set_up_queries) (fine 1 2 ++ fine 1 2 ++ fine 1 2) true ∷ []))
+  -- a server of version 5.7.2 is sent nothing, and a query's row is there still
+  pub not_reset : IsTape root (tape_of (returned Connect (response []) (greeting_of (codes "5.7.2") ++ fine 2 2) ToldReady ∷ selected ∷ reset [] [] false
+      ∷ returned NextRow [] (one 3) (ToldRow (row (codes "1"))) ∷ []))
+  -- after a reset the statement that was cached is prepared anew
+  pub prepared_anew : IsTape root (tape_of (connected ∷ prepared 1 ∷ reset resets (fine 1 2) true ∷ prepared 1 ∷ []))
+  -- where the server refuses it, the connection stays open, and the statement cached
+  pub reset_refused : IsTape root (tape_of (connected ∷ prepared 1 ∷ returned Reset resets (refusal 1) (ToldError (Server error))
+      ∷ returned (Prepare (codes "SELECT ?")) [] [] (ToldStatement (asking 1)) ∷ []))

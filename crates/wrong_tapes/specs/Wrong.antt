@@ -1,5 +1,5 @@
 -- Tapes that no client has.
-use Rattle.std.specs.Prelude.{pos, List, [], ◌∷◌, ◌++◌, codes, None, false}
+use Rattle.std.specs.Prelude.{pos, List, [], ◌∷◌, ◌++◌, codes, None, false, true}
 use Rattle.my_value.specs.declared.value.Value.TheVariants.{Int}
 use Rattle.my_params.specs.declared.params.Params.TheVariants.{Empty, Positional}
 use Rattle.my_reading.specs.declared.call.Call.TheVariants.{Connect, Query, Prepare, Execute, Batch, CloseStmt, NextRow, DropResult, TakeSet, SkipTaken, Ping, Quit}
@@ -7,9 +7,9 @@ use Rattle.my_reading.specs.declared.error.Error.TheVariants.{Server}
 use Rattle.my_reading.specs.declared.error.IoKind.TheVariants.{Link}
 use Rattle.my_reading.specs.Endings.{IsTape}
 use Rattle.my_reading.specs.Errors.{connection_closed, mixed_params, io_error, unexpected_eof, invalid_data}
-use Rattle.my_reading.specs.Told.{ToldReady, ToldRow, ToldEnd, ToldNone, ToldError, Dropped}
+use Rattle.my_reading.specs.Told.{ToldReady, ToldRow, ToldEnd, ToldNone, ToldStatement, ToldError, Dropped}
 use Rattle.my_reading.specs.Tape.{Span}
-use Rattle.wrong_tapes.specs.Bytes.{root, frugal, connected, selected, prepared, prepared_plain, asking, ones, executes, closes, asked, asks, returned, call_with, row, one, end, fine, refusal, head, packet, response, greeting, tape_of}
+use Rattle.wrong_tapes.specs.Bytes.{root, frugal, orderly, connected, arranged, selected, prepared, prepared_plain, reset, asking, ones, executes, closes, resets, asked, asks, returned, call_with, row, one, end, fine, refusal, head, packet, response, greeting, tape_of}
 use Rattle.wrong_tapes.specs.Right.{curious, error}
 
 -- the calls are on no tape of a client that logs in as root
@@ -87,3 +87,13 @@ pub record AreWrong : Type 0 where
   pub silent_close : NoTape (connected ∷ returned (CloseStmt 1) [] [] ToldReady ∷ [])
   -- a text with named parameters and marks closes the connection
   pub closing_text : NoTape (connected ∷ returned (Prepare (codes "?:a")) [] [] (ToldError mixed_params) ∷ returned NextRow [] [] (ToldError connection_closed) ∷ [])
+  -- a session is said to be reset, though nothing was sent, or before the server's OK
+  pub silent_reset : NoTape (connected ∷ reset [] [] true ∷ [])
+  pub early_reset : NoTape (connected ∷ reset resets [] true ∷ [])
+  -- nothing is sent to a server that has the command
+  pub idle_reset : NoTape (connected ∷ reset [] [] false ∷ [])
+  -- the queries that follow are sent in the other order; one of them isn't sent
+  pub other_order : IsTape orderly (tape_of (arranged ∷ reset (resets ++ asks (codes "DO 1") ++ asks (codes "DO 2")) (fine 1 2 ++ fine 1 2 ++ fine 1 2) true ∷ [])) → ⊥
+  pub half_reset : IsTape orderly (tape_of (arranged ∷ reset (resets ++ asks (codes "DO 2")) (fine 1 2 ++ fine 1 2) true ∷ [])) → ⊥
+  -- a statement is found in the cache after a reset
+  pub kept_over_reset : NoTape (connected ∷ prepared 1 ∷ reset resets (fine 1 2) true ∷ returned (Prepare (codes "SELECT ?")) [] [] (ToldStatement (asking 1)) ∷ [])

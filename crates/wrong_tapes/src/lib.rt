@@ -7,7 +7,8 @@ ghost use Rattle.wrong_tapes.specs.Wrong.{AreWrong};
 /// Each of these tapes is one that a client may have: a query with a row, a lone OK, an earlier error that a query
 /// returns, a drop that is cancelled, sets that streams take, settings that the server is asked for, a login with a password;
 /// a statement that is prepared, executed, found in the cache and closed, one that has to go for another, and what is refused;
-/// batches of two lists of parameters, of none, and of one that doesn't fit.
+/// batches of two lists of parameters, of none, and of one that doesn't fit; a reset with the queries that follow it, one that
+/// an older server isn't asked for, one that the server refuses, and a statement that is prepared anew after one.
 pub fn right_tapes_are_accepted()
     ensures { AreRight }
 {}
@@ -15,7 +16,8 @@ pub fn right_tapes_are_accepted()
 /// None of these tapes is one: a row, an end or an error that the bytes don't hold, an answer that comes too early, a
 /// command that wasn't sent or is another call's, a set that is taken where none is or passed over in part, bytes on a closed
 /// connection; a statement that is prepared twice, returned as another or not closed, a row of an execution that is read as
-/// text, values that don't fit and are sent, a batch that is cut short or not read whole.
+/// text, values that don't fit and are sent, a batch that is cut short or not read whole; a reset that wasn't sent or answered,
+/// that is left out, or whose queries are sent in the other order or in part, and a statement that is found after one.
 pub fn wrong_tapes_are_refuted()
     ensures { AreWrong }
 {}

@@ -1,0 +1,160 @@
+-- A batch, beside its executions, one after the other.
+use Rattle.std.proofs.Common.{◌≡◌, ℕ, zero, suc, ◌<◌, ◌≤◌, length, drop, false, List, [], ◌∷◌, ◌++◌, refl, sym, ap, subst, ◌∙◌, arith}
+use Rattle.my_params.specs.declared.params.Params.{Params}
+use Rattle.my_statements.specs.Prepared.{StatementView}
+use Rattle.my_grammar.specs.declared.login.Login.{Login}
+use Rattle.my_grammar.specs.Talk.{client_bytes, turns}
+use Rattle.my_reading.specs.declared.call.Call.{Call}
+use Rattle.my_reading.specs.declared.call.Call.TheVariants.{Execute, Batch, DropResult}
+use Rattle.my_reading.specs.Course.{Part, All, Head, Check, Run, Learn, Step, Goes, Stops, Stop, Owes, Awaits, Returns, Halt, halt, step, step_of, unless_owed, parts_of, parts_of_lists, course}
+use Rattle.my_reading.specs.Leads.{Leads, Here, Then}
+use Rattle.my_reading.specs.Place.{Place, owed}
+use Rattle.my_reading.specs.Told.{ToldReady, ToldRow, ToldEnd, ToldNone, ToldStatement, ToldFlag, ToldError, Dropped}
+use Rattle.my_reading.proofs.Leading.{leads_to_course}
+use Rattle.statement_laws.specs.Batches.{Alike, AlikePlaces, BatchesAreExecutions, all_done, executions, then_go}
+use Rattle.statement_laws.proofs.Beside.{Beside, BothAll, BothHead, BothLearn, BothCheck, Sent, Pairs, End, More, is_placed, is_ready, side_same, size, steps_beside}
+
+-- where these parts of a call lead, and how it stops there
+record Comes (login : Login) (call : Call) (parts : List Part) (p : Place) (h : Halt) : Type 0 where
+  rest : List Part
+  at : Place
+  leads : Leads login call parts p rest at
+  stops : step login call rest at ≡ Stops h.place h.stop
+
+comes_after : (login : Login) (call : Call) (parts more : List Part) (p q : Place) (h : Halt) → step login call parts p ≡ Goes more q → Comes login call more q h → Comes login call parts p h
+comes_after login call parts more p q h e x = record { rest = x.rest; at = x.at; leads = Then parts p more q x.rest x.at e x.leads; stops = x.stops }
+
+leads_on : (login : Login) (call : Call) (parts more rest : List Part) (p q r : Place) → Leads login call parts p more q → Leads login call more q rest r → Leads login call parts p rest r
+leads_on login call parts more rest p q r (Here a b) m = m
+leads_on login call parts more rest p q r (Then a b next x e f one l) m = Then a b next x rest r one (leads_on login call next more rest x q r l m)
+
+comes_on : (login : Login) (call : Call) (parts more : List Part) (p q : Place) (h : Halt) → Leads login call parts p more q → Comes login call more q h → Comes login call parts p h
+comes_on login call parts more p q h l x = record { rest = x.rest; at = x.at; leads = leads_on login call parts more x.rest p q x.at l x.leads; stops = x.stops }
+
+-- both stop, or the first call has no part left and the second one its further parts
+data Outcome (login : Login) (c d : Call) (tail xs ys : List Part) (p q : Place) : Type 0 where
+  Both : (h k : Halt) → Comes login c xs p h → Comes login d ys q k → Alike k h → is_ready h.stop ≡ false → Outcome login c d tail xs ys p q
+  Ends : (r s : Place) → Leads login c xs p [] r → Leads login d ys q tail s → AlikePlaces s r → Outcome login c d tail xs ys p q
+
+module _ (login : Login) (c d : Call) (tail : List Part) where
+  earlier : (xs xs' ys ys' : List Part) (p p' q q' : Place) → step login c xs p ≡ Goes xs' p' → step login d ys q ≡ Goes ys' q' → Outcome login c d tail xs' ys' p' q' → Outcome login c d tail xs ys p q
+  earlier xs xs' ys ys' p p' q q' e f (Both h k x y a r) = Both h k (comes_after login c xs xs' p p' h e x) (comes_after login d ys ys' q q' k f y) a r
+  earlier xs xs' ys ys' p p' q q' e f (Ends r s l m w) = Ends r s (Then xs p xs' p' [] r e l) (Then ys q ys' q' tail s f m) w
+
+  outcome : (n : ℕ) (xs ys : List Part) (p q : Place) → size xs p ≤ n → Pairs c d tail xs ys → AlikePlaces q p → Outcome login c d tail xs ys p q
+  outcome n xs ys p q h End w = Ends p q (Here [] p) (Here tail q) w
+  outcome zero xs ys p q h (More x y us vs pair pairs) w = absurd (omega (arith, h))
+  outcome (suc n) xs ys p q h (More x y us vs pair pairs) w =
+      by_steps (λ us' vs' p' q' less b v. outcome n us' vs' p' q' less b v) (step login c (x ∷ us) p) (step login d (y ∷ vs) q) refl refl (steps_beside login c d tail p q x y us vs pair pairs w)
+    where
+      by_steps : ((us' vs' : List Part) (p' q' : Place) → size us' p' ≤ n → Pairs c d tail us' vs' → AlikePlaces q' p' → Outcome login c d tail us' vs' p' q') → (s t : Step) → step login c (x ∷ us) p ≡ s → step login d (y ∷ vs) q ≡ t → Beside c d tail (size (x ∷ us) p) s t → Outcome login c d tail (x ∷ us) (y ∷ vs) p q
+      by_steps go (Goes us' p') (Goes vs' q') e f b =
+          let less : size us' p' < size (x ∷ us) p = b.2 in
+          earlier (x ∷ us) us' (y ∷ vs) vs' p p' q q' e f (go us' vs' p' q' (omega (arith, less, h)) b.0 b.1)
+      by_steps go (Goes us' p') (Stops q' t) e f b = absurd b
+      by_steps go (Stops p' s) (Goes vs' q') e f b = absurd b
+      by_steps go (Stops p' s) (Stops q' t) e f b = Both (halt p' s) (halt q' t)
+          (record { rest = x ∷ us; at = p; leads = Here (x ∷ us) p; stops = e }) (record { rest = y ∷ vs; at = q; leads = Here (y ∷ vs) q; stops = f })
+          (record { place = b.0; stop = b.1 }) b.2
+
+  calls_outcome : (xs ys : List Part) (p q : Place) → Pairs c d tail xs ys → AlikePlaces q p → Outcome login c d tail xs ys p q
+  calls_outcome xs ys p q pairs w = outcome (size xs p) xs ys p q (omega arith) pairs w
+
+-- a call that isn't ready is the last one
+last : (p : Place) (s : Stop) (go : Place → Halt) → is_ready s ≡ false → then_go p s go ≡ halt p s
+last p Owes go e = refl
+last p Awaits go e = refl
+last p (Returns ToldReady) go e = absurd (cc)
+last p (Returns (ToldRow row)) go e = refl
+last p (Returns ToldEnd) go e = refl
+last p (Returns ToldNone) go e = refl
+last p (Returns (ToldStatement statement)) go e = refl
+last p (Returns (ToldFlag flag)) go e = refl
+last p (Returns (ToldError x)) go e = refl
+last p (Returns (Dropped closing)) go e = refl
+
+owed_alike : (q p : Place) → AlikePlaces q p → owed q ≡ owed p
+owed_alike q p w = ap owed (sym (is_placed q p w)) ∙ ap (λ bytes. drop (length p.sent) (bytes ++ client_bytes (turns p.talk))) (side_same q.older p.older w.older)
+
+-- a step where bytes are owed, and one without a part where none are
+owing_step : (login : Login) (call : Call) (parts : List Part) (p : Place) (b : ℕ) (bytes : List ℕ) → owed p ≡ b ∷ bytes → step login call parts p ≡ Stops p Owes
+unfolding step
+owing_step login call parts p b bytes e = ap (λ x. unless_owed x p (step_of login call parts p)) e
+
+ready_step : (login : Login) (call : Call) (p : Place) → owed p ≡ [] → step login call [] p ≡ Stops p (Returns ToldReady)
+unfolding step
+ready_step login call p e = ap (λ x. unless_owed x p (step_of login call [] p)) e
+
+module _ (login : Login) (statement : StatementView) (all : List Params) where
+  abbrev batch : Call
+  batch = Batch statement all
+
+  -- from these parts of the batch it comes to the like of this
+  record Reaches (parts : List Part) (q : Place) (h : Halt) : Type 0 where
+    halts : Halt
+    comes : Comes login batch parts q halts
+    alike : Alike halts h
+
+  -- A call with this halt is followed by more: the batch is beside it, with further parts.
+  after_call : (c : Call) (tail ys : List Part) (p q : Place) (go : Place → Halt) → Outcome login c batch tail (parts_of login c) ys p q
+      → ((r s : Place) → AlikePlaces s r → Reaches tail s (go r)) → ((s : Place) (b : ℕ) (bytes : List ℕ) → owed s ≡ b ∷ bytes → step login batch tail s ≡ Stops s Owes)
+      → Reaches ys q (then_go (course login c p).place (course login c p).stop go)
+  after_call c tail ys p q go (Both h k x y a r) more owes =
+      let is : course login c p ≡ h = leads_to_course login c p x.rest x.at h.place h.stop x.leads x.stops in
+      subst (λ (g : Halt). Reaches ys q (then_go g.place g.stop go)) (sym is)
+      (subst (Reaches ys q) (sym (last h.place h.stop go r)) (record { halts = k; comes = y; alike = a }))
+  after_call c tail ys p q go (Ends r s l m w) more owes = by_owed (owed r) refl
+    where
+      reached : Reaches tail s (go r) → Reaches ys q (go r)
+      reached x = record { halts = x.halts; comes = comes_on login batch ys tail q s x.halts m x.comes; alike = x.alike }
+
+      by_owed : (bytes : List ℕ) → owed r ≡ bytes → Reaches ys q (then_go (course login c p).place (course login c p).stop go)
+      by_owed [] e =
+          let is : course login c p ≡ halt r (Returns ToldReady) = leads_to_course login c p [] r r (Returns ToldReady) l (ready_step login c r e) in
+          subst (λ (g : Halt). Reaches ys q (then_go g.place g.stop go)) (sym is) (reached (more r s w))
+      by_owed (b ∷ bytes) e =
+          let is : course login c p ≡ halt r Owes = leads_to_course login c p [] r r Owes l (owing_step login c [] r b bytes e) in
+          subst (λ (g : Halt). Reaches ys q (then_go g.place g.stop go)) (sym is) (record {
+            halts = halt s Owes;
+            comes = record { rest = tail; at = s; leads = m; stops = owes s b bytes (owed_alike s r w ∙ e) };
+            alike = record { place = w; stop = refl };
+          })
+
+  none_left : (p q : Place) → AlikePlaces q p → Reaches [] q (all_done p (owed p))
+  none_left p q w = by_owed (owed p) refl
+    where
+      by_owed : (bytes : List ℕ) → owed p ≡ bytes → Reaches [] q (all_done p bytes)
+      by_owed [] e = record {
+        halts = halt q (Returns ToldReady);
+        comes = record { rest = []; at = q; leads = Here [] q; stops = ready_step login batch q (owed_alike q p w ∙ e) };
+        alike = record { place = w; stop = refl };
+      }
+      by_owed (b ∷ bytes) e = record {
+        halts = halt q Owes;
+        comes = record { rest = []; at = q; leads = Here [] q; stops = owing_step login batch [] q b bytes (owed_alike q p w ∙ e) };
+        alike = record { place = w; stop = refl };
+      }
+
+  -- the parts of one execution
+  executing : (params : Params) (tail : List Part) → Pairs (Execute statement params) batch (All ∷ tail) (parts_of login (Execute statement params)) (Check params ∷ All ∷ Run params ∷ Head ∷ Learn ∷ All ∷ tail)
+  executing params tail =
+      More _ _ _ _ (BothCheck params refl) (More _ _ _ _ BothAll (More _ _ _ _ (Sent params (λ login p. refl)) (More _ _ _ _ BothHead (More _ _ _ _ (BothLearn refl) End))))
+
+  lists_reach : (lists : List Params) (p q : Place) → AlikePlaces q p → Reaches (parts_of_lists lists) q (executions login statement lists p)
+  lists_reach [] p q w = none_left p q w
+  lists_reach (params ∷ lists) p q w =
+      after_call (Execute statement params) (All ∷ parts_of_lists lists) (parts_of_lists (params ∷ lists)) p q _
+      (calls_outcome login (Execute statement params) batch (All ∷ parts_of_lists lists) (parts_of login (Execute statement params)) (parts_of_lists (params ∷ lists)) p q (executing params (parts_of_lists lists)) w)
+      (λ r s v. after_call DropResult (parts_of_lists lists) (All ∷ parts_of_lists lists) r s _
+      (calls_outcome login DropResult batch (parts_of_lists lists) (All ∷ []) (All ∷ parts_of_lists lists) r s (More All All [] (parts_of_lists lists) BothAll End) v)
+      (λ t u x. lists_reach lists t u x) (λ t b bytes e. owing_step login batch (parts_of_lists lists) t b bytes e))
+      (λ t b bytes e. owing_step login batch (All ∷ parts_of_lists lists) t b bytes e)
+
+same_place : (p : Place) → AlikePlaces p p
+same_place p = record { talk = refl; older = refl; end_left = refl; taken = refl; statements = refl; unread = refl; sent = refl }
+
+pub batches_are_executions : BatchesAreExecutions
+batches_are_executions login statement lists p =
+    let reached = lists_reach login statement lists lists p p (same_place p) in
+    let comes = reached.comes in
+    subst (λ (h : Halt). Alike h (executions login statement lists p)) (sym (leads_to_course login (Batch statement lists) p comes.rest comes.at reached.halts.place reached.halts.stop comes.leads comes.stops)) reached.alike

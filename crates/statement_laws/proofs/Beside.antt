@@ -1,0 +1,264 @@
+-- Steps of two calls, one beside the other, at places that differ in the calls that began exchanges.
+use Rattle.std.proofs.Common.{◌≡◌, ℕ, suc, ◌+◌, ◌*◌, ◌<◌, length, nat_lt, drop, map, Bool, true, false, cond, Option, Some, None, List, [], ◌∷◌, ◌++◌, refl, sym, ap, subst, ◌∙◌, arith}
+use Rattle.my_frame.specs.Front.{Front, Waiting, Broken, Whole}
+use Rattle.my_reply.specs.declared.err.ErrPacket.{ErrPacket}
+use Rattle.my_reply.specs.ErrPacket.{err_at}
+use Rattle.my_reply.specs.declared.replies.PrepareOk.{PrepareOk}
+use Rattle.my_reply.specs.Replies.{prepare_ok_at}
+use Rattle.my_params.specs.declared.params.Params.{Params}
+use Rattle.my_grammar.specs.declared.login.Login.{Login}
+use Rattle.my_grammar.specs.declared.spot.Kind.{Kind}
+use Rattle.my_grammar.specs.declared.spot.Kind.TheVariants as kinds
+use Rattle.my_grammar.specs.declared.spot.Terms.{Terms}
+use Rattle.my_grammar.specs.Cut.{front_of, is_over, kind_of}
+use Rattle.my_grammar.specs.Growth.{grow}
+use Rattle.my_grammar.specs.Response.{response}
+use Rattle.my_grammar.specs.Talk.{Talk, client_bytes, commands_in, context_of, limit_of, number_of, packets_of, turns}
+use Rattle.my_grammar.proofs.Cutting.Fronts.{takes_whole}
+use Rattle.my_reading.specs.declared.call.Call.{Call}
+use Rattle.my_reading.specs.declared.facts.Facts.{Facts}
+use Rattle.my_reading.specs.Calls.{id_in, statement_in}
+use Rattle.my_reading.specs.Commands.{execution}
+use Rattle.my_reading.specs.Course.{Part, All, Head, Command, Check, Run, Learn, Step, Goes, Stops, Stop, Returns, step, step_of, unless_owed, unless_long, reads, with_front, after_payload, after_kind, after_err, unfit, unless_cached, with_command, first_above, checked, executed, learned, is_greeting, is_rows}
+use Rattle.my_reading.specs.Errors.{invalid_data}
+use Rattle.my_reading.specs.Executions.{Values, Fitting, Unfitting, values_for}
+use Rattle.my_reading.specs.Facts.{facts_by}
+use Rattle.my_reading.specs.Place.{Exchange, Place, client_side, exchanges, facts_at, facts_of, next_exchange, owed, terms_of, with_exchange, with_statements, with_talk, without_end}
+use Rattle.my_reading.specs.Statements.{Statements, is_cached, with_columns}
+use Rattle.my_reading.specs.Told.{Told, ToldReady, ToldError}
+use Rattle.statement_laws.specs.Batches.{AlikePlaces}
+
+-- a step that goes on leaves less of this
+abbrev pub weight : Bool → ℕ
+weight false = 0
+weight true = 1
+
+abbrev pub size : List Part → Place → ℕ
+size parts p = suc (length p.unread + 2 * length parts + weight p.end_left)
+
+-- Parts of two calls that do the same: a batch executes its statement with parameters of its own.
+pub data Pair (c d : Call) : Part → Part → Type 0 where
+  BothAll : Pair c d All All
+  BothHead : Pair c d Head Head
+  BothLearn : id_in c ≡ id_in d → Pair c d Learn Learn
+  BothCheck : (params : Params) → statement_in c ≡ statement_in d → Pair c d (Check params) (Check params)
+  BothRun : (params : Params) → statement_in c ≡ statement_in d → id_in c ≡ id_in d → Pair c d (Run params) (Run params)
+  Sent : (params : Params) → ((login : Login) (p : Place) → next_exchange login c p ≡ executed login d p params) → Pair c d Command (Run params)
+
+-- after the parts of the first call these are left of the second one
+pub data Pairs (c d : Call) (tail : List Part) : List Part → List Part → Type 0 where
+  End : Pairs c d tail [] tail
+  More : (x y : Part) (xs ys : List Part) → Pair c d x y → Pairs c d tail xs ys → Pairs c d tail (x ∷ xs) (y ∷ ys)
+
+abbrev pub is_ready : Stop → Bool
+is_ready (Returns ToldReady) = true
+is_ready s = false
+
+-- a step of each, where both go on with less or stop alike, but for the first call's end
+module _ (c d : Call) (tail : List Part) where
+  abbrev pub Beside : ℕ → Step → Step → Type 0
+  Beside n (Goes xs p) (Goes ys q) = Pairs c d tail xs ys × AlikePlaces q p × (size xs p < n)
+  Beside n (Goes xs p) (Stops q t) = ⊥
+  Beside n (Stops p s) (Goes ys q) = ⊥
+  Beside n (Stops p s) (Stops q t) = AlikePlaces q p × (t ≡ s) × (is_ready s ≡ false)
+
+  either : (n : ℕ) (b : Bool) (s t u v : Step) → (b ≡ true → Beside n s u) → (b ≡ false → Beside n t v) → Beside n (cond b s t) (cond b u v)
+  either n true s t u v f g = f refl
+  either n false s t u v f g = g refl
+
+-- what exchanges say, whichever calls began them
+facts_same : (login : Login) (a b : List Exchange) → map (λ (e : Exchange). e.talk) a ≡ map (λ (e : Exchange). e.talk) b → facts_of login a ≡ facts_of login b
+facts_same login [] [] e = refl
+facts_same login [] (y ∷ b) e = absurd (cc)
+facts_same login (x ∷ a) [] e = absurd (cc)
+facts_same login (x ∷ a) (y ∷ b) e =
+    let first : x.talk ≡ y.talk = cc in
+    let more : map (λ (e : Exchange). e.talk) a ≡ map (λ (e : Exchange). e.talk) b = cc in
+    ap (λ t. facts_by (packets_of t) (facts_of login a)) first ∙ ap (facts_by (packets_of y.talk)) (facts_same login a b more)
+
+pub side_same : (a b : List Exchange) → map (λ (e : Exchange). e.talk) a ≡ map (λ (e : Exchange). e.talk) b → client_side a ≡ client_side b
+side_same [] [] e = refl
+side_same [] (y ∷ b) e = absurd (cc)
+side_same (x ∷ a) [] e = absurd (cc)
+side_same (x ∷ a) (y ∷ b) e =
+    let first : x.talk ≡ y.talk = cc in
+    let more : map (λ (e : Exchange). e.talk) a ≡ map (λ (e : Exchange). e.talk) b = cc in
+    ap (λ t. client_side a ++ client_bytes (turns t)) first ∙ ap (λ bytes. bytes ++ client_bytes (turns y.talk)) (side_same a b more)
+
+-- a place with other calls
+abbrev pub placed : Call → List Exchange → Place → Place
+placed call older p = record { call = call; talk = p.talk; older = older; end_left = p.end_left; taken = p.taken; statements = p.statements; unread = p.unread; sent = p.sent }
+
+module _ (login : Login) (c d : Call) (tail : List Part) (p : Place) (call : Call) (older : List Exchange) (same : map (λ (e : Exchange). e.talk) older ≡ map (λ (e : Exchange). e.talk) p.older) where
+  abbrev q : Place
+  q = placed call older p
+
+  abbrev Steps : ℕ → Step → Step → Type 0
+  Steps = Beside c d tail
+
+  facts_are : facts_at login q ≡ facts_at login p
+  facts_are = ap (facts_by (packets_of p.talk)) (facts_same login older p.older same)
+
+  terms_are : terms_of login (exchanges q) ≡ terms_of login (exchanges p)
+  terms_are = ap (λ (f : Facts). let t : Terms = record { kept = (context_of p.talk).terms.kept; limit = f.settings.limit } in t) facts_are
+
+  owed_is : owed q ≡ owed p
+  owed_is = ap (λ bytes. drop (length p.sent) (bytes ++ client_bytes (turns p.talk))) (side_same older p.older same)
+
+  -- places with the same exchanges
+  like : (r : Place) → r.older ≡ p.older → AlikePlaces (placed call older r) r
+  like r e = record { talk = refl; older = same ∙ ap (map (λ (e : Exchange). e.talk)) (sym e); end_left = refl; taken = refl; statements = refl; unread = refl; sent = refl }
+
+  here : AlikePlaces q p
+  here = like p refl
+
+  unfit_beside : (n : ℕ) → Steps n (unfit login p) (unfit login q)
+  unfit_beside n = (here, ap (λ (f : Facts). Returns (ToldError (invalid_data f.place))) facts_are, refl)
+
+  -- a payload that is read
+  module _ (part : Part) (xs ys : List Part) (pair : Pair c d part part) (pairs : Pairs c d tail xs ys) (payload rest : List ℕ) (shorter : length rest < length p.unread) where
+    abbrev most : ℕ
+    most = size (part ∷ xs) p
+
+    abbrev new : Kind → Place
+    new k = with_talk p (grow k p.talk payload) rest
+
+    again : (k : Kind) → Steps most (Goes (part ∷ xs) (new k)) (Goes (part ∷ ys) (with_talk q (grow k p.talk payload) rest))
+    again k = (More part part xs ys pair pairs, like (new k) refl, omega (arith, shorter))
+
+    err_beside : (o : Option ErrPacket) → Steps most (after_err login p (new kinds.Failed) o) (after_err login q (with_talk q (grow kinds.Failed p.talk payload) rest) o)
+    err_beside None = unfit_beside most
+    err_beside (Some e) = (like (new kinds.Failed) refl, refl, refl)
+
+    cached_beside : (k : Kind) (o : Option PrepareOk) → Steps most (unless_cached login p o (Goes (part ∷ xs) (new k))) (unless_cached login q o (Goes (part ∷ ys) (with_talk q (grow k p.talk payload) rest)))
+    cached_beside k None = again k
+    cached_beside k (Some ok) = either c d tail most (is_cached p.statements ok.id) _ _ _ _ (λ _. unfit_beside most) (λ _. again k)
+
+    payload_beside : ((k : Kind) (row other : Told) → Steps most (after_kind part xs k (new k) row) (after_kind part ys k (with_talk q (grow k p.talk payload) rest) other))
+        → (k : Kind) → Steps most (after_payload login part xs p (new k) payload k) (after_payload login part ys q (with_talk q (grow k p.talk payload) rest) payload k)
+    payload_beside by_kind kinds.Bad = unfit_beside most
+    payload_beside by_kind kinds.Failed = err_beside (err_at (is_greeting (context_of p.talk).spot) payload)
+    payload_beside by_kind (kinds.Greets n) = either c d tail most (nat_lt (limit_of p.talk) (length (response login payload))) _ _ _ _ (λ _. (here, refl, refl)) (λ _. again (kinds.Greets n))
+    payload_beside by_kind (kinds.Prepared params columns) = cached_beside (kinds.Prepared params columns) (prepare_ok_at payload)
+    payload_beside by_kind (kinds.Good status) = by_kind (kinds.Good status) _ _
+    payload_beside by_kind (kinds.Count n) = by_kind (kinds.Count n) _ _
+    payload_beside by_kind kinds.Column = by_kind kinds.Column _ _
+    payload_beside by_kind kinds.ColumnsDone = by_kind kinds.ColumnsDone _ _
+    payload_beside by_kind kinds.Row = by_kind kinds.Row _ _
+    payload_beside by_kind (kinds.End status) = by_kind (kinds.End status) _ _
+    payload_beside by_kind kinds.Parameter = by_kind kinds.Parameter _ _
+    payload_beside by_kind kinds.Field = by_kind kinds.Field _ _
+
+  reads_beside : (part : Part) (xs ys : List Part) → Pair c d part part → Pairs c d tail xs ys
+      → ((k : Kind) (payload rest : List ℕ) (row other : Told) → length rest < length p.unread
+      → Steps (size (part ∷ xs) p) (after_kind part xs k (with_talk p (grow k p.talk payload) rest) row) (after_kind part ys k (with_talk q (grow k p.talk payload) rest) other))
+      → Steps (size (part ∷ xs) p) (reads login part xs p) (reads login part ys q)
+  reads_beside part xs ys pair pairs by_kind = by_front (front_of p.talk p.unread) refl
+    where
+      by_front : (x : Front) → front_of p.talk p.unread ≡ x → Steps (size (part ∷ xs) p) (with_front login part xs p x) (with_front login part ys q x)
+      by_front Waiting e = (here, refl, refl)
+      by_front (Broken fault) e = (here, refl, refl)
+      by_front (Whole payload rest next) e =
+          let shorter : length rest < length p.unread = (takes_whole (number_of (turns p.talk)) (limit_of p.talk) p.unread payload rest next e).shorter in
+          payload_beside part xs ys pair pairs payload rest shorter (λ k row other. by_kind k payload rest row other shorter) (kind_of p.talk payload)
+
+  all_kind : (xs ys : List Part) → Pairs c d tail xs ys → (k : Kind) (payload rest : List ℕ) (row other : Told) → length rest < length p.unread
+      → Steps (size (All ∷ xs) p) (after_kind All xs k (with_talk p (grow k p.talk payload) rest) row) (after_kind All ys k (with_talk q (grow k p.talk payload) rest) other)
+  all_kind xs ys pairs k payload rest row other shorter =
+      (More All All xs ys BothAll pairs, like (with_talk p (grow k p.talk payload) rest) refl, omega (arith, shorter))
+
+  head_kind : (xs ys : List Part) → Pairs c d tail xs ys → (k : Kind) (payload rest : List ℕ) (row other : Told) → length rest < length p.unread
+      → Steps (size (Head ∷ xs) p) (after_kind Head xs k (with_talk p (grow k p.talk payload) rest) row) (after_kind Head ys k (with_talk q (grow k p.talk payload) rest) other)
+  head_kind xs ys pairs (kinds.Good status) payload rest row other shorter =
+      (pairs, record { talk = refl; older = same; end_left = refl; taken = refl; statements = refl; unread = refl; sent = refl }, omega (arith, shorter))
+  head_kind xs ys pairs k payload rest row other shorter =
+      (More Head Head xs ys BothHead pairs, like (with_talk p (grow k p.talk payload) rest) refl, omega (arith, shorter))
+
+  -- a command that is sent
+  long_beside : (xs ys : List Part) → Pairs c d tail xs ys → (n : ℕ) → size xs p < n → (t : Talk) (o : Option ℕ)
+      → Steps n (unless_long p (limit_of t) o (Goes xs (with_exchange p c t))) (unless_long q (limit_of t) o (Goes ys (with_exchange q d t)))
+  long_beside xs ys pairs n less t None =
+      (pairs, record { talk = refl; older = ap (λ ts. p.talk ∷ ts) same; end_left = refl; taken = refl; statements = refl; unread = refl; sent = refl }, omega (arith, less))
+  long_beside xs ys pairs n less t (Some len) = (here, refl, refl)
+
+  command_beside : (xs ys : List Part) → Pairs c d tail xs ys → (n : ℕ) → size xs p < n → (o u : Option Talk) → u ≡ o
+      → Steps n (with_command c xs p o) (with_command d ys q u)
+  command_beside xs ys pairs n less o u e = subst (λ z. Steps n (with_command c xs p o) (with_command d ys q z)) (sym e) (by_talk o)
+    where
+      by_talk : (o : Option Talk) → Steps n (with_command c xs p o) (with_command d ys q o)
+      by_talk None = (pairs, here, less)
+      by_talk (Some t) = long_beside xs ys pairs n less t (first_above (limit_of t) (commands_in t))
+
+  checked_beside : (xs ys : List Part) → Pairs c d tail xs ys → (n : ℕ) → size xs p < n → (v w : Values) → w ≡ v → Steps n (checked xs p v) (checked ys q w)
+  checked_beside xs ys pairs n less v w e = subst (λ z. Steps n (checked xs p v) (checked ys q z)) (sym e) (by_values v)
+    where
+      by_values : (v : Values) → Steps n (checked xs p v) (checked ys q v)
+      by_values (Fitting values) = (pairs, here, less)
+      by_values (Unfitting x) = (here, refl, refl)
+
+  learned_beside : (xs ys : List Part) → Pairs c d tail xs ys → (n : ℕ) → size xs p < n → id_in c ≡ id_in d
+      → Steps n (Goes xs (learned c p (facts_at login p))) (Goes ys (learned d q (facts_at login q)))
+  learned_beside xs ys pairs n less e = by_rows (is_rows (context_of p.talk).spot)
+    where
+      by_rows : (b : Bool)
+          → Steps n (Goes xs (cond b (with_statements (with_columns (id_in c) (facts_at login p).columns p.statements) p) p))
+          (Goes ys (cond b (with_statements (with_columns (id_in d) (facts_at login q).columns p.statements) q) q))
+      by_rows true = (
+        pairs,
+        record {
+          talk = refl;
+          older = same;
+          end_left = refl;
+          taken = refl;
+          statements = ap (λ i. with_columns i (facts_at login q).columns p.statements) (sym e) ∙ ap (λ (f : Facts). with_columns (id_in c) f.columns p.statements) facts_are;
+          unread = refl;
+          sent = refl;
+        },
+        less,
+      )
+      by_rows false = (pairs, here, less)
+
+  -- the statement is executed at both places
+  executed_is : (params : Params) → executed login d q params ≡ executed login d p params
+  executed_is params = ap (λ t. execution t p.statements (id_in d) (values_for (statement_in d) params)) terms_are
+
+  part_beside : (x y : Part) (xs ys : List Part) → Pair c d x y → Pairs c d tail xs ys
+      → Steps (size (x ∷ xs) p) (step_of login c (x ∷ xs) p) (step_of login d (y ∷ ys) q)
+  part_beside x y xs ys BothAll pairs = either c d tail (size (All ∷ xs) p) p.end_left _ _ _ _
+      (λ e. let one : weight p.end_left ≡ 1 = ap weight e in (More All All xs ys BothAll pairs, like (without_end p) refl, omega (arith, one)))
+      (λ _. either c d tail (size (All ∷ xs) p) (is_over p.talk) _ _ _ _ (λ _. (pairs, here, omega arith)) (λ _. reads_beside All xs ys BothAll pairs (all_kind xs ys pairs)))
+  part_beside x y xs ys BothHead pairs = either c d tail (size (Head ∷ xs) p) (is_rows (context_of p.talk).spot) _ _ _ _
+      (λ _. (pairs, here, omega arith)) (λ _. reads_beside Head xs ys BothHead pairs (head_kind xs ys pairs))
+  part_beside x y xs ys (BothLearn e) pairs = learned_beside xs ys pairs (size (Learn ∷ xs) p) (omega arith) e
+  part_beside x y xs ys (BothCheck params e) pairs =
+      checked_beside xs ys pairs (size (Check params ∷ xs) p) (omega arith) _ _ (ap (λ s. values_for s params) (sym e))
+  part_beside x y xs ys (BothRun params e i) pairs = command_beside xs ys pairs (size (Run params ∷ xs) p) (omega arith) _ _
+      (executed_is params
+      ∙ (ap (λ id. execution (terms_of login (exchanges p)) p.statements id (values_for (statement_in d) params)) (sym i)
+      ∙ ap (λ s. execution (terms_of login (exchanges p)) p.statements (id_in c) (values_for s params)) (sym e)))
+  part_beside x y xs ys (Sent params f) pairs = command_beside xs ys pairs (size (Command ∷ xs) p) (omega arith) _ _ (executed_is params ∙ sym (f login p))
+
+  placed_beside : (x y : Part) (xs ys : List Part) → Pair c d x y → Pairs c d tail xs ys
+      → Steps (size (x ∷ xs) p) (step login c (x ∷ xs) p) (step login d (y ∷ ys) q)
+  unfolding step
+  placed_beside x y xs ys pair pairs =
+      subst (λ bytes. Steps (size (x ∷ xs) p) (step login c (x ∷ xs) p) (unless_owed bytes q (step_of login d (y ∷ ys) q))) (sym owed_is) (by_owed (owed p))
+    where
+      by_owed : (bytes : List ℕ) → Steps (size (x ∷ xs) p) (unless_owed bytes p (step_of login c (x ∷ xs) p)) (unless_owed bytes q (step_of login d (y ∷ ys) q))
+      by_owed [] = part_beside x y xs ys pair pairs
+      by_owed (b ∷ bytes) = (here, refl, refl)
+
+-- a place like another is it, with other calls
+pub is_placed : (q p : Place) → AlikePlaces q p → placed q.call q.older p ≡ q
+is_placed q p w =
+    ap (λ (x : Talk). let r : Place = record { call = q.call; talk = x; older = q.older; end_left = p.end_left; taken = p.taken; statements = p.statements; unread = p.unread; sent = p.sent } in r) (sym w.talk)
+    ∙ ap (λ (x : Bool). let r : Place = record { call = q.call; talk = q.talk; older = q.older; end_left = x; taken = p.taken; statements = p.statements; unread = p.unread; sent = p.sent } in r) (sym w.end_left)
+    ∙ ap (λ (x : Bool). let r : Place = record { call = q.call; talk = q.talk; older = q.older; end_left = q.end_left; taken = x; statements = p.statements; unread = p.unread; sent = p.sent } in r) (sym w.taken)
+    ∙ ap (λ (x : Statements). let r : Place = record { call = q.call; talk = q.talk; older = q.older; end_left = q.end_left; taken = q.taken; statements = x; unread = p.unread; sent = p.sent } in r) (sym w.statements)
+    ∙ ap (λ (x : List ℕ). let r : Place = record { call = q.call; talk = q.talk; older = q.older; end_left = q.end_left; taken = q.taken; statements = q.statements; unread = x; sent = p.sent } in r) (sym w.unread)
+    ∙ ap (λ (x : List ℕ). let r : Place = record { call = q.call; talk = q.talk; older = q.older; end_left = q.end_left; taken = q.taken; statements = q.statements; unread = q.unread; sent = x } in r) (sym w.sent)
+
+pub steps_beside : (login : Login) (c d : Call) (tail : List Part) (p q : Place) (x y : Part) (xs ys : List Part) → Pair c d x y → Pairs c d tail xs ys → AlikePlaces q p
+    → Beside c d tail (size (x ∷ xs) p) (step login c (x ∷ xs) p) (step login d (y ∷ ys) q)
+steps_beside login c d tail p q x y xs ys pair pairs w =
+    subst (λ r. Beside c d tail (size (x ∷ xs) p) (step login c (x ∷ xs) p) (step login d (y ∷ ys) r)) (is_placed q p w) (placed_beside login c d tail p q.call q.older w.older x y xs ys pair pairs)

@@ -1,0 +1,98 @@
+-- What holds before each part of a call, and where it may stop.
+use Rattle.std.proofs.Common.{◌≡◌, ℕ, Bool, true, false, ◌&&◌, None, List, [], ◌∷◌, ◌⊎◌, refl}
+use Rattle.my_command.specs.declared.client.ClientPacket.TheVariants as packets
+use Rattle.my_command.specs.Client.Packet.{client_bytes as packet_bytes}
+use Rattle.my_grammar.specs.declared.spot.Terms.{Terms}
+use Rattle.my_grammar.specs.Cut.{is_over}
+use Rattle.my_grammar.specs.Talk.{Talk, Asked}
+use Rattle.my_reading.specs.declared.call.Call.{Call}
+use Rattle.my_reading.specs.declared.call.Call.TheVariants.{Prepare, CloseStmt, Reset}
+use Rattle.my_reading.specs.Commands.{closing}
+use Rattle.my_reading.specs.Course.{Part, All, Command, Find, Reply, Keep, Give, Forget, Offered, Clear, Step, Goes, Stops, Stop, Owes, Awaits, Returns}
+use Rattle.my_reading.specs.Place.{Place}
+use Rattle.my_reading.specs.Statements.{held_in, query_of}
+use Rattle.my_reading.specs.Told.{ToldReady, ToldRow, ToldEnd, ToldNone, ToldStatement, ToldFlag, ToldError, Dropped}
+use Rattle.statement_laws.specs.Kept.{Resets, is_answered, is_settled, leaves_open}
+use Rattle.statement_laws.proofs.Having.{StopsHave}
+use Rattle.statement_laws.proofs.Holding.{Holds, HoldsBefore, HoldsBut}
+
+-- the parts that touch no statement that is cached
+abbrev pub is_plain_part : Part → Bool
+is_plain_part Find = false
+is_plain_part Reply = false
+is_plain_part Keep = false
+is_plain_part Give = false
+is_plain_part Forget = false
+is_plain_part Clear = false
+is_plain_part _ = true
+
+abbrev pub is_plain : List Part → Bool
+is_plain [] = true
+is_plain (part ∷ parts) = is_plain_part part && is_plain parts
+
+abbrev pub prepares : Call → Bool
+prepares (Prepare text) = true
+prepares _ = false
+
+-- the server's answer to the command that resets its session is awaited, or is an OK
+abbrev pub IsResetting : Talk → Type 0
+IsResetting t = ((terms : Terms) × (t ≡ Asked terms (packet_bytes packets.ResetConnection))) ⊎ Resets t
+
+-- What holds before each of a call's parts.
+pub data Phase : Call → List Part → Place → Type 0 where
+  Steady : (call : Call) (parts : List Part) (p : Place) → is_plain parts ≡ true → prepares call ≡ false → Holds p → Phase call parts p
+  Finding : (text : List ℕ) (p : Place) → Holds p → Phase (Prepare text) (Find ∷ All ∷ Command ∷ Reply ∷ Keep ∷ Give ∷ []) p
+  Clearing : (text : List ℕ) (p : Place) → Holds p → held_in p.statements (query_of text) ≡ None → Phase (Prepare text) (All ∷ Command ∷ Reply ∷ Keep ∷ Give ∷ []) p
+  Asking : (text : List ℕ) (p : Place) → Holds p → held_in p.statements (query_of text) ≡ None → Phase (Prepare text) (Command ∷ Reply ∷ Keep ∷ Give ∷ []) p
+  Replying : (text : List ℕ) (p : Place) → HoldsBefore (query_of text) p → Phase (Prepare text) (Reply ∷ Keep ∷ Give ∷ []) p
+  Keeping : (text : List ℕ) (p : Place) → HoldsBefore (query_of text) p → is_over p.talk ≡ true → Phase (Prepare text) (Keep ∷ Give ∷ []) p
+  Giving : (text : List ℕ) (p : Place) → Holds p → Phase (Prepare text) (Give ∷ []) p
+  Forgetting : (id : ℕ) (p : Place) → Holds p → Phase (CloseStmt id) (Forget ∷ All ∷ Command ∷ []) p
+  Passing : (id : ℕ) (p : Place) → HoldsBut (λ i. i ≡ id) p → Phase (CloseStmt id) (All ∷ Command ∷ []) p
+  Closing : (id : ℕ) (p : Place) → HoldsBut (λ i. i ≡ id) p → Phase (CloseStmt id) (Command ∷ []) p
+  Offering : (parts : List Part) (p : Place) → is_plain parts ≡ true → Holds p → Phase Reset (Offered ∷ All ∷ Command ∷ All ∷ Clear ∷ parts) p
+  Readying : (parts : List Part) (p : Place) → is_plain parts ≡ true → Holds p → Phase Reset (All ∷ Command ∷ All ∷ Clear ∷ parts) p
+  Commanding : (parts : List Part) (p : Place) → is_plain parts ≡ true → Holds p → Phase Reset (Command ∷ All ∷ Clear ∷ parts) p
+  Awaiting : (parts : List Part) (p : Place) → is_plain parts ≡ true → Holds p → IsResetting p.talk → Phase Reset (All ∷ Clear ∷ parts) p
+  Emptying : (parts : List Part) (p : Place) → is_plain parts ≡ true → Holds p → Resets p.talk → Phase Reset (Clear ∷ parts) p
+
+-- a step leads to the next phase, or the call stops where all is kept, unless what it prepares or closes isn't settled
+abbrev pub IsFine : Call → Step → Type 0
+IsFine call (Goes parts p) = Phase call parts p
+IsFine call (Stops p s) = is_settled call s ≡ true → Holds p
+
+pub answer_leaves_open : (s : Stop) → is_answered s ≡ true → leaves_open s ≡ true
+answer_leaves_open Owes e = absurd (cc)
+answer_leaves_open Awaits e = absurd (cc)
+answer_leaves_open (Returns ToldReady) e = refl
+answer_leaves_open (Returns (ToldRow row)) e = refl
+answer_leaves_open (Returns ToldEnd) e = refl
+answer_leaves_open (Returns ToldNone) e = refl
+answer_leaves_open (Returns (ToldStatement statement)) e = refl
+answer_leaves_open (Returns (ToldFlag flag)) e = refl
+answer_leaves_open (Returns (ToldError x)) e = absurd (cc)
+answer_leaves_open (Returns (Dropped closing)) e = absurd (cc)
+
+-- A call that prepares or closes a statement isn't settled where it closes the session, or is left open.
+pub preparing_stops : (text : List ℕ) (p : Place) → StopsHave (IsFine (Prepare text)) p
+preparing_stops text p s e h = absurd (cc)
+
+pub closing_stops : (id : ℕ) (p : Place) → StopsHave (IsFine (CloseStmt id)) p
+closing_stops id p s e h = let open_left = answer_leaves_open s h in absurd (cc)
+
+pub stopped_fine : (c : Call) (parts : List Part) (p : Place) → Phase c parts p → StopsHave (IsFine c) p
+stopped_fine c parts p (Steady d ps q e other w) = λ s _ _. w
+stopped_fine c parts p (Finding text q w) = preparing_stops text q
+stopped_fine c parts p (Clearing text q w e) = preparing_stops text q
+stopped_fine c parts p (Asking text q w e) = preparing_stops text q
+stopped_fine c parts p (Replying text q w) = preparing_stops text q
+stopped_fine c parts p (Keeping text q w e) = preparing_stops text q
+stopped_fine c parts p (Giving text q w) = preparing_stops text q
+stopped_fine c parts p (Forgetting id q w) = closing_stops id q
+stopped_fine c parts p (Passing id q w) = closing_stops id q
+stopped_fine c parts p (Closing id q w) = closing_stops id q
+stopped_fine c parts p (Offering ps q e w) = λ s _ _. w
+stopped_fine c parts p (Readying ps q e w) = λ s _ _. w
+stopped_fine c parts p (Commanding ps q e w) = λ s _ _. w
+stopped_fine c parts p (Awaiting ps q e w r) = λ s _ _. w
+stopped_fine c parts p (Emptying ps q e w r) = λ s _ _. w
