@@ -1,11 +1,12 @@
 //! Tapes with batches, and how many changes of each are refuted.
 
 use crate::changes::{Table, are_right};
+use crate::logins::SetUp;
 use crate::rows::{
     BATCHES, CONNECTS, ERR, EXECUTE, Line, OK, PINGS, PREPARES, READ_REFUSED, READS_NONE,
     READS_ROW, RETURNS, SELECTS, Said, Told,
 };
-use crate::tapes::{Change, SetUp};
+use crate::tapes::Change;
 use std::test::Fail;
 
 const TABLES: &[Table] = &[
@@ -35,7 +36,7 @@ const TABLES: &[Table] = &[
             (4, Change::Swapped, None),
         ],
         from: 2,
-        refuted: 98,
+        refuted: 108,
     },
     // The second list doesn't fit: its execution isn't sent, and the connection is closed.
     Table {
@@ -54,7 +55,7 @@ const TABLES: &[Table] = &[
         ],
         checks: &[(2, Change::Ending(Told::Mismatch(1)), Some(2))],
         from: 2,
-        refuted: 42,
+        refuted: 46,
     },
     // The first execution is answered by an ERR: the second one isn't sent, and the connection may be used.
     Table {
@@ -72,7 +73,7 @@ const TABLES: &[Table] = &[
         ],
         checks: &[],
         from: 2,
-        refuted: 48,
+        refuted: 52,
     },
 ];
 

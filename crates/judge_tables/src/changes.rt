@@ -1,17 +1,20 @@
 //! The changes that are made of each tape, and what is found of it then.
 
+use crate::logins::{SetUp, login};
 use crate::rows::{Line, Needs, Told};
-use crate::tapes::{Change, SetUp, changed, login};
+use crate::tapes::{Change, changed};
 use my_frame::NoMemory;
 use my_judge::{Tape, Verdict, judge};
 use std::alloc::Global;
 
-const ENDINGS: [Told<'static>; 14] = [
+const ENDINGS: [Told<'static>; 16] = [
     Told::Ready,
     Told::Row(b"1"),
     Told::Row(b"2"),
     Told::SetEnd,
     Told::NoSet,
+    Told::Flag(false),
+    Told::Flag(true),
     Told::Server,
     Told::Closed,
     Told::Link(4),

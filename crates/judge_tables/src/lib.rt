@@ -7,6 +7,10 @@ mod batches;
 #[cfg(test)]
 mod changes;
 #[cfg(test)]
+mod logins;
+#[cfg(test)]
+mod resets;
+#[cfg(test)]
 mod rows;
 #[cfg(test)]
 mod tables;

@@ -1,7 +1,7 @@
 //! Calls of connections, with their bytes and how they ended.
 
 // Version 8.0.36, connection 7.
-const GREETING: &[u8] =
+pub const GREETING: &[u8] =
     b"\x4a\x00\x00\x00\x0a8.0.36\x00\x07\x00\x00\x00abcdefgh\x00\x8b\xa2\x2d\x02\x00\x1f\x01\x15\
     \x00\x00\x00\x00\x00\x00\x00\x00\x00\x00ijklmnopqrst\x00mysql_native_password\x00";
 
@@ -85,6 +85,8 @@ pub const SET: &[u8] =
 
 const PING: &[u8] = b"\x01\x00\x00\x00\x0e";
 
+const RESET: &[u8] = b"\x01\x00\x00\x00\x1f";
+
 pub const QUIT: &[u8] = b"\x01\x00\x00\x00\x01";
 
 /// A call.
@@ -103,6 +105,7 @@ pub enum Said<'a> {
     TakeSet,
     SkipTaken,
     Ping,
+    Reset,
     Quit,
 }
 
@@ -118,6 +121,7 @@ pub enum Told<'a> {
     Stmt(u16),
     SetEnd,
     NoSet,
+    Flag(bool),
     /// ERR 1064 42000 X.
     Server,
     Closed,
@@ -214,14 +218,21 @@ pub const DOES: Line<'static> = Line {
     ..RETURNS
 };
 
-/// The call that prepares statement 1.
-pub const PREPARE_ONE: Said<'static> = Said::Prepare(b"SELECT ?");
+// The call that prepares statement 1.
+const PREPARE_ONE: Said<'static> = Said::Prepare(b"SELECT ?");
 
 /// A statement that is prepared.
 pub const PREPARES: Line<'static> = Line {
     call: PREPARE_ONE,
     sent: PREPARE,
     taken: [PREPARED, b""],
+    ending: Told::Stmt(1),
+    ..RETURNS
+};
+
+/// The same statement, which is cached.
+pub const FINDS: Line<'static> = Line {
+    call: PREPARE_ONE,
     ending: Told::Stmt(1),
     ..RETURNS
 };
@@ -268,6 +279,15 @@ pub const PINGS: Line<'static> = Line {
     call: Said::Ping,
     sent: PING,
     taken: [OK, b""],
+    ..RETURNS
+};
+
+/// A reset that is answered.
+pub const RESETS: Line<'static> = Line {
+    call: Said::Reset,
+    sent: RESET,
+    taken: [OK, b""],
+    ending: Told::Flag(true),
     ..RETURNS
 };
 

@@ -1,12 +1,13 @@
 //! Tapes, and how many changes of each are refuted.
 
 use crate::changes::{Table, are_right};
+use crate::logins::SetUp;
 use crate::rows::{
-    BINARY_ROW, CLOSE, CONNECTS, DO, DO_ONE, DOES, DROPS, END, ERR, ERR_OF_ROW, EXECUTES, Line,
-    Needs, OK, OK_AND_MORE, PING_REFUSED, PINGS, PREPARE_ONE, PREPARES, QUIT, QUIT_AGAIN,
-    READ_REFUSED, READS_NONE, READS_ROW, RETURNS, SELECTS, SETS_UP, Said, Told, WAITS,
+    BINARY_ROW, CLOSE, CONNECTS, DO, DO_ONE, DOES, DROPS, END, ERR, ERR_OF_ROW, EXECUTES, FINDS,
+    Line, Needs, OK, OK_AND_MORE, PING_REFUSED, PINGS, PREPARES, QUIT, QUIT_AGAIN, READ_REFUSED,
+    READS_NONE, READS_ROW, RETURNS, SELECTS, SETS_UP, Said, Told, WAITS,
 };
-use crate::tapes::{Change, SetUp};
+use crate::tapes::Change;
 use std::test::Fail;
 
 const WAITING: &[Told] = &[
@@ -28,7 +29,7 @@ const TABLES: &[Table] = &[
         lines: &[CONNECTS, PINGS],
         checks: &[(0, Change::Missing, Some(0)), (0, Change::Swapped, Some(0))],
         from: 0,
-        refuted: 48,
+        refuted: 52,
     },
     // A connection is made once it is set up whole.
     Table {
@@ -48,7 +49,7 @@ const TABLES: &[Table] = &[
             (0, Change::TakenByte(155), None),
         ],
         from: 0,
-        refuted: 53,
+        refuted: 57,
     },
     // A query with a row, its end and nothing after it, a ping, and what follows a quit.
     Table {
@@ -87,7 +88,7 @@ const TABLES: &[Table] = &[
             (4, Change::TakenEarlier, None),
         ],
         from: 1,
-        refuted: 154,
+        refuted: 170,
     },
     // A lone OK has an end; a query's ERR leaves nothing.
     Table {
@@ -121,7 +122,7 @@ const TABLES: &[Table] = &[
             (4, Change::Swapped, None),
         ],
         from: 1,
-        refuted: 96,
+        refuted: 106,
     },
     // A query returns an ERR that was left of an earlier one, and sends nothing.
     Table {
@@ -146,7 +147,7 @@ const TABLES: &[Table] = &[
             (5, Change::Missing, None),
         ],
         from: 1,
-        refuted: 99,
+        refuted: 109,
     },
     // A read that is cancelled among rows is read on; a drop reads the rest.
     Table {
@@ -186,7 +187,7 @@ const TABLES: &[Table] = &[
             (2, Change::Ending(Told::Open), None),
         ],
         from: 1,
-        refuted: 108,
+        refuted: 120,
     },
     // A payload that fits no case closes the connection.
     Table {
@@ -204,7 +205,7 @@ const TABLES: &[Table] = &[
         ],
         checks: &[],
         from: 1,
-        refuted: 58,
+        refuted: 64,
     },
     // So does a wrong sequence id, whatever follows it.
     Table {
@@ -223,7 +224,7 @@ const TABLES: &[Table] = &[
         ],
         checks: &[],
         from: 1,
-        refuted: 38,
+        refuted: 42,
     },
     // A command of which a part was sent.
     Table {
@@ -243,7 +244,7 @@ const TABLES: &[Table] = &[
             (1, Change::Ending(Told::Link(2)), None),
         ],
         from: 1,
-        refuted: 18,
+        refuted: 20,
     },
     // A query that is cancelled before its answer closes the connection.
     Table {
@@ -265,7 +266,7 @@ const TABLES: &[Table] = &[
             (1, Change::Ending(Told::Eof(2)), None),
         ],
         from: 1,
-        refuted: 34,
+        refuted: 38,
     },
     // So does a drop that is cancelled where a further head is awaited.
     Table {
@@ -288,7 +289,7 @@ const TABLES: &[Table] = &[
         ],
         checks: &[(2, Change::Missing, Some(2))],
         from: 1,
-        refuted: 54,
+        refuted: 60,
     },
     // A stream takes a set and reads its row; what is left of the set is passed over, and then nothing is left to be taken.
     Table {
@@ -319,7 +320,7 @@ const TABLES: &[Table] = &[
             (5, Change::Swapped, None),
         ],
         from: 1,
-        refuted: 91,
+        refuted: 101,
     },
     // A statement is prepared and executed; it is found in the cache, and closed.
     Table {
@@ -340,11 +341,7 @@ const TABLES: &[Table] = &[
                 ending: Told::SetEnd,
                 ..RETURNS
             },
-            Line {
-                call: PREPARE_ONE,
-                ending: Told::Stmt(1),
-                ..RETURNS
-            },
+            FINDS,
             Line {
                 call: Said::CloseStmt(1),
                 sent: CLOSE,
@@ -360,7 +357,7 @@ const TABLES: &[Table] = &[
             (5, Change::Missing, None),
         ],
         from: 1,
-        refuted: 127,
+        refuted: 139,
     },
     // A link that fails where a row is awaited.
     Table {
@@ -386,7 +383,7 @@ const TABLES: &[Table] = &[
             (2, Change::TakenLess, None),
         ],
         from: 1,
-        refuted: 68,
+        refuted: 76,
     },
 ];
 

@@ -1,10 +1,7 @@
 //! Tapes from calls, and changes of them.
 
 use crate::rows::{Line, Said, Told};
-use my_flags::CapabilityFlags;
 use my_frame::{Blob, CodecFault, Listed, NoMemory, Text};
-use my_grammar::Login;
-use my_handshake::Attributes;
 use my_judge::{Ending, Tape, TapeCall};
 use my_params::Params;
 use my_reading::{Answer, Call, DriverError, Error, IoError, IoFault, IoKind, ServerError};
@@ -13,42 +10,6 @@ use my_statements::{SetColumns, Statement, StmtInner};
 use my_value::{Columns, Row, Value};
 use std::alloc::{AllocError, Global};
 use std::sync::Arc;
-
-/// Whether a client asks for the longest packet and sends `DO 1` when its connection is made.
-#[derive(Clone, Copy)]
-pub enum SetUp {
-    Plain,
-    Asking,
-}
-
-fn init_of(alloc: Global, set_up: SetUp) -> Result<Listed<Blob>, NoMemory> {
-    let mut init = Listed::new(alloc);
-    match set_up {
-        SetUp::Plain => {}
-        SetUp::Asking => init.push(Blob::from_slice(alloc, b"DO 1")?)?,
-    }
-    Ok(init)
-}
-
-/// A user `root` without a password.
-pub fn login(alloc: Global, set_up: SetUp) -> Result<Login, NoMemory> {
-    Ok(Login {
-        user: Some(Blob::from_slice(alloc, b"root")?),
-        password: None,
-        database: None,
-        max_packet: 4_194_304,
-        attributes: Attributes::new(alloc),
-        capabilities: CapabilityFlags(0x10f_a281),
-        packet_limit: match set_up {
-            SetUp::Plain => Some(4_194_304),
-            SetUp::Asking => None,
-        },
-        wait_timeout: Some(28_800),
-        init: init_of(alloc, set_up)?,
-        setup: Listed::new(alloc),
-        statements: 32,
-    })
-}
 
 /// A call with its bytes and how it ended.
 #[derive(Drop)]
@@ -125,6 +86,7 @@ fn call_of(alloc: Global, said: Said) -> Result<Call, NoMemory> {
         Said::TakeSet => Call::TakeSet,
         Said::SkipTaken => Call::SkipTaken,
         Said::Ping => Call::Ping,
+        Said::Reset => Call::Reset,
         Said::Quit => Call::Quit,
     })
 }
@@ -150,6 +112,7 @@ fn ending_of(alloc: Global, told: Told) -> Result<Option<Ending>, NoMemory> {
         }
         Told::BinaryRow(cell) => Some(Ending::Answered(row_of(alloc, Value::Int(cell))?)),
         Told::Stmt(params) => Some(Ending::Answered(Answer::Stmt(statement(alloc, params)?))),
+        Told::Flag(flag) => Some(Ending::Answered(Answer::Flag(flag))),
         Told::SetEnd => Some(Ending::Answered(Answer::SetEnd)),
         Told::NoSet => Some(Ending::Answered(Answer::NoSet)),
         Told::Server => Some(Ending::Failed(server_error(alloc)?)),

@@ -1,11 +1,12 @@
-//! Wrong tapes of sets that streams take and of prepared statements, each of which the judge refutes.
+//! Wrong tapes of sets that streams take, of prepared statements and of resets, each of which the judge refutes.
 
 use crate::changes::judged;
+use crate::logins::SetUp;
 use crate::rows::{
-    BATCHES, CONNECTS, DO, DO_ONE, END, EXECUTE, EXECUTE_SWAPPED, EXECUTES, HEAD, LOGGED_IN, Line,
-    OK_AND_MORE, PREPARES, RETURNS, ROW, SELECTS, SET, Said, Told,
+    BATCHES, CONNECTS, DO, DO_ONE, END, EXECUTE, EXECUTE_SWAPPED, EXECUTES, FINDS, HEAD, LOGGED_IN,
+    Line, OK_AND_MORE, PREPARES, RESETS, RETURNS, ROW, SELECTS, SET, Said, Told,
 };
-use crate::tapes::{Change, SetUp, changed};
+use crate::tapes::{Change, changed};
 use my_frame::NoMemory;
 use my_judge::Verdict;
 use std::alloc::Global;
@@ -14,13 +15,14 @@ use std::test::Fail;
 // The calls of a tape, and at last the number of the one that is refuted: a set is taken where none is; none is left where
 // a set is; a set is passed over before its end; a row that was passed over is returned; the next set is passed over, too;
 // a statement is prepared again, though it is cached; a row of an execution is read as text; a close isn't sent; of a batch
-// the second execution isn't sent, or is sent first; it is ready before its last response is read whole.
+// the second execution isn't sent, or is sent first; it is ready before its last response is read whole; a statement is
+// found in the cache after a reset.
 //
 // A call is its name, its answer and what it received. `c` connects, `s` is a query that begins a set, `d` one that has
 // none, `t` takes a set, `k` passes over the rest of one, `r` reads, `p` prepares a statement, `x` executes it, and `z`
 // closes it without a byte. Batches of the values 1 and 2: `h` sends the first execution alone, `o` sends them in the other
-// order, `u` reads no more than the head of the last response. `R` is ready, `N` that no set is left, `1` a row.
-// Received are `m` an OK that another set follows, `o` a row, `e` a set's end, `f` an OK with the next sequence id.
+// order, `u` reads no more than the head of the last response. `b` resets, and `n` finds the statement in the cache. `R` is
+// ready, `N` that no set is left, `1` a row. Received are `m` an OK that another set follows, `o` a row, `e` a set's end, `f` an OK with the next sequence id.
 const WRONG: &str = "\
 c tR 1
 c s tN 2
@@ -32,7 +34,8 @@ c p x r1o 3
 c p zR 2
 c p h 2
 c p o 2
-c p u 2";
+c p u 2
+c p b n 3";
 
 // Batches that are refuted.
 const FIRST_ALONE: Line<'static> = Line {
@@ -84,6 +87,8 @@ fn line(word: &str) -> Line<'static> {
         b'h' => return FIRST_ALONE,
         b'o' => return OTHER_ORDER,
         b'u' => return UNREAD,
+        b'b' => return RESETS,
+        b'n' => return FINDS,
         b'z' => Said::CloseStmt(1),
         b'd' => DO_ONE,
         b't' => Said::TakeSet,

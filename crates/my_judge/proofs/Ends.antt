@@ -71,6 +71,17 @@ same_answer (answers.Stmt t) (answers.Row r) e = cc
 same_answer (answers.Stmt t) answers.SetEnd e = cc
 same_answer (answers.Stmt t) answers.NoSet e = cc
 same_answer (answers.Stmt t) (answers.Stmt u) e = cc
+same_answer answers.Ready (answers.Flag b) e = cc
+same_answer (answers.Row r) (answers.Flag b) e = cc
+same_answer answers.SetEnd (answers.Flag b) e = cc
+same_answer answers.NoSet (answers.Flag b) e = cc
+same_answer (answers.Stmt t) (answers.Flag b) e = cc
+same_answer (answers.Flag b) answers.Ready e = cc
+same_answer (answers.Flag b) (answers.Row r) e = cc
+same_answer (answers.Flag b) answers.SetEnd e = cc
+same_answer (answers.Flag b) answers.NoSet e = cc
+same_answer (answers.Flag b) (answers.Stmt t) e = cc
+same_answer (answers.Flag b) (answers.Flag d) e = cc
 
 no_error : (a : Answer) (e : Error) → told a ≡ ToldError e → ⊥
 no_error answers.Ready e h = cc
@@ -78,6 +89,7 @@ no_error (answers.Row r) e h = cc
 no_error answers.SetEnd e h = cc
 no_error answers.NoSet e h = cc
 no_error (answers.Stmt t) e h = cc
+no_error (answers.Flag b) e h = cc
 
 no_drop : (a : Answer) (b : Bool) → told a ≡ Dropped b → ⊥
 no_drop answers.Ready b h = cc
@@ -85,6 +97,7 @@ no_drop (answers.Row r) b h = cc
 no_drop answers.SetEnd b h = cc
 no_drop answers.NoSet b h = cc
 no_drop (answers.Stmt t) b h = cc
+no_drop (answers.Flag d) b h = cc
 
 same_ending : (x y : Ending) → told_of x ≡ told_of y → x ≡ y
 same_ending (Answered a) (Answered b) e = ap Answered (same_answer a b e)
@@ -117,6 +130,7 @@ closes_so kinds.DropResult p spot e = ap (closes_at kinds.DropResult) e
 closes_so kinds.TakeSet p spot e = ap (closes_at kinds.TakeSet) e
 closes_so kinds.SkipTaken p spot e = ap (closes_at kinds.SkipTaken) e
 closes_so kinds.Ping p spot e = refl
+closes_so kinds.Reset p spot e = refl
 closes_so kinds.Quit p spot e = refl
 
 module _ (login : Login) (c : ReadCall) (s : Stand) (ending : Option Ending) (at : IsAt login c.halt.place s) (told_is : c.span.ending ≡ option_map told_of ending) where
@@ -205,6 +219,7 @@ settled_so kind p spot (Some (Answered (answers.Row r))) e = refl
 settled_so kind p spot (Some (Answered answers.SetEnd)) e = refl
 settled_so kind p spot (Some (Answered answers.NoSet)) e = refl
 settled_so kind p spot (Some (Answered (answers.Stmt t))) e = refl
+settled_so kind p spot (Some (Answered (answers.Flag b))) e = refl
 settled_so kind p spot (Some (Failed f)) e = refl
 settled_so kind p spot (Some (Cancelled b)) e = ap (λ x. Some (Dropped x)) (sym (closes_so kind p spot e))
 

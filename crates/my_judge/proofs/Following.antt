@@ -4,6 +4,7 @@ use Rattle.std.proofs.lemmas.Bool.Decides.{nat_tests}
 use Rattle.my_command.specs.declared.client.ClientPacket.TheVariants as packets
 use Rattle.my_command.specs.Client.Packet.{client_bytes as packet_bytes}
 use Rattle.my_frame.specs.declared.fault.CodecFault.TheVariants.{TooLarge}
+use Rattle.my_handshake.specs.Version.{version_of}
 use Rattle.my_frame.specs.Front.{Front, Waiting, Broken, Whole, front_at}
 use Rattle.my_reply.specs.declared.err.ErrPacket.{ErrPacket}
 use Rattle.my_reply.specs.ErrPacket.{err_at}
@@ -39,13 +40,14 @@ use Rattle.my_reading.specs.Calls.{id_in, is_connect, kind_of as call_kind, stat
 use Rattle.my_reading.specs.Commands.{arranging, arranging_texts, closing, connecting, execution, queried}
 use Rattle.my_reading.specs.Executions.{Values, Fitting, Unfitting, values_for}
 use Rattle.my_reading.specs.Facts.{prepared_by}
-use Rattle.my_reading.specs.Statements.{Statements, held_in, is_cached, is_mixed_text, known_in, leaving, names_of, query_of, statement_with, with_columns, with_fetched, with_prepared, without_statement}
-use Rattle.my_reading.specs.Course.{Step, Goes, Stops, step, step_of, unless_owed, reads, with_front, after_payload, after_kind, after_err, checked, closing_of, executed as executed_by, first_above, found, looked_for, unless_cached, unless_long, with_command, failure, is_greeting, is_rows}
+use Rattle.my_reading.specs.Statements.{Statements, cleared, held_in, is_cached, is_mixed_text, known_in, leaving, names_of, query_of, statement_with, with_columns, with_fetched, with_prepared, without_statement}
+use Rattle.my_reading.specs.Course.{Step, Goes, Stops, step, step_of, unless_owed, reads, with_front, after_payload, after_kind, after_err, checked, closing_of, executed as executed_by, first_above, found, looked_for, offered, unless_cached, unless_long, with_command, failure, is_greeting, is_rows}
 use Rattle.my_reading.specs.Errors.{codec_error}
 use Rattle.my_reading.proofs.Described.{kind_known}
 use Rattle.my_reading.specs.Place.{Place, exchanges, facts_at, facts_of, client_side, connects_in, terms_of, owed, next_exchange, with_end, with_statements, with_taken, with_talk, with_exchange}
 use Rattle.my_reading.specs.Rows.{row_of}
 use Rattle.my_reading.specs.Told.{ToldRow}
+use Rattle.my_reading.specs.Versions.{can_reset}
 use Rattle.my_judge.specs.declared.part.Part.{Part as CodePart}
 use Rattle.my_judge.specs.declared.part.Part.TheVariants as parts
 use Rattle.my_judge.specs.declared.stand.Stand.{Stand}
@@ -53,7 +55,7 @@ use Rattle.my_judge.specs.declared.step.Step.{Step as CodeStep}
 use Rattle.my_judge.specs.declared.step.Step.TheVariants as steps
 use Rattle.my_judge.specs.declared.step.Stop.TheVariants as code_stops
 use Rattle.my_judge.specs.Parts.{part_of}
-use Rattle.my_judge.specs.Stands.{IsAt, Turn, stand_of, heard, asked, turn, with_end as with_left, with_taken as with_mark, after_kind as code_kind, after_err as code_err, after_greeting as code_greeting, after_payload as code_payload, after_prepared as code_prepared, with_front as code_front, with_known, reads as code_reads, arranges, begins, checks, checks_for, closes_one, commands, executed, executed_in, executes, executes_one, finds, finds_so, unless_above, steps as code_step}
+use Rattle.my_judge.specs.Stands.{IsAt, Turn, stand_of, heard, asked, asks, turn, with_end as with_left, with_taken as with_mark, after_kind as code_kind, after_err as code_err, after_greeting as code_greeting, after_payload as code_payload, after_prepared as code_prepared, with_front as code_front, with_known, reads as code_reads, arranges, begins, checks, checks_for, closes_one, commands, executed, executed_in, executes, executes_one, finds, finds_so, offers, queries, unless_above, steps as code_step}
 use Rattle.my_judge.specs.Tapes.{stop_of}
 use Rattle.my_judge.proofs.Suiting.{Suit}
 use Rattle.my_judge.proofs.Places.{limit_is, at_here, at_end, at_known, at_no_end, at_taken, at_end_taken, at_heard}
@@ -97,41 +99,13 @@ module _ (login : Login) (part : CodePart) (more : List CodePart) (new : Place) 
       by_part parts.All k = (refl, at)
       by_part parts.Command k = (refl, at)
       by_part parts.Head (kinds.Good status) = (refl, subst (λ (x : Stand). IsAt login (with_end new) (with_left true x)) (sym is) (at_end login new n arranged fits same))
-      by_part parts.Head (kinds.Greets c) = (refl, at)
-      by_part parts.Head kinds.Failed = (refl, at)
-      by_part parts.Head (kinds.Count c) = (refl, at)
-      by_part parts.Head kinds.Column = (refl, at)
-      by_part parts.Head kinds.ColumnsDone = (refl, at)
-      by_part parts.Head kinds.Row = (refl, at)
-      by_part parts.Head (kinds.End status) = (refl, at)
-      by_part parts.Head (kinds.Prepared params columns) = (refl, at)
-      by_part parts.Head kinds.Parameter = (refl, at)
-      by_part parts.Head kinds.Field = (refl, at)
-      by_part parts.Head kinds.Bad = (refl, at)
+      by_part parts.Head _ = (refl, at)
       by_part parts.Item (kinds.Good status) = (refl, at)
-      by_part parts.Item (kinds.Greets c) = (refl, at)
-      by_part parts.Item kinds.Failed = (refl, at)
-      by_part parts.Item (kinds.Count c) = (refl, at)
-      by_part parts.Item kinds.Column = (refl, at)
-      by_part parts.Item kinds.ColumnsDone = (refl, at)
       by_part parts.Item kinds.Row = (refl, at)
       by_part parts.Item (kinds.End status) = (refl, at)
-      by_part parts.Item (kinds.Prepared params columns) = (refl, at)
-      by_part parts.Item kinds.Parameter = (refl, at)
-      by_part parts.Item kinds.Field = (refl, at)
-      by_part parts.Item kinds.Bad = (refl, at)
+      by_part parts.Item _ = (refl, at)
       by_part parts.Set (kinds.Good status) = (refl, subst (λ (x : Stand). IsAt login (with_taken (with_end new)) (with_mark (with_left true x))) (sym is) (at_end_taken login new n arranged fits same))
-      by_part parts.Set (kinds.Greets c) = (refl, at)
-      by_part parts.Set kinds.Failed = (refl, at)
-      by_part parts.Set (kinds.Count c) = (refl, at)
-      by_part parts.Set kinds.Column = (refl, at)
-      by_part parts.Set kinds.ColumnsDone = (refl, at)
-      by_part parts.Set kinds.Row = (refl, at)
-      by_part parts.Set (kinds.End status) = (refl, at)
-      by_part parts.Set (kinds.Prepared params columns) = (refl, at)
-      by_part parts.Set kinds.Parameter = (refl, at)
-      by_part parts.Set kinds.Field = (refl, at)
-      by_part parts.Set kinds.Bad = (refl, at)
+      by_part parts.Set _ = (refl, at)
       by_part parts.Rest k = (refl, at)
       by_part parts.Find k = (refl, at)
       by_part (parts.Check params) k = (refl, at)
@@ -141,6 +115,10 @@ module _ (login : Login) (part : CodePart) (more : List CodePart) (new : Place) 
       by_part parts.Give k = (refl, at)
       by_part parts.Learn k = (refl, at)
       by_part parts.Forget k = (refl, at)
+      by_part parts.Offered k = (refl, at)
+      by_part parts.Clear k = (refl, at)
+      by_part (parts.Text text) k = (refl, at)
+      by_part (parts.Flag flag) k = (refl, at)
 
 -- commands are sent, unless one of them is above the limit
 unless_follows : (login : Login) (part : CodePart) (more : List CodePart) (q r : Place) (old new : Stand) → IsAt login q old → IsAt login r new → (x : Option ℕ)
@@ -255,13 +233,28 @@ module _ (login : Login) (p : Place) (n : ℕ) (arranged : connects_in (exchange
       unless_follows login part more p (with_exchange p call talk) s (executed (ahead_of id values) (body_of id values) s) here
       (executed_at call other (ahead_of id values) (body_of id values) (known_in p.statements id)) (first_above (limit_of talk) (commands_in talk))
 
+  -- a query of the client's own, by a call that doesn't connect
+  queries_follow : (call : Call) → is_connect (call_kind call) ≡ false → (part : CodePart) (more : List CodePart) (text : List ℕ)
+      → TurnIs login (part ∷ more) (queries text s) (with_command call (map part_of more) p (Some (queried terms text)))
+  queries_follow call other part more text =
+      let talk : Talk = queried terms text in
+      unless_follows login part more p (with_exchange p call talk) s (asked spots.Head (packet_bytes (packets.Query text)) n s) here
+      (asked_at call talk _ n refl refl (ap (λ b. cond b (suc (connects_in (exchanges p))) (connects_in (exchanges p))) other ∙ arranged) (record { kinds = tt; within = tt }) refl)
+      (first_above (limit_of talk) (commands_in talk))
+
+  -- a command that an OK or an ERR answers, by a call that doesn't connect
+  simple_follows : (call : Call) → is_connect (call_kind call) ≡ false → (part : CodePart) (more : List CodePart) (command : List ℕ)
+      → TurnIs login (part ∷ more) (asks spots.Single command n s) (with_command call (map part_of more) p (Some (Asked terms command)))
+  simple_follows call other part more command =
+      let talk : Talk = Asked terms command in
+      unless_follows login part more p (with_exchange p call talk) s (asked spots.Single command n s) here
+      (asked_at call talk _ n refl refl (ap (λ b. cond b (suc (connects_in (exchanges p))) (connects_in (exchanges p))) other ∙ arranged) (record { kinds = tt; within = tt }) refl)
+      (first_above (limit_of talk) (commands_in talk))
+
   commands_follow : (call : Call) (more : List CodePart) → TurnIs login (parts.Command ∷ more) (commands call s) (with_command call (map part_of more) p (next_exchange login call p))
   commands_follow calls.Connect more = subst (λ k. TurnIs login (parts.Command ∷ more) (commands calls.Connect s) (with_command calls.Connect (map part_of more) p (connecting login terms k))) (sym arranged)
       (arranges_follow more (slice_get (arranging_texts login) n))
-  commands_follow (calls.Query text) more =
-      let talk : Talk = queried terms text in
-      unless_follows login parts.Command more p (with_exchange p (calls.Query text) talk) s (asked spots.Head (packet_bytes (packets.Query text)) n s) here
-      (asked_at (calls.Query text) talk _ n refl refl arranged (record { kinds = tt; within = tt }) refl) (first_above (limit_of talk) (commands_in talk))
+  commands_follow (calls.Query text) more = queries_follow (calls.Query text) refl parts.Command more text
   commands_follow (calls.Prepare text) more =
       let talk : Talk = Preparing terms (packet_bytes (packets.Prepare (query_of text))) Unanswered in
       unless_follows login parts.Command more p (with_exchange p (calls.Prepare text) talk) s (asked spots.Prepare (packet_bytes (packets.Prepare (query_of text))) n s) here
@@ -276,10 +269,8 @@ module _ (login : Login) (p : Place) (n : ℕ) (arranged : connects_in (exchange
   commands_follow calls.DropResult more = (refl, here)
   commands_follow calls.TakeSet more = (refl, here)
   commands_follow calls.SkipTaken more = (refl, here)
-  commands_follow calls.Ping more =
-      let talk : Talk = Asked terms (packet_bytes packets.Ping) in
-      unless_follows login parts.Command more p (with_exchange p calls.Ping talk) s (asked spots.Single (packet_bytes packets.Ping) n s) here
-      (asked_at calls.Ping talk _ n refl refl arranged (record { kinds = tt; within = tt }) refl) (first_above (limit_of talk) (commands_in talk))
+  commands_follow calls.Ping more = simple_follows calls.Ping refl parts.Command more (packet_bytes packets.Ping)
+  commands_follow calls.Reset more = simple_follows calls.Reset refl parts.Command more (packet_bytes packets.ResetConnection)
   commands_follow calls.Quit more =
       let talk : Talk = Silent terms (packet_bytes packets.Quit) in
       unless_follows login parts.Command more p (with_exchange p calls.Quit talk) s (asked spots.Idle (packet_bytes packets.Quit) n s) here
@@ -317,6 +308,7 @@ module _ (login : Login) (p : Place) (n : ℕ) (arranged : connects_in (exchange
   runs_follow part params calls.TakeSet more e = cc
   runs_follow part params calls.SkipTaken more e = cc
   runs_follow part params calls.Ping more e = cc
+  runs_follow part params calls.Reset more e = cc
   runs_follow part params calls.Quit more e = cc
 
   keeps_follow : (text : List ℕ) (more : List CodePart) (st : Statements) (x : Option ℕ)
@@ -327,6 +319,10 @@ module _ (login : Login) (p : Place) (n : ℕ) (arranged : connects_in (exchange
       let q : Place = with_statements st p in
       unless_follows login parts.Keep more q (with_exchange q (calls.Prepare text) talk) (with_known st s) (asked spots.Idle (packet_bytes (packets.CloseStatement id)) n (with_known st s)) (at_known login p n arranged fits same st)
       (record { stand_is = refl; arranged_is = arranged; fits = record { kinds = tt; within = tt }; login_is = refl }) (first_above (limit_of talk) (commands_in talk))
+
+  offers_follow : (part : CodePart) (more : List CodePart) (b : Bool) → TurnIs login (part ∷ more) (offers b s) (offered (map part_of more) p b)
+  offers_follow part more true = (refl, here)
+  offers_follow part more false = (refl, here)
 
   begins_follow : (call : Call) (left : List CodePart) → Suit call (map part_of left) → TurnIs login left (begins login call left s) (step_of login call (map part_of left) p)
   begins_follow call [] w = (refl, here)
@@ -356,6 +352,10 @@ module _ (login : Login) (p : Place) (n : ℕ) (arranged : connects_in (exchange
       by_rows true = (refl, at_known login p n arranged fits same (with_columns (id_in call) (facts_at login p).columns p.statements))
       by_rows false = (refl, here)
   begins_follow call (parts.Forget ∷ more) w = (refl, at_known login p n arranged fits same (without_statement (id_in call) p.statements))
+  begins_follow call (parts.Offered ∷ more) w = offers_follow parts.Offered more (can_reset (version_of (facts_at login p).version))
+  begins_follow call (parts.Clear ∷ more) w = (refl, at_known login p n arranged fits same (cleared p.statements))
+  begins_follow call (parts.Text text ∷ more) w = queries_follow call w.0 (parts.Text text) more text.now
+  begins_follow call (parts.Flag flag ∷ more) w = (refl, here)
 
   -- while bytes are owed the call waits
   owing : (left : List CodePart) (x : Step) (bytes : List ℕ) (b : ℕ) (more : List ℕ) → bytes ≡ b ∷ more → TurnIs login left (turn (steps.Stops code_stops.Owes) s) (unless_owed bytes p x)

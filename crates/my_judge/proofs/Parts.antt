@@ -1,6 +1,5 @@
 -- The parts of connecting, query by query, and those of a batch, list by list.
 use Rattle.std.proofs.Common.{◌≡◌, ℕ, zero, suc, ◌<◌, List, [], ◌∷◌, ◌++◌, length, take, map, get_or, refl, ap, ◌∙◌, arith, append_assoc}
-use Rattle.std.proofs.lemmas.List.{map-append}
 use Rattle.my_params.specs.declared.params.Params.{Params}
 use Rattle.my_reading.specs.Course.{Part, All, Check, Command, Head, Learn, Run, parts_of_lists, parts_of_texts}
 use Rattle.my_judge.specs.declared.part.Part.{Part as CodePart}
@@ -12,15 +11,14 @@ texts_more [] i h = absurd (omega arith)
 texts_more (t ∷ ts) zero h = refl
 texts_more (t ∷ ts) (suc i) h = ap (λ ps. Command ∷ All ∷ ps) (texts_more ts i (omega arith))
 
+two_more : (made : List CodePart) (a b : CodePart) → map part_of ((made ++ a ∷ []) ++ b ∷ []) ≡ map part_of made ++ part_of a ∷ part_of b ∷ []
+two_more [] a b = refl
+two_more (x ∷ made) a b = ap (λ ps. part_of x ∷ ps) (two_more made a b)
+
 -- with one query more
 pub parts_more : (made : List CodePart) (texts : List (List ℕ)) (i : ℕ) → i < length texts → map part_of made ≡ connecting_parts (take i texts)
     → map part_of ((made ++ parts.Command ∷ []) ++ parts.All ∷ []) ≡ connecting_parts (take (suc i) texts)
-parts_more made texts i h e =
-    map-append part_of (made ++ parts.Command ∷ []) (parts.All ∷ [])
-    ∙ ap (λ ps. ps ++ All ∷ []) (map-append part_of made (parts.Command ∷ []))
-    ∙ append_assoc (map part_of made) (Command ∷ []) (All ∷ [])
-    ∙ ap (λ ps. ps ++ Command ∷ All ∷ []) e
-    ∙ ap (λ ps. All ∷ ps) (texts_more texts i h)
+parts_more made texts i h e = two_more made parts.Command parts.All ∙ ap (λ ps. ps ++ Command ∷ All ∷ []) e ∙ ap (λ ps. All ∷ ps) (texts_more texts i h)
 
 -- the parts for one list of parameters
 abbrev parts_for : Params → List Part

@@ -1,18 +1,20 @@
--- Parameters stand in the parts of calls that execute a statement, and of no others.
-use Rattle.std.proofs.Common.{◌≡◌, ℕ, List, [], ◌∷◌, Some, refl}
+-- Parameters stand in the parts of calls that execute a statement, and of no others; queries of the client's own in those of calls that don't
+-- connect.
+use Rattle.std.proofs.Common.{◌≡◌, ℕ, List, [], ◌∷◌, Some, false, true, refl}
 use Rattle.my_params.specs.declared.params.Params.{Params}
 use Rattle.my_grammar.specs.declared.login.Login.{Login}
 use Rattle.my_reading.specs.declared.call.Call.{Call}
-use Rattle.my_reading.specs.declared.call.Call.TheVariants.{Connect, Query, Prepare, Execute, Batch, CloseStmt, NextRow, DropResult, TakeSet, SkipTaken, Ping, Quit}
-use Rattle.my_reading.specs.Calls.{statement_in}
-use Rattle.my_reading.specs.Commands.{arranging_texts}
-use Rattle.my_reading.specs.Course.{Part, Check, Run, parts_of, parts_of_lists, parts_of_texts}
+use Rattle.my_reading.specs.declared.call.Call.TheVariants.{Connect, Query, Prepare, Execute, Batch, CloseStmt, NextRow, DropResult, TakeSet, SkipTaken, Ping, Reset, Quit}
+use Rattle.my_reading.specs.Calls.{is_connect, kind_of, statement_in}
+use Rattle.my_reading.specs.Commands.{arranging_texts, setup_texts}
+use Rattle.my_reading.specs.Course.{Part, Check, Flag, Run, Text, parts_of, parts_of_lists, parts_of_queries, parts_of_texts}
 use Rattle.my_judge.specs.Stands.{executed_in}
 
 -- a part of the call
 abbrev pub Suits : Call → Part → Type 0
 Suits call (Check params) = executed_in call ≡ Some (statement_in call)
 Suits call (Run params) = executed_in call ≡ Some (statement_in call)
+Suits call (Text text) = is_connect (kind_of call) ≡ false
 Suits call _ = Unit {0}
 
 abbrev pub Suit : Call → List Part → Type 0
@@ -27,6 +29,10 @@ lists_suit : (call : Call) → executed_in call ≡ Some (statement_in call) →
 lists_suit call e [] = tt
 lists_suit call e (params ∷ lists) = (e, (tt, (e, (tt, (tt, (tt, lists_suit call e lists))))))
 
+queries_suit : (call : Call) → is_connect (kind_of call) ≡ false → (texts : List (List ℕ)) (parts : List Part) → Suit call parts → Suit call (parts_of_queries texts parts)
+queries_suit call e [] parts w = (tt, w)
+queries_suit call e (text ∷ texts) parts w = (tt, (e, queries_suit call e texts parts w))
+
 pub parts_suit : (login : Login) (call : Call) → Suit call (parts_of login call)
 parts_suit login Connect = (tt, texts_suit Connect (arranging_texts login))
 parts_suit login (Query text) = (tt, (tt, (tt, tt)))
@@ -39,4 +45,5 @@ parts_suit login DropResult = (tt, tt)
 parts_suit login TakeSet = (tt, tt)
 parts_suit login SkipTaken = (tt, tt)
 parts_suit login Ping = (tt, (tt, (tt, tt)))
+parts_suit login Reset = (tt, (tt, (tt, (tt, (tt, queries_suit Reset refl (setup_texts login) (Flag true ∷ []) (tt, tt))))))
 parts_suit login Quit = (tt, (tt, tt))

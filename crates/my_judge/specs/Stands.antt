@@ -5,6 +5,7 @@ use Rattle.my_command.specs.Client.Packet.{client_bytes as packet_bytes}
 use Rattle.my_frame.specs.declared.fault.CodecFault.TheVariants.{TooLarge}
 use Rattle.my_frame.specs.Chunks.{chunks, number_after_payload}
 use Rattle.my_frame.specs.Front.{Front, Waiting, Broken, Whole, front_at}
+use Rattle.my_handshake.specs.Version.{version_of}
 use Rattle.my_reply.specs.declared.err.ErrPacket.{ErrPacket}
 use Rattle.my_reply.specs.ErrPacket.{err_at}
 use Rattle.my_reply.specs.declared.replies.PrepareOk.{PrepareOk}
@@ -36,11 +37,12 @@ use Rattle.my_reading.specs.Commands.{arranging_texts}
 use Rattle.my_reading.specs.Calls.{id_in, text_in}
 use Rattle.my_reading.specs.Course.{first_above, is_greeting, is_rows}
 use Rattle.my_reading.specs.Executions.{Values, Fitting, Unfitting, values_for}
-use Rattle.my_reading.specs.Statements.{Statements, held_in, is_cached, is_mixed_text, leaving, names_of, query_of, statement_with, with_columns, with_fetched, with_prepared, without_statement}
+use Rattle.my_reading.specs.Statements.{Statements, cleared, held_in, is_cached, is_mixed_text, leaving, names_of, query_of, statement_with, with_columns, with_fetched, with_prepared, without_statement}
 use Rattle.my_reading.specs.Errors.{codec_error, invalid_data, mixed_params, server_error}
 use Rattle.my_reading.specs.Facts.{facts_after, prepared_by}
 use Rattle.my_reading.specs.Place.{Place, exchanges, facts_at, client_side, connects_in}
 use Rattle.my_reading.specs.Rows.{row_of}
+use Rattle.my_reading.specs.Versions.{can_reset}
 use Rattle.my_judge.specs.declared.part.Part.{Part}
 use Rattle.my_judge.specs.declared.part.Part.TheVariants as parts
 use Rattle.my_judge.specs.declared.stand.Stand.{Stand}
@@ -283,6 +285,10 @@ executes_one (Some statement) params s = executes statement.inner.id (values_for
 abbrev pub closes : ℕ → Stand → Turn
 closes id s = asks spots.Idle (packet_bytes (packets.CloseStatement id)) s.arranged s
 
+-- a query of the client's own
+abbrev pub queries : List ℕ → Stand → Turn
+queries text s = asks spots.Head (packet_bytes (packets.Query text)) s.arranged s
+
 abbrev pub arranges : Option (List ℕ) → Stand → Turn
 arranges None s = turn Passes s
 arranges (Some text) s = asks spots.Head (packet_bytes (packets.Query text)) (suc s.arranged) s
@@ -290,7 +296,7 @@ arranges (Some text) s = asks spots.Head (packet_bytes (packets.Query text)) (su
 -- the call's next command, where it sends one
 abbrev pub commands : Call → Stand → Turn
 commands calls.Connect s = arranges (slice_get s.texts s.arranged) s
-commands (calls.Query text) s = asks spots.Head (packet_bytes (packets.Query text)) s.arranged s
+commands (calls.Query text) s = queries text s
 commands (calls.Prepare text) s = asks spots.Prepare (packet_bytes (packets.Prepare (query_of text))) s.arranged s
 commands (calls.Execute statement params) s = executes statement.inner.id (values_for statement params) s
 commands (calls.CloseStmt id) s = closes id s
@@ -300,6 +306,7 @@ commands calls.DropResult s = turn Passes s
 commands calls.TakeSet s = turn Passes s
 commands calls.SkipTaken s = turn Passes s
 commands calls.Ping s = asks spots.Single (packet_bytes packets.Ping) s.arranged s
+commands calls.Reset s = asks spots.Single (packet_bytes packets.ResetConnection) s.arranged s
 commands calls.Quit s = asks spots.Idle (packet_bytes packets.Quit) s.arranged s
 
 -- a statement that is cached is returned
@@ -341,6 +348,11 @@ gives text s = turn (Stops (Returns (Answered (answers.Stmt (statement_with (pre
 abbrev pub learns : ℕ → Stand → Turn
 learns id s = if is_rows s.context.spot then turn Passes (with_known (with_columns id s.facts.columns s.statements) s) else turn Passes s
 
+-- a server that can't reset its session is sent nothing
+abbrev pub offers : Bool → Stand → Turn
+offers true s = turn Passes s
+offers false s = turn (Stops (Returns (Answered (answers.Flag false)))) s
+
 -- the first part, where nothing is owed
 abbrev pub begins : Login → Call → List Part → Stand → Turn
 begins login call [] s = turn (Stops (Returns (Answered answers.Ready))) s
@@ -370,6 +382,10 @@ begins login call (parts.Keep ∷ more) s = keeps (text_in call) s
 begins login call (parts.Give ∷ more) s = gives (text_in call) s
 begins login call (parts.Learn ∷ more) s = learns (id_in call) s
 begins login call (parts.Forget ∷ more) s = turn Passes (with_known (without_statement (id_in call) s.statements) s)
+begins login call (parts.Offered ∷ more) s = offers (can_reset (version_of s.facts.version)) s
+begins login call (parts.Clear ∷ more) s = turn Passes (with_known (cleared s.statements) s)
+begins login call (parts.Text text ∷ more) s = queries text.now s
+begins login call (parts.Flag flag ∷ more) s = turn (Stops (Returns (Answered (answers.Flag flag)))) s
 
 -- a step of a call with these parts
 abbrev pub steps : Login → Call → List Part → Stand → Turn

@@ -3,7 +3,7 @@
 ghost use Rattle.std.specs.Prelude.{◌≡◌, IfOk, drop, map};
 ghost use Rattle.my_reading.specs.Commands.{arranging_texts};
 ghost use Rattle.my_reading.specs.Course.{parts_of, parts_of_lists};
-ghost use Rattle.my_judge.specs.Parts.{connecting_parts, part_of};
+ghost use Rattle.my_judge.specs.Parts.{connecting_parts, part_of, reset_parts};
 
 use my_frame::{Blob, NoMemory};
 use my_grammar::Login;
@@ -42,6 +42,14 @@ pub enum Part<'a> {
     Learn,
     /// A statement isn't kept any more.
     Forget,
+    /// The server has the command of the call, or nothing is sent and `false` is returned.
+    Offered,
+    /// No statement is kept any more.
+    Clear,
+    /// This query of the client's own is sent.
+    Text(&'a Blob),
+    /// This flag is returned.
+    Flag(bool),
 }
 
 // The parts of connecting, with these queries that set the connection up.
@@ -73,10 +81,32 @@ fn parts_of_lists(alloc: Global, lists: &[Params]) -> Result<Vec<Part<'_>>, NoMe
     Ok(parts)
 }
 
+// The parts of a reset, after which these queries are sent from the last to the first.
+fn parts_of_reset(alloc: Global, setup: &[Blob]) -> Result<Vec<Part<'_>>, NoMemory>
+    ensures { IfOk result (λ parts. map part_of parts.items ≡ reset_parts setup.now) }
+{
+    let mut parts = vec![in alloc;
+        Part::Offered,
+        Part::All,
+        Part::Command,
+        Part::All,
+        Part::Clear,
+    ]?;
+    let mut left = setup;
+    'texts: while let Some((text, before)) = left.split_last() {
+        parts.push(Part::All)?;
+        parts.push(Part::Text(text))?;
+        left = before;
+    }
+    parts.push(Part::All)?;
+    parts.push(Part::Flag(true))?;
+    Ok(parts)
+}
+
 /// The parts of a call, in order. `texts` are the queries that set a connection up.
 pub fn parts_of<'a>(
     alloc: Global,
-    login: &Login,
+    login: &'a Login,
     texts: &[Blob],
     call: &'a Call,
 ) -> Result<Vec<Part<'a>>, NoMemory>
@@ -108,6 +138,7 @@ pub fn parts_of<'a>(
         Call::TakeSet => Ok(vec![in alloc; Part::Set]?),
         Call::SkipTaken => Ok(vec![in alloc; Part::Rest]?),
         Call::Ping => Ok(vec![in alloc; Part::All, Part::Command, Part::All]?),
+        Call::Reset => parts_of_reset(alloc, login.setup.as_slice()),
         Call::Quit => Ok(vec![in alloc; Part::All, Part::Command]?),
     }
 }

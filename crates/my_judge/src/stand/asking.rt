@@ -7,7 +7,7 @@ ghost use Rattle.my_reading.specs.Executions.{Fitting, values_for};
 ghost use Rattle.my_reading.specs.Statements.{query_of};
 ghost use Rattle.my_command.specs.Client.Packet.{PartsFit, client_bytes};
 ghost use Rattle.my_judge.specs.Stands.{Comes, arranges, asks, closes, commands, executed_in, executes, executes_one};
-ghost use Rattle.my_judge.specs.Stands.{sends};
+ghost use Rattle.my_judge.specs.Stands.{queries, sends};
 
 use super::Stand;
 use super::preparing::executed_in;
@@ -185,12 +185,34 @@ impl Stand {
         }
     }
 
+    // The exchange of this packet begins, unless it is above the limit.
+    fn ask_packet(
+        &mut self,
+        alloc: Global,
+        spot: Spot,
+        packet: ClientPacket,
+    ) -> Result<Step, NoMemory>
+        requires { PartsFit packet }
+        ensures { let s = self.old in
+            IfOk result (λ step. Comes (asks spot (client_bytes packet) s.arranged s) step self.new) }
+    {
+        let command = payload_of(alloc, packet)?;
+        self.ask(spot, &command, self.arranged)
+    }
+
+    /// A query of the client's own is sent.
+    pub(super) fn query(&mut self, alloc: Global, text: &Blob) -> Result<Step, NoMemory>
+        ensures { IfOk result (λ step. Comes (queries text.now self.old) step self.new) }
+    {
+        let command = query_payload(alloc, text)?;
+        self.ask(Spot::Head, &command, self.arranged)
+    }
+
     /// The statement of this id is closed.
     pub(super) fn close(&mut self, alloc: Global, id: u32) -> Result<Step, NoMemory>
         ensures { IfOk result (λ step. Comes (closes id self.old) step self.new) }
     {
-        let command = payload_of(alloc, ClientPacket::CloseStatement(id))?;
-        self.ask(Spot::Idle, &command, self.arranged)
+        self.ask_packet(alloc, Spot::Idle, ClientPacket::CloseStatement(id))
     }
 
     // The next query that sets the connection up.
@@ -209,14 +231,13 @@ impl Stand {
     pub(super) fn command(&mut self, alloc: Global, call: &Call) -> Result<Step, NoMemory>
         ensures { IfOk result (λ step. Comes (commands call.now self.old) step self.new) }
     {
-        let arranged = self.arranged;
         match call {
             Call::Connect => self.arrange(alloc),
-            Call::Query(text) => self.ask(Spot::Head, &query_payload(alloc, text)?, arranged),
+            Call::Query(text) => self.query(alloc, text),
             Call::Prepare(text) => self.ask(
                 Spot::Prepare,
                 &prepare_payload(alloc, text)?,
-                arranged,
+                self.arranged,
             ),
             Call::Execute(statement, params) => self.execute(alloc, statement, params),
             Call::CloseStmt(id) => self.close(alloc, *id),
@@ -225,14 +246,9 @@ impl Stand {
             | Call::DropResult
             | Call::TakeSet
             | Call::SkipTaken => Ok(Step::Passes),
-            Call::Ping => {
-                let command = payload_of(alloc, ClientPacket::Ping)?;
-                self.ask(Spot::Single, &command, arranged)
-            }
-            Call::Quit => {
-                let command = payload_of(alloc, ClientPacket::Quit)?;
-                self.ask(Spot::Idle, &command, arranged)
-            }
+            Call::Ping => self.ask_packet(alloc, Spot::Single, ClientPacket::Ping),
+            Call::Reset => self.ask_packet(alloc, Spot::Single, ClientPacket::ResetConnection),
+            Call::Quit => self.ask_packet(alloc, Spot::Idle, ClientPacket::Quit),
         }
     }
 }

@@ -71,6 +71,7 @@ fn is_same_answer(a: &Answer, b: &Answer) -> bool
         (Answer::SetEnd, Answer::SetEnd) => true,
         (Answer::NoSet, Answer::NoSet) => true,
         (Answer::Stmt(a), Answer::Stmt(b)) => is_same_statement(a, b),
+        (Answer::Flag(a), Answer::Flag(b)) => a == b,
         _ => false,
     }
 }

@@ -5,7 +5,7 @@ ghost use Rattle.std.specs.Option.{option_copied, option_map};
 ghost use Rattle.my_reading.specs.Calls.{id_in, text_in};
 ghost use Rattle.my_reading.specs.Facts.{prepared_by};
 ghost use Rattle.my_reading.specs.Statements.{held_in, leaving, names_of, query_of, statement_with, with_columns};
-ghost use Rattle.my_reading.specs.Statements.{with_fetched, without_statement};
+ghost use Rattle.my_reading.specs.Statements.{cleared, with_fetched, without_statement};
 ghost use Rattle.my_judge.specs.Stands.{Comes, checks_for, executed_in, finds, finds_so, gives, keeps, learns, turn};
 ghost use Rattle.my_judge.specs.Stands.{with_kept, with_known};
 
@@ -213,6 +213,15 @@ impl Stand {
             Comes (turn Step.Passes (with_known st self.old)) result self.new }
     {
         self.statements.forget(id_in(call));
+        Step::Passes
+    }
+
+    /// No statement is kept any more.
+    pub(super) fn clear(&mut self) -> Step
+        ensures { let st = cleared self.old.statements in
+            Comes (turn Step.Passes (with_known st self.old)) result self.new }
+    {
+        self.statements.forget_all();
         Step::Passes
     }
 }

@@ -2,7 +2,9 @@
 
 ghost use Rattle.std.specs.Prelude.{◌≡◌, ◌∷◌, [], IfOk};
 ghost use Rattle.my_grammar.specs.Cut.{is_idle};
-ghost use Rattle.my_judge.specs.Stands.{Comes, begins, steps};
+ghost use Rattle.my_handshake.specs.Version.{version_of};
+ghost use Rattle.my_reading.specs.Versions.{can_reset};
+ghost use Rattle.my_judge.specs.Stands.{Comes, begins, offers, steps};
 
 use super::Stand;
 use super::reading::{answered, is_rows};
@@ -10,7 +12,8 @@ use crate::part::Part;
 use crate::step::{Step, Stop};
 use my_frame::NoMemory;
 use my_grammar::{Login, Spot};
-use my_reading::{Answer, Call};
+use my_handshake::server_version;
+use my_reading::{Answer, Call, can_reset};
 use std::alloc::Global;
 
 fn is_idle(spot: Spot) -> bool
@@ -99,6 +102,16 @@ impl Stand {
         self.read(alloc, login, Part::Reply)
     }
 
+    // Whether the server can reset its session; one that can't is sent nothing.
+    fn offer(&self) -> Step
+        ensures { let s = self.now in Comes (offers (can_reset (version_of s.facts.version)) s) result s }
+    {
+        if can_reset(server_version(self.facts.version.as_slice())) {
+            return Step::Passes;
+        }
+        answered(Answer::Flag(false))
+    }
+
     /// One step of a call of which these parts are left.
     pub fn step(
         &mut self,
@@ -130,6 +143,10 @@ impl Stand {
             Part::Give => self.give(alloc, call),
             Part::Learn => self.learn(call),
             Part::Forget => Ok(self.forget(call)),
+            Part::Offered => Ok(self.offer()),
+            Part::Clear => Ok(self.clear()),
+            Part::Text(text) => self.query(alloc, text),
+            Part::Flag(flag) => Ok(answered(Answer::Flag(*flag))),
         }
     }
 }
